@@ -1,0 +1,2 @@
+pub mod NoteView
+pub mod Parsed
