@@ -1,0 +1,43 @@
+//! The count of faults that each object of the outside keeps.
+
+ghost use Rattle.std.specs.Prelude.{◌≡◌, ℕ, ◌+◌, ◌-◌, ◌^◌, min};
+
+use std::marker::Model;
+
+/// How often an object has failed. Contracts see it as that number. It never falls, and stands still at
+/// 2^64 - 1.
+#[derive(Clone, Copy, Debug, PartialEq, Eq)]
+pub struct Faults {
+    count: u64,
+}
+
+impl Model for Faults {
+    ghost Value = { ℕ };
+
+    ghost view = { λ f. f.count };
+
+    ghost inverse = { λ n. record { count = n } };
+}
+
+impl Faults {
+    /// The count of an object that has not failed.
+    pub fn new() -> Faults
+        ensures { result ≡ 0 }
+    {
+        Faults { count: 0 }
+    }
+
+    /// How often the object has failed.
+    pub fn count(&self) -> u64
+        ensures { result ≡ self.now }
+    {
+        self.count
+    }
+
+    /// Counts one fault.
+    pub fn raise(&mut self)
+        ensures { self.new ≡ min (self.old + 1) (2 ^ 64 - 1) }
+    {
+        self.count = self.count.saturating_add(1);
+    }
+}
