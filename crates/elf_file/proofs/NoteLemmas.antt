@@ -1,5 +1,5 @@
 -- The places that a walk over notes reaches are the places of the notes.
-use Rattle.std.proofs.Common.{◌≡◌, sym, ◌∙◌, ℕ, ◌≤◌, ◌+◌, Bool, true, false, arith}
+use Rattle.std.proofs.Common.{◌≡◌, ℕ, ◌≤◌, true, false, arith}
 use Rattle.file_formats.specs.Notes.{Notes, HoldsNote, IsNotePlace, first_place, place_after, next_place, is_build_id, HasBuildId}
 
 -- the walk from place p reaches the note at place q

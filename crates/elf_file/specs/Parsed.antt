@@ -1,6 +1,5 @@
 -- A file whose section table can be read.
 use Rattle.std.specs.Prelude.{◌≡◌, ℕ, ◌+◌, ◌*◌, ◌≤◌, List, Option, Ok, length}
-use Rattle.std.specs.Option.{option_copied}
 use Rattle.file_formats.specs.declared.header.SectionTable.{SectionTable}
 use Rattle.file_formats.specs.Sections.{shdr_size}
 use Rattle.file_formats.specs.Table.{table_of, names_section}

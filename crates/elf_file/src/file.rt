@@ -39,7 +39,11 @@ impl<'a> ElfFile<'a> {
     {
         let table = table_in(bytes)?;
         let names = names_in(bytes, &table);
-        Ok(ElfFile { bytes, table, names })
+        Ok(ElfFile {
+            bytes,
+            table,
+            names,
+        })
     }
 
     /// The file's type, as ET_CORE.

@@ -5,9 +5,8 @@ ghost use Rattle.file_formats.specs.Header.{encoding_of, ehdr_size, fields_of, h
 
 use crate::number::{u16_at, u32_at, u64_at};
 use file_formats::{
-    Class, E_SHENTSIZE, E_SHNUM, E_SHOFF, E_SHSTRNDX, E_TYPE, EHDR32_SIZE, EHDR64_SIZE,
-    EI_NIDENT, ELFCLASS32, ELFCLASS64, ELFDATA2LSB, ELFDATA2MSB, EV_CURRENT, ElfFault, Encoding,
-    Head, Order,
+    Class, E_SHENTSIZE, E_SHNUM, E_SHOFF, E_SHSTRNDX, E_TYPE, EHDR32_SIZE, EHDR64_SIZE, EI_NIDENT,
+    ELFCLASS32, ELFCLASS64, ELFDATA2LSB, ELFDATA2MSB, EV_CURRENT, ElfFault, Encoding, Head, Order,
 };
 
 /// The file's class and order, where all of e_ident is there and names what is known.

@@ -4,7 +4,11 @@
 
 mod file;
 mod head;
+mod identity;
 mod notes;
 mod number;
 mod section;
 mod table;
+
+pub use file::ElfFile;
+pub use identity::{IdentFault, ident};

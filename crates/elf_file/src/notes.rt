@@ -1,6 +1,8 @@
 //! Notes and the build-id among them.
 
 ghost use Rattle.std.specs.Prelude.{◌≡◌, ◌+◌, ◌-◌, ◌*◌, ◌<◌, ◌≤◌, ◌/◌, ◌^◌, ℕ, length, IfNone, IfSome};
+ghost use Rattle.std.specs.Bool.{OnTrue};
+ghost use Rattle.row_types.specs.BuildId.{IsIdLength};
 ghost use Rattle.elf_file.specs.NoteView.{IsNote};
 ghost use Rattle.file_formats.specs.Notes.{HasBuildId, HoldsNote, IsFirstBuildId, aligned, descriptor, is_build_id, note_align, notes_in};
 
@@ -73,7 +75,8 @@ fn note_at(bytes: &[u8], order: Order, align: usize, at: usize) -> Option<Note>
 /// Whether the note at a place is a build-id of 2 to 64 bytes.
 fn is_id(bytes: &[u8], order: Order, align: usize, at: usize, note: &Note) -> bool
     requires { IsNote (record { bytes = bytes.now; order = order; align = align }) at note.now }
-    ensures { result ≡ is_build_id (record { bytes = bytes.now; order = order; align = align }) at }
+    ensures value { result ≡ is_build_id (record { bytes = bytes.now; order = order; align = align }) at }
+    ensures length { OnTrue result (IsIdLength note.now.descriptor_size) }
 {
     note.name_size == 4
         && note.kind == NT_GNU_BUILD_ID
@@ -83,9 +86,16 @@ fn is_id(bytes: &[u8], order: Order, align: usize, at: usize, note: &Note) -> bo
 }
 
 /// The descriptor of a note that the section holds.
-fn descriptor_of<'a>(bytes: &'a [u8], order: Order, align: usize, at: usize, note: &Note) -> &'a [u8]
+fn descriptor_of<'a>(
+    bytes: &'a [u8],
+    order: Order,
+    align: usize,
+    at: usize,
+    note: &Note,
+) -> &'a [u8]
     requires { IsNote (record { bytes = bytes.now; order = order; align = align }) at note.now }
-    ensures { result.now ≡ descriptor (record { bytes = bytes.now; order = order; align = align }) at }
+    ensures value { result.now ≡ descriptor (record { bytes = bytes.now; order = order; align = align }) at }
+    ensures length { length result.now ≡ note.now.descriptor_size }
 {
     &bytes[note.descriptor..note.descriptor + note.descriptor_size as usize]
 }
@@ -95,6 +105,7 @@ fn first_in(bytes: &[u8], order: Order, align: usize) -> Option<&[u8]>
     requires some { 0 < align }
     requires small { align ≤ 8 }
     ensures found { IfSome result (λ id. IsFirstBuildId (record { bytes = bytes.now; order = order; align = align }) id.now) }
+    ensures length { IfSome result (λ id. IsIdLength (length id.now)) }
     ensures none { IfNone result ((p : ℕ) → HasBuildId (record { bytes = bytes.now; order = order; align = align }) p → ⊥) }
 {
     let mut at = 0;
@@ -110,6 +121,7 @@ fn first_in(bytes: &[u8], order: Order, align: usize) -> Option<&[u8]>
 /// The descriptor of the first build-id note of a section of this alignment.
 pub fn first_build_id(bytes: &[u8], order: Order, addralign: u64) -> Option<&[u8]>
     ensures found { IfSome result (λ id. IsFirstBuildId (notes_in bytes.now order addralign) id.now) }
+    ensures length { IfSome result (λ id. IsIdLength (length id.now)) }
     ensures none { IfNone result ((p : ℕ) → HasBuildId (notes_in bytes.now order addralign) p → ⊥) }
 {
     first_in(bytes, order, alignment(addralign))
