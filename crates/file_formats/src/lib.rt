@@ -6,6 +6,8 @@
 mod codes;
 mod encoding;
 mod fault;
+mod fields;
+mod header;
 
 pub use codes::{
     ELFCLASS32, ELFCLASS64, ELFDATA2LSB, ELFDATA2MSB, ET_CORE, EV_CURRENT, NT_GNU_BUILD_ID,
@@ -13,3 +15,9 @@ pub use codes::{
 };
 pub use encoding::{Class, Order};
 pub use fault::{ElfFault, Why};
+pub use fields::{
+    E_SHENTSIZE, E_SHNUM, E_SHOFF, E_SHSTRNDX, E_TYPE, EHDR32_SIZE, EHDR64_SIZE, EI_NIDENT, Field,
+    SH_ADDRALIGN, SH_FLAGS, SH_LINK, SH_NAME, SH_OFFSET, SH_SIZE, SH_TYPE, SHDR32_SIZE,
+    SHDR64_SIZE,
+};
+pub use header::{Encoding, Head, SectionHeader, SectionTable};

@@ -1,0 +1,2 @@
+pub mod MemSink
+pub mod Sink
