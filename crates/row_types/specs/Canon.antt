@@ -1,6 +1,6 @@
 -- Canonical paths (RFC 3986, 5.2.4, "Remove Dot Segments", with `//` reduced and a last `/` dropped).
-use Rattle.std.specs.Prelude.{◌≡◌, ℕ, ◌-◌, ◌≤◌, ◌==◌, ◌||◌, Bool, if◌then◌else◌, List, [], ◌∷◌, ◌++◌, length, take, fold, codes}
-use Rattle.std.specs.List.{slice_split}
+use Rattle.std.specs.Prelude.{◌≡◌, ℕ, ◌-◌, ◌≤◌, ◌==◌, ◌||◌, ◌&&◌, Bool, true, false, not, if◌then◌else◌, List, [], ◌∷◌, ◌++◌, length, take, fold, codes}
+use Rattle.std.specs.List.{slice_split, list_all}
 use Rattle.std.specs.Str.{bytes_eq}
 use Rattle.row_types.specs.declared.limits.TheConstants.{SEPARATOR, PATH_LIMIT}
 
@@ -41,3 +41,17 @@ IsCanonical text = canon text ≡ text
 pub record IsCanonPath (text : List ℕ) : Type 0 where
   pub canonical : IsCanonical text
   pub short : length text ≤ PATH_LIMIT
+
+-- whether a piece is kept, and nothing else goes with it
+abbrev pub stays : List ℕ → Bool
+stays piece = not (bytes_eq piece [] || bytes_eq piece (codes ".") || bytes_eq piece (codes ".."))
+
+-- whether what follows the first slash is nothing, or pieces that all stay
+abbrev pub is_plain_tail : List ℕ → Bool
+is_plain_tail [] = true
+is_plain_tail (b ∷ rest) = list_all stays (pieces (b ∷ rest))
+
+-- whether the text is a slash with such a tail: canonical texts have this form, and no others
+abbrev pub has_form : List ℕ → Bool
+has_form [] = false
+has_form (b ∷ tail) = (b == SEPARATOR) && is_plain_tail tail

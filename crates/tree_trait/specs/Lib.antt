@@ -8,3 +8,4 @@ pub mod Load
 pub mod MemTree
 pub mod Present
 pub mod Script
+pub mod TwoWorld

@@ -7,10 +7,14 @@ mod found;
 mod heard;
 mod mem_tree;
 mod script;
+#[cfg(test)]
+mod tests;
 mod tree;
+mod two_world;
 
 pub use answer::LoadAnswer;
 pub use found::Found;
 pub use mem_tree::MemTree;
 pub use script::Script;
 pub use tree::Tree;
+pub use two_world::TwoWorld;
