@@ -13,4 +13,5 @@ mod words;
 
 pub use mem_sink::MemSink;
 pub use outside::{Outside, run, run_local};
+pub use status::Status;
 pub use sink::{Sink, WriteAnswer, WriteFault, write_all};

@@ -23,6 +23,7 @@ use tree_trait::Tree;
 
 /// What the program is handed: the hands that read files, of which the first serves single files, and
 /// its two sinks.
+#[derive(Drop)]
 pub struct Outside<W: Truth, T: Tree<W>, O: Sink> {
     pub hands: Vec<T>,
     pub out: O,

@@ -1,0 +1,47 @@
+//! The program: it makes the real objects, hands them to the top call, and ends with its status.
+#![tactic(auto)]
+
+mod real_sink;
+mod real_tree;
+
+use dbgd_run::{Outside, Status, run, write_all};
+use real_sink::{RealSink, Stream};
+use real_tree::RealTree;
+use row_types::OpenWorld;
+use std::alloc::AllocError;
+use std::env;
+use std::io::ErrorKind;
+use std::marker::PhantomData;
+use std::process::ExitCode;
+
+/// The words after the program's name. There are none where one isn't UTF-8, and none are no command.
+fn words(rt: &HostRuntime) -> Result<Vec<String>, AllocError> {
+    match env::args(rt) {
+        Ok(args) => args.skip(1).collect(rt.alloc()),
+        Err(error) if error.kind() == ErrorKind::OutOfMemory => Err(AllocError),
+        Err(_) => Ok(Vec::new(rt.alloc())),
+    }
+}
+
+/// Runs the program over the real objects, and gives its exit status.
+fn run_real(rt: &HostRuntime) -> Result<u8, AllocError> {
+    let words = words(rt)?;
+    let hands = vec![in rt.alloc(); RealTree::new(*rt)]?;
+    let mut outside = Outside {
+        hands,
+        out: RealSink::new(Stream::Out(rt.stdout())),
+        err: RealSink::new(Stream::Err(rt.stderr())),
+        of: PhantomData::<OpenWorld>,
+    };
+    Ok(run(rt.alloc(), words.as_slice(), &mut outside))
+}
+
+fn main(rt: HostRuntime) -> ExitCode {
+    match run_real(&rt) {
+        Ok(status) => ExitCode::from(status),
+        Err(_) => {
+            let _ = write_all(&mut RealSink::new(Stream::Err(rt.stderr())), b"dbgd: out of memory\n");
+            ExitCode::from(Status::OutOfMemory.code())
+        }
+    }
+}

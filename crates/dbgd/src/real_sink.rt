@@ -1,0 +1,61 @@
+//! The program's output streams.
+
+ghost use Rattle.std.specs.Prelude.{◌≡◌, ◌≤◌, length, IfOk};
+
+use dbgd_run::{Sink, WriteAnswer};
+use row_types::Faults;
+use std::io::{Result, Stderr, Stdout, Write};
+
+/// A stream of the program.
+#[derive(Drop)]
+pub enum Stream {
+    Out(Stdout),
+    Err(Stderr),
+}
+
+/// A sink over a stream of the program. It doesn't tell what was written. A write that takes nothing is
+/// counted as a fault.
+#[derive(Drop)]
+pub struct RealSink {
+    stream: Stream,
+    faults: Faults,
+}
+
+impl RealSink {
+    /// A sink over a stream that hasn't failed.
+    pub fn new(stream: Stream) -> RealSink {
+        RealSink {
+            stream,
+            faults: Faults::new(),
+        }
+    }
+
+    /// Writes some bytes to the stream.
+    fn pass_on(&mut self, bytes: &[u8]) -> Result<usize>
+        ensures count { IfOk result (λ n. n ≤ length bytes.now) }
+        ensures faults { self.new.faults ≡ self.old.faults }
+    {
+        match &mut self.stream {
+            Stream::Out(stream) => stream.write(bytes),
+            Stream::Err(stream) => stream.write(bytes),
+        }
+    }
+}
+
+impl Sink for RealSink {
+    ghost use Rattle.std.specs.Prelude.{None};
+
+    ghost written = { λ _. None };
+
+    ghost write_faults = { λ s. s.faults };
+
+    fn write(&mut self, bytes: &[u8]) -> WriteAnswer {
+        match self.pass_on(bytes) {
+            Ok(n) if n > 0 => WriteAnswer::Took(n),
+            _ => {
+                self.faults.raise();
+                WriteAnswer::Failed
+            }
+        }
+    }
+}
