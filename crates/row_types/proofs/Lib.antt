@@ -1,1 +1,2 @@
+pub mod AscendsLemmas
 pub mod CanonLemmas
