@@ -4,6 +4,10 @@
 
 mod mem_sink;
 mod sink;
+mod speech;
+mod status;
+mod texts;
+mod words;
 
 pub use mem_sink::MemSink;
 pub use sink::{Sink, WriteAnswer, WriteFault, write_all};

@@ -1,8 +1,8 @@
 //! A sink that keeps what is written.
 
-ghost use Rattle.std.specs.Prelude.{◌≡◌, ◌<◌, ◌+◌, ◌-◌, ◌^◌, [], Some, length, min};
+ghost use Rattle.std.specs.Prelude.{◌≡◌, ◌<◌, [], Some, length};
 ghost use Rattle.std.specs.Option.{option_copied};
-ghost use Rattle.row_types.specs.Faults.{HasCause};
+ghost use Rattle.row_types.specs.Faults.{HasCause, raised};
 ghost use Rattle.dbgd_run.specs.MemSink.{next_answer};
 ghost use Rattle.dbgd_run.specs.Sink.{Appends, IsFailed, Takes, front};
 
@@ -67,7 +67,7 @@ impl Sink for MemSink {
         ensures written { Appends self.old.written (front bytes.now result) self.new.written }
         ensures cause { HasCause self.old.faults self.new.faults (IsFailed result) }
         ensures exact { result ≡ next_answer self.old bytes.now }
-        ensures number { self.new.writes ≡ min (self.old.writes + 1) (2 ^ 64 - 1) }
+        ensures number { self.new.writes ≡ raised self.old.writes }
         ensures bad { self.new.bad_writes ≡ self.old.bad_writes }
     {
         let fails = self.bad_writes.contains(&self.writes);

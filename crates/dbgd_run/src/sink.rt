@@ -37,6 +37,7 @@ pub trait Sink {
 pub fn write_all<S: Sink>(sink: &mut S, bytes: &[u8]) -> Result<(), WriteFault>
     ensures all { OnOk result (Appends (S.written sink.old) bytes.now (S.written sink.new)) }
     ensures part { OnErr result (WritesPart (S.written sink.old) bytes.now (S.written sink.new)) }
+    ensures some { IsErr result → 0 < length bytes.now }
     ensures cause { HasCause (S.write_faults sink.old) (S.write_faults sink.new) (IsErr result) }
 {
     let mut at = 0;
