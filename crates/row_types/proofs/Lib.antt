@@ -1,2 +1,3 @@
 pub mod AscendsLemmas
 pub mod CanonLemmas
+pub mod TrueRowLemmas

@@ -6,5 +6,6 @@ pub mod Canon
 pub mod Faults
 pub mod Inside
 pub mod Name
+pub mod Reading
 pub mod Row
 pub mod Stamp
