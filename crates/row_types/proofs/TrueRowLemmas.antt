@@ -1,5 +1,5 @@
 -- True rows of told worlds.
-use Rattle.std.proofs.Common.{◌≡◌, ℕ, ◌<◌, Bool, true, false, List, [], Result, Ok, Err, MatchBool, refl, sym, ◌∙◌, ap, subst}
+use Rattle.std.proofs.Common.{◌≡◌, ℕ, ◌<◌, Bool, true, false, List, [], Result, Ok, Err, MatchBool, refl, sym, ◌∙◌, subst}
 use Rattle.std.specs.Prelude.{nat_lt}
 use Rattle.std.proofs.lemmas.Bool.{lt-ltb}
 use Rattle.file_formats.specs.Identity.{Identity, IsIdentity}
@@ -9,7 +9,7 @@ use Rattle.row_types.specs.Name.{NameFacts}
 use Rattle.row_types.specs.Row.{RowFacts, too_large_row}
 use Rattle.row_types.specs.Stamp.{StampFacts}
 use Rattle.row_types.specs.Reading.{ReadsBytes, IsReading, IsVersionRead, IsNameReading, IsTrueRow}
-use Rattle.row_types.specs.declared.limits.TheConstants.{EDITION, FILE_LIMIT}
+use Rattle.row_types.specs.declared.limits.TheConstants.{FILE_LIMIT}
 use Rattle.row_types.specs.declared.reading.Reading.{Reading}
 use Rattle.row_types.specs.declared.reading.Reading.TheVariants.{Plain, Elf}
 
@@ -55,11 +55,12 @@ pub true_rows_same : IdentityIsOne → (version : List ℕ → StampFacts → Li
 true_rows_same unique version one a b name p q =
     let edition : a.edition ≡ b.edition = p.edition ∙ sym q.edition in
     let reading : a.reading ≡ b.reading =
-      readings_same unique version b.name (one b.name.path b.name.stamp) a.reading b.reading (nat_lt FILE_LIMIT b.name.stamp.size)
-      (subst (λ n. IsNameReading version n a.reading) name p.reading) q.reading in
+    readings_same unique version b.name (one b.name.path b.name.stamp) a.reading b.reading (nat_lt FILE_LIMIT b.name.stamp.size)
+    (subst (λ n. IsNameReading version n a.reading) name p.reading) q.reading in
     same_row a.name b.name a.edition b.edition a.reading b.reading name edition reading
   where
     row_of : NameFacts → ℕ → Reading → RowFacts
     row_of n e r = record { name = n; edition = e; reading = r }
+
     same_row : (n m : NameFacts) (e f : ℕ) (r s : Reading) → n ≡ m → e ≡ f → r ≡ s → row_of n e r ≡ row_of m f s
     same_row n m e f r s p q t = cc

@@ -1,6 +1,6 @@
 -- What a file is found to be (this project's rule): by its size first, then by its identity. Its sources aren't
 -- read yet, so none are listed.
-use Rattle.std.specs.Prelude.{◌≡◌, ℕ, List, [], nat_lt, MatchBool, Result, Ok, Err}
+use Rattle.std.specs.Prelude.{◌≡◌, ℕ, List, [], nat_lt, MatchBool, Ok, Err}
 use Rattle.file_formats.specs.Identity.{IsIdentity}
 use Rattle.file_formats.specs.declared.fault.Why.TheVariants.{TooLarge}
 use Rattle.row_types.specs.Name.{NameFacts}

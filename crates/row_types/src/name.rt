@@ -2,10 +2,9 @@
 
 ghost use Rattle.std.specs.Prelude.{◌≡◌, IfOk};
 
-use std::alloc::{AllocError, Global};
-
 use crate::path::CanonPath;
 use crate::stamp::Stamp;
+use std::alloc::{AllocError, Global};
 
 /// A file's path and stamp. Contracts see it as a record of the two.
 #[derive(Debug, PartialEq, Eq, Drop)]

@@ -5,11 +5,10 @@ ghost use Rattle.std.specs.List.{list_all};
 ghost use Rattle.std.specs.String.{string_bytes};
 ghost use Rattle.row_types.specs.Canon.{is_canonical, has_form, pieces, stays, IsCanonPath};
 
+use crate::limits::{PATH_LIMIT, SEPARATOR};
 use std::alloc::{AllocError, Global};
 use std::cmp::Ordering;
 use std::marker::Model;
-
-use crate::limits::{PATH_LIMIT, SEPARATOR};
 
 /// A path that is its own canonical form and has at most 4096 bytes. Contracts see it as the list of its
 /// bytes, by which paths are ordered.
@@ -91,9 +90,7 @@ fn has_form(bytes: &[u8]) -> bool
 fn all_stay(bytes: &[u8]) -> bool
     ensures { result ≡ list_all stays (pieces bytes.now) }
 {
-    bytes
-        .split(|b| *b == SEPARATOR)
-        .all(|piece| stays(piece))
+    bytes.split(|b| *b == SEPARATOR).all(|piece| stays(piece))
 }
 
 /// Whether a piece is kept, and nothing else goes with it.

@@ -2,11 +2,10 @@
 
 ghost use Rattle.std.specs.Prelude.{◌≡◌, IfOk};
 
-use file_formats::Why;
-use std::alloc::{AllocError, Global};
-
 use crate::identity::Ident;
 use crate::sources::Sources;
+use file_formats::Why;
+use std::alloc::{AllocError, Global};
 
 /// What a file is found to be.
 #[derive(Debug, Drop)]

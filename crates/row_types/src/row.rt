@@ -2,11 +2,10 @@
 
 ghost use Rattle.std.specs.Prelude.{◌≡◌, ◌≤◌, IfOk};
 
-use std::alloc::{AllocError, Global};
-use std::marker::Model;
-
 use crate::name::Name;
 use crate::reading::Reading;
+use std::alloc::{AllocError, Global};
+use std::marker::Model;
 
 /// What a file was found to be, by the rules of an edition. Contracts see it as a record of the three.
 #[derive(Debug, Drop)]

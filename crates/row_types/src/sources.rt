@@ -3,10 +3,9 @@
 ghost use Rattle.std.specs.Prelude.{◌≡◌, ◌↔◌, ◌<◌, [], IsTrue, IsOk, IfOk, IfErr, length};
 ghost use Rattle.row_types.specs.Ascends.{Ascends, IsBefore};
 
+use crate::path::CanonPath;
 use std::alloc::{AllocError, Global};
 use std::marker::Model;
-
-use crate::path::CanonPath;
 
 /// Source paths in order, each once. Contracts see them as a list.
 #[derive(Debug, Drop)]

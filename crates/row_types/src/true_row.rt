@@ -3,15 +3,14 @@
 ghost use Rattle.std.specs.Prelude.{◌≡◌, ◌≤◌, ◌↔◌, IsErr, IfOk, IfErr};
 ghost use Rattle.row_types.specs.Row.{too_large_row};
 
-use file_formats::Why;
-use std::alloc::{AllocError, Global};
-use std::marker::{Model, PhantomData};
-
 use crate::limits::{EDITION, FILE_LIMIT};
 use crate::name::Name;
 use crate::reading::Reading;
 use crate::row::Row;
 use crate::world::Truth;
+use file_formats::Why;
+use std::alloc::{AllocError, Global};
+use std::marker::{Model, PhantomData};
 
 /// A row that is true in the world `W`. Contracts see it as the row.
 #[derive(Drop)]

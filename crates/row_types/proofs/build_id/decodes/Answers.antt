@@ -1,9 +1,8 @@
 -- It decodes exactly where the text is digits for the room.
-use Rattle.std.proofs.Common.{◌≡◌, List, ℕ, length, Result, Ok, Err, MatchResult, IsTrue, is_ok, sym, ◌∙◌, ap}
+use Rattle.std.proofs.Common.{◌≡◌, List, ℕ, length, Result, Ok, Err, MatchResult, is_ok, sym, ◌∙◌, ap}
 use Rattle.hex.specs.Hex.{decode_sized}
 use Rattle.hex.specs.declared.error.FromHexError.{FromHexError}
 use Rattle.hex.proofs.HexLemmas.{IsOk-decode_sized}
-use Rattle.row_types.specs.BuildId.{IsHexFor}
 use Rattle.row_types.proofs.build_id.decodes.Goals as goal
 
 -- the call succeeds where there is a decoding
