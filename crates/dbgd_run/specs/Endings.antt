@@ -20,9 +20,10 @@ pub record Streams : Type 0 where
   pub err : Option (List ℕ)
   pub err_faults : ℕ
 
--- the streams of these four
-abbrev pub streams : Option (List ℕ) → ℕ → Option (List ℕ) → ℕ → Streams
-streams out out_faults err err_faults = record { out = out; out_faults = out_faults; err = err; err_faults = err_faults }
+-- the streams of these two sinks, by what each tells and by its count
+abbrev pub streams : {O : Type 0} → (O → Option (List ℕ)) → (O → ℕ) → O → O → Streams
+streams written faults out err =
+    record { out = written out; out_faults = faults out; err = written err; err_faults = faults err }
 
 -- a sink got all of the text; or a proper prefix of it, and its count rose
 abbrev pub Gets : List ℕ → Option (List ℕ) → Option (List ℕ) → ℕ → ℕ → Type 0

@@ -1,6 +1,9 @@
+pub mod Causes
 pub mod Endings
+pub mod Ident
 pub mod Lines
 pub mod MemSink
+pub mod Runs
 pub mod Sink
 pub mod Speech
 pub mod Statuses

@@ -2,7 +2,9 @@
 //! handed in. Real files and streams stand in the program's own crate.
 #![tactic(auto)]
 
+mod ident;
 mod mem_sink;
+mod outside;
 mod sink;
 mod speech;
 mod status;
@@ -10,4 +12,5 @@ mod texts;
 mod words;
 
 pub use mem_sink::MemSink;
+pub use outside::{Outside, run, run_local};
 pub use sink::{Sink, WriteAnswer, WriteFault, write_all};

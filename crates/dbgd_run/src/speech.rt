@@ -66,7 +66,7 @@ fn tell<S: Sink>(sink: &mut S, message: Option<Message<'_>>)
 
 /// Says all on the two sinks. Where the standard output fails, that is said in place of the message.
 pub fn speak<O: Sink>(out: &mut O, err: &mut O, said: &Said<'_>) -> Status
-    ensures { Ends (saying_of said.now) (streams (O.written out.old) (O.write_faults out.old) (O.written err.old) (O.write_faults err.old)) (streams (O.written out.new) (O.write_faults out.new) (O.written err.new) (O.write_faults err.new)) (code_of result) }
+    ensures { Ends (saying_of said.now) (streams O.written O.write_faults out.old err.old) (streams O.written O.write_faults out.new err.new) (code_of result) }
 {
     match write_all(out, said.out) {
         Ok(()) => {

@@ -1,0 +1,92 @@
+-- When a status comes, by what a run does.
+use Rattle.std.proofs.Common.{◌≡◌, sym, ◌∙◌, refl, inl, inr, ◌⊎◌, ℕ, ◌<◌, List, [], length, ap, Bool, IsTrue, Result, Ok, Err, arith}
+use Rattle.row_types.specs.Faults.{Rose}
+use Rattle.row_types.specs.Stamp.{StampFacts}
+use Rattle.file_formats.specs.Identity.{Identity}
+use Rattle.elf_file.specs.declared.identity.IdentFault.{IdentFault}
+use Rattle.elf_file.specs.declared.identity.IdentFault.TheVariants.{Plain, NotBuilt}
+use Rattle.tree_trait.specs.Load.{LoadFacts, loaded, too_large, gone, failed, no_memory, is_failed}
+use Rattle.dbgd_run.specs.Causes.{HasCauses}
+use Rattle.dbgd_run.specs.Endings.{Saying, Streams, Ends, EndsOrWants}
+use Rattle.dbgd_run.specs.Ident.{Hand, RunsIdent, SaysIdent, file_saying}
+use Rattle.dbgd_run.specs.Runs.{Runs}
+use Rattle.dbgd_run.specs.Statuses.{code_of}
+use Rattle.dbgd_run.specs.Words.{Line, asks_ident, unbuilt, unreadable}
+
+-- a status is that of a fault only for the reason R, and never that of the usage
+record IsCaused (R : Type 0) (code : ℕ) : Type 0 where
+  fault : code ≡ 1 → R
+  usage : code ≡ 2 → ⊥
+
+-- the saying's status is caused, and so is a fault of the standard output
+caused-ends : (R : Type 0) (saying : Saying) (old new : Streams) (code : ℕ) → IsCaused R (code_of saying.status)
+    → (Rose old.out_faults new.out_faults → R) → Ends saying old new code → IsCaused R code
+caused-ends R saying old new code said out (inl whole) = record {
+  fault = λ e. said.fault (sym whole.ends ∙ e);
+  usage = λ e. said.usage (sym whole.ends ∙ e);
+}
+caused-ends R saying old new code said out (inr cut) = record {
+  fault = λ e. out cut.out_rose;
+  usage = λ e. let one = cut.ends in absurd (omega arith);
+}
+
+-- the same where memory may be wanted
+caused-wants : (R : Type 0) (saying : Saying) (old new : Streams) (code : ℕ) → IsCaused R (code_of saying.status)
+    → (Rose old.out_faults new.out_faults → R) → EndsOrWants saying old new code → IsCaused R code
+caused-wants R saying old new code said out (inl ends) = caused-ends R saying old new code said out ends
+caused-wants R saying old new code said out (inr unsaid) =
+    let six = unsaid.ends in
+    record { fault = λ e. absurd (omega arith); usage = λ e. absurd (omega arith) }
+
+-- a status that is neither of the two
+caused-other : (R : Type 0) (code : ℕ) → (code ≡ 1 → ⊥) → (code ≡ 2 → ⊥) → IsCaused R code
+caused-other R code one two = record { fault = λ e. absurd (one e); usage = two }
+
+-- what is said of a file that was read is neither a fault nor the usage
+caused-file : (R : Type 0) (r : Result Identity IdentFault) → IsCaused R (code_of (file_saying r).status)
+caused-file R (Ok i) = caused-other R 0 (λ e. omega arith) (λ e. omega arith)
+caused-file R (Err (Plain why)) = caused-other R 3 (λ e. omega arith) (λ e. omega arith)
+caused-file R (Err NotBuilt) = caused-other R 8 (λ e. omega arith) (λ e. omega arith)
+
+-- what is said of a load's answer
+caused-ident : (R : Type 0) (path : List ℕ) (answer : LoadFacts) (old new : Streams) (code : ℕ) → (IsTrue (is_failed answer) → R)
+    → (Rose old.out_faults new.out_faults → R) → SaysIdent path answer old new code → IsCaused R code
+caused-ident R path (loaded found) old new code hand out said = caused-wants R _ old new code (caused-file R said.0) out said.2
+caused-ident R path (too_large stamp) old new code hand out said =
+    caused-ends R _ old new code (caused-other R 3 (λ e. omega arith) (λ e. omega arith)) out said
+caused-ident R path gone old new code hand out said =
+    caused-ends R _ old new code (caused-other R 3 (λ e. omega arith) (λ e. omega arith)) out said
+caused-ident R path failed old new code hand out said =
+    caused-ends R _ old new code (record { fault = λ e. hand refl; usage = λ e. omega arith }) out said
+caused-ident R path no_memory old new code hand out said =
+    caused-ends R _ old new code (caused-other R 6 (λ e. omega arith) (λ e. omega arith)) out said
+
+-- where nothing is to be said on the standard output, the status is the saying's
+silent-code : (saying : Saying) (old new : Streams) (code : ℕ) → saying.out ≡ [] → Ends saying old new code → code ≡ code_of saying.status
+silent-code saying old new code silent (inl whole) = whole.ends
+silent-code saying old new code silent (inr cut) = let some = cut.some in absurd (let same : length saying.out ≡ 0 = ap length silent in omega arith)
+
+pub causes-run : (version : List ℕ → StampFacts → List ℕ → Type 0) (told : Bool) (line : Line) (before after : Hand) (old new : Streams) (code : ℕ)
+    → Runs version told line before after old new code → HasCauses line before after old new code
+causes-run version told (asks_ident path) before after old new code run =
+    let caused : IsCaused (Rose before.faults after.faults ⊎ Rose old.out_faults new.out_faults) code
+        = caused-ident _ path run.answer old new code (λ f. inl (run.cause.rose f)) (λ r. inr r) run.said in
+    record {
+      fault = caused.fault;
+      usage = (λ e. absurd (caused.usage e), λ e. absurd (cc));
+      not_built = λ e. absurd (cc);
+    }
+causes-run version told unbuilt before after old new code run =
+    let eight : code ≡ 8 = silent-code _ old new code refl run.1 in
+    record {
+      fault = λ e. absurd (omega arith);
+      usage = (λ e. absurd (omega arith), λ e. absurd (cc));
+      not_built = λ e. eight;
+    }
+causes-run version told unreadable before after old new code run =
+    let two : code ≡ 2 = silent-code _ old new code refl run.1 in
+    record {
+      fault = λ e. absurd (omega arith);
+      usage = (λ e. refl, λ e. two);
+      not_built = λ e. absurd (cc);
+    }

@@ -1,0 +1,133 @@
+//! The top call: all that the program does with what is handed in.
+
+ghost use Rattle.std.specs.Prelude.{◌≡◌, ◌↔◌, ◌⊎◌, ◌<◌, ◌≤◌, ℕ, map, vec_len, slice_index_or, IfSome, IsSome};
+ghost use Rattle.std.specs.String.{string_bytes};
+ghost use Rattle.row_types.specs.Faults.{Rose};
+ghost use Rattle.dbgd_run.specs.Causes.{HasCauses};
+ghost use Rattle.dbgd_run.specs.Endings.{streams};
+ghost use Rattle.dbgd_run.specs.Ident.{hand};
+ghost use Rattle.dbgd_run.specs.Lines.{asked_by};
+ghost use Rattle.dbgd_run.specs.Runs.{Runs};
+ghost use Rattle.dbgd_run.specs.Statuses.{code_of};
+ghost use Rattle.dbgd_run.specs.Words.{line_of, unreadable};
+
+use crate::ident::{NOT_BUILT, run_ident};
+use crate::sink::Sink;
+use crate::speech::{Message, Said, speak};
+use crate::status::Status;
+use crate::words::{Line, read_line};
+use row_types::Truth;
+use std::alloc::Global;
+use std::marker::PhantomData;
+use tree_trait::Tree;
+
+/// What the program is handed: the hands that read files, of which the first serves single files, and
+/// its two sinks.
+pub struct Outside<W: Truth, T: Tree<W>, O: Sink> {
+    pub hands: Vec<T>,
+    pub out: O,
+    pub err: O,
+    pub of: PhantomData<W>,
+}
+
+/// What is said of words that can't be read.
+const USAGE: Said<'static> = Said {
+    out: b"",
+    err: Some(Message {
+        text: "usage: dbgd ident FILE, sources FILE, section FILE NAME, query -d DB ID, scan -d DB DIR, serve -d DB DIR, trial SEED FILES WORKERS",
+        object: "",
+    }),
+    status: Status::Usage,
+};
+
+/// Does what a line of words asks.
+fn run_line<W: Truth, T: Tree<W>, O: Sink>(
+    alloc: Global,
+    line: Line<'_>,
+    outside: &mut Outside<W, T, O>,
+) -> Status
+    requires { 0 < vec_len outside.old.hands }
+    ensures law {
+        (d : T) →
+        let before = slice_index_or outside.old.hands.items 0 d in
+        let after = slice_index_or outside.new.hands.items 0 d in
+        Runs W.version T.told (asked_by line.entry)
+            (hand T.present T.heard T.faults before) (hand T.present T.heard T.faults after)
+            (streams O.written O.write_faults outside.old.out outside.old.err)
+            (streams O.written O.write_faults outside.new.out outside.new.err) (code_of result)
+    }
+    ensures hands { vec_len outside.new.hands ≡ vec_len outside.old.hands }
+{
+    let out = &mut outside.out;
+    let err = &mut outside.err;
+    match line {
+        Line::Ident { path } => run_ident(alloc, path, &mut outside.hands[0], out, err),
+        Line::NotBuilt => speak(out, err, &NOT_BUILT),
+        Line::Usage => speak(out, err, &USAGE),
+    }
+}
+
+/// Does what the words after the program's name ask, and gives the exit status.
+pub fn run_local<W: Truth, T: Tree<W>, O: Sink>(
+    alloc: Global,
+    words: &[String],
+    outside: &mut Outside<W, T, O>,
+) -> Option<u8>
+    requires { 0 < vec_len outside.old.hands }
+    ensures some { IsSome result }
+    ensures law {
+        (d : T) →
+        let before = slice_index_or outside.old.hands.items 0 d in
+        let after = slice_index_or outside.new.hands.items 0 d in
+        IfSome result (Runs W.version T.told (line_of (map string_bytes words.now))
+            (hand T.present T.heard T.faults before) (hand T.present T.heard T.faults after)
+            (streams O.written O.write_faults outside.old.out outside.old.err)
+            (streams O.written O.write_faults outside.new.out outside.new.err))
+    }
+    ensures causes {
+        (d : T) →
+        let before = slice_index_or outside.old.hands.items 0 d in
+        let after = slice_index_or outside.new.hands.items 0 d in
+        IfSome result (HasCauses (line_of (map string_bytes words.now))
+            (hand T.present T.heard T.faults before) (hand T.present T.heard T.faults after)
+            (streams O.written O.write_faults outside.old.out outside.old.err)
+            (streams O.written O.write_faults outside.new.out outside.new.err))
+    }
+    ensures hands { vec_len outside.new.hands ≡ vec_len outside.old.hands }
+{
+    let status = run_line(alloc, read_line(words), outside);
+    Some(status.code())
+}
+
+/// Does all that the program does, and gives the exit status.
+pub fn run<W: Truth, T: Tree<W>, O: Sink>(
+    alloc: Global,
+    words: &[String],
+    outside: &mut Outside<W, T, O>,
+) -> u8
+    requires { 0 < vec_len outside.old.hands }
+    ensures law {
+        (d : T) →
+        let before = slice_index_or outside.old.hands.items 0 d in
+        let after = slice_index_or outside.new.hands.items 0 d in
+        Runs W.version T.told (line_of (map string_bytes words.now))
+            (hand T.present T.heard T.faults before) (hand T.present T.heard T.faults after)
+            (streams O.written O.write_faults outside.old.out outside.old.err)
+            (streams O.written O.write_faults outside.new.out outside.new.err) result
+    }
+    ensures causes {
+        (d : T) →
+        let before = slice_index_or outside.old.hands.items 0 d in
+        let after = slice_index_or outside.new.hands.items 0 d in
+        HasCauses (line_of (map string_bytes words.now))
+            (hand T.present T.heard T.faults before) (hand T.present T.heard T.faults after)
+            (streams O.written O.write_faults outside.old.out outside.old.err)
+            (streams O.written O.write_faults outside.new.out outside.new.err) result
+    }
+    ensures hands { vec_len outside.new.hands ≡ vec_len outside.old.hands }
+{
+    match run_local(alloc, words, outside) {
+        Some(code) => code,
+        None => unreachable!(),
+    }
+}
