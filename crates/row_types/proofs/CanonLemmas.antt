@@ -1,8 +1,7 @@
 -- A text is its own canonical form exactly where it is a slash and pieces that stay.
 use Rattle.std.proofs.Common.{◌≡◌, ℕ, zero, suc, ◌+◌, ◌-◌, ◌||◌, ◌&&◌, Bool, true, false, not, cond, List, [], ◌∷◌, ◌++◌, length, take, fold, All, refl, sym, ◌∙◌, ap, subst, append_assoc, arith, codes}
 use Rattle.std.specs.Prelude.{◌==◌, if◌then◌else◌}
-use Rattle.std.specs.Bool.{Decides}
-use Rattle.std.specs.List.{slice_split, onto_first, list_all, join_with_byte, count_by}
+use Rattle.std.specs.List.{onto_first, list_all, join_with_byte, count_by}
 use Rattle.std.specs.Str.{bytes_eq}
 use Rattle.std.proofs.lemmas.Bool.{eqb-true}
 use Rattle.std.proofs.lemmas.Bool.Decides.{same_from_decides}
@@ -124,7 +123,7 @@ pieces_of_joined : (piece : List ℕ) (rest : List (List ℕ)) → list_all is_k
 pieces_of_joined piece [] h = slice_split_none (λ b. b == SEPARATOR) piece (no_slash piece (right_true (stays piece) _ (left_true (is_kept piece) true h)))
 pieces_of_joined piece (next ∷ rest) h =
     slice_split_at (λ b. b == SEPARATOR) piece SEPARATOR (join_with_byte SEPARATOR (next ∷ rest))
-      (no_slash piece (right_true (stays piece) _ (left_true (is_kept piece) _ h))) refl
+    (no_slash piece (right_true (stays piece) _ (left_true (is_kept piece) _ h))) refl
     ∙ ap (λ ps. piece ∷ ps) (pieces_of_joined next rest (right_true (is_kept piece) _ h))
 
 -- kept pieces stay

@@ -1,1 +1,3 @@
+pub mod AscendsLemmas
 pub mod CanonLemmas
+pub mod TrueRowLemmas

@@ -1,5 +1,7 @@
 -- Build-ids (this project's rule): 2 to 64 bytes, kept in place with zeros behind them.
-use Rattle.std.specs.Prelude.{◌≡◌, ℕ, ◌-◌, ◌≤◌, List, ◌++◌, length, take, replicate}
+use Rattle.std.specs.Prelude.{◌≡◌, ℕ, ◌-◌, ◌*◌, ◌/◌, ◌%◌, ◌≤◌, List, ◌++◌, length, take, replicate}
+use Rattle.std.specs.List.{AllPass}
+use Rattle.hex.specs.Hex.{is_hex_digit}
 use Rattle.row_types.specs.declared.build_id.TheConstants.{SHORTEST_ID, LONGEST_ID}
 
 -- so many bytes as a build-id has
@@ -15,3 +17,14 @@ padded bytes = bytes ++ replicate (LONGEST_ID - length bytes) 0
 pub record IsPlaced (bytes : List ℕ) (count : ℕ) : Type 0 where
   pub sized : IsIdLength count
   pub zeros : bytes ≡ padded (take count bytes)
+
+-- the text is two hexadecimal digits for each of so many bytes
+pub record IsHexFor (count : ℕ) (text : List ℕ) : Type 0 where
+  pub long : length text ≡ 2 * count
+  pub digits : AllPass is_hex_digit text
+
+-- the text of an id: digits of either case, two for each byte
+pub record IsIdText (text : List ℕ) : Type 0 where
+  pub even : length text % 2 ≡ 0
+  pub sized : IsIdLength (length text / 2)
+  pub digits : AllPass is_hex_digit text

@@ -1,8 +1,6 @@
 -- Names (this project's rule): a file is known by its path and its stamp.
-use Rattle.std.specs.Prelude.{ℕ, List}
-use Rattle.row_types.specs.Stamp.{StampFacts}
+use Rattle.row_types.specs.declared.name.Name.{Name}
 
--- a file's path and stamp
-pub record NameFacts : Type 0 where
-  pub path : List ℕ
-  pub stamp : StampFacts
+-- a file's path, as a list of bytes, and its stamp
+abbrev pub NameFacts : Type 0
+NameFacts = Name

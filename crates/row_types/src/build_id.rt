@@ -1,9 +1,9 @@
 //! The id that a linker gives a file.
 
-ghost use Rattle.std.specs.Prelude.{◌≡◌, ◌≤◌, ◌↔◌, IsSome, IfSome, IfOk, length};
+ghost use Rattle.std.specs.Prelude.{◌≡◌, ◌≤◌, ◌↔◌, Ok, IsTrue, IsSome, IfSome, IfOk, length};
 ghost use Rattle.std.specs.String.{string_bytes};
-ghost use Rattle.hex.specs.Hex.{encode_lower};
-ghost use Rattle.row_types.specs.BuildId.{IsIdLength, padded};
+ghost use Rattle.hex.specs.Hex.{decode_of, encode_lower};
+ghost use Rattle.row_types.specs.BuildId.{IsHexFor, IsIdLength, IsIdText, padded};
 
 use std::alloc::{AllocError, Global};
 use std::cmp::Ordering;
@@ -54,6 +54,22 @@ impl BuildId {
         })
     }
 
+    /// The id of these hexadecimal digits, of either case.
+    pub fn parse(text: &[u8]) -> Option<BuildId>
+        ensures some { IsSome result ↔ IsIdText text.now }
+        ensures value { IfSome result (λ id. decode_of text.now ≡ Ok id) }
+    {
+        let len = text.len() / 2;
+        if LONGEST_ID < len {
+            return None;
+        }
+        let mut room = [0; 64];
+        if !decodes(text, &mut room[..len]) {
+            return None;
+        }
+        BuildId::new(&room[..len])
+    }
+
     /// The id's bytes.
     pub fn bytes(&self) -> &[u8]
         ensures value { result.now ≡ self.now }
@@ -68,6 +84,14 @@ impl BuildId {
     {
         hex::encode(alloc, self.bytes())
     }
+}
+
+/// Decodes a text that has two digits for each byte of the room, and says whether it is one.
+fn decodes(text: &[u8], room: &mut [u8]) -> bool
+    ensures ok { IsTrue result ↔ IsHexFor (length room.old) text.now }
+    ensures value { IsTrue result → decode_of text.now ≡ Ok room.new }
+{
+    hex::decode_to_slice(text, room).is_ok()
 }
 
 /// The bytes in an array, with zeros behind them.

@@ -7,10 +7,15 @@ mod build_id;
 mod faults;
 mod identity;
 mod limits;
+mod name;
 mod path;
+mod reading;
+mod row;
+mod sources;
 mod stamp;
 #[cfg(test)]
 mod tests;
+mod true_row;
 mod world;
 
 pub use build_id::{BuildId, LONGEST_ID, SHORTEST_ID};
@@ -18,6 +23,11 @@ pub use faults::Faults;
 pub use file_formats::Why;
 pub use identity::{Ident, Kind};
 pub use limits::{EDITION, FILE_LIMIT, PATH_LIMIT, SEPARATOR};
-pub use path::is_canonical;
+pub use name::Name;
+pub use path::{CanonPath, is_canonical};
+pub use reading::Reading;
+pub use row::Row;
+pub use sources::Sources;
 pub use stamp::{NANOS_PER_SECOND, Stamp};
+pub use true_row::TrueRow;
 pub use world::{OpenWorld, Truth};

@@ -1,10 +1,72 @@
 //! Canonical paths.
 
-ghost use Rattle.std.specs.Prelude.{◌≡◌};
+ghost use Rattle.std.specs.Prelude.{◌≡◌, ◌↔◌, IsTrue, IsOk, IfOk, IfErr};
 ghost use Rattle.std.specs.List.{list_all};
-ghost use Rattle.row_types.specs.Canon.{is_canonical, has_form, pieces, stays};
+ghost use Rattle.std.specs.String.{string_bytes};
+ghost use Rattle.row_types.specs.Canon.{is_canonical, has_form, pieces, stays, IsCanonPath};
 
-use crate::limits::SEPARATOR;
+use crate::limits::{PATH_LIMIT, SEPARATOR};
+use std::alloc::{AllocError, Global};
+use std::cmp::Ordering;
+use std::marker::Model;
+
+/// A path that is its own canonical form and has at most 4096 bytes. Contracts see it as the list of its
+/// bytes, by which paths are ordered.
+#[derive(Debug, Drop)]
+pub struct CanonPath {
+    text: String,
+}
+
+impl Model for CanonPath {
+    ghost use Rattle.std.specs.Prelude.{List, ℕ};
+    ghost use Rattle.std.specs.String.{string_bytes};
+    ghost use Rattle.row_types.specs.Canon.{IsCanonPath};
+
+    ghost Value = { List ℕ };
+
+    ghost view = { λ p. string_bytes p.text };
+
+    ghost invariant = { λ p. IsCanonPath (string_bytes p.text) };
+}
+
+impl CanonPath {
+    /// The path of this text, or the text back. No memory is taken.
+    pub fn check(text: String) -> Result<CanonPath, String>
+        ensures ok { IsOk result ↔ IsCanonPath (string_bytes text) }
+        ensures value { IfOk result (λ path. path ≡ string_bytes text) }
+        ensures back { IfErr result (λ given. given ≡ text) }
+    {
+        if is_path(text.as_str()) {
+            Ok(CanonPath { text })
+        } else {
+            Err(text)
+        }
+    }
+
+    /// The path's text.
+    pub fn text(&self) -> &str
+        ensures value { result.now ≡ self.now }
+        ensures canonical { IsCanonPath self.now }
+    {
+        self.text.as_str()
+    }
+
+    /// A copy.
+    pub fn copy(&self, alloc: Global) -> Result<CanonPath, AllocError>
+        ensures { IfOk result (λ path. path ≡ self.now) }
+    {
+        Ok(CanonPath {
+            text: String::from_str(alloc, self.text.as_str())?,
+        })
+    }
+}
+
+/// Whether a text is a path that is kept.
+fn is_path(text: &str) -> bool
+    ensures { IsTrue result ↔ IsCanonPath text.now }
+{
+    text.len() <= PATH_LIMIT && is_canonical(text)
+}
 
 /// Whether a text is its own canonical form. No memory is taken.
 #[tactic(auto, using(crate::proofs::CanonLemmas::has_form_is_canonical))]
@@ -36,4 +98,57 @@ fn stays(piece: &[u8]) -> bool
     ensures { result ≡ stays piece.now }
 {
     !(piece.is_empty() || piece == b".".as_slice() || piece == b"..".as_slice())
+}
+
+impl PartialEq for CanonPath {
+    ghost use Rattle.std.specs.Str.{bytes_eq};
+    ghost use Rattle.std.specs.Cmp.{partial_equiv_from_equiv};
+    ghost use Rattle.std.proofs.lemmas.Cmp.{nat_list_eq_equiv};
+
+    ghost eq = { bytes_eq };
+
+    ghost laws = { partial_equiv_from_equiv nat_list_eq_equiv };
+
+    fn eq(&self, other: &Self) -> bool {
+        self.text.as_bytes() == other.text.as_bytes()
+    }
+}
+
+impl Eq for CanonPath {
+    ghost use Rattle.std.proofs.lemmas.Cmp.{nat_list_eq_equiv};
+
+    ghost laws = { nat_list_eq_equiv };
+}
+
+impl PartialOrd for CanonPath {
+    ghost use Rattle.std.specs.Prelude.{Some};
+    ghost use Rattle.std.specs.Ordering.{nat_cmp};
+    ghost use Rattle.std.specs.Cmp.Lexicographic.{slice_cmp, texts_po};
+
+    ghost partial_cmp = { λ a b. Some (slice_cmp nat_cmp a b) };
+
+    ghost laws = { texts_po };
+
+    fn partial_cmp(&self, other: &Self) -> Option<Ordering> {
+        Some(self.text.as_bytes().cmp(other.text.as_bytes()))
+    }
+}
+
+impl Ord for CanonPath {
+    ghost use Rattle.std.specs.Prelude.{refl};
+    ghost use Rattle.std.specs.Ordering.{nat_cmp};
+    ghost use Rattle.std.specs.Cmp.Lexicographic.{slice_cmp, texts_ties};
+    ghost use Rattle.std.proofs.lemmas.Cmp.{nat_list_cmp_total};
+
+    ghost cmp = { slice_cmp nat_cmp };
+
+    ghost total = { nat_list_cmp_total };
+
+    ghost matches_partial_cmp = { λ a b. refl };
+
+    ghost matches_eq = { texts_ties };
+
+    fn cmp(&self, other: &Self) -> Ordering {
+        self.text.as_bytes().cmp(other.text.as_bytes())
+    }
 }

@@ -1,12 +1,98 @@
-//! What no clause says: memory suffices, and a digit of each kind.
+//! What no clause says: that memory suffices, and what the rules of paths and ids give for texts that are
+//! known from elsewhere.
 
 use crate::build_id::BuildId;
+use crate::identity::Ident;
+use crate::name::Name;
+use crate::path::{CanonPath, is_canonical};
+use crate::reading::Reading;
+use crate::row::Row;
+use crate::sources::Sources;
+use crate::stamp::Stamp;
+use crate::true_row::TrueRow;
+use crate::world::OpenWorld;
+use file_formats::Why;
+use std::alloc::{AllocError, Global};
 use std::test::Fail;
 
 #[test]
-fn an_id_is_printed_in_lower_case(rt: HostRuntime) -> Result<(), Fail> {
-    let id = BuildId::new(&[0xab, 0x00, 0x9f]).ok_or("three bytes are an id")?;
-    let text = id.print(rt.alloc())?;
-    assert_eq!(rt; text.as_str(), "ab009f");
+fn an_id_is_read_in_either_case_and_printed_in_lower_case(rt: HostRuntime) -> Result<(), Fail> {
+    let id = BuildId::parse(b"aB009F").ok_or("six digits are an id")?;
+    assert_eq!(rt; id.bytes(), [0xab, 0x00, 0x9f].as_slice());
+    assert_eq!(rt; id.print(rt.alloc())?.as_str(), "ab009f");
+    Ok(())
+}
+
+// RFC 3986, 5.2.4, has `/a/b/c/./../../g`, whose canonical form is `/a/g`.
+#[test]
+fn canonical_texts_are_told_from_others(rt: HostRuntime) {
+    let texts = [
+        ("/", true),
+        ("/a/g", true),
+        ("/a/...", true),
+        ("/.a/b..", true),
+        ("/a/b/c/./../../g", false),
+        ("/a/", false),
+        ("//", false),
+        ("/a//g", false),
+        ("/.", false),
+        ("/..", false),
+        ("a/g", false),
+        ("", false),
+    ];
+    for (text, want) in texts {
+        assert_eq!(rt; is_canonical(text), want, "at {text}");
+    }
+}
+
+fn path(alloc: Global, text: &str) -> Result<Option<CanonPath>, AllocError> {
+    Ok(CanonPath::check(String::from_str(alloc, text)?).ok())
+}
+
+#[test]
+fn a_row_is_copied_whole(rt: HostRuntime) -> Result<(), Fail> {
+    let alloc = rt.alloc();
+    let file = path(alloc, "/usr/bin/ls")?.ok_or("a canonical path")?;
+    let source = path(alloc, "/src/ls.c")?.ok_or("a canonical path")?;
+    let sources = Sources::check(vec![in alloc; source]?)
+        .ok()
+        .ok_or("one path ascends")?;
+    let id = BuildId::new(&[0xab, 0xcd]).ok_or("two bytes are an id")?;
+    let name = Name {
+        path: file,
+        stamp: Stamp::new(4, 100, 0).ok_or("no nanoseconds")?,
+    };
+    let ident = Ident {
+        id,
+        exec: true,
+        debug: false,
+    };
+    let row: TrueRow<OpenWorld> = TrueRow::new(Row::new(name, 1, Reading::Elf { ident, sources }));
+    let copy = row.copy(alloc)?.into_row();
+    assert!(rt; copy.name == row.row().name);
+    match &copy.reading {
+        Reading::Elf { ident, sources } => {
+            assert!(rt; ident.exec && ident.id == id);
+            assert_eq!(rt; sources.paths().len(), 1);
+        }
+        Reading::Plain(_) => panic!(rt; "the reading has an identity"),
+    }
+    Ok(())
+}
+
+#[test]
+fn only_a_file_above_the_limit_is_too_large(rt: HostRuntime) -> Result<(), Fail> {
+    let alloc = rt.alloc();
+    for (size, large) in [(0x4000_0000, false), (0x4000_0001, true)] {
+        let name = Name {
+            path: path(alloc, "/core")?.ok_or("a canonical path")?,
+            stamp: Stamp::new(size, -1, 999_999_999).ok_or("below a second")?,
+        };
+        let row: Option<TrueRow<OpenWorld>> = TrueRow::too_large(name).ok();
+        assert_eq!(rt; row.is_some(), large, "at {size}");
+        if let Some(row) = row {
+            assert!(rt; matches!(&row.row().reading, Reading::Plain(Why::TooLarge)));
+        }
+    }
     Ok(())
 }

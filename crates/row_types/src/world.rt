@@ -1,7 +1,10 @@
 //! Worlds: what a path and a stamp name.
 
-ghost use Rattle.std.specs.Prelude.{◌≡◌, ℕ, List, Bool, true};
+ghost use Rattle.std.specs.Prelude.{◌≡◌, ℕ, ◌<◌, List, Bool, true};
+ghost use Rattle.row_types.specs.Name.{NameFacts};
+ghost use Rattle.row_types.specs.Row.{RowFacts, too_large_row};
 ghost use Rattle.row_types.specs.Stamp.{StampFacts};
+ghost use Rattle.row_types.specs.declared.limits.TheConstants.{FILE_LIMIT};
 
 /// What the files of a world are. Nothing of a world is code: only contracts speak of it.
 pub trait Truth {
@@ -11,11 +14,20 @@ pub trait Truth {
     /// The file at this path with this stamp may have these bytes.
     ghost version: { List ℕ → StampFacts → List ℕ → Type 0 };
 
+    /// The row says what the file of its name is.
+    ghost true_row: { RowFacts → Type 0 };
+
+    /// A file that is larger than a file that is read is found to be that, whatever its bytes.
+    ghost too_large: { (name : NameFacts) → FILE_LIMIT < name.stamp.size → true_row (too_large_row name) };
+
     /// In a told world a path and a stamp name at most one content.
     ghost one_content: { told ≡ true → (path : List ℕ) (stamp : StampFacts) (a b : List ℕ) → version path stamp a → version path stamp b → a ≡ b };
+
+    /// In a told world a name has at most one true row.
+    ghost one_row: { told ≡ true → (a b : RowFacts) → a.name ≡ b.name → true_row a → true_row b → a ≡ b };
 }
 
-/// The world of real files, which isn't told: each content is one of each name.
+/// The world of real files, which isn't told: each content is one of each name, and each row is true.
 #[derive(Clone, Copy, Debug)]
 pub struct OpenWorld;
 
@@ -27,5 +39,11 @@ impl Truth for OpenWorld {
 
     ghost version = { λ _ _ _. Unit {0} };
 
+    ghost true_row = { λ _. Unit {0} };
+
+    ghost too_large = { λ _ _. tt };
+
     ghost one_content = { λ e. absurd (false≢true e) };
+
+    ghost one_row = { λ e. absurd (false≢true e) };
 }

@@ -1,0 +1,66 @@
+-- True rows of told worlds.
+use Rattle.std.proofs.Common.{◌≡◌, ℕ, ◌<◌, Bool, true, false, List, [], Result, Ok, Err, MatchBool, refl, sym, ◌∙◌, subst}
+use Rattle.std.specs.Prelude.{nat_lt}
+use Rattle.std.proofs.lemmas.Bool.{lt-ltb}
+use Rattle.file_formats.specs.Identity.{Identity, IsIdentity}
+use Rattle.file_formats.specs.declared.fault.Why.{Why}
+use Rattle.file_formats.specs.declared.fault.Why.TheVariants.{TooLarge}
+use Rattle.row_types.specs.Name.{NameFacts}
+use Rattle.row_types.specs.Row.{RowFacts, too_large_row}
+use Rattle.row_types.specs.Stamp.{StampFacts}
+use Rattle.row_types.specs.Reading.{ReadsBytes, IsReading, IsVersionRead, IsNameReading, IsTrueRow}
+use Rattle.row_types.specs.declared.limits.TheConstants.{FILE_LIMIT}
+use Rattle.row_types.specs.declared.reading.Reading.{Reading}
+use Rattle.row_types.specs.declared.reading.Reading.TheVariants.{Plain, Elf}
+
+-- the row of a file above the limit is true
+pub too_large_is_true : (version : List ℕ → StampFacts → List ℕ → Type 0) (name : NameFacts) → FILE_LIMIT < name.stamp.size → IsTrueRow version (too_large_row name)
+too_large_is_true version name above = record {
+  edition = refl;
+  reading = subst (λ (b : Bool). MatchBool b (Plain TooLarge ≡ Plain TooLarge) (IsVersionRead version name (Plain TooLarge))) (sym (lt-ltb FILE_LIMIT name.stamp.size above)) refl;
+}
+
+-- the reading of a version's bytes is that of its name
+pub name_read : (version : List ℕ → StampFacts → List ℕ → Type 0) (name : NameFacts) (bytes : List ℕ) (reading : Reading) → version name.path name.stamp bytes → IsReading name.stamp bytes reading → IsNameReading version name reading
+name_read version name bytes reading known reads =
+    elim (nat_lt FILE_LIMIT name.stamp.size) as (λ b. MatchBool b (reading ≡ Plain TooLarge) (ReadsBytes bytes reading) → MatchBool b (reading ≡ Plain TooLarge) (IsVersionRead version name reading))
+    [ true ↦ λ h. h | false ↦ λ h. record { bytes = bytes; known = known; reads = h } ] reads
+
+-- files have at most one identity
+abbrev pub IdentityIsOne : Type 0
+IdentityIsOne = (b : List ℕ) (r s : Result Identity Why) → IsIdentity b r → IsIdentity b s → r ≡ s
+
+-- bytes are found to be one thing
+bytes_read : IdentityIsOne → (bytes : List ℕ) (a b : Reading) → ReadsBytes bytes a → ReadsBytes bytes b → a ≡ b
+bytes_read one bytes (Plain why) (Plain other) p q =
+    let same = one bytes (Err why) (Err other) p q in cc
+bytes_read one bytes (Plain why) (Elf ident sources) p q =
+    let same = one bytes (Err why) (Ok ident) p q.0 in cc
+bytes_read one bytes (Elf ident sources) (Plain why) p q =
+    let same = one bytes (Ok ident) (Err why) p.0 q in cc
+bytes_read one bytes (Elf ident sources) (Elf other others) p q =
+    let same = one bytes (Ok ident) (Ok other) p.0 q.0 in
+    let first : sources ≡ [] = p.1 in
+    let second : others ≡ [] = q.1 in
+    cc
+
+-- a name's file is found to be one thing, where it has at most one content
+readings_same : IdentityIsOne → (version : List ℕ → StampFacts → List ℕ → Type 0) (name : NameFacts) (one : (a b : List ℕ) → version name.path name.stamp a → version name.path name.stamp b → a ≡ b) (a b : Reading) (large : Bool) → MatchBool large (a ≡ Plain TooLarge) (IsVersionRead version name a) → MatchBool large (b ≡ Plain TooLarge) (IsVersionRead version name b) → a ≡ b
+readings_same unique version name one a b true p q = p ∙ sym q
+readings_same unique version name one a b false p q =
+    bytes_read unique p.bytes a b p.reads (subst (λ bytes. ReadsBytes bytes b) (one q.bytes p.bytes q.known p.known) q.reads)
+
+-- a name has at most one true row
+pub true_rows_same : IdentityIsOne → (version : List ℕ → StampFacts → List ℕ → Type 0) → ((path : List ℕ) (stamp : StampFacts) (a b : List ℕ) → version path stamp a → version path stamp b → a ≡ b) → (a b : RowFacts) → a.name ≡ b.name → IsTrueRow version a → IsTrueRow version b → a ≡ b
+true_rows_same unique version one a b name p q =
+    let edition : a.edition ≡ b.edition = p.edition ∙ sym q.edition in
+    let reading : a.reading ≡ b.reading =
+    readings_same unique version b.name (one b.name.path b.name.stamp) a.reading b.reading (nat_lt FILE_LIMIT b.name.stamp.size)
+    (subst (λ n. IsNameReading version n a.reading) name p.reading) q.reading in
+    same_row a.name b.name a.edition b.edition a.reading b.reading name edition reading
+  where
+    row_of : NameFacts → ℕ → Reading → RowFacts
+    row_of n e r = record { name = n; edition = e; reading = r }
+
+    same_row : (n m : NameFacts) (e f : ℕ) (r s : Reading) → n ≡ m → e ≡ f → r ≡ s → row_of n e r ≡ row_of m f s
+    same_row n m e f r s p q t = cc

@@ -1,0 +1,35 @@
+-- What a file is found to be (this project's rule): by its size first, then by its identity. Its sources aren't
+-- read yet, so none are listed.
+use Rattle.std.specs.Prelude.{◌≡◌, ℕ, List, [], nat_lt, MatchBool, Ok, Err}
+use Rattle.file_formats.specs.Identity.{IsIdentity}
+use Rattle.file_formats.specs.declared.fault.Why.TheVariants.{TooLarge}
+use Rattle.row_types.specs.Name.{NameFacts}
+use Rattle.row_types.specs.Row.{RowFacts}
+use Rattle.row_types.specs.Stamp.{StampFacts}
+use Rattle.row_types.specs.declared.limits.TheConstants.{EDITION, FILE_LIMIT}
+use Rattle.row_types.specs.declared.reading.Reading.{Reading}
+use Rattle.row_types.specs.declared.reading.Reading.TheVariants.{Plain, Elf}
+
+-- what bytes are found to be
+abbrev pub ReadsBytes : List ℕ → Reading → Type 0
+ReadsBytes bytes (Plain why) = IsIdentity bytes (Err why)
+ReadsBytes bytes (Elf ident sources) = IsIdentity bytes (Ok ident) × (sources ≡ [])
+
+-- what the file of a stamp and its bytes is found to be
+abbrev pub IsReading : StampFacts → List ℕ → Reading → Type 0
+IsReading stamp bytes reading = MatchBool (nat_lt FILE_LIMIT stamp.size) (reading ≡ Plain TooLarge) (ReadsBytes bytes reading)
+
+-- a version of the name is found to be this
+pub record IsVersionRead (version : List ℕ → StampFacts → List ℕ → Type 0) (name : NameFacts) (reading : Reading) : Type 0 where
+  pub bytes : List ℕ
+  pub known : version name.path name.stamp bytes
+  pub reads : ReadsBytes bytes reading
+
+-- what the file of a name is found to be; one that is larger than a file that is read needs no content for it
+abbrev pub IsNameReading : (List ℕ → StampFacts → List ℕ → Type 0) → NameFacts → Reading → Type 0
+IsNameReading version name reading = MatchBool (nat_lt FILE_LIMIT name.stamp.size) (reading ≡ Plain TooLarge) (IsVersionRead version name reading)
+
+-- the row of a told world: it is of the edition, and says what the file of its name is found to be
+pub record IsTrueRow (version : List ℕ → StampFacts → List ℕ → Type 0) (row : RowFacts) : Type 0 where
+  pub edition : row.edition ≡ EDITION
+  pub reading : IsNameReading version row.name row.reading
