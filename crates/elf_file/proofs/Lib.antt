@@ -1,3 +1,4 @@
+pub mod AnswerLemmas
 pub mod NoteLemmas
 pub mod SectionLemmas
 pub mod ZeroLemmas
