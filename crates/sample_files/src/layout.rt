@@ -1,6 +1,6 @@
 //! The plain layout: the header, the sections' bytes, the section table.
 
-ghost use Rattle.std.specs.Prelude.{◌≡◌, ℕ, ◌+◌, ◌^◌, ◌<◌, ◌≤◌, ◌++◌, ◌∷◌, [], length, codes, OnOk, IfOk};
+ghost use Rattle.std.specs.Prelude.{◌≡◌, ℕ, ◌+◌, ◌^◌, ◌<◌, ◌≤◌, ◌++◌, ◌∷◌, [], length, vec_len, codes, OnOk, IfOk};
 ghost use Rattle.std.specs.List.{flat_map};
 ghost use Rattle.sample_files.specs.Fields.{fields_bytes};
 ghost use Rattle.sample_files.specs.Layout as layout;
@@ -149,9 +149,12 @@ fn first_fields(counts: Counts, count: u16) -> [Field; 10]
     ]
 }
 
+#[tactic(auto, using(crate::proofs::LayoutLemmas::names_steps))]
 /// The names' section: a 0, then each section's name with a 0, its own last.
 fn names_of(alloc: Global, sections: &[Section<'_>]) -> Result<Vec<u8>, AllocError>
-    ensures { IfOk result (λ v. v.items ≡ layout.names_of sections.now) }
+    ensures value { IfOk result (λ v. v.items ≡ layout.names_of sections.now) }
+    ensures len { IfOk result (λ v. vec_len v ≡ 11 + length (flat_map layout.name_bytes sections.now)) }
+    ensures short { IfOk result (λ v. vec_len v ≤ 11 + layout.parts_room sections.now + length sections.now) }
 {
     let mut names = Vec::new(alloc);
     names.push(0)?;
@@ -209,4 +212,31 @@ fn push_entries(
         name += section.name_size();
     }
     Ok(())
+}
+
+/// The bytes of a file of the plain layout.
+pub fn plain_layout(
+    alloc: Global,
+    shape: &Shape,
+    sections: &[Section<'_>],
+) -> Result<Vec<u8>, AllocError>
+    requires { IsSmall sections.now }
+    ensures { IfOk result (λ v. v.items ≡ layout.plain_layout shape.now sections.now) }
+{
+    let names = names_of(alloc, sections)?;
+    let last = [Section::new(".shstrtab", SHT_STRTAB, 0, 1, &names)];
+    let start = header_size(shape.class) as usize;
+    let middle = parts_end(start, sections);
+    let end = parts_end(middle, &last);
+    let gap = padding(table_alignment(shape.class), end);
+    let count = sections.len() as u16 + 2;
+    let mut out = Vec::new(alloc);
+    push_header(&mut out, shape, (end + gap) as u32, count)?;
+    push_bodies(&mut out, start, sections)?;
+    push_bodies(&mut out, middle, &last)?;
+    push_zeros(&mut out, gap)?;
+    push_fields(&mut out, shape, &first_fields(shape.counts, count))?;
+    push_entries(&mut out, shape, start, 1, sections)?;
+    push_entries(&mut out, shape, middle, names.len() - 10, &last)?;
+    Ok(out)
 }

@@ -7,5 +7,6 @@ mod layout;
 mod parts;
 mod shape;
 
+pub use layout::plain_layout;
 pub use parts::Section;
 pub use shape::{Class, Counts, Order, Shape};
