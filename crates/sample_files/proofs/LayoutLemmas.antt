@@ -58,7 +58,7 @@ pub plain_layout-pushed : (s : Shape) (parts : List Part) (start middle end gap 
     → count ≡ length parts + 2
     → name ≡ 1 + length (flat_map name_bytes parts)
     → header s (end + gap) count ++ bodies start parts ++ bodies middle (last ∷ []) ++ replicate gap 0
-      ++ fields_bytes s (first_fields s.counts count) ++ entries s start 1 parts ++ entries s middle name (last ∷ [])
+    ++ fields_bytes s (first_fields s.counts count) ++ entries s start 1 parts ++ entries s middle name (last ∷ [])
     ≡ plain_layout s parts
 unfolding plain_layout
 plain_layout-pushed s parts start middle end gap count name last is_last is_start is_middle is_end is_gap is_count is_name =
@@ -66,17 +66,17 @@ plain_layout-pushed s parts start middle end gap count name last is_last is_star
     let own : List Part = names_part parts ∷ [] in
     let is_all : count ≡ entry_count parts = is_count ∙ sym (ap (λ n. 1 + n) (length-append parts own) ∙ counted (length parts)) in
     let is_bodies_end : end ≡ bodies_end s parts =
-        is_end ∙ ap (λ l. parts_end middle (l ∷ [])) is_last ∙ ap (λ m. parts_end m own) (is_middle ∙ ap (λ p. parts_end p parts) is_start)
-        ∙ sym (parts_end-append hs parts own) in
+    is_end ∙ ap (λ l. parts_end middle (l ∷ [])) is_last ∙ ap (λ m. parts_end m own) (is_middle ∙ ap (λ p. parts_end p parts) is_start)
+    ∙ sym (parts_end-append hs parts own) in
     rw (is_name, is_gap, is_bodies_end, is_middle, is_start, is_all, is_last)
     (rw (bodies-append hs parts own, entries-append s hs 1 parts own) (sym (regroup
-        (header s (table_place s parts) (entry_count parts))
-        (bodies hs parts)
-        (bodies (parts_end hs parts) own)
-        (replicate (padding (table_alignment s.class) (bodies_end s parts)) 0)
-        (fields_bytes s (first_fields s.counts (entry_count parts)))
-        (entries s hs 1 parts)
-        (entries s (parts_end hs parts) (1 + length (flat_map name_bytes parts)) own))))
+    (header s (table_place s parts) (entry_count parts))
+    (bodies hs parts)
+    (bodies (parts_end hs parts) own)
+    (replicate (padding (table_alignment s.class) (bodies_end s parts)) 0)
+    (fields_bytes s (first_fields s.counts (entry_count parts)))
+    (entries s hs 1 parts)
+    (entries s (parts_end hs parts) (1 + length (flat_map name_bytes parts)) own))))
 
 -- how long the names' section is
 pub ruleset names_steps = (length-names, length-names_of)

@@ -8,7 +8,8 @@ use Rattle.sample_files.specs.declared.shape.Order.{Order}
 use Rattle.sample_files.specs.declared.shape.Order.TheVariants.{Little, Big}
 use Rattle.sample_files.specs.Fields.{number}
 use Rattle.sample_files.specs.Layout.{padding}
-use Rattle.sample_files.specs.Notes.{gnu_note, note, padded, padded_notes}
+use Rattle.sample_files.specs.Notes.{gnu_note, note, padded}
+use Rattle.sample_files.specs.Samples.{wide_notes}
 
 pub length-word : (order : Order) (n : ℕ) → length (number order w32 n) ≡ 4
 unfolding number
@@ -35,3 +36,10 @@ length-padded_notes {X} view order (id ∷ rest) =
 
 -- how long notes are
 pub ruleset note_steps = (length-gnu_note, length-padded_notes)
+
+pub length-wide_notes : length wide_notes ≡ 51
+unfolding number
+length-wide_notes = refl
+
+-- how long the notes at an alignment of 8 are
+pub ruleset wide_steps = (length-wide_notes)

@@ -4,9 +4,8 @@ ghost use Rattle.std.specs.Prelude.{◌≡◌, ◌++◌, OnOk, replicate};
 ghost use Rattle.std.specs.Int.{w16, w32, w64};
 ghost use Rattle.sample_files.specs.Fields.{number, place_width, field_bytes, fields_bytes};
 
-use std::alloc::AllocError;
-
 use crate::shape::{Class, Order, Shape};
+use std::alloc::AllocError;
 
 /// A field of a header.
 #[derive(Clone, Copy, Debug, PartialEq, Eq)]
@@ -76,7 +75,11 @@ fn push_field(out: &mut Vec<u8>, shape: &Shape, field: Field) -> Result<(), Allo
 }
 
 /// Pushes fields one behind the other.
-pub(crate) fn push_fields(out: &mut Vec<u8>, shape: &Shape, fields: &[Field]) -> Result<(), AllocError>
+pub(crate) fn push_fields(
+    out: &mut Vec<u8>,
+    shape: &Shape,
+    fields: &[Field],
+) -> Result<(), AllocError>
     ensures { OnOk result (out.new.items ≡ out.old.items ++ fields_bytes shape.now fields.now) }
 {
     for field in fields {

@@ -6,13 +6,11 @@ ghost use Rattle.sample_files.specs.Fields.{fields_bytes};
 ghost use Rattle.sample_files.specs.Layout as layout;
 ghost use Rattle.sample_files.specs.Layout.{IsSmall};
 
-use std::alloc::AllocError;
-use std::alloc::Global;
-
 use crate::codes::{SHN_XINDEX, SHT_STRTAB};
 use crate::fields::{Field, push_fields, push_zeros};
 use crate::parts::{Section, padding};
 use crate::shape::{Class, Counts, Order, Shape};
+use std::alloc::{AllocError, Global};
 
 fn header_size(class: Class) -> u16
     ensures { result ≡ layout.header_size class }

@@ -4,16 +4,19 @@ ghost use Rattle.std.specs.Prelude.{◌≡◌, ℕ, ◌+◌, ◌*◌, ◌^◌, �
 ghost use Rattle.std.specs.List.{flat_map};
 ghost use Rattle.sample_files.specs.Notes as notes;
 
-use std::alloc::AllocError;
-use std::alloc::Global;
-
 use crate::codes::NT_GNU_BUILD_ID;
 use crate::fields::{push_word, push_zeros};
 use crate::parts::padding;
 use crate::shape::Order;
+use std::alloc::{AllocError, Global};
 
 /// Pushes a note under the name GNU.
-pub(crate) fn push_gnu_note(out: &mut Vec<u8>, order: Order, kind: u32, descriptor: &[u8]) -> Result<(), AllocError>
+pub(crate) fn push_gnu_note(
+    out: &mut Vec<u8>,
+    order: Order,
+    kind: u32,
+    descriptor: &[u8],
+) -> Result<(), AllocError>
     requires { length descriptor.now < 2 ^ 32 }
     ensures value { OnOk result (out.new.items ≡ out.old.items ++ notes.gnu_note order kind descriptor.now) }
 {
@@ -55,7 +58,11 @@ pub fn note(alloc: Global, order: Order, id: &[u8]) -> Result<Vec<u8>, AllocErro
 
 #[tactic(auto, using(crate::proofs::NoteLemmas::note_steps))]
 /// The notes of build-ids, each padded to a multiple of 4.
-pub(crate) fn padded_notes(alloc: Global, order: Order, ids: &[&[u8]]) -> Result<Vec<u8>, AllocError>
+pub(crate) fn padded_notes(
+    alloc: Global,
+    order: Order,
+    ids: &[&[u8]],
+) -> Result<Vec<u8>, AllocError>
     requires { sum_by (λ id. length id.now) ids.now < 2 ^ 32 }
     ensures value { IfOk result (λ v. v.items ≡ flat_map (λ id. notes.padded 4 (notes.note order id.now)) ids.now) }
     ensures short { IfOk result (λ v. vec_len v ≤ 20 * length ids.now + sum_by (λ id. length id.now) ids.now) }

@@ -4,11 +4,10 @@ ghost use Rattle.std.specs.Prelude.{◌≡◌, ℕ, ◌+◌, ◌<◌, ◌≤◌,
 ghost use Rattle.sample_files.specs.Parts.{section, section_without_bytes};
 ghost use Rattle.sample_files.specs.Layout as layout;
 
-use std::alloc::AllocError;
-use std::marker::Model;
-
 use crate::codes::SHT_NOBITS;
 use crate::fields::{Field, push_zeros};
+use std::alloc::AllocError;
+use std::marker::Model;
 
 /// A section to lay out. Contracts see it as a record of its name, type, flags and alignment, its
 /// bytes in the file and its stated size.

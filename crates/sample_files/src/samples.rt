@@ -1,23 +1,19 @@
 //! The sample files.
 
-ghost use Rattle.std.specs.Prelude.{◌≡◌, ℕ, ◌+◌, ◌^◌, ◌<◌, ◌≤◌, ◌++◌, length, map, sum_by, codes, IfOk};
+ghost use Rattle.std.specs.Prelude.{◌≡◌, ℕ, ◌+◌, ◌^◌, ◌<◌, ◌≤◌, ◌++◌, length, map, sum_by, codes, vec_len, IfOk, ◌∷◌, []};
 ghost use Rattle.sample_files.specs.Parts.{section};
 ghost use Rattle.sample_files.specs.Samples as samples;
-
-use std::alloc::AllocError;
-use std::alloc::Global;
 
 use crate::codes::{
     EM_PPC, EM_X86_64, ET_DYN, ET_EXEC, NT_GNU_BUILD_ID, NT_GNU_PROPERTY_TYPE_0, SHF_ALLOC,
     SHF_COMPRESSED, SHF_EXECINSTR, SHT_NOTE, SHT_PROGBITS,
 };
-use crate::debug_bytes::{
-    DEBUG_ABBREV, DEBUG_INFO, DEBUG_LINE, DEBUG_LINE_STR, DEBUG_STR_OFFSETS,
-};
+use crate::debug_bytes::{DEBUG_ABBREV, DEBUG_INFO, DEBUG_LINE, DEBUG_LINE_STR, DEBUG_STR_OFFSETS};
 use crate::layout::plain_layout;
 use crate::notes::{note, padded_notes, push_gnu_note, push_padded_note};
 use crate::parts::Section;
 use crate::shape::{Class, Counts, Order, Shape};
+use std::alloc::{AllocError, Global};
 
 /// The id of the sample of both classes.
 pub const ID_A: [u8; 20] = [
@@ -84,7 +80,13 @@ fn notes_at(alignment: u32, notes: &[u8]) -> Section<'_>
 fn text<'a>() -> Section<'a>
     ensures { result ≡ samples.text_part }
 {
-    Section::new(".text", SHT_PROGBITS, SHF_ALLOC + SHF_EXECINSTR, 16, &[0xc3])
+    Section::new(
+        ".text",
+        SHT_PROGBITS,
+        SHF_ALLOC + SHF_EXECINSTR,
+        16,
+        &[0xc3],
+    )
 }
 
 fn bare_text<'a>(alignment: u32, size: u32) -> Section<'a>
@@ -111,7 +113,11 @@ fn both_classes_counted(alloc: Global, counts: Counts) -> Result<Vec<u8>, AllocE
     ensures { IfOk result (λ v. v.items ≡ samples.both_classes_counted counts) }
 {
     let id = note(alloc, Order::Little, &ID_A)?;
-    plain_layout(alloc, &shared_object(counts), &[build_id(&id), text(), empty_info()])
+    plain_layout(
+        alloc,
+        &shared_object(counts),
+        &[build_id(&id), text(), empty_info()],
+    )
 }
 
 /// The sample of both classes: code and debug information under one id.
@@ -119,4 +125,149 @@ pub fn both_classes(alloc: Global) -> Result<Vec<u8>, AllocError>
     ensures { IfOk result (λ v. v.items ≡ samples.both_classes) }
 {
     both_classes_counted(alloc, Counts::Plain)
+}
+
+/// The sample 32-bit big-endian debug file: a program's debug information without its code.
+pub fn big_endian_debug(alloc: Global) -> Result<Vec<u8>, AllocError>
+    ensures { IfOk result (λ v. v.items ≡ samples.big_endian_debug) }
+{
+    let id = note(alloc, Order::Big, &ID_BIG)?;
+    plain_layout(
+        alloc,
+        &big_program(),
+        &[build_id(&id), bare_text(4, 64), empty_info()],
+    )
+}
+
+#[tactic(auto, using(crate::proofs::NoteLemmas::wide_steps))]
+fn wide_notes(alloc: Global) -> Result<Vec<u8>, AllocError>
+    ensures value { IfOk result (λ v. v.items ≡ samples.wide_notes) }
+    ensures len { IfOk result (λ v. vec_len v ≡ 51) }
+{
+    let mut notes = Vec::new(alloc);
+    push_padded_note(
+        &mut notes,
+        Order::Little,
+        NT_GNU_PROPERTY_TYPE_0,
+        &[0; 12],
+        8,
+    )?;
+    push_gnu_note(
+        &mut notes,
+        Order::Little,
+        NT_GNU_BUILD_ID,
+        &[0xab, 0xcd, 0xef],
+    )?;
+    Ok(notes)
+}
+
+/// The sample with 8-aligned notes: the note before the build-id's has padding that an alignment of 4
+/// wouldn't ask, and the last has none.
+pub fn eight_aligned_notes(alloc: Global) -> Result<Vec<u8>, AllocError>
+    ensures { IfOk result (λ v. v.items ≡ samples.eight_aligned_notes) }
+{
+    let notes = wide_notes(alloc)?;
+    plain_layout(
+        alloc,
+        &shared_object(Counts::Plain),
+        &[notes_at(8, &notes), text()],
+    )
+}
+
+/// The sample with extended counts: the sample of both classes, whose header sends to section 0.
+pub fn extended_counts(alloc: Global) -> Result<Vec<u8>, AllocError>
+    ensures { IfOk result (λ v. v.items ≡ samples.extended_counts) }
+{
+    both_classes_counted(alloc, Counts::Extended)
+}
+
+/// The sample with chosen ids: code, and a build-id note for each id in order.
+pub fn chosen_ids(alloc: Global, ids: &[&[u8]]) -> Result<Vec<u8>, AllocError>
+    requires few { length ids.now ≤ 1000 }
+    requires short { sum_by (λ id. length id.now) ids.now ≤ 2 ^ 16 }
+    ensures { IfOk result (λ v. v.items ≡ samples.chosen_ids (map (λ id. id.now) ids.now)) }
+{
+    let notes = padded_notes(alloc, Order::Little, ids)?;
+    plain_layout(
+        alloc,
+        &shared_object(Counts::Plain),
+        &[notes_at(4, &notes), text()],
+    )
+}
+
+/// The sample executable of an id: code, and no debug information.
+pub fn executable_of(alloc: Global, id: &[u8]) -> Result<Vec<u8>, AllocError>
+    requires { length id.now ≤ 2 ^ 16 }
+    ensures { IfOk result (λ v. v.items ≡ samples.executable_of id.now) }
+{
+    let id = note(alloc, Order::Little, id)?;
+    plain_layout(
+        alloc,
+        &shared_object(Counts::Plain),
+        &[build_id(&id), text()],
+    )
+}
+
+/// The sample executable.
+pub fn executable(alloc: Global) -> Result<Vec<u8>, AllocError>
+    ensures { IfOk result (λ v. v.items ≡ samples.executable) }
+{
+    executable_of(alloc, &ID_C)
+}
+
+/// The sample debug companion of an id: debug information, code without its bytes, and a compressed
+/// section.
+pub fn debug_companion_of(alloc: Global, id: &[u8]) -> Result<Vec<u8>, AllocError>
+    requires { length id.now ≤ 2 ^ 16 }
+    ensures { IfOk result (λ v. v.items ≡ samples.debug_companion_of id.now) }
+{
+    let id = note(alloc, Order::Little, id)?;
+    let compressed = Section::new(".debug_zz", SHT_PROGBITS, SHF_COMPRESSED, 1, &[0; 24]);
+    let sections = [build_id(&id), bare_text(16, 1), empty_info(), compressed];
+    plain_layout(alloc, &shared_object(Counts::Plain), &sections)
+}
+
+/// The sample debug companion.
+pub fn debug_companion(alloc: Global) -> Result<Vec<u8>, AllocError>
+    ensures { IfOk result (λ v. v.items ≡ samples.debug_companion) }
+{
+    debug_companion_of(alloc, &ID_C)
+}
+
+/// The sample with DWARF 5 of an id and of the folder that its unit was compiled in.
+pub fn dwarf_five_of(alloc: Global, id: &[u8], folder: &str) -> Result<Vec<u8>, AllocError>
+    requires id { length id.now ≤ 2 ^ 16 }
+    requires folder { length folder.now ≤ 2 ^ 16 }
+    ensures { IfOk result (λ v. v.items ≡ samples.dwarf_five_of id.now folder.now) }
+{
+    let id = note(alloc, Order::Little, id)?;
+    let strings = terminated(alloc, folder)?;
+    let sections = [
+        build_id(&id),
+        text(),
+        debug(".debug_abbrev", &DEBUG_ABBREV),
+        debug(".debug_info", &DEBUG_INFO),
+        debug(".debug_line", &DEBUG_LINE),
+        debug(".debug_str", &strings),
+        debug(".debug_line_str", &DEBUG_LINE_STR),
+        debug(".debug_str_offsets", &DEBUG_STR_OFFSETS),
+    ];
+    plain_layout(alloc, &shared_object(Counts::Plain), &sections)
+}
+
+/// A text with a 0 behind it.
+fn terminated(alloc: Global, text: &str) -> Result<Vec<u8>, AllocError>
+    ensures value { IfOk result (λ v. v.items ≡ text.now ++ 0 ∷ []) }
+    ensures len { IfOk result (λ v. vec_len v ≡ length text.now + 1) }
+{
+    let mut bytes = Vec::from_slice(alloc, text.as_bytes())?;
+    bytes.push(0)?;
+    Ok(bytes)
+}
+
+/// The sample with DWARF 5: code, and debug information of one unit with two sources.
+pub fn dwarf_five(alloc: Global) -> Result<Vec<u8>, AllocError>
+    ensures { IfOk result (λ v. v.items ≡ samples.dwarf_five) }
+{
+    dwarf_five_of(alloc, &ID_B, "/w/src")
 }
