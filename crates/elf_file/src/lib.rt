@@ -9,6 +9,8 @@ mod notes;
 mod number;
 mod section;
 mod table;
+#[cfg(test)]
+mod tests;
 
 pub use file::ElfFile;
 pub use identity::{IdentFault, ident};
