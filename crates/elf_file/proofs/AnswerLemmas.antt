@@ -1,5 +1,5 @@
 -- An answer is the only one.
-use Rattle.std.proofs.Common.{◌≡◌, ◌≢◌, sym, ap, ℕ, List, Bool, false, true, Result, Ok, Err}
+use Rattle.std.proofs.Common.{◌≡◌, ◌≢◌, ap, ℕ, List, Bool, false, true, Result, Ok, Err}
 use Rattle.file_formats.specs.declared.fault.Why.{Why}
 use Rattle.file_formats.specs.declared.fault.Why.TheVariants.{TooLarge}
 use Rattle.file_formats.specs.Identity.{Identity, IsIdentity}

@@ -88,10 +88,7 @@ fn holds_code(header: &SectionHeader) -> bool
 fn holds_debug(file: &ElfFile<'_>, header: &SectionHeader) -> bool
     ensures { result ≡ is_debug header.now (name_of file.now.bytes file.now.table header.now) }
 {
-    !takes_no_bytes(header)
-        && file
-            .name(header)
-            .is_some_and(|name| name.starts_with(b".debug_"))
+    !takes_no_bytes(header) && file.has_name_with(header, b".debug_")
 }
 
 /// Whether some section is code.

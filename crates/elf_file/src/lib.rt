@@ -5,6 +5,7 @@
 mod file;
 mod head;
 mod identity;
+mod names;
 mod notes;
 mod number;
 mod section;
