@@ -6,14 +6,14 @@ use Rattle.std.proofs.lemmas.List.Sums.{prefix_len_passes, prefix_len_stops}
 use Rattle.memchr.specs.Find.{IsFirstByte, is_byte}
 
 -- the test that a byte isn't 0
-abbrev is_other : ℕ → Bool
+abbrev pub is_other : ℕ → Bool
 is_other x = not (x == 0)
 
-other_false : (b : Bool) → not b ≡ false → b ≡ true
+pub other_false : (b : Bool) → not b ≡ false → b ≡ true
 other_false true e = grind arith
 other_false false e = sym e
 
-other_true : (b : Bool) → not b ≡ true → b ≡ true → ⊥
+pub other_true : (b : Bool) → not b ≡ true → b ≡ true → ⊥
 other_true true e h = grind arith
 other_true false e h = grind arith
 

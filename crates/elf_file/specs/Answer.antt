@@ -5,6 +5,7 @@ use Rattle.file_formats.specs.declared.encoding.Class.TheVariants.{Elf32, Elf64}
 use Rattle.file_formats.specs.declared.encoding.Order.{Order}
 use Rattle.file_formats.specs.declared.encoding.Order.TheVariants.{Little, Big}
 use Rattle.file_formats.specs.declared.fault.ElfFault.{ElfFault}
+use Rattle.file_formats.specs.declared.fault.Why.{Why}
 use Rattle.file_formats.specs.declared.codes.TheConstants.{SHN_XINDEX}
 use Rattle.file_formats.specs.declared.header.Head.{Head}
 use Rattle.file_formats.specs.Header.{head_of}
@@ -36,6 +37,11 @@ is_unbuilt_of (Err fault) = false
 -- the file's form isn't read yet
 abbrev pub is_unbuilt : List ℕ → Bool
 is_unbuilt b = is_unbuilt_of (head_of b)
+
+-- the answer that gives an identity, or the reason why there is none
+abbrev pub answered : Result Identity Why → Result Identity IdentFault
+answered (Ok i) = Ok i
+answered (Err why) = Err (Plain why)
 
 -- the identity, or the first reason why the file has none; or that its form isn't read yet, exactly where it isn't
 abbrev pub IsAnswer : List ℕ → Result Identity IdentFault → Type 0

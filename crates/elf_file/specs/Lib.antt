@@ -1,3 +1,4 @@
 pub mod Answer
 pub mod NoteView
 pub mod Parsed
+pub mod Texts

@@ -1,13 +1,16 @@
 //! A file whose section table can be read.
 
-ghost use Rattle.std.specs.Prelude.{◌≡◌, ◌<◌, true, IfOk, IfErr};
-ghost use Rattle.std.specs.Option.{option_copied};
+ghost use Rattle.std.specs.Prelude.{◌≡◌, ◌<◌, true, false, nat_eq, IfOk, IfErr};
+ghost use Rattle.std.specs.Option.{option_copied, option_map_or};
+ghost use Rattle.std.specs.List.{starts_with};
 ghost use Rattle.file_formats.specs.Sections.{contents_of};
 ghost use Rattle.file_formats.specs.Table.{has_names, name_of, section_at, table_of};
 ghost use Rattle.elf_file.specs.Parsed.{IsInside};
+ghost use Rattle.elf_file.specs.Texts.{has_no_zero};
 
 use crate::head::head;
-use crate::section::{contents, header_at, text};
+use crate::names::Names;
+use crate::section::{contents, header_at};
 use crate::table::{entry_place, names_in, table};
 use file_formats::{ElfFault, Order, SectionHeader, SectionTable};
 use std::marker::Model;
@@ -17,18 +20,17 @@ use std::marker::Model;
 pub struct ElfFile<'a> {
     bytes: &'a [u8],
     table: SectionTable,
-    names: Option<&'a [u8]>,
+    names: Option<Names<'a>>,
 }
 
 impl<'a> Model for ElfFile<'a> {
-    ghost use Rattle.std.specs.Option.{option_copied};
     ghost use Rattle.elf_file.specs.Parsed.{IsParsed, Parsed};
 
     ghost Value = { Parsed };
 
     ghost view = { λ f. record { bytes = f.bytes.now; table = f.table } };
 
-    ghost invariant = { λ f. IsParsed f.bytes.now f.table (option_copied f.names) };
+    ghost invariant = { λ f. IsParsed f.bytes.now f.table f.names };
 }
 
 impl<'a> ElfFile<'a> {
@@ -87,7 +89,21 @@ impl<'a> ElfFile<'a> {
     pub fn name(&self, header: &SectionHeader) -> Option<&'a [u8]>
         ensures { option_copied result ≡ name_of self.now.bytes self.now.table header.now }
     {
-        text(self.names?, header.sh_name)
+        match &self.names {
+            Some(names) => names.text(header.sh_name),
+            None => None,
+        }
+    }
+
+    /// Whether a section header gives a name that begins with a prefix. The name's end is not sought.
+    pub fn has_name_with(&self, header: &SectionHeader, prefix: &[u8]) -> bool
+        requires { has_no_zero prefix.now ≡ true }
+        ensures { result ≡ option_map_or (λ name. starts_with nat_eq name prefix.now) (name_of self.now.bytes self.now.table header.now) false }
+    {
+        match &self.names {
+            Some(names) => names.begins(header.sh_name, prefix),
+            None => false,
+        }
     }
 }
 

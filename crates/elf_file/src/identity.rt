@@ -1,9 +1,9 @@
 //! A file's identity: its build-id, and whether it holds code and debug information.
 
-ghost use Rattle.std.specs.Prelude.{◌≡◌, ◌↔◌, ◌<◌, ◌≤◌, ℕ, List, IsTrue, IfNone, IfSome};
-ghost use Rattle.file_formats.specs.Identity.{HasCode, HasDebug, HasIdAt, IsBuildId, IsIdentity, is_code, is_debug, why_of};
+ghost use Rattle.std.specs.Prelude.{◌≡◌, ◌≢◌, ◌↔◌, ◌<◌, ◌≤◌, ℕ, List, Result, Err, false, IsTrue, IfNone, IfSome};
+ghost use Rattle.file_formats.specs.Identity.{HasCode, HasDebug, HasIdAt, Identity, IsBuildId, IsIdentity, is_code, is_debug, why_of};
 ghost use Rattle.file_formats.specs.Table.{IsIndex, name_of};
-ghost use Rattle.elf_file.specs.Answer.{IsAnswer, is_unbuilt};
+ghost use Rattle.elf_file.specs.Answer.{IsAnswer, answered, is_unbuilt};
 
 use crate::file::ElfFile;
 use crate::head::head;
@@ -88,10 +88,7 @@ fn holds_code(header: &SectionHeader) -> bool
 fn holds_debug(file: &ElfFile<'_>, header: &SectionHeader) -> bool
     ensures { result ≡ is_debug header.now (name_of file.now.bytes file.now.table header.now) }
 {
-    !takes_no_bytes(header)
-        && file
-            .name(header)
-            .is_some_and(|name| name.starts_with(b".debug_"))
+    !takes_no_bytes(header) && file.has_name_with(header, b".debug_")
 }
 
 /// Whether some section is code.
@@ -139,8 +136,8 @@ fn identity(bytes: &[u8]) -> Result<Ident, Why>
     })
 }
 
-/// The identity of a file, where its form is read yet. It takes no memory, and never answers TooLarge.
-pub fn ident(bytes: &[u8]) -> Result<Ident, IdentFault>
+/// The identity of a file, where its form is read yet.
+fn answer(bytes: &[u8]) -> Result<Ident, IdentFault>
     ensures { IsAnswer bytes.now result }
 {
     if is_not_built(bytes) {
@@ -150,4 +147,13 @@ pub fn ident(bytes: &[u8]) -> Result<Ident, IdentFault>
         Ok(ident) => Ok(ident),
         Err(why) => Err(IdentFault::Plain(why)),
     }
+}
+
+/// The identity of a file, where its form is read yet. It takes no memory.
+pub fn ident(bytes: &[u8]) -> Result<Ident, IdentFault>
+    ensures answer { IsAnswer bytes.now result }
+    ensures only { (r : Result Identity Why) → is_unbuilt bytes.now ≡ false → IsIdentity bytes.now r → result ≡ answered r }
+    ensures not_too_large { result ≢ Err (IdentFault.Plain Why.TooLarge) }
+{
+    answer(bytes)
 }

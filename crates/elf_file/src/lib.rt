@@ -5,10 +5,13 @@
 mod file;
 mod head;
 mod identity;
+mod names;
 mod notes;
 mod number;
 mod section;
 mod table;
+#[cfg(test)]
+mod tests;
 
 pub use file::ElfFile;
 pub use identity::{IdentFault, ident};

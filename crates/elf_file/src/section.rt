@@ -1,16 +1,14 @@
-//! Section headers, contents and names.
+//! Section headers and contents.
 
-ghost use Rattle.std.specs.Prelude.{◌≡◌, ◌+◌, ◌≤◌, ◌==◌, length};
+ghost use Rattle.std.specs.Prelude.{◌≡◌, ◌+◌, ◌≤◌, length};
 ghost use Rattle.std.specs.Option.{option_copied};
-ghost use Rattle.std.specs.List.{position};
-ghost use Rattle.file_formats.specs.Sections.{contents_of, has_flag, is_bodiless, section_header, shdr_size, text_at};
+ghost use Rattle.file_formats.specs.Sections.{contents_of, has_flag, is_bodiless, section_header, shdr_size};
 
 use crate::number::{u32_at, u64_at};
 use file_formats::{
     Class, Encoding, SH_ADDRALIGN, SH_FLAGS, SH_LINK, SH_NAME, SH_OFFSET, SH_SIZE, SH_TYPE,
     SHDR32_SIZE, SHDR64_SIZE, SHT_NOBITS, SHT_NULL, SectionHeader,
 };
-use memchr::memchr;
 
 /// A section header's size in bytes.
 pub fn header_size(class: Class) -> u64
@@ -76,20 +74,4 @@ pub fn contents<'a>(bytes: &'a [u8], header: &SectionHeader) -> Option<&'a [u8]>
         return None;
     }
     Some(&bytes[header.sh_offset as usize..end as usize])
-}
-
-/// The place of the first 0.
-fn zero_in(bytes: &[u8]) -> Option<usize>
-    ensures { result ≡ position (λ x. x == 0) bytes.now }
-{
-    memchr(0, bytes)
-}
-
-/// The bytes from a place to the next 0.
-pub fn text(bytes: &[u8], at: u32) -> Option<&[u8]>
-    ensures { option_copied result ≡ text_at bytes.now at }
-{
-    let rest = bytes.get(at as usize..)?;
-    let len = zero_in(rest)?;
-    Some(&rest[..len])
 }

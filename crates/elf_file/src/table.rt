@@ -1,11 +1,11 @@
 //! The section table and the tests that find it.
 
 ghost use Rattle.std.specs.Prelude.{◌≡◌, ◌+◌, ◌≤◌, ◌<◌, ◌*◌, nat_le, true, IfOk, length};
-ghost use Rattle.std.specs.Option.{option_copied};
 ghost use Rattle.file_formats.specs.Sections.{shdr_size};
 ghost use Rattle.file_formats.specs.Table.{count_of, has_names, has_section_zero, names_of, names_section, table_below};
 ghost use Rattle.elf_file.specs.Parsed.{IsInside};
 
+use crate::names::Names;
 use crate::section::{contents, header_at, header_size};
 use file_formats::{ElfFault, Head, SHN_UNDEF, SHN_XINDEX, SectionTable};
 
@@ -109,15 +109,15 @@ fn names_are_there(bytes: &[u8], table: &SectionTable) -> bool
     contents(bytes, &header_at(bytes, table.encoding, place)).is_some()
 }
 
-/// The bytes of the section that holds the names, where sections have names.
-pub fn names_in<'a>(bytes: &'a [u8], table: &SectionTable) -> Option<&'a [u8]>
+/// The names, where sections have some.
+pub fn names_in<'a>(bytes: &'a [u8], table: &SectionTable) -> Option<Names<'a>>
     requires inside { IsInside bytes.now table.now }
     requires there { has_names bytes.now table.now ≡ true }
-    ensures { option_copied result ≡ names_section bytes.now table.now }
+    ensures { result ≡ names_section bytes.now table.now }
 {
     if table.names == SHN_UNDEF {
         return None;
     }
     let place = entry_place(bytes, table, table.names);
-    contents(bytes, &header_at(bytes, table.encoding, place))
+    contents(bytes, &header_at(bytes, table.encoding, place)).map(Names::new)
 }

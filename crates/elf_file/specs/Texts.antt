@@ -1,0 +1,13 @@
+-- Where the texts of a section end (ELF gABI, chapter 4, "String Table": each text ends with a 0).
+use Rattle.std.specs.Prelude.{◌≡◌, ◌≢◌, ℕ, ◌+◌, ◌<◌, ◌≤◌, ◌==◌, Bool, not, List, length, slice_index}
+use Rattle.std.specs.List.{list_all}
+
+-- no byte is 0
+abbrev pub has_no_zero : List ℕ → Bool
+has_no_zero bytes = list_all (λ x. not (x == 0)) bytes
+
+-- so many bytes stand up to and with the last 0
+pub record IsTextsEnd (bytes : List ℕ) (end : ℕ) : Type 0 where
+  pub inside : end ≤ length bytes
+  pub zero_before : (k : ℕ) → k + 1 ≡ end → slice_index bytes k ≡ 0
+  pub none_after : (k : ℕ) → end ≤ k → k < length bytes → slice_index bytes k ≢ 0

@@ -1,0 +1,76 @@
+//! The bytes that sections' names lie in.
+
+ghost use Rattle.std.specs.Prelude.{◌≡◌, ◌==◌, true, false, nat_eq, IsTrue};
+ghost use Rattle.std.specs.Option.{option_copied, option_map_or};
+ghost use Rattle.std.specs.List.{position, starts_with};
+ghost use Rattle.file_formats.specs.Sections.{text_at};
+ghost use Rattle.elf_file.specs.Texts.{IsTextsEnd, has_no_zero};
+
+use memchr::{memchr, memrchr};
+use std::marker::Model;
+
+/// The bytes of the section that holds the names. Contracts see it as these bytes.
+#[derive(Drop)]
+pub struct Names<'a> {
+    bytes: &'a [u8],
+    /// How many bytes stand up to and with the last 0: no name begins behind them, so that whether a 0
+    /// follows a place is known without a search.
+    end: usize,
+}
+
+impl<'a> Model for Names<'a> {
+    ghost use Rattle.std.specs.Prelude.{List, ℕ};
+    ghost use Rattle.elf_file.specs.Texts.{IsTextsEnd};
+
+    ghost Value = { List ℕ };
+
+    ghost view = { λ n. n.bytes.now };
+
+    ghost invariant = { λ n. IsTextsEnd n.bytes.now n.end };
+}
+
+impl<'a> Names<'a> {
+    /// The names in these bytes.
+    pub fn new(bytes: &'a [u8]) -> Names<'a>
+        ensures { result ≡ bytes.now }
+    {
+        Names {
+            bytes,
+            end: texts_end(bytes),
+        }
+    }
+
+    /// The bytes from a place to the next 0.
+    pub fn text(&self, at: u32) -> Option<&'a [u8]>
+        ensures { option_copied result ≡ text_at self.now at }
+    {
+        let rest = self.bytes.get(at as usize..)?;
+        let len = zero_in(rest)?;
+        Some(&rest[..len])
+    }
+
+    /// Whether a 0 follows a place, and the text up to it begins with a prefix.
+    pub fn begins(&self, at: u32, prefix: &[u8]) -> bool
+        requires { has_no_zero prefix.now ≡ true }
+        ensures { result ≡ option_map_or (λ text. starts_with nat_eq text prefix.now) (text_at self.now at) false }
+    {
+        (at as usize) < self.end && self.bytes[at as usize..].starts_with(prefix)
+    }
+}
+
+/// The place of the first 0.
+fn zero_in(bytes: &[u8]) -> Option<usize>
+    ensures { result ≡ position (λ x. x == 0) bytes.now }
+{
+    memchr(0, bytes)
+}
+
+/// How many bytes stand up to and with the last 0.
+fn texts_end(bytes: &[u8]) -> usize
+    ensures { IsTextsEnd bytes.now result }
+{
+    match memrchr(0, bytes) {
+        Some(last) => last + 1,
+        None => 0,
+    }
+}
