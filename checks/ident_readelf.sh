@@ -99,7 +99,7 @@ readelf -hSnW -- "${files[@]}" 2>/dev/null | awk -v list="$work/files" '
 
 # Runs the program on a file: sets status, out (to its last byte) and err.
 ask() {
-  timeout 30 "$program" ident "$1" >"$work/out" 2>"$work/err" </dev/null
+  timeout 20 "$program" ident "$1" >"$work/out" 2>"$work/err" </dev/null
   status=$?
   IFS= read -r -d '' out <"$work/out"
   IFS= read -r -d '' err <"$work/err"
@@ -131,6 +131,7 @@ done <"$work/wanted"
 damaged=0
 form='^([0-9a-f]{4,128} (executable|debuginfo|both|none)|plain (not-elf|bad-elf|no-sections|core|no-build-id))$'
 check_form() { # PATH
+  [ "$SECONDS" -lt $((seconds + 30)) ] || { left_out=$((left_out + 1)); return 0; }
   ask "$1"
   damaged=$((damaged + 1))
   [[ $status = [03] && ${out%$'\n'} =~ $form && $out = *$'\n' ]] ||

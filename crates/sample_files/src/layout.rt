@@ -6,7 +6,7 @@ ghost use Rattle.sample_files.specs.Fields.{fields_bytes};
 ghost use Rattle.sample_files.specs.Layout as layout;
 ghost use Rattle.sample_files.specs.Layout.{IsSmall};
 
-use crate::codes::{SHN_XINDEX, SHT_STRTAB};
+use crate::codes::{EV_CURRENT, SHN_XINDEX, SHT_STRTAB};
 use crate::fields::{Field, push_fields, push_zeros};
 use crate::parts::{Section, padding};
 use crate::shape::{Class, Counts, Order, Shape};
@@ -84,7 +84,7 @@ fn push_header(out: &mut Vec<u8>, shape: &Shape, table: u32, count: u16) -> Resu
     out.extend_from_slice(b"\x7fELF")?;
     out.push(class_byte(shape.class))?;
     out.push(order_byte(shape.order))?;
-    out.push(1)?;
+    out.push(EV_CURRENT)?;
     push_zeros(out, 9)?;
     push_fields(out, shape, &header_fields(shape, table, count))
 }
@@ -96,7 +96,7 @@ fn header_fields(shape: &Shape, table: u32, count: u16) -> [Field; 13]
     [
         Field::Half(shape.e_type),
         Field::Half(shape.e_machine),
-        Field::Word(1),
+        Field::Word(EV_CURRENT as u32),
         Field::Place(0),
         Field::Place(0),
         Field::Place(table),
