@@ -109,7 +109,7 @@ SECONDS=0 compared=0 identified=0 unbuilt=0 differing=0 left_out=0
 differs() { # PATH WANTED
   differing=$((differing + 1))
   [ "$differing" -le 20 ] || return 0
-  printf '%s: wanted %s, got status %s: %s%s\n' "$1" "$2" "$status" "$out" "$err" 1>&2
+  printf '%s: wanted %s, got status %s: %s\n' "$1" "$2" "$status" "${out//$'\n'/ }${err//$'\n'/ }" 1>&2
 }
 
 while IFS=$'\t' read -r path may_be_unbuilt wanted; do

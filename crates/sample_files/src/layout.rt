@@ -89,6 +89,7 @@ fn push_header(out: &mut Vec<u8>, shape: &Shape, table: u32, count: u16) -> Resu
     push_fields(out, shape, &header_fields(shape, table, count))
 }
 
+/// The header's fields behind its first sixteen bytes.
 fn header_fields(shape: &Shape, table: u32, count: u16) -> [Field; 13]
     requires { 0 < count }
     ensures { result ≡ layout.header_fields shape.now table count }
@@ -129,6 +130,7 @@ fn first_link(counts: Counts, count: u16) -> u32
     }
 }
 
+/// The fields of section 0.
 fn first_fields(counts: Counts, count: u16) -> [Field; 10]
     requires { 0 < count }
     ensures { result ≡ layout.first_fields counts count }
@@ -147,8 +149,8 @@ fn first_fields(counts: Counts, count: u16) -> [Field; 10]
     ]
 }
 
-#[tactic(auto, using(crate::proofs::LayoutLemmas::names_steps))]
 /// The names' section: a 0, then each section's name with a 0, its own last.
+#[tactic(auto, using(crate::proofs::LayoutLemmas::names_steps))]
 fn names_of(alloc: Global, sections: &[Section<'_>]) -> Result<Vec<u8>, AllocError>
     ensures value { IfOk result (λ v. v.items ≡ layout.names_of sections.now) }
     ensures len { IfOk result (λ v. vec_len v ≡ 11 + length (flat_map layout.name_bytes sections.now)) }
@@ -212,7 +214,8 @@ fn push_entries(
     Ok(())
 }
 
-/// The bytes of a file of the plain layout.
+/// A file of the plain layout: the header, each section at the first place that its alignment allows, the
+/// section of the names, the section table. All that isn't stated is 0.
 pub fn plain_layout(
     alloc: Global,
     shape: &Shape,
@@ -235,6 +238,7 @@ pub fn plain_layout(
     push_zeros(&mut out, gap)?;
     push_fields(&mut out, shape, &first_fields(shape.counts, count))?;
     push_entries(&mut out, shape, start, 1, sections)?;
+    // Its own name, with the 0, is the last ten bytes of the names' section.
     push_entries(&mut out, shape, middle, names.len() - 10, &last)?;
     Ok(out)
 }
