@@ -1,2 +1,4 @@
 pub mod LayoutLemmas
 pub mod NoteLemmas
+pub mod LayoutLaws
+pub mod SampleLengths

@@ -1,5 +1,5 @@
 -- How long notes are.
-use Rattle.std.proofs.Common.{◌≡◌, ℕ, ◌+◌, ◌*◌, ◌<◌, ◌≤◌, List, [], ◌∷◌, ◌++◌, length, replicate, codes, sum_by, refl, arith, length-append}
+use Rattle.std.proofs.Common.{◌≡◌, ℕ, ◌+◌, ◌*◌, ◌≤◌, List, [], ◌∷◌, ◌++◌, length, sum_by, refl, arith, length-append}
 use Rattle.std.proofs.lemmas.List.{length-replicate}
 use Rattle.std.proofs.lemmas.List.Sums.{sum_by-cons}
 use Rattle.std.specs.Int.{w32}
@@ -7,7 +7,6 @@ use Rattle.std.specs.List.{flat_map}
 use Rattle.sample_files.specs.declared.shape.Order.{Order}
 use Rattle.sample_files.specs.declared.shape.Order.TheVariants.{Little, Big}
 use Rattle.sample_files.specs.Fields.{number}
-use Rattle.sample_files.specs.Layout.{padding}
 use Rattle.sample_files.specs.Notes.{gnu_note, note, padded}
 use Rattle.sample_files.specs.Samples.{wide_notes}
 

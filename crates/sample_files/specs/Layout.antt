@@ -2,7 +2,7 @@
 -- "ELF Header" and "Sections"): the header, the sections' bytes in order, the section table.
 use Rattle.std.specs.Prelude.{ℕ, ◌+◌, ◌-◌, ◌%◌, List, [], ◌∷◌, ◌++◌, length, replicate, codes, sum_by, ◌≤◌, ◌^◌}
 use Rattle.std.specs.List.{flat_map}
-use Rattle.sample_files.specs.declared.codes.TheConstants.{SHT_STRTAB, SHN_XINDEX}
+use Rattle.sample_files.specs.declared.codes.TheConstants.{EV_CURRENT, SHT_STRTAB, SHN_XINDEX}
 use Rattle.sample_files.specs.declared.shape.Order.{Order}
 use Rattle.sample_files.specs.declared.shape.Order.TheVariants.{Little, Big}
 use Rattle.sample_files.specs.declared.shape.Class.{Class}
@@ -65,7 +65,7 @@ order_byte Big = 2
 
 -- the first sixteen bytes (e_ident)
 abbrev pub identification : Shape → List ℕ
-identification s = 0x7f ∷ codes "ELF" ++ class_byte s.class ∷ order_byte s.order ∷ 1 ∷ replicate 9 0
+identification s = 0x7f ∷ codes "ELF" ++ class_byte s.class ∷ order_byte s.order ∷ EV_CURRENT ∷ replicate 9 0
 
 -- e_shnum, of so many section headers
 abbrev pub stated_count : Counts → ℕ → ℕ
@@ -81,7 +81,7 @@ stated_names Extended count = SHN_XINDEX
 -- e_phoff, e_shoff; e_flags; e_ehsize, e_phentsize, e_phnum, e_shentsize, e_shnum, e_shstrndx
 abbrev pub header_fields : Shape → ℕ → ℕ → List Field
 header_fields s table count =
-    Half s.e_type ∷ Half s.e_machine ∷ Word 1 ∷ Place 0 ∷ Place 0 ∷ Place table ∷ Word 0
+    Half s.e_type ∷ Half s.e_machine ∷ Word EV_CURRENT ∷ Place 0 ∷ Place 0 ∷ Place table ∷ Word 0
     ∷ Half (header_size s.class) ∷ Half 0 ∷ Half 0 ∷ Half (entry_size s.class)
     ∷ Half (stated_count s.counts count) ∷ Half (stated_names s.counts count) ∷ []
 

@@ -1,6 +1,6 @@
 -- The sample files, each as its sections in the plain layout (this project's files).
 use Rattle.std.specs.Prelude.{ℕ, ◌+◌, List, [], ◌∷◌, ◌++◌, replicate, codes}
-use Rattle.sample_files.specs.declared.codes.TheConstants.{ET_DYN, ET_EXEC, EM_X86_64, EM_PPC, SHT_NOTE, SHT_PROGBITS, SHF_ALLOC, SHF_EXECINSTR, SHF_COMPRESSED, NT_GNU_PROPERTY_TYPE_0, NT_GNU_BUILD_ID}
+use Rattle.sample_files.specs.declared.codes.TheConstants.{ET_DYN, ET_EXEC, EM_X86_64, EM_PPC, SHT_NOTE, SHT_PROGBITS, SHF_ALLOC, SHF_EXECINSTR, SHF_COMPRESSED, NT_GNU_PROPERTY_TYPE_0}
 use Rattle.sample_files.specs.declared.shape.Shape.{Shape}
 use Rattle.sample_files.specs.declared.shape.Order.{Order}
 use Rattle.sample_files.specs.declared.shape.Order.TheVariants.{Little, Big}

@@ -1,5 +1,8 @@
 //! The numbers of the ELF gABI that the samples have, under the standard's names.
 
+/// The version of the format, in the identification and in e_version.
+pub const EV_CURRENT: u8 = 1;
+
 /// The file type (e_type) of a program that is linked to a fixed place.
 pub const ET_EXEC: u16 = 2;
 

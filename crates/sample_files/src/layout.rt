@@ -6,7 +6,7 @@ ghost use Rattle.sample_files.specs.Fields.{fields_bytes};
 ghost use Rattle.sample_files.specs.Layout as layout;
 ghost use Rattle.sample_files.specs.Layout.{IsSmall};
 
-use crate::codes::{SHN_XINDEX, SHT_STRTAB};
+use crate::codes::{EV_CURRENT, SHN_XINDEX, SHT_STRTAB};
 use crate::fields::{Field, push_fields, push_zeros};
 use crate::parts::{Section, padding};
 use crate::shape::{Class, Counts, Order, Shape};
@@ -84,11 +84,12 @@ fn push_header(out: &mut Vec<u8>, shape: &Shape, table: u32, count: u16) -> Resu
     out.extend_from_slice(b"\x7fELF")?;
     out.push(class_byte(shape.class))?;
     out.push(order_byte(shape.order))?;
-    out.push(1)?;
+    out.push(EV_CURRENT)?;
     push_zeros(out, 9)?;
     push_fields(out, shape, &header_fields(shape, table, count))
 }
 
+/// The header's fields behind its first sixteen bytes.
 fn header_fields(shape: &Shape, table: u32, count: u16) -> [Field; 13]
     requires { 0 < count }
     ensures { result ≡ layout.header_fields shape.now table count }
@@ -96,7 +97,7 @@ fn header_fields(shape: &Shape, table: u32, count: u16) -> [Field; 13]
     [
         Field::Half(shape.e_type),
         Field::Half(shape.e_machine),
-        Field::Word(1),
+        Field::Word(EV_CURRENT as u32),
         Field::Place(0),
         Field::Place(0),
         Field::Place(table),
@@ -129,6 +130,7 @@ fn first_link(counts: Counts, count: u16) -> u32
     }
 }
 
+/// The fields of section 0.
 fn first_fields(counts: Counts, count: u16) -> [Field; 10]
     requires { 0 < count }
     ensures { result ≡ layout.first_fields counts count }
@@ -147,8 +149,8 @@ fn first_fields(counts: Counts, count: u16) -> [Field; 10]
     ]
 }
 
-#[tactic(auto, using(crate::proofs::LayoutLemmas::names_steps))]
 /// The names' section: a 0, then each section's name with a 0, its own last.
+#[tactic(auto, using(crate::proofs::LayoutLemmas::names_steps))]
 fn names_of(alloc: Global, sections: &[Section<'_>]) -> Result<Vec<u8>, AllocError>
     ensures value { IfOk result (λ v. v.items ≡ layout.names_of sections.now) }
     ensures len { IfOk result (λ v. vec_len v ≡ 11 + length (flat_map layout.name_bytes sections.now)) }
@@ -212,7 +214,8 @@ fn push_entries(
     Ok(())
 }
 
-/// The bytes of a file of the plain layout.
+/// A file of the plain layout: the header, each section at the first place that its alignment allows, the
+/// section of the names, the section table. All that isn't stated is 0.
 pub fn plain_layout(
     alloc: Global,
     shape: &Shape,
@@ -235,6 +238,7 @@ pub fn plain_layout(
     push_zeros(&mut out, gap)?;
     push_fields(&mut out, shape, &first_fields(shape.counts, count))?;
     push_entries(&mut out, shape, start, 1, sections)?;
+    // Its own name, with the 0, is the last ten bytes of the names' section.
     push_entries(&mut out, shape, middle, names.len() - 10, &last)?;
     Ok(out)
 }

@@ -25,3 +25,6 @@ pub use samples::{
     extended_counts,
 };
 pub use shape::{Class, Counts, Order, Shape};
+
+#[cfg(test)]
+mod tests;

@@ -44,8 +44,8 @@ pub(crate) fn push_padded_note(
     push_zeros(out, padding(alignment, out.len() - start))
 }
 
-#[tactic(auto, using(crate::proofs::NoteLemmas::note_steps))]
 /// The note of a build-id.
+#[tactic(auto, using(crate::proofs::NoteLemmas::note_steps))]
 pub fn note(alloc: Global, order: Order, id: &[u8]) -> Result<Vec<u8>, AllocError>
     requires { length id.now < 2 ^ 32 }
     ensures value { IfOk result (λ v. v.items ≡ notes.note order id.now) }
@@ -56,8 +56,8 @@ pub fn note(alloc: Global, order: Order, id: &[u8]) -> Result<Vec<u8>, AllocErro
     Ok(bytes)
 }
 
-#[tactic(auto, using(crate::proofs::NoteLemmas::note_steps))]
 /// The notes of build-ids, each padded to a multiple of 4.
+#[tactic(auto, using(crate::proofs::NoteLemmas::note_steps))]
 pub(crate) fn padded_notes(
     alloc: Global,
     order: Order,

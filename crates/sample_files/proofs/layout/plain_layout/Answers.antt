@@ -1,8 +1,8 @@
-use Rattle.std.proofs.Common.{◌≡◌, ◌+◌, ◌-◌, ℕ, List, length, vec_len, arith, refl, ap, ◌∙◌, codes}
+use Rattle.std.proofs.Common.{◌≡◌, ◌+◌, ◌-◌, ℕ, List, length, arith, refl, ap, ◌∙◌, codes}
 use Rattle.std.specs.List.{flat_map}
 use Rattle.sample_files.specs.declared.codes.TheConstants.{SHT_STRTAB}
 use Rattle.sample_files.specs.Parts.{section}
-use Rattle.sample_files.specs.Layout.{name_bytes, names_of, names_part, padding}
+use Rattle.sample_files.specs.Layout.{name_bytes, names_part, padding}
 use Rattle.sample_files.proofs.LayoutLemmas.{plain_layout-pushed}
 use Rattle.sample_files.proofs.layout.plain_layout.Goals as goal
 

@@ -1,7 +1,5 @@
-use Rattle.std.proofs.Common.{◌≡◌, ℕ, ◌+◌, ◌*◌, ◌≤◌, List, length, sum_by, take, ap, arith, Bor}
+use Rattle.std.proofs.Common.{◌≡◌, ℕ, List, length, take, ap, arith, Bor}
 use Rattle.std.proofs.lemmas.List.{take_all}
-use Rattle.std.specs.List.{flat_map}
-use Rattle.sample_files.specs.Notes.{padded, note}
 use Rattle.sample_files.proofs.NoteLemmas.{length-padded_notes}
 use Rattle.sample_files.proofs.notes.padded_notes.Goals as goal
 
