@@ -24,7 +24,7 @@ septets_push (x ∷ xs) y =
 pub septets_more : (bytes : List ℕ) (i : ℕ) → i < length bytes → septets (take (i + 1) bytes) ≡ septets (take i bytes) + get_or bytes i 0 % 128 * 128 ^ i
 septets_more bytes i within =
     ap septets (take_more bytes i 0 within) ∙ septets_push (take i bytes) (get_or bytes i 0)
-      ∙ ap (λ n. septets (take i bytes) + get_or bytes i 0 % 128 * 128 ^ n) (length-take-le i bytes (omega arith))
+    ∙ ap (λ n. septets (take i bytes) + get_or bytes i 0 % 128 * 128 ^ n) (length-take-le i bytes (omega arith))
 
 -- the septets and the septets turned over make all ones
 septets-flipped : (xs : List ℕ) → septets xs + septets (map flipped xs) + 1 ≡ 128 ^ length xs
@@ -44,7 +44,7 @@ flipped_more bytes i within =
     let before = map flipped (take i bytes) in
     let long : length before ≡ i = length-map (take i bytes) flipped ∙ length-take-le i bytes (omega arith) in
     ap (λ l. septets (map flipped l)) (take_more bytes i 0 within) ∙ ap septets (map-append flipped (take i bytes) (x ∷ []))
-      ∙ septets_push before (flipped x) ∙ ap (λ n. septets before + n * 128 ^ length before) (flipped_small x) ∙ ap (λ n. septets before + flipped x * 128 ^ n) long
+    ∙ septets_push before (flipped x) ∙ ap (λ n. septets before + n * 128 ^ length before) (flipped_small x) ∙ ap (λ n. septets before + flipped x * 128 ^ n) long
 
 -- the first i bytes have the top bit
 abbrev pub Carries : List ℕ → ℕ → Type 0
@@ -71,13 +71,13 @@ signed_last bytes m within last =
     let all = take (m + 1) bytes in
     let here : get_or all m 0 ≡ x = get_or-take (m + 1) bytes m 0 (omega arith) in
     let ones : septets all + septets (map flipped all) + 1 ≡ 128 ^ (m + 1) =
-        septets-flipped all ∙ ap (λ n. 128 ^ n) (length-take-le (m + 1) bytes (omega arith)) in
+    septets-flipped all ∙ ap (λ n. 128 ^ n) (length-take-le (m + 1) bytes (omega arith)) in
     ⊎_elim
-      (λ low.
-        let plus : eqb (x / 64 % 2) 1 ≡ false = ne_eqb _ _ (λ e. absurd (omega arith)) in
-        rw (here, plus, lt-ltb x 64 low))
-      (λ high.
-        let minus : eqb (x / 64 % 2) 1 ≡ true = eq-eqb _ _ (omega arith) in
-        let joined : pos (septets all) -ℤ pos (128 ^ (m + 1)) ≡ negsuc (septets (map flipped all)) = omega (arith, ints) in
-        rw (here, minus, le-ltb x 64 high) joined)
-      (cases_lt x 64)
+    (λ low.
+    let plus : eqb (x / 64 % 2) 1 ≡ false = ne_eqb _ _ (λ e. absurd (omega arith)) in
+    rw (here, plus, lt-ltb x 64 low))
+    (λ high.
+    let minus : eqb (x / 64 % 2) 1 ≡ true = eq-eqb _ _ (omega arith) in
+    let joined : pos (septets all) -ℤ pos (128 ^ (m + 1)) ≡ negsuc (septets (map flipped all)) = omega (arith, ints) in
+    rw (here, minus, le-ltb x 64 high) joined)
+    (cases_lt x 64)

@@ -13,5 +13,5 @@ bytes_at_part b p m i n h =
     let cut : m ≡ i + (m - i) = omega arith in
     let P : ℕ → Type 0 = λ k. take n (drop i (take k (drop p b))) ≡ take n (drop (p + i) b) in
     subst P (sym cut) (
-      ap (take n) (drop-take i (m - i) (drop p b)) ∙ take-take n (m - i) (drop i (drop p b)) (omega arith) ∙ bytes_at_rest b p i n
+    ap (take n) (drop-take i (m - i) (drop p b)) ∙ take-take n (m - i) (drop i (drop p b)) (omega arith) ∙ bytes_at_rest b p i n
     )

@@ -9,14 +9,12 @@ ghost use Rattle.byte_read.specs.Reads.{Reads, Takes, ReadsLeb, ReadsText, Gives
 use crate::fault::Fault;
 use crate::leb::{Leb, sleb_of, uleb_of};
 use crate::numbers::{u16_of, u24_of, u32_of, u64_of};
-
-use file_formats::Order;
 use crate::text::text_size;
-
+use file_formats::Order;
 use std::marker::Model;
 
 /// A place in bytes. Contracts see it as its bytes, its order and its place.
-#[derive(Drop)]
+#[derive(Debug, Drop)]
 pub struct Cursor<'a> {
     bytes: &'a [u8],
     order: Order,
@@ -38,7 +36,11 @@ impl<'a> Cursor<'a> {
     pub fn new(bytes: &'a [u8], order: Order) -> Self
         ensures { result ≡ at_start bytes.now order }
     {
-        Cursor { bytes, order, at: 0 }
+        Cursor {
+            bytes,
+            order,
+            at: 0,
+        }
     }
 
     /// Gives the place, in bytes from the first one.

@@ -11,3 +11,6 @@ mod text;
 pub use cursor::Cursor;
 pub use fault::Fault;
 pub use file_formats::Order;
+
+#[cfg(test)]
+mod tests;
