@@ -98,19 +98,6 @@ impl<'a> Cursor<'a> {
         Ok(u64_of(bytes, self.order))
     }
 
-    /// Passes the next N bytes, and gives them.
-    fn chunk<const N: usize>(&mut self) -> Result<[u8; N], Fault>
-        ensures { MatchResult result (Gives bytes_here N self.old self.new) (FallsShort N self.old self.new) }
-    {
-        match self.rest().first_chunk::<N>() {
-            Some(bytes) => {
-                self.at += N;
-                Ok(*bytes)
-            }
-            None => Err(Fault::Short { at: self.at }),
-        }
-    }
-
     /// Gives the next n bytes.
     pub fn take(&mut self, n: u64) -> Result<&'a [u8], Fault>
         ensures { Takes n self.old self.new result }
@@ -140,6 +127,29 @@ impl<'a> Cursor<'a> {
         self.pass(leb)
     }
 
+    /// Gives the bytes before the next 0, and passes it.
+    pub fn cstr(&mut self) -> Result<&'a [u8], Fault>
+        ensures { ReadsText self.old self.new result }
+    {
+        let rest = self.rest();
+        let length = text_size(rest).ok_or(Fault::Short { at: self.at })?;
+        self.at += length + 1;
+        Ok(&rest[..length])
+    }
+
+    /// Passes the next N bytes, and gives them.
+    fn chunk<const N: usize>(&mut self) -> Result<[u8; N], Fault>
+        ensures { MatchResult result (Gives bytes_here N self.old self.new) (FallsShort N self.old self.new) }
+    {
+        match self.rest().first_chunk::<N>() {
+            Some(bytes) => {
+                self.at += N;
+                Ok(*bytes)
+            }
+            None => Err(Fault::Short { at: self.at }),
+        }
+    }
+
     /// Passes the number at the place, and gives it.
     fn pass<N: Drop>(&mut self, leb: Option<Leb<N>>) -> Result<N, Fault>
         requires { IfSome leb (λ number. self.old.place + number.size ≤ length self.old.bytes) }
@@ -149,15 +159,5 @@ impl<'a> Cursor<'a> {
         let number = number.ok_or(Fault::Wide { at: self.at })?;
         self.at += size;
         Ok(number)
-    }
-
-    /// Gives the bytes before the next 0, and passes it.
-    pub fn cstr(&mut self) -> Result<&'a [u8], Fault>
-        ensures { ReadsText self.old self.new result }
-    {
-        let rest = self.rest();
-        let length = text_size(rest).ok_or(Fault::Short { at: self.at })?;
-        self.at += length + 1;
-        Ok(&rest[..length])
     }
 }

@@ -54,24 +54,35 @@ fn a_number_has_any_length_that_ends(rt: HostRuntime) {
     assert_eq!(rt; Cursor::new(&wide, Order::Big).sleb(), Ok(-1));
 }
 
-// The bytes of a number in each order: ELF gABI, chapter 4, "Data Representation".
+// ELF gABI, chapter 4, "Data Representation": the most significant byte comes first.
 #[test]
-fn each_read_goes_on_behind_the_one_before(rt: HostRuntime) {
-    let bytes = b"\x01\x02\x03\x04\x05\x06\x07\x08\x09\x0a\x0b\x0c\x0d\x0e\x0f\x10\x11\x12text\0";
+fn each_read_in_big_order_goes_on_behind_the_one_before(rt: HostRuntime) {
+    let bytes = b"\x01\x02\x03\x04\x05\x06\x07\x08\x09\x0a\x0b\x0c\x0d\x0e\x0f\x10\x11\x12";
     let mut cursor = Cursor::new(bytes, Order::Big);
     assert_eq!(rt; cursor.read_u8(), Ok(0x01));
     assert_eq!(rt; cursor.read_u16(), Ok(0x0203));
     assert_eq!(rt; cursor.read_u24(), Ok(0x04_0506));
     assert_eq!(rt; cursor.read_u32(), Ok(0x0708_090a));
     assert_eq!(rt; cursor.read_u64(), Ok(0x0b0c_0d0e_0f10_1112));
-    assert_eq!(rt; cursor.cstr(), Ok(b"text".as_slice()));
-    assert_eq!(rt; cursor.read_u8(), Err(Fault::Short { at: 23 }));
+    assert_eq!(rt; cursor.read_u8(), Err(Fault::Short { at: 18 }));
+}
+
+// The same section: the least significant byte comes first.
+#[test]
+fn numbers_in_little_order_begin_with_their_low_byte(rt: HostRuntime) {
+    let bytes = b"\x02\x03\x04\x05\x06\x07\x08\x09\x0a\x0b\x0c\x0d\x0e\x0f\x10\x11\x12";
     let mut cursor = Cursor::new(bytes, Order::Little);
-    assert_eq!(rt; cursor.take(1), Ok([1].as_slice()));
     assert_eq!(rt; cursor.read_u16(), Ok(0x0302));
     assert_eq!(rt; cursor.read_u24(), Ok(0x06_0504));
     assert_eq!(rt; cursor.read_u32(), Ok(0x0a09_0807));
     assert_eq!(rt; cursor.read_u64(), Ok(0x1211_100f_0e0d_0c0b));
-    assert_eq!(rt; cursor.rest(), b"text\0".as_slice());
-    assert_eq!(rt; cursor.take(u64::MAX), Err(Fault::Short { at: 18 }));
+}
+
+#[test]
+fn a_text_ends_before_its_zero(rt: HostRuntime) {
+    let mut cursor = Cursor::new(b"text\0rest", Order::Little);
+    assert_eq!(rt; cursor.cstr(), Ok(b"text".as_slice()));
+    assert_eq!(rt; cursor.rest(), b"rest".as_slice());
+    assert_eq!(rt; cursor.take(u64::MAX), Err(Fault::Short { at: 5 }));
+    assert_eq!(rt; cursor.take(4), Ok(b"rest".as_slice()));
 }
