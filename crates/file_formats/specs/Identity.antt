@@ -11,7 +11,7 @@ use Rattle.file_formats.specs.declared.header.SectionHeader.{SectionHeader}
 use Rattle.file_formats.specs.declared.header.SectionTable.{SectionTable}
 use Rattle.file_formats.specs.Sections.{is_bodiless, has_flag}
 use Rattle.file_formats.specs.Table.{table_of, section_at, contents_at, name_at, IsIndex}
-use Rattle.file_formats.specs.Notes.{Notes, note_align, IsFirstBuildId}
+use Rattle.file_formats.specs.Notes.{notes_in, IsFirstBuildId}
 
 -- a file's build-id, whether it holds code to run, and whether it holds debug information
 pub record Identity : Type 0 where
@@ -19,20 +19,18 @@ pub record Identity : Type 0 where
   pub exec : Bool
   pub debug : Bool
 
--- the section of index i may hold a build-id: its notes
-pub record HasNotes (b : List ℕ) (t : SectionTable) (i : ℕ) (notes : Notes) : Type 0 where
+-- the section of index i is one in which a build-id is looked for, and these are its bytes
+pub record HoldsNotes (b : List ℕ) (t : SectionTable) (i : ℕ) (bytes : List ℕ) : Type 0 where
   pub index : IsIndex t i
   pub kind : (section_at b t i).sh_type ≡ SHT_NOTE
   pub plain : has_flag (section_at b t i) SHF_COMPRESSED ≡ false
-  pub holds : contents_at b t i ≡ Some notes.bytes
-  pub order : notes.order ≡ t.encoding.order
-  pub align : notes.align ≡ note_align (section_at b t i).sh_addralign
+  pub holds : contents_at b t i ≡ Some bytes
 
 -- id is the first build-id of the section of index i
 pub record HasIdAt (b : List ℕ) (t : SectionTable) (i : ℕ) (id : List ℕ) : Type 0 where
-  pub notes : Notes
-  pub section : HasNotes b t i notes
-  pub first : IsFirstBuildId notes id
+  pub bytes : List ℕ
+  pub section : HoldsNotes b t i bytes
+  pub first : IsFirstBuildId (notes_in bytes t.encoding.order (section_at b t i).sh_addralign) id
 
 -- id is the file's build-id: that of the least section index
 pub record IsBuildId (b : List ℕ) (t : SectionTable) (id : List ℕ) : Type 0 where

@@ -16,6 +16,10 @@ pub record Notes : Type 0 where
 abbrev pub note_align : ℕ → ℕ
 note_align addralign = if addralign == 8 then 8 else 4
 
+-- the notes of a section with these bytes and of this alignment
+abbrev pub notes_in : List ℕ → Order → ℕ → Notes
+notes_in bytes order addralign = record { bytes = bytes; order = order; align = note_align addralign }
+
 -- the first multiple of a at or after n
 abbrev pub aligned : ℕ → ℕ → ℕ
 aligned n a = (n + (a - 1)) / a * a

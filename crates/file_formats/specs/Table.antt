@@ -66,11 +66,17 @@ table_of b = do
   h ← head_of b
   table_below b h
 
--- the name of the section of index i, none where no section has a name or no 0 follows
+-- the bytes of the section that holds the names, none where no section has a name
+abbrev pub names_section : List ℕ → SectionTable → Option (List ℕ)
+names_section b t = if t.names == SHN_UNDEF then None else contents_at b t t.names
+
+-- the name that a section header gives, none where no section has a name or no 0 follows
+abbrev pub name_of : List ℕ → SectionTable → SectionHeader → Option (List ℕ)
+name_of b t s = option_and_then (λ names. text_at names s.sh_name) (names_section b t)
+
+-- the name of the section of index i
 abbrev pub name_at : List ℕ → SectionTable → ℕ → Option (List ℕ)
-name_at b t i =
-    if t.names == SHN_UNDEF then None
-    else option_and_then (λ s. text_at s (section_at b t i).sh_name) (contents_at b t t.names)
+name_at b t i = name_of b t (section_at b t i)
 
 -- i is the index of a section of which a rule may speak: section 0 is none
 pub record IsIndex (t : SectionTable) (i : ℕ) : Type 0 where
