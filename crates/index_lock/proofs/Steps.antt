@@ -176,9 +176,9 @@ module _ {S E O : Type 0} (log : S → List E) (origin : S → O) where
   seen_in s (inr held) = (held.all, held.seen)
 
   -- after a join, a load tells that both tokens had seen beginnings of what is kept
-  pub settles : (slots id first second : ℕ) (said : _) (me : Me (Option S) (View E O)) (known mine theirs : Known E O) → me.0 ≡ Joined known mine theirs
-      → Allows Rule slots id me 0 (λ n. n) (settled (step slots 0 first second said) me)
-  settles slots id first second said me known mine theirs is s rule deep at fits =
+  pub settles : (slots id : ℕ) (me : Me (Option S) (View E O)) (known mine theirs : Known E O) → me.0 ≡ Joined known mine theirs
+      → Allows Rule slots id me 0 (λ n. n) (settled (step slots 0 0 0 none) me)
+  settles slots id me known mine theirs is s rule deep at fits =
       let there = seen_in s rule in (
         Rests known,
         keeps,
@@ -190,9 +190,9 @@ module _ {S E O : Type 0} (log : S → List E) (origin : S → O) where
       )
 
   -- a free lock is taken, with its value
-  takes_it : (s : St) (free : IsFree log origin s) (slots id word new : ℕ) (said : _) (known : Known E O) → get_elem? s.views id ≡ some (Rests known) → new ≡ word + 1 → get_or s.words 0 0 ≡ word
-      → (w : View E O) × (a : Act (Option S)) × Valid s.homes [] a × Rule (stepped s 0 new id [] w a) × acquired log origin (step slots 0 word new said) (Rests known, []) (get_or s.words 0 0) (w, carried_after [] a)
-  takes_it s free slots id word new said known at next here =
+  takes_it : (s : St) (free : IsFree log origin s) (slots id word new : ℕ) (known : Known E O) → get_elem? s.views id ≡ some (Rests known) → new ≡ word + 1 → get_or s.words 0 0 ≡ word
+      → (w : View E O) × (a : Act (Option S)) × Valid s.homes [] a × Rule (stepped s 0 new id [] w a) × acquired log origin (step slots 0 word new none) (Rests known, []) (get_or s.words 0 0) (w, carried_after [] a)
+  takes_it s free slots id word new known at next here =
       let all : Known E O = known_of log origin free.value in
       let number : new ≡ 2 * length all.log + 1 = omega (arith, ap (λ (ws : List ℕ). get_or ws 0 0) free.word) in (
         Holds all,
@@ -213,19 +213,19 @@ module _ {S E O : Type 0} (log : S → List E) (origin : S → O) where
       )
 
   -- whatever the lock is, a token that rests takes it, or finds another word and nothing changes
-  acquires_resting : (slots id word new : ℕ) (said : _) (known : Known E O) → word % 2 ≡ 0 → new ≡ word + 1
-      → Allows Rule slots id (Rests known, []) 0 (λ n. either (n == word) new n) (acquired log origin (step slots 0 word new said) (Rests known, []))
-  acquires_resting slots id word new said known even next s rule deep at fits =
+  acquires_resting : (slots id word new : ℕ) (known : Known E O) → word % 2 ≡ 0 → new ≡ word + 1
+      → Allows Rule slots id (Rests known, []) 0 (λ n. either (n == word) new n) (acquired log origin (step slots 0 word new none) (Rests known, []))
+  acquires_resting slots id word new known even next s rule deep at fits =
       exchanged (get_or s.words 0 0) word new (λ (m : ℕ). (w : View E O) × (a : Act (Option S)) × Valid s.homes [] a × Rule (stepped s 0 m id [] w a)
-      × acquired log origin (step slots 0 word new said) (Rests known, []) (get_or s.words 0 0) (w, carried_after [] a))
-      (λ here. ⊎_elim (λ (free : IsFree log origin s). takes_it s free slots id word new said known at next here)
+      × acquired log origin (step slots 0 word new none) (Rests known, []) (get_or s.words 0 0) (w, carried_after [] a))
+      (λ here. ⊎_elim (λ (free : IsFree log origin s). takes_it s free slots id word new known at next here)
       (λ (held : IsHeld s). absurd (odd s.words held.all.log word here held.word even)) rule)
       (λ other. (Rests known, keeps, tt, nothing s id (Rests known) rule at, (λ here. absurd (other here), λ _. refl)))
 
-  pub acquires : (slots id word new : ℕ) (said : _) (me : Me (Option S) (View E O)) (known : Known E O) → me ≡ (Rests known, []) → word % 2 ≡ 0 → new ≡ word + 1
-      → Allows Rule slots id me 0 (λ n. either (n == word) new n) (acquired log origin (step slots 0 word new said) me)
-  acquires slots id word new said me known is even next = subst (λ (m : Me (Option S) (View E O)). Allows Rule slots id m 0 (λ n. either (n == word) new n) (acquired log origin (step slots 0 word new said) m)) (sym is)
-      (acquires_resting slots id word new said known even next)
+  pub acquires : (slots id word new : ℕ) (me : Me (Option S) (View E O)) (known : Known E O) → me ≡ (Rests known, []) → word % 2 ≡ 0 → new ≡ word + 1
+      → Allows Rule slots id me 0 (λ n. either (n == word) new n) (acquired log origin (step slots 0 word new none) me)
+  acquires slots id word new me known is even next = subst (λ (m : Me (Option S) (View E O)). Allows Rule slots id m 0 (λ n. either (n == word) new n) (acquired log origin (step slots 0 word new none) m)) (sym is)
+      (acquires_resting slots id word new known even next)
 
   -- who holds is the holder, and took the lock at what is known
   holder_is : (s : St) (held : IsHeld s) (id : ℕ) (known : Known E O) → get_elem? s.views id ≡ some (Holds known) → (id ≡ held.holder) × (held.all ≡ known)
@@ -252,9 +252,9 @@ module _ {S E O : Type 0} (log : S → List E) (origin : S → O) where
         seen = all_seen_set all s.views id (Rests all) (λ j view e. seen_on held.all all on' view (held.seen j view e)) (goes_on_self all);
       }
 
-  releases_holding : (slots id new : ℕ) (said : _) (known : Known E O) (value : S) → GoesOn known (known_of log origin value) → new ≡ 2 * length (log value)
-      → Allows Rule slots id (Holds known, (0, Some value) ∷ []) 0 (λ _. new) (λ _. released log origin (step slots 0 new 0 said) (Holds known, (0, Some value) ∷ []) new)
-  releases_holding slots id new said known value on number s rule deep at fits = (
+  releases_holding : (slots id new : ℕ) (known : Known E O) (value : S) → GoesOn known (known_of log origin value) → new ≡ 2 * length (log value)
+      → Allows Rule slots id (Holds known, (0, Some value) ∷ []) 0 (λ _. new) (λ _. released log origin (step slots 0 new 0 none) (Holds known, (0, Some value) ∷ []) new)
+  releases_holding slots id new known value on number s rule deep at fits = (
     Rests (known_of log origin value),
     gives,
     tt,
@@ -264,10 +264,10 @@ module _ {S E O : Type 0} (log : S → List E) (origin : S → O) where
   )
 
   -- the holder gives the value back, and has then seen its log
-  pub releases : (slots id new : ℕ) (said : _) (me : Me (Option S) (View E O)) (known : Known E O) (value : S) → me ≡ (Holds known, (0, Some value) ∷ []) → GoesOn known (known_of log origin value) → new ≡ 2 * length (log value)
-      → Allows Rule slots id me 0 (λ _. new) (λ _. released log origin (step slots 0 new 0 said) me new)
-  releases slots id new said me known value is on number = subst (λ (m : Me (Option S) (View E O)). Allows Rule slots id m 0 (λ _. new) (λ _. released log origin (step slots 0 new 0 said) m new)) (sym is)
-      (releases_holding slots id new said known value on number)
+  pub releases : (slots id new : ℕ) (me : Me (Option S) (View E O)) (known : Known E O) (value : S) → me ≡ (Holds known, (0, Some value) ∷ []) → GoesOn known (known_of log origin value) → new ≡ 2 * length (log value)
+      → Allows Rule slots id me 0 (λ _. new) (λ _. released log origin (step slots 0 new 0 none) me new)
+  releases slots id new me known value is on number = subst (λ (m : Me (Option S) (View E O)). Allows Rule slots id m 0 (λ _. new) (λ _. released log origin (step slots 0 new 0 none) m new)) (sym is)
+      (releases_holding slots id new known value on number)
 
   ends_held : (s : St) (held : IsHeld s) (id : ℕ) (known : Known E O) → get_elem? s.views id ≡ some (Holds known)
       → IsHeld {S = S} record { words = s.words; homes = set s.homes 0 (some None); views = set s.views id (Ends known) }
@@ -285,9 +285,9 @@ module _ {S E O : Type 0} (log : S → List E) (origin : S → O) where
         seen = all_seen_set held.all s.views id (Ends known) held.seen (subst (λ (k : Known E O). GoesOn known k) (sym is.1) (goes_on_self known));
       }
 
-  ends_holding : (slots id : ℕ) (said : _) (known : Known E O)
-      → Allows Rule slots id (Holds known, (0, None) ∷ []) 0 (λ n. n) (ended (step slots 0 0 0 said) (Holds known, (0, None) ∷ []))
-  ends_holding slots id said known s rule deep at fits = (
+  ends_holding : (slots id : ℕ) (known : Known E O)
+      → Allows Rule slots id (Holds known, (0, None) ∷ []) 0 (λ n. n) (ended (step slots 0 0 0 none) (Holds known, (0, None) ∷ []))
+  ends_holding slots id known s rule deep at fits = (
     Ends known,
     gives,
     tt,
@@ -297,9 +297,9 @@ module _ {S E O : Type 0} (log : S → List E) (origin : S → O) where
   )
 
   -- the holder ends the lock, and gives the slot back empty
-  pub ends : (slots id : ℕ) (said : _) (me : Me (Option S) (View E O)) (known : Known E O) → me ≡ (Holds known, (0, None) ∷ [])
-      → Allows Rule slots id me 0 (λ n. n) (ended (step slots 0 0 0 said) me)
-  ends slots id said me known is = subst (λ (m : Me (Option S) (View E O)). Allows Rule slots id m 0 (λ n. n) (ended (step slots 0 0 0 said) m)) (sym is) (ends_holding slots id said known)
+  pub ends : (slots id : ℕ) (me : Me (Option S) (View E O)) (known : Known E O) → me ≡ (Holds known, (0, None) ∷ [])
+      → Allows Rule slots id me 0 (λ n. n) (ended (step slots 0 0 0 none) me)
+  ends slots id me known is = subst (λ (m : Me (Option S) (View E O)). Allows Rule slots id m 0 (λ n. n) (ended (step slots 0 0 0 none) m)) (sym is) (ends_holding slots id known)
 
   slot_at_end : (s : St) (id : ℕ) (known : Known E O) → Rule s → get_elem? s.views id ≡ some (Ends known) → get_elem? s.homes 0 ≡ some (some None)
   slot_at_end s id known (inl free) at = absurd (some-ne-none known (free.nobody id (Ends known) at))

@@ -105,15 +105,23 @@ module _ {S E O : Type 0} where
 abbrev pub Token : (S E O : Type 0) → Type 0
 Token S E O = Seat (Option S) (View E O)
 
+-- what a seat has seen
+abbrev pub known_to : {E O : Type 0} → SeatFacts E O → Known E O
+known_to seat = record { log = seat.seen; origin = seat.origin }
+
+-- what the lock was taken at
+abbrev pub known_under : {S E O : Type 0} → HeldFacts S E O → Known E O
+known_under held = record { log = held.seen; origin = held.origin }
+
 -- the token of a seat: it is of that lock, knows what the seat has seen, and has no slot
 pub record IsTokenOf {S E O : Type 0} (seat : SeatFacts E O) (token : Token S E O) : Type 0 where
   pub lock : token.table_id ≡ seat.lock
-  pub me : token.me ≡ (Rests (record { log = seat.seen; origin = seat.origin }), [])
+  pub me : token.me ≡ (Rests (known_to seat), [])
 
 -- the token has the lock, with this in its slot, and took it where the value had this log and this origin
 pub record IsTokenUnder {S E O : Type 0} (held : HeldFacts S E O) (slot : Option S) (token : Token S E O) : Type 0 where
   pub lock : token.table_id ≡ held.lock
-  pub me : token.me ≡ (Holds (record { log = held.seen; origin = held.origin }), (0, slot) ∷ [])
+  pub me : token.me ≡ (Holds (known_under held), (0, slot) ∷ [])
 
 -- a token that rested has taken the lock, and the value is in its slot
 pub record Takes {S E O : Type 0} (log : S → List E) (origin : S → O) (before after : Token S E O) : Type 0 where

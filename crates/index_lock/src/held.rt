@@ -1,7 +1,4 @@
 //! The guard: a token that has the lock, with the value.
-ghost use Rattle.std.specs.Prelude.{◌≡◌};
-ghost use Rattle.std.specs.Borrow.{Lends, sem};
-
 use crate::logged::Logged;
 use crate::view::Token;
 use std::marker::Model;
@@ -28,9 +25,28 @@ impl<S: Logged> Model for Held<S> {
 }
 
 impl<S: Logged> Held<S> {
-    ghost use Rattle.std.specs.Prelude.{◌≡◌};
+    ghost use Rattle.std.specs.Prelude.{◌≡◌, [], ◌∷◌, None};
+    ghost use Rattle.index_lock.specs.Rule.{IsTokenUnder};
+    ghost use Rattle.index_lock.specs.declared.view.Known.{Known};
+    ghost use Rattle.index_lock.specs.declared.view.View.TheVariants.{Holds};
     ghost use Rattle.std.specs.Borrow.{Lends, sem};
     ghost use Rattle.index_lock.specs.contracts.held.Held.{the_row as held_row};
+
+    pub(crate) fn of(value: S, token: Token<S>) -> Held<S>
+        requires { (known : Known S.Entry S.Origin) × (token.me ≡ (Holds known, (0, None) ∷ [])) }
+        ensures value { result.value ≡ value }
+        ensures token { IsTokenUnder result None token }
+    {
+        Held { value, token }
+    }
+
+    pub(crate) fn into_parts(self) -> (S, Token<S>)
+        ensures value { result.0 ≡ self.value }
+        ensures token { IsTokenUnder self None result.1 }
+    {
+        let Self { value, token } = self;
+        (value, token)
+    }
 
     pub fn value(&self) -> &S
         ensures { result.now ≡ self.now.value }

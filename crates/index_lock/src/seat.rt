@@ -22,6 +22,27 @@ impl<S: Logged> Model for Seat<S> {
     ghost invariant = { λ seat. seat.token.me ≡ (Rests (known_by S.blank_origin seat.token.me.0), []) };
 }
 
+impl<S: Logged> Seat<S> {
+    ghost use Rattle.std.specs.Prelude.{◌≡◌, []};
+    ghost use Rattle.index_lock.specs.Rule.{IsTokenOf};
+    ghost use Rattle.index_lock.specs.declared.view.Known.{Known};
+    ghost use Rattle.index_lock.specs.declared.view.View.TheVariants.{Rests};
+
+    pub(crate) fn of(token: Token<S>) -> Seat<S>
+        requires { (known : Known S.Entry S.Origin) × (token.me ≡ (Rests known, [])) }
+        ensures { IsTokenOf result token }
+    {
+        Seat { token }
+    }
+
+    pub(crate) fn into_token(self) -> Token<S>
+        ensures { IsTokenOf self result }
+    {
+        let Self { token } = self;
+        token
+    }
+}
+
 impl<S: Logged> Drop for Seat<S> {
     fn drop(self) {
         let Self { token: _ } = self;
