@@ -12,7 +12,7 @@ use Rattle.index_lock.specs.declared.view.Known.{Known}
 use Rattle.index_lock.specs.declared.view.View.{View}
 use Rattle.index_lock.specs.declared.view.View.TheVariants.{Spent, Rests, Joined, Holds, Ends}
 use Rattle.index_lock.specs.Tokens.{longer}
-use Rattle.index_lock.specs.Rule.{GoesOn, known_of, HasSeen, taken_at, slot_under, IsFree, IsHeld, KeepsLock, joined_view, acquired, released, settled, ended}
+use Rattle.index_lock.specs.Rule.{GoesOn, known_of, HasSeen, taken_at, slot_under, IsFree, IsHeld, KeepsLock, joined_known, joined_view, acquired, released, settled, ended}
 use Rattle.index_lock.proofs.Prefixes.{prefix_self, prefix_trans, longer_begins}
 
 module _ {E O : Type 0} where
@@ -188,6 +188,15 @@ module _ {S E O : Type 0} (log : S → List E) (origin : S → O) where
         let had : HasSeen there.0 (Joined known' mine' theirs') = subst (HasSeen there.0) e (there.1 id me.0 at) in
         (ap (λ (k : Known E O). (Rests k, me.1)) same, had.1, had.2),
       )
+
+  -- what a join and the load after it make of two tokens that rest
+  pub joined_and_settled : (one other between after : Me (Option S) (View E O)) (mine theirs : Known E O) (slots found : ℕ) → one ≡ (Rests mine, []) → other ≡ (Rests theirs, [])
+      → between ≡ (joined_view one.0 other.0, one.1) → settled (step slots 0 0 0 none) between found after
+      → (after ≡ (Rests (joined_known mine theirs), [])) × GoesOn mine (joined_known mine theirs) × GoesOn theirs (joined_known mine theirs)
+  joined_and_settled one other between after mine theirs slots found is is' join told =
+      let both : between ≡ (Joined (joined_known mine theirs) mine theirs, []) = join ∙ λ k. (joined_view (is k).0 (is' k).0, (is k).1) in
+      let said = told (joined_known mine theirs) mine theirs (ap (λ (m : Me (Option S) (View E O)). m.0) both) in
+      (said.0 ∙ ap (λ (m : Me (Option S) (View E O)). (Rests (joined_known mine theirs), m.1)) both, said.1, said.2)
 
   -- a free lock is taken, with its value
   takes_it : (s : St) (free : IsFree log origin s) (slots id word new : ℕ) (known : Known E O) → get_elem? s.views id ≡ some (Rests known) → new ≡ word + 1 → get_or s.words 0 0 ≡ word

@@ -77,9 +77,13 @@ abbrev pub KeepsLock : {S E O : Type 0} → (S → List E) → (S → O) → Sta
 KeepsLock log origin state = IsFree log origin state ⊎ IsHeld state
 
 module _ {E O : Type 0} where
-  -- the views of two tokens put together: the longer log is kept, and what each had seen is noted
+  -- what a join keeps: the longer log
+  abbrev pub joined_known : Known E O → Known E O → Known E O
+  joined_known mine theirs = record { log = longer mine.log theirs.log; origin = mine.origin }
+
+  -- the views of two tokens put together, with a note of what each had seen
   abbrev pub joined_view : View E O → View E O → View E O
-  joined_view (Rests mine) (Rests theirs) = Joined (record { log = longer mine.log theirs.log; origin = mine.origin }) mine theirs
+  joined_view (Rests mine) (Rests theirs) = Joined (joined_known mine theirs) mine theirs
   joined_view view _ = view
 
 module _ {S E O : Type 0} where
