@@ -11,6 +11,9 @@ module _ {A : Type 0} where
   pub prefix_self : (xs : List A) → IsPrefix xs xs
   prefix_self xs = ([], append-nil xs)
 
+  pub prefix_of_same : (xs ys : List A) → xs ≡ ys → IsPrefix xs ys
+  prefix_of_same xs ys e = ([], append-nil xs ∙ e)
+
   -- a beginning of a beginning is a beginning
   pub prefix_trans : (xs ys zs : List A) → IsPrefix xs ys → IsPrefix ys zs → IsPrefix xs zs
   prefix_trans xs ys zs p q = (p.0 ++ q.0, sym (append_assoc xs p.0 q.0) ∙ (ap (λ (w : List A). w ++ q.0) p.1 ∙ q.1))

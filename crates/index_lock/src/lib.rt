@@ -12,6 +12,6 @@ mod tests;
 mod view;
 
 pub use held::Held;
-pub use lock::{Split, TurnLock};
+pub use lock::TurnLock;
 pub use logged::Logged;
-pub use seat::Seat;
+pub use seat::{Seat, Split};

@@ -1,15 +1,16 @@
 //! The lock.
-ghost use Rattle.std.specs.Prelude.{◌≡◌, ◌*◌, [], ◌∷◌, IfOk, IfErr, Some, length};
+ghost use Rattle.std.specs.Prelude.{◌≡◌, [], ◌∷◌, IfOk, IfErr, Some};
 ghost use mathlib.Core.List.{IsPrefix};
 ghost use Rattle.index_lock.specs.declared.view.Known.{Known};
 ghost use Rattle.index_lock.specs.declared.view.View.TheVariants.{Rests};
 ghost use Rattle.index_lock.specs.Rule.{Takes};
+ghost use Rattle.index_lock.specs.Splits.{Splits};
 ghost use Rattle.index_lock.specs.Tokens.{longer};
 
 use crate::held::Held;
 use crate::logged::Logged;
 use crate::plays::{Acquire, Copies, End, KeepsLonger, Release, Settle};
-use crate::seat::Seat;
+use crate::seat::{Seat, Split};
 use crate::view::{LockTable, Token};
 use atomic_table::{Refused, Table};
 use std::alloc::{AllocFailed, Global};
@@ -32,12 +33,6 @@ impl<S: Logged> Model for TurnLock<S> {
     ghost view = { λ lock. lock.table.shared.table_id };
 
     ghost invariant = { λ lock. (lock.table.shared.table_id.words ≡ 1) × (lock.table.shared.table_id.slots ≡ 1) };
-}
-
-/// Two tokens of one, or the one where there was no memory.
-pub enum Split<S: Logged> {
-    Two(Seat<S>, Seat<S>),
-    OutOfMemory(Seat<S>),
 }
 
 // The value that is alone in a row.
@@ -97,6 +92,7 @@ impl<S: Logged> TurnLock<S> {
         ensures begins { IsPrefix seat.seen (S.log result.value) }
         ensures origin { S.origin result.value ≡ seat.origin }
         ensures at_enter { (result.seen ≡ S.log result.value) × (result.origin ≡ S.origin result.value) }
+        ensures may_leave { IsPrefix result.seen (S.log result.value) }
     {
         let mut token = seat.into_token();
         self.acquire(rt, &mut token);
@@ -141,13 +137,6 @@ impl<S: Logged> TurnLock<S> {
         shared.wake_one(0);
         Seat::of(token)
     }
-}
-
-impl<S: Logged> TurnLock<S> {
-    ghost use Rattle.std.specs.Prelude.{◌≡◌};
-    ghost use mathlib.Core.List.{IsPrefix};
-    ghost use Rattle.index_lock.specs.Tokens.{longer};
-    ghost use Rattle.index_lock.specs.Splits.{Splits};
 
     /// Makes a second token, for another thread, that has seen as much.
     pub fn split(&self, seat: Seat<S>) -> Split<S>

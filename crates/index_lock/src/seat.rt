@@ -8,6 +8,14 @@ pub struct Seat<S: Logged> {
     token: Token<S>,
 }
 
+/// What a split gives.
+pub enum Split<S: Logged> {
+    /// Two tokens, each of which has seen what the one had.
+    Two(Seat<S>, Seat<S>),
+    /// The token comes back, where there was no memory. A split takes none today.
+    OutOfMemory(Seat<S>),
+}
+
 impl<S: Logged> Model for Seat<S> {
     ghost use Rattle.std.specs.Prelude.{◌≡◌, []};
     ghost use Rattle.index_lock.specs.Tokens.{SeatFacts};

@@ -113,6 +113,35 @@ fn put_by_two<R: Threads + Wait + Sync>(
     lock.join(first, second)
 }
 
+// Takes the lock of any value, and leaves it as it was.
+fn pass<S: Logged, R: Wait>(rt: &R, lock: &TurnLock<S>, seat: Seat<S>) -> Seat<S>
+    requires { seat.lock ≡ lock.now }
+    ensures lock { result.lock ≡ lock.now }
+    ensures seen { IsPrefix seat.seen result.seen }
+    ensures origin { result.origin ≡ seat.origin }
+{
+    lock.leave(lock.enter(rt, seat))
+}
+
+// Two threads share a lock over any value that may cross threads, with a token each.
+fn pass_by_two<S: Logged + Send, R: Threads + Wait + Sync>(
+    rt: &R,
+    lock: &TurnLock<S>,
+    first: Seat<S>,
+    second: Seat<S>,
+) -> Seat<S>
+    requires first { first.lock ≡ lock.now }
+    requires second { second.lock ≡ lock.now }
+    ensures { result.lock ≡ lock.now }
+{
+    let (first, second) = join(
+        rt,
+        || pass(rt, lock, first),
+        || pass(rt, lock, second),
+    );
+    lock.join(first, second)
+}
+
 // The numbers of one thread stand there once each, in their order.
 fn has_in_order(items: &[u64], from: u64, to: u64) -> bool {
     let own = items.iter().copied().filter(|x| from <= *x && *x < to);
@@ -141,7 +170,8 @@ fn numbers_pass_from_token_to_token(rt: HostRuntime) -> Result<(), Fail> {
     let found = held.value().items.as_slice() == [5].as_slice();
     let second = lock.leave(held);
     assert!(rt; found);
-    let held = lock.enter(&rt, lock.join(first, second));
+    let seat = pass_by_two(&rt, &lock, first, second);
+    let held = lock.enter(&rt, seat);
     let numbers = TurnLock::into_value(lock, held);
     assert_eq!(rt; numbers.items.as_slice(), [5].as_slice());
     Ok(())
