@@ -1,5 +1,5 @@
 -- Each kind of step keeps the lock's rule.
-use Rattle.std.proofs.Common.{◌≡◌, ◌≢◌, ◌⊎◌, ℕ, zero, suc, ◌+◌, ◌*◌, ◌%◌, ◌<◌, List, [], ◌∷◌, ◌++◌, length, get_or, set, refl, sym, ap, ◌∙◌, subst, inl, inr, ⊎_elim, arith, Option, Some, None}
+use Rattle.std.proofs.Common.{◌≡◌, ◌≢◌, ℕ, zero, suc, ◌+◌, ◌*◌, ◌%◌, List, [], ◌∷◌, ◌++◌, length, get_or, set, refl, sym, ap, ◌∙◌, subst, inl, inr, ⊎_elim, arith, Option, Some, None}
 use mathlib.Core.Option.{some, none, some-injective, some-ne-none}
 use mathlib.Core.Option as maybe
 use lib.ListN.{get_elem?}
@@ -7,11 +7,10 @@ use lib.Seq.{set-get_or}
 use prog.Atomic.{either}
 use Rattle.std.specs.Prelude.{◌==◌}
 use Rattle.atomic_table.specs.Table.{State, Me, step, Act, keeps, takes, gives, Valid, stepped, carried_after, Allows, Splits, Joins, opening, Seen, Final}
-use Rattle.atomic_table.proofs.Lists.{at_set, set_here, set_else, set_again, at_longer, at_snoc, exchanged}
+use Rattle.atomic_table.proofs.Lists.{at_set, set_else, set_again, at_longer, at_snoc, exchanged}
 use Rattle.index_lock.specs.declared.view.Known.{Known}
 use Rattle.index_lock.specs.declared.view.View.{View}
 use Rattle.index_lock.specs.declared.view.View.TheVariants.{Spent, Rests, Joined, Holds, Ends}
-use Rattle.index_lock.specs.Tokens.{longer}
 use Rattle.index_lock.specs.Rule.{GoesOn, known_of, HasSeen, taken_at, slot_under, IsFree, IsHeld, KeepsLock, joined_known, joined_view, acquired, released, settled, ended}
 use Rattle.index_lock.proofs.Prefixes.{prefix_self, prefix_trans, longer_begins}
 
@@ -157,7 +156,7 @@ module _ {S E O : Type 0} (log : S → List E) (origin : S → O) where
   pub splits : (id : ℕ) (known : Known E O) (view : View E O) → view ≡ Rests known → Splits Rule id view view view
   splits id known view is s rule at =
       let kept : Rule record { words = s.words; homes = s.homes; views = set s.views id view } =
-        subst (λ (vs : List (View E O)). Rule record { words = s.words; homes = s.homes; views = vs }) (sym (set_again s.views id view at)) rule in
+      subst (λ (vs : List (View E O)). Rule record { words = s.words; homes = s.homes; views = vs }) (sym (set_again s.views id view at)) rule in
       comes record { words = s.words; homes = s.homes; views = set s.views id view } view kept (ap taken_at is)
       (λ all seen. seen id view (subst (λ (vs : List (View E O)). get_elem? vs id ≡ some view) (sym (set_again s.views id view at)) at))
 
@@ -167,7 +166,7 @@ module _ {S E O : Type 0} (log : S → List E) (origin : S → O) where
       let there : get_elem? s.views other ≡ some w = sym (set_else s.views id other both apart) ∙ at' in
       let off : taken_at both ≡ none = ap taken_at (λ k. joined_view (is k) (is' k)) in
       let first = quiet s id v both rule at (ap taken_at is) off (λ all seen.
-          subst (HasSeen all) (λ k. joined_view (sym is k) (sym is' k)) (joined_seen all mine theirs (subst (HasSeen all) is (seen id v at)) (subst (HasSeen all) is' (seen other w there)))) in
+      subst (HasSeen all) (λ k. joined_view (sym is k) (sym is' k)) (joined_seen all mine theirs (subst (HasSeen all) is (seen id v at)) (subst (HasSeen all) is' (seen other w there)))) in
       quiet record { words = s.words; homes = s.homes; views = set s.views id both } other w Spent first at' (ap taken_at is') refl (λ all seen. tt)
 
   -- the views that are there fit to one log
@@ -185,8 +184,8 @@ module _ {S E O : Type 0} (log : S → List E) (origin : S → O) where
         tt,
         same_word s s.homes (set s.views id (Rests known)) (quiet s id me.0 (Rests known) rule at (ap taken_at is) refl (λ all seen. (subst (HasSeen all) is (seen id me.0 at)).0)),
         λ known' mine' theirs' e. let same : known ≡ known' = joined_kept known known' mine mine' theirs theirs' (sym is ∙ e) in
-        let had : HasSeen there.0 (Joined known' mine' theirs') = subst (HasSeen there.0) e (there.1 id me.0 at) in
-        (ap (λ (k : Known E O). (Rests k, me.1)) same, had.1, had.2),
+            let had : HasSeen there.0 (Joined known' mine' theirs') = subst (HasSeen there.0) e (there.1 id me.0 at) in
+            (ap (λ (k : Known E O). (Rests k, me.1)) same, had.1, had.2),
       )
 
   -- what a join and the load after it make of two tokens that rest
@@ -268,7 +267,7 @@ module _ {S E O : Type 0} (log : S → List E) (origin : S → O) where
     gives,
     tt,
     inl (⊎_elim (λ (free : IsFree log origin s). absurd (some-ne-none known (free.nobody id (Holds known) at)))
-    (λ (held : IsHeld s). releases_held s held id new known value at on number) rule),
+        (λ (held : IsHeld s). releases_held s held id new known value at on number) rule),
     λ value' e. let in_slot : Some value ≡ Some value' = ap slot_of e in let same : value ≡ value' = cc in ap (λ (v : S). (Rests (known_of log origin v), [])) same,
   )
 
@@ -301,7 +300,7 @@ module _ {S E O : Type 0} (log : S → List E) (origin : S → O) where
     gives,
     tt,
     ⊎_elim (λ (free : IsFree log origin s). absurd (some-ne-none known (free.nobody id (Holds known) at)))
-    (λ (held : IsHeld s). same_word s (set s.homes 0 (some None)) (set s.views id (Ends known)) (inr (ends_held s held id known at))) rule,
+        (λ (held : IsHeld s). same_word s (set s.homes 0 (some None)) (set s.views id (Ends known)) (inr (ends_held s held id known at))) rule,
     λ known' e. let same : known ≡ known' = cc in ap (λ (k : Known E O). (Ends k, [])) same,
   )
 

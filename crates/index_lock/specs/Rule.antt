@@ -1,5 +1,5 @@
 -- The rule of the lock's table, and what each kind of step on it tells. This is the project's own rule.
-use Rattle.std.specs.Prelude.{◌≡◌, ◌≢◌, ◌⊎◌, ℕ, ◌+◌, ◌*◌, Bool, true, false, List, [], ◌∷◌, length, Option, Some, None}
+use Rattle.std.specs.Prelude.{◌≡◌, ◌≢◌, ◌⊎◌, ℕ, ◌+◌, ◌*◌, List, [], ◌∷◌, length, Option, Some, None}
 use mathlib.Core.List.{IsPrefix}
 use mathlib.Core.Option.{some, none}
 use mathlib.Core.Option as maybe
@@ -21,7 +21,7 @@ abbrev pub known_of : {S E O : Type 0} → (S → List E) → (S → O) → S �
 known_of log origin value = record { log = log value; origin = origin value }
 
 module _ {E O : Type 0} where
-  -- what a view knows goes on to all that there is; a spent view knows nothing
+  -- all that there is goes on from what a view knows; a spent view knows nothing
   abbrev pub HasSeen : Known E O → View E O → Type 0
   HasSeen all Spent = Unit {0}
   HasSeen all (Rests known) = GoesOn known all
@@ -50,27 +50,25 @@ module _ {E O : Type 0} where
   slot_under S (Ends known) = some None
   slot_under S _ = none
 
--- The lock is free: the word is twice the length of the value's log, the value is at home,
--- no token has the lock, and what each has seen is a beginning of the value's log, with its origin.
+-- the lock is free
 pub record IsFree {S E O : Type 0} (log : S → List E) (origin : S → O) (state : State (Option S) (View E O)) : Type 0 where
   pub value : S
-  pub word : state.words ≡ 2 * length (log value) ∷ []
-  pub slot : state.homes ≡ some (Some value) ∷ []
-  pub nobody : (id : ℕ) (view : View E O) → get_elem? state.views id ≡ some view → taken_at view ≡ none
-  pub seen : (id : ℕ) (view : View E O) → get_elem? state.views id ≡ some view → HasSeen (known_of log origin value) view
+  pub word : state.words ≡ 2 * length (log value) ∷ []  -- it is twice the number of changes
+  pub slot : state.homes ≡ some (Some value) ∷ []  -- the value is at home
+  pub nobody : (id : ℕ) (view : View E O) → get_elem? state.views id ≡ some view → taken_at view ≡ none  -- no token has the lock
+  pub seen : (id : ℕ) (view : View E O) → get_elem? state.views id ≡ some view → HasSeen (known_of log origin value) view  -- each has seen a beginning of the value's log
 
--- The lock is held: the word is one more than twice the length of the log that the lock was taken at, one token
--- has the lock and no other, the slot isn't at home with a value, and each token has seen a beginning of that log, with its origin.
+-- the lock is held
 pub record IsHeld {S E O : Type 0} (state : State (Option S) (View E O)) : Type 0 where
   pub holder : ℕ
   pub holding : View E O
   pub all : Known E O
   pub there : get_elem? state.views holder ≡ some holding
-  pub took : taken_at holding ≡ some all
-  pub word : state.words ≡ (2 * length all.log + 1) ∷ []
-  pub slot : state.homes ≡ slot_under S holding ∷ []
-  pub alone : (id : ℕ) (view : View E O) → get_elem? state.views id ≡ some view → taken_at view ≢ none → id ≡ holder
-  pub seen : (id : ℕ) (view : View E O) → get_elem? state.views id ≡ some view → HasSeen all view
+  pub took : taken_at holding ≡ some all  -- the holder keeps the log at which it took the lock
+  pub word : state.words ≡ (2 * length all.log + 1) ∷ []  -- it is one more than twice the number of changes of that log
+  pub slot : state.homes ≡ slot_under S holding ∷ []  -- the value isn't at home
+  pub alone : (id : ℕ) (view : View E O) → get_elem? state.views id ≡ some view → taken_at view ≢ none → id ≡ holder  -- no other token has the lock
+  pub seen : (id : ℕ) (view : View E O) → get_elem? state.views id ≡ some view → HasSeen all view  -- each has seen a beginning of that log
 
 -- at every moment the lock is free or held
 abbrev pub KeepsLock : {S E O : Type 0} → (S → List E) → (S → O) → State (Option S) (View E O) → Type 0

@@ -58,9 +58,7 @@ fn row_of<S>(alloc: Global, value: S) -> Result<Vec<Option<S>>, S>
         Err(failed) => {
             let AllocFailed { value } = failed;
             row.destroy_empty();
-            let Some(value) = value else {
-                unreachable!()
-            };
+            let Some(value) = value else { unreachable!() };
             Err(value)
         }
     }
@@ -130,10 +128,10 @@ impl<S: Logged> TurnLock<S> {
     {
         let (value, mut token) = held.into_parts();
         let shared = &self.table.shared;
-        let word = 2 * value.count();
+        let length = value.count();
         let empty = shared.exchange(&mut token, 0, Some(value));
         let None = empty else { unreachable!() };
-        shared.store::<Release>(&mut token, 0, word);
+        shared.store::<Release>(&mut token, 0, 2 * length);
         shared.wake_one(0);
         Seat::of(token)
     }

@@ -4,6 +4,7 @@ ghost use Rattle.std.specs.Prelude.{◌≡◌, ◌^◌, ◌<◌, List, length};
 /// A value with a log of its changes and an origin, which contracts alone see.
 pub trait Logged {
     type Entry;
+
     type Origin;
 
     /// The changes so far, oldest first.

@@ -15,6 +15,7 @@ struct Numbers {
 
 impl Logged for Numbers {
     type Entry = u64;
+
     type Origin = ();
 
     ghost log = { λ numbers. numbers.items.items };
@@ -134,11 +135,7 @@ fn pass_by_two<S: Logged + Send, R: Threads + Wait + Sync>(
     requires second { second.lock ≡ lock.now }
     ensures { result.lock ≡ lock.now }
 {
-    let (first, second) = join(
-        rt,
-        || pass(rt, lock, first),
-        || pass(rt, lock, second),
-    );
+    let (first, second) = join(rt, || pass(rt, lock, first), || pass(rt, lock, second));
     lock.join(first, second)
 }
 
@@ -161,7 +158,12 @@ fn cut(lock: &TurnLock<Numbers>, seat: Seat<Numbers>) -> (Seat<Numbers>, Seat<Nu
 
 #[test]
 fn numbers_pass_from_token_to_token(rt: HostRuntime) -> Result<(), Fail> {
-    let made = TurnLock::make(rt.alloc(), Numbers { items: Vec::new(rt.alloc()) });
+    let made = TurnLock::make(
+        rt.alloc(),
+        Numbers {
+            items: Vec::new(rt.alloc()),
+        },
+    );
     let (lock, seat) = made.ok().ok_or("memory for the lock")?;
     let (first, second) = cut(&lock, seat);
     let (first, done) = put(&rt, &lock, first, 5);
@@ -179,7 +181,12 @@ fn numbers_pass_from_token_to_token(rt: HostRuntime) -> Result<(), Fail> {
 
 #[test]
 fn two_threads_put_each_number_once_and_in_order(rt: HostRuntime) -> Result<(), Fail> {
-    let made = TurnLock::make(rt.alloc(), Numbers { items: Vec::new(rt.alloc()) });
+    let made = TurnLock::make(
+        rt.alloc(),
+        Numbers {
+            items: Vec::new(rt.alloc()),
+        },
+    );
     let (lock, seat) = made.ok().ok_or("memory for the lock")?;
     let (first, second) = cut(&lock, seat);
     let seat = put_by_two(&rt, &lock, first, second, 0);
@@ -193,7 +200,12 @@ fn two_threads_put_each_number_once_and_in_order(rt: HostRuntime) -> Result<(), 
 
 #[test]
 fn four_threads_put_each_number_once_and_in_order(rt: HostRuntime) -> Result<(), Fail> {
-    let made = TurnLock::make(rt.alloc(), Numbers { items: Vec::new(rt.alloc()) });
+    let made = TurnLock::make(
+        rt.alloc(),
+        Numbers {
+            items: Vec::new(rt.alloc()),
+        },
+    );
     let (lock, seat) = made.ok().ok_or("memory for the lock")?;
     let (left, right) = cut(&lock, seat);
     let (first, second) = cut(&lock, left);

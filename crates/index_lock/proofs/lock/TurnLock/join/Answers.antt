@@ -1,4 +1,4 @@
-use Rattle.std.proofs.Common.{rules, ap, ◌∙◌, ◌≡◌, []}
+use Rattle.std.proofs.Common.{rules, ap, ◌∙◌}
 use Rattle.index_lock.specs.Rule.{known_to, joined_known, joined_view}
 use Rattle.index_lock.proofs.Steps.{joins, settles, joined_and_settled}
 use Rattle.index_lock.proofs.lock.TurnLock.join.Goals as goal

@@ -11,7 +11,7 @@ store-requires g c =
       search rules,
       search rules,
       releases g.S.Logged.log g.S.Logged.origin _ _ _ _ _ value (put_in _ _ _ _ _ c.into_parts-value.ensures.token.me c.exchange-empty.ensures.3)
-          (record { log = rw same c.requires.log; origin = rw same c.requires.origin }) (ap (λ (n : ℕ). 2 * n) c.count-word.ensures.value),
+          (record { log = rw same c.requires.log; origin = rw same c.requires.origin }) (ap (λ (n : ℕ). 2 * n) c.count-length.ensures.value),
     )
 
 pub of-requires : goal.of-requires
