@@ -1,6 +1,6 @@
 //! A tree in memory that answers by a script.
 
-ghost use Rattle.std.specs.Prelude.{◌≡◌, ◌<◌, ◌≤◌, [], map, length, slice_index_or, All, IsTrue, IsSome, MatchOption};
+ghost use Rattle.std.specs.Prelude.{◌≡◌, ◌<◌, ◌≤◌, [], map, length, slice_index_or, All, IsTrue, MatchOption};
 ghost use Rattle.std.specs.List.{find};
 ghost use Rattle.std.specs.Option.{option_copied};
 ghost use Rattle.std.specs.Str.{bytes_eq};
@@ -95,7 +95,6 @@ impl<W: Truth + Send> Tree<W> for MemTree<W> {
         ensures asked { FitsLoad W.version path.now limit (load_facts result) }
         ensures told { TellsLoad (names_of self.new) path.now (load_facts result) }
         ensures heard { Some self.new.heard ≡ after_load (Some self.old.heard) path.now limit (load_facts result) }
-        ensures tells { IsSome (Some self.old.heard) }
         ensures cause { HasCause self.old.faults self.new.faults (IsTrue (is_failed (load_facts result))) }
         ensures known { IsPresence W.version (IsStill self.new) (names_of self.new) }
         ensures still { IsStill self.old → StaysStill (IsStill self.new) (names_of self.old) (names_of self.new) }

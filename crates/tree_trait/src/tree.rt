@@ -1,6 +1,6 @@
 //! The trait that stands for a tree of files.
 
-ghost use Rattle.std.specs.Prelude.{◌≡◌, ℕ, List, Bool, Option, IsTrue, IsSome};
+ghost use Rattle.std.specs.Prelude.{◌≡◌, ℕ, List, Bool, Option, IsTrue};
 ghost use Rattle.row_types.specs.Faults.{HasCause};
 ghost use Rattle.row_types.specs.Name.{NameFacts};
 ghost use Rattle.tree_trait.specs.Heard.{Heard, after_load};
@@ -34,7 +34,6 @@ pub trait Tree<W: Truth>: Send + Drop {
         ensures asked { FitsLoad W.version path.now limit (load_facts result) }
         ensures told { IsTrue told → TellsLoad (present self.new) path.now (load_facts result) }
         ensures heard { heard self.new ≡ after_load (heard self.old) path.now limit (load_facts result) }
-        ensures tells { IsTrue told → IsSome (heard self.old) }
         ensures cause { HasCause (faults self.old) (faults self.new) (IsTrue (is_failed (load_facts result))) }
         ensures known { IsTrue told → IsPresence W.version (still self.new) (present self.new) }
         ensures still { still self.old → StaysStill (still self.new) (present self.old) (present self.new) }
