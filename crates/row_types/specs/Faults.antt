@@ -2,9 +2,13 @@
 -- it failed only in a call in which the count rose.
 use Rattle.std.specs.Prelude.{ℕ, ◌+◌, ◌-◌, ◌^◌, ◌≤◌, min}
 
+-- one more, up to the largest `u64`
+abbrev pub raised : ℕ → ℕ
+raised count = min (count + 1) (2 ^ 64 - 1)
+
 -- the count rose, or stands at the largest `u64`
 abbrev pub Rose : ℕ → ℕ → Type 0
-Rose before now = min (before + 1) (2 ^ 64 - 1) ≤ now
+Rose before now = raised before ≤ now
 
 -- the count never falls, and the call fails only where it rose
 pub record HasCause (before now : ℕ) (Fails : Type 0) : Type 0 where

@@ -4,4 +4,5 @@ pub mod BuildId
 pub mod Canon
 pub mod Faults
 pub mod Inside
+pub mod Name
 pub mod Stamp

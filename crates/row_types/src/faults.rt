@@ -1,6 +1,7 @@
 //! The count of faults that each object of the outside keeps.
 
-ghost use Rattle.std.specs.Prelude.{◌≡◌, ℕ, ◌+◌, ◌-◌, ◌^◌, min};
+ghost use Rattle.std.specs.Prelude.{◌≡◌, ◌≤◌, ℕ};
+ghost use Rattle.row_types.specs.Faults.{raised};
 
 use std::marker::Model;
 
@@ -36,7 +37,8 @@ impl Faults {
 
     /// Counts one fault.
     pub fn raise(&mut self)
-        ensures { self.new ≡ min (self.old + 1) (2 ^ 64 - 1) }
+        ensures value { self.new ≡ raised self.old }
+        ensures later { self.old ≤ self.new }
     {
         self.count = self.count.saturating_add(1);
     }

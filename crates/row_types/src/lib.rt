@@ -7,6 +7,7 @@ mod build_id;
 mod faults;
 mod identity;
 mod limits;
+mod path;
 mod stamp;
 #[cfg(test)]
 mod tests;
@@ -17,5 +18,6 @@ pub use faults::Faults;
 pub use file_formats::Why;
 pub use identity::{Ident, Kind};
 pub use limits::{EDITION, FILE_LIMIT, PATH_LIMIT, SEPARATOR};
+pub use path::is_canonical;
 pub use stamp::{NANOS_PER_SECOND, Stamp};
 pub use world::{OpenWorld, Truth};

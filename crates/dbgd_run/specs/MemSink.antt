@@ -1,0 +1,16 @@
+-- The sink in memory (this project's rule): it fails at listed writes, and takes each other piece whole.
+use Rattle.std.specs.Prelude.{ℕ, ◌==◌, if◌then◌else◌, List, Option, length}
+use Rattle.std.specs.List.{list_any}
+use Rattle.dbgd_run.specs.declared.sink.WriteAnswer.{WriteAnswer}
+use Rattle.dbgd_run.specs.declared.sink.WriteAnswer.TheVariants.{Took, Failed}
+
+-- the bytes so far, where they are told, the writes that fail, the next write's number, and the count of faults
+pub record SinkFacts : Type 0 where
+  pub written : Option (List ℕ)
+  pub bad_writes : List ℕ
+  pub writes : ℕ
+  pub faults : ℕ
+
+-- what the next write of this piece answers
+abbrev pub next_answer : SinkFacts → List ℕ → WriteAnswer
+next_answer sink bytes = if list_any (λ n. n == sink.writes) sink.bad_writes then Failed else Took (length bytes)

@@ -1,0 +1,16 @@
+-- The program's exit statuses (this project's rule).
+use Rattle.std.specs.Prelude.{ℕ}
+use Rattle.dbgd_run.specs.declared.status.Status.{Status}
+use Rattle.dbgd_run.specs.declared.status.Status.TheVariants.{Done, Fault, Usage, Absent, Altered, Limit, OutOfMemory, BadRow, NotBuilt}
+
+-- the number with which the program ends
+abbrev pub code_of : Status → ℕ
+code_of Done = 0
+code_of Fault = 1
+code_of Usage = 2
+code_of Absent = 3
+code_of Altered = 4
+code_of Limit = 5
+code_of OutOfMemory = 6
+code_of BadRow = 7
+code_of NotBuilt = 8

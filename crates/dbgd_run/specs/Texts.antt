@@ -1,0 +1,58 @@
+-- The program's texts (this project's rule): each is a line.
+use Rattle.std.specs.Prelude.{ℕ, List, [], ◌∷◌, ◌++◌, Bool, true, false, codes}
+use Rattle.hex.specs.Hex.{encode_lower}
+use Rattle.file_formats.specs.Identity.{Identity}
+use Rattle.file_formats.specs.declared.fault.Why.{Why}
+use Rattle.file_formats.specs.declared.fault.Why.TheVariants.{NotElf, BadElf, NoSections, Core, NoBuildId, TooLarge}
+
+-- a text with its line feed
+abbrev pub line : List ℕ → List ℕ
+line text = text ++ 10 ∷ []
+
+-- the word for what a file holds: code, debug information, both or none of them
+abbrev pub class_word : Bool → Bool → List ℕ
+class_word true false = codes "executable"
+class_word false true = codes "debuginfo"
+class_word true true = codes "both"
+class_word false false = codes "none"
+
+-- the line of a file's identity
+abbrev pub identity_line : Identity → List ℕ
+identity_line i = line (encode_lower i.id ++ codes " " ++ class_word i.exec i.debug)
+
+-- the word for a reason
+abbrev pub why_word : Why → List ℕ
+why_word NotElf = codes "not-elf"
+why_word BadElf = codes "bad-elf"
+why_word NoSections = codes "no-sections"
+why_word Core = codes "core"
+why_word NoBuildId = codes "no-build-id"
+why_word TooLarge = codes "too-large"
+
+-- the line of a file without an identity
+abbrev pub plain_line : Why → List ℕ
+plain_line why = line (codes "plain " ++ why_word why)
+
+-- how the words of each command read
+abbrev pub usage_line : List ℕ
+usage_line = line (codes "usage: dbgd ident FILE, sources FILE, section FILE NAME, query -d DB ID, scan -d DB DIR, serve -d DB DIR, trial SEED FILES WORKERS")
+
+-- a failed read of a file
+abbrev pub file_fault_line : List ℕ
+file_fault_line = line (codes "dbgd: fault file")
+
+-- a failed write to the standard output
+abbrev pub output_fault_line : List ℕ
+output_fault_line = line (codes "dbgd: fault output")
+
+-- no regular file stands at the path
+abbrev pub gone_line : List ℕ → List ℕ
+gone_line path = line (codes "dbgd: gone " ++ path)
+
+-- memory was refused
+abbrev pub no_memory_line : List ℕ
+no_memory_line = line (codes "dbgd: out of memory")
+
+-- a command or a form of file that isn't built yet
+abbrev pub not_built_line : List ℕ
+not_built_line = line (codes "dbgd: not built yet")

@@ -1,0 +1,28 @@
+-- Command lines (this project's rule): what the words after the program's name ask.
+use Rattle.std.specs.Prelude.{ℕ, List, [], ◌∷◌, Bool, if◌then◌else◌, codes}
+use Rattle.std.specs.List.{list_any}
+use Rattle.std.specs.Str.{bytes_eq}
+
+-- what a line asks: the identity of the file at a path, a command that isn't built yet, or nothing that can be read
+pub data Line : Type 0 where
+  asks_ident : (path : List ℕ) → Line
+  unbuilt : Line
+  unreadable : Line
+
+-- the words of `ident`: one file
+abbrev pub ident_line : List (List ℕ) → Line
+ident_line [] = unreadable
+ident_line (path ∷ []) = asks_ident path
+ident_line (path ∷ other ∷ rest) = unreadable
+
+-- the commands that aren't built yet, whatever follows them
+abbrev pub unbuilt_commands : List (List ℕ)
+unbuilt_commands =
+    codes "sources" ∷ codes "section" ∷ codes "query" ∷ codes "scan" ∷ codes "serve" ∷ codes "trial" ∷ []
+
+-- what the words ask: the first one names the command
+abbrev pub line_of : List (List ℕ) → Line
+line_of [] = unreadable
+line_of (command ∷ rest) =
+    if bytes_eq command (codes "ident") then ident_line rest
+    else (if list_any (bytes_eq command) unbuilt_commands then unbuilt else unreadable)

@@ -1,0 +1,43 @@
+//! The words of a command line.
+
+ghost use Rattle.std.specs.Prelude.{◌≡◌, map};
+ghost use Rattle.std.specs.String.{string_bytes};
+ghost use Rattle.dbgd_run.specs.Lines.{asked_by};
+ghost use Rattle.dbgd_run.specs.Words.{ident_line, line_of};
+
+/// What a command line asks.
+#[derive(Clone, Copy, Debug, PartialEq, Eq)]
+pub enum Line<'a> {
+    /// The identity of the file at a path.
+    Ident { path: &'a str },
+    /// A command that isn't built yet.
+    NotBuilt,
+    /// No command, or one with other words than it takes.
+    Usage,
+}
+
+/// Reads the words after the program's name.
+pub fn read_line(words: &[String]) -> Line<'_>
+    ensures { asked_by result ≡ line_of (map string_bytes words.now) }
+{
+    let Some((command, rest)) = words.split_first() else {
+        return Line::Usage;
+    };
+    match command.as_str() {
+        "ident" => ident(rest),
+        "sources" | "section" | "query" | "scan" | "serve" | "trial" => Line::NotBuilt,
+        _ => Line::Usage,
+    }
+}
+
+/// Reads the words of `ident`.
+fn ident(words: &[String]) -> Line<'_>
+    ensures { asked_by result ≡ ident_line (map string_bytes words.now) }
+{
+    match words {
+        [path] => Line::Ident {
+            path: path.as_str(),
+        },
+        _ => Line::Usage,
+    }
+}

@@ -1,0 +1,19 @@
+-- Files that were read (this project's rule).
+use Rattle.std.specs.Prelude.{◌≡◌, ℕ, List, length}
+use Rattle.row_types.specs.Stamp.{StampFacts}
+use Rattle.row_types.specs.Name.{NameFacts}
+
+-- a file's path, stamp and bytes
+pub record FoundFacts : Type 0 where
+  pub path : List ℕ
+  pub stamp : StampFacts
+  pub bytes : List ℕ
+
+-- the bytes are a version of the path and the stamp, and as many as the stamp says
+pub record IsFound (version : List ℕ → StampFacts → List ℕ → Type 0) (found : FoundFacts) : Type 0 where
+  pub known : version found.path found.stamp found.bytes
+  pub sized : found.stamp.size ≡ length found.bytes
+
+-- the name of a file
+abbrev pub name_of : FoundFacts → NameFacts
+name_of found = record { path = found.path; stamp = found.stamp }

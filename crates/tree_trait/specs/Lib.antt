@@ -1,0 +1,11 @@
+pub use Rattle.row_types.specs.Faults
+pub use Rattle.row_types.specs.Name
+pub use Rattle.row_types.specs.Stamp
+pub mod Found
+pub mod Heard
+pub mod HeardCalls
+pub mod Load
+pub mod MemTree
+pub mod Present
+pub mod Script
+pub mod TwoWorld

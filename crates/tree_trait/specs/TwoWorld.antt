@@ -1,0 +1,44 @@
+-- A told world of one path with two versions, which their sizes tell apart (this project's example).
+use Rattle.std.specs.Prelude.{◌≡◌, ℕ, pos, ◌⊎◌, List, codes, true}
+use Rattle.std.proofs.Common.{sym, ◌∙◌, ap, inl, inr, arith}
+use Rattle.row_types.specs.Stamp.{StampFacts}
+
+-- the path of both versions
+abbrev pub path : List ℕ
+path = codes "/w/a"
+
+-- the first version's stamp, of one byte
+abbrev pub first_stamp : StampFacts
+first_stamp = record { size = 1; secs = pos 1; nanos = 0 }
+
+-- the second version's stamp, of two bytes
+abbrev pub second_stamp : StampFacts
+second_stamp = record { size = 2; secs = pos 2; nanos = 0 }
+
+-- the bytes of a version
+pub record IsOne (at : StampFacts) (content : List ℕ) (stamp : StampFacts) (bytes : List ℕ) : Type 0 where
+  pub stamped : stamp ≡ at
+  pub filled : bytes ≡ content
+
+-- the file is one of the two versions
+pub record IsEither (asked : List ℕ) (stamp : StampFacts) (bytes : List ℕ) : Type 0 where
+  pub placed : asked ≡ path
+  pub one : IsOne first_stamp (codes "x") stamp bytes ⊎ IsOne second_stamp (codes "yy") stamp bytes
+
+-- no stamp is both
+apart : (stamp : StampFacts) → stamp ≡ first_stamp → stamp ≡ second_stamp → ⊥
+apart stamp p q =
+    let one : stamp.size ≡ 1 = ap (λ s. s.size) p in
+    let two : stamp.size ≡ 2 = ap (λ s. s.size) q in
+    omega arith
+
+-- the stamp tells the bytes
+same_bytes : (stamp : StampFacts) (a b : List ℕ) → IsOne first_stamp (codes "x") stamp a ⊎ IsOne second_stamp (codes "yy") stamp a → IsOne first_stamp (codes "x") stamp b ⊎ IsOne second_stamp (codes "yy") stamp b → a ≡ b
+same_bytes stamp a b (inl p) (inl q) = p.filled ∙ sym q.filled
+same_bytes stamp a b (inl p) (inr q) = absurd (apart stamp p.stamped q.stamped)
+same_bytes stamp a b (inr p) (inl q) = absurd (apart stamp q.stamped p.stamped)
+same_bytes stamp a b (inr p) (inr q) = p.filled ∙ sym q.filled
+
+-- a name has at most one content
+pub either_is_one : true ≡ true → (asked : List ℕ) (stamp : StampFacts) (a b : List ℕ) → IsEither asked stamp a → IsEither asked stamp b → a ≡ b
+either_is_one told asked stamp a b p q = same_bytes stamp a b p.one q.one

@@ -1,0 +1,68 @@
+//! A file that was read.
+
+ghost use Rattle.std.specs.Prelude.{◌≡◌, length, vec_len, IfOk};
+ghost use Rattle.std.specs.String.{string_bytes};
+ghost use Rattle.tree_trait.specs.Found.{IsFound};
+
+use row_types::{Stamp, Truth};
+use std::alloc::{AllocError, Global};
+use std::marker::{Model, PhantomData};
+
+/// A file's path, stamp and bytes, which are a version of the world `W`, and as many as the stamp says.
+/// Contracts see it as a record of the three.
+#[derive(Drop)]
+pub struct Found<W: Truth> {
+    /// The path that was asked.
+    pub path: String,
+    /// The stamp that the file had.
+    pub stamp: Stamp,
+    /// All its bytes.
+    pub bytes: Vec<u8>,
+    of: PhantomData<W>,
+}
+
+impl<W: Truth> Model for Found<W> {
+    ghost use Rattle.std.specs.String.{string_bytes};
+    ghost use Rattle.tree_trait.specs.Found.{FoundFacts, IsFound};
+
+    ghost Value = { FoundFacts };
+
+    ghost view = { λ f. record { path = string_bytes f.path; stamp = f.stamp; bytes = f.bytes.items } };
+
+    ghost invariant = { λ f. IsFound W.version (record { path = string_bytes f.path; stamp = f.stamp; bytes = f.bytes.items }) };
+}
+
+impl<W: Truth> Found<W> {
+    /// The file of this path and stamp with these bytes.
+    pub fn new(path: String, stamp: Stamp, bytes: Vec<u8>) -> Found<W>
+        requires known { W.version (string_bytes path) stamp bytes.items }
+        requires sized { stamp.size ≡ vec_len bytes }
+        ensures { result ≡ record { path = string_bytes path; stamp = stamp; bytes = bytes.items } }
+    {
+        Found {
+            path,
+            stamp,
+            bytes,
+            of: PhantomData,
+        }
+    }
+
+    /// What is known of each file that was read.
+    pub fn is_version(&self)
+        ensures { IsFound W.version self.now }
+    {
+        let _bytes = &self.bytes;
+    }
+
+    /// A copy.
+    pub fn copy(&self, alloc: Global) -> Result<Found<W>, AllocError>
+        ensures { IfOk result (λ found. found ≡ self.now) }
+    {
+        Ok(Found {
+            path: String::from_str(alloc, self.path.as_str())?,
+            stamp: self.stamp,
+            bytes: Vec::from_slice(alloc, self.bytes.as_slice())?,
+            of: PhantomData,
+        })
+    }
+}

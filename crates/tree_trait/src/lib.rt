@@ -1,0 +1,20 @@
+//! The tree of files that a scan reads: the trait that stands for it, what it answers, and a form in
+//! memory that answers by a script. The real tree stands in the program.
+#![tactic(auto)]
+
+mod answer;
+mod found;
+mod heard;
+mod mem_tree;
+mod script;
+#[cfg(test)]
+mod tests;
+mod tree;
+mod two_world;
+
+pub use answer::LoadAnswer;
+pub use found::Found;
+pub use mem_tree::MemTree;
+pub use script::Script;
+pub use tree::Tree;
+pub use two_world::TwoWorld;

@@ -1,0 +1,42 @@
+//! The trait that stands for a tree of files.
+
+ghost use Rattle.std.specs.Prelude.{◌≡◌, ℕ, List, Bool, Option, IsTrue, IsSome};
+ghost use Rattle.row_types.specs.Faults.{HasCause};
+ghost use Rattle.row_types.specs.Name.{NameFacts};
+ghost use Rattle.tree_trait.specs.Heard.{Heard, after_load};
+ghost use Rattle.tree_trait.specs.Load.{load_facts, is_failed, is_no_memory, FitsLoad, TellsLoad};
+ghost use Rattle.tree_trait.specs.Present.{IsPresence, StaysStill};
+
+use crate::answer::LoadAnswer;
+use row_types::Truth;
+use std::alloc::Global;
+
+/// The files of a world as they stand outside: the real file system, or a script in memory. Each object
+/// counts its own faults.
+pub trait Tree<W: Truth>: Send + Drop {
+    /// Whether the tree tells what it has. It is a fact of the type.
+    ghost told: { Bool };
+
+    /// The names that are there now, where told. A call's answer is read against the names as it ends.
+    ghost present: { Self → List NameFacts };
+
+    /// The names never change, and none lies under another.
+    ghost still: { Self → Type 0 };
+
+    /// The questions that were asked, with their answers, in order. None: they aren't told.
+    ghost heard: { Self → Option (List Heard) };
+
+    /// How often a call has failed. It never falls, and stands still at 2^64 - 1.
+    ghost faults: { Self → ℕ };
+
+    /// Reads the regular file at a path, if it has no more bytes than the limit.
+    fn load(&mut self, alloc: Global, path: &str, limit: u64) -> LoadAnswer<W>
+        ensures asked { FitsLoad W.version path.now limit (load_facts result) }
+        ensures told { IsTrue told → TellsLoad (present self.new) path.now (load_facts result) }
+        ensures heard { heard self.new ≡ after_load (heard self.old) path.now limit (load_facts result) }
+        ensures tells { IsTrue told → IsSome (heard self.old) }
+        ensures cause { HasCause (faults self.old) (faults self.new) (IsTrue (is_failed (load_facts result))) }
+        ensures known { IsTrue told → IsPresence W.version (still self.new) (present self.new) }
+        ensures still { still self.old → StaysStill (still self.new) (present self.old) (present self.new) }
+        ensures memory { IsTrue (is_no_memory (load_facts result)) → self.new ≡ self.old };
+}
