@@ -74,6 +74,7 @@ pub fn certify(kind: Kind, id: &BuildId, bytes: Vec<u8>) -> Result<Certified, (C
     ensures ok { IfOk result (λ c. c ≡ record { kind = kind; id = id.now; bytes = bytes.items }) }
     ensures certified { IsOk result ↔ IsCertified kind id.now bytes.items }
     ensures refused { IfErr result (λ e. Refuses kind id.now bytes.items e.0) }
+    ensures only { (fault : CheckFault) → Refuses kind id.now bytes.items fault → IfErr result (λ e. e.0 ≡ fault) }
     ensures same { IfErr result (λ e. e.1 ≡ bytes) }
 {
     match fault_of(kind, id, &bytes) {
