@@ -1,5 +1,3 @@
-pub mod AnswerLemmas
-pub mod NoteLemmas
 pub mod SectionLemmas
 pub mod TextLemmas
 pub mod ZeroLemmas

@@ -1,16 +1,17 @@
 //! A file whose section table can be read.
 
-ghost use Rattle.std.specs.Prelude.{◌≡◌, ◌<◌, true, false, nat_eq, IfOk, IfErr};
+ghost use Rattle.std.specs.Prelude.{◌≡◌, ◌≢◌, ◌↔◌, ◌<◌, ◌≤◌, ℕ, true, false, Some, nat_eq, IsTrue, IsNone, IfSome, IfNone, IfOk, IfErr};
 ghost use Rattle.std.specs.Option.{option_copied, option_map_or};
 ghost use Rattle.std.specs.List.{starts_with};
 ghost use Rattle.file_formats.specs.Sections.{contents_of};
-ghost use Rattle.file_formats.specs.Table.{has_names, name_of, section_at, table_of};
+ghost use Rattle.file_formats.specs.Table.{IsFirstNamed, IsIndex, has_names, name_at, name_of, section_at, table_of};
 ghost use Rattle.elf_file.specs.Parsed.{IsInside};
+ghost use Rattle.elf_file.specs.Section.{IsSection};
 ghost use Rattle.elf_file.specs.Texts.{has_no_zero};
 
 use crate::head::head;
 use crate::names::Names;
-use crate::section::{contents, header_at};
+use crate::section::{Section, contents, header_at};
 use crate::table::{entry_place, names_in, table};
 use file_formats::{ElfFault, Order, SectionHeader, SectionTable};
 use std::marker::Model;
@@ -69,6 +70,39 @@ impl<'a> ElfFile<'a> {
         self.table.count
     }
 
+    /// The section of an index.
+    pub fn section(&self, index: u64) -> Option<Section<'a>>
+        ensures none { IsNone result ↔ (self.now.table.count ≤ index) }
+        ensures some { IfSome result (λ section. IsSection self.now.bytes self.now.table index section) }
+    {
+        if index >= self.count() {
+            return None;
+        }
+        let header = self.header(index);
+        Some(Section {
+            name: self.name(&header),
+            sh_type: header.sh_type,
+            flags: header.sh_flags,
+            offset: header.sh_offset,
+            size: header.sh_size,
+            align: header.sh_addralign,
+            contents: self.contents(&header),
+        })
+    }
+
+    /// The index of the first section of a name, from 1 on.
+    pub fn by_name(&self, name: &[u8]) -> Option<u64>
+        ensures found { IfSome result (λ index. IsFirstNamed self.now.bytes self.now.table name.now index) }
+        ensures none { IfNone result ((i : ℕ) → IsIndex self.now.table i → name_at self.now.bytes self.now.table i ≢ Some name.now) }
+    {
+        for index in 1..self.count() {
+            if self.has_name(&self.header(index), name) {
+                return Some(index);
+            }
+        }
+        None
+    }
+
     /// The section header of an index.
     pub fn header(&self, index: u64) -> SectionHeader
         requires { index < self.now.table.count }
@@ -92,6 +126,16 @@ impl<'a> ElfFile<'a> {
         match &self.names {
             Some(names) => names.text(header.sh_name),
             None => None,
+        }
+    }
+
+    /// Whether a section header gives this name.
+    pub fn has_name(&self, header: &SectionHeader, name: &[u8]) -> bool
+        ensures { IsTrue result ↔ (name_of self.now.bytes self.now.table header.now ≡ Some name.now) }
+    {
+        match &self.names {
+            Some(names) => names.is(header.sh_name, name),
+            None => false,
         }
     }
 

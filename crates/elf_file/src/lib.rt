@@ -1,17 +1,14 @@
-//! ELF files: the header, the section table, notes and the file's identity. ELF gABI, chapter 4 and
-//! "Note Section" of chapter 5. Segments, symbols and the contents of sections are left out.
+//! ELF files: the header and the section table, with sections by index and by name. ELF gABI, chapter 4.
+//! Segments, symbols and what a section means are left out.
 #![tactic(auto)]
 
 mod file;
 mod head;
-mod identity;
 mod names;
-mod notes;
 mod number;
 mod section;
 mod table;
-#[cfg(test)]
-mod tests;
 
 pub use file::ElfFile;
-pub use identity::{IdentFault, ident};
+pub use file_formats::ElfFault;
+pub use section::{Section, is_flagged, takes_no_bytes};

@@ -1,10 +1,10 @@
 //! The bytes that sections' names lie in.
 
-ghost use Rattle.std.specs.Prelude.{◌≡◌, ◌==◌, true, false, nat_eq, IsTrue};
+ghost use Rattle.std.specs.Prelude.{◌≡◌, ◌↔◌, ◌==◌, true, false, Some, nat_eq, IsTrue};
 ghost use Rattle.std.specs.Option.{option_copied, option_map_or};
 ghost use Rattle.std.specs.List.{position, starts_with};
 ghost use Rattle.file_formats.specs.Sections.{text_at};
-ghost use Rattle.elf_file.specs.Texts.{IsTextsEnd, has_no_zero};
+ghost use Rattle.elf_file.specs.Texts.{IsTextsEnd, has_no_zero, is_text_first, is_zero_at};
 
 use memchr::{memchr, memrchr};
 use std::marker::Model;
@@ -56,6 +56,27 @@ impl<'a> Names<'a> {
     {
         (at as usize) < self.end && self.bytes[at as usize..].starts_with(prefix)
     }
+
+    /// Whether the bytes from a place to the next 0 are this text.
+    pub fn is(&self, at: u32, text: &[u8]) -> bool
+        ensures { IsTrue result ↔ (text_at self.now at ≡ Some text.now) }
+    {
+        (at as usize) < self.end && begins_with_text(&self.bytes[at as usize..], text)
+    }
+}
+
+/// Whether the bytes begin with a text and the 0 that ends it.
+fn begins_with_text(bytes: &[u8], text: &[u8]) -> bool
+    ensures { result ≡ is_text_first bytes.now text.now }
+{
+    bytes.starts_with(text) && has_zero_at(bytes, text.len()) && !text.contains(&0)
+}
+
+/// Whether a 0 stands at a place.
+fn has_zero_at(bytes: &[u8], at: usize) -> bool
+    ensures { result ≡ is_zero_at bytes.now at }
+{
+    at < bytes.len() && bytes[at] == 0
 }
 
 /// The place of the first 0.

@@ -10,6 +10,25 @@ use file_formats::{
     SHDR32_SIZE, SHDR64_SIZE, SHT_NOBITS, SHT_NULL, SectionHeader,
 };
 
+/// A section of a file.
+#[derive(Clone, Copy, Debug)]
+pub struct Section<'a> {
+    /// The name without its 0, where the section has one.
+    pub name: Option<&'a [u8]>,
+    /// The section's type, as SHT_NOTE.
+    pub sh_type: u32,
+    /// The section's flags, as SHF_ALLOC.
+    pub flags: u64,
+    /// Where the section's bytes begin, in bytes from the file's start.
+    pub offset: u64,
+    /// How many bytes the section has.
+    pub size: u64,
+    /// The section's alignment, in bytes.
+    pub align: u64,
+    /// The section's bytes, where it has some and its extent lies in the file.
+    pub contents: Option<&'a [u8]>,
+}
+
 /// A section header's size in bytes.
 pub fn header_size(class: Class) -> u64
     ensures { result ≡ shdr_size class }

@@ -1,12 +1,12 @@
 -- A file has at most one identity, or one first reason why it has none.
-use Rattle.std.proofs.Common.{◌≡◌, sym, ◌∙◌, ap, subst, refl, ℕ, Bool, true, false, IsTrue, List, Result, Ok, Err, arith}
+use Rattle.std.proofs.Common.{◌≡◌, sym, ◌∙◌, ap, subst, refl, ℕ, Bool, true, false, IsTrue, List, Option, Some, Result, Ok, Err, arith}
 use Rattle.file_formats.specs.declared.fault.ElfFault.{ElfFault}
 use Rattle.file_formats.specs.declared.fault.ElfFault.TheVariants.{NotElf, BadHead, NoSections, BadTable, BadNames}
 use Rattle.file_formats.specs.declared.fault.Why.{Why}
 use Rattle.file_formats.specs.declared.fault.Why.TheVariants.{TooLarge}
 use Rattle.file_formats.specs.declared.header.SectionTable.{SectionTable}
 use Rattle.file_formats.specs.Notes.{Notes, notes_in, descriptor, IsFirstBuildId}
-use Rattle.file_formats.specs.Table.{table_of, section_at}
+use Rattle.file_formats.specs.Table.{table_of, section_at, HasSection, IsSectionOf, IsSectionAnswer, present, absent, no_table}
 use Rattle.file_formats.specs.Identity.{Identity, HasIdAt, IsBuildId, IsFlagged, IsIdentity, refused, core, no_id, found, why_of}
 
 -- a section has one first build-id
@@ -107,3 +107,32 @@ identity-not_too_large b r (refused f e) h = let same : why_of f ≡ TooLarge = 
 identity-not_too_large b r (core t e p) h = cc
 identity-not_too_large b r (no_id t e p n) h = cc
 identity-not_too_large b r (found t i e p x f) h = cc
+
+-- a name has one section
+section_of-unique : (b : List ℕ) (t u : SectionTable) (name x y : List ℕ) → t ≡ u → IsSectionOf b t name x → IsSectionOf b u name y → x ≡ y
+section_of-unique b t u name x y same p q =
+    let P : SectionTable → Type 0 = λ v. IsSectionOf b v name x in
+    let r : IsSectionOf b u name x = subst P same p in
+    let index : r.index ≡ q.index = omega (arith, r.first q.index y q.here, q.first r.index x r.here) in
+    let Q : ℕ → Type 0 = λ i. HasSection b u name i x in
+    let here : HasSection b u name q.index x = subst Q index r.here in
+    cc (here.holds, q.here.holds)
+
+-- a file with a section of a name isn't one without
+no_section : (b : List ℕ) (t u : SectionTable) (name x : List ℕ) → t ≡ u → IsSectionOf b t name x
+    → ((i : ℕ) (bytes : List ℕ) → HasSection b u name i bytes → ⊥) → ⊥
+no_section b t u name x same has none =
+    let P : SectionTable → Type 0 = λ v. HasSection b v name has.index x in none has.index x (subst P same has.here)
+
+-- what is answered for the section of a name is one
+pub section-unique : (b name : List ℕ) (r s : Option (List ℕ)) → IsSectionAnswer b name r → IsSectionAnswer b name s → r ≡ s
+section-unique b name r s (present t x e p) (present u y f q) =
+    ap (λ bytes. Some bytes) (section_of-unique b t u name x y (same_table b t u e f) p q)
+section-unique b name r s (present t x e p) (absent u f q) = absurd (no_section b t u name x (same_table b t u e f) p q)
+section-unique b name r s (present t x e p) (no_table g f) = absurd (not_both b t g f e)
+section-unique b name r s (absent t e p) (present u y f q) = absurd (no_section b u t name y (same_table b u t f e) q p)
+section-unique b name r s (absent t e p) (absent u f q) = refl
+section-unique b name r s (absent t e p) (no_table g f) = refl
+section-unique b name r s (no_table f e) (present u y h q) = absurd (not_both b u f e h)
+section-unique b name r s (no_table f e) (absent u h q) = refl
+section-unique b name r s (no_table f e) (no_table g h) = refl

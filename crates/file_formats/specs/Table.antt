@@ -1,6 +1,6 @@
 -- The section table (ELF gABI, chapter 4, "Sections", with the extended counts of section 0): a file's
 -- remaining tests, in their order, and its sections by index.
-use Rattle.std.specs.Prelude.{◌≡◌, ℕ, ◌+◌, ◌*◌, ◌<◌, ◌≤◌, List, Option, Some, None, Result, Ok, Bool, false, not, ◌&&◌, ◌||◌, is_some, nat_lt, nat_le, ◌==◌, if◌then◌else◌, length}
+use Rattle.std.specs.Prelude.{◌≡◌, ℕ, ◌+◌, ◌*◌, ◌<◌, ◌≤◌, List, Option, Some, None, Result, Ok, Err, Bool, false, not, ◌&&◌, ◌||◌, is_some, nat_lt, nat_le, ◌==◌, if◌then◌else◌, length}
 use Rattle.std.specs.Option.{option_and_then}
 use Rattle.file_formats.specs.declared.fault.ElfFault.{ElfFault}
 use Rattle.file_formats.specs.declared.fault.ElfFault.TheVariants.{NoSections, BadTable, BadNames}
@@ -83,6 +83,12 @@ pub record IsIndex (t : SectionTable) (i : ℕ) : Type 0 where
   pub below : i < t.count
   pub above : 1 ≤ i
 
+-- i is the index of the first section of this name
+pub record IsFirstNamed (b : List ℕ) (t : SectionTable) (name : List ℕ) (i : ℕ) : Type 0 where
+  pub index : IsIndex t i
+  pub named : name_at b t i ≡ Some name
+  pub first : (j : ℕ) → IsIndex t j → name_at b t j ≡ Some name → i ≤ j
+
 -- the section of index i has contents, under this name, that aren't compressed
 pub record HasSection (b : List ℕ) (t : SectionTable) (name : List ℕ) (i : ℕ) (bytes : List ℕ) : Type 0 where
   pub index : IsIndex t i
@@ -95,3 +101,10 @@ pub record IsSectionOf (b : List ℕ) (t : SectionTable) (name : List ℕ) (byte
   pub index : ℕ
   pub here : HasSection b t name index bytes
   pub first : (i : ℕ) (other : List ℕ) → HasSection b t name i other → index ≤ i
+
+-- what is answered for the section of a name: its bytes, or none where there is none or no section table
+pub data IsSectionAnswer (b : List ℕ) (name : List ℕ) : Option (List ℕ) → Type 0 where
+  present : (t : SectionTable) → (bytes : List ℕ) → table_of b ≡ Ok t → IsSectionOf b t name bytes → IsSectionAnswer b name (Some bytes)
+  absent : (t : SectionTable) → table_of b ≡ Ok t
+      → ((i : ℕ) (bytes : List ℕ) → HasSection b t name i bytes → ⊥) → IsSectionAnswer b name None
+  no_table : (fault : ElfFault) → table_of b ≡ Err fault → IsSectionAnswer b name None

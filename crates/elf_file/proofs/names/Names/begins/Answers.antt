@@ -1,4 +1,4 @@
-use Rattle.std.proofs.Common.{◌∙◌}
+use Rattle.std.proofs.Common.{◌∙◌, refl}
 use Rattle.std.proofs.lemmas.Bool.{le-ltb}
 use Rattle.std.proofs.lemmas.List.{take_rest}
 use Rattle.elf_file.proofs.TextLemmas.{text-begins, no_text}
@@ -13,5 +13,5 @@ returns-then-at-self c =
 pub returns-else-at-self : goal.returns-else-at-self
 returns-else-at-self c =
     rw (← c.self.view_is)
-    (le-ltb c.args.at c.self.inside.end c.if-at-self.false
-    ∙ no_text c.self.inside.bytes.now c.self.inside.end c.args.at c.args.prefix.now c.self.invariant c.if-at-self.false)
+    (rw (no_text c.self.inside.bytes.now c.self.inside.end c.args.at c.self.invariant c.if-at-self.false)
+    (le-ltb c.args.at c.self.inside.end c.if-at-self.false))

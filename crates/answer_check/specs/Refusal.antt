@@ -1,0 +1,26 @@
+-- Why bytes are not certified, in the order of the tests (this project's rule).
+use Rattle.std.specs.Prelude.{◌≡◌, ◌≢◌, ℕ, List, false, Ok, Err}
+use Rattle.file_formats.specs.Identity.{Identity, IsIdentity}
+use Rattle.row_types.specs.declared.identity.Kind.{Kind}
+use Rattle.answer_check.specs.declared.certified.CheckFault.{CheckFault}
+use Rattle.answer_check.specs.declared.certified.CheckFault.TheVariants.{Plain, OtherId, OtherClass}
+use Rattle.answer_check.specs.Certified.{has_class}
+
+-- the file has an identity, of this other id
+pub record HasOtherId (id : List ℕ) (b : List ℕ) (seen : List ℕ) : Type 0 where
+  pub ident : Identity
+  pub identity : IsIdentity b (Ok ident)
+  pub seen_id : ident.id ≡ seen
+  pub other : seen ≢ id
+
+-- the file has this identity, of the id and not of the class
+pub record HasOtherClass (kind : Kind) (id : List ℕ) (b : List ℕ) (i : Identity) : Type 0 where
+  pub identity : IsIdentity b (Ok i)
+  pub same_id : i.id ≡ id
+  pub other : has_class kind i ≡ false
+
+-- the bytes are refused for this reason, the first that holds
+abbrev pub Refuses : Kind → List ℕ → List ℕ → CheckFault → Type 0
+Refuses kind id b (Plain why) = IsIdentity b (Err why)
+Refuses kind id b (OtherId seen) = HasOtherId id b seen
+Refuses kind id b (OtherClass i) = HasOtherClass kind id b i

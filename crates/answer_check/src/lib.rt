@@ -1,0 +1,9 @@
+//! Bytes that are known to be a file of a build-id and a class. Where they come from, and whether there are
+//! more of them, is left to the caller.
+#![tactic(auto)]
+
+mod certified;
+#[cfg(test)]
+mod tests;
+
+pub use certified::{Certified, CheckFault, certify};

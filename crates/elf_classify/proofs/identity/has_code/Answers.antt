@@ -1,0 +1,9 @@
+use Rattle.std.proofs.Common.{sym, ◌∙◌, ap}
+use Rattle.file_formats.specs.Identity.{is_code}
+use Rattle.elf_file.proofs.SectionLemmas.{none_more, differ}
+use Rattle.elf_classify.proofs.identity.has_code.Goals as goal
+
+pub loop-index-preserved : goal.loop-index-preserved
+loop-index-preserved c =
+    none_more _ _ c.loop-index.index c.loop-index.invariant
+    (λ index code. differ (sym c.if-holds_code.false ∙ c.holds_code.ensures ∙ ap is_code c.header.ensures) code)

@@ -1,0 +1,9 @@
+use Rattle.std.proofs.Common.{◌≡◌, true}
+use Rattle.file_formats.specs.Identity.{is_debug}
+use Rattle.file_formats.specs.Table.{section_at, name_at}
+use Rattle.elf_file.proofs.SectionLemmas.{NoneBelow}
+use Rattle.elf_classify.proofs.identity.has_debug.Given as goal
+
+abbrev pub invariant-loop-index : goal.invariant-loop-index
+invariant-loop-index l =
+    NoneBelow l.file.table (λ i. is_debug (section_at l.file.bytes l.file.table i) (name_at l.file.bytes l.file.table i) ≡ true) l.index

@@ -1,0 +1,8 @@
+use Rattle.std.proofs.Common.{ℕ, List}
+use Rattle.file_formats.specs.Table.{HasSection}
+use Rattle.elf_file.proofs.SectionLemmas.{NoneBelow}
+use Rattle.elf_classify.proofs.named.first_named.Given as goal
+
+abbrev pub invariant-loop-index : goal.invariant-loop-index
+invariant-loop-index l =
+    NoneBelow l.file.table (λ i. (bytes : List ℕ) × HasSection l.file.bytes l.file.table l.name i bytes) l.index

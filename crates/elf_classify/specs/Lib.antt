@@ -1,0 +1,2 @@
+pub use Rattle.file_formats.specs.Identity
+pub use Rattle.file_formats.specs.Table

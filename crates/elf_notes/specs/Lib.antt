@@ -1,0 +1,2 @@
+pub use Rattle.file_formats.specs.Notes
+pub mod NoteView
