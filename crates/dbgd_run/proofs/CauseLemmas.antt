@@ -1,17 +1,18 @@
 -- When a status comes, by what a run does.
-use Rattle.std.proofs.Common.{◌≡◌, sym, ◌∙◌, refl, inl, inr, ◌⊎◌, ℕ, ◌<◌, List, [], length, ap, Bool, IsTrue, Result, Ok, Err, arith}
+use Rattle.std.proofs.Common.{◌≡◌, sym, ◌∙◌, refl, inl, inr, ◌⊎◌, ℕ, ◌<◌, List, [], length, ap, Bool, IsTrue, Option, Some, None, Result, Ok, Err, arith}
 use Rattle.row_types.specs.Faults.{Rose}
 use Rattle.row_types.specs.Stamp.{StampFacts}
 use Rattle.file_formats.specs.Identity.{Identity}
-use Rattle.elf_file.specs.declared.identity.IdentFault.{IdentFault}
-use Rattle.elf_file.specs.declared.identity.IdentFault.TheVariants.{Plain, NotBuilt}
+use Rattle.file_formats.specs.declared.fault.Why.{Why}
 use Rattle.tree_trait.specs.Load.{LoadFacts, loaded, too_large, gone, failed, no_memory, is_failed}
 use Rattle.dbgd_run.specs.Causes.{HasCauses}
 use Rattle.dbgd_run.specs.Endings.{Saying, Streams, Ends, EndsOrWants}
-use Rattle.dbgd_run.specs.Ident.{Hand, RunsIdent, SaysIdent, file_saying}
+use Rattle.dbgd_run.specs.Ident.{SaysIdent, file_saying}
+use Rattle.dbgd_run.specs.Load.{Hand}
+use Rattle.dbgd_run.specs.Section.{SaysSection, section_saying}
 use Rattle.dbgd_run.specs.Runs.{Runs}
 use Rattle.dbgd_run.specs.Statuses.{code_of}
-use Rattle.dbgd_run.specs.Words.{Line, asks_ident, unbuilt, unreadable}
+use Rattle.dbgd_run.specs.Words.{Line, asks_ident, asks_section, unbuilt, unreadable}
 
 -- a status is that of a fault only for the reason R, and never that of the usage
 record IsCaused (R : Type 0) (code : ℕ) : Type 0 where
@@ -43,10 +44,15 @@ caused-other : (R : Type 0) (code : ℕ) → (code ≡ 1 → ⊥) → (code ≡ 
 caused-other R code one two = record { fault = λ e. absurd (one e); usage = two }
 
 -- what is said of a file that was read is neither a fault nor the usage
-caused-file : (R : Type 0) (r : Result Identity IdentFault) → IsCaused R (code_of (file_saying r).status)
+caused-file : (R : Type 0) (r : Result Identity Why) → IsCaused R (code_of (file_saying r).status)
 caused-file R (Ok i) = caused-other R 0 (λ e. omega arith) (λ e. omega arith)
-caused-file R (Err (Plain why)) = caused-other R 3 (λ e. omega arith) (λ e. omega arith)
-caused-file R (Err NotBuilt) = caused-other R 8 (λ e. omega arith) (λ e. omega arith)
+caused-file R (Err why) = caused-other R 3 (λ e. omega arith) (λ e. omega arith)
+
+-- nor is what is said of a section
+caused-section : (R : Type 0) (r : Result Identity Why) (s : Option (List ℕ)) → IsCaused R (code_of (section_saying r s).status)
+caused-section R (Ok i) (Some bytes) = caused-other R 0 (λ e. omega arith) (λ e. omega arith)
+caused-section R (Ok i) None = caused-other R 3 (λ e. omega arith) (λ e. omega arith)
+caused-section R (Err why) s = caused-other R 3 (λ e. omega arith) (λ e. omega arith)
 
 -- what is said of a load's answer
 caused-ident : (R : Type 0) (path : List ℕ) (answer : LoadFacts) (old new : Streams) (code : ℕ) → (IsTrue (is_failed answer) → R)
@@ -61,6 +67,20 @@ caused-ident R path failed old new code hand out said =
 caused-ident R path no_memory old new code hand out said =
     caused-ends R _ old new code (caused-other R 6 (λ e. omega arith) (λ e. omega arith)) out said
 
+-- what is said of a section, by a load's answer
+caused-named : (R : Type 0) (path name : List ℕ) (answer : LoadFacts) (old new : Streams) (code : ℕ) → (IsTrue (is_failed answer) → R)
+    → (Rose old.out_faults new.out_faults → R) → SaysSection path name answer old new code → IsCaused R code
+caused-named R path name (loaded found) old new code hand out said =
+    caused-ends R _ old new code (caused-section R said.0 said.1) out said.4
+caused-named R path name (too_large stamp) old new code hand out said =
+    caused-ends R _ old new code (caused-other R 3 (λ e. omega arith) (λ e. omega arith)) out said
+caused-named R path name gone old new code hand out said =
+    caused-ends R _ old new code (caused-other R 3 (λ e. omega arith) (λ e. omega arith)) out said
+caused-named R path name failed old new code hand out said =
+    caused-ends R _ old new code (record { fault = λ e. hand refl; usage = λ e. omega arith }) out said
+caused-named R path name no_memory old new code hand out said =
+    caused-ends R _ old new code (caused-other R 6 (λ e. omega arith) (λ e. omega arith)) out said
+
 -- where nothing is to be said on the standard output, the status is the saying's
 silent-code : (saying : Saying) (old new : Streams) (code : ℕ) → saying.out ≡ [] → Ends saying old new code → code ≡ code_of saying.status
 silent-code saying old new code silent (inl whole) = whole.ends
@@ -71,6 +91,14 @@ pub causes-run : (version : List ℕ → StampFacts → List ℕ → Type 0) (to
 causes-run version told (asks_ident path) before after old new code run =
     let caused : IsCaused (Rose before.faults after.faults ⊎ Rose old.out_faults new.out_faults) code
         = caused-ident _ path run.answer old new code (λ f. inl (run.cause.rose f)) (λ r. inr r) run.said in
+    record {
+      fault = caused.fault;
+      usage = (λ e. absurd (caused.usage e), λ e. absurd (cc));
+      not_built = λ e. absurd (cc);
+    }
+causes-run version told (asks_section path name) before after old new code run =
+    let caused : IsCaused (Rose before.faults after.faults ⊎ Rose old.out_faults new.out_faults) code
+        = caused-named _ path name run.answer old new code (λ f. inl (run.cause.rose f)) (λ r. inr r) run.said in
     record {
       fault = caused.fault;
       usage = (λ e. absurd (caused.usage e), λ e. absurd (cc));

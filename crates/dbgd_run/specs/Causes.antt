@@ -2,7 +2,7 @@
 use Rattle.std.specs.Prelude.{◌≡◌, ◌⊎◌, ◌↔◌, ℕ}
 use Rattle.row_types.specs.Faults.{Rose}
 use Rattle.dbgd_run.specs.Endings.{Streams}
-use Rattle.dbgd_run.specs.Ident.{Hand}
+use Rattle.dbgd_run.specs.Load.{Hand}
 use Rattle.dbgd_run.specs.Statuses.{code_of}
 use Rattle.dbgd_run.specs.Words.{Line, unreadable, unbuilt}
 use Rattle.dbgd_run.specs.declared.status.Status.TheVariants as status

@@ -2,8 +2,10 @@ pub mod Causes
 pub mod Endings
 pub mod Ident
 pub mod Lines
+pub mod Load
 pub mod MemSink
 pub mod Runs
+pub mod Section
 pub mod Sink
 pub mod Speech
 pub mod Statuses

@@ -33,6 +33,14 @@ why_word TooLarge = codes "too-large"
 abbrev pub plain_line : Why → List ℕ
 plain_line why = line (codes "plain " ++ why_word why)
 
+-- the same on the standard error, where the standard output is for a section's bytes
+abbrev pub plain_fault_line : Why → List ℕ
+plain_fault_line why = line (codes "dbgd: plain " ++ why_word why)
+
+-- no section has the name
+abbrev pub no_section_line : List ℕ
+no_section_line = line (codes "dbgd: no section")
+
 -- how the words of each command read
 abbrev pub usage_line : List ℕ
 usage_line = line (codes "usage: dbgd ident FILE, sources FILE, section FILE NAME, query -d DB ID, scan -d DB DIR, serve -d DB DIR, trial SEED FILES WORKERS")

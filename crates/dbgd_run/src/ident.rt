@@ -1,56 +1,31 @@
 //! The command `ident`.
 
-ghost use Rattle.std.specs.Prelude.{Result};
-ghost use Rattle.file_formats.specs.Identity.{Identity};
-ghost use Rattle.elf_file.specs.Answer.{IsAnswer};
-ghost use Rattle.elf_file.specs.declared.identity.IdentFault.{IdentFault};
+ghost use Rattle.std.specs.Prelude.{Ok, Result};
+ghost use Rattle.file_formats.specs.Identity.{Identity, IsIdentity};
+ghost use Rattle.file_formats.specs.declared.fault.Why.{Why};
 ghost use Rattle.tree_trait.specs.Load.{load_facts};
 ghost use Rattle.dbgd_run.specs.Endings.{Ends, EndsOrWants, streams};
-ghost use Rattle.dbgd_run.specs.Ident.{RunsIdent, SaysIdent, file_saying, hand as shown, plain_saying};
+ghost use Rattle.dbgd_run.specs.Ident.{SaysIdent, file_saying, plain_saying};
+ghost use Rattle.dbgd_run.specs.Load.{RunsOn, hand as shown};
 ghost use Rattle.dbgd_run.specs.Statuses.{code_of};
 
+use crate::sayings::{FILE_FAULT, NO_MEMORY, say_gone};
 use crate::sink::Sink;
-use crate::speech::{Message, Said, speak};
+use crate::speech::{Said, speak};
 use crate::status::Status;
 use crate::texts::{identity_line, plain_line};
-use elf_file::{IdentFault, ident};
+use elf_classify::ident;
 use row_types::{FILE_LIMIT, Ident, Truth, Why};
 use std::alloc::Global;
 use tree_trait::{LoadAnswer, Tree};
 
-/// What is said of a command, or a form of file, that isn't built yet.
-pub const NOT_BUILT: Said<'static> = Said {
-    out: b"",
-    err: Some(Message {
-        text: "dbgd: not built yet",
-        object: "",
-    }),
-    status: Status::NotBuilt,
-};
-
-/// What is said where memory is refused.
-const NO_MEMORY: Said<'static> = Said {
-    out: b"",
-    err: Some(Message {
-        text: "dbgd: out of memory",
-        object: "",
-    }),
-    status: Status::OutOfMemory,
-};
-
-/// What is said where the read failed.
-const FILE_FAULT: Said<'static> = Said {
-    out: b"",
-    err: Some(Message {
-        text: "dbgd: fault file",
-        object: "",
-    }),
-    status: Status::Fault,
-};
-
 /// Says why a file has no identity.
 fn say_plain<O: Sink>(why: Why, out: &mut O, err: &mut O) -> Status
-    ensures { Ends (plain_saying why) (streams O.written O.write_faults out.old err.old) (streams O.written O.write_faults out.new err.new) (code_of result) }
+    ensures {
+        Ends (plain_saying why)
+            (streams O.written O.write_faults out.old err.old)
+            (streams O.written O.write_faults out.new err.new) (code_of result)
+    }
 {
     let said = Said {
         out: plain_line(why).as_bytes(),
@@ -62,7 +37,11 @@ fn say_plain<O: Sink>(why: Why, out: &mut O, err: &mut O) -> Status
 
 /// Says what the identity of a file is.
 fn say_identity<O: Sink>(alloc: Global, ident: &Ident, out: &mut O, err: &mut O) -> Status
-    ensures { EndsOrWants (file_saying (Ok ident.now)) (streams O.written O.write_faults out.old err.old) (streams O.written O.write_faults out.new err.new) (code_of result) }
+    ensures {
+        EndsOrWants (file_saying (Ok ident.now))
+            (streams O.written O.write_faults out.old err.old)
+            (streams O.written O.write_faults out.new err.new) (code_of result)
+    }
 {
     match identity_line(alloc, ident) {
         Ok(line) => {
@@ -79,12 +58,16 @@ fn say_identity<O: Sink>(alloc: Global, ident: &Ident, out: &mut O, err: &mut O)
 
 /// Says what a file is, by its bytes.
 fn say_file<O: Sink>(alloc: Global, bytes: &[u8], out: &mut O, err: &mut O) -> Status
-    ensures { (identity : Result Identity IdentFault) × IsAnswer bytes.now identity × EndsOrWants (file_saying identity) (streams O.written O.write_faults out.old err.old) (streams O.written O.write_faults out.new err.new) (code_of result) }
+    ensures {
+        (identity : Result Identity Why) × IsIdentity bytes.now identity
+        × EndsOrWants (file_saying identity)
+            (streams O.written O.write_faults out.old err.old)
+            (streams O.written O.write_faults out.new err.new) (code_of result)
+    }
 {
     match ident(bytes) {
         Ok(ident) => say_identity(alloc, &ident, out, err),
-        Err(IdentFault::Plain(why)) => say_plain(why, out, err),
-        Err(IdentFault::NotBuilt) => speak(out, err, &NOT_BUILT),
+        Err(why) => say_plain(why, out, err),
     }
 }
 
@@ -96,22 +79,16 @@ fn say<W: Truth, O: Sink>(
     out: &mut O,
     err: &mut O,
 ) -> Status
-    ensures { SaysIdent path.now (load_facts answer.now) (streams O.written O.write_faults out.old err.old) (streams O.written O.write_faults out.new err.new) (code_of result) }
+    ensures {
+        SaysIdent path.now (load_facts answer.now)
+            (streams O.written O.write_faults out.old err.old)
+            (streams O.written O.write_faults out.new err.new) (code_of result)
+    }
 {
     match answer {
         LoadAnswer::Found(found) => say_file(alloc, found.bytes.as_slice(), out, err),
         LoadAnswer::TooLarge { .. } => say_plain(Why::TooLarge, out, err),
-        LoadAnswer::Gone => {
-            let said = Said {
-                out: b"",
-                err: Some(Message {
-                    text: "dbgd: gone ",
-                    object: path,
-                }),
-                status: Status::Absent,
-            };
-            speak(out, err, &said)
-        }
+        LoadAnswer::Gone => say_gone(path, out, err),
         LoadAnswer::Failed => speak(out, err, &FILE_FAULT),
         LoadAnswer::OutOfMemory => speak(out, err, &NO_MEMORY),
     }
@@ -125,7 +102,12 @@ pub fn run_ident<W: Truth, T: Tree<W>, O: Sink>(
     out: &mut O,
     err: &mut O,
 ) -> Status
-    ensures { RunsIdent W.version T.told path.now (shown T.present T.heard T.faults hand.old) (shown T.present T.heard T.faults hand.new) (streams O.written O.write_faults out.old err.old) (streams O.written O.write_faults out.new err.new) (code_of result) }
+    ensures {
+        RunsOn (SaysIdent path.now) W.version T.told path.now
+            (shown T.present T.heard T.faults hand.old) (shown T.present T.heard T.faults hand.new)
+            (streams O.written O.write_faults out.old err.old)
+            (streams O.written O.write_faults out.new err.new) (code_of result)
+    }
 {
     let answer = hand.load(alloc, path, FILE_LIMIT);
     say(alloc, path, &answer, out, err)

@@ -5,6 +5,8 @@
 mod ident;
 mod mem_sink;
 mod outside;
+mod sayings;
+mod section;
 mod sink;
 mod speech;
 mod status;

@@ -5,13 +5,15 @@ ghost use Rattle.std.specs.String.{string_bytes};
 ghost use Rattle.row_types.specs.Faults.{Rose};
 ghost use Rattle.dbgd_run.specs.Causes.{HasCauses};
 ghost use Rattle.dbgd_run.specs.Endings.{streams};
-ghost use Rattle.dbgd_run.specs.Ident.{hand};
+ghost use Rattle.dbgd_run.specs.Load.{hand};
 ghost use Rattle.dbgd_run.specs.Lines.{asked_by};
 ghost use Rattle.dbgd_run.specs.Runs.{Runs};
 ghost use Rattle.dbgd_run.specs.Statuses.{code_of};
 ghost use Rattle.dbgd_run.specs.Words.{line_of, unreadable};
 
-use crate::ident::{NOT_BUILT, run_ident};
+use crate::ident::run_ident;
+use crate::sayings::NOT_BUILT;
+use crate::section::run_section;
 use crate::sink::Sink;
 use crate::speech::{Message, Said, speak};
 use crate::status::Status;
@@ -63,6 +65,9 @@ fn run_line<W: Truth, T: Tree<W>, O: Sink>(
     let err = &mut outside.err;
     match line {
         Line::Ident { path } => run_ident(alloc, path, &mut outside.hands[0], out, err),
+        Line::Section { path, name } => {
+            run_section(alloc, path, name, &mut outside.hands[0], out, err)
+        }
         Line::NotBuilt => speak(out, err, &NOT_BUILT),
         Line::Usage => speak(out, err, &USAGE),
     }

@@ -2,7 +2,7 @@
 
 ghost use Rattle.std.specs.Prelude.{◌≡◌, ◌++◌, IfOk};
 ghost use Rattle.std.specs.String.{string_bytes};
-ghost use Rattle.dbgd_run.specs.Texts.{class_word, identity_line, plain_line};
+ghost use Rattle.dbgd_run.specs.Texts.{class_word, identity_line, plain_line, why_word};
 
 use row_types::{Ident, Why};
 use std::alloc::{AllocError, Global};
@@ -28,6 +28,20 @@ pub fn identity_line(alloc: Global, ident: &Ident) -> Result<String, AllocError>
     text.push_str(class_word(ident))?;
     text.push_str("\n")?;
     Ok(text)
+}
+
+/// The word for the reason why a file has no identity.
+pub fn why_word(why: Why) -> &'static str
+    ensures { result.now ≡ why_word why }
+{
+    match why {
+        Why::NotElf => "not-elf",
+        Why::BadElf => "bad-elf",
+        Why::NoSections => "no-sections",
+        Why::Core => "core",
+        Why::NoBuildId => "no-build-id",
+        Why::TooLarge => "too-large",
+    }
 }
 
 /// The line of a file without an identity.

@@ -3,13 +3,15 @@
 ghost use Rattle.std.specs.Prelude.{◌≡◌, map};
 ghost use Rattle.std.specs.String.{string_bytes};
 ghost use Rattle.dbgd_run.specs.Lines.{asked_by};
-ghost use Rattle.dbgd_run.specs.Words.{ident_line, line_of};
+ghost use Rattle.dbgd_run.specs.Words.{ident_line, line_of, section_line};
 
 /// What a command line asks.
 #[derive(Clone, Copy, Debug, PartialEq, Eq)]
 pub enum Line<'a> {
     /// The identity of the file at a path.
     Ident { path: &'a str },
+    /// The bytes of the section of a name, of the file at a path.
+    Section { path: &'a str, name: &'a str },
     /// A command that isn't built yet.
     NotBuilt,
     /// No command, or one with other words than it takes.
@@ -25,7 +27,8 @@ pub fn read_line(words: &[String]) -> Line<'_>
     };
     match command.as_str() {
         "ident" => ident(rest),
-        "sources" | "section" | "query" | "scan" | "serve" | "trial" => Line::NotBuilt,
+        "section" => section(rest),
+        "sources" | "query" | "scan" | "serve" | "trial" => Line::NotBuilt,
         _ => Line::Usage,
     }
 }
@@ -37,6 +40,19 @@ fn ident(words: &[String]) -> Line<'_>
     match words {
         [path] => Line::Ident {
             path: path.as_str(),
+        },
+        _ => Line::Usage,
+    }
+}
+
+/// Reads the words of `section`.
+fn section(words: &[String]) -> Line<'_>
+    ensures { asked_by result ≡ section_line (map string_bytes words.now) }
+{
+    match words {
+        [path, name] => Line::Section {
+            path: path.as_str(),
+            name: name.as_str(),
         },
         _ => Line::Usage,
     }
