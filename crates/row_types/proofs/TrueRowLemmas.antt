@@ -2,7 +2,9 @@
 use Rattle.std.proofs.Common.{◌≡◌, ℕ, ◌<◌, Bool, true, false, List, [], Result, Ok, Err, MatchBool, refl, sym, ◌∙◌, subst}
 use Rattle.std.specs.Prelude.{nat_lt}
 use Rattle.std.proofs.lemmas.Bool.{lt-ltb}
-use Rattle.file_formats.specs.Identity.{Identity, IsIdentity}
+use Rattle.file_formats.specs.Table.{table_of}
+use Rattle.file_formats.specs.Identity.{Identity, IsIdentity, refused, core, no_id, found, why_of}
+use Rattle.file_formats.specs.declared.fault.ElfFault.{ElfFault}
 use Rattle.file_formats.specs.declared.fault.Why.{Why}
 use Rattle.file_formats.specs.declared.fault.Why.TheVariants.{TooLarge}
 use Rattle.row_types.specs.Name.{NameFacts}
@@ -26,36 +28,43 @@ name_read version name bytes reading known reads =
     elim (nat_lt FILE_LIMIT name.stamp.size) as (λ b. MatchBool b (reading ≡ Plain TooLarge) (ReadsBytes bytes reading) → MatchBool b (reading ≡ Plain TooLarge) (IsVersionRead version name reading))
     [ true ↦ λ h. h | false ↦ λ h. record { bytes = bytes; known = known; reads = h } ] reads
 
--- files have at most one identity
-abbrev pub IdentityIsOne : Type 0
-IdentityIsOne = (b : List ℕ) (r s : Result Identity Why) → IsIdentity b r → IsIdentity b s → r ≡ s
+-- bytes have at most one identity, or one first reason why they have none
+abbrev pub IdentityIsOne : List ℕ → Type 0
+IdentityIsOne bytes = (r s : Result Identity Why) → IsIdentity bytes r → IsIdentity bytes s → r ≡ s
+
+-- bytes that have no section table have one reason why they have no identity
+pub refused_is_one : (bytes : List ℕ) (fault : ElfFault) → table_of bytes ≡ Err fault → (r : Result Identity Why) → IsIdentity bytes r → r ≡ Err (why_of fault)
+refused_is_one bytes fault e r (refused other h) = cc
+refused_is_one bytes fault e r (core t h p) = cc
+refused_is_one bytes fault e r (no_id t h p n) = cc
+refused_is_one bytes fault e r (found t i h p x f) = cc
 
 -- bytes are found to be one thing
-bytes_read : IdentityIsOne → (bytes : List ℕ) (a b : Reading) → ReadsBytes bytes a → ReadsBytes bytes b → a ≡ b
-bytes_read one bytes (Plain why) (Plain other) p q =
-    let same = one bytes (Err why) (Err other) p q in cc
-bytes_read one bytes (Plain why) (Elf ident sources) p q =
-    let same = one bytes (Err why) (Ok ident) p q.0 in cc
-bytes_read one bytes (Elf ident sources) (Plain why) p q =
-    let same = one bytes (Ok ident) (Err why) p.0 q in cc
-bytes_read one bytes (Elf ident sources) (Elf other others) p q =
-    let same = one bytes (Ok ident) (Ok other) p.0 q.0 in
+bytes_read : (bytes : List ℕ) → IdentityIsOne bytes → (a b : Reading) → ReadsBytes bytes a → ReadsBytes bytes b → a ≡ b
+bytes_read bytes one (Plain why) (Plain other) p q =
+    let same = one (Err why) (Err other) p q in cc
+bytes_read bytes one (Plain why) (Elf ident sources) p q =
+    let same = one (Err why) (Ok ident) p q.0 in cc
+bytes_read bytes one (Elf ident sources) (Plain why) p q =
+    let same = one (Ok ident) (Err why) p.0 q in cc
+bytes_read bytes one (Elf ident sources) (Elf other others) p q =
+    let same = one (Ok ident) (Ok other) p.0 q.0 in
     let first : sources ≡ [] = p.1 in
     let second : others ≡ [] = q.1 in
     cc
 
 -- a name's file is found to be one thing, where it has at most one content
-readings_same : IdentityIsOne → (version : List ℕ → StampFacts → List ℕ → Type 0) (name : NameFacts) (one : (a b : List ℕ) → version name.path name.stamp a → version name.path name.stamp b → a ≡ b) (a b : Reading) (large : Bool) → MatchBool large (a ≡ Plain TooLarge) (IsVersionRead version name a) → MatchBool large (b ≡ Plain TooLarge) (IsVersionRead version name b) → a ≡ b
-readings_same unique version name one a b true p q = p ∙ sym q
-readings_same unique version name one a b false p q =
-    bytes_read unique p.bytes a b p.reads (subst (λ bytes. ReadsBytes bytes b) (one q.bytes p.bytes q.known p.known) q.reads)
+readings_same : (version : List ℕ → StampFacts → List ℕ → Type 0) (name : NameFacts) (unique : (bytes : List ℕ) → version name.path name.stamp bytes → IdentityIsOne bytes) (one : (a b : List ℕ) → version name.path name.stamp a → version name.path name.stamp b → a ≡ b) (a b : Reading) (large : Bool) → MatchBool large (a ≡ Plain TooLarge) (IsVersionRead version name a) → MatchBool large (b ≡ Plain TooLarge) (IsVersionRead version name b) → a ≡ b
+readings_same version name unique one a b true p q = p ∙ sym q
+readings_same version name unique one a b false p q =
+    bytes_read p.bytes (unique p.bytes p.known) a b p.reads (subst (λ bytes. ReadsBytes bytes b) (one q.bytes p.bytes q.known p.known) q.reads)
 
 -- a name has at most one true row
-pub true_rows_same : IdentityIsOne → (version : List ℕ → StampFacts → List ℕ → Type 0) → ((path : List ℕ) (stamp : StampFacts) (a b : List ℕ) → version path stamp a → version path stamp b → a ≡ b) → (a b : RowFacts) → a.name ≡ b.name → IsTrueRow version a → IsTrueRow version b → a ≡ b
-true_rows_same unique version one a b name p q =
+pub true_rows_same : (version : List ℕ → StampFacts → List ℕ → Type 0) → ((path : List ℕ) (stamp : StampFacts) (bytes : List ℕ) → version path stamp bytes → IdentityIsOne bytes) → ((path : List ℕ) (stamp : StampFacts) (a b : List ℕ) → version path stamp a → version path stamp b → a ≡ b) → (a b : RowFacts) → a.name ≡ b.name → IsTrueRow version a → IsTrueRow version b → a ≡ b
+true_rows_same version unique one a b name p q =
     let edition : a.edition ≡ b.edition = p.edition ∙ sym q.edition in
     let reading : a.reading ≡ b.reading =
-    readings_same unique version b.name (one b.name.path b.name.stamp) a.reading b.reading (nat_lt FILE_LIMIT b.name.stamp.size)
+    readings_same version b.name (unique b.name.path b.name.stamp) (one b.name.path b.name.stamp) a.reading b.reading (nat_lt FILE_LIMIT b.name.stamp.size)
     (subst (λ n. IsNameReading version n a.reading) name p.reading) q.reading in
     same_row a.name b.name a.edition b.edition a.reading b.reading name edition reading
   where

@@ -1,7 +1,16 @@
 -- A told world of one path with two versions, which their sizes tell apart (this project's example).
-use Rattle.std.specs.Prelude.{◌≡◌, ℕ, pos, ◌⊎◌, List, codes, true}
-use Rattle.std.proofs.Common.{sym, ◌∙◌, ap, inl, inr, arith}
+use Rattle.std.specs.Prelude.{◌≡◌, ℕ, pos, ◌⊎◌, List, codes, true, Result, Err, refl}
+use Rattle.std.proofs.Common.{sym, ◌∙◌, ap, subst, inl, inr, arith}
+use Rattle.file_formats.specs.Header.{head_of}
+use Rattle.file_formats.specs.Identity.{Identity, IsIdentity}
+use Rattle.file_formats.specs.Table.{table_of}
+use Rattle.file_formats.specs.declared.fault.ElfFault.TheVariants.{NotElf}
+use Rattle.file_formats.specs.declared.fault.Why.{Why}
+use Rattle.file_formats.specs.declared.fault.Why.TheVariants.{NotElf as WhyNotElf}
+use Rattle.row_types.specs.Reading.{IsTrueRow}
+use Rattle.row_types.specs.Row.{RowFacts}
 use Rattle.row_types.specs.Stamp.{StampFacts}
+use Rattle.row_types.proofs.TrueRowLemmas.{refused_is_one, true_rows_same}
 
 -- the path of both versions
 abbrev pub path : List ℕ
@@ -42,3 +51,16 @@ same_bytes stamp a b (inr p) (inr q) = p.filled ∙ sym q.filled
 -- a name has at most one content
 pub either_is_one : true ≡ true → (asked : List ℕ) (stamp : StampFacts) (a b : List ℕ) → IsEither asked stamp a → IsEither asked stamp b → a ≡ b
 either_is_one told asked stamp a b p q = same_bytes stamp a b p.one q.one
+
+-- neither content begins as an ELF file does
+reason_is_one : (stamp : StampFacts) (bytes : List ℕ) → IsOne first_stamp (codes "x") stamp bytes ⊎ IsOne second_stamp (codes "yy") stamp bytes → (r : Result Identity Why) → IsIdentity bytes r → r ≡ Err WhyNotElf
+unfolding table_of head_of
+reason_is_one stamp bytes (inl p) r h = refused_is_one (codes "x") NotElf refl r (subst (λ b. IsIdentity b r) p.filled h)
+reason_is_one stamp bytes (inr p) r h = refused_is_one (codes "yy") NotElf refl r (subst (λ b. IsIdentity b r) p.filled h)
+
+-- a name has at most one true row
+pub one_true_row : true ≡ true → (a b : RowFacts) → a.name ≡ b.name → IsTrueRow IsEither a → IsTrueRow IsEither b → a ≡ b
+one_true_row told =
+    true_rows_same IsEither
+    (λ asked stamp bytes either r s p q. reason_is_one stamp bytes either.one r p ∙ sym (reason_is_one stamp bytes either.one s q))
+    (either_is_one told)

@@ -8,11 +8,19 @@ pub struct TwoWorld;
 
 impl Truth for TwoWorld {
     ghost use Rattle.std.specs.Prelude.{true};
-    ghost use Rattle.tree_trait.specs.TwoWorld.{IsEither, either_is_one};
+    ghost use Rattle.row_types.specs.Reading.{IsTrueRow};
+    ghost use Rattle.row_types.proofs.TrueRowLemmas.{too_large_is_true};
+    ghost use Rattle.tree_trait.specs.TwoWorld.{IsEither, either_is_one, one_true_row};
 
     ghost told = { true };
 
     ghost version = { IsEither };
 
+    ghost true_row = { IsTrueRow IsEither };
+
+    ghost too_large = { too_large_is_true IsEither };
+
     ghost one_content = { either_is_one };
+
+    ghost one_row = { one_true_row };
 }
