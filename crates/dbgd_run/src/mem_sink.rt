@@ -28,10 +28,10 @@ impl Model for MemSink {
     ghost Value = { SinkFacts };
 
     ghost view = { λ s. record {
-        written = option_map (λ v. v.items) s.written;
-        bad_writes = s.bad_writes.items;
-        writes = s.writes;
-        faults = s.faults;
+      written = option_map (λ v. v.items) s.written;
+      bad_writes = s.bad_writes.items;
+      writes = s.writes;
+      faults = s.faults;
     } };
 }
 
