@@ -1,5 +1,5 @@
 -- The command `ident` (this project's rule): what it says of a file, by what the load of it answered.
-use Rattle.std.specs.Prelude.{◌≡◌, ℕ, List, [], Bool, Option, Result, Ok, Err, IsTrue}
+use Rattle.std.specs.Prelude.{◌≡◌, ℕ, List, [], Bool, Option, Result, Ok, Err, IsTrue, IsSome}
 use Rattle.row_types.specs.Faults.{HasCause}
 use Rattle.row_types.specs.Name.{NameFacts}
 use Rattle.row_types.specs.Stamp.{StampFacts}
@@ -61,12 +61,14 @@ pub record Hand : Type 0 where
 abbrev pub hand : {T : Type 0} → (T → List NameFacts) → (T → Option (List Heard)) → (T → ℕ) → T → Hand
 hand present heard faults h = record { present = present h; heard = heard h; faults = faults h }
 
--- the hand was asked once for the file, up to the largest size that is read, and what is said follows from its answer
+-- the hand was asked once for the file, up to the largest size that is read, and what is said follows from
+-- its answer; a hand that tells lists both
 pub record RunsIdent (version : List ℕ → StampFacts → List ℕ → Type 0) (told : Bool) (path : List ℕ) (before after : Hand)
     (old new : Streams) (code : ℕ) : Type 0 where
   pub answer : LoadFacts
   pub asked : FitsLoad version path FILE_LIMIT answer
   pub tells : IsTrue told → TellsLoad after.present path answer
+  pub listed : IsTrue told → IsSome before.heard
   pub heard : after.heard ≡ after_load before.heard path FILE_LIMIT answer
   pub cause : HasCause before.faults after.faults (IsTrue (is_failed answer))
   pub said : SaysIdent path answer old new code
