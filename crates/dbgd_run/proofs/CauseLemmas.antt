@@ -90,7 +90,7 @@ pub causes-run : (version : List ℕ → StampFacts → List ℕ → Type 0) (to
     → Runs version told line before after old new code → HasCauses line before after old new code
 causes-run version told (asks_ident path) before after old new code run =
     let caused : IsCaused (Rose before.faults after.faults ⊎ Rose old.out_faults new.out_faults) code
-        = caused-ident _ path run.answer old new code (λ f. inl (run.cause.rose f)) (λ r. inr r) run.said in
+    = caused-ident _ path run.answer old new code (λ f. inl (run.cause.rose f)) (λ r. inr r) run.said in
     record {
       fault = caused.fault;
       usage = (λ e. absurd (caused.usage e), λ e. absurd (cc));

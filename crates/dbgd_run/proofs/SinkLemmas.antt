@@ -35,11 +35,12 @@ writes_part-after (Some o) (Some m) new a b first then told =
     let so : Some m ≡ Some (o ++ a) = first refl in
     let n : ℕ = (then told).0 in
     let now : new ≡ Some (m ++ take (then told).0 b) = (then told).2 in
-    let less : (then told).0 < length b = (then told).1 in
-    (length a + (then told).0,
-     omega (arith, length-append a b),
-     now ∙ ap (option_map (λ w. w ++ take (then told).0 b)) so ∙ ap Some (append_assoc o a (take (then told).0 b))
-      ∙ sym (ap (λ t. Some (o ++ t)) (take-append-add a b (then told).0)))
+    let less : (then told).0 < length b = (then told).1 in (
+      length a + (then told).0,
+      omega (arith, length-append a b),
+      now ∙ ap (option_map (λ w. w ++ take (then told).0 b)) so ∙ ap Some (append_assoc o a (take (then told).0 b))
+          ∙ sym (ap (λ t. Some (o ++ t)) (take-append-add a b (then told).0)),
+    )
 
 -- the answer of a second write speaks of both pieces
 pub part-after : {A E : Type 0} (r : Result A E) (old mid new : Option (List ℕ)) (a b : List ℕ) → Appends old a mid

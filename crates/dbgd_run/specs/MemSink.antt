@@ -1,6 +1,7 @@
 -- The sink in memory (this project's rule): it fails at listed writes, and takes each other piece whole.
-use Rattle.std.specs.Prelude.{ℕ, ◌==◌, if◌then◌else◌, List, Option, length}
+use Rattle.std.specs.Prelude.{ℕ, ◌==◌, Bool, if◌then◌else◌, List, Option, length}
 use Rattle.std.specs.List.{list_any}
+use Rattle.row_types.specs.Faults.{raised}
 use Rattle.dbgd_run.specs.declared.sink.WriteAnswer.{WriteAnswer}
 use Rattle.dbgd_run.specs.declared.sink.WriteAnswer.TheVariants.{Took, Failed}
 
@@ -11,6 +12,14 @@ pub record SinkFacts : Type 0 where
   pub writes : ℕ
   pub faults : ℕ
 
+-- whether the next write's number is among those that fail
+abbrev pub is_bad : SinkFacts → Bool
+is_bad sink = list_any (λ n. n == sink.writes) sink.bad_writes
+
 -- what the next write of this piece answers
 abbrev pub next_answer : SinkFacts → List ℕ → WriteAnswer
-next_answer sink bytes = if list_any (λ n. n == sink.writes) sink.bad_writes then Failed else Took (length bytes)
+next_answer sink bytes = if is_bad sink then Failed else Took (length bytes)
+
+-- the count of faults after the next write
+abbrev pub next_faults : SinkFacts → ℕ
+next_faults sink = if is_bad sink then raised sink.faults else sink.faults

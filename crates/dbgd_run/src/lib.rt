@@ -10,10 +10,12 @@ mod section;
 mod sink;
 mod speech;
 mod status;
+#[cfg(test)]
+mod tests;
 mod texts;
 mod words;
 
 pub use mem_sink::MemSink;
 pub use outside::{Outside, run, run_local};
-pub use status::Status;
 pub use sink::{Sink, WriteAnswer, WriteFault, write_all};
+pub use status::Status;

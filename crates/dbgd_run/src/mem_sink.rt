@@ -3,7 +3,7 @@
 ghost use Rattle.std.specs.Prelude.{◌≡◌, ◌<◌, [], Some, length};
 ghost use Rattle.std.specs.Option.{option_copied};
 ghost use Rattle.row_types.specs.Faults.{HasCause, raised};
-ghost use Rattle.dbgd_run.specs.MemSink.{next_answer};
+ghost use Rattle.dbgd_run.specs.MemSink.{next_answer, next_faults};
 ghost use Rattle.dbgd_run.specs.Sink.{Appends, IsFailed, Takes, front};
 
 use crate::sink::{Sink, WriteAnswer};
@@ -28,10 +28,10 @@ impl Model for MemSink {
     ghost Value = { SinkFacts };
 
     ghost view = { λ s. record {
-        written = option_map (λ v. v.items) s.written;
-        bad_writes = s.bad_writes.items;
-        writes = s.writes;
-        faults = s.faults;
+      written = option_map (λ v. v.items) s.written;
+      bad_writes = s.bad_writes.items;
+      writes = s.writes;
+      faults = s.faults;
     } };
 }
 
@@ -67,6 +67,7 @@ impl Sink for MemSink {
         ensures written { Appends self.old.written (front bytes.now result) self.new.written }
         ensures cause { HasCause self.old.faults self.new.faults (IsFailed result) }
         ensures exact { result ≡ next_answer self.old bytes.now }
+        ensures count { self.new.faults ≡ next_faults self.old }
         ensures number { self.new.writes ≡ raised self.old.writes }
         ensures bad { self.new.bad_writes ≡ self.old.bad_writes }
     {

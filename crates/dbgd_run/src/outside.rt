@@ -50,15 +50,13 @@ fn run_line<W: Truth, T: Tree<W>, O: Sink>(
     outside: &mut Outside<W, T, O>,
 ) -> Status
     requires { 0 < vec_len outside.old.hands }
-    ensures law {
-        (d : T) →
+    ensures law { (d : T) →
         let before = slice_index_or outside.old.hands.items 0 d in
         let after = slice_index_or outside.new.hands.items 0 d in
         Runs W.version T.told (asked_by line.entry)
-            (hand T.present T.heard T.faults before) (hand T.present T.heard T.faults after)
-            (streams O.written O.write_faults outside.old.out outside.old.err)
-            (streams O.written O.write_faults outside.new.out outside.new.err) (code_of result)
-    }
+        (hand T.present T.heard T.faults before) (hand T.present T.heard T.faults after)
+        (streams O.written O.write_faults outside.old.out outside.old.err)
+        (streams O.written O.write_faults outside.new.out outside.new.err) (code_of result) }
     ensures hands { vec_len outside.new.hands ≡ vec_len outside.old.hands }
 {
     let out = &mut outside.out;
@@ -81,24 +79,20 @@ pub fn run_local<W: Truth, T: Tree<W>, O: Sink>(
 ) -> Option<u8>
     requires { 0 < vec_len outside.old.hands }
     ensures some { IsSome result }
-    ensures law {
-        (d : T) →
+    ensures law { (d : T) →
         let before = slice_index_or outside.old.hands.items 0 d in
         let after = slice_index_or outside.new.hands.items 0 d in
         IfSome result (Runs W.version T.told (line_of (map string_bytes words.now))
-            (hand T.present T.heard T.faults before) (hand T.present T.heard T.faults after)
-            (streams O.written O.write_faults outside.old.out outside.old.err)
-            (streams O.written O.write_faults outside.new.out outside.new.err))
-    }
-    ensures causes {
-        (d : T) →
+        (hand T.present T.heard T.faults before) (hand T.present T.heard T.faults after)
+        (streams O.written O.write_faults outside.old.out outside.old.err)
+        (streams O.written O.write_faults outside.new.out outside.new.err)) }
+    ensures causes { (d : T) →
         let before = slice_index_or outside.old.hands.items 0 d in
         let after = slice_index_or outside.new.hands.items 0 d in
         IfSome result (HasCauses (line_of (map string_bytes words.now))
-            (hand T.present T.heard T.faults before) (hand T.present T.heard T.faults after)
-            (streams O.written O.write_faults outside.old.out outside.old.err)
-            (streams O.written O.write_faults outside.new.out outside.new.err))
-    }
+        (hand T.present T.heard T.faults before) (hand T.present T.heard T.faults after)
+        (streams O.written O.write_faults outside.old.out outside.old.err)
+        (streams O.written O.write_faults outside.new.out outside.new.err)) }
     ensures hands { vec_len outside.new.hands ≡ vec_len outside.old.hands }
 {
     let status = run_line(alloc, read_line(words), outside);
@@ -112,24 +106,20 @@ pub fn run<W: Truth, T: Tree<W>, O: Sink>(
     outside: &mut Outside<W, T, O>,
 ) -> u8
     requires { 0 < vec_len outside.old.hands }
-    ensures law {
-        (d : T) →
+    ensures law { (d : T) →
         let before = slice_index_or outside.old.hands.items 0 d in
         let after = slice_index_or outside.new.hands.items 0 d in
         Runs W.version T.told (line_of (map string_bytes words.now))
-            (hand T.present T.heard T.faults before) (hand T.present T.heard T.faults after)
-            (streams O.written O.write_faults outside.old.out outside.old.err)
-            (streams O.written O.write_faults outside.new.out outside.new.err) result
-    }
-    ensures causes {
-        (d : T) →
+        (hand T.present T.heard T.faults before) (hand T.present T.heard T.faults after)
+        (streams O.written O.write_faults outside.old.out outside.old.err)
+        (streams O.written O.write_faults outside.new.out outside.new.err) result }
+    ensures causes { (d : T) →
         let before = slice_index_or outside.old.hands.items 0 d in
         let after = slice_index_or outside.new.hands.items 0 d in
         HasCauses (line_of (map string_bytes words.now))
-            (hand T.present T.heard T.faults before) (hand T.present T.heard T.faults after)
-            (streams O.written O.write_faults outside.old.out outside.old.err)
-            (streams O.written O.write_faults outside.new.out outside.new.err) result
-    }
+        (hand T.present T.heard T.faults before) (hand T.present T.heard T.faults after)
+        (streams O.written O.write_faults outside.old.out outside.old.err)
+        (streams O.written O.write_faults outside.new.out outside.new.err) result }
     ensures hands { vec_len outside.new.hands ≡ vec_len outside.old.hands }
 {
     match run_local(alloc, words, outside) {

@@ -7,4 +7,4 @@ loop-at-preserved g c =
     let takes = rw (take_rest c.args.bytes.now c.loop-at.at) at c.write.ensures.took in
     let more = rw (take_rest c.args.bytes.now c.loop-at.at) at c.write.ensures.written in
     has_written-more _ _ _ _ _ _ c.args.bytes.now c.loop-at.at c.write.result c.in-Took.n c.loop-at.invariant c.in-Took.is
-      takes more c.write.ensures.cause.later
+    takes more c.write.ensures.cause.later

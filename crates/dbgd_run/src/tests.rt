@@ -1,0 +1,8 @@
+//! What no clause says: that memory suffices, and that the definitions mean what the program's words and
+//! texts say. The expected texts are those of the words' description.
+
+mod fakes;
+mod files;
+mod helpers;
+mod outsides;
+mod words;
