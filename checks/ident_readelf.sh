@@ -17,6 +17,11 @@ say() { printf 'ident_readelf: %s\n' "$*" 1>&2; }
 command -v readelf >/dev/null || { say "skipped: there is no readelf"; exit 0; }
 command -v "$program" >/dev/null || { say "there is no program $program"; exit 1; }
 
+# The first call may build the program, which takes longer than any answer below.
+"$program" ident "${BASH_SOURCE[0]}" >/dev/null </dev/null
+status=$?
+[ "$status" = 3 ] || { say "$program answers a text with status $status instead of 3"; exit 1; }
+
 work=$(mktemp -d) || exit 1
 trap 'rm -rf "$work"' EXIT
 
