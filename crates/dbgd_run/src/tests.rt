@@ -5,4 +5,5 @@ mod fakes;
 mod files;
 mod helpers;
 mod outsides;
+mod sections;
 mod words;

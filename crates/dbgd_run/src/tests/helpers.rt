@@ -13,7 +13,7 @@ use tree_trait::{Found, MemTree, Script, Tree};
 #[derive(Clone, Copy)]
 pub struct Case<'a> {
     pub words: &'a [&'a str],
-    pub out: &'a str,
+    pub out: &'a [u8],
     pub err: &'a str,
     pub status: u8,
 }
@@ -72,7 +72,7 @@ pub fn run_case<W: Truth, T: Tree<W>>(
     let status = run(alloc, words.as_slice(), &mut outside);
     let out = outside.out.written().ok_or("out is told")?;
     let err = outside.err.written().ok_or("err is told")?;
-    assert_eq!(rt; out, case.out.as_bytes(), "out of {:?}", case.words);
+    assert_eq!(rt; out, case.out, "out of {:?}", case.words);
     assert_eq!(rt; err, case.err.as_bytes(), "err of {:?}", case.words);
     assert_eq!(rt; status, case.status, "status of {:?}", case.words);
     Ok(())

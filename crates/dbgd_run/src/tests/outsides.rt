@@ -19,14 +19,14 @@ fn what_cannot_be_read_is_said_on_err(rt: HostRuntime) -> Result<(), Fail> {
     let alloc = rt.alloc();
     let gone = Case {
         words: &["ident", "w//b"],
-        out: "",
+        out: b"",
         err: "dbgd: gone w//b\n",
         status: 3,
     };
     run_case(&rt, alloc, hand_of(alloc, b"", &[])?, &NO_BAD_WRITES, &gone)?;
     let fault = Case {
         words: IDENT,
-        out: "",
+        out: b"",
         err: "dbgd: fault file\n",
         status: 1,
     };
@@ -39,14 +39,14 @@ fn what_cannot_be_read_is_said_on_err(rt: HostRuntime) -> Result<(), Fail> {
     )?;
     let large = Case {
         words: IDENT,
-        out: "plain too-large\n",
+        out: b"plain too-large\n",
         err: "",
         status: 3,
     };
     run_case(&rt, alloc, Crowded::TooLarge, &NO_BAD_WRITES, &large)?;
     let wants = Case {
         words: IDENT,
-        out: "",
+        out: b"",
         err: "dbgd: out of memory\n",
         status: 6,
     };
@@ -59,7 +59,7 @@ fn a_sink_that_fails_is_left_as_it_is(rt: HostRuntime) -> Result<(), Fail> {
     let bytes = both_classes(alloc)?;
     let cut = Case {
         words: IDENT,
-        out: "",
+        out: b"",
         err: "dbgd: fault output\n",
         status: 1,
     };
@@ -75,7 +75,7 @@ fn a_sink_that_fails_is_left_as_it_is(rt: HostRuntime) -> Result<(), Fail> {
     )?;
     let mute = Case {
         words: IDENT,
-        out: "",
+        out: b"",
         err: "",
         status: 1,
     };
@@ -91,7 +91,7 @@ fn a_sink_that_fails_is_left_as_it_is(rt: HostRuntime) -> Result<(), Fail> {
     )?;
     let gone = Case {
         words: &["ident", "/w/b"],
-        out: "",
+        out: b"",
         err: "dbgd: gone ",
         status: 3,
     };
@@ -124,7 +124,7 @@ fn run_narrow(rt: &impl Abort, alloc: Global, bad: &[u64], case: &Case<'_>) -> R
     let status = run(alloc, words.as_slice(), &mut outside);
     let out = outside.out.sink.written().ok_or("out is told")?;
     let err = outside.err.sink.written().ok_or("err is told")?;
-    assert_eq!(rt; out, case.out.as_bytes());
+    assert_eq!(rt; out, case.out);
     assert_eq!(rt; err, case.err.as_bytes());
     assert_eq!(rt; status, case.status);
     Ok(())
@@ -134,14 +134,14 @@ fn run_narrow(rt: &impl Abort, alloc: Global, bad: &[u64], case: &Case<'_>) -> R
 fn a_line_is_written_piece_by_piece(rt: HostRuntime) -> Result<(), Fail> {
     let whole = Case {
         words: IDENT,
-        out: "000102030405060708090a0b0c0d0e0f10111213 both\n",
+        out: b"000102030405060708090a0b0c0d0e0f10111213 both\n",
         err: "",
         status: 0,
     };
     run_narrow(&rt, rt.alloc(), &[], &whole)?;
     let cut = Case {
         words: IDENT,
-        out: "000102030405",
+        out: b"000102030405",
         err: "dbgd: fault output\n",
         status: 1,
     };
@@ -168,7 +168,7 @@ fn a_told_world_answers_by_its_bytes(rt: HostRuntime) -> Result<(), Fail> {
     };
     let case = Case {
         words: IDENT,
-        out: "plain not-elf\n",
+        out: b"plain not-elf\n",
         err: "",
         status: 3,
     };

@@ -12,7 +12,7 @@ const USAGE: &str =
 
 #[test]
 fn other_words_give_the_usage(rt: HostRuntime) -> Result<(), Fail> {
-    let lines: [&[&str]; 8] = [
+    let lines: [&[&str]; 10] = [
         &[],
         &[""],
         &["frobnicate"],
@@ -21,11 +21,13 @@ fn other_words_give_the_usage(rt: HostRuntime) -> Result<(), Fail> {
         &["find", "/w/a"],
         &["ident"],
         &["ident", "/w/a", "/w/a"],
+        &["section", "/w/a"],
+        &["section", "/w/a", ".text", ".text"],
     ];
     for words in lines {
         let case = Case {
             words,
-            out: "",
+            out: b"",
             err: USAGE,
             status: 2,
         };
@@ -42,11 +44,11 @@ fn other_words_give_the_usage(rt: HostRuntime) -> Result<(), Fail> {
 
 #[test]
 fn a_later_command_is_not_built_whatever_follows(rt: HostRuntime) -> Result<(), Fail> {
-    for command in ["sources", "section", "query", "scan", "serve", "trial"] {
+    for command in ["sources", "query", "scan", "serve", "trial"] {
         for words in [[command].as_slice(), [command, "--help", ""].as_slice()] {
             let case = Case {
                 words,
-                out: "",
+                out: b"",
                 err: "dbgd: not built yet\n",
                 status: 8,
             };
