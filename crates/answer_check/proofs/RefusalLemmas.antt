@@ -1,5 +1,5 @@
 -- Bytes are certified, or refused for one reason.
-use Rattle.std.proofs.Common.{◌≡◌, sym, ◌∙◌, ap, refl, ℕ, List, true, false, Ok, Err}
+use Rattle.std.proofs.Common.{◌≡◌, sym, ◌∙◌, ap, ℕ, List, true, false, Ok, Err}
 use Rattle.file_formats.specs.declared.fault.Why.{Why}
 use Rattle.file_formats.specs.Identity.{Identity, IsIdentity}
 use Rattle.file_formats.proofs.IdentityLemmas.{identity-unique}

@@ -15,7 +15,10 @@ fn a_program_is_certified_for_its_id_and_class(rt: HostRuntime) -> Result<(), Fa
     assert_eq!(rt; file.kind(), Kind::Executable);
     assert_eq!(rt; *file.id(), id);
     assert_eq!(rt; file.bytes().len(), 408);
-    assert_eq!(rt; file.section(b".text").ok_or("code is there")?, [0xc3].as_slice());
+    assert_eq!(rt;
+        file.section(b".text").ok_or("code is there")?,
+        [0xc3].as_slice()
+    );
     Ok(())
 }
 
@@ -29,7 +32,10 @@ fn other_files_are_refused_in_order(rt: HostRuntime) -> Result<(), Fail> {
     }
     let text = b"text".to_vec(rt.alloc())?;
     let plain = certify(Kind::Debuginfo, &id, text);
-    assert_eq!(rt; plain.err().map(|refused| refused.0), Some(CheckFault::Plain(Why::NotElf)));
+    assert_eq!(rt;
+        plain.err().map(|refused| refused.0),
+        Some(CheckFault::Plain(Why::NotElf))
+    );
     let code = certify(Kind::Debuginfo, &id, executable(rt.alloc())?);
     assert!(rt; matches!(code.err(), Some((CheckFault::OtherClass(_), _))));
     Ok(())

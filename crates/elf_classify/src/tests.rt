@@ -2,12 +2,15 @@
 //! files' description; `readelf -hSn` shows the same ids, types and flags.
 
 use crate::{ident, section_of};
+use elf_file::ElfFile;
+use file_formats::Order;
 use row_types::{BuildId, Ident, Why};
 use sample_files::{
     ID_A, ID_B, ID_BIG, big_endian_debug, both_classes, chosen_ids, debug_companion,
     eight_aligned_notes, executable, extended_counts,
 };
 use std::alloc::Global;
+use std::process::Abort;
 use std::test::Fail;
 
 /// One change of a file, and the reason that it leads to.
@@ -92,9 +95,9 @@ fn a_cut_header_is_bad_and_an_empty_file_is_no_elf(rt: HostRuntime) -> Result<()
     Ok(())
 }
 
-/// The sample of both classes has its section table at 168: the notes' header at 232, that of the
+/// The sample of both classes has its section table at 168: the header of its notes stands at 232, that of its
 /// names' section at 424.
-const CHANGES: [Change; 13] = [
+const WIDE: [Change; 15] = [
     Change {
         what: "another beginning",
         place: 0,
@@ -124,6 +127,12 @@ const CHANGES: [Change; 13] = [
         place: 40,
         bytes: &[0],
         why: Why::NoSections,
+    },
+    Change {
+        what: "a table at the end of all places",
+        place: 40,
+        bytes: &[0xff, 0xff, 0xff, 0xff, 0xff, 0xff, 0xff, 0xff],
+        why: Why::BadElf,
     },
     Change {
         what: "entries of another size",
@@ -173,20 +182,151 @@ const CHANGES: [Change; 13] = [
         bytes: &[2, 8],
         why: Why::NoBuildId,
     },
+    Change {
+        what: "notes past the end",
+        place: 256,
+        bytes: &[0xff],
+        why: Why::NoBuildId,
+    },
 ];
+
+/// The sample 32-bit big-endian file has its section table at 124: the header of its notes stands at 164, that
+/// of its names' section at 284.
+const NARROW: [Change; 9] = [
+    Change {
+        what: "an unknown order",
+        place: 5,
+        bytes: &[3],
+        why: Why::BadElf,
+    },
+    Change {
+        what: "an unknown version",
+        place: 6,
+        bytes: &[0],
+        why: Why::BadElf,
+    },
+    Change {
+        what: "no section table",
+        place: 35,
+        bytes: &[0],
+        why: Why::NoSections,
+    },
+    Change {
+        what: "entries of another size",
+        place: 47,
+        bytes: &[64],
+        why: Why::BadElf,
+    },
+    Change {
+        what: "a table past the end",
+        place: 49,
+        bytes: &[6],
+        why: Why::BadElf,
+    },
+    Change {
+        what: "no section of names",
+        place: 51,
+        bytes: &[5],
+        why: Why::BadElf,
+    },
+    Change {
+        what: "names without contents",
+        place: 291,
+        bytes: &[8],
+        why: Why::BadElf,
+    },
+    Change {
+        what: "a core image",
+        place: 17,
+        bytes: &[4],
+        why: Why::Core,
+    },
+    Change {
+        what: "compressed notes",
+        place: 174,
+        bytes: &[8, 2],
+        why: Why::NoBuildId,
+    },
+];
+
+/// In the sample with extended counts section 0's size stands at 200, its link at 208.
+const EXTENDED: [Change; 5] = [
+    Change {
+        what: "section 0 past the end",
+        place: 40,
+        bytes: &[0xa9, 1],
+        why: Why::BadElf,
+    },
+    Change {
+        what: "a count of 0",
+        place: 200,
+        bytes: &[0],
+        why: Why::NoSections,
+    },
+    Change {
+        what: "a table past the end",
+        place: 200,
+        bytes: &[6],
+        why: Why::BadElf,
+    },
+    Change {
+        what: "no section of names",
+        place: 208,
+        bytes: &[5],
+        why: Why::BadElf,
+    },
+    Change {
+        what: "names without contents",
+        place: 428,
+        bytes: &[8],
+        why: Why::BadElf,
+    },
+];
+
+/// Whether each change of the file leads to its reason.
+fn leads_to_reasons(
+    rt: &impl Abort,
+    alloc: Global,
+    file: &[u8],
+    changes: &[Change],
+) -> Result<(), Fail> {
+    for change in changes {
+        let other = changed(alloc, file, change.place, change.bytes)?;
+        assert_eq!(rt; ident(&other), Err(change.why), "{}", change.what);
+    }
+    Ok(())
+}
 
 #[test]
 fn each_change_has_its_reason(rt: HostRuntime) -> Result<(), Fail> {
-    let file = both_classes(rt.alloc())?;
-    for change in CHANGES {
-        let other = changed(rt.alloc(), &file, change.place, change.bytes)?;
-        assert_eq!(rt;
-            ident(&other),
-            Err(change.why),
-            "{}",
-            change.what
-        );
-    }
+    let alloc = rt.alloc();
+    leads_to_reasons(&rt, alloc, &both_classes(alloc)?, &WIDE)?;
+    leads_to_reasons(&rt, alloc, &big_endian_debug(alloc)?, &NARROW)?;
+    leads_to_reasons(&rt, alloc, &extended_counts(alloc)?, &EXTENDED)
+}
+
+#[test]
+fn sections_are_found_by_index_and_by_name(rt: HostRuntime) -> Result<(), Fail> {
+    let bytes = extended_counts(rt.alloc())?;
+    let file = match ElfFile::parse(&bytes) {
+        Ok(file) => file,
+        Err(_) => return Err("the file has a section table".into()),
+    };
+    assert_eq!(rt;
+        (file.kind(), file.order(), file.count()),
+        (3, Order::Little, 5)
+    );
+    let notes = file.section(1).ok_or("there are five sections")?;
+    assert_eq!(rt;
+        notes.name.ok_or("it has a name")?,
+        b".note.gnu.build-id".as_slice()
+    );
+    assert_eq!(rt; (notes.sh_type, notes.flags, notes.align), (7, 2, 4));
+    assert_eq!(rt; (notes.offset, notes.size), (64, 36));
+    assert_eq!(rt; notes.contents.ok_or("it has contents")?.len(), 36);
+    assert!(rt; file.section(5).is_none());
+    assert_eq!(rt; file.by_name(b".text"), Some(2));
+    assert_eq!(rt; file.by_name(b""), None, "section 0 is never looked at");
     Ok(())
 }
 
@@ -197,23 +337,37 @@ fn section_zero_is_never_looked_at(rt: HostRuntime) -> Result<(), Fail> {
     let in_both = changed(rt.alloc(), &file, 168, notes)?;
     assert_eq!(rt; ident(&in_both), Ok(identity(&ID_A, true, true)?));
     let in_zero_alone = changed(rt.alloc(), &in_both, 236, &[0])?;
-    assert_eq!(rt;
-        ident(&in_zero_alone),
-        Err(Why::NoBuildId)
-    );
+    assert_eq!(rt; ident(&in_zero_alone), Err(Why::NoBuildId));
     Ok(())
 }
 
 #[test]
 fn a_section_is_the_first_of_its_name_with_plain_contents(rt: HostRuntime) -> Result<(), Fail> {
     let program = executable(rt.alloc())?;
-    assert_eq!(rt; section_of(&program, b".text").ok_or("code is there")?, [0xc3].as_slice());
+    assert_eq!(rt;
+        section_of(&program, b".text").ok_or("code is there")?,
+        [0xc3].as_slice()
+    );
     assert!(rt; section_of(&program, b".tex").is_none());
-    assert!(rt; section_of(&program, b"").is_none(), "section 0 has the empty name");
+    assert!(rt;
+        section_of(&program, b"").is_none(),
+        "section 0 has the empty name"
+    );
     let companion = debug_companion(rt.alloc())?;
-    assert!(rt; section_of(&companion, b".text").is_none(), "it takes no bytes in the file");
-    assert!(rt; section_of(&companion, b".debug_zz").is_none(), "it is compressed");
-    assert_eq!(rt; section_of(&companion, b".debug_info").ok_or("it is empty")?.len(), 0);
+    assert!(rt;
+        section_of(&companion, b".text").is_none(),
+        "it takes no bytes in the file"
+    );
+    assert!(rt;
+        section_of(&companion, b".debug_zz").is_none(),
+        "it is compressed"
+    );
+    assert_eq!(rt;
+        section_of(&companion, b".debug_info")
+            .ok_or("it is empty")?
+            .len(),
+        0
+    );
     assert!(rt; section_of(b"text", b".text").is_none(), "no section table");
     Ok(())
 }

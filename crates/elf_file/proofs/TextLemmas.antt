@@ -63,10 +63,10 @@ text-begins s end p qs ends none before =
 pub no_text : (s : List ℕ) (end p : ℕ) → IsTextsEnd s end → end ≤ p → text_at s p ≡ None
 no_text s end p ends behind =
     let nowhere : prefix_len is_other (drop p s) < length (drop p s) → ⊥ =
-        λ (h : prefix_len is_other (drop p s) < length (drop p s)).
-            ends.none_after (p + prefix_len is_other (drop p s)) (omega arith) (omega (arith, length-drop {A = ℕ}))
-            (sym (get_or-drop p s (prefix_len is_other (drop p s)) 0)
-            ∙ eqb-true (get_or (drop p s) (prefix_len is_other (drop p s)) 0) 0 (other_false _ (prefix_len_stops is_other (drop p s) 0 h))) in
+    λ (h : prefix_len is_other (drop p s) < length (drop p s)).
+    ends.none_after (p + prefix_len is_other (drop p s)) (omega arith) (omega (arith, length-drop {A = ℕ}))
+    (sym (get_or-drop p s (prefix_len is_other (drop p s)) 0)
+    ∙ eqb-true (get_or (drop p s) (prefix_len is_other (drop p s)) 0) 0 (other_false _ (prefix_len_stops is_other (drop p s) 0 h))) in
     rw (le-ltb (prefix_len is_other (drop p s)) (length (drop p s)) (omega (arith, nowhere))) refl
 
 -- the bytes before the first 0
@@ -87,7 +87,7 @@ text_other : (text : List ℕ) (k : ℕ) → list_any (λ x. x == 0) text ≡ fa
 text_other text k none below =
     other_so (get_or text k 0 == 0)
     (λ zero. let found : list_any (λ x. x == 0) text ≡ true = list_any_at (λ x. x == 0) text k 0 below zero in
-        let both : false ≡ true = sym none ∙ found in cc)
+    let both : false ≡ true = sym none ∙ found in cc)
 
 -- a text with no 0 that a 0 follows is the one before the first 0
 first_if : (r text : List ℕ) → is_text_first r text ≡ true → first_text r ≡ Some text
@@ -98,11 +98,11 @@ first_if r text h =
     let same : text ≡ take (length text) r = same_text text (take (length text) r) (sym front.0) in
     let inside : length text < length r = ltb-true (length text) (length r) zero.0 in
     let size : prefix_len is_other r ≡ length text =
-        prefix_len_is is_other r (length text) 0 (omega arith)
-        (λ k below.
-            let byte : get_or text k 0 ≡ get_or r k 0 = ap (λ xs. get_or xs k 0) same ∙ get_or-take (length text) r k 0 below in
-            rw (← byte) (text_other text k (not_true (list_any (λ x. x == 0) text) parts.1) below))
-        (λ _. rw zero.1 refl) in
+    prefix_len_is is_other r (length text) 0 (omega arith)
+    (λ k below.
+    let byte : get_or text k 0 ≡ get_or r k 0 = ap (λ xs. get_or xs k 0) same ∙ get_or-take (length text) r k 0 below in
+    rw (← byte) (text_other text k (not_true (list_any (λ x. x == 0) text) parts.1) below))
+    (λ _. rw zero.1 refl) in
     rw size (rw (lt-ltb (length text) (length r) inside) (ap (λ xs. Some xs) (sym same)))
 
 -- where a text is before the first 0, that 0 is there
@@ -128,21 +128,22 @@ first_is r inside =
     let size : length (take_while is_other r) ≡ prefix_len is_other r = length-take-le (prefix_len is_other r) r (omega arith) in
     both_so (starts_with nat_eq r (take_while is_other r) && is_zero_at r (length (take_while is_other r))) (not (list_any (λ x. x == 0) (take_while is_other r)))
     (both_so (starts_with nat_eq r (take_while is_other r)) (is_zero_at r (length (take_while is_other r)))
-        (rw size ((bytes_eq-Decides (take_while is_other r) (take_while is_other r)).1 refl))
-        (rw size (both_so (nat_lt (prefix_len is_other r) (length r)) (get_or r (prefix_len is_other r) 0 == 0)
-            (lt-ltb (prefix_len is_other r) (length r) inside)
-            (other_false _ (prefix_len_stops is_other r 0 inside)))))
+    (rw size ((bytes_eq-Decides (take_while is_other r) (take_while is_other r)).1 refl))
+    (rw size (both_so (nat_lt (prefix_len is_other r) (length r)) (get_or r (prefix_len is_other r) 0 == 0)
+    (lt-ltb (prefix_len is_other r) (length r) inside)
+    (other_false _ (prefix_len_stops is_other r 0 inside)))))
     (rw (none_before r) refl)
 
 -- a text stands at a place exactly where the bytes from there begin with it
 pub text-is : (s : List ℕ) (p : ℕ) (text : List ℕ)
     → (is_text_first (drop p s) text ≡ true → text_at s p ≡ Some text) × (text_at s p ≡ Some text → is_text_first (drop p s) text ≡ true)
-text-is s p text =
-    (first_if (drop p s) text,
-    λ h.
-        let found = there (drop p s) text (nat_lt (prefix_len is_other (drop p s)) (length (drop p s))) refl h in
-        let P : List ℕ → Type 0 = λ xs. is_text_first (drop p s) xs ≡ true in
-        subst P found.1 (first_is (drop p s) found.0))
+text-is s p text = (
+  first_if (drop p s) text,
+  λ h.
+      let found = there (drop p s) text (nat_lt (prefix_len is_other (drop p s)) (length (drop p s))) refl h in
+      let P : List ℕ → Type 0 = λ xs. is_text_first (drop p s) xs ≡ true in
+      subst P found.1 (first_is (drop p s) found.0),
+)
 
 -- no text isn't some text
 pub none_is_some : (o : Option (List ℕ)) → {text : List ℕ} → o ≡ None → o ≡ Some text → ⊥

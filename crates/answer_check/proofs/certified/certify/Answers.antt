@@ -1,4 +1,3 @@
-use Rattle.std.proofs.Common.{◌≡◌, false, true}
 use Rattle.answer_check.proofs.RefusalLemmas.{refused-not_certified, refusal-unique}
 use Rattle.answer_check.proofs.certified.certify.Goals as goal
 

@@ -13,6 +13,7 @@ returns-then-at-self c =
 
 pub returns-else-at-self : goal.returns-else-at-self
 returns-else-at-self c =
-    rw (← c.self.view_is)
-    (λ h. absurd (differ (sym (le-ltb c.args.at c.self.inside.end c.if-at-self.false)) h),
-    λ h. absurd (none_is_some _ (no_text c.self.inside.bytes.now c.self.inside.end c.args.at c.self.invariant c.if-at-self.false) h))
+    rw (← c.self.view_is) (
+      λ h. absurd (differ (sym (le-ltb c.args.at c.self.inside.end c.if-at-self.false)) h),
+      λ h. absurd (none_is_some _ (no_text c.self.inside.bytes.now c.self.inside.end c.args.at c.self.invariant c.if-at-self.false) h),
+    )
