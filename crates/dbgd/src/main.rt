@@ -3,6 +3,8 @@
 
 mod real_sink;
 mod real_tree;
+#[cfg(test)]
+mod tests;
 
 use dbgd_run::{Outside, Status, run, write_all};
 use real_sink::{RealSink, Stream};

@@ -68,10 +68,12 @@ fn stamp_of(seen: &Metadata) -> Result<Stamp, ReadFault> {
         .ok_or(ReadFault::System)
 }
 
-/// The bytes of a file of this size, or some more where it has grown.
+/// The bytes of a file of this size, or one more where it has grown. There is room for that one from the
+/// start, so that the end is found without more memory.
 fn read_whole<F: Read + Drop>(alloc: Global, file: F, size: u64) -> Result<Vec<u8>, ReadFault> {
-    let mut bytes = Vec::with_capacity(alloc, size as usize)?;
-    file.take(size.saturating_add(1)).read_to_end(&mut bytes)?;
+    let most = size.saturating_add(1);
+    let mut bytes = Vec::with_capacity(alloc, most as usize)?;
+    file.take(most).read_to_end(&mut bytes)?;
     Ok(bytes)
 }
 

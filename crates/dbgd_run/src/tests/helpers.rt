@@ -62,8 +62,10 @@ pub fn run_case<W: Truth, T: Tree<W>>(
     bad: &BadWrites<'_>,
     case: &Case<'_>,
 ) -> Result<(), Fail> {
+    let mut hands = Vec::new(alloc);
+    hands.push(hand)?;
     let mut outside = Outside {
-        hands: vec![in alloc; hand]?,
+        hands,
         out: MemSink::new(alloc, Vec::from_slice(alloc, bad.out)?),
         err: MemSink::new(alloc, Vec::from_slice(alloc, bad.err)?),
         of: PhantomData::<W>,
