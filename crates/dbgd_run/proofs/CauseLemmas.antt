@@ -1,5 +1,5 @@
 -- When a status comes, by what a run does.
-use Rattle.std.proofs.Common.{◌≡◌, sym, ◌∙◌, refl, inl, inr, ◌⊎◌, ℕ, ◌<◌, List, [], length, ap, Bool, IsTrue, Option, Some, None, Result, Ok, Err, arith}
+use Rattle.std.proofs.Common.{◌≡◌, sym, ◌∙◌, refl, inl, inr, ◌⊎◌, ℕ, List, [], length, ap, Bool, IsTrue, Option, Some, None, Result, Ok, Err, arith}
 use Rattle.row_types.specs.Faults.{Rose}
 use Rattle.row_types.specs.Stamp.{StampFacts}
 use Rattle.file_formats.specs.Identity.{Identity}
@@ -98,7 +98,7 @@ causes-run version told (asks_ident path) before after old new code run =
     }
 causes-run version told (asks_section path name) before after old new code run =
     let caused : IsCaused (Rose before.faults after.faults ⊎ Rose old.out_faults new.out_faults) code
-        = caused-named _ path name run.answer old new code (λ f. inl (run.cause.rose f)) (λ r. inr r) run.said in
+    = caused-named _ path name run.answer old new code (λ f. inl (run.cause.rose f)) (λ r. inr r) run.said in
     record {
       fault = caused.fault;
       usage = (λ e. absurd (caused.usage e), λ e. absurd (cc));

@@ -1,6 +1,6 @@
 -- Writes in a row.
-use Rattle.std.proofs.Common.{◌≡◌, sym, ◌∙◌, ap, refl, ℕ, ◌<◌, ◌≤◌, ◌+◌, List, [], ◌++◌, length, take, drop, arith, Option, Some, None}
-use Rattle.std.specs.Prelude.{IsSome, is_some, Result, Ok, Err, OnErr}
+use Rattle.std.proofs.Common.{◌≡◌, sym, ◌∙◌, ap, refl, ℕ, ◌<◌, ◌≤◌, ◌+◌, List, ◌++◌, length, take, drop, arith, Option, Some, None}
+use Rattle.std.specs.Prelude.{is_some, Result, Ok, Err, OnErr}
 use Rattle.std.proofs.Common.{append_assoc, length-append, length-drop}
 use Rattle.std.proofs.Math.Seq.{take-add, take-append-add}
 use Rattle.std.specs.Option.{option_map}

@@ -21,11 +21,9 @@ use tree_trait::{LoadAnswer, Tree};
 
 /// Says why a file has no identity.
 fn say_plain<O: Sink>(why: Why, out: &mut O, err: &mut O) -> Status
-    ensures {
-        Ends (plain_saying why)
-            (streams O.written O.write_faults out.old err.old)
-            (streams O.written O.write_faults out.new err.new) (code_of result)
-    }
+    ensures { Ends (plain_saying why)
+        (streams O.written O.write_faults out.old err.old)
+        (streams O.written O.write_faults out.new err.new) (code_of result) }
 {
     let said = Said {
         out: plain_line(why).as_bytes(),
@@ -37,11 +35,9 @@ fn say_plain<O: Sink>(why: Why, out: &mut O, err: &mut O) -> Status
 
 /// Says what the identity of a file is.
 fn say_identity<O: Sink>(alloc: Global, ident: &Ident, out: &mut O, err: &mut O) -> Status
-    ensures {
-        EndsOrWants (file_saying (Ok ident.now))
-            (streams O.written O.write_faults out.old err.old)
-            (streams O.written O.write_faults out.new err.new) (code_of result)
-    }
+    ensures { EndsOrWants (file_saying (Ok ident.now))
+        (streams O.written O.write_faults out.old err.old)
+        (streams O.written O.write_faults out.new err.new) (code_of result) }
 {
     match identity_line(alloc, ident) {
         Ok(line) => {
@@ -58,12 +54,10 @@ fn say_identity<O: Sink>(alloc: Global, ident: &Ident, out: &mut O, err: &mut O)
 
 /// Says what a file is, by its bytes.
 fn say_file<O: Sink>(alloc: Global, bytes: &[u8], out: &mut O, err: &mut O) -> Status
-    ensures {
-        (identity : Result Identity Why) × IsIdentity bytes.now identity
+    ensures { (identity : Result Identity Why) × IsIdentity bytes.now identity
         × EndsOrWants (file_saying identity)
-            (streams O.written O.write_faults out.old err.old)
-            (streams O.written O.write_faults out.new err.new) (code_of result)
-    }
+        (streams O.written O.write_faults out.old err.old)
+        (streams O.written O.write_faults out.new err.new) (code_of result) }
 {
     match ident(bytes) {
         Ok(ident) => say_identity(alloc, &ident, out, err),
@@ -79,11 +73,9 @@ fn say<W: Truth, O: Sink>(
     out: &mut O,
     err: &mut O,
 ) -> Status
-    ensures {
-        SaysIdent path.now (load_facts answer.now)
-            (streams O.written O.write_faults out.old err.old)
-            (streams O.written O.write_faults out.new err.new) (code_of result)
-    }
+    ensures { SaysIdent path.now (load_facts answer.now)
+        (streams O.written O.write_faults out.old err.old)
+        (streams O.written O.write_faults out.new err.new) (code_of result) }
 {
     match answer {
         LoadAnswer::Found(found) => say_file(alloc, found.bytes.as_slice(), out, err),
@@ -102,12 +94,10 @@ pub fn run_ident<W: Truth, T: Tree<W>, O: Sink>(
     out: &mut O,
     err: &mut O,
 ) -> Status
-    ensures {
-        RunsOn (SaysIdent path.now) W.version T.told path.now
-            (shown T.present T.heard T.faults hand.old) (shown T.present T.heard T.faults hand.new)
-            (streams O.written O.write_faults out.old err.old)
-            (streams O.written O.write_faults out.new err.new) (code_of result)
-    }
+    ensures { RunsOn (SaysIdent path.now) W.version T.told path.now
+        (shown T.present T.heard T.faults hand.old) (shown T.present T.heard T.faults hand.new)
+        (streams O.written O.write_faults out.old err.old)
+        (streams O.written O.write_faults out.new err.new) (code_of result) }
 {
     let answer = hand.load(alloc, path, FILE_LIMIT);
     say(alloc, path, &answer, out, err)

@@ -40,11 +40,9 @@ pub const FILE_FAULT: Said<'static> = Said {
 
 /// Says that no regular file is at a path.
 pub fn say_gone<O: Sink>(path: &str, out: &mut O, err: &mut O) -> Status
-    ensures {
-        Ends (gone_saying path.now)
-            (streams O.written O.write_faults out.old err.old)
-            (streams O.written O.write_faults out.new err.new) (code_of result)
-    }
+    ensures { Ends (gone_saying path.now)
+        (streams O.written O.write_faults out.old err.old)
+        (streams O.written O.write_faults out.new err.new) (code_of result) }
 {
     let said = Said {
         out: b"",

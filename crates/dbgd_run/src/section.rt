@@ -33,11 +33,9 @@ const NO_SECTION: Said<'static> = Said {
 
 /// Says why a file has no identity.
 fn say_plain<O: Sink>(why: Why, out: &mut O, err: &mut O) -> Status
-    ensures {
-        Ends (plain_fault_saying why)
-            (streams O.written O.write_faults out.old err.old)
-            (streams O.written O.write_faults out.new err.new) (code_of result)
-    }
+    ensures { Ends (plain_fault_saying why)
+        (streams O.written O.write_faults out.old err.old)
+        (streams O.written O.write_faults out.new err.new) (code_of result) }
 {
     let said = Said {
         out: b"",
@@ -52,11 +50,9 @@ fn say_plain<O: Sink>(why: Why, out: &mut O, err: &mut O) -> Status
 
 /// Says a section's bytes as they stand, or that there is none.
 fn say_bytes<O: Sink>(section: Option<&[u8]>, out: &mut O, err: &mut O) -> Status
-    ensures {
-        Ends (bytes_saying (option_copied section.entry))
-            (streams O.written O.write_faults out.old err.old)
-            (streams O.written O.write_faults out.new err.new) (code_of result)
-    }
+    ensures { Ends (bytes_saying (option_copied section.entry))
+        (streams O.written O.write_faults out.old err.old)
+        (streams O.written O.write_faults out.new err.new) (code_of result) }
 {
     match section {
         Some(bytes) => {
@@ -73,13 +69,11 @@ fn say_bytes<O: Sink>(section: Option<&[u8]>, out: &mut O, err: &mut O) -> Statu
 
 /// Says the section of a name of a file with an identity, by the file's bytes.
 fn say_file<O: Sink>(bytes: &[u8], name: &str, out: &mut O, err: &mut O) -> Status
-    ensures {
-        (identity : Result Identity Why) × (section : Option (List ℕ)) × IsIdentity bytes.now identity
+    ensures { (identity : Result Identity Why) × (section : Option (List ℕ)) × IsIdentity bytes.now identity
         × IsSectionAnswer bytes.now name.now section
         × Ends (section_saying identity section)
-            (streams O.written O.write_faults out.old err.old)
-            (streams O.written O.write_faults out.new err.new) (code_of result)
-    }
+        (streams O.written O.write_faults out.old err.old)
+        (streams O.written O.write_faults out.new err.new) (code_of result) }
 {
     let section = section_of(bytes, name.as_bytes());
     match ident(bytes) {
@@ -96,11 +90,9 @@ fn say<W: Truth, O: Sink>(
     out: &mut O,
     err: &mut O,
 ) -> Status
-    ensures {
-        SaysSection path.now name.now (load_facts answer.now)
-            (streams O.written O.write_faults out.old err.old)
-            (streams O.written O.write_faults out.new err.new) (code_of result)
-    }
+    ensures { SaysSection path.now name.now (load_facts answer.now)
+        (streams O.written O.write_faults out.old err.old)
+        (streams O.written O.write_faults out.new err.new) (code_of result) }
 {
     match answer {
         LoadAnswer::Found(found) => say_file(found.bytes.as_slice(), name, out, err),
@@ -120,12 +112,10 @@ pub fn run_section<W: Truth, T: Tree<W>, O: Sink>(
     out: &mut O,
     err: &mut O,
 ) -> Status
-    ensures {
-        RunsOn (SaysSection path.now name.now) W.version T.told path.now
-            (shown T.present T.heard T.faults hand.old) (shown T.present T.heard T.faults hand.new)
-            (streams O.written O.write_faults out.old err.old)
-            (streams O.written O.write_faults out.new err.new) (code_of result)
-    }
+    ensures { RunsOn (SaysSection path.now name.now) W.version T.told path.now
+        (shown T.present T.heard T.faults hand.old) (shown T.present T.heard T.faults hand.new)
+        (streams O.written O.write_faults out.old err.old)
+        (streams O.written O.write_faults out.new err.new) (code_of result) }
 {
     let answer = hand.load(alloc, path, FILE_LIMIT);
     say(path, name, &answer, out, err)

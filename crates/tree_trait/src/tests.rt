@@ -1,14 +1,13 @@
 //! What no clause says: that memory suffices, and what a script answers, call by call.
 
-use row_types::Stamp;
-use std::test::Fail;
-
 use crate::answer::LoadAnswer;
 use crate::found::Found;
 use crate::mem_tree::MemTree;
 use crate::script::Script;
 use crate::tree::Tree;
 use crate::two_world::TwoWorld;
+use row_types::Stamp;
+use std::test::Fail;
 
 #[test]
 fn a_script_is_answered_call_by_call(rt: HostRuntime) -> Result<(), Fail> {

@@ -8,13 +8,7 @@ use std::test::Fail;
 
 /// Runs `section` on a file of these bytes.
 fn section(rt: &impl Abort, alloc: Global, bytes: &[u8], case: &Case<'_>) -> Result<(), Fail> {
-    run_case(
-        rt,
-        alloc,
-        hand_of(alloc, bytes, &[])?,
-        &NO_BAD_WRITES,
-        case,
-    )
+    run_case(rt, alloc, hand_of(alloc, bytes, &[])?, &NO_BAD_WRITES, case)
 }
 
 /// The section of a name that isn't there.
@@ -33,12 +27,7 @@ fn an_absent_section_is_said_on_err(rt: HostRuntime) -> Result<(), Fail> {
     let companion = debug_companion(alloc)?;
     // The first takes no bytes in the file, the second is compressed, the third isn't there.
     for name in [".text", ".debug_zz", ".debug_line"] {
-        section(
-            &rt,
-            alloc,
-            &companion,
-            &absent(&["section", "/w/a", name]),
-        )?;
+        section(&rt, alloc, &companion, &absent(&["section", "/w/a", name]))?;
     }
     Ok(())
 }

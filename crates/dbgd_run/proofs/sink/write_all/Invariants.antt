@@ -1,5 +1,4 @@
-use Rattle.std.proofs.Common.{length, ◌-◌, ◌≤◌, take}
-use Rattle.dbgd_run.specs.Sink.{Appends}
+use Rattle.std.proofs.Common.{length, ◌-◌}
 use Rattle.dbgd_run.proofs.SinkLemmas.{HasWritten}
 use Rattle.dbgd_run.proofs.sink.write_all.Given as goal
 
