@@ -42,7 +42,10 @@ fn main(rt: HostRuntime) -> ExitCode {
     match run_real(&rt) {
         Ok(status) => ExitCode::from(status),
         Err(_) => {
-            let _ = write_all(&mut RealSink::new(Stream::Err(rt.stderr())), b"dbgd: out of memory\n");
+            let _ = write_all(
+                &mut RealSink::new(Stream::Err(rt.stderr())),
+                b"dbgd: out of memory\n",
+            );
             ExitCode::from(Status::OutOfMemory.code())
         }
     }

@@ -2,11 +2,9 @@
 
 use crate::real_tree::RealTree;
 use row_types::OpenWorld;
-use std::env;
-use std::fs;
 use std::os::unix::fs::symlink;
-use std::process;
 use std::test::Fail;
+use std::{env, fs, process};
 use tree_trait::{LoadAnswer, Tree};
 
 /// A path below the test's folder, a limit, and what its load is to answer.
