@@ -1,0 +1,4 @@
+pub mod KeptLemmas
+pub mod Lists
+pub mod PathLemmas
+pub mod RowLemmas

@@ -1,0 +1,16 @@
+-- How the rows are kept: as one list in path order and a list of changes, with room for what is prepared.
+use Rattle.row_types.specs.Row.{RowFacts}
+use Rattle.index_rows.specs.Rows.{RowsFacts, IsIndex}
+use Rattle.index_rows.specs.declared.prepared.Prepared.{Prepared}
+use Rattle.index_rows.specs.declared.prepared.Prepared.TheVariants.{Nothing, Put, Drop}
+
+-- what has to have room for the change that is prepared
+abbrev pub HasRoom : Prepared → Type 0 → Type 0 → Type 0
+HasRoom Nothing RowsRoom LogRoom = Unit {0}
+HasRoom (Put row) RowsRoom LogRoom = RowsRoom × LogRoom
+HasRoom (Drop name) RowsRoom LogRoom = LogRoom
+
+-- the lists are an index's, and have room
+pub record IsKept (is_true : RowFacts → Type 0) (facts : RowsFacts) (RowsRoom LogRoom : Type 0) : Type 0 where
+  pub index : IsIndex is_true facts
+  pub room : HasRoom facts.prepared RowsRoom LogRoom

@@ -1,0 +1,10 @@
+pub use Rattle.row_types.specs.Name
+pub use Rattle.row_types.specs.Row
+pub use Rattle.row_types.specs.Ascends
+pub mod ByPath
+pub mod Classes
+pub mod Kept
+pub mod Log
+pub mod Pick
+pub mod Places
+pub mod Rows

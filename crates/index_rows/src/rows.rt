@@ -1,0 +1,202 @@
+//! The rows of an index.
+
+ghost use Rattle.std.specs.Prelude.{◌≡◌, ◌↔◌, length, filter, Err, IsSome, IsSomeAnd, IfSome, OnOk, OnErr};
+ghost use Rattle.std.specs.List.{list_any};
+ghost use Rattle.std.specs.Option.{option_copied};
+ghost use Rattle.index_rows.specs.Classes.{has_class, has_id, lists_source};
+ghost use Rattle.index_rows.specs.Log.{replay};
+ghost use Rattle.index_rows.specs.Rows.{after_drop, after_put, after_void, CanBeVoid, IsDropOf, IsIndex, nothing_yet, row_at};
+ghost use Rattle.index_rows.specs.declared.prepared.Prepared.{Prepared};
+ghost use Rattle.index_rows.specs.declared.fault.RowsFault.{RowsFault};
+
+use crate::change::Change;
+use crate::fault::RowsFault;
+use crate::places;
+use crate::prepared::{Prepared, into_name, void_change};
+use crate::row_iter::{self, Pick, RowIter};
+use row_types::{BuildId, CanonPath, Kind, Row, TrueRow, Truth};
+use std::alloc::Global;
+use std::marker::{Model, PhantomData};
+use std::mem;
+
+/// The largest number of changes in a log, 2^22.
+pub const LOG_LIMIT: usize = 0x40_0000;
+
+/// The rows of an index, each true in the world `W`, and the log of the changes that made their names.
+/// Contracts see it as a record of the rows in path order, the log, and the change that room was made for.
+#[derive(Drop)]
+pub struct Rows<W: Truth> {
+    rows: Vec<Row>,
+    log: Vec<Change>,
+    prepared: Prepared,
+    alloc: Global,
+    of: PhantomData<W>,
+}
+
+impl<W: Truth> Model for Rows<W> {
+    ghost use Rattle.std.specs.Prelude.{◌<◌, vec_len};
+    ghost use Rattle.std.specs.Vec.{vec_capacity};
+    ghost use Rattle.index_rows.specs.Rows.{RowsFacts};
+    ghost use Rattle.index_rows.specs.Kept.{IsKept};
+
+    ghost Value = { RowsFacts };
+
+    ghost view = { λ r. record { rows = r.rows.items; log = r.log.items; prepared = r.prepared } };
+
+    ghost invariant = { λ r. IsKept W.true_row (record { rows = r.rows.items; log = r.log.items; prepared = r.prepared }) (vec_len r.rows < vec_capacity r.rows) (vec_len r.log < vec_capacity r.log) };
+}
+
+impl<W: Truth> Rows<W> {
+    /// No rows and no changes.
+    pub fn new(alloc: Global) -> Rows<W>
+        ensures { result ≡ nothing_yet }
+    {
+        Rows {
+            rows: Vec::new(alloc),
+            log: Vec::new(alloc),
+            prepared: Prepared::Nothing,
+            alloc,
+            of: PhantomData,
+        }
+    }
+
+    /// The number of rows.
+    pub fn len(&self) -> u64
+        ensures value { result ≡ length self.now.rows }
+        ensures holds { IsIndex W.true_row self.now }
+    {
+        self.rows.len() as u64
+    }
+
+    /// The number of changes.
+    pub fn log_len(&self) -> u64
+        ensures value { result ≡ length self.now.log }
+        ensures holds { IsIndex W.true_row self.now }
+    {
+        self.log.len() as u64
+    }
+
+    /// The path's row.
+    pub fn get(&self, path: &CanonPath) -> Option<&Row>
+        ensures value { option_copied result ≡ row_at path.now self.now.rows }
+        ensures path { IfSome result (λ row. row.now.name.path ≡ path.now) }
+        ensures holds { IsIndex W.true_row self.now }
+    {
+        places::row_at(self.rows.as_slice(), path)
+    }
+
+    /// The rows with the id whose files are of the kind.
+    pub fn with_class(&self, id: &BuildId, kind: Kind) -> RowIter<'_>
+        ensures { result ≡ filter (λ row. has_class id.now kind row.reading) self.now.rows }
+    {
+        RowIter::picked(self.rows.as_slice(), Pick::OfClass(*id, kind))
+    }
+
+    /// The rows with the id.
+    pub fn rows_of(&self, id: &BuildId) -> RowIter<'_>
+        ensures { result ≡ filter (λ row. has_id id.now row.reading) self.now.rows }
+    {
+        RowIter::picked(self.rows.as_slice(), Pick::OfId(*id))
+    }
+
+    /// All rows.
+    pub fn rows(&self) -> RowIter<'_>
+        ensures value { result ≡ self.now.rows }
+        ensures holds { IsIndex W.true_row self.now }
+    {
+        RowIter::all(self.rows.as_slice())
+    }
+
+    /// Whether some row with the id lists the source.
+    pub fn lists_source(&self, id: &BuildId, path: &CanonPath) -> bool
+        ensures { result ≡ list_any (λ row. lists_source id.now path.now row.reading) self.now.rows }
+    {
+        self.rows
+            .iter()
+            .any(|row| row_iter::lists_source(id, path, &row.reading))
+    }
+
+    /// Makes room for a put of an equal row, which then needs no memory. What was prepared before is
+    /// given up.
+    pub fn reserve(&mut self, row: &TrueRow<W>) -> Result<(), RowsFault>
+        ensures ok { OnOk result (self.new ≡ record self.old { prepared = Prepared.Put row.now }) }
+        ensures full { (result ≡ Err RowsFault.LogFull) ↔ (length self.old.log ≡ LOG_LIMIT) }
+        ensures err { OnErr result (self.new ≡ self.old) }
+        ensures holds { IsIndex W.true_row self.new }
+    {
+        if self.log.len() == LOG_LIMIT {
+            return Err(RowsFault::LogFull);
+        }
+        let copy = row.row().copy(self.alloc)?;
+        self.rows.reserve(1)?;
+        self.log.reserve(1)?;
+        self.prepared = Prepared::Put(copy);
+        Ok(())
+    }
+
+    /// Puts the row, for which room was made, in place of its path's, and lists the put.
+    pub fn put(&mut self, row: TrueRow<W>)
+        requires { self.old.prepared ≡ Prepared.Put row }
+        ensures value { self.new ≡ after_put row self.old }
+        ensures holds { IsIndex W.true_row self.new }
+    {
+        match mem::replace(&mut self.prepared, Prepared::Nothing) {
+            Prepared::Put(copy) => {
+                let name = into_name(copy);
+                places::put_row(&mut self.rows, row.into_row());
+                places::list_change(&mut self.log, Change { put: true, name });
+            }
+            Prepared::Nothing | Prepared::Drop(_) => unreachable!(),
+        }
+    }
+
+    /// Makes room for a drop of the path's row, which then needs no memory. What was prepared before is
+    /// given up.
+    pub fn reserve_drop(&mut self, path: &CanonPath) -> Result<(), RowsFault>
+        requires { IsSome (row_at path.now self.old.rows) }
+        ensures ok { OnOk result (IsSomeAnd (row_at path.now self.old.rows) (λ row. self.new ≡ record self.old { prepared = Prepared.Drop row.name })) }
+        ensures ready { OnOk result (IsDropOf path.now self.new.prepared) }
+        ensures full { (result ≡ Err RowsFault.LogFull) ↔ (length self.old.log ≡ LOG_LIMIT) }
+        ensures err { OnErr result (self.new ≡ self.old) }
+        ensures holds { IsIndex W.true_row self.new }
+    {
+        if self.log.len() == LOG_LIMIT {
+            return Err(RowsFault::LogFull);
+        }
+        match places::row_at(self.rows.as_slice(), path) {
+            Some(row) => {
+                let name = row.name.copy(self.alloc)?;
+                self.log.reserve(1)?;
+                self.prepared = Prepared::Drop(name);
+                Ok(())
+            }
+            None => unreachable!(),
+        }
+    }
+
+    /// Drops the path's row, for which room was made, and lists the drop.
+    pub fn drop_path(&mut self, path: &CanonPath)
+        requires { IsDropOf path.now self.old.prepared }
+        ensures value { IsSomeAnd (row_at path.now self.old.rows) (λ row. self.new ≡ after_drop row.name self.old) }
+        ensures holds { IsIndex W.true_row self.new }
+    {
+        match mem::replace(&mut self.prepared, Prepared::Nothing) {
+            Prepared::Drop(name) => {
+                places::drop_row(&mut self.rows, path);
+                places::list_change(&mut self.log, Change { put: false, name });
+            }
+            Prepared::Nothing | Prepared::Put(_) => unreachable!(),
+        }
+    }
+
+    /// Lists a change without effect in place of the change that room was made for. The rows stay.
+    pub fn mark_void(&mut self)
+        requires { CanBeVoid self.old.prepared self.old.rows }
+        ensures value { self.new ≡ after_void self.old }
+        ensures void { replay self.new.log ≡ replay self.old.log }
+        ensures holds { IsIndex W.true_row self.new }
+    {
+        let prepared = mem::replace(&mut self.prepared, Prepared::Nothing);
+        places::list_change(&mut self.log, void_change(prepared));
+    }
+}

@@ -1,0 +1,10 @@
+use Rattle.std.proofs.Common.{◌<◌, ◌^◌, List, ℕ, length, All, arith, rules, subst}
+use Rattle.row_codec.specs.Spelled.{IsPathText, AreSources}
+use Rattle.row_codec.proofs.write.push_sources.Goals as goal
+
+pub returns-clause-spelled : goal.returns-clause-spelled
+returns-clause-spelled c = record {
+  few = rw (← c.paths-paths.ensures.value) (omega (arith, c.in-Ok.ensures));
+  paths = subst (All IsPathText) c.paths-paths.ensures.value c.in_ok-push_paths.ensures.texts;
+  ascend = c.paths-paths.ensures.ascends;
+}

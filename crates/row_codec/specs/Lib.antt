@@ -1,0 +1,3 @@
+pub use Rattle.row_types.specs.Row
+pub mod Spelled
+pub mod RowBytes

@@ -1,0 +1,82 @@
+-- A name leaves the pass, or isn't in it.
+use Rattle.std.proofs.Common.{◌≡◌, true, false, ℕ, List, All, refl, sym, ◌∙◌, ap, subst, slice_index_or, slice_set}
+use Rattle.scan_queue.specs.Names.{is_in, same_name}
+use Rattle.scan_queue.specs.Pass.{IsPass, PassFacts, left, names_of}
+use Rattle.scan_queue.specs.Slots.{HasNameAt, IsLaidOut, IsNotHeld, facts_of, is_done}
+use Rattle.scan_queue.specs.declared.slot.Slot.{Slot}
+use Rattle.scan_queue.proofs.Changes.{done_slot, laid_out_done}
+use Rattle.scan_queue.proofs.Leaves.{done_not_held, held, name_leaves, no_slot_not_held, not_held, nothing_leaves}
+use Rattle.scan_queue.proofs.Passes.{laid_out_is_pass}
+use Rattle.scan_queue.proofs.pass.Pass.done.Goals as goal
+
+pub returns-in_default-clause-found : goal.returns-in_default-clause-found
+returns-in_default-clause-found c =
+    let before = c.self.inside in
+    let name = c.args.name.now in
+    let none : All (IsNotHeld name) before.slots.items = no_slot_not_held name before.slots.items (subst (λ (xs : List Slot). All (λ (s : Slot). same_name name s.name ≡ false) xs) c.as_slice.ensures.value c.in_default.ensures) in
+    subst (λ (p : PassFacts). false ≡ is_in (names_of p) name) c.self.view_is (sym (not_held name before.listing before.slots.items before.filled none))
+
+pub returns-in_default-clause-after : goal.returns-in_default-clause-after
+returns-in_default-clause-after c =
+    let before = c.self.inside in
+    let name = c.args.name.now in
+    let none : All (IsNotHeld name) before.slots.items = no_slot_not_held name before.slots.items (subst (λ (xs : List Slot). All (λ (s : Slot). same_name name s.name ≡ false) xs) c.as_slice.ensures.value c.in_default.ensures) in
+    subst (λ (p : PassFacts). p ≡ left name p) c.self.view_is (nothing_leaves name before.listing before.slots.items before.filled none)
+
+pub returns-in_default-clause-keeps : goal.returns-in_default-clause-keeps
+returns-in_default-clause-keeps c =
+    subst IsPass c.self.view_is (laid_out_is_pass c.self.inside.listing c.self.inside.slots.items c.self.inside.mark c.self.inside.filled c.self.invariant)
+
+pub returns-then-is_done-clause-found : goal.returns-then-is_done-clause-found
+returns-then-is_done-clause-found c =
+    let before = c.self.inside in
+    let name = c.args.name.now in
+    let there : HasNameAt name before.slots.items c.in-Some.at = subst (λ (xs : List Slot). HasNameAt name xs c.in-Some.at) c.as_slice.ensures.value c.in-Some.ensures in
+    let gone : is_done (slice_index_or before.slots.items c.in-Some.at c.index.result.now).place ≡ true = ap (λ (s : Slot). is_done s.place) (sym c.index.ensures) ∙ sym c.is_done.ensures ∙ c.if-is_done.true in
+    subst (λ (p : PassFacts). false ≡ is_in (names_of p) name) c.self.view_is
+    (sym (not_held name before.listing before.slots.items before.filled (done_not_held name before.listing before.slots.items before.filled c.in-Some.at c.index.result.now c.self.invariant.kept there gone)))
+
+pub returns-then-is_done-clause-after : goal.returns-then-is_done-clause-after
+returns-then-is_done-clause-after c =
+    let before = c.self.inside in
+    let name = c.args.name.now in
+    let there : HasNameAt name before.slots.items c.in-Some.at = subst (λ (xs : List Slot). HasNameAt name xs c.in-Some.at) c.as_slice.ensures.value c.in-Some.ensures in
+    let gone : is_done (slice_index_or before.slots.items c.in-Some.at c.index.result.now).place ≡ true = ap (λ (s : Slot). is_done s.place) (sym c.index.ensures) ∙ sym c.is_done.ensures ∙ c.if-is_done.true in
+    subst (λ (p : PassFacts). p ≡ left name p) c.self.view_is
+    (nothing_leaves name before.listing before.slots.items before.filled (done_not_held name before.listing before.slots.items before.filled c.in-Some.at c.index.result.now c.self.invariant.kept there gone))
+
+pub returns-then-is_done-clause-keeps : goal.returns-then-is_done-clause-keeps
+returns-then-is_done-clause-keeps c =
+    subst IsPass c.self.view_is (laid_out_is_pass c.self.inside.listing c.self.inside.slots.items c.self.inside.mark c.self.inside.filled c.self.invariant)
+
+pub invariant_of-self : goal.invariant_of-self
+invariant_of-self c =
+    let before = c.self.inside in
+    let there : HasNameAt c.args.name.now before.slots.items c.in-Some.at = subst (λ (xs : List Slot). HasNameAt c.args.name.now xs c.in-Some.at) c.as_slice.ensures.value c.in-Some.ensures in
+    subst (λ (s : Slot). IsLaidOut before.listing (slice_set before.slots.items c.in-Some.at (done_slot s)) before.mark before.filled) (sym c.index_mut.ensures.value)
+    (laid_out_done before.listing before.slots.items before.mark before.filled c.in-Some.at c.index_mut.result.now there.within c.self.invariant)
+
+pub returns-clause-found : goal.returns-clause-found
+returns-clause-found c =
+    let before = c.self.inside in
+    let name = c.args.name.now in
+    let there : HasNameAt name before.slots.items c.in-Some.at = subst (λ (xs : List Slot). HasNameAt name xs c.in-Some.at) c.as_slice.ensures.value c.in-Some.ensures in
+    let stands : is_done (slice_index_or before.slots.items c.in-Some.at c.index.result.now).place ≡ false = ap (λ (s : Slot). is_done s.place) (sym c.index.ensures) ∙ sym c.is_done.ensures ∙ c.if-is_done.false in
+    subst (λ (p : PassFacts). true ≡ is_in (names_of p) name) c.self.view_is
+    (sym (held name before.listing before.slots.items before.filled c.in-Some.at c.index.result.now there stands))
+
+pub returns-clause-after : goal.returns-clause-after
+returns-clause-after c =
+    let before = c.self.inside in
+    let name = c.args.name.now in
+    let there : HasNameAt name before.slots.items c.in-Some.at = subst (λ (xs : List Slot). HasNameAt name xs c.in-Some.at) c.as_slice.ensures.value c.in-Some.ensures in
+    subst (λ (p : PassFacts). facts_of before.listing (slice_set before.slots.items c.in-Some.at (done_slot c.index_mut.result.now)) before.filled ≡ left name p) c.self.view_is
+    (sym (name_leaves name before.listing before.slots.items before.filled c.in-Some.at c.index_mut.result.now (done_slot c.index_mut.result.now) c.self.invariant.kept there refl))
+
+pub returns-clause-keeps : goal.returns-clause-keeps
+returns-clause-keeps c =
+    let before = c.self.inside in
+    let there : HasNameAt c.args.name.now before.slots.items c.in-Some.at = subst (λ (xs : List Slot). HasNameAt c.args.name.now xs c.in-Some.at) c.as_slice.ensures.value c.in-Some.ensures in
+    laid_out_is_pass before.listing (slice_set before.slots.items c.in-Some.at (done_slot c.index_mut.result.now)) before.mark before.filled
+    (subst (λ (s : Slot). IsLaidOut before.listing (slice_set before.slots.items c.in-Some.at (done_slot s)) before.mark before.filled) (sym c.index_mut.ensures.value)
+    (laid_out_done before.listing before.slots.items before.mark before.filled c.in-Some.at c.index_mut.result.now there.within c.self.invariant))
