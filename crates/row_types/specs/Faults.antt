@@ -6,6 +6,10 @@ use Rattle.std.specs.Prelude.{ℕ, ◌+◌, ◌-◌, ◌^◌, ◌≤◌, min}
 abbrev pub raised : ℕ → ℕ
 raised count = min (count + 1) (2 ^ 64 - 1)
 
+-- the sum of two counts, up to the largest `u64`
+abbrev pub summed : ℕ → ℕ → ℕ
+summed count more = min (count + more) (2 ^ 64 - 1)
+
 -- the count rose, or stands at the largest `u64`
 abbrev pub Rose : ℕ → ℕ → Type 0
 Rose before now = raised before ≤ now

@@ -1,7 +1,7 @@
 //! The count of faults that each object of the outside keeps.
 
 ghost use Rattle.std.specs.Prelude.{◌≡◌, ◌≤◌, ℕ};
-ghost use Rattle.row_types.specs.Faults.{raised};
+ghost use Rattle.row_types.specs.Faults.{raised, summed};
 
 use std::marker::Model;
 
@@ -41,5 +41,13 @@ impl Faults {
         ensures later { self.old ≤ self.new }
     {
         self.count = self.count.saturating_add(1);
+    }
+
+    /// Counts the faults of another object as well.
+    pub fn add(&mut self, more: Faults)
+        ensures value { self.new ≡ summed self.old more }
+        ensures later { self.old ≤ self.new }
+    {
+        self.count = self.count.saturating_add(more.count);
     }
 }

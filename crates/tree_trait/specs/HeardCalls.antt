@@ -1,10 +1,13 @@
 -- The list of questions that a tree in memory keeps.
 use Rattle.std.specs.String.{string_bytes}
-use Rattle.tree_trait.specs.Heard.{Heard, load}
+use Rattle.tree_trait.specs.Heard.{Heard, load, stat, read_dir}
+use Rattle.tree_trait.specs.Dir.{dir_facts}
 use Rattle.tree_trait.specs.Load.{load_facts}
 use Rattle.tree_trait.specs.declared.heard.HeardCall.{HeardCall}
-use Rattle.tree_trait.specs.declared.heard.HeardCall.TheVariants.{Load}
+use Rattle.tree_trait.specs.declared.heard.HeardCall.TheVariants.{Load, Stat, ReadDir}
 
 -- a kept question as plain data
 abbrev pub heard_facts : {W : Type 0} → HeardCall W → Heard
 heard_facts (Load path limit answer) = load (string_bytes path) limit (load_facts answer)
+heard_facts (Stat path answer) = stat (string_bytes path) answer
+heard_facts (ReadDir path answer) = read_dir (string_bytes path) (dir_facts answer)

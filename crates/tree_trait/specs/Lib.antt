@@ -1,11 +1,16 @@
 pub use Rattle.row_types.specs.Faults
 pub use Rattle.row_types.specs.Name
 pub use Rattle.row_types.specs.Stamp
+pub mod Dir
+pub mod Entry
+pub mod Folder
 pub mod Found
 pub mod Heard
 pub mod HeardCalls
 pub mod Load
 pub mod MemTree
+pub mod Pieces
 pub mod Present
 pub mod Script
+pub mod Stat
 pub mod TwoWorld

@@ -3,10 +3,14 @@ use Rattle.std.specs.Prelude.{◌≡◌, ℕ, ◌≤◌, ◌<◌, Bool, true, fa
 use Rattle.row_types.specs.Faults.{raised}
 use Rattle.row_types.specs.Name.{NameFacts}
 use Rattle.row_types.specs.Stamp.{StampFacts}
+use Rattle.tree_trait.specs.Dir.{DirFacts, listed, no_dir, dir_failed, dir_no_memory, is_dir_failed, is_dir_no_memory}
 use Rattle.tree_trait.specs.Found.{IsFound}
-use Rattle.tree_trait.specs.Heard.{Heard, load}
+use Rattle.tree_trait.specs.Heard.{Heard, load, stat, read_dir}
 use Rattle.tree_trait.specs.Load.{LoadFacts, loaded, too_large, gone, failed, no_memory, is_failed, is_no_memory}
 use Rattle.tree_trait.specs.Present.{are_apart}
+use Rattle.tree_trait.specs.Stat.{is_stat_failed, is_stat_no_memory}
+use Rattle.tree_trait.specs.declared.stat.StatAnswer.{StatAnswer}
+use Rattle.tree_trait.specs.declared.stat.StatAnswer.TheVariants.{Folder, File, Other, Gone, Failed, OutOfMemory}
 use Rattle.tree_trait.specs.Script.{ScriptFacts, is_script, is_listed, stage_for, names_at}
 
 -- the script, the stage that stands, the next call's number, the questions so far, and the count of faults
@@ -55,13 +59,39 @@ abbrev pub tree_after_load : TreeFacts → List ℕ → ℕ → LoadFacts → Tr
 tree_after_load tree path limit answer =
     if is_no_memory answer then tree else answered tree (is_failed answer) (load path limit answer)
 
+-- the tree after a look at a path
+abbrev pub tree_after_stat : TreeFacts → List ℕ → StatAnswer → TreeFacts
+tree_after_stat tree path answer =
+    if is_stat_no_memory answer then tree else answered tree (is_stat_failed answer) (stat path answer)
+
+-- the tree after a folder was read
+abbrev pub tree_after_read_dir : TreeFacts → List ℕ → DirFacts → TreeFacts
+tree_after_read_dir tree path answer =
+    if is_dir_no_memory answer then tree else answered tree (is_dir_failed answer) (read_dir path answer)
+
 -- a load fails exactly where its number is listed, want of memory apart
 abbrev pub FailsWhere : Bool → LoadFacts → Type 0
-FailsWhere listed (loaded found) = listed ≡ false
-FailsWhere listed (too_large stamp) = listed ≡ false
-FailsWhere listed gone = listed ≡ false
-FailsWhere listed failed = listed ≡ true
-FailsWhere listed no_memory = Unit {0}
+FailsWhere bad (loaded found) = bad ≡ false
+FailsWhere bad (too_large stamp) = bad ≡ false
+FailsWhere bad gone = bad ≡ false
+FailsWhere bad failed = bad ≡ true
+FailsWhere bad no_memory = Unit {0}
+
+-- so does a look at a path
+abbrev pub StatFailsWhere : Bool → StatAnswer → Type 0
+StatFailsWhere bad Folder = bad ≡ false
+StatFailsWhere bad (File stamp) = bad ≡ false
+StatFailsWhere bad Other = bad ≡ false
+StatFailsWhere bad Gone = bad ≡ false
+StatFailsWhere bad Failed = bad ≡ true
+StatFailsWhere bad OutOfMemory = Unit {0}
+
+-- and the reading of a folder
+abbrev pub DirFailsWhere : Bool → DirFacts → Type 0
+DirFailsWhere bad (listed entries skipped) = bad ≡ false
+DirFailsWhere bad no_dir = bad ≡ false
+DirFailsWhere bad dir_failed = bad ≡ true
+DirFailsWhere bad dir_no_memory = Unit {0}
 
 -- whether the next call's number is among those that fail
 abbrev pub is_bad : TreeFacts → Bool

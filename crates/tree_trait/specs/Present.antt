@@ -28,6 +28,10 @@ front_under folder = if bytes_eq folder (SEPARATOR ∷ []) then folder else fold
 abbrev pub lies_under : List ℕ → List ℕ → Bool
 lies_under folder path = starts_with nat_eq path (front_under folder) && not (bytes_eq path folder)
 
+-- whether some file lies under a path, which makes it a folder
+abbrev pub is_folder : List NameFacts → List ℕ → Bool
+is_folder names path = list_any (λ name. lies_under path name.path) names
+
 -- whether no path lies under another
 abbrev pub are_apart : List (List ℕ) → Bool
 are_apart paths = list_all (λ folder. not (list_any (lies_under folder) paths)) paths

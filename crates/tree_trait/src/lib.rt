@@ -3,18 +3,26 @@
 #![tactic(auto)]
 
 mod answer;
+mod dir;
+mod entry;
+mod folder;
 mod found;
 mod heard;
 mod mem_tree;
 mod script;
+mod stage;
+mod stat;
 #[cfg(test)]
 mod tests;
 mod tree;
 mod two_world;
 
 pub use answer::LoadAnswer;
+pub use dir::DirAnswer;
+pub use entry::{Entry, EntryKind, is_entry_name};
 pub use found::Found;
 pub use mem_tree::MemTree;
 pub use script::Script;
+pub use stat::StatAnswer;
 pub use tree::Tree;
 pub use two_world::TwoWorld;

@@ -1,21 +1,25 @@
 //! A tree in memory that answers by a script.
 
-ghost use Rattle.std.specs.Prelude.{◌≡◌, ◌<◌, ◌≤◌, [], map, length, slice_index_or, All, IsTrue, MatchOption};
-ghost use Rattle.std.specs.List.{find};
-ghost use Rattle.std.specs.Option.{option_copied};
-ghost use Rattle.std.specs.Str.{bytes_eq};
+ghost use Rattle.std.specs.Prelude.{◌≡◌, ◌<◌, ◌≤◌, ◌++◌, ◌∷◌, [], map, length, All, IsTrue, IsSome, IfSome, Some};
+ghost use Rattle.std.specs.Bool.{OnTrue, OnFalse};
 ghost use Rattle.row_types.specs.Faults.{HasCause};
+ghost use Rattle.tree_trait.specs.Dir.{dir_facts, is_dir_failed, is_dir_no_memory, TellsDir};
 ghost use Rattle.tree_trait.specs.Found.{IsFound, name_of};
-ghost use Rattle.tree_trait.specs.Heard.{after_load};
+ghost use Rattle.tree_trait.specs.Heard.{after_load, after_stat, after_read_dir};
+ghost use Rattle.tree_trait.specs.HeardCalls.{heard_facts};
 ghost use Rattle.tree_trait.specs.Load.{load_facts, is_failed, is_no_memory, FitsLoad, TellsLoad};
-ghost use Rattle.tree_trait.specs.Present.{IsAt, IsPresence, StaysStill, stamp_at};
-ghost use Rattle.tree_trait.specs.Script.{is_script, is_listed, stage_for};
-ghost use Rattle.tree_trait.specs.MemTree.{TreeFacts, fresh, names_of, IsStill, is_bad, FailsWhere, tree_after_load};
+ghost use Rattle.tree_trait.specs.MemTree.{TreeFacts, fresh, names_of, next_stage, answered, IsStill, is_bad, FailsWhere, StatFailsWhere, DirFailsWhere, tree_after_load, tree_after_stat, tree_after_read_dir};
+ghost use Rattle.tree_trait.specs.Present.{IsPresence, StaysStill};
+ghost use Rattle.tree_trait.specs.Script.{is_script, names_at};
+ghost use Rattle.tree_trait.specs.Stat.{is_stat_failed, is_stat_no_memory, TellsStat};
 
 use crate::answer::LoadAnswer;
+use crate::dir::DirAnswer;
 use crate::found::Found;
-use crate::heard::{HeardCall, note_load};
+use crate::heard::{HeardCall, heard_load, heard_read_dir, heard_stat};
 use crate::script::Script;
+use crate::stage::{dir_in, files_at, is_listed, load_in, stage_for, stat_in};
+use crate::stat::StatAnswer;
 use crate::tree::Tree;
 use row_types::{Faults, Truth};
 use std::alloc::Global;
@@ -75,6 +79,52 @@ impl<W: Truth> MemTree<W> {
             faults: Faults::new(),
         }
     }
+
+    /// Whether the next call fails.
+    fn is_bad(&self) -> bool
+        ensures { result ≡ is_bad self.now }
+    {
+        is_listed(self.bad_calls.as_slice(), self.calls)
+    }
+
+    /// The stage in which the next call is answered.
+    fn next_stage(&self) -> usize
+        ensures value { result ≡ next_stage self.now }
+        ensures placed { result < length self.now.script.stages }
+        ensures later { self.now.stage ≤ result }
+    {
+        let count = self.stages.as_slice().len();
+        stage_for(self.moves.as_slice(), self.calls, self.stage, count)
+    }
+
+    /// The files by which the next call is answered.
+    fn next_files(&self) -> &[Found<W>]
+        ensures { map name_of result.now ≡ names_at self.now.script (next_stage self.now) }
+    {
+        let stage = self.next_stage();
+        files_at(self.stages.as_slice(), stage)
+    }
+
+    /// Ends a call that is listed, or leaves the tree as it is. Says which.
+    fn end_call(&mut self, call: Option<HeardCall<W>>, failed: bool) -> bool
+        ensures ended { OnTrue result (IfSome call (λ entry. self.new ≡ answered self.old failed (heard_facts entry))) }
+        ensures listed { OnTrue result (IsSome call) }
+        ensures same { OnFalse result (self.new ≡ self.old) }
+        ensures cause { OnTrue result (HasCause self.old.faults self.new.faults (IsTrue failed)) }
+        ensures known { IsPresence W.version (IsStill self.new) (names_of self.new) }
+        ensures still { IsStill self.old → StaysStill (IsStill self.new) (names_of self.old) (names_of self.new) }
+    {
+        let stage = self.next_stage();
+        if !keep_call(&mut self.heard, call) {
+            return false;
+        }
+        self.stage = stage;
+        self.calls = self.calls.saturating_add(1);
+        if failed {
+            self.faults.raise();
+        }
+        true
+    }
 }
 
 impl<W: Truth + Send> Tree<W> for MemTree<W> {
@@ -102,91 +152,64 @@ impl<W: Truth + Send> Tree<W> for MemTree<W> {
         ensures fails { FailsWhere (is_bad self.old) (load_facts result) }
         ensures after { self.new ≡ tree_after_load self.old path.now limit (load_facts result) }
     {
-        let bad = is_listed(self.bad_calls.as_slice(), self.calls);
-        let stages = self.stages.as_slice();
-        let stage = stage_for(self.moves.as_slice(), self.calls, self.stage, stages.len());
-        let answer = answer_in(alloc, bad, files_at(stages, stage), path, limit);
-        if answer.is_no_memory() {
-            return answer;
+        let answer = load_in(alloc, self.is_bad(), self.next_files(), path, limit);
+        let call = heard_load(alloc, path, limit, &answer);
+        if self.end_call(call, answer.is_failed()) {
+            answer
+        } else {
+            LoadAnswer::OutOfMemory
         }
-        if note_load(&mut self.heard, alloc, path, limit, &answer).is_err() {
-            return LoadAnswer::OutOfMemory;
+    }
+
+    fn stat(&mut self, alloc: Global, path: &str) -> StatAnswer
+        ensures told { TellsStat (names_of self.new) path.now result }
+        ensures heard { Some self.new.heard ≡ after_stat (Some self.old.heard) path.now result }
+        ensures cause { HasCause self.old.faults self.new.faults (IsTrue (is_stat_failed result)) }
+        ensures known { IsPresence W.version (IsStill self.new) (names_of self.new) }
+        ensures still { IsStill self.old → StaysStill (IsStill self.new) (names_of self.old) (names_of self.new) }
+        ensures memory { IsTrue (is_stat_no_memory result) → self.new ≡ self.old }
+        ensures fails { StatFailsWhere (is_bad self.old) result }
+        ensures after { self.new ≡ tree_after_stat self.old path.now result }
+    {
+        let answer = stat_in(self.is_bad(), self.next_files(), path);
+        let call = heard_stat(alloc, path, answer);
+        if self.end_call(call, answer.is_failed()) {
+            answer
+        } else {
+            StatAnswer::OutOfMemory
         }
-        self.stage = stage;
-        self.calls = self.calls.saturating_add(1);
-        if bad {
-            self.faults.raise();
+    }
+
+    fn read_dir(&mut self, alloc: Global, path: &str) -> DirAnswer
+        ensures told { TellsDir (names_of self.new) path.now (dir_facts result) }
+        ensures heard { Some self.new.heard ≡ after_read_dir (Some self.old.heard) path.now (dir_facts result) }
+        ensures cause { HasCause self.old.faults self.new.faults (IsTrue (is_dir_failed (dir_facts result))) }
+        ensures known { IsPresence W.version (IsStill self.new) (names_of self.new) }
+        ensures still { IsStill self.old → StaysStill (IsStill self.new) (names_of self.old) (names_of self.new) }
+        ensures memory { IsTrue (is_dir_no_memory (dir_facts result)) → self.new ≡ self.old }
+        ensures fails { DirFailsWhere (is_bad self.old) (dir_facts result) }
+        ensures after { self.new ≡ tree_after_read_dir self.old path.now (dir_facts result) }
+    {
+        let answer = dir_in(alloc, self.is_bad(), self.next_files(), path);
+        let call = heard_read_dir(alloc, path, &answer);
+        if self.end_call(call, answer.is_failed()) {
+            answer
+        } else {
+            DirAnswer::OutOfMemory
         }
-        answer
     }
 }
 
-/// Whether the call of this number is among the numbers.
-fn is_listed(numbers: &[u64], call: u64) -> bool
-    ensures { result ≡ is_listed numbers.now call }
+/// Adds a call to the list, if it is one. Says whether it did.
+fn keep_call<W: Truth>(calls: &mut Vec<HeardCall<W>>, call: Option<HeardCall<W>>) -> bool
+    ensures kept { OnTrue result (IfSome call (λ entry. map heard_facts calls.new.items ≡ map heard_facts calls.old.items ++ heard_facts entry ∷ [])) }
+    ensures listed { OnTrue result (IsSome call) }
+    ensures same { OnFalse result (calls.new.items ≡ calls.old.items) }
 {
-    numbers.contains(&call)
-}
-
-/// The stage, of so many, in which the call of this number is answered.
-fn stage_for(moves: &[u64], call: u64, stage: usize, count: usize) -> usize
-    requires { stage < count }
-    ensures value { result ≡ stage_for moves.now call stage count }
-    ensures placed { result < count }
-    ensures later { stage ≤ result }
-{
-    if is_listed(moves, call) && stage + 1 < count {
-        stage + 1
-    } else {
-        stage
+    match call {
+        Some(call) => calls.push(call).is_ok(),
+        None => false,
     }
-}
-
-/// The files of a stage.
-fn files_at<W: Truth>(stages: &[Vec<Found<W>>], stage: usize) -> &[Found<W>]
-    requires { stage < length stages.now }
-    ensures { result.now ≡ slice_index_or (map (λ files. files.items) stages.now) stage [] }
-{
-    stages[stage].as_slice()
-}
-
-/// What is answered of the file at a path, among the files of a stage.
-fn answer_in<W: Truth>(
-    alloc: Global,
-    bad: bool,
-    files: &[Found<W>],
-    path: &str,
-    limit: u64,
-) -> LoadAnswer<W>
-    ensures asked { FitsLoad W.version path.now limit (load_facts result) }
-    ensures told { TellsLoad (map name_of files.now) path.now (load_facts result) }
-    ensures fails { FailsWhere bad (load_facts result) }
-{
-    if bad {
-        return LoadAnswer::Failed;
-    }
-    match file_at(files, path) {
-        None => LoadAnswer::Gone,
-        Some(found) if limit < found.stamp.size => LoadAnswer::TooLarge { stamp: found.stamp },
-        Some(found) => match found.copy(alloc) {
-            Ok(copy) => LoadAnswer::Found(copy),
-            Err(_) => LoadAnswer::OutOfMemory,
-        },
-    }
-}
-
-/// The file at a path.
-fn file_at<'a, W: Truth>(files: &'a [Found<W>], path: &str) -> Option<&'a Found<W>>
-    ensures { MatchOption result (stamp_at (map name_of files.now) path.now ≡ None) (λ file. IsAt (map name_of files.now) path.now (name_of file.now)) }
-{
-    first_at(files, path)
-}
-
-/// The first file of a path.
-fn first_at<'a, W: Truth>(files: &'a [Found<W>], path: &str) -> Option<&'a Found<W>>
-    ensures { option_copied result ≡ find (λ file. bytes_eq file.path path.now) files.now }
-{
-    files.iter().find(|file| file.path.as_str() == path)
 }
 
 /// What is known of each file.

@@ -3,11 +3,15 @@
 ghost use Rattle.std.specs.Prelude.{◌≡◌, ℕ, List, Bool, Option, IsTrue};
 ghost use Rattle.row_types.specs.Faults.{HasCause};
 ghost use Rattle.row_types.specs.Name.{NameFacts};
-ghost use Rattle.tree_trait.specs.Heard.{Heard, after_load};
+ghost use Rattle.tree_trait.specs.Dir.{dir_facts, is_dir_failed, is_dir_no_memory, TellsDir};
+ghost use Rattle.tree_trait.specs.Heard.{Heard, after_load, after_stat, after_read_dir};
 ghost use Rattle.tree_trait.specs.Load.{load_facts, is_failed, is_no_memory, FitsLoad, TellsLoad};
 ghost use Rattle.tree_trait.specs.Present.{IsPresence, StaysStill};
+ghost use Rattle.tree_trait.specs.Stat.{is_stat_failed, is_stat_no_memory, TellsStat};
 
 use crate::answer::LoadAnswer;
+use crate::dir::DirAnswer;
+use crate::stat::StatAnswer;
 use row_types::Truth;
 use std::alloc::Global;
 
@@ -38,4 +42,22 @@ pub trait Tree<W: Truth>: Send + Drop {
         ensures known { IsTrue told → IsPresence W.version (still self.new) (present self.new) }
         ensures still { still self.old → StaysStill (still self.new) (present self.old) (present self.new) }
         ensures memory { IsTrue (is_no_memory (load_facts result)) → self.new ≡ self.old };
+
+    /// Looks at what stands at a path.
+    fn stat(&mut self, alloc: Global, path: &str) -> StatAnswer
+        ensures told { IsTrue told → TellsStat (present self.new) path.now result }
+        ensures heard { heard self.new ≡ after_stat (heard self.old) path.now result }
+        ensures cause { HasCause (faults self.old) (faults self.new) (IsTrue (is_stat_failed result)) }
+        ensures known { IsTrue told → IsPresence W.version (still self.new) (present self.new) }
+        ensures still { still self.old → StaysStill (still self.new) (present self.old) (present self.new) }
+        ensures memory { IsTrue (is_stat_no_memory result) → self.new ≡ self.old };
+
+    /// Reads the entries of the folder at a path.
+    fn read_dir(&mut self, alloc: Global, path: &str) -> DirAnswer
+        ensures told { IsTrue told → TellsDir (present self.new) path.now (dir_facts result) }
+        ensures heard { heard self.new ≡ after_read_dir (heard self.old) path.now (dir_facts result) }
+        ensures cause { HasCause (faults self.old) (faults self.new) (IsTrue (is_dir_failed (dir_facts result))) }
+        ensures known { IsTrue told → IsPresence W.version (still self.new) (present self.new) }
+        ensures still { still self.old → StaysStill (still self.new) (present self.old) (present self.new) }
+        ensures memory { IsTrue (is_dir_no_memory (dir_facts result)) → self.new ≡ self.old };
 }

@@ -1,0 +1,12 @@
+pub use Rattle.row_types.specs.Faults
+pub use Rattle.row_codec.specs.RowBytes
+pub use Rattle.row_codec.specs.Spelled
+pub mod Tables
+pub mod Places
+pub mod TrueRows
+pub mod Answers
+pub mod Keeper
+pub mod Plan
+pub mod Shelf
+pub mod MemKeeper
+pub mod MemStore

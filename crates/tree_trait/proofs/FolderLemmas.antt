@@ -1,0 +1,324 @@
+-- Paths under a folder, and the entries that they give.
+use Rattle.std.proofs.Common.{◌≡◌, ◌≢◌, ℕ, ◌+◌, ◌-◌, ◌≤◌, ◌<◌, ◌||◌, ◌&&◌, ◌⊎◌, Bool, true, false, not, cond, List, [], ◌∷◌, ◌++◌, length, take, drop, map, fold, Option, Some, None, option_map, is_some, MatchOption, Result, Ok, Err, IfOk, Bor, nat_eq, refl, sym, ◌∙◌, ap, subst, inl, inr, append_assoc, length-append, arith, get_or}
+use Rattle.std.specs.Prelude.{◌==◌, nat_lt, if◌then◌else◌}
+use Rattle.std.specs.List.{list_any, list_all, starts_with, position_or_len, prefix_len, before_first, after_first}
+use Rattle.std.specs.Str.{bytes_eq}
+use Rattle.std.proofs.Math.Seq.{drop-append_seam, take-append_seam}
+use Rattle.std.proofs.lemmas.Bool.{eqb-true, lt-ltb, ltb-true}
+use Rattle.std.proofs.lemmas.Bool.Decides.{Decides-eqb, same_from_decides, nat_tests}
+use Rattle.std.proofs.lemmas.List.{append_cancel_left}
+use Rattle.std.proofs.lemmas.List.Folds.{list_all-append, list_any-append}
+use Rattle.std.proofs.lemmas.List.Sums.{split_at_first, passes_at_first}
+use Rattle.std.proofs.lemmas.Slice.Eq.{bytes_eq-Decides, starts_is}
+use Rattle.row_types.specs.Canon.{stays}
+use Rattle.row_types.specs.Name.{NameFacts}
+use Rattle.row_types.specs.declared.limits.TheConstants.{SEPARATOR}
+use Rattle.tree_trait.specs.Dir.{child, makes, is_there, are_once, IsListing}
+use Rattle.tree_trait.specs.Entry.{EntryFacts, has_no_slash, is_entry_name, same_kind, same_entry, has_entry}
+use Rattle.tree_trait.specs.Folder.{first_piece, piece_under, with_piece, with_pieces}
+use Rattle.tree_trait.specs.Found.{FoundFacts, name_of}
+use Rattle.tree_trait.specs.Present.{front_under, lies_under, is_folder}
+use Rattle.tree_trait.specs.declared.entry.EntryKind.{EntryKind}
+use Rattle.tree_trait.specs.declared.entry.EntryKind.TheVariants.{Folder, File, Other}
+
+-- parts of tests
+left_true : (a b : Bool) → (a && b) ≡ true → a ≡ true
+left_true true b h = refl
+left_true false b h = h
+
+right_true : (a b : Bool) → (a && b) ≡ true → b ≡ true
+right_true true b h = h
+right_true false b h = cc
+
+both_true : (a b : Bool) → a ≡ true → b ≡ true → (a && b) ≡ true
+both_true a b p q = cc
+
+or_left : (a b : Bool) → a ≡ true → (a || b) ≡ true
+or_left true b h = refl
+or_left false b h = cc
+
+or_right : (a b : Bool) → b ≡ true → (a || b) ≡ true
+or_right true b h = refl
+or_right false b h = h
+
+or_cases : (a b : Bool) → (a || b) ≡ true → (a ≡ true) ⊎ (b ≡ true)
+or_cases true b h = inl refl
+or_cases false b h = inr h
+
+or_false : (a b : Bool) → a ≡ false → b ≡ false → (a || b) ≡ false
+or_false a b p q = cc
+
+left_false : (a b : Bool) → (a || b) ≡ false → a ≡ false
+left_false true b h = h
+left_false false b h = refl
+
+right_false : (a b : Bool) → (a || b) ≡ false → b ≡ false
+right_false true b h = cc
+right_false false b h = h
+
+not_so : (b : Bool) → (b ≡ true → ⊥) → b ≡ false
+not_so true h = absurd (h refl)
+not_so false h = refl
+
+unnot : (b : Bool) → not b ≡ true → b ≡ false
+unnot true h = cc
+unnot false h = refl
+
+-- a fact for the good answer, from another
+pub on_ok : {T E : Type 0} (P Q : T → Type 0) (r : Result T E) → ((x : T) → P x → Q x) → IfOk r P → IfOk r Q
+on_ok P Q (Ok x) f h = f x h
+on_ok P Q (Err e) f h = tt
+
+-- what follows a folder's path and a slash
+pub rest_of : (parent folder path inner : List ℕ) (r : Option (Bor (List ℕ))) → parent ++ SEPARATOR ∷ [] ≡ front_under folder → path ≡ parent ++ inner → MatchOption r ((rest : List ℕ) → inner ≢ SEPARATOR ∷ rest) (λ x. inner ≡ SEPARATOR ∷ x.now) → MatchOption r ((rest : List ℕ) → path ≢ front_under folder ++ rest) (λ x. path ≡ front_under folder ++ x.now)
+rest_of parent folder path inner None front split h =
+    λ rest e. h rest (append_cancel_left parent inner (SEPARATOR ∷ rest) (sym split ∙ e ∙ ap (λ f. f ++ rest) (sym front) ∙ append_assoc parent (SEPARATOR ∷ []) rest))
+rest_of parent folder path inner (Some x) front split h =
+    split ∙ ap (λ t. parent ++ t) h ∙ sym (append_assoc parent (SEPARATOR ∷ []) x.now) ∙ ap (λ f. f ++ x.now) front
+
+-- whether a path begins with the front
+starts_at : (front path rest : List ℕ) → path ≡ front ++ rest → starts_with nat_eq path front ≡ true
+starts_at front path rest e = (starts_is Decides-eqb path front (starts_with nat_eq path front) refl).1 rest e
+
+starts_rest : (front path : List ℕ) → starts_with nat_eq path front ≡ true → path ≡ front ++ drop (length front) path
+starts_rest front path h = (starts_is Decides-eqb path front (starts_with nat_eq path front) refl).0 h
+
+pub is_some_starts : (front path : List ℕ) (r : Option (Bor (List ℕ))) → MatchOption r ((rest : List ℕ) → path ≢ front ++ rest) (λ x. path ≡ front ++ x.now) → is_some r ≡ starts_with nat_eq path front
+is_some_starts front path None h = sym (not_so (starts_with nat_eq path front) (λ t. h (drop (length front) path) (starts_rest front path t)))
+is_some_starts front path (Some x) h = sym (starts_at front path x.now h)
+
+-- the piece behind a folder
+piece_at : (folder path rest : List ℕ) → path ≡ front_under folder ++ rest → piece_under folder path ≡ Some (first_piece rest)
+piece_at folder path rest e =
+    let front : List ℕ = front_under folder in
+    subst (λ b. (if b then Some (first_piece (drop (length front) path)) else None) ≡ Some (first_piece rest)) (sym (starts_at front path rest e))
+    (ap (λ t. Some (first_piece t)) (ap (drop (length front)) e ∙ drop-append_seam front rest))
+
+pub piece_of_rest : (folder path : List ℕ) (r : Option (Bor (List ℕ))) → MatchOption r ((rest : List ℕ) → path ≢ front_under folder ++ rest) (λ x. path ≡ front_under folder ++ x.now) → option_map (λ x. first_piece x.now) r ≡ piece_under folder path
+piece_of_rest folder path None h =
+    let front : List ℕ = front_under folder in
+    let none : starts_with nat_eq path front ≡ false = not_so (starts_with nat_eq path front) (λ t. h (drop (length front) path) (starts_rest front path t)) in
+    subst (λ b. None ≡ (if b then Some (first_piece (drop (length front) path)) else None)) (sym none) refl
+piece_of_rest folder path (Some x) h = sym (piece_at folder path x.now h)
+
+-- a search among names is one among their files
+pub any_names : (path : List ℕ) (files : List FoundFacts) → is_folder (map name_of files) path ≡ list_any (λ file. lies_under path file.path) files
+any_names path [] = refl
+any_names path (file ∷ rest) = ap (λ b. lies_under path file.path || b) (any_names path rest)
+
+-- where the first slash is
+abbrev slash : ℕ → Bool
+slash b = b == SEPARATOR
+
+position_end : (text : List ℕ) → has_no_slash text ≡ true → position_or_len slash text ≡ length text
+position_end [] h = refl
+position_end (b ∷ rest) h =
+    let more = position_end rest (right_true (not (slash b)) (has_no_slash rest) h) in
+    subst (λ v. cond v (1 + prefix_len (λ c. not (slash c)) rest) 0 ≡ length (b ∷ rest)) (sym (left_true (not (slash b)) (has_no_slash rest) h)) (omega (arith, more))
+
+position_in : (text more : List ℕ) → has_no_slash text ≡ true → position_or_len slash (text ++ SEPARATOR ∷ more) ≡ length text
+position_in [] more h = refl
+position_in (b ∷ rest) more h =
+    let deeper = position_in rest more (right_true (not (slash b)) (has_no_slash rest) h) in
+    subst (λ v. cond v (1 + prefix_len (λ c. not (slash c)) (rest ++ SEPARATOR ∷ more)) 0 ≡ length (b ∷ rest)) (sym (left_true (not (slash b)) (has_no_slash rest) h)) (omega (arith, deeper))
+
+-- a text without a slash is a file's name
+first_file : (name : List ℕ) → has_no_slash name ≡ true → first_piece name ≡ record { name = name; kind = File }
+first_file name h =
+    let end = position_end name h in
+    let past : nat_lt (position_or_len slash name) (length name) ≡ false = not_so _ (λ t. let lt = ltb-true _ _ t in omega (arith, end, lt)) in
+    ap (λ b. if b then record { name = before_first slash name; kind = Folder } else record { name = name; kind = File }) past
+
+-- a text before a slash is a folder's name
+first_dir : (name more : List ℕ) → has_no_slash name ≡ true → first_piece (name ++ SEPARATOR ∷ more) ≡ record { name = name; kind = Folder }
+first_dir name more h =
+    let whole : List ℕ = name ++ SEPARATOR ∷ more in
+    let place : position_or_len slash whole ≡ length name = position_in name more h in
+    let within : nat_lt (position_or_len slash whole) (length whole) ≡ true = lt-ltb _ _ (omega (arith, place, length-append name (SEPARATOR ∷ more))) in
+    ap (λ b. if b then record { name = before_first slash whole; kind = Folder } else record { name = whole; kind = File }) within
+    ∙ ap (λ n. record { name = take n whole; kind = Folder }) place
+    ∙ ap (λ t. record { name = t; kind = Folder }) (take-append_seam name (SEPARATOR ∷ more))
+
+-- an entry's path is longer than a slash, so its front has one more
+front_long : (folder : List ℕ) → 1 ≤ length (front_under folder)
+front_long folder =
+    elim (bytes_eq folder (SEPARATOR ∷ [])) as (λ v. bytes_eq folder (SEPARATOR ∷ []) ≡ v → 1 ≤ length (if v then folder else folder ++ SEPARATOR ∷ [])) [
+      | true ↦ λ t. let root = ap length ((bytes_eq-Decides folder (SEPARATOR ∷ [])).0 t) in omega (arith, root)
+      | false ↦ λ t. omega (arith, length-append folder (SEPARATOR ∷ []))
+    ] refl
+
+name_long : (name : List ℕ) → is_entry_name name ≡ true → 1 ≤ length name
+name_long [] h = cc
+name_long (b ∷ rest) h = omega arith
+
+front_of_child : (folder name : List ℕ) → is_entry_name name ≡ true → front_under (child folder name) ≡ child folder name ++ SEPARATOR ∷ []
+front_of_child folder name h =
+    let long = name_long name h in
+    let front = front_long folder in
+    let whole = length-append (front_under folder) name in
+    let other : bytes_eq (child folder name) (SEPARATOR ∷ []) ≡ false =
+    not_so _ (λ t. let one = ap length ((bytes_eq-Decides (child folder name) (SEPARATOR ∷ [])).0 t) in absurd (omega (arith, one, whole, front, long))) in
+    ap (λ b. if b then child folder name else child folder name ++ SEPARATOR ∷ []) other
+
+-- a file's piece is an entry that the file makes
+made_by_piece : (folder path rest : List ℕ) (e : EntryFacts) → path ≡ front_under folder ++ rest → first_piece rest ≡ e → is_entry_name e.name ≡ true → makes e.kind (child folder e.name) path ≡ true
+made_by_piece folder path rest e split piece valid =
+    subst (λ f. is_entry_name f.name ≡ true → makes f.kind (child folder f.name) path ≡ true) piece
+    (elim (nat_lt (position_or_len slash rest) (length rest)) as
+    (λ v. nat_lt (position_or_len slash rest) (length rest) ≡ v →
+    (let f : EntryFacts = if v then record { name = before_first slash rest; kind = Folder } else record { name = rest; kind = File } in
+    is_entry_name f.name ≡ true → makes f.kind (child folder f.name) path ≡ true)) [
+      | true ↦ λ t named. folder_made folder path (before_first slash rest) (after_first slash rest) named (split ∙ ap (λ r. front_under folder ++ r) (cut rest (ltb-true _ _ t)))
+      | false ↦ λ t named. (bytes_eq-Decides path (child folder rest)).1 split
+    ] refl)
+    valid
+  where
+    cut : (text : List ℕ) → position_or_len slash text < length text → text ≡ before_first slash text ++ SEPARATOR ∷ after_first slash text
+    cut text lt =
+        split_at_first slash text 0 lt
+        ∙ ap (λ b. before_first slash text ++ b ∷ after_first slash text) (eqb-true _ SEPARATOR (passes_at_first slash text 0 lt))
+
+    folder_made : (folder path name more : List ℕ) → is_entry_name name ≡ true → path ≡ front_under folder ++ (name ++ SEPARATOR ∷ more) → lies_under (child folder name) path ≡ true
+    folder_made folder path name more named e =
+        let whole : path ≡ (child folder name ++ SEPARATOR ∷ []) ++ more =
+        e ∙ sym (append_assoc (front_under folder) name (SEPARATOR ∷ more)) ∙ sym (append_assoc (child folder name) (SEPARATOR ∷ []) more) in
+        let below : path ≡ front_under (child folder name) ++ more = whole ∙ ap (λ f. f ++ more) (sym (front_of_child folder name named)) in
+        let longer = ap length whole in
+        let one = length-append (child folder name ++ SEPARATOR ∷ []) more in
+        let two = length-append (child folder name) (SEPARATOR ∷ []) in
+        both_true _ _ (starts_at _ path more below)
+        (ap not (not_so (bytes_eq path (child folder name)) (λ t. let same = ap length ((bytes_eq-Decides path (child folder name)).0 t) in absurd (omega (arith, same, longer, one, two)))))
+
+pub piece_makes : (folder path : List ℕ) (e : EntryFacts) → piece_under folder path ≡ Some e → is_entry_name e.name ≡ true → makes e.kind (child folder e.name) path ≡ true
+piece_makes folder path e piece valid =
+    elim (starts_with nat_eq path (front_under folder)) as
+    (λ v. starts_with nat_eq path (front_under folder) ≡ v → (if v then Some (first_piece (drop (length (front_under folder)) path)) else None) ≡ Some e → makes e.kind (child folder e.name) path ≡ true) [
+      | true ↦ λ t p. made_by_piece folder path (drop (length (front_under folder)) path) e (starts_rest (front_under folder) path t) (same_some _ e p) valid
+      | false ↦ λ t p. cc
+    ] refl piece
+  where
+    same_some : (a b : EntryFacts) → Some a ≡ Some b → a ≡ b
+    same_some a b e = cc
+
+-- an entry that a file makes is the file's piece
+pub made_is_piece : (folder path : List ℕ) (name : List ℕ) (kind : EntryKind) → is_entry_name name ≡ true → makes kind (child folder name) path ≡ true → piece_under folder path ≡ Some (record { name = name; kind = kind })
+made_is_piece folder path name File valid h =
+    piece_at folder path name ((bytes_eq-Decides path (child folder name)).0 h)
+    ∙ ap (λ p. Some p) (first_file name (right_true (stays name) (has_no_slash name) valid))
+made_is_piece folder path name Folder valid h =
+    let front : List ℕ = front_under (child folder name) in
+    let more : List ℕ = drop (length front) path in
+    let below = starts_rest front path (left_true _ (not (bytes_eq path (child folder name))) h) in
+    let split : path ≡ front_under folder ++ (name ++ SEPARATOR ∷ more) =
+    below ∙ ap (λ f. f ++ more) (front_of_child folder name valid)
+    ∙ append_assoc (child folder name) (SEPARATOR ∷ []) more ∙ append_assoc (front_under folder) name (SEPARATOR ∷ more) in
+    piece_at folder path (name ++ SEPARATOR ∷ more) split ∙ ap (λ p. Some p) (first_dir name more (right_true (stays name) (has_no_slash name) valid))
+made_is_piece folder path name Other valid h = cc
+
+-- an entry is the same as itself, and sameness goes both ways
+kind_itself : (k : EntryKind) → same_kind k k ≡ true
+kind_itself Folder = refl
+kind_itself File = refl
+kind_itself Other = refl
+
+kind_back : (k j : EntryKind) → same_kind k j ≡ same_kind j k
+kind_back Folder Folder = refl
+kind_back Folder File = refl
+kind_back Folder Other = refl
+kind_back File Folder = refl
+kind_back File File = refl
+kind_back File Other = refl
+kind_back Other Folder = refl
+kind_back Other File = refl
+kind_back Other Other = refl
+
+bytes_back : (a b : List ℕ) → bytes_eq a b ≡ bytes_eq b a
+bytes_back a b =
+    let one = bytes_eq-Decides a b in
+    let two = bytes_eq-Decides b a in
+    same_from_decides (bytes_eq a b) (bytes_eq b a) one (λ t. sym (two.0 t), λ e. two.1 (sym e))
+
+entry_itself : (e : EntryFacts) → same_entry e e ≡ true
+entry_itself e = both_true _ _ ((bytes_eq-Decides e.name e.name).1 refl) (kind_itself e.kind)
+
+entry_back : (e f : EntryFacts) → same_entry e f ≡ same_entry f e
+entry_back e f =
+    ap (λ b. b && same_kind e.kind f.kind) (bytes_back e.name f.name) ∙ ap (λ b. bytes_eq f.name e.name && b) (kind_back e.kind f.kind)
+
+-- what each entry has, each has with one more piece that has it
+piece_each : (P : EntryFacts → Bool) (known : List EntryFacts) (p : Option EntryFacts) → list_all P known ≡ true → ((e : EntryFacts) → p ≡ Some e → is_entry_name e.name ≡ true → P e ≡ true) → list_all P (with_piece known p) ≡ true
+piece_each P known None h k = h
+piece_each P known (Some e) h k =
+    elim (is_entry_name e.name && not (has_entry known e)) as (λ v. (is_entry_name e.name && not (has_entry known e)) ≡ v → list_all P (if v then known ++ e ∷ [] else known) ≡ true) [
+      | true ↦ λ t. list_all-append P known (e ∷ []) ∙ both_true _ _ h (both_true (P e) true (k e refl (left_true (is_entry_name e.name) _ t)) refl)
+      | false ↦ λ t. h
+    ] refl
+
+each_of : (folder : List ℕ) (whole files : List NameFacts) (known : List EntryFacts) → ((e : EntryFacts) → is_there files folder e ≡ true → is_there whole folder e ≡ true) → list_all (is_there whole folder) known ≡ true → list_all (is_there whole folder) (with_pieces folder known files) ≡ true
+each_of folder whole [] known sub h = h
+each_of folder whole (file ∷ rest) known sub h =
+    each_of folder whole rest (with_piece known (piece_under folder file.path))
+    (λ e t. sub e (or_right (makes e.kind (child folder e.name) file.path) _ t))
+    (piece_each (is_there whole folder) known (piece_under folder file.path) h
+    (λ e p valid. sub e (or_left _ (is_there rest folder e) (piece_makes folder file.path e p valid))))
+
+-- an entry that is known stays, and a piece is known from then on
+piece_keeps : (known : List EntryFacts) (p : Option EntryFacts) (e : EntryFacts) → has_entry known e ≡ true → has_entry (with_piece known p) e ≡ true
+piece_keeps known None e h = h
+piece_keeps known (Some f) e h =
+    elim (is_entry_name f.name && not (has_entry known f)) as (λ v. has_entry (if v then known ++ f ∷ [] else known) e ≡ true) [
+      | true ↦ list_any-append (same_entry e) known (f ∷ []) ∙ or_left _ _ h
+      | false ↦ h
+    ]
+
+piece_adds : (known : List EntryFacts) (e : EntryFacts) → is_entry_name e.name ≡ true → has_entry (with_piece known (Some e)) e ≡ true
+piece_adds known e valid =
+    elim (has_entry known e) as (λ v. has_entry known e ≡ v → has_entry (if is_entry_name e.name && not v then known ++ e ∷ [] else known) e ≡ true) [
+      | true ↦ λ t. subst (λ b. has_entry (if b then known ++ e ∷ [] else known) e ≡ true) (sym (and_no (is_entry_name e.name))) t
+      | false ↦ λ t. subst (λ b. has_entry (if b then known ++ e ∷ [] else known) e ≡ true) (sym (both_true (is_entry_name e.name) true valid refl))
+          (list_any-append (same_entry e) known (e ∷ []) ∙ or_right (has_entry known e) _ (or_left (same_entry e e) false (entry_itself e)))
+    ] refl
+  where
+    and_no : (b : Bool) → (b && false) ≡ false
+    and_no true = refl
+    and_no false = refl
+
+all_of : (folder : List ℕ) (files : List NameFacts) (known : List EntryFacts) (e : EntryFacts) → is_entry_name e.name ≡ true → (has_entry known e ≡ true) ⊎ (is_there files folder e ≡ true) → has_entry (with_pieces folder known files) e ≡ true
+all_of folder [] known e valid (inl h) = h
+all_of folder [] known e valid (inr h) = cc
+all_of folder (file ∷ rest) known e valid (inl h) = all_of folder rest (with_piece known (piece_under folder file.path)) e valid (inl (piece_keeps known (piece_under folder file.path) e h))
+all_of folder (file ∷ rest) known e valid (inr h) =
+    elim (or_cases (makes e.kind (child folder e.name) file.path) (is_there rest folder e) h) [
+      | inl t ↦ all_of folder rest (with_piece known (piece_under folder file.path)) e valid
+          (inl (subst (λ p. has_entry (with_piece known p) e ≡ true) (sym (made_is_piece folder file.path e.name e.kind valid t)) (piece_adds known e valid)))
+      | inr t ↦ all_of folder rest (with_piece known (piece_under folder file.path)) e valid (inr t)
+    ]
+
+-- no entry stands twice
+once_more : (known : List EntryFacts) (e : EntryFacts) → are_once known ≡ true → has_entry known e ≡ false → are_once (known ++ e ∷ []) ≡ true
+once_more [] e h n = refl
+once_more (first ∷ rest) e h n =
+    both_true _ _
+    (ap not (list_any-append (same_entry first) rest (e ∷ [])
+    ∙ or_false _ _ (unnot (has_entry rest first) (left_true _ (are_once rest) h)) (or_false _ false (entry_back first e ∙ left_false (same_entry e first) _ n) refl)))
+    (once_more rest e (right_true (not (has_entry rest first)) _ h) (right_false (same_entry e first) _ n))
+
+piece_once : (known : List EntryFacts) (p : Option EntryFacts) → are_once known ≡ true → are_once (with_piece known p) ≡ true
+piece_once known None h = h
+piece_once known (Some e) h =
+    elim (is_entry_name e.name && not (has_entry known e)) as (λ v. (is_entry_name e.name && not (has_entry known e)) ≡ v → are_once (if v then known ++ e ∷ [] else known) ≡ true) [
+      | true ↦ λ t. once_more known e h (unnot (has_entry known e) (right_true (is_entry_name e.name) _ t))
+      | false ↦ λ t. h
+    ] refl
+
+once_of : (folder : List ℕ) (files : List NameFacts) (known : List EntryFacts) → are_once known ≡ true → are_once (with_pieces folder known files) ≡ true
+once_of folder [] known h = h
+once_of folder (file ∷ rest) known h = once_of folder rest (with_piece known (piece_under folder file.path)) (piece_once known (piece_under folder file.path) h)
+
+-- the pieces of all files are the folder's listing
+pub listing : (folder : List ℕ) (files : List NameFacts) → IsListing files folder (with_pieces folder [] files)
+listing folder files = record {
+  each = each_of folder files files [] (λ e h. h) refl;
+  all = λ e valid there. all_of folder files [] e valid (inr there);
+  once = once_of folder files [] refl;
+}

@@ -1,0 +1,43 @@
+-- What is answered of a path (this project's rule).
+use Rattle.std.specs.Prelude.{◌≡◌, ℕ, Bool, true, false, List, Some, None, IsTrue, IsFalse}
+use Rattle.row_types.specs.Name.{NameFacts}
+use Rattle.tree_trait.specs.Present.{stamp_at, is_folder}
+use Rattle.tree_trait.specs.declared.stat.StatAnswer.{StatAnswer}
+use Rattle.tree_trait.specs.declared.stat.StatAnswer.TheVariants.{Folder, File, Other, Gone, Failed, OutOfMemory}
+
+-- the look failed
+abbrev pub is_stat_failed : StatAnswer → Bool
+is_stat_failed Folder = false
+is_stat_failed (File stamp) = false
+is_stat_failed Other = false
+is_stat_failed Gone = false
+is_stat_failed Failed = true
+is_stat_failed OutOfMemory = false
+
+-- memory was refused
+abbrev pub is_stat_no_memory : StatAnswer → Bool
+is_stat_no_memory Folder = false
+is_stat_no_memory (File stamp) = false
+is_stat_no_memory Other = false
+is_stat_no_memory Gone = false
+is_stat_no_memory Failed = false
+is_stat_no_memory OutOfMemory = true
+
+-- a folder stands at the path, and no file
+pub record IsFolderAt (present : List NameFacts) (path : List ℕ) : Type 0 where
+  pub no_file : stamp_at present path ≡ None
+  pub folder : is_folder present path ≡ true
+
+-- nothing stands at the path
+pub record IsNothingAt (present : List NameFacts) (path : List ℕ) : Type 0 where
+  pub no_file : stamp_at present path ≡ None
+  pub no_folder : is_folder present path ≡ false
+
+-- what is answered of this path, by the files that are there
+abbrev pub TellsStat : List NameFacts → List ℕ → StatAnswer → Type 0
+TellsStat present path Folder = IsFolderAt present path
+TellsStat present path (File stamp) = stamp_at present path ≡ Some stamp
+TellsStat present path Other = ⊥
+TellsStat present path Gone = IsNothingAt present path
+TellsStat present path Failed = Unit {0}
+TellsStat present path OutOfMemory = Unit {0}

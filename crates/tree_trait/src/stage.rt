@@ -1,0 +1,124 @@
+//! What is answered of the files of a stage.
+
+ghost use Rattle.std.specs.Prelude.{◌≡◌, ◌<◌, ◌≤◌, [], map, length, slice_index_or, None, MatchOption};
+ghost use Rattle.std.specs.List.{find};
+ghost use Rattle.std.specs.Option.{option_copied};
+ghost use Rattle.std.specs.Str.{bytes_eq};
+ghost use Rattle.tree_trait.specs.Dir.{dir_facts, TellsDir};
+ghost use Rattle.tree_trait.specs.Found.{name_of};
+ghost use Rattle.tree_trait.specs.Load.{load_facts, FitsLoad, TellsLoad};
+ghost use Rattle.tree_trait.specs.MemTree.{FailsWhere, StatFailsWhere, DirFailsWhere};
+ghost use Rattle.tree_trait.specs.Present.{IsAt, stamp_at};
+ghost use Rattle.tree_trait.specs.Script.{is_listed, stage_for};
+ghost use Rattle.tree_trait.specs.Stat.{TellsStat};
+
+use crate::answer::LoadAnswer;
+use crate::dir::DirAnswer;
+use crate::folder::{entries_of, is_folder};
+use crate::found::Found;
+use crate::stat::StatAnswer;
+use row_types::Truth;
+use std::alloc::Global;
+
+/// Whether the call of this number is among the numbers.
+pub fn is_listed(numbers: &[u64], call: u64) -> bool
+    ensures { result ≡ is_listed numbers.now call }
+{
+    numbers.contains(&call)
+}
+
+/// The stage, of so many, in which the call of this number is answered.
+pub fn stage_for(moves: &[u64], call: u64, stage: usize, count: usize) -> usize
+    requires { stage < count }
+    ensures value { result ≡ stage_for moves.now call stage count }
+    ensures placed { result < count }
+    ensures later { stage ≤ result }
+{
+    if is_listed(moves, call) && stage + 1 < count {
+        stage + 1
+    } else {
+        stage
+    }
+}
+
+/// The files of a stage.
+pub fn files_at<W: Truth>(stages: &[Vec<Found<W>>], stage: usize) -> &[Found<W>]
+    requires { stage < length stages.now }
+    ensures { result.now ≡ slice_index_or (map (λ files. files.items) stages.now) stage [] }
+{
+    stages[stage].as_slice()
+}
+
+/// What a load answers of the file at a path, among the files of a stage.
+pub fn load_in<W: Truth>(
+    alloc: Global,
+    bad: bool,
+    files: &[Found<W>],
+    path: &str,
+    limit: u64,
+) -> LoadAnswer<W>
+    ensures asked { FitsLoad W.version path.now limit (load_facts result) }
+    ensures told { TellsLoad (map name_of files.now) path.now (load_facts result) }
+    ensures fails { FailsWhere bad (load_facts result) }
+{
+    if bad {
+        return LoadAnswer::Failed;
+    }
+    match file_at(files, path) {
+        None => LoadAnswer::Gone,
+        Some(found) if limit < found.stamp.size => LoadAnswer::TooLarge { stamp: found.stamp },
+        Some(found) => match found.copy(alloc) {
+            Ok(copy) => LoadAnswer::Found(copy),
+            Err(_) => LoadAnswer::OutOfMemory,
+        },
+    }
+}
+
+/// What a look at a path answers, among the files of a stage.
+pub fn stat_in<W: Truth>(bad: bool, files: &[Found<W>], path: &str) -> StatAnswer
+    ensures told { TellsStat (map name_of files.now) path.now result }
+    ensures fails { StatFailsWhere bad result }
+{
+    if bad {
+        return StatAnswer::Failed;
+    }
+    match file_at(files, path) {
+        Some(found) => StatAnswer::File(found.stamp),
+        None if is_folder(files, path) => StatAnswer::Folder,
+        None => StatAnswer::Gone,
+    }
+}
+
+/// What the reading of a folder answers, among the files of a stage.
+pub fn dir_in<W: Truth>(alloc: Global, bad: bool, files: &[Found<W>], path: &str) -> DirAnswer
+    ensures told { TellsDir (map name_of files.now) path.now (dir_facts result) }
+    ensures fails { DirFailsWhere bad (dir_facts result) }
+{
+    if bad {
+        return DirAnswer::Failed;
+    }
+    if !is_folder(files, path) {
+        return DirAnswer::Gone;
+    }
+    match entries_of(alloc, files, path) {
+        Ok(entries) => DirAnswer::Listed {
+            entries,
+            skipped: 0,
+        },
+        Err(_) => DirAnswer::OutOfMemory,
+    }
+}
+
+/// The file at a path.
+fn file_at<'a, W: Truth>(files: &'a [Found<W>], path: &str) -> Option<&'a Found<W>>
+    ensures { MatchOption result (stamp_at (map name_of files.now) path.now ≡ None) (λ file. IsAt (map name_of files.now) path.now (name_of file.now)) }
+{
+    first_at(files, path)
+}
+
+/// The first file of a path.
+fn first_at<'a, W: Truth>(files: &'a [Found<W>], path: &str) -> Option<&'a Found<W>>
+    ensures { option_copied result ≡ find (λ file. bytes_eq file.path path.now) files.now }
+{
+    files.iter().find(|file| file.path.as_str() == path)
+}
