@@ -1,6 +1,8 @@
 //! The real file system as a tree.
 
-ghost use Rattle.std.specs.Prelude.{IfOk};
+ghost use Rattle.std.specs.Prelude.{◌≡◌, ◌+◌, ◌-◌, ◌^◌, min, take, IfOk, IfSome};
+ghost use Rattle.std.specs.Bool.{OnTrue};
+ghost use Rattle.std.specs.Fs.{IsFile, file_type, metadata_len};
 ghost use Rattle.dbgd.specs.Answered.{IsAnswered};
 
 use row_types::{Faults, OpenWorld, Stamp, Truth};
@@ -23,7 +25,10 @@ pub struct RealTree<R: Drop> {
 
 impl<R: Drop> RealTree<R> {
     /// A tree that hasn't failed.
-    pub fn new(files: R) -> RealTree<R> {
+    pub fn new(files: R) -> RealTree<R>
+        ensures files { result.files ≡ files }
+        ensures faults { result.faults ≡ 0 }
+    {
         RealTree {
             files,
             faults: Faults::new(),
@@ -45,12 +50,23 @@ enum ReadFault {
 }
 
 impl From<AllocError> for ReadFault {
+    ghost use Rattle.std.specs.Prelude.{◌≡◌};
+    ghost use Rattle.dbgd.specs.declared.real_tree.ReadFault.TheVariants.{OutOfMemory};
+
+    ghost from_gives = { λ _ fault. fault ≡ OutOfMemory };
+
     fn from(_error: AllocError) -> ReadFault {
         ReadFault::OutOfMemory
     }
 }
 
 impl From<io::Error> for ReadFault {
+    ghost use Rattle.std.specs.Prelude.{◌≡◌};
+    ghost use Rattle.std_io.specs.IoError.{error_kind};
+    ghost use Rattle.dbgd.specs.Errors.{fault_of};
+
+    ghost from_gives = { λ error fault. fault ≡ fault_of (error_kind error) };
+
     fn from(error: io::Error) -> ReadFault {
         match error.kind() {
             ErrorKind::NotFound | ErrorKind::NotADirectory => ReadFault::Gone,
@@ -61,7 +77,9 @@ impl From<io::Error> for ReadFault {
 }
 
 /// The stamp of a file that was looked at.
-fn stamp_of(seen: &Metadata) -> Result<Stamp, ReadFault> {
+fn stamp_of(seen: &Metadata) -> Result<Stamp, ReadFault>
+    ensures { IfOk result (λ stamp. stamp.size ≡ metadata_len seen.now) }
+{
     u32::try_from(seen.mtime_nsec())
         .ok()
         .and_then(|nanos| Stamp::new(seen.len(), seen.mtime(), nanos))
@@ -70,7 +88,9 @@ fn stamp_of(seen: &Metadata) -> Result<Stamp, ReadFault> {
 
 /// The bytes of a file of this size, or one more where it has grown. There is room for that one from the
 /// start, so that the end is found without more memory.
-fn read_whole<F: Read + Drop>(alloc: Global, file: F, size: u64) -> Result<Vec<u8>, ReadFault> {
+fn read_whole<F: Read + Drop>(alloc: Global, file: F, size: u64) -> Result<Vec<u8>, ReadFault>
+    ensures { IfOk result (λ bytes. IfSome (F.remaining file.entry) (λ all. bytes.items ≡ take (min (size + 1) (2 ^ 64 - 1)) all)) }
+{
     let most = size.saturating_add(1);
     let mut bytes = Vec::with_capacity(alloc, most as usize)?;
     file.take(most).read_to_end(&mut bytes)?;
@@ -78,7 +98,10 @@ fn read_whole<F: Read + Drop>(alloc: Global, file: F, size: u64) -> Result<Vec<u
 }
 
 /// Whether both are looks at one file that didn't change between them.
-fn is_same(first: &Metadata, second: &Metadata) -> bool {
+fn is_same(first: &Metadata, second: &Metadata) -> bool
+    ensures size { OnTrue result (metadata_len second.now ≡ metadata_len first.now) }
+    ensures file { OnTrue result (IsFile (file_type second.now)) }
+{
     first.dev() == second.dev()
         && first.ino() == second.ino()
         && first.len() == second.len()
@@ -88,7 +111,9 @@ fn is_same(first: &Metadata, second: &Metadata) -> bool {
 }
 
 /// What stands at a path, if it is a regular file.
-fn look<R: Files>(files: &R, path: &str) -> Result<Metadata, ReadFault> {
+fn look<R: Files>(files: &R, path: &str) -> Result<Metadata, ReadFault>
+    ensures { IfOk result (λ seen. IsFile (file_type seen)) }
+{
     let seen = fs::symlink_metadata(files, path)?;
     if seen.is_file() {
         Ok(seen)
