@@ -1,6 +1,6 @@
 -- What an error of the system is called (this project's rule).
-use Rattle.std_io.specs.declared.io.kind.ErrorKind.{ErrorKind}
-use Rattle.std_io.specs.declared.io.kind.ErrorKind.TheVariants.{NotFound, NotADirectory, PermissionDenied, InvalidFilename, OutOfMemory}
+use Rattle.std.specs.declared.io.ErrorKind.{ErrorKind}
+use Rattle.std.specs.declared.io.ErrorKind.TheVariants.{NotFound, NotADirectory, PermissionDenied, InvalidFilename, OutOfMemory}
 use Rattle.dbgd.specs.declared.read_fault.ReadFault.{ReadFault}
 use Rattle.dbgd.specs.declared.read_fault.ReadFault.TheVariants as fault
 

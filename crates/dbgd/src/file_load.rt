@@ -14,7 +14,7 @@ use tree_trait::{Found, LoadAnswer};
 /// The bytes of a file of this size, or one more where it has grown. There is room for that one from the
 /// start, so that the end is found without more memory.
 fn read_whole<F: Read + Drop>(alloc: Global, file: F, size: u64) -> Result<Vec<u8>, ReadFault>
-    ensures { IfOk result (λ bytes. IfSome (F.remaining file.entry) (λ all. bytes.items ≡ take (min (size + 1) (2 ^ 64 - 1)) all)) }
+    ensures { IfOk result (λ bytes. IfSome (F.remaining file) (λ all. bytes.items ≡ take (min (size + 1) (2 ^ 64 - 1)) all)) }
 {
     let most = size.saturating_add(1);
     let mut bytes = Vec::with_capacity(alloc, most as usize)?;

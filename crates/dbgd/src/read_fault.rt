@@ -36,7 +36,7 @@ impl From<AllocError> for ReadFault {
 
 impl From<io::Error> for ReadFault {
     ghost use Rattle.std.specs.Prelude.{◌≡◌};
-    ghost use Rattle.std_io.specs.IoError.{error_kind};
+    ghost use Rattle.std.specs.IoError.{error_kind};
     ghost use Rattle.dbgd.specs.Errors.{fault_of};
 
     ghost from_gives = { λ error fault. fault ≡ fault_of (error_kind error) };
