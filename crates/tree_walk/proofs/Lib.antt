@@ -1,1 +1,10 @@
+pub mod AnswerLemmas
+pub mod EndLemmas
+pub mod FileLemmas
+pub mod GoesLemmas
+pub mod PathLemmas
+pub mod PresentLemmas
+pub mod ReachLemmas
+pub mod RootLemmas
 pub mod SetLemmas
+pub mod StepLemmas

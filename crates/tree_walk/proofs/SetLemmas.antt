@@ -1,5 +1,5 @@
 -- Sets and maps of paths, kept in order.
-use Rattle.std.proofs.Common.{◌≡◌, ℕ, ◌<◌, ◌||◌, ◌&&◌, Bool, true, false, not, cond, List, [], ◌∷◌, length, map, Option, Some, None, Contains, Decides, refl, sym, ◌∙◌, ap, subst, get_or}
+use Rattle.std.proofs.Common.{◌≡◌, ℕ, ◌<◌, ◌||◌, ◌&&◌, Bool, true, false, not, cond, List, [], ◌∷◌, length, map, Option, Some, None, Contains, Decides, refl, sym, ◌∙◌, ap, subst, get_or, arith}
 use Rattle.std.specs.BTreeMap.{is_at, insert_entry}
 use Rattle.std.specs.BTreeSet.{insert_key}
 use Rattle.std.specs.Cmp.{IsEquivalence}
@@ -11,11 +11,12 @@ use Rattle.std.specs.Ordering.{nat_cmp, match_ordering, is_eq, eq_by_cmp, orderi
 use Rattle.std.specs.Str.{bytes_eq}
 use Rattle.std.specs.declared.cmp.Ordering.{Ordering}
 use Rattle.std.specs.declared.cmp.Ordering.TheVariants.{Less, Equal, Greater}
-use Rattle.std.proofs.lemmas.Cmp.{nat_list_cmp_total, nat_list_eq_equiv}
-use Rattle.std.proofs.lemmas.List.{get_or-map}
+use Rattle.std.proofs.lemmas.Cmp.{nat_list_cmp_total, nat_list_eq_equiv, tied_itself}
+use Rattle.std.proofs.lemmas.List.{get_or-map, length-map}
 use Rattle.std.proofs.lemmas.Map.Keys.{Less-from_sorted, IsDistinct-from_sorted}
 use Rattle.std.proofs.lemmas.Map.Views.{Contains-from_any, list_any-from_Contains, Contains-from_lookup, lookup-from_Contains}
 use Rattle.std.proofs.lemmas.Slice.Eq.{bytes_eq-Decides}
+use Rattle.row_types.specs.Ascends.{IsBefore}
 use Rattle.row_types.specs.Name.{NameFacts}
 use Rattle.row_types.specs.Stamp.{StampFacts}
 use Rattle.scan_queue.specs.Names.{IsByPath}
@@ -90,6 +91,11 @@ sorted-with_path (y ∷ ys) x h =
           (each_with_path (λ z. slice_cmp nat_cmp y z ≡ Less) ys x h.0 before, sorted-with_path ys x h.1)
     ] refl
 
+-- no paths are in order
+pub sorted_none : IsStrictlySortedBy (slice_cmp nat_cmp) []
+unfolding IsStrictlySortedBy
+sorted_none = tt
+
 -- the paths of files with one more
 pub keys-insert_entry : (files : List (List ℕ × StampFacts)) (path : List ℕ) (stamp : StampFacts) → keys_of (insert_entry (slice_cmp nat_cmp) files path stamp) ≡ with_path (keys_of files) path
 keys-insert_entry [] path stamp = refl
@@ -98,13 +104,12 @@ keys-insert_entry (f ∷ fs) path stamp =
     [ Less ↦ refl | Equal ↦ refl | Greater ↦ ap (λ t. f.0 ∷ t) (keys-insert_entry fs path stamp) ]
 
 -- choices by tests
-cond_again : (b : Bool) (x y z : Option StampFacts) → (if_so b x z) ≡ (if_so b x (if_so b y z))
-cond_again true x y z = refl
-cond_again false x y z = refl
-
--- a choice, in the order of a look-up
 abbrev pub if_so : Bool → Option StampFacts → Option StampFacts → Option StampFacts
 if_so b x y = cond b x y
+
+cond_again : (b : Bool) (x y z : Option StampFacts) → if_so b x z ≡ if_so b x (if_so b y z)
+cond_again true x y z = refl
+cond_again false x y z = refl
 
 cond_swap : (a b : Bool) (x y z : Option StampFacts) → ((a ≡ true) → (b ≡ true) → ⊥) → if_so a x (if_so b y z) ≡ if_so b y (if_so a x z)
 cond_swap true true x y z h = absurd (h refl refl)
@@ -140,21 +145,58 @@ has_from_Contains xs p h = list_any-from_Contains same_equiv p xs h
 pub Contains-from_has : (xs : List (List ℕ)) (p : List ℕ) → has xs p ≡ true → Contains xs p
 Contains-from_has xs p h = Contains-from_any {eq = eq_by_cmp (slice_cmp nat_cmp)} (λ x y. (same-Decides x y).0) p xs h
 
+-- the name of a file
+abbrev name_from : List ℕ × StampFacts → NameFacts
+name_from file = record { path = file.0; stamp = file.1 }
+
 -- a name is among those of the files where its path's file has its stamp
 pub name_from_lookup : (files : List (List ℕ × StampFacts)) (name : NameFacts) → lookup (same name.path) files ≡ Some name.stamp → Contains (names_of files) name
 name_from_lookup files name h =
     let at : Contains files (name.path, name.stamp) = Contains-from_lookup {eq = eq_by_cmp (slice_cmp nat_cmp)} (λ x y. (same-Decides x y).0) name.path name.stamp files h in
-    (at.0, (subst (λ n. at.0 < n) (sym (length-names files)) at.1,
-    get_or-map name_from files at.0 (name.path, name.stamp) name at.1 ∙ ap name_from at.2))
-  where
-    name_from : List ℕ × StampFacts → NameFacts
-    name_from file = record { path = file.0; stamp = file.1 }
+    let within : at.0 < length (names_of files) = subst (λ (n : ℕ). at.0 < n) (sym (length-map files name_from)) at.1 in
+    (at.0, within, get_or-map name_from files at.0 (name.path, name.stamp) name at.1 ∙ ap name_from at.2)
 
 pub lookup_from_name : (files : List (List ℕ × StampFacts)) (name : NameFacts) → IsStrictlySortedBy (slice_cmp nat_cmp) (keys_of files) → Contains (names_of files) name → lookup (same name.path) files ≡ Some name.stamp
-lookup_from_name files name sorted h = ?
+lookup_from_name files name sorted h =
+    let within : h.0 < length files = subst (λ (n : ℕ). h.0 < n) (length-map files name_from) h.1 in
+    let there : get_or files h.0 (name.path, name.stamp) ≡ (name.path, name.stamp) =
+    ap (λ (n : NameFacts). (n.path, n.stamp)) (sym (get_or-map name_from files h.0 (name.path, name.stamp) name within) ∙ h.2) in
+    lookup-from_Contains {eq = eq_by_cmp (slice_cmp nat_cmp)} same_equiv name.path name.stamp files (IsDistinct-from_sorted (slice_cmp nat_cmp) (keys_of files) sorted) (h.0, within, there)
 
+-- as many names as files
+pub length_names : (files : List (List ℕ × StampFacts)) → length (names_of files) ≡ length files
+length_names files = length-map files name_from
+
+-- files in order have names by path
 pub by_path_from_sorted : (files : List (List ℕ × StampFacts)) → IsStrictlySortedBy (slice_cmp nat_cmp) (keys_of files) → IsByPath (names_of files)
-by_path_from_sorted files sorted = ?
+by_path_from_sorted files sorted i j d lt within =
+    let inside : j < length files = subst (λ (n : ℕ). j < n) (length-map files name_from) within in
+    let first : i < length files = omega arith in
+    let less : IsBefore (get_or (keys_of files) i d.path) (get_or (keys_of files) j d.path) =
+    Less-from_sorted (slice_cmp nat_cmp) (keys_of files) i j d.path sorted lt (subst (λ (n : ℕ). j < n) (sym (length-map files (λ e. e.0))) inside) in
+    subst (λ (p : List ℕ). IsBefore p (get_or (names_of files) j d).path) (path_at i d first)
+    (subst (λ (p : List ℕ). IsBefore (get_or (keys_of files) i d.path) p) (path_at j d inside) less)
+  where
+    path_at : (k : ℕ) (d : NameFacts) → k < length files → get_or (keys_of files) k d.path ≡ (get_or (names_of files) k d).path
+    path_at k d h = get_or-map (λ (e : List ℕ × StampFacts). e.0) files k (d.path, d.stamp) d.path h ∙ ap (λ (n : NameFacts). n.path) (sym (get_or-map name_from files k (d.path, d.stamp) d h))
 
+-- no later path is an earlier one
+none_later : (p : List ℕ) (ps : List (List ℕ)) → AllByRecursion (λ y. slice_cmp nat_cmp p y ≡ Less) ps → list_any (λ other. bytes_eq other p) ps ≡ false
+none_later p [] h = refl
+none_later p (q ∷ qs) h =
+    elim (bytes_eq q p) as (λ v. bytes_eq q p ≡ v → (v || list_any (λ other. bytes_eq other p) qs) ≡ false) [
+      | true ↦ λ e.
+          let one : q ≡ p = (bytes_eq-Decides q p).0 e in
+          let tied : slice_cmp nat_cmp p q ≡ Equal = subst (λ (z : List ℕ). slice_cmp nat_cmp p z ≡ Equal) (sym one) (tied_itself nat_list_cmp_total p) in
+          let less : slice_cmp nat_cmp p q ≡ Less = h.0 in
+          cc
+      | false ↦ λ e. none_later p qs h.1
+    ] refl
+
+-- paths in order are distinct
 pub distinct_from_sorted : (paths : List (List ℕ)) → IsStrictlySortedBy (slice_cmp nat_cmp) paths → are_distinct paths ≡ true
-distinct_from_sorted paths sorted = ?
+unfolding IsStrictlySortedBy
+distinct_from_sorted [] sorted = refl
+distinct_from_sorted (p ∷ ps) sorted =
+    let rest : are_distinct ps ≡ true = distinct_from_sorted ps sorted.1 in
+    ap (λ b. not b && are_distinct ps) (none_later p ps sorted.0) ∙ rest

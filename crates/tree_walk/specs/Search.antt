@@ -8,18 +8,19 @@ use Rattle.std.specs.Map.{lookup, keys_of}
 use Rattle.std.specs.Ordering.{nat_cmp}
 use Rattle.std.specs.Cmp.Lexicographic.{slice_cmp}
 use Rattle.std.specs.Str.{bytes_eq}
+use Rattle.row_types.specs.Canon.{IsCanonPath}
 use Rattle.row_types.specs.Name.{NameFacts}
 use Rattle.row_types.specs.Stamp.{StampFacts}
 use Rattle.row_types.specs.declared.limits.TheConstants.{PATH_LIMIT}
 use Rattle.scan_queue.specs.declared.listing.TheConstants.{LISTING_LIMIT}
-use Rattle.tree_trait.specs.Dir.{child}
+use Rattle.tree_trait.specs.Dir.{DirFacts, child}
 use Rattle.tree_trait.specs.Entry.{EntryFacts, has_entry}
 use Rattle.tree_trait.specs.Heard.{Heard, stat, read_dir}
 use Rattle.tree_trait.specs.declared.entry.EntryKind.{EntryKind}
 use Rattle.tree_trait.specs.declared.entry.EntryKind.TheVariants as kind
 use Rattle.tree_trait.specs.declared.stat.StatAnswer.{StatAnswer}
 use Rattle.tree_trait.specs.declared.stat.StatAnswer.TheVariants.{Folder, File, Other, Gone, Failed, OutOfMemory}
-use Rattle.tree_walk.specs.Answers.{first_look, entries_in, times_read, entries_read, all_passed_over, has_failed, with_answers, looks, is_there}
+use Rattle.tree_walk.specs.Answers.{is_dir_answer, first_look, entries_of, entries_in, passed_over, times_read, entries_read, all_passed_over, has_failed, with_answers, looks, is_there}
 use Rattle.tree_walk.specs.Ends.{BeginsWithRoots}
 use Rattle.tree_walk.specs.Files.{IsTold}
 use Rattle.tree_walk.specs.Walked.{IsReached, IsFolder, IsDue}
@@ -101,6 +102,27 @@ with_root search path OutOfMemory = noted search path OutOfMemory
 abbrev pub with_new_root : SearchFacts → List ℕ → StatAnswer → SearchFacts
 with_new_root search path answer = if is_looked search path then search else with_root search path answer
 
+-- one reading was heard and answered, and these are its entries and how many were passed over
+pub record IsRead (folder : List ℕ) (more : List Heard) (entries : List EntryFacts) (skipped : ℕ) : Type 0 where
+  pub answer : DirFacts
+  pub heard : more ≡ read_dir folder answer ∷ []
+  pub answered : is_dir_answer answer ≡ true
+  pub entries_are : entries ≡ entries_of (Some answer)
+  pub passed : skipped ≡ passed_over (read_dir folder answer)
+
+-- this is the search now, and it has no more files than a listing
+pub record IsAdded (next now : SearchFacts) : Type 0 where
+  pub same : now ≡ next
+  pub few : length next.files ≤ LISTING_LIMIT
+
+-- it would have more files than a listing, or memory was refused
+abbrev pub IsAddFault : SearchFacts → WalkFault → Type 0
+IsAddFault next FaultFailed = ⊥
+IsAddFault next TooMany = LISTING_LIMIT < length next.files
+IsAddFault next TooManyEntries = ⊥
+IsAddFault next (RootGone path) = ⊥
+IsAddFault next FaultMemory = Unit {0}
+
 -- so many entries were read, and so many passed over
 abbrev pub paid : SearchFacts → ℕ → ℕ → SearchFacts
 paid search count skipped = record search { left = search.left - count; skipped = min (search.skipped + skipped) (2 ^ 64 - 1) }
@@ -150,7 +172,7 @@ pub record IsSearch (answers : List Heard) (roots : List (List ℕ)) (search : S
   pub others : (path : List ℕ) → has search.others path ≡ is_no_file (first_look answers path)
   pub ordered : IsStrictlySortedBy (slice_cmp nat_cmp) (keys_of search.files)
   pub due : All (IsDue answers roots) answers
-  pub folders : (path : List ℕ) → has search.folders path ≡ true → IsFolder answers roots path × (length path ≤ PATH_LIMIT)
+  pub folders : (path : List ℕ) → has search.folders path ≡ true → IsFolder answers roots path × IsCanonPath path
   pub counts : (path : List ℕ) → times_read answers path + count_by (bytes_eq path) search.todo ≡ (if has search.folders path then 1 else 0)
   pub long : (path : List ℕ) → has search.long path ≡ true → IsReached answers roots path × (PATH_LIMIT < length path)
   pub apart : IsStrictlySortedBy (slice_cmp nat_cmp) search.long
@@ -159,18 +181,17 @@ pub record IsSearch (answers : List Heard) (roots : List (List ℕ)) (search : S
   pub answered : list_all (λ h. not (has_failed h)) answers ≡ true
   pub there : (path : List ℕ) → Contains roots path → Contains answers (stat path Gone) → ⊥
   pub closed : (at : List ℕ) (entry : EntryFacts) → has_entry (entries_in answers at) entry ≡ true → IsSettled answers search (child at entry.name) entry.kind ⊎ IsPending folder rest at entry
-  pub short : (path : List ℕ) → Contains roots path → length path ≤ PATH_LIMIT
 
--- these roots were looked at, and those that are folders are known
-pub record AreLooked (answers : List Heard) (seen : List (List ℕ)) (search : SearchFacts) : Type 0 where
+-- these roots were looked at, and each root that is known to be a folder is among the folders
+pub record AreLooked (answers : List Heard) (roots seen : List (List ℕ)) (search : SearchFacts) : Type 0 where
   pub looked : (path : List ℕ) → Contains seen path → IsSome (first_look answers path)
-  pub folders : (path : List ℕ) → Contains seen path → first_look answers path ≡ Some Folder → has search.folders path ≡ true
+  pub folders : (path : List ℕ) → Contains roots path → first_look answers path ≡ Some Folder → has search.folders path ≡ true
 
 -- the first roots were looked at, and nothing else was asked
 pub record IsBeginning (answers : List Heard) (roots seen : List (List ℕ)) (search : SearchFacts) : Type 0 where
   pub search_is : IsSearch answers roots search [] []
   pub few : length search.files ≤ LISTING_LIMIT
-  pub looked : AreLooked answers seen search
+  pub looked : AreLooked answers roots seen search
   pub given : List StatAnswer
   pub each : length given ≡ length seen
   pub there : list_all is_there given ≡ true
@@ -180,7 +201,7 @@ pub record IsBeginning (answers : List Heard) (roots seen : List (List ℕ)) (se
 pub record IsUnderway (answers : List Heard) (roots : List (List ℕ)) (search : SearchFacts) (folder : List ℕ) (rest : List EntryFacts) : Type 0 where
   pub search_is : IsSearch answers roots search folder rest
   pub few : length search.files ≤ LISTING_LIMIT
-  pub looked : AreLooked answers roots search
+  pub looked : AreLooked answers roots roots search
   pub first : BeginsWithRoots answers roots
 
 -- some more answers were heard, by which a call ended so

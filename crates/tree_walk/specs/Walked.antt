@@ -1,6 +1,7 @@
 -- The walk listing (this project's rule): the files that the answers name under the roots. Links and other entries
 -- that are neither a folder nor a file lead nowhere.
 use Rattle.std.specs.Prelude.{◌≡◌, ℕ, ◌+◌, ◌≤◌, ◌<◌, ◌⊎◌, ◌↔◌, true, List, length, All, Contains, Some, IsSome}
+use Rattle.row_types.specs.Canon.{IsCanonPath}
 use Rattle.row_types.specs.Faults.{summed}
 use Rattle.row_types.specs.Name.{NameFacts}
 use Rattle.row_types.specs.declared.limits.TheConstants.{PATH_LIMIT}
@@ -61,11 +62,11 @@ pub record IsFull (answers : List Heard) (roots : List (List ℕ)) : Type 0 wher
   pub folders : (path : List ℕ) → IsFolder answers roots path → length path ≤ PATH_LIMIT → IsSome (first_reading answers path)
   pub files : (path : List ℕ) → IsEntry answers roots kind.File path → length path ≤ PATH_LIMIT → IsSome (first_look answers path)
 
--- the look or the reading was due: at a root or a file, or of a folder, and at no longer path than is kept
+-- the look or the reading was due: at a root or a file, or of a folder, and at a path that is kept
 abbrev pub IsDue : List Heard → List (List ℕ) → Heard → Type 0
 IsDue answers roots (load path limit answer) = ⊥
-IsDue answers roots (stat path answer) = IsCandidate answers roots path × (length path ≤ PATH_LIMIT)
-IsDue answers roots (read_dir path answer) = IsFolder answers roots path × (length path ≤ PATH_LIMIT)
+IsDue answers roots (stat path answer) = IsCandidate answers roots path × IsCanonPath path
+IsDue answers roots (read_dir path answer) = IsFolder answers roots path × IsCanonPath path
 
 -- nothing was asked but what was due, and each folder once
 pub record AsksOnce (answers : List Heard) (roots : List (List ℕ)) : Type 0 where

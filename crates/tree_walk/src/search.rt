@@ -1,18 +1,21 @@
 //! What a walk keeps while it goes on.
 
-ghost use Rattle.std.specs.Prelude.{◌≡◌, ◌≤◌, ◌<◌, ◌↔◌, [], map, length, IsTrue, OnOk, IfOk, MatchOption, MatchResult};
+ghost use Rattle.std.specs.Prelude.{◌≡◌, ◌≤◌, ◌<◌, ◌↔◌, [], map, length, IsTrue, OnOk, IfOk, IfErr, MatchOption, MatchResult};
 ghost use Rattle.std.specs.Bool.{OnTrue};
+ghost use Rattle.std.specs.Cmp.Lexicographic.{slice_cmp};
+ghost use Rattle.std.specs.List.Sorted.{IsStrictlySortedBy};
+ghost use Rattle.std.specs.Map.{keys_of};
+ghost use Rattle.std.specs.Ordering.{nat_cmp};
 ghost use Rattle.std.specs.String.{string_bytes};
 ghost use Rattle.row_types.specs.Faults.{summed};
-ghost use Rattle.scan_queue.specs.Names.{IsByPath};
-ghost use Rattle.tree_walk.specs.Search.{unasked, is_looked, noted, with_folder, with_long, with_new_root, with_last, with_path, paid, names_of};
+ghost use Rattle.tree_walk.specs.Search.{unasked, is_looked, noted, with_folder, with_long, with_new_root, with_last, with_path, paid, names_of, IsAdded, IsAddFault};
 
 use row_types::{CanonPath, Name, Stamp};
 use scan_queue::{LISTING_LIMIT, Listing};
 use std::alloc::{AllocError, Global};
 use std::collections::{BTreeMap, BTreeSet};
 use std::marker::Model;
-use tree_trait::StatAnswer;
+use tree_trait::{Entry, StatAnswer};
 
 use crate::fault::WalkFault;
 use crate::walked::{ENTRY_LIMIT, Walk};
@@ -62,8 +65,30 @@ impl Search {
         self.files.contains_key(path) || self.others.contains(path)
     }
 
+    /// Notes what was found at a path, if there are no more files than a listing has.
+    pub fn note_new(&mut self, path: CanonPath, answer: StatAnswer) -> Result<(), WalkFault>
+        ensures { MatchResult result (λ _. IsAdded (noted self.old path answer) self.new) (IsAddFault (noted self.old path answer)) }
+    {
+        self.note(path, answer)?;
+        if self.is_over() {
+            return Err(WalkFault::TooMany);
+        }
+        Ok(())
+    }
+
+    /// Notes what was found at a root, if there are no more files than a listing has.
+    pub fn note_root(&mut self, alloc: Global, root: &CanonPath, answer: StatAnswer) -> Result<(), WalkFault>
+        ensures { MatchResult result (λ _. IsAdded (with_new_root self.old root.now answer) self.new) (IsAddFault (with_new_root self.old root.now answer)) }
+    {
+        self.add_root(alloc, root, answer)?;
+        if self.is_over() {
+            return Err(WalkFault::TooMany);
+        }
+        Ok(())
+    }
+
     /// Notes what was found at a path.
-    pub fn note(&mut self, path: CanonPath, answer: StatAnswer) -> Result<(), AllocError>
+    fn note(&mut self, path: CanonPath, answer: StatAnswer) -> Result<(), AllocError>
         ensures { OnOk result (self.new ≡ noted self.old path answer) }
     {
         match answer {
@@ -96,7 +121,7 @@ impl Search {
     }
 
     /// Notes what was found at a root, unless it was looked at before. A folder is to be read.
-    pub fn add_root(&mut self, alloc: Global, root: &CanonPath, answer: StatAnswer) -> Result<(), AllocError>
+    fn add_root(&mut self, alloc: Global, root: &CanonPath, answer: StatAnswer) -> Result<(), AllocError>
         ensures { OnOk result (self.new ≡ with_new_root self.old root.now answer) }
     {
         if self.is_looked(root) {
@@ -117,11 +142,11 @@ impl Search {
     }
 
     /// Counts the entries of a folder, if so many may be read.
-    pub fn pay(&mut self, count: u64, skipped: u64) -> bool
-        ensures room { IsTrue result ↔ (count ≤ self.old.left) }
-        ensures value { OnTrue result (self.new ≡ paid self.old count skipped) }
+    pub fn pay(&mut self, entries: &[Entry], skipped: u64) -> bool
+        ensures room { IsTrue result ↔ (length entries.now ≤ self.old.left) }
+        ensures value { OnTrue result (self.new ≡ paid self.old (length entries.now) skipped) }
     {
-        match self.left.checked_sub(count) {
+        match self.left.checked_sub(entries.len() as u64) {
             Some(left) => {
                 self.left = left;
                 self.skipped = self.skipped.saturating_add(skipped);
@@ -131,17 +156,20 @@ impl Search {
         }
     }
 
-    /// Whether there are no more files than a listing has.
-    pub fn has_room(&self) -> bool
-        ensures { IsTrue result ↔ (length self.now.files ≤ LISTING_LIMIT) }
+    /// Whether there are more files than a listing has.
+    fn is_over(&self) -> bool
+        ensures { IsTrue result ↔ (LISTING_LIMIT < length self.now.files) }
     {
-        self.files.len() <= LISTING_LIMIT
+        self.files.len() > LISTING_LIMIT
     }
 
     /// What was found.
     pub fn finish(self, alloc: Global) -> Result<Walk, WalkFault>
-        requires { length self.files ≤ LISTING_LIMIT }
-        ensures ok { MatchResult result (λ walk. (walk.listing ≡ names_of self.files) × (walk.skipped ≡ summed self.skipped (length self.long))) (λ fault. fault ≡ WalkFault.OutOfMemory) }
+        requires few { length self.files ≤ LISTING_LIMIT }
+        requires ordered { IsStrictlySortedBy (slice_cmp nat_cmp) (keys_of self.files) }
+        ensures listing { IfOk result (λ walk. walk.listing ≡ names_of self.files) }
+        ensures skipped { IfOk result (λ walk. walk.skipped ≡ summed self.skipped (length self.long)) }
+        ensures memory { IfErr result (λ fault. fault ≡ WalkFault.OutOfMemory) }
     {
         let Search {
             files,
@@ -169,7 +197,8 @@ fn add_text(texts: &mut BTreeSet<String>, text: String) -> Result<(), AllocError
 
 /// The listing of the files.
 fn listing_of(alloc: Global, files: BTreeMap<CanonPath, Stamp>) -> Result<Listing, AllocError>
-    requires { length files.entries ≤ LISTING_LIMIT }
+    requires few { length files.entries ≤ LISTING_LIMIT }
+    requires ordered { IsStrictlySortedBy (slice_cmp nat_cmp) (keys_of files.entries) }
     ensures { IfOk result (λ listing. listing ≡ names_of files.entries) }
 {
     match Listing::new(names_of(alloc, files)?) {
@@ -180,12 +209,10 @@ fn listing_of(alloc: Global, files: BTreeMap<CanonPath, Stamp>) -> Result<Listin
 
 /// The names of the files, by path.
 fn names_of(alloc: Global, files: BTreeMap<CanonPath, Stamp>) -> Result<Vec<Name>, AllocError>
-    ensures value { IfOk result (λ names. names.items ≡ names_of files.entries) }
-    ensures by_path { IfOk result (λ names. IsByPath names.items) }
+    ensures { IfOk result (λ names. names.items ≡ names_of files.entries) }
 {
-    let mut names = Vec::with_capacity(alloc, files.len())?;
-    for (path, stamp) in files {
-        names.push(Name { path, stamp })?;
-    }
-    Ok(names)
+    files
+        .into_iter()
+        .map(|(path, stamp)| Name { path, stamp })
+        .collect(alloc)
 }

@@ -1,7 +1,8 @@
 //! The walk.
 
-ghost use Rattle.std.specs.Prelude.{◌≡◌, ◌+◌, ◌≤◌, ◌<◌, ℕ, List, [], true, ◌∷◌, ◌++◌, drop, length, IsTrue, OnOk, IfOk};
+ghost use Rattle.std.specs.Prelude.{◌≡◌, ◌+◌, ◌≤◌, ◌<◌, ℕ, List, [], true, ◌∷◌, ◌++◌, length, IsTrue, OnOk, IfOk};
 ghost use Rattle.std.specs.String.{string_bytes};
+ghost use Rattle.row_types.specs.Canon.{IsCanonPath};
 ghost use Rattle.row_types.specs.Faults.{HasCause};
 ghost use Rattle.tree_trait.specs.Dir.{child};
 ghost use Rattle.tree_trait.specs.Entry.{EntryFacts, has_entry};
@@ -20,7 +21,7 @@ use crate::search::Search;
 use crate::walked::Walk;
 use row_types::{CanonPath, SEPARATOR, Truth};
 use std::alloc::{AllocError, Global};
-use tree_trait::{DirAnswer, Entry, EntryKind, StatAnswer, Tree};
+use tree_trait::{Entry, EntryKind, StatAnswer, Tree};
 
 /// Lists the files under the roots. The roots are looked at first, in the order given; a root that is a file is
 /// listed itself. A folder that is gone is empty. The walk ends at its first fault.
@@ -79,14 +80,10 @@ fn look_at_root<W: Truth, T: Tree<W>>(
     ensures still { T.still hand.old → StaysStill (T.still hand.new) (T.present hand.old) (T.present hand.new) }
 {
     let answer = look(alloc, hand, root)?;
-    if answer == StatAnswer::Gone {
-        return Err(WalkFault::RootGone(root.copy(alloc)?));
+    match answer {
+        StatAnswer::Gone => Err(WalkFault::RootGone(root.copy(alloc)?)),
+        _ => search.note_root(alloc, root, answer),
     }
-    search.add_root(alloc, root, answer)?;
-    if !search.has_room() {
-        return Err(WalkFault::TooMany);
-    }
-    Ok(())
 }
 
 /// Reads a folder, and sees to each of its entries.
@@ -105,7 +102,27 @@ fn read_folder<W: Truth, T: Tree<W>>(
     ensures still { T.still hand.old → StaysStill (T.still hand.new) (T.present hand.old) (T.present hand.new) }
 {
     let entries = read_entries(alloc, search, hand, folder)?;
-    for entry in entries.as_slice() {
+    enter_all(alloc, search, hand, folder, entries.as_slice())
+}
+
+/// Sees to each entry of a folder.
+fn enter_all<W: Truth, T: Tree<W>>(
+    alloc: Global,
+    search: &mut Search,
+    hand: &mut T,
+    folder: &CanonPath,
+    entries: &[Entry],
+) -> Result<(), WalkFault>
+    ensures goes { (answers : List Heard) (roots : List (List ℕ)) → IsUnderway answers roots search.old folder.now entries.now
+        → IsReached answers roots folder.now → entries_in answers folder.now ≡ entries.now
+        → Goes (T.heard hand.old) (T.heard hand.new) (IsTrue T.told × T.still hand.old) (T.present hand.old)
+            (λ more _. IsUnderway (answers ++ more) roots search.new folder.now []) (λ more fault. IsCause (answers ++ more) roots fault) result }
+    ensures ends { OnOk result ((search.new.left ≡ search.old.left) × (length search.new.todo ≤ length search.old.todo + length entries.now)) }
+    ensures cause { HasCause (T.faults hand.old) (T.faults hand.new) (result ≡ Err WalkFault.Failed) }
+    ensures known { IsTrue T.told → IsPresence W.version (T.still hand.old) (T.present hand.old) → IsPresence W.version (T.still hand.new) (T.present hand.new) }
+    ensures still { T.still hand.old → StaysStill (T.still hand.new) (T.present hand.old) (T.present hand.new) }
+{
+    for entry in entries {
         enter(alloc, search, hand, folder, entry)?;
     }
     Ok(())
@@ -127,15 +144,11 @@ fn read_entries<W: Truth, T: Tree<W>>(
     ensures known { IsTrue T.told → IsPresence W.version (T.still hand.new) (T.present hand.new) }
     ensures still { T.still hand.old → StaysStill (T.still hand.new) (T.present hand.old) (T.present hand.new) }
 {
-    match read(alloc, hand, folder)? {
-        DirAnswer::Listed { entries, skipped } => {
-            if search.pay(entries.len() as u64, skipped) {
-                Ok(entries)
-            } else {
-                Err(WalkFault::TooManyEntries)
-            }
-        }
-        _ => Ok(Vec::new(alloc)),
+    let content = read(alloc, hand, folder)?;
+    if search.pay(content.entries.as_slice(), content.skipped) {
+        Ok(content.entries)
+    } else {
+        Err(WalkFault::TooManyEntries)
     }
 }
 
@@ -156,7 +169,8 @@ fn enter<W: Truth, T: Tree<W>>(
     ensures known { IsTrue T.told → IsPresence W.version (T.still hand.old) (T.present hand.old) → IsPresence W.version (T.still hand.new) (T.present hand.new) }
     ensures still { T.still hand.old → StaysStill (T.still hand.new) (T.present hand.old) (T.present hand.new) }
 {
-    match CanonPath::check(child(alloc, folder, entry.name())?) {
+    let text = child(alloc, folder, entry.name())?;
+    match CanonPath::check(text) {
         Ok(path) => enter_path(alloc, search, hand, path, entry.kind),
         Err(text) => Ok(search.add_long(text)?),
     }
@@ -170,7 +184,7 @@ fn enter_path<W: Truth, T: Tree<W>>(
     path: CanonPath,
     kind: EntryKind,
 ) -> Result<(), WalkFault>
-    ensures goes { (answers : List Heard) (roots : List (List ℕ)) (folder : List ℕ) (name : List ℕ) (rest : List EntryFacts) → path ≡ child folder name
+    ensures goes { (answers : List Heard) (roots : List (List ℕ)) (folder : List ℕ) (name : List ℕ) (rest : List EntryFacts) → path ≡ child folder name → IsCanonPath path
         → IsUnderway answers roots search.old folder (record { name = name; kind = kind } ∷ rest)
         → IsReached answers roots folder → has_entry (entries_in answers folder) (record { name = name; kind = kind }) ≡ true
         → Goes (T.heard hand.old) (T.heard hand.new) (IsTrue T.told × T.still hand.old) (T.present hand.old)
@@ -194,7 +208,7 @@ fn look_at_file<W: Truth, T: Tree<W>>(
     hand: &mut T,
     path: CanonPath,
 ) -> Result<(), WalkFault>
-    ensures goes { (answers : List Heard) (roots : List (List ℕ)) (folder : List ℕ) (name : List ℕ) (rest : List EntryFacts) → path ≡ child folder name
+    ensures goes { (answers : List Heard) (roots : List (List ℕ)) (folder : List ℕ) (name : List ℕ) (rest : List EntryFacts) → path ≡ child folder name → IsCanonPath path
         → IsUnderway answers roots search.old folder (record { name = name; kind = EntryKind.File } ∷ rest)
         → IsReached answers roots folder → has_entry (entries_in answers folder) (record { name = name; kind = EntryKind.File }) ≡ true
         → Goes (T.heard hand.old) (T.heard hand.new) (IsTrue T.told × T.still hand.old) (T.present hand.old)
@@ -208,16 +222,13 @@ fn look_at_file<W: Truth, T: Tree<W>>(
         return Ok(());
     }
     let answer = look(alloc, hand, &path)?;
-    search.note(path, answer)?;
-    if !search.has_room() {
-        return Err(WalkFault::TooMany);
-    }
-    Ok(())
+    search.note_new(path, answer)
 }
 
 /// The path of a folder's entry. The root adds no second slash.
 fn child(alloc: Global, folder: &CanonPath, name: &str) -> Result<String, AllocError>
-    ensures { IfOk result (λ text. string_bytes text ≡ child folder.now name.now) }
+    ensures value { IfOk result (λ text. string_bytes text ≡ child folder.now name.now) }
+    ensures kept { IsCanonPath folder.now }
 {
     let mut text = String::from_str(alloc, parent(folder.text()))?;
     text.push_str("/")?;
