@@ -177,7 +177,7 @@ look_says p (read_dir asked other) answer e = absurd (none-some answer e)
 
 pub reading_says : (p : List ℕ) (h : Heard) (answer : DirFacts) → reading_of p h ≡ Some answer → (h ≡ read_dir p answer) × (is_dir_answer answer ≡ true)
 reading_says p (load asked limit other) answer e = absurd (none-some answer e)
-reading_says p (stat asked other) answer e = absurd (none-some answer e)
+reading_says p (stat asked said) answer e = absurd (none-some answer e)
 reading_says p (read_dir asked other) answer e =
     let parts = cond_some (bytes_eq asked p && is_dir_answer other) other answer e in
     let both = and_parts (bytes_eq asked p) (is_dir_answer other) parts.0 in

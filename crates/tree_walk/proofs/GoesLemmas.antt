@@ -1,9 +1,9 @@
 -- Answers that are heard one after the other.
-use Rattle.std.proofs.Common.{◌≡◌, ℕ, ◌≤◌, ◌<◌, inl, inr, Bool, true, false, List, [], ◌∷◌, ◌++◌, length, Option, Some, None, Result, Ok, Err, MatchResult, All, refl, sym, ◌∙◌, ap, subst, append_assoc}
+use Rattle.std.proofs.Common.{◌≡◌, ℕ, ◌≤◌, ◌<◌, inl, inr, Bool, true, false, List, [], ◌∷◌, ◌++◌, length, Option, Some, None, Result, Ok, Err, MatchResult, All, refl, sym, ◌∙◌, ap, subst, append_assoc, ◌+◌, take, drop, get_or}
 use Rattle.std.specs.Prelude.{◌↔◌}
 use Rattle.std.specs.Result.{IsErrAnd}
 use Rattle.std.proofs.lemmas.Bool.{false≢true, cases_lt}
-use Rattle.std.proofs.lemmas.List.{append-nil}
+use Rattle.std.proofs.lemmas.List.{append-nil, drop_more, take_more, take-append-drop}
 use Rattle.std.proofs.lemmas.List.Elements.{All-append, All-nil}
 use Rattle.std.proofs.lemmas.Result.{err_from_is_err_and}
 use Rattle.row_types.specs.Name.{NameFacts}
@@ -84,3 +84,15 @@ goes_up {U} {V} before now StillTold present Good Bad NewGood NewBad next fault 
 -- at a limit, or not
 pub within_limit : (over : Bool) (limit count : ℕ) → (over ≡ true) ↔ (limit < count) → over ≡ false → count ≤ limit
 within_limit over limit count e no_more = elim (cases_lt limit count) [ inl lt ↦ absurd (false≢true (sym no_more ∙ e.1 lt)) | inr le ↦ le ]
+
+-- memory was refused
+pub memory_end : {V : Type 0} (result : Result V WalkFault) (Good : V → Type 0) (answers : List Heard) (roots : List (List ℕ)) → IsErrAnd result (λ y. y ≡ OutOfMemory) → MatchResult result Good (IsCause answers roots)
+memory_end (Ok x) Good answers roots h = absurd h
+memory_end (Err y) Good answers roots h = subst (IsCause answers roots) (sym h) tt
+
+-- a list at one of its elements
+pub split_at : {X : Type 0} (xs : List X) (i : ℕ) (x : X) → i < length xs → x ≡ get_or xs i x → xs ≡ take i xs ++ x ∷ drop (i + 1) xs
+split_at xs i x within here = sym (take-append-drop i xs) ∙ ap (λ (r : List _). take i xs ++ r) (drop_more xs i x within ∙ ap (λ z. z ∷ drop (i + 1) xs) (sym here))
+
+pub take_one : {X : Type 0} (xs : List X) (i : ℕ) (x : X) → i < length xs → x ≡ get_or xs i x → take i xs ++ x ∷ [] ≡ take (i + 1) xs
+take_one xs i x within here = ap (λ z. take i xs ++ z ∷ []) here ∙ sym (take_more xs i x within)

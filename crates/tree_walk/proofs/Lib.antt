@@ -8,3 +8,4 @@ pub mod ReachLemmas
 pub mod RootLemmas
 pub mod SetLemmas
 pub mod StepLemmas
+pub mod WalkLemmas

@@ -235,8 +235,9 @@ candidate_from_under present answers roots walk file w told apart there kept r a
     ]
 
 -- the listing is the files under the roots
-pub files_are : (present : List NameFacts) (answers : List Heard) (roots : List (List ℕ)) (walk : Walk) → IsWhole answers roots walk → All (IsTold present) answers → are_distinct (map (λ n. n.path) present) ≡ true → are_apart (map (λ n. n.path) present) ≡ true → AreFilesUnder present roots walk.listing
-files_are present answers roots walk w told distinct apart = record {
+pub files_are : (present : List NameFacts) (answers : List Heard) (roots : List (List ℕ)) (walk : Walk) → IsWhole answers roots walk → All (IsTold present) answers
+    → (0 < length roots → (are_distinct (map (λ n. n.path) present) ≡ true) × (are_apart (map (λ n. n.path) present) ≡ true)) → AreFilesUnder present roots walk.listing
+files_are present answers roots walk w told known = record {
   by_path = w.listing.by_path;
   all = λ name. (λ c. listed_is_under name ((w.listing.all name).0 c), λ u. (w.listing.all name).1 (under_is_walked name u));
 }
@@ -248,8 +249,8 @@ files_are present answers roots walk w told distinct apart = record {
       kept = (look_was_due answers roots w.once.due name.path (File name.stamp) walked.file).1;
     }
 
-    looked_as_file : (name : NameFacts) → Contains present name → IsSome (first_look answers name.path) → first_look answers name.path ≡ Some (File name.stamp)
-    looked_as_file name there some =
+    looked_as_file : (name : NameFacts) → are_distinct (map (λ n. n.path) present) ≡ true → Contains present name → IsSome (first_look answers name.path) → first_look answers name.path ≡ Some (File name.stamp)
+    looked_as_file name distinct there some =
         elim (first_look answers name.path) as (λ o. first_look answers name.path ≡ o → IsSome o → o ≡ Some (File name.stamp)) [
           | None ↦ λ e h. absurd (false≢true h)
           | Some answer ↦ λ e h. let says = told_look present answers told name.path answer e in
@@ -263,5 +264,7 @@ files_are present answers roots walk w told distinct apart = record {
     under_is_walked : (name : NameFacts) → IsFileUnder present roots name → IsWalked answers roots name
     under_is_walked name u =
         let at = any_root (λ r. is_within r name.path) roots u.under in
-        let candidate : IsCandidate answers roots name.path = candidate_from_under present answers roots walk name w told apart u.there u.kept at.0 at.1 at.2 in
-        record { candidate = candidate; short = u.kept.short; file = looked_as_file name u.there (looked_is name candidate u.kept.short) }
+        let some : 0 < length roots = let lt = at.1.1 in omega arith in
+        let facts = known some in
+        let candidate : IsCandidate answers roots name.path = candidate_from_under present answers roots walk name w told facts.1 u.there u.kept at.0 at.1 at.2 in
+        record { candidate = candidate; short = u.kept.short; file = looked_as_file name facts.0 u.there (looked_is name candidate u.kept.short) }

@@ -5,6 +5,8 @@
 mod ask;
 mod fault;
 mod search;
+#[cfg(test)]
+mod tests;
 mod top;
 mod walked;
 

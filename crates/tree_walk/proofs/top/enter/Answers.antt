@@ -8,7 +8,7 @@ use Rattle.tree_trait.specs.Entry.{EntryFacts, has_entry}
 use Rattle.tree_walk.specs.Answers.{entries_in}
 use Rattle.tree_walk.specs.Search.{SearchFacts, IsUnderway, with_long}
 use Rattle.tree_walk.proofs.FileLemmas.{long_entry}
-use Rattle.tree_walk.proofs.GoesLemmas.{goes_none}
+use Rattle.tree_walk.proofs.GoesLemmas.{goes_none, memory_end}
 use Rattle.tree_walk.proofs.PathLemmas.{child_canonical, too_long}
 use Rattle.tree_walk.proofs.top.enter.Goals as goal
 
@@ -34,3 +34,7 @@ returns-in_ok-add_long-in-Err-clause-goes g c = λ answers roots rest u reached 
     goes_none _ _ _ _ _ _
     (subst (λ (s : SearchFacts). IsUnderway (answers ++ []) roots s c.args.folder.now rest) (sym (c.in_ok-add_long-in-Err.ensures ∙ ap (with_long c.args.search.now) given))
     (long_entry answers roots c.args.search.now c.args.folder.now c.args.entry.now path rest refl long u reached listed))
+
+pub returns-in_err-add_long-in-Err-clause-goes : goal.returns-in_err-add_long-in-Err-clause-goes
+returns-in_err-add_long-in-Err-clause-goes g c = λ answers roots rest u reached listed.
+    goes_none _ _ _ _ _ _ (memory_end c.from_residual-in_err-add_long-in-Err.result (λ _. IsUnderway (answers ++ []) roots c.add_long.new.self c.args.folder.now rest) (answers ++ []) roots c.from_residual-in_err-add_long-in-Err.ensures.1)
