@@ -8,6 +8,7 @@ use crate::top::walk;
 use crate::walked::Walk;
 use row_types::{CanonPath, OpenWorld, Stamp};
 use std::alloc::{AllocError, Global};
+use std::process::Abort;
 use std::test::Fail;
 use tree_trait::{DirAnswer, Entry, EntryKind, Found, LoadAnswer, MemTree, Script, StatAnswer, Tree};
 
@@ -38,11 +39,23 @@ fn tree_of(
     Ok(MemTree::new(alloc, script))
 }
 
-fn binaries(alloc: Global) -> Result<MemTree<OpenWorld>, AllocError> {
-    let prog = empty_file(alloc, "/srv/bin/prog")?;
-    let tool = empty_file(alloc, "/srv/bin/tool")?;
-    let debug = empty_file(alloc, "/srv/debug/tool.debug")?;
-    tree_of(alloc, vec![in alloc; prog, tool, debug]?, vec![in alloc]?)
+/// Twelve files under three folders.
+fn three_folders(alloc: Global) -> Result<MemTree<OpenWorld>, AllocError> {
+    let files = vec![in alloc;
+        empty_file(alloc, "/srv/bin/prog")?,
+        empty_file(alloc, "/srv/bin/tool")?,
+        empty_file(alloc, "/srv/bin/libx.so")?,
+        empty_file(alloc, "/srv/bin/liby.so")?,
+        empty_file(alloc, "/srv/bin/run.sh")?,
+        empty_file(alloc, "/srv/bin/empty")?,
+        empty_file(alloc, "/srv/debug/tool.debug")?,
+        empty_file(alloc, "/srv/debug/ppc.debug")?,
+        empty_file(alloc, "/srv/debug/notes.txt")?,
+        empty_file(alloc, "/w/src/main.c")?,
+        empty_file(alloc, "/w/src/inc/util.h")?,
+        empty_file(alloc, "/w/README")?,
+    ]?;
+    tree_of(alloc, files, vec![in alloc]?)
 }
 
 fn root(alloc: Global, text: &str) -> Result<CanonPath, Fail> {
@@ -58,11 +71,24 @@ fn assert_lists(rt: &impl Abort, walk: &Walk, paths: &[&str]) {
 #[test]
 fn the_files_under_each_root_are_listed_by_path(rt: HostRuntime) -> Result<(), Fail> {
     let alloc = rt.alloc();
-    let mut tree = binaries(alloc)?;
-    let roots = vec![in alloc; root(alloc, "/srv/debug")?, root(alloc, "/srv/bin/tool")?]?;
+    let mut tree = three_folders(alloc)?;
+    let roots = vec![in alloc; root(alloc, "/srv/bin")?, root(alloc, "/srv/debug")?, root(alloc, "/w")?]?;
     match walk(alloc, &mut tree, roots.as_slice()) {
         Ok(walk) => {
-            assert_lists(&rt, &walk, &["/srv/bin/tool", "/srv/debug/tool.debug"]);
+            assert_lists(&rt, &walk, &[
+                "/srv/bin/empty",
+                "/srv/bin/libx.so",
+                "/srv/bin/liby.so",
+                "/srv/bin/prog",
+                "/srv/bin/run.sh",
+                "/srv/bin/tool",
+                "/srv/debug/notes.txt",
+                "/srv/debug/ppc.debug",
+                "/srv/debug/tool.debug",
+                "/w/README",
+                "/w/src/inc/util.h",
+                "/w/src/main.c",
+            ]);
             assert_eq!(rt; walk.skipped, 0);
         }
         Err(_) => panic!(rt; "each root is there"),
@@ -73,11 +99,23 @@ fn the_files_under_each_root_are_listed_by_path(rt: HostRuntime) -> Result<(), F
 #[test]
 fn roots_that_overlap_list_each_file_once(rt: HostRuntime) -> Result<(), Fail> {
     let alloc = rt.alloc();
-    let mut tree = binaries(alloc)?;
+    let mut tree = three_folders(alloc)?;
     let roots = vec![in alloc; root(alloc, "/srv/bin")?, root(alloc, "/srv")?, root(alloc, "/srv/bin")?]?;
     match walk(alloc, &mut tree, roots.as_slice()) {
-        Ok(walk) => assert_lists(&rt, &walk, &["/srv/bin/prog", "/srv/bin/tool", "/srv/debug/tool.debug"]),
+        Ok(walk) => assert_eq!(rt; walk.listing.len(), 9),
         Err(_) => panic!(rt; "each root is there"),
+    }
+    Ok(())
+}
+
+#[test]
+fn a_root_that_is_a_file_is_listed(rt: HostRuntime) -> Result<(), Fail> {
+    let alloc = rt.alloc();
+    let mut tree = three_folders(alloc)?;
+    let roots = vec![in alloc; root(alloc, "/srv/bin/tool")?]?;
+    match walk(alloc, &mut tree, roots.as_slice()) {
+        Ok(walk) => assert_lists(&rt, &walk, &["/srv/bin/tool"]),
+        Err(_) => panic!(rt; "the root is there"),
     }
     Ok(())
 }
@@ -85,7 +123,7 @@ fn roots_that_overlap_list_each_file_once(rt: HostRuntime) -> Result<(), Fail> {
 #[test]
 fn a_root_that_is_gone_ends_the_walk(rt: HostRuntime) -> Result<(), Fail> {
     let alloc = rt.alloc();
-    let mut tree = binaries(alloc)?;
+    let mut tree = three_folders(alloc)?;
     let roots = vec![in alloc; root(alloc, "/srv")?, root(alloc, "/none")?]?;
     match walk(alloc, &mut tree, roots.as_slice()) {
         Err(WalkFault::RootGone(path)) => assert_eq!(rt; path.text(), "/none"),
