@@ -170,9 +170,10 @@ pub look_says : (p : List ℕ) (h : Heard) (answer : StatAnswer) → look_at p h
 look_says p (load asked limit other) answer e = absurd (none-some answer e)
 look_says p (stat asked other) answer e =
     let parts = cond_some (bytes_eq asked p && is_look_answer other) other answer e in
-    let both = and_parts (bytes_eq asked p) (is_look_answer other) parts.0 in
-    (ap (λ (q : List ℕ). stat q other) ((bytes_eq-Decides asked p).0 both.0) ∙ ap (λ (a : StatAnswer). stat p a) parts.1,
-    ap is_look_answer (sym parts.1) ∙ both.1)
+    let both = and_parts (bytes_eq asked p) (is_look_answer other) parts.0 in (
+      ap (λ (q : List ℕ). stat q other) ((bytes_eq-Decides asked p).0 both.0) ∙ ap (λ (a : StatAnswer). stat p a) parts.1,
+      ap is_look_answer (sym parts.1) ∙ both.1,
+    )
 look_says p (read_dir asked other) answer e = absurd (none-some answer e)
 
 pub reading_says : (p : List ℕ) (h : Heard) (answer : DirFacts) → reading_of p h ≡ Some answer → (h ≡ read_dir p answer) × (is_dir_answer answer ≡ true)
@@ -180,6 +181,7 @@ reading_says p (load asked limit other) answer e = absurd (none-some answer e)
 reading_says p (stat asked said) answer e = absurd (none-some answer e)
 reading_says p (read_dir asked other) answer e =
     let parts = cond_some (bytes_eq asked p && is_dir_answer other) other answer e in
-    let both = and_parts (bytes_eq asked p) (is_dir_answer other) parts.0 in
-    (ap (λ (q : List ℕ). read_dir q other) ((bytes_eq-Decides asked p).0 both.0) ∙ ap (λ (d : DirFacts). read_dir p d) parts.1,
-    ap is_dir_answer (sym parts.1) ∙ both.1)
+    let both = and_parts (bytes_eq asked p) (is_dir_answer other) parts.0 in (
+      ap (λ (q : List ℕ). read_dir q other) ((bytes_eq-Decides asked p).0 both.0) ∙ ap (λ (d : DirFacts). read_dir p d) parts.1,
+      ap is_dir_answer (sym parts.1) ∙ both.1,
+    )

@@ -122,8 +122,8 @@ whole_is answers roots search walk u empty found over =
       full = record {
         looked = u.looked.looked;
         folders = λ path f short.
-          let once : times_read answers path ≡ 1 = once_of answers roots search u empty path f short in
-          was_read answers path s.answered (omega (arith, once));
+            let once : times_read answers path ≡ 1 = once_of answers roots search u empty path f short in
+            was_read answers path s.answered (omega (arith, once));
         files = λ path e short. met_of answers roots search kind.File path s e short;
       };
       once = record {

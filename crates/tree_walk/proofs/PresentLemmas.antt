@@ -54,9 +54,11 @@ any_root p (x ∷ xs) h =
     ]
 
 path_there : (names : List NameFacts) (name : NameFacts) → Contains names name → Contains (map (λ n. n.path) names) name.path
-path_there names name c =
-    (c.0, subst (λ (n : ℕ). c.0 < n) (sym (length-map names (λ (n : NameFacts). n.path))) c.1,
-    get_or-map (λ (n : NameFacts). n.path) names c.0 name name.path c.1 ∙ ap (λ (n : NameFacts). n.path) c.2)
+path_there names name c = (
+  c.0,
+  subst (λ (n : ℕ). c.0 < n) (sym (length-map names (λ (n : NameFacts). n.path))) c.1,
+  get_or-map (λ (n : NameFacts). n.path) names c.0 name name.path c.1 ∙ ap (λ (n : NameFacts). n.path) c.2,
+)
 
 -- the file at a path
 pub file_found : (names : List NameFacts) (path : List ℕ) (stamp : StampFacts) → stamp_at names path ≡ Some stamp → Contains names (record { path = path; stamp = stamp })

@@ -14,12 +14,12 @@ use Rattle.tree_trait.specs.Heard.{Heard, stat}
 use Rattle.tree_trait.specs.declared.stat.StatAnswer.{StatAnswer}
 use Rattle.tree_trait.specs.declared.stat.StatAnswer.TheVariants.{Folder, File, Other, Gone, Failed, OutOfMemory}
 use Rattle.tree_walk.specs.Answers.{is_look_answer, first_look, looks, is_there}
-use Rattle.tree_walk.specs.Ends.{BeginsWithRoots, IsRootGone, IsTooMany, IsCause}
+use Rattle.tree_walk.specs.Ends.{BeginsWithRoots, HasRoom, IsRootGone, IsTooMany, IsCause}
 use Rattle.tree_walk.specs.Search.{SearchFacts, has, unasked, is_looked, noted, with_folder, with_root, with_new_root, IsSearch, AreLooked, IsBeginning, IsUnderway, IsAddFault}
 use Rattle.tree_walk.specs.Walked.{IsCandidate, IsFolderRoot}
 use Rattle.tree_walk.specs.declared.fault.WalkFault.{WalkFault}
 use Rattle.tree_walk.specs.declared.fault.WalkFault.TheVariants.{Failed as WalkFailed, TooMany, TooManyEntries, RootGone, OutOfMemory as WalkMemory}
-use Rattle.tree_walk.proofs.EndLemmas.{too_many_is}
+use Rattle.tree_walk.proofs.EndLemmas.{room_is, too_many_is}
 use Rattle.tree_walk.proofs.AnswerLemmas.{look_stays, looked_stays, after_look, look_again}
 use Rattle.tree_walk.proofs.SetLemmas.{same, same-Decides, sorted_none}
 use Rattle.tree_walk.proofs.StepLemmas.{note_step, again_step, is_looked_is, folder_step, folder_known, folder_stays}
@@ -99,12 +99,12 @@ looked_new answers roots seen search next path answer looked fresh ok a =
             (ap is_some (after_look answers path answer ok fresh path ∙ ap (λ (b : Bool). cond b (Some answer) (first_look answers path)) ((same-Decides path path).1 refl)))
       ];
       folders = λ p r h.
-        elim (same p path) as (λ v. same p path ≡ v → has next.folders p ≡ true) [
-          | true ↦ λ e.
-              let one : p ≡ path = (same-Decides p path).0 e in
-              subst (λ (q : List ℕ). has next.folders q ≡ true) (sym one) (a.adds (subst (λ (q : List ℕ). first_look (answers ++ more) q ≡ Some Folder) one h))
-          | false ↦ λ e. a.keeps p (looked.folders p r (sym (after_look answers path answer ok fresh p ∙ ap (λ (b : Bool). cond b (Some answer) (first_look answers p)) e) ∙ h))
-        ] refl;
+          elim (same p path) as (λ v. same p path ≡ v → has next.folders p ≡ true) [
+            | true ↦ λ e.
+                let one : p ≡ path = (same-Decides p path).0 e in
+                subst (λ (q : List ℕ). has next.folders q ≡ true) (sym one) (a.adds (subst (λ (q : List ℕ). first_look (answers ++ more) q ≡ Some Folder) one h))
+            | false ↦ λ e. a.keeps p (looked.folders p r (sym (after_look answers path answer ok fresh p ∙ ap (λ (b : Bool). cond b (Some answer) (first_look answers p)) e) ∙ h))
+          ] refl;
     }
 
 looked_old : (answers : List Heard) (roots seen : List (List ℕ)) (search : SearchFacts) (path : List ℕ) (answer known : StatAnswer) → AreLooked answers roots seen search → first_look answers path ≡ Some known → AreLooked (answers ++ stat path answer ∷ []) roots (seen ++ path ∷ []) search
@@ -155,15 +155,16 @@ beginning_step answers roots seen search path answer b r kept ok there few =
     }
 
 -- nothing is at a root
-pub root_gone : (answers : List Heard) (roots seen after : List (List ℕ)) (search : SearchFacts) (path : List ℕ) → IsBeginning answers roots seen search → roots ≡ seen ++ path ∷ after → IsRootGone (answers ++ stat path Gone ∷ []) roots path
-root_gone answers roots seen after search path b split = record {
+pub root_gone : (answers more : List Heard) (roots seen after : List (List ℕ)) (search : SearchFacts) (path : List ℕ) → IsBeginning answers roots seen search → roots ≡ seen ++ path ∷ after → more ≡ stat path Gone ∷ [] → IsRootGone (answers ++ more) roots path
+root_gone answers more roots seen after search path b split heard = record {
   before = seen;
   after = after;
   given = b.given;
   split = split;
   each = b.each;
   there = b.there;
-  heard = ap (λ (h : List Heard). h ++ stat path Gone ∷ []) b.first;
+  room = subst (λ (h : List Heard). HasRoom h roots) b.first (room_is answers roots search [] [] b.search_is b.few);
+  heard = ap (λ (m : List Heard). answers ++ m) heard ∙ ap (λ (h : List Heard). h ++ stat path Gone ∷ []) b.first;
 }
 
 -- all roots were looked at

@@ -130,12 +130,12 @@ lookup-insert_entry (f ∷ fs) path stamp p =
       | Greater ↦ λ e.
           ap (λ t. if_so (same p f.0) (Some f.1) t) (lookup-insert_entry fs path stamp p)
           ∙ cond_swap (same p f.0) (same p path) (Some f.1) (Some stamp) (lookup (same p) fs)
-            (λ here there.
-            let one : p ≡ f.0 = (same-Decides p f.0).0 here in
-            let two : p ≡ path = (same-Decides p path).0 there in
-            let tied : is_eq (slice_cmp nat_cmp path f.0) ≡ true = (same-Decides path f.0).1 (sym two ∙ one) in
-            let greater : is_eq (slice_cmp nat_cmp path f.0) ≡ false = ap is_eq e in
-            cc)
+          (λ here there.
+          let one : p ≡ f.0 = (same-Decides p f.0).0 here in
+          let two : p ≡ path = (same-Decides p path).0 there in
+          let tied : is_eq (slice_cmp nat_cmp path f.0) ≡ true = (same-Decides path f.0).1 (sym two ∙ one) in
+          let greater : is_eq (slice_cmp nat_cmp path f.0) ≡ false = ap is_eq e in
+          cc)
     ] refl
 
 -- a path is among the paths, or is tested to be

@@ -133,8 +133,8 @@ look_step answers roots search folder rest path answer files others s candidate 
             there (subst (Contains roots) (sym one) r) gone
       ];
       closed = closed_more answers (answers ++ more) search (record search { files = files; others = others }) folder rest
-      (record { folders = λ p h. h; long = λ p h. h; looks = λ p h. looked_stays answers more p h })
-      (λ at. ap entries_of (reading_past_look answers path answer at)) s.closed;
+          (record { folders = λ p h. h; long = λ p h. h; looks = λ p h. looked_stays answers more p h })
+          (λ at. ap entries_of (reading_past_look answers path answer at)) s.closed;
     }
 
 -- a look at a path that wasn't looked at
@@ -194,18 +194,18 @@ folder_new answers roots search folder rest path s is_folder kept fresh = record
     | inr old ↦ s.folders p old
   ];
   counts = λ p.
-    let push : count_by (bytes_eq p) (search.todo ++ path ∷ []) ≡ count_by (bytes_eq p) search.todo + one_if (bytes_eq p path) = sum_by_push (λ (q : List ℕ). one_if (bytes_eq p q)) search.todo path in
-    elim (same p path) as (λ v. same p path ≡ v → times_read answers p + count_by (bytes_eq p) (search.todo ++ path ∷ []) ≡ one_if (v || has search.folders p)) [
-      | true ↦ λ e.
-          let one : one_if (bytes_eq p path) ≡ 1 = ap (λ (b : Bool). one_if b) (sym (same_bytes p path) ∙ e) in
-          let fresh_p : has search.folders p ≡ false = subst (λ (z : List ℕ). has search.folders z ≡ false) (sym ((same-Decides p path).0 e)) fresh in
-          let none : times_read answers p + count_by (bytes_eq p) search.todo ≡ 0 = s.counts p ∙ ap (λ (b : Bool). one_if b) fresh_p in
-          omega (arith, push, one, none)
-      | false ↦ λ e.
-          let zero : one_if (bytes_eq p path) ≡ 0 = ap (λ (b : Bool). one_if b) (sym (same_bytes p path) ∙ e) in
-          let old : times_read answers p + count_by (bytes_eq p) search.todo ≡ one_if (has search.folders p) = s.counts p in
-          omega (arith, push, zero, old)
-    ] refl ∙ ap (λ (b : Bool). one_if b) (sym (has-with_path search.folders path p));
+      let push : count_by (bytes_eq p) (search.todo ++ path ∷ []) ≡ count_by (bytes_eq p) search.todo + one_if (bytes_eq p path) = sum_by_push (λ (q : List ℕ). one_if (bytes_eq p q)) search.todo path in
+      elim (same p path) as (λ v. same p path ≡ v → times_read answers p + count_by (bytes_eq p) (search.todo ++ path ∷ []) ≡ one_if (v || has search.folders p)) [
+        | true ↦ λ e.
+            let one : one_if (bytes_eq p path) ≡ 1 = ap (λ (b : Bool). one_if b) (sym (same_bytes p path) ∙ e) in
+            let fresh_p : has search.folders p ≡ false = subst (λ (z : List ℕ). has search.folders z ≡ false) (sym ((same-Decides p path).0 e)) fresh in
+            let none : times_read answers p + count_by (bytes_eq p) search.todo ≡ 0 = s.counts p ∙ ap (λ (b : Bool). one_if b) fresh_p in
+            omega (arith, push, one, none)
+        | false ↦ λ e.
+            let zero : one_if (bytes_eq p path) ≡ 0 = ap (λ (b : Bool). one_if b) (sym (same_bytes p path) ∙ e) in
+            let old : times_read answers p + count_by (bytes_eq p) search.todo ≡ one_if (has search.folders p) = s.counts p in
+            omega (arith, push, zero, old)
+      ] refl ∙ ap (λ (b : Bool). one_if b) (sym (has-with_path search.folders path p));
   long = s.long;
   apart = s.apart;
   left = s.left;
@@ -213,7 +213,7 @@ folder_new answers roots search folder rest path s is_folder kept fresh = record
   answered = s.answered;
   there = s.there;
   closed = closed_more answers answers search (record search { folders = with_path search.folders path; todo = search.todo ++ path ∷ [] }) folder rest
-  (grown answers search (record search { folders = with_path search.folders path; todo = search.todo ++ path ∷ [] }) (has_more search.folders path) (λ p h. h)) (λ at. refl) s.closed;
+      (grown answers search (record search { folders = with_path search.folders path; todo = search.todo ++ path ∷ [] }) (has_more search.folders path) (λ p h. h)) (λ at. refl) s.closed;
 }
 
 -- a folder that is to be read
@@ -342,11 +342,11 @@ read_step answers roots search path answer left skipped s ok paid passed =
       due = All-push (IsDue (answers ++ more) roots) answers (read_dir path answer) (All-weaker (IsDue answers roots) (IsDue (answers ++ more) roots) (due_more answers more roots) answers s.due) (folder_more answers more roots path next.is_folder, next.kept);
       folders = λ p h. (folder_more answers more roots p (s.folders p h).0, (s.folders p h).1);
       counts = λ p.
-        let push : count_by (bytes_eq p) (search.todo ++ path ∷ []) ≡ count_by (bytes_eq p) search.todo + one_if (bytes_eq p path) = sum_by_push (λ (q : List ℕ). one_if (bytes_eq p q)) search.todo path in
-        let times : times_read (answers ++ more) p ≡ times_read answers p + one_if (bytes_eq path p) = times_after_reading answers path answer p in
-        let turned : one_if (bytes_eq path p) ≡ one_if (bytes_eq p path) = ap (λ (b : Bool). one_if b) (bytes_back path p) in
-        let all : times_read answers p + count_by (bytes_eq p) (search.todo ++ path ∷ []) ≡ one_if (has search.folders p) = s.counts p in
-        omega (arith, push, times, turned, all);
+          let push : count_by (bytes_eq p) (search.todo ++ path ∷ []) ≡ count_by (bytes_eq p) search.todo + one_if (bytes_eq p path) = sum_by_push (λ (q : List ℕ). one_if (bytes_eq p q)) search.todo path in
+          let times : times_read (answers ++ more) p ≡ times_read answers p + one_if (bytes_eq path p) = times_after_reading answers path answer p in
+          let turned : one_if (bytes_eq path p) ≡ one_if (bytes_eq p path) = ap (λ (b : Bool). one_if b) (bytes_back path p) in
+          let all : times_read answers p + count_by (bytes_eq p) (search.todo ++ path ∷ []) ≡ one_if (has search.folders p) = s.counts p in
+          omega (arith, push, times, turned, all);
       long = λ p h. (reached_more answers more roots p (s.long p h).0, (s.long p h).1);
       apart = s.apart;
       left = omega (arith, read, was, paid);
@@ -357,15 +357,15 @@ read_step answers roots search path answer left skipped s ok paid passed =
         | inr last ↦ cc
       ];
       closed = λ at entry h.
-        elim (same at path) as (λ v. same at path ≡ v → has_entry (entries_of (cond v (Some answer) (first_reading answers at))) entry ≡ true
-        → IsSettled (answers ++ more) (record search { left = left; skipped = skipped }) (child at entry.name) entry.kind ⊎ IsPending path (entries_of (Some answer)) at entry) [
-          | true ↦ λ e t. inr (record { here = (same-Decides at path).0 e; among = t })
-          | false ↦ λ e t. elim (s.closed at entry t) [
-            | inl done ↦ inl (settled_more answers (answers ++ more) (with_last search path) (record search { left = left; skipped = skipped }) (child at entry.name) entry.kind
-                (record { folders = λ p f. f; long = λ p f. f; looks = λ p f. looked_stays answers more p f }) done)
-            | inr pending ↦ absurd (false≢true pending.among)
-          ]
-        ] refl (subst (λ (o : Option DirFacts). has_entry (entries_of o) entry ≡ true) (after_reading answers path answer ok next.unread at) h);
+          elim (same at path) as (λ v. same at path ≡ v → has_entry (entries_of (cond v (Some answer) (first_reading answers at))) entry ≡ true
+          → IsSettled (answers ++ more) (record search { left = left; skipped = skipped }) (child at entry.name) entry.kind ⊎ IsPending path (entries_of (Some answer)) at entry) [
+            | true ↦ λ e t. inr (record { here = (same-Decides at path).0 e; among = t })
+            | false ↦ λ e t. elim (s.closed at entry t) [
+              | inl done ↦ inl (settled_more answers (answers ++ more) (with_last search path) (record search { left = left; skipped = skipped }) (child at entry.name) entry.kind
+                  (record { folders = λ p f. f; long = λ p f. f; looks = λ p f. looked_stays answers more p f }) done)
+              | inr pending ↦ absurd (false≢true pending.among)
+            ]
+          ] refl (subst (λ (o : Option DirFacts). has_entry (entries_of o) entry ≡ true) (after_reading answers path answer ok next.unread at) h);
     }
   where
     bytes_back : (a b : List ℕ) → bytes_eq a b ≡ bytes_eq b a

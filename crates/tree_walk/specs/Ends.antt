@@ -59,7 +59,7 @@ pub record IsTooManyEntries (answers : List Heard) (roots : List (List ℕ)) : T
   pub last : StopsAtLast answers roots (λ last. Unit {0})
   pub many : ENTRY_LIMIT < entries_read answers
 
--- the last answer said that nothing is at this root; the roots before it are there
+-- the last answer said that nothing is at this root; the roots before it are there, and no limit was passed
 pub record IsRootGone (answers : List Heard) (roots : List (List ℕ)) (path : List ℕ) : Type 0 where
   pub before : List (List ℕ)
   pub after : List (List ℕ)
@@ -67,6 +67,7 @@ pub record IsRootGone (answers : List Heard) (roots : List (List ℕ)) (path : L
   pub split : roots ≡ before ++ path ∷ after
   pub each : length given ≡ length before
   pub there : list_all is_there given ≡ true
+  pub room : HasRoom (looks before given) roots
   pub heard : answers ≡ looks before given ++ stat path Gone ∷ []
 
 -- the answers by which a walk ends with a fault; want of memory may end it at any

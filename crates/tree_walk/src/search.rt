@@ -10,15 +10,14 @@ ghost use Rattle.std.specs.String.{string_bytes};
 ghost use Rattle.row_types.specs.Faults.{summed};
 ghost use Rattle.tree_walk.specs.Search.{unasked, is_looked, noted, with_folder, with_long, with_new_root, with_last, with_path, paid, names_of, IsAdded, IsAddFault};
 
+use crate::fault::WalkFault;
+use crate::walked::{ENTRY_LIMIT, Walk};
 use row_types::{CanonPath, Name, Stamp};
 use scan_queue::{LISTING_LIMIT, Listing};
 use std::alloc::{AllocError, Global};
 use std::collections::{BTreeMap, BTreeSet};
 use std::marker::Model;
 use tree_trait::{Entry, StatAnswer};
-
-use crate::fault::WalkFault;
-use crate::walked::{ENTRY_LIMIT, Walk};
 
 /// The paths that a walk met, and what it may still read. Contracts see it as a record of lists and numbers.
 #[derive(Drop)]
@@ -77,7 +76,12 @@ impl Search {
     }
 
     /// Notes what was found at a root, if there are no more files than a listing has.
-    pub fn note_root(&mut self, alloc: Global, root: &CanonPath, answer: StatAnswer) -> Result<(), WalkFault>
+    pub fn note_root(
+        &mut self,
+        alloc: Global,
+        root: &CanonPath,
+        answer: StatAnswer,
+    ) -> Result<(), WalkFault>
         ensures { MatchResult result (λ _. IsAdded (with_new_root self.old root.now answer) self.new) (IsAddFault (with_new_root self.old root.now answer)) }
     {
         self.add_root(alloc, root, answer)?;
@@ -121,7 +125,12 @@ impl Search {
     }
 
     /// Notes what was found at a root, unless it was looked at before. A folder is to be read.
-    fn add_root(&mut self, alloc: Global, root: &CanonPath, answer: StatAnswer) -> Result<(), AllocError>
+    fn add_root(
+        &mut self,
+        alloc: Global,
+        root: &CanonPath,
+        answer: StatAnswer,
+    ) -> Result<(), AllocError>
         ensures { OnOk result (self.new ≡ with_new_root self.old root.now answer) }
     {
         if self.is_looked(root) {

@@ -1,6 +1,9 @@
 //! What no clause says: that memory suffices, and what a walk finds in small trees.
 
-ghost use Rattle.std.specs.Prelude.{◌≡◌, IfOk, IsTrue};
+ghost use Rattle.std.specs.Prelude.{◌≡◌, ◌&&◌, map, IfOk, IsTrue};
+ghost use Rattle.std.specs.List.{list_all};
+ghost use Rattle.row_types.specs.Canon.{is_canonical};
+ghost use Rattle.tree_trait.specs.Present.{are_distinct};
 ghost use Rattle.tree_trait.specs.Script.{is_stage};
 
 use crate::fault::WalkFault;
@@ -10,17 +13,24 @@ use row_types::{CanonPath, OpenWorld, Stamp};
 use std::alloc::{AllocError, Global};
 use std::process::Abort;
 use std::test::Fail;
-use tree_trait::{DirAnswer, Entry, EntryKind, Found, LoadAnswer, MemTree, Script, StatAnswer, Tree};
+use tree_trait::{
+    DirAnswer, Entry, EntryKind, Found, LoadAnswer, MemTree, Script, StatAnswer, Tree,
+};
 
-fn empty_file(alloc: Global, path: &str) -> Result<Found<OpenWorld>, AllocError>
-    ensures { IfOk result (λ file. file.path ≡ path.now) }
+/// Empty files at the paths.
+fn files_at(alloc: Global, paths: &[&str]) -> Result<Vec<Found<OpenWorld>>, AllocError>
+    ensures { IfOk result (λ files. map (λ file. file.path) files.items ≡ map (λ path. path.now) paths.now) }
 {
     let stamp = Stamp {
         size: 0,
         secs: 100,
         nanos: 0,
     };
-    Ok(Found::new(String::from_str(alloc, path)?, stamp, vec![in alloc]?))
+    let mut files = Vec::new(alloc);
+    for path in paths {
+        files.push(Found::new(String::from_str(alloc, path)?, stamp, vec![in alloc]?))?;
+    }
+    Ok(files)
 }
 
 /// The tree of these files, of which the calls of these numbers fail.
@@ -39,56 +49,85 @@ fn tree_of(
     Ok(MemTree::new(alloc, script))
 }
 
+/// The tree of empty files at the paths, of which the calls of these numbers fail.
+fn tree_at(
+    alloc: Global,
+    paths: &[&str],
+    bad_calls: Vec<u64>,
+) -> Result<MemTree<OpenWorld>, AllocError>
+    requires { IsTrue (list_all is_canonical (map (λ path. path.now) paths.now) && are_distinct (map (λ path. path.now) paths.now)) }
+{
+    let files = files_at(alloc, paths)?;
+    tree_of(alloc, files, bad_calls)
+}
+
 /// Twelve files under three folders.
 fn three_folders(alloc: Global) -> Result<MemTree<OpenWorld>, AllocError> {
-    let files = vec![in alloc;
-        empty_file(alloc, "/srv/bin/prog")?,
-        empty_file(alloc, "/srv/bin/tool")?,
-        empty_file(alloc, "/srv/bin/libx.so")?,
-        empty_file(alloc, "/srv/bin/liby.so")?,
-        empty_file(alloc, "/srv/bin/run.sh")?,
-        empty_file(alloc, "/srv/bin/empty")?,
-        empty_file(alloc, "/srv/debug/tool.debug")?,
-        empty_file(alloc, "/srv/debug/ppc.debug")?,
-        empty_file(alloc, "/srv/debug/notes.txt")?,
-        empty_file(alloc, "/w/src/main.c")?,
-        empty_file(alloc, "/w/src/inc/util.h")?,
-        empty_file(alloc, "/w/README")?,
-    ]?;
-    tree_of(alloc, files, vec![in alloc]?)
+    let paths = [
+        "/srv/bin/prog",
+        "/srv/bin/tool",
+        "/srv/bin/libx.so",
+        "/srv/bin/liby.so",
+        "/srv/bin/run.sh",
+        "/srv/bin/empty",
+        "/srv/debug/tool.debug",
+        "/srv/debug/ppc.debug",
+        "/srv/debug/notes.txt",
+        "/w/src/main.c",
+        "/w/src/inc/util.h",
+        "/w/README",
+    ];
+    tree_at(alloc, &paths, vec![in alloc]?)
 }
 
 fn root(alloc: Global, text: &str) -> Result<CanonPath, Fail> {
-    Ok(CanonPath::check(String::from_str(alloc, text)?).ok().ok_or("a canonical path")?)
+    Ok(
+        CanonPath::check(String::from_str(alloc, text)?)
+            .ok()
+            .ok_or("a canonical path")?,
+    )
 }
 
 fn assert_lists(rt: &impl Abort, walk: &Walk, paths: &[&str]) {
     let names = walk.listing.names();
     assert_eq!(rt; names.len(), paths.len());
-    assert!(rt; names.iter().zip(paths).all(|(name, path)| name.path.text() == *path));
+    assert!(rt;
+        names
+            .iter()
+            .zip(paths)
+            .all(|(name, path)| name.path.text() == *path)
+    );
 }
 
 #[test]
 fn the_files_under_each_root_are_listed_by_path(rt: HostRuntime) -> Result<(), Fail> {
     let alloc = rt.alloc();
     let mut tree = three_folders(alloc)?;
-    let roots = vec![in alloc; root(alloc, "/srv/bin")?, root(alloc, "/srv/debug")?, root(alloc, "/w")?]?;
+    let roots = vec![in alloc;
+        root(alloc, "/srv/bin")?,
+        root(alloc, "/srv/debug")?,
+        root(alloc, "/w")?,
+    ]?;
     match walk(alloc, &mut tree, roots.as_slice()) {
         Ok(walk) => {
-            assert_lists(&rt, &walk, &[
-                "/srv/bin/empty",
-                "/srv/bin/libx.so",
-                "/srv/bin/liby.so",
-                "/srv/bin/prog",
-                "/srv/bin/run.sh",
-                "/srv/bin/tool",
-                "/srv/debug/notes.txt",
-                "/srv/debug/ppc.debug",
-                "/srv/debug/tool.debug",
-                "/w/README",
-                "/w/src/inc/util.h",
-                "/w/src/main.c",
-            ]);
+            assert_lists(
+                &rt,
+                &walk,
+                &[
+                    "/srv/bin/empty",
+                    "/srv/bin/libx.so",
+                    "/srv/bin/liby.so",
+                    "/srv/bin/prog",
+                    "/srv/bin/run.sh",
+                    "/srv/bin/tool",
+                    "/srv/debug/notes.txt",
+                    "/srv/debug/ppc.debug",
+                    "/srv/debug/tool.debug",
+                    "/w/README",
+                    "/w/src/inc/util.h",
+                    "/w/src/main.c",
+                ],
+            );
             assert_eq!(rt; walk.skipped, 0);
         }
         Err(_) => panic!(rt; "each root is there"),
@@ -100,7 +139,11 @@ fn the_files_under_each_root_are_listed_by_path(rt: HostRuntime) -> Result<(), F
 fn roots_that_overlap_list_each_file_once(rt: HostRuntime) -> Result<(), Fail> {
     let alloc = rt.alloc();
     let mut tree = three_folders(alloc)?;
-    let roots = vec![in alloc; root(alloc, "/srv/bin")?, root(alloc, "/srv")?, root(alloc, "/srv/bin")?]?;
+    let roots = vec![in alloc;
+        root(alloc, "/srv/bin")?,
+        root(alloc, "/srv")?,
+        root(alloc, "/srv/bin")?,
+    ]?;
     match walk(alloc, &mut tree, roots.as_slice()) {
         Ok(walk) => assert_eq!(rt; walk.listing.len(), 9),
         Err(_) => panic!(rt; "each root is there"),
@@ -135,10 +178,14 @@ fn a_root_that_is_gone_ends_the_walk(rt: HostRuntime) -> Result<(), Fail> {
 #[test]
 fn a_reading_that_fails_ends_the_walk(rt: HostRuntime) -> Result<(), Fail> {
     let alloc = rt.alloc();
-    let prog = empty_file(alloc, "/srv/prog")?;
-    let mut tree = tree_of(alloc, vec![in alloc; prog]?, vec![in alloc; 1]?)?;
+    let mut tree = tree_at(alloc, &["/srv/prog"], vec![in alloc; 1]?)?;
     let roots = vec![in alloc; root(alloc, "/srv")?]?;
-    assert!(rt; matches!(&walk(alloc, &mut tree, roots.as_slice()), Err(WalkFault::Failed)));
+    assert!(rt;
+        matches!(
+            &walk(alloc, &mut tree, roots.as_slice()),
+            Err(WalkFault::Failed)
+        )
+    );
     Ok(())
 }
 

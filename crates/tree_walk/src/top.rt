@@ -74,7 +74,7 @@ fn look_at_root<W: Truth, T: Tree<W>>(
 ) -> Result<(), WalkFault>
     ensures goes { (answers : List Heard) (roots seen after : List (List ℕ)) → roots ≡ seen ++ root.now ∷ after → IsBeginning answers roots seen search.old
         → Goes (T.heard hand.old) (T.heard hand.new) (IsTrue T.told × T.still hand.old) (T.present hand.old)
-            (λ more _. IsBeginning (answers ++ more) roots (seen ++ root.now ∷ []) search.new) (λ more fault. IsCause (answers ++ more) roots fault) result }
+        (λ more _. IsBeginning (answers ++ more) roots (seen ++ root.now ∷ []) search.new) (λ more fault. IsCause (answers ++ more) roots fault) result }
     ensures cause { HasCause (T.faults hand.old) (T.faults hand.new) (result ≡ Err WalkFault.Failed) }
     ensures known { IsTrue T.told → IsPresence W.version (T.still hand.new) (T.present hand.new) }
     ensures still { T.still hand.old → StaysStill (T.still hand.new) (T.present hand.old) (T.present hand.new) }
@@ -95,7 +95,7 @@ fn read_folder<W: Truth, T: Tree<W>>(
 ) -> Result<(), WalkFault>
     ensures goes { (answers : List Heard) (roots : List (List ℕ)) → IsUnderway answers roots (with_last search.old folder.now) [] []
         → Goes (T.heard hand.old) (T.heard hand.new) (IsTrue T.told × T.still hand.old) (T.present hand.old)
-            (λ more _. IsUnderway (answers ++ more) roots search.new [] []) (λ more fault. IsCause (answers ++ more) roots fault) result }
+        (λ more _. IsUnderway (answers ++ more) roots search.new [] []) (λ more fault. IsCause (answers ++ more) roots fault) result }
     ensures ends { OnOk result (search.new.left + length search.new.todo ≤ search.old.left + length search.old.todo) }
     ensures cause { HasCause (T.faults hand.old) (T.faults hand.new) (result ≡ Err WalkFault.Failed) }
     ensures known { IsTrue T.told → IsPresence W.version (T.still hand.new) (T.present hand.new) }
@@ -116,7 +116,7 @@ fn enter_all<W: Truth, T: Tree<W>>(
     ensures goes { (answers : List Heard) (roots : List (List ℕ)) → IsUnderway answers roots search.old folder.now entries.now
         → IsReached answers roots folder.now → entries_in answers folder.now ≡ entries.now
         → Goes (T.heard hand.old) (T.heard hand.new) (IsTrue T.told × T.still hand.old) (T.present hand.old)
-            (λ more _. IsUnderway (answers ++ more) roots search.new folder.now []) (λ more fault. IsCause (answers ++ more) roots fault) result }
+        (λ more _. IsUnderway (answers ++ more) roots search.new folder.now []) (λ more fault. IsCause (answers ++ more) roots fault) result }
     ensures ends { OnOk result ((search.new.left ≡ search.old.left) × (length search.new.todo ≤ length search.old.todo + length entries.now)) }
     ensures cause { HasCause (T.faults hand.old) (T.faults hand.new) (result ≡ Err WalkFault.Failed) }
     ensures known { IsTrue T.told → IsPresence W.version (T.still hand.old) (T.present hand.old) → IsPresence W.version (T.still hand.new) (T.present hand.new) }
@@ -137,8 +137,8 @@ fn read_entries<W: Truth, T: Tree<W>>(
 ) -> Result<Vec<Entry>, WalkFault>
     ensures goes { (answers : List Heard) (roots : List (List ℕ)) → IsUnderway answers roots (with_last search.old folder.now) [] []
         → Goes (T.heard hand.old) (T.heard hand.new) (IsTrue T.told × T.still hand.old) (T.present hand.old)
-            (λ more entries. IsUnderway (answers ++ more) roots search.new folder.now entries.items × IsReached (answers ++ more) roots folder.now × (entries_in (answers ++ more) folder.now ≡ entries.items))
-            (λ more fault. IsCause (answers ++ more) roots fault) result }
+        (λ more entries. IsUnderway (answers ++ more) roots search.new folder.now entries.items × IsReached (answers ++ more) roots folder.now × (entries_in (answers ++ more) folder.now ≡ entries.items))
+        (λ more fault. IsCause (answers ++ more) roots fault) result }
     ensures ends { IfOk result (λ entries. (search.new.left + length entries.items ≡ search.old.left) × (search.new.todo ≡ search.old.todo)) }
     ensures cause { HasCause (T.faults hand.old) (T.faults hand.new) (result ≡ Err WalkFault.Failed) }
     ensures known { IsTrue T.told → IsPresence W.version (T.still hand.new) (T.present hand.new) }
@@ -163,7 +163,7 @@ fn enter<W: Truth, T: Tree<W>>(
     ensures goes { (answers : List Heard) (roots : List (List ℕ)) (rest : List EntryFacts) → IsUnderway answers roots search.old folder.now (entry.now ∷ rest)
         → IsReached answers roots folder.now → has_entry (entries_in answers folder.now) entry.now ≡ true
         → Goes (T.heard hand.old) (T.heard hand.new) (IsTrue T.told × T.still hand.old) (T.present hand.old)
-            (λ more _. IsUnderway (answers ++ more) roots search.new folder.now rest) (λ more fault. IsCause (answers ++ more) roots fault) result }
+        (λ more _. IsUnderway (answers ++ more) roots search.new folder.now rest) (λ more fault. IsCause (answers ++ more) roots fault) result }
     ensures ends { OnOk result ((search.new.left ≡ search.old.left) × (length search.new.todo ≤ length search.old.todo + 1)) }
     ensures cause { HasCause (T.faults hand.old) (T.faults hand.new) (result ≡ Err WalkFault.Failed) }
     ensures known { IsTrue T.told → IsPresence W.version (T.still hand.old) (T.present hand.old) → IsPresence W.version (T.still hand.new) (T.present hand.new) }
@@ -188,7 +188,7 @@ fn enter_path<W: Truth, T: Tree<W>>(
         → IsUnderway answers roots search.old folder (record { name = name; kind = kind } ∷ rest)
         → IsReached answers roots folder → has_entry (entries_in answers folder) (record { name = name; kind = kind }) ≡ true
         → Goes (T.heard hand.old) (T.heard hand.new) (IsTrue T.told × T.still hand.old) (T.present hand.old)
-            (λ more _. IsUnderway (answers ++ more) roots search.new folder rest) (λ more fault. IsCause (answers ++ more) roots fault) result }
+        (λ more _. IsUnderway (answers ++ more) roots search.new folder rest) (λ more fault. IsCause (answers ++ more) roots fault) result }
     ensures ends { OnOk result ((search.new.left ≡ search.old.left) × (length search.new.todo ≤ length search.old.todo + 1)) }
     ensures cause { HasCause (T.faults hand.old) (T.faults hand.new) (result ≡ Err WalkFault.Failed) }
     ensures known { IsTrue T.told → IsPresence W.version (T.still hand.old) (T.present hand.old) → IsPresence W.version (T.still hand.new) (T.present hand.new) }
@@ -212,7 +212,7 @@ fn look_at_file<W: Truth, T: Tree<W>>(
         → IsUnderway answers roots search.old folder (record { name = name; kind = EntryKind.File } ∷ rest)
         → IsReached answers roots folder → has_entry (entries_in answers folder) (record { name = name; kind = EntryKind.File }) ≡ true
         → Goes (T.heard hand.old) (T.heard hand.new) (IsTrue T.told × T.still hand.old) (T.present hand.old)
-            (λ more _. IsUnderway (answers ++ more) roots search.new folder rest) (λ more fault. IsCause (answers ++ more) roots fault) result }
+        (λ more _. IsUnderway (answers ++ more) roots search.new folder rest) (λ more fault. IsCause (answers ++ more) roots fault) result }
     ensures ends { OnOk result ((search.new.left ≡ search.old.left) × (search.new.todo ≡ search.old.todo)) }
     ensures cause { HasCause (T.faults hand.old) (T.faults hand.new) (result ≡ Err WalkFault.Failed) }
     ensures known { IsTrue T.told → IsPresence W.version (T.still hand.old) (T.present hand.old) → IsPresence W.version (T.still hand.new) (T.present hand.new) }

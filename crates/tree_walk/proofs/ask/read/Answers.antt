@@ -14,8 +14,8 @@ returns-in-Listed-clause-goes g c =
       more = read_dir c.args.folder.now d ∷ [];
       heard = c.in-Listed.ensures.heard ∙ ap (λ (p : List ℕ). with_answers (g.T.Tree.heard c.args.hand.now) (read_dir p d ∷ [])) c.text.ensures.value;
       told = λ t. All-push (IsTold (g.T.Tree.present c.args.hand.now)) [] (read_dir c.args.folder.now d) (All-nil (IsTold (g.T.Tree.present c.args.hand.now)))
-      (subst (λ (ns : List NameFacts). TellsDir ns c.args.folder.now d) (c.in-Listed.ensures.still t.1).same
-      (subst (λ (p : List ℕ). TellsDir (g.T.Tree.present c.read_dir.new.self) p d) c.text.ensures.value (c.in-Listed.ensures.told t.0)));
+          (subst (λ (ns : List NameFacts). TellsDir ns c.args.folder.now d) (c.in-Listed.ensures.still t.1).same
+          (subst (λ (p : List ℕ). TellsDir (g.T.Tree.present c.read_dir.new.self) p d) c.text.ensures.value (c.in-Listed.ensures.told t.0)));
       ends = record { answer = d; heard = refl; answered = refl; entries_are = refl; passed = refl };
     }
 
@@ -24,8 +24,8 @@ returns-in-Gone-clause-goes g c = record {
   more = read_dir c.args.folder.now no_dir ∷ [];
   heard = c.in-Gone.ensures.heard ∙ ap (λ (p : List ℕ). with_answers (g.T.Tree.heard c.args.hand.now) (read_dir p no_dir ∷ [])) c.text.ensures.value;
   told = λ t. All-push (IsTold (g.T.Tree.present c.args.hand.now)) [] (read_dir c.args.folder.now no_dir) (All-nil (IsTold (g.T.Tree.present c.args.hand.now)))
-  (subst (λ (ns : List NameFacts). TellsDir ns c.args.folder.now no_dir) (c.in-Gone.ensures.still t.1).same
-  (subst (λ (p : List ℕ). TellsDir (g.T.Tree.present c.read_dir.new.self) p no_dir) c.text.ensures.value (c.in-Gone.ensures.told t.0)));
+      (subst (λ (ns : List NameFacts). TellsDir ns c.args.folder.now no_dir) (c.in-Gone.ensures.still t.1).same
+      (subst (λ (p : List ℕ). TellsDir (g.T.Tree.present c.read_dir.new.self) p no_dir) c.text.ensures.value (c.in-Gone.ensures.told t.0)));
   ends = record { answer = no_dir; heard = refl; answered = refl; entries_are = c.nothing.ensures.entries; passed = c.nothing.ensures.skipped };
 }
 

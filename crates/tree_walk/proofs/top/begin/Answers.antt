@@ -28,11 +28,11 @@ loop-root-preserved g c =
     let after : g.T.Tree.faults c.loop-root.hand ≤ g.T.Tree.faults c.look_at_root.new.hand = c.look_at_root.ensures.cause.later in
     record {
       goes = goes_then _ _ _ _ _ _ _ (λ more search. IsBeginning more roots (take i roots) search) IsCallFault
-      (λ more last _. IsBeginning (more ++ last) roots (take i roots ++ c.root-item.result ∷ []) c.look_at_root.new.search) (λ more last fault. IsCause (more ++ last) roots fault)
-      _ _ (Ok c.loop-root.search) (Ok c.in_ok-look_at_root.field-0) (Ok c.look_at_root.new.search) c.loop-root.invariant.goes
-      (λ t. let s = c.loop-root.invariant.still t.1 in ((t.0, s.still), s.same))
-      (λ more b. c.in_ok-look_at_root.ensures.goes more roots (take i roots) (drop (i + 1) roots) (split_at roots i c.root-item.result within c.root-item.is) b)
-      (λ more last b. subst (λ (seen : List (List ℕ)). IsBeginning (more ++ last) roots seen c.look_at_root.new.search) (take_one roots i c.root-item.result within c.root-item.is) b);
+          (λ more last _. IsBeginning (more ++ last) roots (take i roots ++ c.root-item.result ∷ []) c.look_at_root.new.search) (λ more last fault. IsCause (more ++ last) roots fault)
+          _ _ (Ok c.loop-root.search) (Ok c.in_ok-look_at_root.field-0) (Ok c.look_at_root.new.search) c.loop-root.invariant.goes
+          (λ t. let s = c.loop-root.invariant.still t.1 in ((t.0, s.still), s.same))
+          (λ more b. c.in_ok-look_at_root.ensures.goes more roots (take i roots) (drop (i + 1) roots) (split_at roots i c.root-item.result within c.root-item.is) b)
+          (λ more last b. subst (λ (seen : List (List ℕ)). IsBeginning (more ++ last) roots seen c.look_at_root.new.search) (take_one roots i c.root-item.result within c.root-item.is) b);
       later = omega (arith, before, after);
       known = λ told some. c.look_at_root.ensures.known told;
       still = λ s. let a = c.loop-root.invariant.still s in let b = c.look_at_root.ensures.still a.still in record { still = b.still; same = b.same ∙ a.same };

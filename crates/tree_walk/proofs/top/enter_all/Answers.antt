@@ -42,15 +42,15 @@ loop-entry-preserved g c =
     let more_todo : length c.enter.new.search.todo ≤ length c.loop-entry.search.todo + 1 = c.in_ok-enter.ensures.ends.1 in
     record {
       goes = λ answers roots u reached listed.
-      let among : has_entry (entries_in answers folder) e ≡ true = subst (λ (es : List EntryFacts). has_entry es e ≡ true) (sym listed) (has_at entries i e within c.entry-item.is) in
-      goes_then _ _ _ _ _ _ _ (λ more search. IsUnderway (answers ++ more) roots search folder (drop i entries)) IsCallFault
-      (λ more last _. IsUnderway ((answers ++ more) ++ last) roots c.enter.new.search folder (drop (i + 1) entries)) (λ more last fault. IsCause ((answers ++ more) ++ last) roots fault)
-      _ _ (Ok c.loop-entry.search) (Ok c.in_ok-enter.field-0) (Ok c.enter.new.search) (c.loop-entry.invariant.goes answers roots u reached listed)
-      (λ t. let s = c.loop-entry.invariant.still t.1 in ((t.0, s.still), s.same))
-      (λ more w. c.in_ok-enter.ensures.goes (answers ++ more) roots (drop (i + 1) entries)
-      (left_from (answers ++ more) roots c.loop-entry.search folder entries i e within c.entry-item.is w)
-      (reached_more answers more roots folder reached) (entries_stay answers more folder e among))
-      (λ more last w. subst (λ (a : List Heard). IsUnderway a roots c.enter.new.search folder (drop (i + 1) entries)) (append_assoc answers more last) w);
+          let among : has_entry (entries_in answers folder) e ≡ true = subst (λ (es : List EntryFacts). has_entry es e ≡ true) (sym listed) (has_at entries i e within c.entry-item.is) in
+          goes_then _ _ _ _ _ _ _ (λ more search. IsUnderway (answers ++ more) roots search folder (drop i entries)) IsCallFault
+          (λ more last _. IsUnderway ((answers ++ more) ++ last) roots c.enter.new.search folder (drop (i + 1) entries)) (λ more last fault. IsCause ((answers ++ more) ++ last) roots fault)
+          _ _ (Ok c.loop-entry.search) (Ok c.in_ok-enter.field-0) (Ok c.enter.new.search) (c.loop-entry.invariant.goes answers roots u reached listed)
+          (λ t. let s = c.loop-entry.invariant.still t.1 in ((t.0, s.still), s.same))
+          (λ more w. c.in_ok-enter.ensures.goes (answers ++ more) roots (drop (i + 1) entries)
+          (left_from (answers ++ more) roots c.loop-entry.search folder entries i e within c.entry-item.is w)
+          (reached_more answers more roots folder reached) (entries_stay answers more folder e among))
+          (λ more last w. subst (λ (a : List Heard). IsUnderway a roots c.enter.new.search folder (drop (i + 1) entries)) (append_assoc answers more last) w);
       left = c.in_ok-enter.ensures.ends.0 ∙ c.loop-entry.invariant.left;
       todo = omega (arith, had, more_todo);
       later = omega (arith, before, after);

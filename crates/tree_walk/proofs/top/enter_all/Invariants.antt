@@ -9,7 +9,7 @@ use Rattle.tree_walk.proofs.top.enter_all.Given as goal
 abbrev pub invariant-loop-entry : goal.invariant-loop-entry
 invariant-loop-entry g l = record {
   goes : (answers : List Heard) (roots : List (List ℕ)) → IsUnderway answers roots l.initial.search l.folder l.entries → IsReached answers roots l.folder → entries_in answers l.folder ≡ l.entries
-    → Goes (g.T.Tree.heard l.initial.hand) (g.T.Tree.heard l.hand) (IsTrue g.T.Tree.told × g.T.Tree.still l.initial.hand) (g.T.Tree.present l.initial.hand)
+      → Goes (g.T.Tree.heard l.initial.hand) (g.T.Tree.heard l.hand) (IsTrue g.T.Tree.told × g.T.Tree.still l.initial.hand) (g.T.Tree.present l.initial.hand)
       (λ more search. IsUnderway (answers ++ more) roots search l.folder (drop l.entry-index l.entries)) IsCallFault (Ok l.search);
   left : l.search.left ≡ l.initial.search.left;
   todo : length l.search.todo ≤ length l.initial.search.todo + l.entry-index;

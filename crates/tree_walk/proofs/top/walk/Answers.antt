@@ -29,11 +29,11 @@ loop-folder-preserved g c =
     let after : g.T.Tree.faults c.loop-folder.hand ≤ g.T.Tree.faults c.read_folder.new.hand = c.read_folder.ensures.cause.later in
     record {
       goes = goes_then _ _ _ _ _ _ _ (λ more search. IsUnderway more roots search [] []) IsCallFault
-      (λ more last _. IsUnderway (more ++ last) roots c.read_folder.new.search [] []) (λ more last fault. IsCause (more ++ last) roots fault)
-      _ _ (Ok c.loop-folder.search) (Ok c.in_ok-read_folder.field-0) (Ok c.read_folder.new.search) c.loop-folder.invariant.goes
-      (λ t. let s = c.loop-folder.invariant.still t.1 in ((t.0, s.still), s.same))
-      (λ more w. c.in_ok-read_folder.ensures.goes more roots (subst (λ (s : SearchFacts). IsUnderway more roots s [] []) c.in-Some.ensures w))
-      (λ more last w. w);
+          (λ more last _. IsUnderway (more ++ last) roots c.read_folder.new.search [] []) (λ more last fault. IsCause (more ++ last) roots fault)
+          _ _ (Ok c.loop-folder.search) (Ok c.in_ok-read_folder.field-0) (Ok c.read_folder.new.search) c.loop-folder.invariant.goes
+          (λ t. let s = c.loop-folder.invariant.still t.1 in ((t.0, s.still), s.same))
+          (λ more w. c.in_ok-read_folder.ensures.goes more roots (subst (λ (s : SearchFacts). IsUnderway more roots s [] []) c.in-Some.ensures w))
+          (λ more last w. w);
       later = omega (arith, before, after);
       known = λ told some. c.read_folder.ensures.known told;
       still = λ s. let a = c.loop-folder.invariant.still s in let b = c.read_folder.ensures.still a.still in record { still = b.still; same = b.same ∙ a.same };
