@@ -8,12 +8,12 @@ use Rattle.index_state.specs.declared.answer.Plan.{Plan}
 -- whether there is a stamp, and it is this one
 abbrev pub has_stamp : Option StampFacts → StampFacts → Bool
 has_stamp None stamp = false
-has_stamp (Some other) stamp = same_stamp other stamp
+has_stamp (Some other) stamp = same_stamp stamp other
 
 -- whether there is a stamp, and it is another one
 abbrev pub is_other : Option StampFacts → StampFacts → Bool
 is_other None stamp = false
-is_other (Some other) stamp = not (same_stamp other stamp)
+is_other (Some other) stamp = not (same_stamp stamp other)
 
 -- the listed names; the listed paths without a row; the listed paths whose row has another stamp; the rows whose
 -- path isn't listed; the listed names that are rows' names

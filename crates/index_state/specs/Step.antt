@@ -72,54 +72,54 @@ pub record TakesNext {K : Type 0} (old : StateFacts K) (answer : Option NameFact
   pub taken : TakesFrom old.pass answer new.pass
   pub same : new ≡ record old { pass = new.pass }
 
--- the row's name isn't listed, but its path may be, with this stamp
-pub record IsUnlisted {K : Type 0} (row : RowFacts) (listed : Option StampFacts) (old : StateFacts K) : Type 0 where
+-- the name isn't listed, but its path may be, with this stamp
+pub record IsUnlisted {K : Type 0} (name : NameFacts) (listed : Option StampFacts) (old : StateFacts K) : Type 0 where
   pub sound : old.broken ≡ false
-  pub unlisted : is_in (pass_of old.pass).listing row.name ≡ false
-  pub stamp : listed ≡ stamp_at (pass_of old.pass).listing row.name.path
+  pub unlisted : is_in (pass_of old.pass).listing name ≡ false
+  pub stamp : listed ≡ stamp_at (pass_of old.pass).listing name.path
 
--- the row's name is listed, and has a row
-pub record IsKnown {K : Type 0} (row : RowFacts) (old : StateFacts K) : Type 0 where
+-- the name is listed, and has a row
+pub record IsKnown {K : Type 0} (name : NameFacts) (old : StateFacts K) : Type 0 where
   pub sound : old.broken ≡ false
-  pub listed : is_in (pass_of old.pass).listing row.name ≡ true
-  pub stands : is_in (names_of old.rows) row.name ≡ true
+  pub listed : is_in (pass_of old.pass).listing name ≡ true
+  pub stands : is_in (names_of old.rows) name ≡ true
 
--- the row's name is listed, and has no row yet
-pub record IsAwaited {K : Type 0} (row : RowFacts) (old : StateFacts K) : Type 0 where
+-- the name is listed, and has no row yet
+pub record IsAwaited {K : Type 0} (name : NameFacts) (old : StateFacts K) : Type 0 where
   pub sound : old.broken ≡ false
-  pub listed : is_in (pass_of old.pass).listing row.name ≡ true
-  pub absent : is_in (names_of old.rows) row.name ≡ false
+  pub listed : is_in (pass_of old.pass).listing name ≡ true
+  pub absent : is_in (names_of old.rows) name ≡ false
 
--- the row is awaited, but the log has no room
-pub record IsShut {K : Type 0} (row : RowFacts) (old : StateFacts K) : Type 0 where
-  pub awaited : IsAwaited row old
+-- the name is awaited, but the log has no room
+pub record IsShut {K : Type 0} (name : NameFacts) (old : StateFacts K) : Type 0 where
+  pub awaited : IsAwaited name old
   pub full : length old.log ≡ LOG_LIMIT
 
--- the row is awaited, and the log has room
-pub record HasRoom {K : Type 0} (row : RowFacts) (old : StateFacts K) : Type 0 where
-  pub awaited : IsAwaited row old
+-- the name is awaited, and the log has room
+pub record HasRoom {K : Type 0} (name : NameFacts) (old : StateFacts K) : Type 0 where
+  pub awaited : IsAwaited name old
   pub room : length old.log < LOG_LIMIT
 
 -- the name of a row that stands leaves the pass
-pub record Leaves {K : Type 0} (row : RowFacts) (old new : StateFacts K) : Type 0 where
-  pub known : IsKnown row old
-  pub after : new ≡ record old { pass = option_map (left row.name) old.pass }
+pub record Leaves {K : Type 0} (name : NameFacts) (old new : StateFacts K) : Type 0 where
+  pub known : IsKnown name old
+  pub after : new ≡ record old { pass = option_map (left name) old.pass }
 
 -- memory was refused; what contracts know of the keeper stays too
 pub record FindsNoMemory {K : Type 0} (m : Meanings K) (row : RowFacts) (old new : StateFacts K) : Type 0 where
-  pub can : HasRoom row old
+  pub can : HasRoom row.name old
   pub keeper : IsLeftAlone m old.keeper new.keeper
   pub same : new ≡ record old { keeper = new.keeper }
 
 -- the keeper failed to put the row: a void drop is listed, and the index is broken
 pub record Breaks {K : Type 0} (m : Meanings K) (row : RowFacts) (old new : StateFacts K) : Type 0 where
-  pub can : HasRoom row old
+  pub can : HasRoom row.name old
   pub keeper : IsPut m row old.keeper new.keeper Failed
   pub after : new ≡ record old { log = old.log ++ drop_of row.name ∷ []; broken = true; keeper = new.keeper }
 
 -- the keeper has the row, the row stands, its put is listed, and its name leaves the pass
 pub record Stores {K : Type 0} (m : Meanings K) (row : RowFacts) (old new : StateFacts K) : Type 0 where
-  pub can : HasRoom row old
+  pub can : HasRoom row.name old
   pub keeper : IsPut m row old.keeper new.keeper Done
   pub after : new ≡ record old { rows = with_row row old.rows; log = old.log ++ put_of row.name ∷ []; pass = option_map (left row.name) old.pass; keeper = new.keeper }
 
@@ -136,9 +136,9 @@ pub record Replaces {K : Type 0} (m : Meanings K) (row : RowFacts) (old new : St
 -- a row is published, or not
 abbrev pub Publishes : {K : Type 0} → Meanings K → RowFacts → StateFacts K → Published → StateFacts K → Type 0
 Publishes m row old Broken new = Stays (old.broken ≡ true) old new
-Publishes m row old (NotListed listed) new = Stays (IsUnlisted row listed old) old new
-Publishes m row old Already new = Leaves row old new
-Publishes m row old LogFull new = Stays (IsShut row old) old new
+Publishes m row old (NotListed listed) new = Stays (IsUnlisted row.name listed old) old new
+Publishes m row old Already new = Leaves row.name old new
+Publishes m row old LogFull new = Stays (IsShut row.name old) old new
 Publishes m row old OutOfMemory new = FindsNoMemory m row old new
 Publishes m row old KeeperFault new = Breaks m row old new
 Publishes m row old Added new = Adds m row old new

@@ -1,5 +1,6 @@
 -- How a row is published (this project's rule): what is found of its name first, and what came of having it kept.
 use Rattle.std.specs.Prelude.{◌≡◌, ◌<◌, true, [], ◌∷◌, ◌++◌, length, None, IsSome}
+use Rattle.row_types.specs.Name.{NameFacts}
 use Rattle.row_types.specs.Row.{RowFacts}
 use Rattle.index_rows.specs.Log.{drop_of}
 use Rattle.index_rows.specs.Rows.{RowsFacts, names_of}
@@ -17,29 +18,29 @@ use Rattle.index_state.specs.declared.publish.Finding.TheVariants.{Broken, NotLi
 use Rattle.index_state.specs.declared.stored.Stored.{Stored}
 use Rattle.index_state.specs.declared.stored.Stored.TheVariants.{Done, LogFull, OutOfMemory, Failed}
 
--- the row is awaited, and its path has no row
-pub record IsNew {K : Type 0} (row : RowFacts) (state : StateFacts K) : Type 0 where
-  pub awaited : IsAwaited row state
-  pub fresh : stamp_at (names_of state.rows) row.name.path ≡ None
+-- the name is awaited, and its path has no row
+pub record IsNew {K : Type 0} (name : NameFacts) (state : StateFacts K) : Type 0 where
+  pub awaited : IsAwaited name state
+  pub fresh : stamp_at (names_of state.rows) name.path ≡ None
 
--- the row is awaited, and its path has one
-pub record IsChanged {K : Type 0} (row : RowFacts) (state : StateFacts K) : Type 0 where
-  pub awaited : IsAwaited row state
-  pub stood : IsSome (stamp_at (names_of state.rows) row.name.path)
+-- the name is awaited, and its path has a row
+pub record IsChanged {K : Type 0} (name : NameFacts) (state : StateFacts K) : Type 0 where
+  pub awaited : IsAwaited name state
+  pub stood : IsSome (stamp_at (names_of state.rows) name.path)
 
--- what is found of a row's name
-abbrev pub Finds : {K : Type 0} → RowFacts → StateFacts K → Finding → Type 0
-Finds row state Broken = state.broken ≡ true
-Finds row state (NotListed listed) = IsUnlisted row listed state
-Finds row state Known = IsKnown row state
-Finds row state New = IsNew row state
-Finds row state Changed = IsChanged row state
+-- what is found of a name
+abbrev pub Finds : {K : Type 0} → NameFacts → StateFacts K → Finding → Type 0
+Finds name state Broken = state.broken ≡ true
+Finds name state (NotListed listed) = IsUnlisted name listed state
+Finds name state Known = IsKnown name state
+Finds name state New = IsNew name state
+Finds name state Changed = IsChanged name state
 
--- the answer to a row that is kept then
-abbrev pub SaysKept : {K : Type 0} → RowFacts → StateFacts K → Published → Type 0
-SaysKept row state Added = IsNew row state
-SaysKept row state Replaced = IsChanged row state
-SaysKept row state _ = ⊥
+-- the answer to a row of the name, once it is kept
+abbrev pub SaysKept : {K : Type 0} → NameFacts → StateFacts K → Published → Type 0
+SaysKept name state Added = IsNew name state
+SaysKept name state Replaced = IsChanged name state
+SaysKept name state _ = ⊥
 
 -- the log has no room, and nothing changed
 pub record IsFull {K : Type 0} (old : RowsFacts) (keeper : K) (new : RowsFacts) (after : K) : Type 0 where

@@ -61,6 +61,14 @@ impl<W: Truth, K: Keeper<W>> State<W, K> {
         ensures whole { IfSome self.now.pass (λ pass. LeavesNone result → IsComplete W.told W.true_row (meanings K.told K.tables K.images K.made K.faults K.epoch) pass.listing self.now) }
         ensures holds { IndexInvariant W.true_row (meanings K.told K.tables K.images K.made K.faults K.epoch) self.now }
     {
+        self.counted()
+    }
+
+    /// The numbers of names, changes and rows.
+    fn counted(&self) -> Standing
+        ensures value { result ≡ standing_of self.now }
+        ensures holds { IndexInvariant W.true_row (meanings K.told K.tables K.images K.made K.faults K.epoch) self.now }
+    {
         let [todo, out, groom, missed] = counts(&self.pass);
         Standing {
             todo,

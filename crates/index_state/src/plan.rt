@@ -13,42 +13,48 @@ use scan_queue::Listing;
 /// What a pass over the listing has to do, where these are the names of the rows.
 pub(crate) fn plan_for<W: Truth>(listing: &Listing, rows: &Rows<W>, names: &[Name]) -> Plan
     requires { names.now ≡ names_of rows.now.rows }
-    ensures { result ≡ plan_of listing.now names.now }
+    ensures { result ≡ plan_of listing.now (names_of rows.now.rows) }
 {
     Plan {
         files: listing.len(),
-        add: count_added(listing.names(), rows),
-        replace: count_replaced(listing.names(), rows),
+        add: count_added(listing, rows),
+        replace: count_replaced(listing, rows),
         drop: count_unlisted(names, listing),
-        keep: count_kept(listing.names(), rows),
+        keep: count_kept(listing, rows),
     }
 }
 
 /// How many paths have no row.
-fn count_added<W: Truth>(names: &[Name], rows: &Rows<W>) -> u64
-    ensures { result ≡ count_by (λ name. is_none (stamp_at (names_of rows.now.rows) name.path)) names.now }
+fn count_added<W: Truth>(listing: &Listing, rows: &Rows<W>) -> u64
+    ensures { result ≡ count_by (λ name. is_none (stamp_at (names_of rows.now.rows) name.path)) listing.now }
 {
-    names
+    listing
+        .names()
         .iter()
         .filter(|name| row_stamp(rows, &name.path).is_none())
         .count() as u64
 }
 
 /// How many paths have a row of another stamp.
-fn count_replaced<W: Truth>(names: &[Name], rows: &Rows<W>) -> u64
-    ensures { result ≡ count_by (λ name. is_other (stamp_at (names_of rows.now.rows) name.path) name.stamp) names.now }
+fn count_replaced<W: Truth>(listing: &Listing, rows: &Rows<W>) -> u64
+    ensures { result ≡ count_by (λ name. is_other (stamp_at (names_of rows.now.rows) name.path) name.stamp) listing.now }
 {
-    names
+    listing
+        .names()
         .iter()
         .filter(|name| is_other(row_stamp(rows, &name.path), name.stamp))
         .count() as u64
 }
 
 /// How many names have a row.
-fn count_kept<W: Truth>(names: &[Name], rows: &Rows<W>) -> u64
-    ensures { result ≡ count_by (λ name. is_in (names_of rows.now.rows) name) names.now }
+fn count_kept<W: Truth>(listing: &Listing, rows: &Rows<W>) -> u64
+    ensures { result ≡ count_by (λ name. is_in (names_of rows.now.rows) name) listing.now }
 {
-    names.iter().filter(|name| is_kept(rows, name)).count() as u64
+    listing
+        .names()
+        .iter()
+        .filter(|name| is_kept(rows, name))
+        .count() as u64
 }
 
 /// How many paths aren't listed.
@@ -63,9 +69,13 @@ fn count_unlisted(names: &[Name], listing: &Listing) -> u64
 
 /// The stamp of the path's row.
 pub(crate) fn row_stamp<W: Truth>(rows: &Rows<W>, path: &CanonPath) -> Option<Stamp>
-    ensures { result ≡ stamp_at (names_of rows.now.rows) path.now }
+    ensures value { result ≡ stamp_at (names_of rows.now.rows) path.now }
+    ensures by_path { IsByPath (names_of rows.now.rows) }
 {
-    rows.get(path).map(|row| row.name.stamp)
+    match rows.get(path) {
+        Some(row) => Some(row.name.stamp),
+        None => None,
+    }
 }
 
 /// Whether a row of the name stands.
@@ -80,7 +90,7 @@ pub(crate) fn has_stamp(found: &Option<Stamp>, stamp: Stamp) -> bool
     ensures { result ≡ has_stamp found.now stamp }
 {
     match found {
-        Some(other) => *other == stamp,
+        Some(other) => stamp == *other,
         None => false,
     }
 }
@@ -90,7 +100,7 @@ fn is_other(found: Option<Stamp>, stamp: Stamp) -> bool
     ensures { result ≡ is_other found stamp }
 {
     match found {
-        Some(other) => other != stamp,
+        Some(other) => stamp != other,
         None => false,
     }
 }

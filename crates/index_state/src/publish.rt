@@ -1,9 +1,11 @@
 //! Publishing what a file was found to be.
 
+ghost use Rattle.std.specs.Prelude.{◌≡◌};
 ghost use Rattle.index_state.specs.Invariant.{IndexInvariant};
 ghost use Rattle.index_state.specs.Keeping.{meanings};
-ghost use Rattle.index_state.specs.Step.{IsKnown, Publishes, Step, publishes, to_publish};
+ghost use Rattle.index_state.specs.Step.{IsKnown, Leaves, Publishes, Step, publishes, to_publish};
 ghost use Rattle.index_state.specs.Stored.{Finds, SaysKept};
+ghost use Rattle.index_state.specs.declared.answer.Published.{Published};
 
 use crate::answer::Published;
 use crate::open_pass::{leave, listed_stamp};
@@ -11,7 +13,7 @@ use crate::plan::{has_stamp, row_stamp};
 use crate::state::State;
 use crate::stored::{Stored, store_row};
 use index_keeper::Keeper;
-use row_types::{Stamp, TrueRow, Truth};
+use row_types::{Name, Stamp, TrueRow, Truth};
 use std::alloc::Global;
 
 /// What is found of the name of a row that is published.
@@ -38,24 +40,23 @@ impl<W: Truth, K: Keeper<W>> State<W, K> {
         ensures step { Step (meanings K.told K.tables K.images K.made K.faults K.epoch) self.old (publishes row) (to_publish result) self.new }
         ensures keeps { IndexInvariant W.true_row (meanings K.told K.tables K.images K.made K.faults K.epoch) self.new }
     {
-        match self.find(&row) {
+        match self.find(&row.row().name) {
             Finding::Broken => Published::Broken,
             Finding::NotListed { listed } => Published::NotListed { listed },
-            Finding::Known => self.pass_by(&row),
+            Finding::Known => self.pass_by(&row.row().name),
             Finding::New => self.keep(alloc, row, Published::Added),
             Finding::Changed => self.keep(alloc, row, Published::Replaced),
         }
     }
 
-    /// What is found of the row's name.
-    fn find(&self, row: &TrueRow<W>) -> Finding
-        ensures value { Finds row.now self.now result }
+    /// What is found of the name.
+    fn find(&self, name: &Name) -> Finding
+        ensures value { Finds name.now self.now result }
         ensures holds { IndexInvariant W.true_row (meanings K.told K.tables K.images K.made K.faults K.epoch) self.now }
     {
         if self.broken {
             return Finding::Broken;
         }
-        let name = &row.row().name;
         let listed = listed_stamp(&self.pass, &name.path);
         if !has_stamp(&listed, name.stamp) {
             return Finding::NotListed { listed };
@@ -71,18 +72,19 @@ impl<W: Truth, K: Keeper<W>> State<W, K> {
     }
 
     /// Takes the name of a row that stands off the pass.
-    fn pass_by(&mut self, row: &TrueRow<W>) -> Published
-        requires { IsKnown row.now self.old }
-        ensures step { Publishes (meanings K.told K.tables K.images K.made K.faults K.epoch) row.now self.old result self.new }
+    fn pass_by(&mut self, name: &Name) -> Published
+        requires { IsKnown name.now self.old }
+        ensures said { result ≡ Published.Already }
+        ensures step { Leaves name.now self.old self.new }
         ensures keeps { IndexInvariant W.true_row (meanings K.told K.tables K.images K.made K.faults K.epoch) self.new }
     {
-        leave(&mut self.pass, &row.row().name);
+        leave(&mut self.pass, name);
         Published::Already
     }
 
     /// Keeps a row that is awaited, and says so.
     fn keep(&mut self, alloc: Global, row: TrueRow<W>, said: Published) -> Published
-        requires { SaysKept row self.old said }
+        requires { SaysKept row.name self.old said }
         ensures step { Publishes (meanings K.told K.tables K.images K.made K.faults K.epoch) row self.old result self.new }
         ensures keeps { IndexInvariant W.true_row (meanings K.told K.tables K.images K.made K.faults K.epoch) self.new }
     {
@@ -95,6 +97,7 @@ impl<W: Truth, K: Keeper<W>> State<W, K> {
             Stored::LogFull => Published::LogFull,
             Stored::OutOfMemory => Published::OutOfMemory,
             Stored::Failed => {
+                drop(row);
                 self.broken = true;
                 Published::KeeperFault
             }
