@@ -109,7 +109,8 @@ impl<W: Truth> Rows<W> {
 
     /// A copy of each row's name.
     pub fn names(&self, alloc: Global) -> Result<Vec<Name>, AllocError>
-        ensures { IfOk result (λ names. names.items ≡ names_of self.now.rows) }
+        ensures value { IfOk result (λ names. names.items ≡ names_of self.now.rows) }
+        ensures holds { IsIndex W.true_row self.now }
     {
         places::names_of(alloc, self.rows.as_slice())
     }
