@@ -1,5 +1,5 @@
 -- What a try to load a file, or a look at a path, gives where it neither failed nor wanted memory.
-use Rattle.std.specs.Prelude.{◌≡◌, ℕ, List, Bool, false}
+use Rattle.std.specs.Prelude.{◌≡◌, ℕ, List, false}
 use Rattle.row_types.specs.Stamp.{StampFacts}
 use Rattle.tree_trait.specs.Load.{FitsLoad, load_facts, is_failed, is_no_memory}
 use Rattle.tree_trait.specs.Stat.{is_stat_failed, is_stat_no_memory}

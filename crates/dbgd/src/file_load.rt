@@ -1,6 +1,6 @@
 //! The bytes of a regular file of the system.
 
-ghost use Rattle.std.specs.Prelude.{IfOk};
+ghost use Rattle.std.specs.Prelude.{◌≡◌, ◌+◌, ◌-◌, ◌^◌, min, take, IfOk, IfSome};
 ghost use Rattle.dbgd.specs.Answered.{IsAnswered};
 
 use crate::look::{is_same, look_at_file, open_seen, stamp_of};
@@ -13,7 +13,9 @@ use tree_trait::{Found, LoadAnswer};
 
 /// The bytes of a file of this size, or one more where it has grown. There is room for that one from the
 /// start, so that the end is found without more memory.
-fn read_whole<F: Read + Drop>(alloc: Global, file: F, size: u64) -> Result<Vec<u8>, ReadFault> {
+fn read_whole<F: Read + Drop>(alloc: Global, file: F, size: u64) -> Result<Vec<u8>, ReadFault>
+    ensures { IfOk result (λ bytes. IfSome (F.remaining file) (λ all. bytes.items ≡ take (min (size + 1) (2 ^ 64 - 1)) all)) }
+{
     let most = size.saturating_add(1);
     let mut bytes = Vec::with_capacity(alloc, most as usize)?;
     file.take(most).read_to_end(&mut bytes)?;

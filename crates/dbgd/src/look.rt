@@ -1,6 +1,8 @@
 //! What stands at a path of the system. No link is followed at the path's end.
 
-ghost use Rattle.std.specs.Prelude.{IfOk};
+ghost use Rattle.std.specs.Prelude.{◌≡◌, IfOk};
+ghost use Rattle.std.specs.Bool.{OnTrue};
+ghost use Rattle.std.specs.Fs.{IsFile, file_type, metadata_len};
 ghost use Rattle.dbgd.specs.Answered.{IsSeen};
 
 use crate::read_fault::{ReadFault, TRIES};
@@ -10,7 +12,9 @@ use std::os::unix::fs::MetadataExt;
 use tree_trait::StatAnswer;
 
 /// The stamp of a file that was looked at.
-pub fn stamp_of(seen: &Metadata) -> Result<Stamp, ReadFault> {
+pub fn stamp_of(seen: &Metadata) -> Result<Stamp, ReadFault>
+    ensures { IfOk result (λ stamp. stamp.size ≡ metadata_len seen.now) }
+{
     u32::try_from(seen.mtime_nsec())
         .ok()
         .and_then(|nanos| Stamp::new(seen.len(), seen.mtime(), nanos))
@@ -23,7 +27,10 @@ pub fn is_one(first: &Metadata, second: &Metadata) -> bool {
 }
 
 /// Whether both are looks at one regular file that didn't change between them.
-pub fn is_same(first: &Metadata, second: &Metadata) -> bool {
+pub fn is_same(first: &Metadata, second: &Metadata) -> bool
+    ensures size { OnTrue result (metadata_len second.now ≡ metadata_len first.now) }
+    ensures file { OnTrue result (IsFile (file_type second.now)) }
+{
     is_one(first, second)
         && first.len() == second.len()
         && first.mtime() == second.mtime()
@@ -32,7 +39,9 @@ pub fn is_same(first: &Metadata, second: &Metadata) -> bool {
 }
 
 /// What stands at a path, if it is a regular file.
-pub fn look_at_file<R: Files>(files: &R, path: &str) -> Result<Metadata, ReadFault> {
+pub fn look_at_file<R: Files>(files: &R, path: &str) -> Result<Metadata, ReadFault>
+    ensures { IfOk result (λ seen. IsFile (file_type seen)) }
+{
     let seen = fs::symlink_metadata(files, path)?;
     if seen.is_file() {
         Ok(seen)

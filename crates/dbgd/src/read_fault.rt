@@ -24,12 +24,23 @@ pub enum ReadFault {
 }
 
 impl From<AllocError> for ReadFault {
+    ghost use Rattle.std.specs.Prelude.{◌≡◌};
+    ghost use Rattle.dbgd.specs.declared.read_fault.ReadFault.TheVariants.{OutOfMemory};
+
+    ghost from_gives = { λ _ fault. fault ≡ OutOfMemory };
+
     fn from(_error: AllocError) -> ReadFault {
         ReadFault::OutOfMemory
     }
 }
 
 impl From<io::Error> for ReadFault {
+    ghost use Rattle.std.specs.Prelude.{◌≡◌};
+    ghost use Rattle.std.specs.IoError.{error_kind};
+    ghost use Rattle.dbgd.specs.Errors.{fault_of};
+
+    ghost from_gives = { λ error fault. fault ≡ fault_of (error_kind error) };
+
     fn from(error: io::Error) -> ReadFault {
         match error.kind() {
             ErrorKind::NotFound | ErrorKind::NotADirectory => ReadFault::Gone,

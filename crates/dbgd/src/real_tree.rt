@@ -24,7 +24,8 @@ pub struct RealTree<R: Drop> {
 impl<R: Drop> RealTree<R> {
     /// A tree that hasn't failed.
     pub fn new(files: R) -> RealTree<R>
-        ensures count { result.faults ≡ 0 }
+        ensures files { result.files ≡ files }
+        ensures faults { result.faults ≡ 0 }
     {
         RealTree {
             files,

@@ -25,4 +25,6 @@ impl Truth for SampleWorld {
     ghost one_content = { λ _. one_content };
 
     ghost one_row = { λ _. one_true_row };
+
+    ghost of_edition = { λ _ h. h.edition };
 }
