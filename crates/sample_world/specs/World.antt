@@ -1,5 +1,5 @@
 -- The laws of the sample world (this project's example): a path and a time name one sample.
-use Rattle.std.proofs.Common.{◌≡◌, sym, ◌∙◌, ap, refl, ℕ, Bool, List, [], ◌∷◌, Option, Some, ◌&&◌}
+use Rattle.std.proofs.Common.{◌≡◌, sym, ◌∙◌, ap, refl, ℕ, List, [], ◌∷◌, Option, Some, ◌&&◌}
 use Rattle.std.specs.Prelude.{ℤ}
 use Rattle.std.specs.List.{find}
 use Rattle.std.specs.Option.{option_map_or}
