@@ -1,0 +1,59 @@
+-- The laws of the sample world (this project's example): a path and a time name one sample.
+use Rattle.std.proofs.Common.{◌≡◌, sym, ◌∙◌, ap, refl, ℕ, List, [], ◌∷◌, Option, Some, ◌&&◌}
+use Rattle.std.specs.Prelude.{ℤ}
+use Rattle.std.specs.List.{find}
+use Rattle.std.specs.Option.{option_map_or}
+use Rattle.std.specs.Ordering.{int_eq}
+use Rattle.std.specs.Str.{bytes_eq}
+use Rattle.file_formats.proofs.IdentityLemmas.{identity-unique}
+use Rattle.row_types.proofs.TrueRowLemmas.{true_rows_same}
+use Rattle.row_types.specs.Reading.{IsTrueRow}
+use Rattle.row_types.specs.Row.{RowFacts}
+use Rattle.row_types.specs.Stamp.{StampFacts}
+use Rattle.sample_world.specs.Samples.{path_of, secs_of, bytes_of, IsSample}
+use Rattle.sample_world.specs.declared.sample.Sample.{Sample}
+use Rattle.sample_world.specs.declared.sample.Sample.TheVariants.{Empty, FirstLibrary, SecondLibrary, Program, Script, Tool, Notes, OtherMachine, ToolDebug, Readme, Header, Source, Before, After}
+
+-- all samples
+abbrev samples : List Sample
+samples = Empty ∷ FirstLibrary ∷ SecondLibrary ∷ Program ∷ Script ∷ Tool ∷ Notes ∷ OtherMachine ∷ ToolDebug ∷ Readme ∷ Header ∷ Source ∷ Before ∷ After ∷ []
+
+-- the sample of a path and a time
+abbrev sample_at : List ℕ → ℤ → Option Sample
+sample_at path secs = find (λ sample. bytes_eq (path_of sample) path && int_eq (secs_of sample) secs) samples
+
+-- a sample is the one of its path and its time
+at_its_place : (sample : Sample) → sample_at (path_of sample) (secs_of sample) ≡ Some sample
+at_its_place Empty = refl
+at_its_place FirstLibrary = refl
+at_its_place SecondLibrary = refl
+at_its_place Program = refl
+at_its_place Script = refl
+at_its_place Tool = refl
+at_its_place Notes = refl
+at_its_place OtherMachine = refl
+at_its_place ToolDebug = refl
+at_its_place Readme = refl
+at_its_place Header = refl
+at_its_place Source = refl
+at_its_place Before = refl
+at_its_place After = refl
+
+-- samples of one path and one time are one
+same_sample : (a b : Sample) → path_of a ≡ path_of b → secs_of a ≡ secs_of b → a ≡ b
+same_sample a b path secs =
+    let at : sample_at (path_of a) (secs_of a) ≡ sample_at (path_of b) (secs_of b) = ap (λ p. sample_at p (secs_of a)) path ∙ ap (sample_at (path_of b)) secs in
+    let some : Some a ≡ Some b = sym (at_its_place a) ∙ at ∙ at_its_place b in
+    ap (λ found. option_map_or (λ sample. sample) found a) some
+
+-- a path and a stamp name at most one content
+pub one_content : (path : List ℕ) (stamp : StampFacts) (a b : List ℕ) → IsSample path stamp a → IsSample path stamp b → a ≡ b
+one_content path stamp a b p q =
+    let placed : path_of p.sample ≡ path_of q.sample = sym p.placed ∙ q.placed in
+    let timed : secs_of p.sample ≡ secs_of q.sample = ap (λ s. s.secs) (sym p.stamped ∙ q.stamped) in
+    let same : p.sample ≡ q.sample = same_sample p.sample q.sample placed timed in
+    p.filled ∙ ap bytes_of same ∙ sym q.filled
+
+-- a name has at most one true row
+pub one_true_row : (a b : RowFacts) → a.name ≡ b.name → IsTrueRow IsSample a → IsTrueRow IsSample b → a ≡ b
+one_true_row = true_rows_same IsSample (λ path stamp bytes known. identity-unique bytes) one_content
