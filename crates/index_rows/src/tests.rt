@@ -77,6 +77,8 @@ fn a_put_replaces_the_row_of_its_path(rt: HostRuntime) -> Result<(), Fail> {
     assert_eq!(rt; rows.len(), 3);
     assert_eq!(rt; rows.log_len(), 4);
     assert_rows(&rt, rows.rows(), &[("/a", 2), ("/b", 4), ("/c", 3)]);
+    let names = rows.names(rt.alloc())?;
+    assert_eq!(rt; names.len(), 3);
     Ok(())
 }
 

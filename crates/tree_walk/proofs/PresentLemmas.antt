@@ -11,7 +11,7 @@ use Rattle.std.proofs.lemmas.List.Splits.{join_with_byte-slice_split, length-sli
 use Rattle.std.proofs.lemmas.List.Sums.{AllPass-from_list_all}
 use Rattle.std.proofs.lemmas.Option.{none-some, same_Some}
 use Rattle.std.proofs.lemmas.Slice.Eq.{bytes_eq-Decides}
-use Rattle.row_types.specs.Canon.{pieces, IsCanonPath}
+use Rattle.row_types.specs.Canon.{canon, is_canonical, pieces, IsCanonPath}
 use Rattle.row_types.specs.Name.{NameFacts}
 use Rattle.row_types.specs.Stamp.{StampFacts}
 use Rattle.row_types.specs.declared.limits.TheConstants.{PATH_LIMIT, SEPARATOR}
@@ -238,7 +238,7 @@ candidate_from_under present answers roots walk file w told apart there kept r a
 
 -- the listing is the files under the roots
 pub files_are : (present : List NameFacts) (answers : List Heard) (roots : List (List ℕ)) (walk : Walk) → IsWhole answers roots walk → All (IsTold present) answers
-    → (0 < length roots → (are_distinct (map (λ n. n.path) present) ≡ true) × (are_apart (map (λ n. n.path) present) ≡ true)) → AreFilesUnder present roots walk.listing
+    → (0 < length roots → (are_distinct (map (λ n. n.path) present) ≡ true) × (are_apart (map (λ n. n.path) present) ≡ true) × All (λ n. is_canonical n.path ≡ true) present) → AreFilesUnder present roots walk.listing
 files_are present answers roots walk w told known = record {
   by_path = w.listing.by_path;
   all = λ name. (λ c. listed_is_under name ((w.listing.all name).0 c), λ u. (w.listing.all name).1 (under_is_walked name u));
@@ -248,7 +248,7 @@ files_are present answers roots walk w told known = record {
     listed_is_under name walked = record {
       there = file_found present name.path name.stamp (told_look present answers told name.path (File name.stamp) walked.file).0;
       under = candidate_within answers roots name.path walked.candidate;
-      kept = (look_was_due answers roots w.once.due name.path (File name.stamp) walked.file).1;
+      short = walked.short;
     }
 
     looked_as_file : (name : NameFacts) → are_distinct (map (λ n. n.path) present) ≡ true → Contains present name → IsSome (first_look answers name.path) → first_look answers name.path ≡ Some (File name.stamp)
@@ -268,5 +268,9 @@ files_are present answers roots walk w told known = record {
         let at = any_root (λ r. is_within r name.path) roots u.under in
         let some : 0 < length roots = let lt = at.1.1 in omega arith in
         let facts = known some in
-        let candidate : IsCandidate answers roots name.path = candidate_from_under present answers roots walk name w told facts.1 u.there u.kept at.0 at.1 at.2 in
-        record { candidate = candidate; short = u.kept.short; file = looked_as_file name facts.0 u.there (looked_is name candidate u.kept.short) }
+        let kept : IsCanonPath name.path = record {
+          canonical = (bytes_eq-Decides (canon name.path) name.path).0 (All-contains (λ (n : NameFacts). is_canonical n.path ≡ true) present name facts.2 u.there);
+          short = u.short;
+        } in
+        let candidate : IsCandidate answers roots name.path = candidate_from_under present answers roots walk name w told facts.1 u.there kept at.0 at.1 at.2 in
+        record { candidate = candidate; short = u.short; file = looked_as_file name facts.0 u.there (looked_is name candidate u.short) }

@@ -4,6 +4,7 @@ use Rattle.std.specs.Result.{IsErrAnd}
 use Rattle.std.proofs.lemmas.List.Elements.{All-contains, Contains-push}
 use Rattle.std.proofs.lemmas.Result.{err_from_is_err_and}
 use Rattle.row_types.specs.Faults.{summed}
+use Rattle.row_types.specs.Canon.{is_canonical}
 use Rattle.row_types.specs.Name.{NameFacts}
 use Rattle.tree_trait.specs.Heard.{Heard, stat}
 use Rattle.tree_trait.specs.Present.{are_distinct, are_apart}
@@ -49,7 +50,7 @@ walks_up before now StillTold present roots Good result fault up h =
 
 -- the listing of a tree that is told and still
 pub files_of : (before now : Option (List Heard)) (StillTold : Type 0) (present : List NameFacts) (roots : List (List ℕ)) (result : Result Walk WalkFault) → Walks before now StillTold present roots result → StillTold
-    → (0 < length roots → (are_distinct (map (λ n. n.path) present) ≡ true) × (are_apart (map (λ n. n.path) present) ≡ true)) → IfOk result (λ walk. AreFilesUnder present roots walk.listing)
+    → (0 < length roots → (are_distinct (map (λ n. n.path) present) ≡ true) × (are_apart (map (λ n. n.path) present) ≡ true) × All (λ n. is_canonical n.path ≡ true) present) → IfOk result (λ walk. AreFilesUnder present roots walk.listing)
 files_of before now StillTold present roots (Ok walk) w still known = files_are present w.answers roots walk w.ends (w.told still) known
 files_of before now StillTold present roots (Err fault) w still known = tt
 

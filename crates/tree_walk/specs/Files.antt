@@ -1,9 +1,9 @@
 -- The files under the roots, by what a tree has (this project's rule).
-use Rattle.std.specs.Prelude.{◌≡◌, ℕ, ◌||◌, ◌↔◌, Bool, true, List, Contains}
+use Rattle.std.specs.Prelude.{◌≡◌, ℕ, ◌≤◌, ◌||◌, ◌↔◌, Bool, true, List, Contains, length}
 use Rattle.std.specs.List.{list_any}
 use Rattle.std.specs.Str.{bytes_eq}
-use Rattle.row_types.specs.Canon.{IsCanonPath}
 use Rattle.row_types.specs.Name.{NameFacts}
+use Rattle.row_types.specs.declared.limits.TheConstants.{PATH_LIMIT}
 use Rattle.scan_queue.specs.Names.{IsByPath}
 use Rattle.tree_trait.specs.Dir.{TellsDir}
 use Rattle.tree_trait.specs.Heard.{Heard, load, stat, read_dir}
@@ -15,11 +15,11 @@ use Rattle.tree_trait.specs.Stat.{TellsStat}
 abbrev pub is_within : List ℕ → List ℕ → Bool
 is_within root path = bytes_eq path root || lies_under root path
 
--- the file is there, under a root, and its path is one that is kept
+-- the file is there, under a root, and its path is no longer than a path that is kept
 pub record IsFileUnder (present : List NameFacts) (roots : List (List ℕ)) (name : NameFacts) : Type 0 where
   pub there : Contains present name
   pub under : list_any (λ root. is_within root name.path) roots ≡ true
-  pub kept : IsCanonPath name.path
+  pub short : length name.path ≤ PATH_LIMIT
 
 -- the names are those files, by path
 pub record AreFilesUnder (present : List NameFacts) (roots : List (List ℕ)) (names : List NameFacts) : Type 0 where

@@ -1,4 +1,5 @@
-use Rattle.std.proofs.Common.{◌≡◌, true, ℕ, ◌≤◌, List, [], ◌++◌, map, Ok, Err, IsTrue, sym, ◌∙◌, subst, arith}
+use Rattle.std.proofs.Common.{◌≡◌, true, ℕ, ◌≤◌, List, [], ◌++◌, map, Ok, Err, All, IsTrue, sym, ◌∙◌, subst, arith}
+use Rattle.row_types.specs.Canon.{is_canonical}
 use Rattle.row_types.specs.Name.{NameFacts}
 use Rattle.tree_trait.specs.Present.{are_distinct, are_apart}
 use Rattle.tree_walk.specs.Ends.{IsCause}
@@ -51,4 +52,4 @@ returns-clause-files g c = λ told still.
     let s = c.loop-folder.invariant.still still in
     files_of _ _ _ _ _ _ (returns-clause-walk g c) (told, still)
     (λ some. let k = c.loop-folder.invariant.known told some in
-    (subst (λ (ns : List NameFacts). are_distinct (map (λ n. n.path) ns) ≡ true) s.same k.distinct, subst (λ (ns : List NameFacts). are_apart (map (λ n. n.path) ns) ≡ true) s.same (k.apart s.still)))
+    (subst (λ (ns : List NameFacts). are_distinct (map (λ n. n.path) ns) ≡ true) s.same k.distinct, subst (λ (ns : List NameFacts). are_apart (map (λ n. n.path) ns) ≡ true) s.same (k.apart s.still), subst (λ (ns : List NameFacts). All (λ n. is_canonical n.path ≡ true) ns) s.same k.canonical))
