@@ -35,8 +35,6 @@ impl<W: Truth, K: Keeper<W>> Model for State<W, K> {
 
     ghost view = { λ s. state_of K.made s.rows s.keeper s.pass s.roots.items s.broken s.epoch s.first_puts };
 
-    ghost invariant = {
-        λ s. IndexInvariant W.true_row (meanings K.told K.tables K.images K.made K.faults K.epoch)
-        (state_of K.made s.rows s.keeper s.pass s.roots.items s.broken s.epoch s.first_puts)
-    };
+    ghost invariant = { λ s. IndexInvariant W.true_row (meanings K.told K.tables K.images K.made K.faults K.epoch)
+        (state_of K.made s.rows s.keeper s.pass s.roots.items s.broken s.epoch s.first_puts) };
 }

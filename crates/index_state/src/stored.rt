@@ -71,11 +71,7 @@ fn keep_reserved<W: Truth, K: Keeper<W>>(
 }
 
 /// Spells the row, and has the bytes kept under its path.
-fn keep_spelled<W: Truth, K: Keeper<W>>(
-    alloc: Global,
-    keeper: &mut K,
-    row: &Row,
-) -> KeepAnswer
+fn keep_spelled<W: Truth, K: Keeper<W>>(alloc: Global, keeper: &mut K, row: &Row) -> KeepAnswer
     requires { W.true_row row.now }
     ensures { KeepsRow (meanings K.told K.tables K.images K.made K.faults K.epoch) row.now keeper.old keeper.new result }
 {

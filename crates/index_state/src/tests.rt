@@ -4,9 +4,7 @@ use crate::answer::{Begun, OpenFault, Plan, Published, Standing};
 use crate::opening::open_state;
 use crate::state::State;
 use index_keeper::{MemKeeper, MemStore, Store, StoreAnswer};
-use row_types::{
-    CanonPath, EDITION, Name, OpenWorld, Reading, Row, Stamp, TrueRow, Why,
-};
+use row_types::{CanonPath, EDITION, Name, OpenWorld, Reading, Row, Stamp, TrueRow, Why};
 use scan_queue::Listing;
 use std::alloc::Global;
 use std::test::Fail;
@@ -14,9 +12,11 @@ use std::test::Fail;
 type Index = State<OpenWorld, MemKeeper<OpenWorld>>;
 
 fn path(alloc: Global, text: &str) -> Result<CanonPath, Fail> {
-    Ok(CanonPath::check(String::from_str(alloc, text)?)
-        .ok()
-        .ok_or("a canonical path")?)
+    Ok(
+        CanonPath::check(String::from_str(alloc, text)?)
+            .ok()
+            .ok_or("a canonical path")?,
+    )
 }
 
 /// The stamp of a file of this size.
@@ -180,7 +180,10 @@ fn a_second_pass_counts_against_the_rows(rt: HostRuntime) -> Result<(), Fail> {
 fn a_store_that_stops_breaks_the_index(rt: HostRuntime) -> Result<(), Fail> {
     let alloc = rt.alloc();
     let mut unread = store_stopping_at(alloc, Some(1));
-    assert_eq!(rt; open(alloc, &mut unread)?.err(), Some(OpenFault::KeeperFault));
+    assert_eq!(rt;
+        open(alloc, &mut unread)?.err(),
+        Some(OpenFault::KeeperFault)
+    );
     for (number, rows) in [(2, 0), (3, 1)] {
         let mut store = store_stopping_at(alloc, Some(number));
         let mut index = opened(alloc, &mut store)?;
@@ -188,7 +191,10 @@ fn a_store_that_stops_breaks_the_index(rt: HostRuntime) -> Result<(), Fail> {
         if rows == 1 {
             assert_eq!(rt; publish(alloc, &mut index, "/a", 1)?, Published::Added);
         }
-        assert_eq!(rt; publish(alloc, &mut index, "/b", 2)?, Published::KeeperFault);
+        assert_eq!(rt;
+            publish(alloc, &mut index, "/b", 2)?,
+            Published::KeeperFault
+        );
         assert_eq!(rt; publish(alloc, &mut index, "/b", 2)?, Published::Broken);
         assert_eq!(rt; begin(alloc, &mut index, &[("/b", 2)])?, Begun::Broken);
         let standing = index.standing();
