@@ -7,6 +7,7 @@ use index_keeper::{MemKeeper, MemStore, Store, StoreAnswer};
 use row_types::{CanonPath, EDITION, Name, OpenWorld, Reading, Row, Stamp, TrueRow, Why};
 use scan_queue::Listing;
 use std::alloc::Global;
+use std::process::Abort;
 use std::test::Fail;
 
 type Index = State<OpenWorld, MemKeeper<OpenWorld>>;
@@ -110,57 +111,113 @@ fn plan(files: u64, add: u64, replace: u64, drop: u64, keep: u64) -> Begun {
     })
 }
 
+/// A call of an index, and what it is to answer.
+#[derive(Clone, Copy)]
+enum Call<'a> {
+    /// A pass begins over files of these paths and sizes.
+    Begin(&'a [(&'a str, u64)], Begun),
+    /// The name of this path is handed out; empty where none is.
+    Take(&'a str),
+    /// The row of a file of this path and size is published.
+    Publish(&'a str, u64, Published),
+}
+
+/// Makes the call, and looks at its answer.
+fn make_call(
+    rt: &impl Abort,
+    alloc: Global,
+    index: &mut Index,
+    call: &Call<'_>,
+) -> Result<(), Fail> {
+    match call {
+        Call::Begin(files, want) => assert_eq!(rt; begin(alloc, index, files)?, *want),
+        Call::Take(want) => assert_eq!(rt; taken(alloc, index)?.as_str(), *want),
+        Call::Publish(text, size, want) => {
+            assert_eq!(rt; publish(alloc, index, text, *size)?, *want, "at {text}")
+        }
+    }
+    Ok(())
+}
+
+/// Makes the calls, one after the other.
+fn make_calls(
+    rt: &impl Abort,
+    alloc: Global,
+    index: &mut Index,
+    calls: &[Call<'_>],
+) -> Result<(), Fail> {
+    for call in calls {
+        make_call(rt, alloc, index, call)?;
+    }
+    Ok(())
+}
+
+/// Makes the calls on a new index on the store, and gives the paths of its rows and how it stands at the end.
+fn after_calls(
+    rt: &impl Abort,
+    alloc: Global,
+    store: &mut MemStore<OpenWorld>,
+    calls: &[Call<'_>],
+) -> Result<(String, Standing), Fail> {
+    let mut index = opened(alloc, store)?;
+    make_calls(rt, alloc, &mut index, calls)?;
+    let paths = paths_of(alloc, &index)?;
+    let standing = index.standing();
+    store.give_back(index.into_keeper());
+    Ok((paths, standing))
+}
+
 #[test]
 fn listed_files_are_taken_by_path_and_added(rt: HostRuntime) -> Result<(), Fail> {
-    let alloc = rt.alloc();
-    let mut store = store_stopping_at(alloc, None);
-    let mut index = opened(alloc, &mut store)?;
-    let begun = begin(alloc, &mut index, &[("/a", 1), ("/b", 2)])?;
-    assert_eq!(rt; begun, plan(2, 2, 0, 0, 0));
-    assert_eq!(rt; taken(alloc, &mut index)?.as_str(), "/a");
-    assert_eq!(rt; publish(alloc, &mut index, "/a", 1)?, Published::Added);
-    assert_eq!(rt; publish(alloc, &mut index, "/a", 1)?, Published::Already);
-    assert_eq!(rt; taken(alloc, &mut index)?.as_str(), "/b");
-    assert_eq!(rt; publish(alloc, &mut index, "/b", 2)?, Published::Added);
-    assert_eq!(rt; taken(alloc, &mut index)?.as_str(), "");
-    assert_eq!(rt; paths_of(alloc, &index)?.as_str(), "/a /b ");
-    assert!(rt; index.row_at(&path(alloc, "/b")?).is_some());
-    store.give_back(index.into_keeper());
+    let calls = [
+        Call::Begin(&[("/a", 1), ("/b", 2)], plan(2, 2, 0, 0, 0)),
+        Call::Take("/a"),
+        Call::Publish("/a", 1, Published::Added),
+        Call::Publish("/a", 1, Published::Already),
+        Call::Take("/b"),
+        Call::Publish("/b", 2, Published::Added),
+        Call::Take(""),
+    ];
+    let mut store = store_stopping_at(rt.alloc(), None);
+    let (paths, _standing) = after_calls(&rt, rt.alloc(), &mut store, calls.as_slice())?;
+    assert_eq!(rt; paths.as_str(), "/a /b ");
     Ok(())
 }
 
 #[test]
 fn what_is_not_listed_is_refused_with_the_listed_stamp(rt: HostRuntime) -> Result<(), Fail> {
-    let alloc = rt.alloc();
-    let mut store = store_stopping_at(alloc, None);
-    let mut index = opened(alloc, &mut store)?;
-    let unlisted = Published::NotListed { listed: None };
-    assert_eq!(rt; publish(alloc, &mut index, "/a", 1)?, unlisted);
-    let _begun = begin(alloc, &mut index, &[("/a", 1)])?;
-    let other = Published::NotListed {
-        listed: Some(stamp(1)),
-    };
-    assert_eq!(rt; publish(alloc, &mut index, "/a", 2)?, other);
-    assert_eq!(rt; publish(alloc, &mut index, "/b", 1)?, unlisted);
-    assert_eq!(rt; paths_of(alloc, &index)?.as_str(), "");
-    store.give_back(index.into_keeper());
+    let calls = [
+        Call::Publish("/a", 1, Published::NotListed { listed: None }),
+        Call::Begin(&[("/a", 1)], plan(1, 1, 0, 0, 0)),
+        Call::Publish(
+            "/a",
+            2,
+            Published::NotListed {
+                listed: Some(stamp(1)),
+            },
+        ),
+        Call::Publish("/b", 1, Published::NotListed { listed: None }),
+    ];
+    let mut store = store_stopping_at(rt.alloc(), None);
+    let (paths, _standing) = after_calls(&rt, rt.alloc(), &mut store, calls.as_slice())?;
+    assert_eq!(rt; paths.as_str(), "");
     Ok(())
 }
 
 // Of three rows one is listed, one is listed with another stamp, and one isn't listed.
 #[test]
 fn a_second_pass_counts_against_the_rows(rt: HostRuntime) -> Result<(), Fail> {
-    let alloc = rt.alloc();
-    let mut store = store_stopping_at(alloc, None);
-    let mut index = opened(alloc, &mut store)?;
-    let _first = begin(alloc, &mut index, &[("/a", 1), ("/b", 2), ("/c", 3)])?;
-    for (text, size) in [("/a", 1), ("/b", 2), ("/c", 3)] {
-        assert_eq!(rt; publish(alloc, &mut index, text, size)?, Published::Added);
-    }
-    let second = begin(alloc, &mut index, &[("/a", 1), ("/b", 9), ("/d", 4)])?;
-    assert_eq!(rt; second, plan(3, 1, 1, 1, 1));
-    assert_eq!(rt; publish(alloc, &mut index, "/b", 9)?, Published::Replaced);
-    let standing = Standing {
+    let calls = [
+        Call::Begin(&[("/a", 1), ("/b", 2), ("/c", 3)], plan(3, 3, 0, 0, 0)),
+        Call::Publish("/a", 1, Published::Added),
+        Call::Publish("/b", 2, Published::Added),
+        Call::Publish("/c", 3, Published::Added),
+        Call::Begin(&[("/a", 1), ("/b", 9), ("/d", 4)], plan(3, 1, 1, 1, 1)),
+        Call::Publish("/b", 9, Published::Replaced),
+    ];
+    let mut store = store_stopping_at(rt.alloc(), None);
+    let (_paths, standing) = after_calls(&rt, rt.alloc(), &mut store, calls.as_slice())?;
+    let want = Standing {
         todo: 1,
         out: 0,
         groom: 2,
@@ -169,39 +226,42 @@ fn a_second_pass_counts_against_the_rows(rt: HostRuntime) -> Result<(), Fail> {
         rows: 3,
         broken: false,
     };
-    assert_eq!(rt; index.standing(), standing);
-    store.give_back(index.into_keeper());
-    assert_eq!(rt; open(alloc, &mut store)?.err(), Some(OpenFault::NotBuilt));
+    assert_eq!(rt; standing, want);
     Ok(())
 }
 
 // The calls of the store: its opening, the reading of its rows, and a put for each row.
 #[test]
-fn a_store_that_stops_breaks_the_index(rt: HostRuntime) -> Result<(), Fail> {
+fn a_store_that_stops_at_a_put_breaks_the_index(rt: HostRuntime) -> Result<(), Fail> {
+    let calls = [
+        Call::Begin(&[("/a", 1), ("/b", 2)], plan(2, 2, 0, 0, 0)),
+        Call::Publish("/a", 1, Published::Added),
+        Call::Publish("/b", 2, Published::KeeperFault),
+        Call::Publish("/b", 2, Published::Broken),
+        Call::Begin(&[("/b", 2)], Begun::Broken),
+    ];
+    let mut store = store_stopping_at(rt.alloc(), Some(3));
+    let (paths, standing) = after_calls(&rt, rt.alloc(), &mut store, calls.as_slice())?;
+    assert_eq!(rt; paths.as_str(), "/a ");
+    assert_eq!(rt; standing.log, 2);
+    assert!(rt; standing.broken);
+    Ok(())
+}
+
+#[test]
+fn an_opening_is_refused_with_its_cause(rt: HostRuntime) -> Result<(), Fail> {
     let alloc = rt.alloc();
     let mut unread = store_stopping_at(alloc, Some(1));
     assert_eq!(rt;
         open(alloc, &mut unread)?.err(),
         Some(OpenFault::KeeperFault)
     );
-    for (number, rows) in [(2, 0), (3, 1)] {
-        let mut store = store_stopping_at(alloc, Some(number));
-        let mut index = opened(alloc, &mut store)?;
-        let _begun = begin(alloc, &mut index, &[("/a", 1), ("/b", 2)])?;
-        if rows == 1 {
-            assert_eq!(rt; publish(alloc, &mut index, "/a", 1)?, Published::Added);
-        }
-        assert_eq!(rt;
-            publish(alloc, &mut index, "/b", 2)?,
-            Published::KeeperFault
-        );
-        assert_eq!(rt; publish(alloc, &mut index, "/b", 2)?, Published::Broken);
-        assert_eq!(rt; begin(alloc, &mut index, &[("/b", 2)])?, Begun::Broken);
-        let standing = index.standing();
-        assert!(rt; standing.broken);
-        assert_eq!(rt; standing.rows, rows);
-        assert_eq!(rt; standing.log, rows + 1);
-        store.give_back(index.into_keeper());
-    }
+    let mut filled = store_stopping_at(alloc, None);
+    let calls = [
+        Call::Begin(&[("/a", 1)], plan(1, 1, 0, 0, 0)),
+        Call::Publish("/a", 1, Published::Added),
+    ];
+    let _end = after_calls(&rt, alloc, &mut filled, calls.as_slice())?;
+    assert_eq!(rt; open(alloc, &mut filled)?.err(), Some(OpenFault::NotBuilt));
     Ok(())
 }
