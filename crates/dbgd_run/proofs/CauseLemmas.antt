@@ -1,7 +1,6 @@
 -- When a status comes, by what a run does.
 use Rattle.std.proofs.Common.{◌≡◌, sym, ◌∙◌, refl, inl, inr, ◌⊎◌, ℕ, List, [], length, ap, Bool, IsTrue, Option, Some, None, Result, Ok, Err, arith}
 use Rattle.row_types.specs.Faults.{Rose}
-use Rattle.row_types.specs.Stamp.{StampFacts}
 use Rattle.file_formats.specs.Identity.{Identity}
 use Rattle.file_formats.specs.declared.fault.Why.{Why}
 use Rattle.tree_trait.specs.Load.{LoadFacts, loaded, too_large, gone, failed, no_memory, is_failed}
@@ -11,8 +10,10 @@ use Rattle.dbgd_run.specs.Ident.{SaysIdent, file_saying}
 use Rattle.dbgd_run.specs.Load.{Hand}
 use Rattle.dbgd_run.specs.Section.{SaysSection, section_saying}
 use Rattle.dbgd_run.specs.Runs.{Runs}
+use Rattle.dbgd_run.specs.Setting.{Setting}
 use Rattle.dbgd_run.specs.Statuses.{code_of}
-use Rattle.dbgd_run.specs.Words.{Line, asks_ident, asks_section, unbuilt, unreadable}
+use Rattle.dbgd_run.specs.Store.{Stock}
+use Rattle.dbgd_run.specs.Words.{Line, asks_ident, asks_section, asks_scan, unbuilt, unreadable}
 
 -- a status is that of a fault only for the reason R, and never that of the usage
 record IsCaused (R : Type 0) (code : ℕ) : Type 0 where
@@ -86,33 +87,41 @@ silent-code : (saying : Saying) (old new : Streams) (code : ℕ) → saying.out 
 silent-code saying old new code silent (inl whole) = whole.ends
 silent-code saying old new code silent (inr cut) = let some = cut.some in absurd (let same : length saying.out ≡ 0 = ap length silent in omega arith)
 
-pub causes-run : (version : List ℕ → StampFacts → List ℕ → Type 0) (told : Bool) (line : Line) (before after : Hand) (old new : Streams) (code : ℕ)
-    → Runs version told line before after old new code → HasCauses line before after old new code
-causes-run version told (asks_ident path) before after old new code run =
+-- what is known of the causes of each line's status
+pub causes-run : (s : Setting) (line : Line) (before after : Hand) (kept now : Stock) (old new : Streams) (code : ℕ)
+    → Runs s line before after kept now old new code → HasCauses line before after kept now old new code
+causes-run s (asks_ident path) before after kept now old new code run =
     let caused : IsCaused (Rose before.faults after.faults ⊎ Rose old.out_faults new.out_faults) code
-    = caused-ident _ path run.answer old new code (λ f. inl (run.cause.rose f)) (λ r. inr r) run.said in
+    = caused-ident _ path run.does.answer old new code (λ f. inl (run.does.cause.rose f)) (λ r. inr r) run.does.said in
     record {
       fault = caused.fault;
       usage = (λ e. absurd (caused.usage e), λ e. absurd (cc));
       not_built = λ e. absurd (cc);
     }
-causes-run version told (asks_section path name) before after old new code run =
+causes-run s (asks_section path name) before after kept now old new code run =
     let caused : IsCaused (Rose before.faults after.faults ⊎ Rose old.out_faults new.out_faults) code
-    = caused-named _ path name run.answer old new code (λ f. inl (run.cause.rose f)) (λ r. inr r) run.said in
+    = caused-named _ path name run.does.answer old new code (λ f. inl (run.does.cause.rose f)) (λ r. inr r) run.does.said in
     record {
       fault = caused.fault;
       usage = (λ e. absurd (caused.usage e), λ e. absurd (cc));
       not_built = λ e. absurd (cc);
     }
-causes-run version told unbuilt before after old new code run =
-    let eight : code ≡ 8 = silent-code _ old new code refl run.1 in
+causes-run s (asks_scan store roots) before after kept now old new code run =
+    let eight : code ≡ 8 = silent-code _ old new code refl run.does.says in
+    record {
+      fault = λ e. absurd (omega arith);
+      usage = (λ e. absurd (omega arith), λ e. absurd (cc));
+      not_built = λ e. absurd (cc);
+    }
+causes-run s unbuilt before after kept now old new code run =
+    let eight : code ≡ 8 = silent-code _ old new code refl run.does.says in
     record {
       fault = λ e. absurd (omega arith);
       usage = (λ e. absurd (omega arith), λ e. absurd (cc));
       not_built = λ e. eight;
     }
-causes-run version told unreadable before after old new code run =
-    let two : code ≡ 2 = silent-code _ old new code refl run.1 in
+causes-run s unreadable before after kept now old new code run =
+    let two : code ≡ 2 = silent-code _ old new code refl run.does.says in
     record {
       fault = λ e. absurd (omega arith);
       usage = (λ e. refl, λ e. two);

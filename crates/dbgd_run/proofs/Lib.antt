@@ -1,2 +1,3 @@
 pub mod CauseLemmas
+pub mod ReadLemmas
 pub mod SinkLemmas

@@ -4,10 +4,16 @@ pub mod Ident
 pub mod Lines
 pub mod Load
 pub mod MemSink
+pub mod Read
+pub mod Roots
 pub mod Runs
+pub mod Scan
+pub mod ScanSteps
 pub mod Section
+pub mod Setting
 pub mod Sink
 pub mod Speech
 pub mod Statuses
+pub mod Store
 pub mod Texts
 pub mod Words

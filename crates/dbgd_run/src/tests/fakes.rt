@@ -6,7 +6,7 @@ use crate::mem_sink::MemSink;
 use crate::sink::{Sink, WriteAnswer};
 use row_types::{OpenWorld, Stamp};
 use std::alloc::Global;
-use tree_trait::{LoadAnswer, Tree};
+use tree_trait::{DirAnswer, LoadAnswer, StatAnswer, Tree};
 
 /// A tree that has one file above the size limit, at every path, or no memory for any.
 #[derive(Drop)]
@@ -42,6 +42,14 @@ impl Tree<OpenWorld> for Crowded {
             },
             Crowded::TooLarge => LoadAnswer::Gone,
         }
+    }
+
+    fn stat(&mut self, _alloc: Global, _path: &str) -> StatAnswer {
+        StatAnswer::Gone
+    }
+
+    fn read_dir(&mut self, _alloc: Global, _path: &str) -> DirAnswer {
+        DirAnswer::Gone
     }
 }
 

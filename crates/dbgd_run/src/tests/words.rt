@@ -2,7 +2,7 @@
 
 use crate::mem_sink::MemSink;
 use crate::outside::{Outside, run_local};
-use crate::tests::helpers::{Case, NO_BAD_WRITES, hand_of, run_case, words_of};
+use crate::tests::helpers::{Case, NO_BAD_WRITES, empty_store, hand_of, run_case, words_of};
 use row_types::OpenWorld;
 use std::marker::PhantomData;
 use std::test::Fail;
@@ -69,6 +69,7 @@ fn the_local_part_answers_every_line(rt: HostRuntime) -> Result<(), Fail> {
     let alloc = rt.alloc();
     let mut outside = Outside {
         hands: vec![in alloc; hand_of(alloc, b"", &[])?]?,
+        store: empty_store(alloc),
         out: MemSink::new(alloc, Vec::new(alloc)),
         err: MemSink::new(alloc, Vec::new(alloc)),
         of: PhantomData::<OpenWorld>,

@@ -1,0 +1,79 @@
+//! The texts of a scan.
+
+ghost use Rattle.std.specs.Prelude.{◌≡◌, ◌++◌, codes, decimal, IfOk, OnOk};
+ghost use Rattle.std.specs.Fmt.{signed_decimal};
+ghost use Rattle.std.specs.String.{string_bytes};
+ghost use Rattle.dbgd_run.specs.Texts.{altered_line, line, nine_digits, seen_text, stamp_text, summary_line};
+
+use crate::summary::Summary;
+use itoa::Buffer;
+use row_types::{Name, Stamp};
+use scan_queue::Seen;
+use std::alloc::{AllocError, Global};
+
+/// A number in nine digits.
+fn nine_digits(alloc: Global, number: u32) -> Result<String, AllocError>
+    ensures { IfOk result (λ text. string_bytes text ≡ nine_digits number) }
+{
+    format!(in alloc; "{number:09}")
+}
+
+/// A stamp: size, seconds, and nanoseconds in nine digits.
+fn stamp_text(alloc: Global, stamp: &Stamp) -> Result<String, AllocError>
+    ensures { IfOk result (λ text. string_bytes text ≡ stamp_text stamp.now) }
+{
+    let mut text = String::from_str(alloc, Buffer::new().format(stamp.size))?;
+    text.push_str(":")?;
+    text.push_str(Buffer::new().format(stamp.secs))?;
+    text.push_str(":")?;
+    text.push_str(nine_digits(alloc, stamp.nanos)?.as_str())?;
+    Ok(text)
+}
+
+/// What stood at a path.
+fn seen_text(alloc: Global, seen: &Seen) -> Result<String, AllocError>
+    ensures { IfOk result (λ text. string_bytes text ≡ seen_text seen.now) }
+{
+    match seen {
+        Seen::Gone => String::from_str(alloc, "gone"),
+        Seen::File(stamp) => stamp_text(alloc, stamp),
+        Seen::Other => String::from_str(alloc, "other"),
+    }
+}
+
+/// The line of a file that was another by the time that it was read, but for its line feed.
+pub fn altered_text(alloc: Global, name: &Name, seen: &Seen) -> Result<String, AllocError>
+    ensures { IfOk result (λ text. line (string_bytes text) ≡ altered_line name.now seen.now) }
+{
+    let mut text = String::from_str(alloc, "dbgd: altered ")?;
+    text.push_str(name.path.text())?;
+    text.push_str(" listed ")?;
+    text.push_str(stamp_text(alloc, &name.stamp)?.as_str())?;
+    text.push_str(" seen ")?;
+    text.push_str(seen_text(alloc, seen)?.as_str())?;
+    Ok(text)
+}
+
+/// Adds a number and what it counts to a text.
+fn push_count(text: &mut String, number: u64, what: &str) -> Result<(), AllocError>
+    ensures { OnOk result (string_bytes text.new ≡ string_bytes text.old ++ decimal number ++ what.now) }
+{
+    text.push_str(Buffer::new().format(number))?;
+    text.push_str(what)
+}
+
+/// The line of a scan.
+pub fn summary_line(alloc: Global, summary: &Summary) -> Result<String, AllocError>
+    ensures { IfOk result (λ text. string_bytes text ≡ summary_line summary.now) }
+{
+    let mut text = String::from_str(alloc, "scan: ")?;
+    push_count(&mut text, summary.files, " files, ")?;
+    push_count(&mut text, summary.added, " added, ")?;
+    push_count(&mut text, summary.replaced, " replaced, ")?;
+    push_count(&mut text, summary.dropped, " dropped, ")?;
+    push_count(&mut text, summary.kept, " kept, ")?;
+    push_count(&mut text, summary.executables, " executables, ")?;
+    push_count(&mut text, summary.debuginfo, " debuginfo")?;
+    text.push_str("\n")?;
+    Ok(text)
+}
