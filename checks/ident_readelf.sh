@@ -55,7 +55,7 @@ libraries=$(dirname "$(find /usr/lib /usr/lib64 -maxdepth 2 -name 'libc.so*' 2>/
 mapfile -t files <"$work/files"
 [ "${#files[@]}" -gt 1 ] || { say "skipped: no files were found"; exit 0; }
 
-# What readelf says of each file, as lines: path, whether the form may be unbuilt, the wanted answer.
+# What readelf says of each file, as lines: path, the wanted answer.
 # readelf names a file in a line before its answer; in an archive it names the members, which are passed over.
 readelf -hSnW -- "${files[@]}" 2>/dev/null | awk -v list="$work/files" '
   function hex_place(text) { return length(text) == 16 || length(text) == 8 ? text !~ /[^0-9a-f]/ : 0 }
@@ -65,12 +65,9 @@ readelf -hSnW -- "${files[@]}" 2>/dev/null | awk -v list="$work/files" '
   /^File: / { now = substr($0, 7); if (!(now in known)) now = ""; next }
   now == "" { next }
   /^ELF Header:/ { elf[now] = 1 }
-  /^  Class:/ { wide[now] = $2 == "ELF64" }
-  /^  Data:/ { little[now] = /little endian/ }
   /^  Type:/ { core[now] = $2 == "CORE" }
   /^  Start of section headers:/ { table[now] = $5 }
-  /^  Number of section headers:/ { headers[now] = $5; counted[now] = NF > 5 ? substr($6, 2) + 0 : $5 + 0 }
-  /^  Section header string table index:/ { names[now] = $6 }
+  /^  Number of section headers:/ { counted[now] = NF > 5 ? substr($6, 2) + 0 : $5 + 0 }
   match($0, /Build ID: [0-9a-f]+/) {
     size = RLENGTH - 10
     if (!(now in id) && size >= 4 && size <= 128) id[now] = substr($0, RSTART + 10, size)
@@ -92,14 +89,9 @@ readelf -hSnW -- "${files[@]}" 2>/dev/null | awk -v list="$work/files" '
     if (code[path]) return id[path] (debug[path] ? " both" : " executable")
     return id[path] (debug[path] ? " debuginfo" : " none")
   }
-  function may_be_unbuilt(path) {
-    if (!elf[path]) return 0
-    if (!wide[path] || !little[path]) return 1
-    return table[path] != 0 && (headers[path] == 0 || names[path] == 65535)
-  }
   END {
     for (i = 1; i <= count; i++)
-      printf "%s\t%d\t%s\n", order[i], may_be_unbuilt(order[i]), answer(order[i])
+      printf "%s\t%s\n", order[i], answer(order[i])
   }' >"$work/wanted"
 
 # Runs the program on a file: sets status, out (to its last byte) and err.
@@ -110,20 +102,16 @@ ask() {
   IFS= read -r -d '' err <"$work/err"
 }
 
-SECONDS=0 compared=0 identified=0 unbuilt=0 differing=0 left_out=0
+SECONDS=0 compared=0 identified=0 differing=0 left_out=0
 differs() { # PATH WANTED
   differing=$((differing + 1))
   [ "$differing" -le 20 ] || return 0
   printf '%s: wanted %s, got status %s: %s\n' "$1" "$2" "$status" "${out//$'\n'/ }${err//$'\n'/ }" 1>&2
 }
 
-while IFS=$'\t' read -r path may_be_unbuilt wanted; do
+while IFS=$'\t' read -r path wanted; do
   [ "$SECONDS" -lt "$seconds" ] || { left_out=$((left_out + 1)); continue; }
   ask "$path"
-  if [ "$may_be_unbuilt" = 1 ] && [ "$status" = 8 ] && [ -z "$out" ] && [ -n "$err" ]; then
-    unbuilt=$((unbuilt + 1))
-    continue
-  fi
   compared=$((compared + 1))
   case $wanted in
     plain*) good=3 ;;
@@ -139,10 +127,9 @@ check_form() { # PATH
   [ "$SECONDS" -lt $((seconds + 30)) ] || { left_out=$((left_out + 1)); return 0; }
   ask "$1"
   damaged=$((damaged + 1))
-  [[ $status = [03] && ${out%$'\n'} =~ $form && $out = *$'\n' ]] ||
-    [[ $status = 8 && -z $out && -n $err ]] || differs "$1" "an answer"
+  [[ $status = [03] && ${out%$'\n'} =~ $form && $out = *$'\n' && -z $err ]] || differs "$1" "an answer"
 }
-whole=$(awk -F '\t' '$3 ~ / executable$/ { print $1; exit }' "$work/wanted")
+whole=$(awk -F '\t' '$2 ~ / executable$/ { print $1; exit }' "$work/wanted")
 if [ -n "$whole" ]; then
   size=$(stat -c %s -- "$whole")
   for length in 0 3 4 7 51 52 63 64 65 1000 $((size / 2)) $((size - 64)) $((size - 1)); do
@@ -159,5 +146,5 @@ if [ -n "$whole" ]; then
 fi
 
 [ "$left_out" = 0 ] || say "$left_out files left out after $seconds seconds"
-say "$compared files compared with readelf, $identified of them with an id; $unbuilt of a form that isn't built; $damaged damaged copies; $differing differ"
+say "$compared files compared with readelf, $identified of them with an id; $damaged damaged copies; $differing differ"
 [ "$differing" = 0 ]

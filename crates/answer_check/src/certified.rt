@@ -1,6 +1,6 @@
 //! The check of a file's bytes, and what it hands out.
 
-ghost use Rattle.std.specs.Prelude.{◌≡◌, ◌↔◌, List, Option, ℕ, IsOk, IfNone, IfSome, IfOk, IfErr};
+ghost use Rattle.std.specs.Prelude.{◌≡◌, ◌↔◌, List, Option, ℕ, IsOk, IsErrAnd, IfNone, IfSome, IfOk, IfErr};
 ghost use Rattle.std.specs.Option.{option_copied};
 ghost use Rattle.file_formats.specs.Table.{IsSectionAnswer};
 ghost use Rattle.answer_check.specs.Certified.{IsCertified, has_class};
@@ -74,7 +74,7 @@ pub fn certify(kind: Kind, id: &BuildId, bytes: Vec<u8>) -> Result<Certified, (C
     ensures ok { IfOk result (λ c. c ≡ record { kind = kind; id = id.now; bytes = bytes.items }) }
     ensures certified { IsOk result ↔ IsCertified kind id.now bytes.items }
     ensures refused { IfErr result (λ e. Refuses kind id.now bytes.items e.0) }
-    ensures only { (fault : CheckFault) → Refuses kind id.now bytes.items fault → IfErr result (λ e. e.0 ≡ fault) }
+    ensures only { (fault : CheckFault) → Refuses kind id.now bytes.items fault → IsErrAnd result (λ e. e.0 ≡ fault) }
     ensures same { IfErr result (λ e. e.1 ≡ bytes) }
 {
     match fault_of(kind, id, &bytes) {

@@ -6,11 +6,13 @@ mod cursor;
 mod fault;
 mod leb;
 mod numbers;
+mod places;
 mod text;
 
 pub use cursor::Cursor;
 pub use fault::Fault;
 pub use file_formats::Order;
+pub use places::{u16_at, u32_at, u64_at};
 
 #[cfg(test)]
 mod tests;

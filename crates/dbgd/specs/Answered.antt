@@ -1,8 +1,10 @@
--- What a try to load a file gives where it neither failed nor wanted memory.
+-- What a try to load a file, or a look at a path, gives where it neither failed nor wanted memory.
 use Rattle.std.specs.Prelude.{◌≡◌, ℕ, List, Bool, false}
 use Rattle.row_types.specs.Stamp.{StampFacts}
 use Rattle.tree_trait.specs.Load.{FitsLoad, load_facts, is_failed, is_no_memory}
+use Rattle.tree_trait.specs.Stat.{is_stat_failed, is_stat_no_memory}
 use Rattle.tree_trait.specs.declared.answer.LoadAnswer.{LoadAnswer}
+use Rattle.tree_trait.specs.declared.stat.StatAnswer.{StatAnswer}
 use Rattle.row_types.specs.declared.world.OpenWorld.{OpenWorld}
 
 -- in the open world each content is a version of each name
@@ -14,3 +16,8 @@ pub record IsAnswered (path : List ℕ) (limit : ℕ) (answer : LoadAnswer OpenW
   pub fits : FitsLoad any_version path limit (load_facts answer)
   pub fault : is_failed (load_facts answer) ≡ false
   pub memory : is_no_memory (load_facts answer) ≡ false
+
+-- what was seen at a path is neither a fault nor want of memory
+pub record IsSeen (answer : StatAnswer) : Type 0 where
+  pub fault : is_stat_failed answer ≡ false
+  pub memory : is_stat_no_memory answer ≡ false

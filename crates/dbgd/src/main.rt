@@ -1,6 +1,10 @@
 //! The program: it makes the real objects, hands them to the top call, and ends with its status.
 #![tactic(auto)]
 
+mod file_load;
+mod folder_read;
+mod look;
+mod read_fault;
 mod real_sink;
 mod real_tree;
 #[cfg(test)]

@@ -23,7 +23,10 @@ pub struct RealSink {
 
 impl RealSink {
     /// A sink over a stream that hasn't failed.
-    pub fn new(stream: Stream) -> RealSink {
+    pub fn new(stream: Stream) -> RealSink
+        ensures stream { result.stream ≡ stream }
+        ensures faults { result.faults ≡ 0 }
+    {
         RealSink {
             stream,
             faults: Faults::new(),

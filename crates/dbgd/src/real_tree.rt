@@ -1,20 +1,20 @@
 //! The real file system as a tree.
 
-ghost use Rattle.std.specs.Prelude.{IfOk};
-ghost use Rattle.dbgd.specs.Answered.{IsAnswered};
+ghost use Rattle.std.specs.Prelude.{◌≡◌, ◌≤◌};
 
-use row_types::{Faults, OpenWorld, Stamp, Truth};
-use std::alloc::{AllocError, Global};
-use std::fs::{self, File, Files, Metadata, OpenFile};
-use std::io::{self, ErrorKind, Read};
-use std::os::unix::fs::MetadataExt;
-use tree_trait::{Found, LoadAnswer, Tree};
-
-/// How often a file that changes while it is read is read again.
-const TRIES: u32 = 4;
+use crate::file_load::load_file;
+use crate::folder_read::read_folder;
+use crate::look::look;
+use crate::read_fault::ReadFault;
+use row_types::{Faults, OpenWorld, Truth};
+use std::alloc::Global;
+use std::fs::{File, Files, OpenFile};
+use std::io::Read;
+use tree_trait::{DirAnswer, LoadAnswer, StatAnswer, Tree};
 
 /// The files of this machine. Links are never followed: what they lead to isn't there under their path.
-/// It tells nothing of what it has, and counts each error of the system.
+/// It tells nothing of what it has, and counts each error of the system, also one that it takes itself
+/// where this process may not read what stands there.
 #[derive(Drop)]
 pub struct RealTree<R: Drop> {
     files: R,
@@ -23,127 +23,35 @@ pub struct RealTree<R: Drop> {
 
 impl<R: Drop> RealTree<R> {
     /// A tree that hasn't failed.
-    pub fn new(files: R) -> RealTree<R> {
+    pub fn new(files: R) -> RealTree<R>
+        ensures files { result.files ≡ files }
+        ensures faults { result.faults ≡ 0 }
+    {
         RealTree {
             files,
             faults: Faults::new(),
         }
     }
-}
 
-/// Why a file isn't read.
-#[derive(Drop)]
-enum ReadFault {
-    /// No regular file is there.
-    Gone,
-    /// Another file was opened than was looked at, or its bytes changed while they were read.
-    Changed,
-    /// Memory was refused.
-    OutOfMemory,
-    /// The system answered with an error.
-    System,
-}
-
-impl From<AllocError> for ReadFault {
-    fn from(_error: AllocError) -> ReadFault {
-        ReadFault::OutOfMemory
-    }
-}
-
-impl From<io::Error> for ReadFault {
-    fn from(error: io::Error) -> ReadFault {
-        match error.kind() {
-            ErrorKind::NotFound | ErrorKind::NotADirectory => ReadFault::Gone,
-            ErrorKind::OutOfMemory => ReadFault::OutOfMemory,
-            _ => ReadFault::System,
+    /// Counts an error of the system that is no fault of the call, if there was one.
+    fn count_if(&mut self, refused: bool)
+        ensures { self.old.faults ≤ self.new.faults }
+    {
+        if refused {
+            self.faults.raise();
         }
     }
 }
 
-/// The stamp of a file that was looked at.
-fn stamp_of(seen: &Metadata) -> Result<Stamp, ReadFault> {
-    u32::try_from(seen.mtime_nsec())
-        .ok()
-        .and_then(|nanos| Stamp::new(seen.len(), seen.mtime(), nanos))
-        .ok_or(ReadFault::System)
-}
-
-/// The bytes of a file of this size, or one more where it has grown. There is room for that one from the
-/// start, so that the end is found without more memory.
-fn read_whole<F: Read + Drop>(alloc: Global, file: F, size: u64) -> Result<Vec<u8>, ReadFault> {
-    let most = size.saturating_add(1);
-    let mut bytes = Vec::with_capacity(alloc, most as usize)?;
-    file.take(most).read_to_end(&mut bytes)?;
-    Ok(bytes)
-}
-
-/// Whether both are looks at one file that didn't change between them.
-fn is_same(first: &Metadata, second: &Metadata) -> bool {
-    first.dev() == second.dev()
-        && first.ino() == second.ino()
-        && first.len() == second.len()
-        && first.mtime() == second.mtime()
-        && first.mtime_nsec() == second.mtime_nsec()
-        && second.is_file()
-}
-
-/// What stands at a path, if it is a regular file.
-fn look<R: Files>(files: &R, path: &str) -> Result<Metadata, ReadFault> {
-    let seen = fs::symlink_metadata(files, path)?;
-    if seen.is_file() {
-        Ok(seen)
-    } else {
-        Err(ReadFault::Gone)
+#[cfg(test)]
+impl<R: Drop> RealTree<R> {
+    /// How often the tree has failed.
+    pub fn count(&self) -> u64 {
+        self.faults.count()
     }
 }
 
-/// The bytes of the file that was looked at.
-fn read_seen<R: Files>(
-    files: &R,
-    alloc: Global,
-    path: &str,
-    seen: &Metadata,
-) -> Result<Vec<u8>, ReadFault>
-where
-    R::File: OpenFile + Read + Drop,
-{
-    let file = fs::open(files, path)?;
-    if !is_same(seen, &file.metadata()?) {
-        return Err(ReadFault::Changed);
-    }
-    let bytes = read_whole(alloc, file, seen.len())?;
-    if is_same(seen, &look(files, path)?) {
-        Ok(bytes)
-    } else {
-        Err(ReadFault::Changed)
-    }
-}
-
-/// One try to load the file at a path.
-fn attempt<R: Files>(
-    files: &R,
-    alloc: Global,
-    path: &str,
-    limit: u64,
-) -> Result<LoadAnswer<OpenWorld>, ReadFault>
-where
-    R::File: OpenFile + Read + Drop,
-    ensures { IfOk result (IsAnswered path.now limit) }
-{
-    let seen = look(files, path)?;
-    let stamp = stamp_of(&seen)?;
-    if stamp.size > limit {
-        return Ok(LoadAnswer::TooLarge { stamp });
-    }
-    let bytes = read_seen(files, alloc, path, &seen)?;
-    if bytes.len() as u64 != stamp.size {
-        return Err(ReadFault::Changed);
-    }
-    let path = String::from_str(alloc, path)?;
-    Ok(LoadAnswer::Found(Found::new(path, stamp, bytes)))
-}
-
-impl<R: Files + Send + Drop> Tree<OpenWorld> for RealTree<R>
+impl<R: Files + AllocGlobal + Clone + Send + Drop> Tree<OpenWorld> for RealTree<R>
 where
     R::File: OpenFile + Read + Drop,
 {
@@ -160,16 +68,48 @@ where
     ghost faults = { λ t. t.faults };
 
     fn load(&mut self, alloc: Global, path: &str, limit: u64) -> LoadAnswer<OpenWorld> {
-        for _ in 0..TRIES {
-            match attempt(&self.files, alloc, path, limit) {
-                Ok(answer) => return answer,
-                Err(ReadFault::Gone) => return LoadAnswer::Gone,
-                Err(ReadFault::OutOfMemory) => return LoadAnswer::OutOfMemory,
-                Err(ReadFault::Changed) => {}
-                Err(ReadFault::System) => break,
+        match load_file(&self.files, alloc, path, limit) {
+            Ok(answer) => answer,
+            Err(ReadFault::Gone) => LoadAnswer::Gone,
+            Err(ReadFault::OutOfMemory) => LoadAnswer::OutOfMemory,
+            Err(_) => {
+                self.faults.raise();
+                LoadAnswer::Failed
             }
         }
-        self.faults.raise();
-        LoadAnswer::Failed
+    }
+
+    fn stat(&mut self, _alloc: Global, path: &str) -> StatAnswer {
+        match look(&self.files, path) {
+            Ok(answer) => answer,
+            Err(ReadFault::Gone) => StatAnswer::Gone,
+            Err(ReadFault::OutOfMemory) => StatAnswer::OutOfMemory,
+            Err(ReadFault::Denied) => {
+                self.faults.raise();
+                StatAnswer::Other
+            }
+            Err(_) => {
+                self.faults.raise();
+                StatAnswer::Failed
+            }
+        }
+    }
+
+    fn read_dir(&mut self, alloc: Global, path: &str) -> DirAnswer {
+        match read_folder(&self.files, alloc, path) {
+            Ok(read) => {
+                self.count_if(read.refused);
+                DirAnswer::Listed {
+                    entries: read.entries,
+                    skipped: read.skipped,
+                }
+            }
+            Err(ReadFault::Gone) => DirAnswer::Gone,
+            Err(ReadFault::OutOfMemory) => DirAnswer::OutOfMemory,
+            Err(_) => {
+                self.faults.raise();
+                DirAnswer::Failed
+            }
+        }
     }
 }

@@ -1,58 +1,94 @@
 //! What the real tree answers on a disk: no clause can speak of that.
 
-use crate::real_tree::RealTree;
-use row_types::OpenWorld;
+mod folders;
+mod loads;
+mod refusals;
+mod refusing;
+
+use std::alloc::Global;
 use std::os::unix::fs::symlink;
 use std::test::Fail;
+use std::time::{Duration, UNIX_EPOCH};
 use std::{env, fs, process};
-use tree_trait::{LoadAnswer, Tree};
+use tree_trait::{DirAnswer, Entry, EntryKind, StatAnswer};
 
-/// A path below the test's folder, a limit, and what its load is to answer.
-type Case = (&'static str, u64, &'static str);
-
-/// What a load answered: the bytes that were found, or a word in brackets.
-fn answer_text(answer: &LoadAnswer<OpenWorld>) -> &[u8] {
-    match answer {
-        LoadAnswer::Found(found) => found.bytes.as_slice(),
-        LoadAnswer::TooLarge { .. } => b"(too large)",
-        LoadAnswer::Gone => b"(gone)",
-        LoadAnswer::Failed => b"(failed)",
-        LoadAnswer::OutOfMemory => b"(out of memory)",
-    }
-}
-
-/// Makes a folder with the file `a` of four bytes, a link to it and an empty folder.
-fn make_folder(rt: &HostRuntime) -> Result<String, Fail> {
-    let name = format!(in rt.alloc(); "dbgd-tree-{}", process::id(rt.process()))?;
+/// Makes a folder of this name with the file `a` of four bytes, of 100 seconds and 7 nanoseconds, a link to it,
+/// and a folder with a link to itself.
+fn make_folder(rt: &HostRuntime, name: &str) -> Result<String, Fail> {
+    let name = format!(in rt.alloc(); "dbgd-{name}-{}", process::id(rt.process()))?;
     let folder = env::temp_dir(rt)?.join(rt.alloc(), name.as_str())?;
     let folder = String::from_str(rt.alloc(), folder.as_path().as_str())?;
     fs::create_dir(rt, folder.as_str())?;
     let file = format!(in rt.alloc(); "{folder}/a")?;
     fs::write(rt, file.as_str(), "four")?;
+    let time = UNIX_EPOCH
+        .checked_add(Duration::new(100, 7))
+        .ok_or("a time")?;
+    fs::File::options()
+        .write(true)
+        .open(rt, file.as_str())?
+        .set_modified(time)?;
     symlink(rt, "a", format!(in rt.alloc(); "{folder}/link")?.as_str())?;
     fs::create_dir(rt, format!(in rt.alloc(); "{folder}/inner")?.as_str())?;
+    symlink(
+        rt,
+        "../inner",
+        format!(in rt.alloc(); "{folder}/inner/round")?.as_str(),
+    )?;
     Ok(folder)
 }
 
-#[test]
-fn only_a_regular_file_within_the_limit_is_found(rt: HostRuntime) -> Result<(), Fail> {
-    let folder = make_folder(&rt)?;
-    let mut tree = RealTree::new(rt);
-    let cases: [Case; 8] = [
-        ("a", 4, "four"),
-        ("a", 3, "(too large)"),
-        ("inner/../a", 4, "four"),
-        ("link", 4, "(gone)"),
-        ("inner", 4, "(gone)"),
-        ("b", 4, "(gone)"),
-        ("a/b", 4, "(gone)"),
-        ("inner/a", 4, "(gone)"),
-    ];
-    for (path, limit, want) in cases {
-        let path = format!(in rt.alloc(); "{folder}/{path}")?;
-        let answer = tree.load(rt.alloc(), path.as_str(), limit);
-        assert_eq!(rt; answer_text(&answer), want.as_bytes(), "{path}");
+/// What stands at a path, as a text.
+fn stat_text(alloc: Global, answer: StatAnswer) -> Result<String, Fail> {
+    let text = match answer {
+        StatAnswer::Folder => "folder",
+        StatAnswer::File(stamp) => {
+            let (size, secs, nanos) = (stamp.size, stamp.secs, stamp.nanos);
+            return Ok(format!(in alloc; "file {size} {secs} {nanos}")?);
+        }
+        StatAnswer::Other => "other",
+        StatAnswer::Gone => "gone",
+        StatAnswer::Failed => "failed",
+        StatAnswer::OutOfMemory => "out of memory",
+    };
+    Ok(String::from_str(alloc, text)?)
+}
+
+/// An entry as a text.
+fn entry_text(alloc: Global, entry: &Entry) -> Result<String, Fail> {
+    let name = entry.name();
+    let kind = match entry.kind {
+        EntryKind::Folder => "folder",
+        EntryKind::File => "file",
+        EntryKind::Other => "other",
+    };
+    Ok(format!(in alloc; "{name} {kind}, ")?)
+}
+
+/// The entries of a folder, by name, and how many were passed over.
+fn listed_text(alloc: Global, entries: &[Entry], skipped: u64) -> Result<String, Fail> {
+    let mut lines = Vec::new(alloc);
+    for entry in entries {
+        lines.push(entry_text(alloc, entry)?)?;
     }
-    fs::remove_dir_all(&rt, folder.as_str())?;
-    Ok(())
+    lines.sort()?;
+    let mut text = String::new(alloc);
+    for line in &lines {
+        text.push_str(line.as_str())?;
+    }
+    text.push_str(format!(in alloc; "{skipped} skipped")?.as_str())?;
+    Ok(text)
+}
+
+/// What a folder has, as a text.
+fn dir_text(alloc: Global, answer: &DirAnswer) -> Result<String, Fail> {
+    let text = match answer {
+        DirAnswer::Listed { entries, skipped } => {
+            return listed_text(alloc, entries.as_slice(), *skipped);
+        }
+        DirAnswer::Gone => "gone",
+        DirAnswer::Failed => "failed",
+        DirAnswer::OutOfMemory => "out of memory",
+    };
+    Ok(String::from_str(alloc, text)?)
 }

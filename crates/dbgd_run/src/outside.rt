@@ -1,6 +1,6 @@
 //! The top call: all that the program does with what is handed in.
 
-ghost use Rattle.std.specs.Prelude.{◌≡◌, ◌↔◌, ◌⊎◌, ◌<◌, ◌≤◌, ℕ, map, vec_len, slice_index_or, IfSome, IsSome};
+ghost use Rattle.std.specs.Prelude.{◌≡◌, ◌↔◌, ◌⊎◌, ◌<◌, ◌≤◌, ℕ, drop, map, vec_len, slice_index_or, IfSome, IsSome};
 ghost use Rattle.std.specs.String.{string_bytes};
 ghost use Rattle.row_types.specs.Faults.{Rose};
 ghost use Rattle.dbgd_run.specs.Causes.{HasCauses};
@@ -63,6 +63,7 @@ fn run_line<W: ElfTruth, T: Tree<W>, S: Store<W>, O: Sink>(
         (streams O.written O.write_faults outside.old.out outside.old.err)
         (streams O.written O.write_faults outside.new.out outside.new.err) (code_of result) }
     ensures hands { vec_len outside.new.hands ≡ vec_len outside.old.hands }
+    ensures others { drop 1 outside.new.hands.items ≡ drop 1 outside.old.hands.items }
 {
     let out = &mut outside.out;
     let err = &mut outside.err;
@@ -101,6 +102,7 @@ pub fn run_local<W: ElfTruth, T: Tree<W>, S: Store<W>, O: Sink>(
         (streams O.written O.write_faults outside.old.out outside.old.err)
         (streams O.written O.write_faults outside.new.out outside.new.err)) }
     ensures hands { vec_len outside.new.hands ≡ vec_len outside.old.hands }
+    ensures others { drop 1 outside.new.hands.items ≡ drop 1 outside.old.hands.items }
 {
     let status = run_line(alloc, read_line(words), outside);
     Some(status.code())
@@ -130,6 +132,7 @@ pub fn run<W: ElfTruth, T: Tree<W>, S: Store<W>, O: Sink>(
         (streams O.written O.write_faults outside.old.out outside.old.err)
         (streams O.written O.write_faults outside.new.out outside.new.err) result }
     ensures hands { vec_len outside.new.hands ≡ vec_len outside.old.hands }
+    ensures others { drop 1 outside.new.hands.items ≡ drop 1 outside.old.hands.items }
 {
     match run_local(alloc, words, outside) {
         Some(code) => code,

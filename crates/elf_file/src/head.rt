@@ -3,7 +3,7 @@
 ghost use Rattle.std.specs.Prelude.{◌≡◌, ◌≤◌, length};
 ghost use Rattle.file_formats.specs.Header.{encoding_of, ehdr_size, fields_of, head_of};
 
-use crate::number::{u16_at, u32_at, u64_at};
+use byte_read::{u16_at, u32_at, u64_at};
 use file_formats::{
     Class, E_SHENTSIZE, E_SHNUM, E_SHOFF, E_SHSTRNDX, E_TYPE, EHDR32_SIZE, EHDR64_SIZE, EI_NIDENT,
     ELFCLASS32, ELFCLASS64, ELFDATA2LSB, ELFDATA2MSB, EV_CURRENT, ElfFault, Encoding, Head, Order,

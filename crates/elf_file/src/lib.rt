@@ -5,7 +5,6 @@
 mod file;
 mod head;
 mod names;
-mod number;
 mod section;
 mod table;
 

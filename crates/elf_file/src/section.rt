@@ -4,7 +4,7 @@ ghost use Rattle.std.specs.Prelude.{◌≡◌, ◌+◌, ◌≤◌, length};
 ghost use Rattle.std.specs.Option.{option_copied};
 ghost use Rattle.file_formats.specs.Sections.{contents_of, has_flag, is_bodiless, section_header, shdr_size};
 
-use crate::number::{u32_at, u64_at};
+use byte_read::{u32_at, u64_at};
 use file_formats::{
     Class, Encoding, SH_ADDRALIGN, SH_FLAGS, SH_LINK, SH_NAME, SH_OFFSET, SH_SIZE, SH_TYPE,
     SHDR32_SIZE, SHDR64_SIZE, SHT_NOBITS, SHT_NULL, SectionHeader,

@@ -3,6 +3,5 @@
 #![tactic(auto)]
 
 mod notes;
-mod number;
 
 pub use notes::first_build_id;

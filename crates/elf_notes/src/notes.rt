@@ -5,8 +5,7 @@ ghost use Rattle.std.specs.Bool.{OnTrue};
 ghost use Rattle.elf_notes.specs.NoteView.{IsNote};
 ghost use Rattle.file_formats.specs.Notes.{HasBuildId, HoldsNote, IsFirstBuildId, aligned, descriptor, is_build_id, note_align, notes_in};
 
-use crate::number::u32_at;
-use byte_read::Order;
+use byte_read::{Order, u32_at};
 use file_formats::NT_GNU_BUILD_ID;
 
 /// GNU's owner name with its 0.

@@ -42,7 +42,7 @@ impl<W: Truth> Model for MemKeeper<W> {
 
 impl<W: Truth> MemKeeper<W> {
     /// The keeper of what a store kept, by the number of the opening.
-    pub fn open(shelf: Shelf, epoch: u64) -> MemKeeper<W>
+    pub(crate) fn open(shelf: Shelf, epoch: u64) -> MemKeeper<W>
         requires { All (IsTrueKept W.true_row) shelf.tables }
         ensures { result ≡ opened shelf epoch }
     {
@@ -56,14 +56,14 @@ impl<W: Truth> MemKeeper<W> {
     }
 
     /// How often a call has failed.
-    pub fn faults(&self) -> Faults
+    pub(crate) fn faults(&self) -> Faults
         ensures { result ≡ self.now.faults }
     {
         self.faults
     }
 
     /// What is kept, given back. No memory is taken.
-    pub fn into_shelf(self) -> Shelf
+    pub(crate) fn into_shelf(self) -> Shelf
         ensures value { result ≡ self.shelf }
         ensures holds { All (IsTrueKept W.true_row) self.shelf.tables }
     {

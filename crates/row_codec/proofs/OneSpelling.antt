@@ -1,6 +1,6 @@
 -- No bytes spell two rows.
-use Rattle.std.proofs.Common.{◌≡◌, ℕ, zero, suc, ◌+◌, ◌≤◌, ◌<◌, ◌^◌, ◌==◌, ◌||◌, ℤ, pos, negsuc, Bool, true, false, if◌then◌else◌, List, [], ◌∷◌, ◌++◌, length, refl, sym, ◌∙◌, ap, subst, arith, append_assoc}
-use Rattle.std.specs.Prelude.{All, FitsSigned}
+use Rattle.std.proofs.Common.{◌≡◌, ℕ, zero, suc, ◌<◌, ◌^◌, ◌==◌, ◌||◌, ℤ, pos, negsuc, Bool, true, false, if◌then◌else◌, List, [], ◌∷◌, ◌++◌, length, refl, sym, ◌∙◌, ap, subst, arith, append_assoc}
+use Rattle.std.specs.Prelude.{FitsSigned}
 use Rattle.std.specs.List.{flat_map, AllByRecursion}
 use Rattle.std.proofs.lemmas.List.Elements.{recursion_from_All}
 use Rattle.std.specs.Int.{w32, w64, from_le_bytes, to_le_bytes, cast_unsigned, cast_signed}
@@ -9,13 +9,12 @@ use Rattle.std.proofs.lemmas.Int.{to_z-of_z}
 use Rattle.file_formats.specs.Identity.{Identity}
 use Rattle.file_formats.specs.declared.fault.Why.{Why}
 use Rattle.file_formats.specs.declared.fault.Why.TheVariants.{NotElf, BadElf, NoSections, Core, NoBuildId, TooLarge}
-use Rattle.row_types.specs.Name.{NameFacts}
 use Rattle.row_types.specs.Row.{RowFacts}
 use Rattle.row_types.specs.Stamp.{StampFacts}
 use Rattle.row_types.specs.declared.reading.Reading.{Reading}
 use Rattle.row_types.specs.declared.reading.Reading.TheVariants.{Plain, Elf}
-use Rattle.row_codec.specs.Spelled.{IsPathText, IsStamp, AreSources, IsSpelledReading, IsSpelled}
-use Rattle.row_codec.specs.RowBytes.{four_bytes, eight_bytes, text_bytes, stamp_bytes, why_byte, flags_byte, ident_bytes, sources_bytes, reading_bytes, row_bytes, IsRowBytes}
+use Rattle.row_codec.specs.Spelled.{IsPathText, IsStamp, AreSources, IsSpelledReading}
+use Rattle.row_codec.specs.RowBytes.{four_bytes, eight_bytes, text_bytes, stamp_bytes, why_byte, flags_byte, ident_bytes, sources_bytes, reading_bytes, IsRowBytes}
 
 -- what stands behind an equal first element is equal
 behind : {X : Type 0} (x y : X) (xs ys : List X) → x ∷ xs ≡ y ∷ ys → (x ≡ y) × (xs ≡ ys)

@@ -1,7 +1,8 @@
-//! What no clause says: that memory suffices.
+//! What no clause says: that memory suffices, and that the numbers of the format are those of its table.
 
 use crate::write_row;
-use row_types::{CanonPath, EDITION, Name, Reading, Row, Stamp, Why};
+use row_types::{BuildId, CanonPath, EDITION, Ident, Name, Reading, Row, Sources, Stamp, Why};
+use std::alloc::Global;
 use std::test::Fail;
 
 /// The row bytes of `/a`, empty, changed at second 100, no ELF file, by the first edition.
@@ -9,14 +10,76 @@ const EXAMPLE: [u8; 29] = [
     1, 2, 0, 0, 0, 0x2f, 0x61, 0, 0, 0, 0, 0, 0, 0, 0, 0x64, 0, 0, 0, 0, 0, 0, 0, 0, 0, 0, 0, 0, 1,
 ];
 
+/// The canonical path of this text.
+fn path(alloc: Global, text: &str) -> Result<CanonPath, Fail> {
+    Ok(
+        CanonPath::check(String::from_str(alloc, text)?)
+            .ok()
+            .ok_or("a path")?,
+    )
+}
+
+/// The row of `/a`, empty, changed at second 100.
+fn row_of(alloc: Global, reading: Reading) -> Result<Row, Fail> {
+    let name = Name {
+        path: path(alloc, "/a")?,
+        stamp: Stamp::new(0, 100, 0).ok_or("a stamp")?,
+    };
+    Ok(Row::new(name, EDITION, reading))
+}
+
 #[test]
 fn a_small_row_has_the_bytes_of_the_format(rt: HostRuntime) -> Result<(), Fail> {
     let alloc = rt.alloc();
-    let path = CanonPath::check(String::from_str(alloc, "/a")?)
-        .ok()
-        .ok_or("a path")?;
-    let stamp = Stamp::new(0, 100, 0).ok_or("a stamp")?;
-    let row = Row::new(Name { path, stamp }, EDITION, Reading::Plain(Why::NotElf));
+    let row = row_of(alloc, Reading::Plain(Why::NotElf))?;
     assert_eq!(rt; write_row(alloc, &row)?.as_slice(), EXAMPLE.as_slice());
+    Ok(())
+}
+
+// The numbers are those of the format's table.
+#[test]
+fn a_reason_is_spelled_by_its_number(rt: HostRuntime) -> Result<(), Fail> {
+    let alloc = rt.alloc();
+    for (why, number) in [
+        (Why::NotElf, 1),
+        (Why::BadElf, 2),
+        (Why::NoSections, 3),
+        (Why::Core, 4),
+        (Why::NoBuildId, 5),
+        (Why::TooLarge, 6),
+    ] {
+        let bytes = write_row(alloc, &row_of(alloc, Reading::Plain(why))?)?;
+        assert_eq!(rt; bytes.as_slice().last(), Some(&number));
+    }
+    Ok(())
+}
+
+/// What Python's `struct` packs, by the format's table, of `/b`, 258 bytes, changed 3 nanoseconds after
+/// the second before 1970, with code and debug information, the id `abcd` and the source `/s`.
+const WITH_IDENTITY: [u8; 42] = [
+    1, 2, 0, 0, 0, 0x2f, 0x62, 2, 1, 0, 0, 0, 0, 0, 0, 0xff, 0xff, 0xff, 0xff, 0xff, 0xff, 0xff,
+    0xff, 3, 0, 0, 0, 1, 3, 2, 0xab, 0xcd, 1, 0, 0, 0, 2, 0, 0, 0, 0x2f, 0x73,
+];
+
+#[test]
+fn an_identity_and_its_sources_stand_behind_their_tag(rt: HostRuntime) -> Result<(), Fail> {
+    let alloc = rt.alloc();
+    let name = Name {
+        path: path(alloc, "/b")?,
+        stamp: Stamp::new(258, -1, 3).ok_or("a stamp")?,
+    };
+    let ident = Ident {
+        id: BuildId::new(&[0xab, 0xcd]).ok_or("two bytes are an id")?,
+        exec: true,
+        debug: true,
+    };
+    let sources = Sources::check(vec![in alloc; path(alloc, "/s")?]?)
+        .ok()
+        .ok_or("one path ascends")?;
+    let row = Row::new(name, EDITION, Reading::Elf { ident, sources });
+    assert_eq!(rt;
+        write_row(alloc, &row)?.as_slice(),
+        WITH_IDENTITY.as_slice()
+    );
     Ok(())
 }

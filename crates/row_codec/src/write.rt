@@ -4,6 +4,7 @@ ghost use Rattle.std.specs.Prelude.{◌≡◌, ◌<◌, ◌≤◌, ◌^◌, ◌+
 ghost use Rattle.std.specs.List.{flat_map};
 ghost use Rattle.std.specs.Int.{w64, cast_unsigned};
 ghost use Rattle.row_types.specs.BuildId.{IsIdLength};
+ghost use Rattle.row_types.specs.Row.{RowFacts};
 ghost use Rattle.row_codec.specs.Spelled.{IsPathText, IsStamp, AreSources, IsSpelledReading};
 ghost use Rattle.row_codec.specs.RowBytes.{four_bytes, eight_bytes, text_bytes, stamp_bytes, why_byte, flags_byte, ident_bytes, sources_bytes, reading_bytes, IsRowBytes};
 
@@ -16,7 +17,8 @@ use std::alloc::{AllocError, Global};
 
 /// Spells a row. A row of 2^32 sources or more has no row bytes; for it memory is said not to suffice.
 pub fn write_row(alloc: Global, row: &Row) -> Result<Vec<u8>, AllocError>
-    ensures { IfOk result (λ bytes. IsRowBytes row.now bytes.items) }
+    ensures bytes { IfOk result (λ bytes. IsRowBytes row.now bytes.items) }
+    ensures only { IfOk result (λ bytes. (other : RowFacts) → IsRowBytes other bytes.items → other ≡ row.now) }
 {
     let mut bytes = Vec::new(alloc);
     bytes.push(row.edition)?;

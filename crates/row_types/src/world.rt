@@ -4,7 +4,7 @@ ghost use Rattle.std.specs.Prelude.{◌≡◌, ℕ, ◌<◌, List, Bool, true};
 ghost use Rattle.row_types.specs.Name.{NameFacts};
 ghost use Rattle.row_types.specs.Row.{RowFacts, too_large_row};
 ghost use Rattle.row_types.specs.Stamp.{StampFacts};
-ghost use Rattle.row_types.specs.declared.limits.TheConstants.{FILE_LIMIT};
+ghost use Rattle.row_types.specs.declared.limits.TheConstants.{EDITION, FILE_LIMIT};
 
 /// What the files of a world are. Nothing of a world is code: only contracts speak of it.
 pub trait Truth {
@@ -25,25 +25,32 @@ pub trait Truth {
 
     /// In a told world a name has at most one true row.
     ghost one_row: { told ≡ true → (a b : RowFacts) → a.name ≡ b.name → true_row a → true_row b → a ≡ b };
+
+    /// A true row is of the edition whose rows this program makes.
+    ghost of_edition: { (row : RowFacts) → true_row row → row.edition ≡ EDITION };
 }
 
-/// The world of real files, which isn't told: each content is one of each name, and each row is true.
+/// The world of real files, which isn't told: each content is one of each name, and each row of the edition
+/// is true.
 #[derive(Clone, Copy, Debug)]
 pub struct OpenWorld;
 
 impl Truth for OpenWorld {
-    ghost use Rattle.std.specs.Prelude.{false};
+    ghost use Rattle.std.specs.Prelude.{◌≡◌, false, refl};
     ghost use Rattle.std.proofs.lemmas.Bool.{false≢true};
+    ghost use Rattle.row_types.specs.declared.limits.TheConstants.{EDITION};
 
     ghost told = { false };
 
     ghost version = { λ _ _ _. Unit {0} };
 
-    ghost true_row = { λ _. Unit {0} };
+    ghost true_row = { λ row. row.edition ≡ EDITION };
 
-    ghost too_large = { λ _ _. tt };
+    ghost too_large = { λ _ _. refl };
 
     ghost one_content = { λ e. absurd (false≢true e) };
 
     ghost one_row = { λ e. absurd (false≢true e) };
+
+    ghost of_edition = { λ _ h. h };
 }

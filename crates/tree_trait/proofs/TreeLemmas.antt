@@ -7,6 +7,7 @@ use Rattle.std.proofs.lemmas.List.{length-map}
 use Rattle.std.proofs.lemmas.List.Elements.{All-map}
 use Rattle.std.proofs.lemmas.List.Sums.{AllPass-from_list_all}
 use Rattle.std.proofs.lemmas.Simd.{map-map}
+use Rattle.row_types.specs.Canon.{is_canonical}
 use Rattle.row_types.specs.Name.{NameFacts}
 use Rattle.row_types.specs.Stamp.{StampFacts}
 use Rattle.tree_trait.specs.Found.{FoundFacts, IsFound, name_of}
@@ -35,6 +36,10 @@ scripted_known version script stage Still scripted apart =
     let known : All (IsFound version) files = scripted.known stage [] scripted.placed in
     record {
       known = All-map (IsKnown version) name_of files (λ k d h. inl ((slice_index_or files k d).bytes, (known k d h).known));
+      canonical =
+          All-map (λ (name : NameFacts). IsTrue (is_canonical name.path)) name_of files
+          (AllPass-from_list_all (λ (file : FoundFacts). is_canonical file.path) files
+          (left_true (list_all (λ (file : FoundFacts). is_canonical file.path) files) _ (stage_sound script stage scripted.sound scripted.placed)));
       distinct =
           subst (λ (paths : List (List ℕ)). IsTrue (are_distinct paths)) (sym (map-map (λ (name : NameFacts). name.path) name_of files))
           (right_true _ (are_distinct (map (λ file. file.path) files)) (stage_sound script stage scripted.sound scripted.placed));

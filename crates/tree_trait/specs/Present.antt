@@ -2,6 +2,7 @@
 use Rattle.std.specs.Prelude.{◌≡◌, ℕ, ◌<◌, ◌&&◌, ◌⊎◌, Bool, true, not, if◌then◌else◌, List, [], ◌∷◌, ◌++◌, map, All, Option, Some, option_map, IsTrue, nat_eq}
 use Rattle.std.specs.List.{find, list_any, list_all, starts_with}
 use Rattle.std.specs.Str.{bytes_eq}
+use Rattle.row_types.specs.Canon.{is_canonical}
 use Rattle.row_types.specs.Stamp.{StampFacts}
 use Rattle.row_types.specs.Name.{NameFacts}
 use Rattle.row_types.specs.declared.limits.TheConstants.{SEPARATOR, FILE_LIMIT}
@@ -43,6 +44,7 @@ IsKnown version name = ((bytes : List ℕ) × version name.path name.stamp bytes
 -- what holds of the files that a told tree has; Still says that they never change
 pub record IsPresence (version : List ℕ → StampFacts → List ℕ → Type 0) (Still : Type 0) (names : List NameFacts) : Type 0 where
   pub known : All (IsKnown version) names
+  pub canonical : All (λ name. IsTrue (is_canonical name.path)) names
   pub distinct : IsTrue (are_distinct (map (λ name. name.path) names))
   pub apart : Still → IsTrue (are_apart (map (λ name. name.path) names))
 

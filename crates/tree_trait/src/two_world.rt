@@ -23,4 +23,6 @@ impl Truth for TwoWorld {
     ghost one_content = { either_is_one };
 
     ghost one_row = { one_true_row };
+
+    ghost of_edition = { λ _ h. h.edition };
 }

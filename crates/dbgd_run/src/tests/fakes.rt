@@ -8,6 +8,13 @@ use row_types::{OpenWorld, Stamp};
 use std::alloc::Global;
 use tree_trait::{DirAnswer, LoadAnswer, StatAnswer, Tree};
 
+/// The stamp of a file of one byte more than 1 GiB.
+const LARGE: Stamp = Stamp {
+    size: 1_073_741_825,
+    secs: 100,
+    nanos: 0,
+};
+
 /// A tree that has one file above the size limit, at every path, or no memory for any.
 #[derive(Drop)]
 pub enum Crowded {
@@ -29,27 +36,25 @@ impl Tree<OpenWorld> for Crowded {
     ghost faults = { λ _. 0 };
 
     fn load(&mut self, _alloc: Global, _path: &str, limit: u64) -> LoadAnswer<OpenWorld> {
-        // One byte more than 1 GiB.
-        let size = 1_073_741_825;
         match self {
             Crowded::NoMemory => LoadAnswer::OutOfMemory,
-            Crowded::TooLarge if limit < size => LoadAnswer::TooLarge {
-                stamp: Stamp {
-                    size,
-                    secs: 100,
-                    nanos: 0,
-                },
-            },
+            Crowded::TooLarge if limit < LARGE.size => LoadAnswer::TooLarge { stamp: LARGE },
             Crowded::TooLarge => LoadAnswer::Gone,
         }
     }
 
     fn stat(&mut self, _alloc: Global, _path: &str) -> StatAnswer {
-        StatAnswer::Gone
+        match self {
+            Crowded::NoMemory => StatAnswer::OutOfMemory,
+            Crowded::TooLarge => StatAnswer::File(LARGE),
+        }
     }
 
     fn read_dir(&mut self, _alloc: Global, _path: &str) -> DirAnswer {
-        DirAnswer::Gone
+        match self {
+            Crowded::NoMemory => DirAnswer::OutOfMemory,
+            Crowded::TooLarge => DirAnswer::Gone,
+        }
     }
 }
 

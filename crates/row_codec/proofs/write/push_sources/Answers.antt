@@ -1,5 +1,5 @@
-use Rattle.std.proofs.Common.{◌<◌, ◌^◌, List, ℕ, length, All, arith, rules, subst}
-use Rattle.row_codec.specs.Spelled.{IsPathText, AreSources}
+use Rattle.std.proofs.Common.{All, arith, subst}
+use Rattle.row_codec.specs.Spelled.{IsPathText}
 use Rattle.row_codec.proofs.write.push_sources.Goals as goal
 
 pub returns-clause-spelled : goal.returns-clause-spelled

@@ -1,10 +1,11 @@
-//! Numbers at places.
+//! Numbers at places of a slice, for a reader that goes by places and not from left to right.
 
 ghost use Rattle.std.specs.Prelude.{◌≡◌, ◌+◌, ◌≤◌, drop, length};
 ghost use Rattle.byte_read.specs.View.{at_start};
 ghost use Rattle.file_formats.specs.Numbers.{bytes_at, number};
 
-use byte_read::{Cursor, Order};
+use crate::cursor::Cursor;
+use file_formats::Order;
 
 /// A cursor at a place.
 fn cursor_at(bytes: &[u8], at: usize, order: Order) -> Cursor<'_>

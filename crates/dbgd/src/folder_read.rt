@@ -1,0 +1,143 @@
+//! The entries of a folder of the system.
+
+use crate::look::is_one;
+use crate::read_fault::{ReadFault, TRIES};
+use std::alloc::{AllocError, Global};
+use std::fs::{self, DirEntry, FileType, Files};
+use std::io::{self, ErrorKind};
+use tree_trait::{Entry, EntryKind};
+
+/// What the read of a folder gave.
+#[derive(Drop)]
+pub struct FolderRead {
+    /// The entries that could be looked at.
+    pub entries: Vec<Entry>,
+    /// How many entries were passed over.
+    pub skipped: u64,
+    /// Whether the system answered with an error that passed an entry over.
+    pub refused: bool,
+}
+
+impl FolderRead {
+    /// A folder of which nothing was read yet.
+    fn new(alloc: Global) -> FolderRead {
+        FolderRead {
+            entries: Vec::new(alloc),
+            skipped: 0,
+            refused: false,
+        }
+    }
+
+    /// A folder that may not be read: it counts as one entry that was passed over.
+    fn closed(alloc: Global) -> FolderRead {
+        FolderRead {
+            entries: Vec::new(alloc),
+            skipped: 1,
+            refused: true,
+        }
+    }
+
+    /// Passes an entry over.
+    fn pass_over(&mut self) {
+        self.skipped = self.skipped.saturating_add(1);
+    }
+
+    /// Adds an entry.
+    fn add(&mut self, alloc: Global, name: &str, kind: EntryKind) -> Result<(), ReadFault> {
+        match Entry::check(String::from_str(alloc, name)?, kind) {
+            Ok(entry) => self.entries.push(entry).map_err(AllocError::from)?,
+            Err(_) => self.pass_over(),
+        }
+        Ok(())
+    }
+
+    /// Takes an entry in, as it is looked at without following a link. One that went away isn't there.
+    fn look_at<R: Files>(&mut self, alloc: Global, entry: &DirEntry<R>) -> Result<(), ReadFault> {
+        match entry.file_type().map_err(ReadFault::from) {
+            Ok(seen) => return self.add(alloc, entry.file_name(), kind_of(seen)),
+            Err(ReadFault::Gone) => {}
+            Err(ReadFault::Denied | ReadFault::TooLong) => {
+                self.refused = true;
+                self.pass_over();
+            }
+            Err(fault) => return Err(fault),
+        }
+        Ok(())
+    }
+
+    /// Takes in what the system gave as the next entry. A name that isn't UTF-8 is passed over.
+    fn take_in<R: Files>(
+        &mut self,
+        alloc: Global,
+        next: io::Result<DirEntry<R>>,
+    ) -> Result<(), ReadFault>
+    where
+        R: Drop,
+    {
+        match next {
+            Ok(entry) => self.look_at(alloc, &entry),
+            Err(error) if error.kind() == ErrorKind::InvalidFilename => {
+                self.pass_over();
+                Ok(())
+            }
+            Err(error) => Err(ReadFault::from(error)),
+        }
+    }
+}
+
+/// What an entry is.
+fn kind_of(seen: FileType) -> EntryKind {
+    if seen.is_dir() {
+        EntryKind::Folder
+    } else if seen.is_file() {
+        EntryKind::File
+    } else {
+        EntryKind::Other
+    }
+}
+
+/// The entries of the folder at a path, which isn't a link. Where the path led elsewhere meanwhile, it changed.
+fn read_once<R: Files + AllocGlobal + Clone + Drop>(
+    files: &R,
+    path: &str,
+) -> Result<FolderRead, ReadFault> {
+    let seen = fs::symlink_metadata(files, path)?;
+    if !seen.is_dir() {
+        return Err(ReadFault::Gone);
+    }
+    let mut read = FolderRead::new(files.alloc());
+    for next in fs::read_dir(files, path)? {
+        read.take_in(files.alloc(), next)?;
+    }
+    if is_one(&seen, &fs::symlink_metadata(files, path)?) {
+        Ok(read)
+    } else {
+        Err(ReadFault::Changed)
+    }
+}
+
+/// The folder at a path. Where the path led elsewhere meanwhile, it is read again.
+fn read_settled<R: Files + AllocGlobal + Clone + Drop>(
+    files: &R,
+    path: &str,
+) -> Result<FolderRead, ReadFault> {
+    for _ in 1..TRIES {
+        match read_once(files, path) {
+            Err(ReadFault::Changed) => {}
+            read => return read,
+        }
+    }
+    read_once(files, path)
+}
+
+/// The folder at a path, which may be closed to this process.
+pub fn read_folder<R: Files + AllocGlobal + Clone + Drop>(
+    files: &R,
+    alloc: Global,
+    path: &str,
+) -> Result<FolderRead, ReadFault> {
+    match read_settled(files, path) {
+        Err(ReadFault::Denied) => Ok(FolderRead::closed(alloc)),
+        read => read,
+    }
+}

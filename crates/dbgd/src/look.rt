@@ -1,0 +1,98 @@
+//! What stands at a path of the system. No link is followed at the path's end.
+
+ghost use Rattle.std.specs.Prelude.{◌≡◌, IfOk};
+ghost use Rattle.std.specs.Bool.{OnTrue};
+ghost use Rattle.std.specs.Fs.{IsFile, file_type, metadata_len};
+ghost use Rattle.dbgd.specs.Answered.{IsSeen};
+
+use crate::read_fault::{ReadFault, TRIES};
+use row_types::Stamp;
+use std::fs::{self, Files, Metadata, OpenFile};
+use std::os::unix::fs::MetadataExt;
+use tree_trait::StatAnswer;
+
+/// The stamp of a file that was looked at.
+pub fn stamp_of(seen: &Metadata) -> Result<Stamp, ReadFault>
+    ensures { IfOk result (λ stamp. stamp.size ≡ metadata_len seen.now) }
+{
+    u32::try_from(seen.mtime_nsec())
+        .ok()
+        .and_then(|nanos| Stamp::new(seen.len(), seen.mtime(), nanos))
+        .ok_or(ReadFault::System)
+}
+
+/// Whether both are looks at one file or folder.
+pub fn is_one(first: &Metadata, second: &Metadata) -> bool {
+    first.dev() == second.dev() && first.ino() == second.ino()
+}
+
+/// Whether both are looks at one regular file that didn't change between them.
+pub fn is_same(first: &Metadata, second: &Metadata) -> bool
+    ensures size { OnTrue result (metadata_len second.now ≡ metadata_len first.now) }
+    ensures file { OnTrue result (IsFile (file_type second.now)) }
+{
+    is_one(first, second)
+        && first.len() == second.len()
+        && first.mtime() == second.mtime()
+        && first.mtime_nsec() == second.mtime_nsec()
+        && second.is_file()
+}
+
+/// What stands at a path, if it is a regular file.
+pub fn look_at_file<R: Files>(files: &R, path: &str) -> Result<Metadata, ReadFault>
+    ensures { IfOk result (λ seen. IsFile (file_type seen)) }
+{
+    let seen = fs::symlink_metadata(files, path)?;
+    if seen.is_file() {
+        Ok(seen)
+    } else {
+        Err(ReadFault::Gone)
+    }
+}
+
+/// Opens the regular file that was looked at.
+pub fn open_seen<R: Files>(files: &R, path: &str, seen: &Metadata) -> Result<R::File, ReadFault>
+where
+    R::File: OpenFile + Drop,
+{
+    let file = fs::open(files, path)?;
+    if is_same(seen, &file.metadata()?) {
+        Ok(file)
+    } else {
+        Err(ReadFault::Changed)
+    }
+}
+
+/// One look at a path. A regular file is opened too, so that one that may not be read is known.
+fn look_once<R: Files>(files: &R, path: &str) -> Result<StatAnswer, ReadFault>
+where
+    R::File: OpenFile + Drop,
+    ensures { IfOk result IsSeen }
+{
+    let seen = fs::symlink_metadata(files, path)?;
+    if seen.is_symlink() {
+        Err(ReadFault::Gone)
+    } else if seen.is_dir() {
+        Ok(StatAnswer::Folder)
+    } else if seen.is_file() {
+        let _file = open_seen(files, path, &seen)?;
+        Ok(StatAnswer::File(stamp_of(&seen)?))
+    } else {
+        Ok(StatAnswer::Other)
+    }
+}
+
+/// What stands at a path. A file that changed under the look is looked at again.
+pub fn look<R: Files>(files: &R, path: &str) -> Result<StatAnswer, ReadFault>
+where
+    R::File: OpenFile + Drop,
+    ensures { IfOk result IsSeen }
+{
+    for _ in 1..TRIES {
+        match look_once(files, path) {
+            Err(ReadFault::Changed) => {}
+            seen => return seen,
+        }
+    }
+    look_once(files, path)
+}
