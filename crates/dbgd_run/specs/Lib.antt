@@ -4,10 +4,12 @@ pub mod Ident
 pub mod Lines
 pub mod Load
 pub mod MemSink
+pub mod Numbers
 pub mod Read
 pub mod Roots
 pub mod Runs
 pub mod Scan
+pub mod ScanCauses
 pub mod ScanSteps
 pub mod Section
 pub mod Setting

@@ -3,6 +3,7 @@ use Rattle.std.specs.Prelude.{◌≡◌, ℕ, List, []}
 use Rattle.dbgd_run.specs.Endings.{Saying, Streams, Ends}
 use Rattle.dbgd_run.specs.Ident.{SaysIdent}
 use Rattle.dbgd_run.specs.Load.{Hand, RunsOn, not_built_saying}
+use Rattle.dbgd_run.specs.Scan.{RunsScan}
 use Rattle.dbgd_run.specs.Section.{SaysSection}
 use Rattle.dbgd_run.specs.Setting.{Setting}
 use Rattle.dbgd_run.specs.Store.{Stock}
@@ -30,7 +31,6 @@ Runs s (asks_ident path) before after kept now old new code =
     LeavesStore (RunsOn (SaysIdent path) s.world.version s.tells_files path before after old new code) kept now
 Runs s (asks_section path name) before after kept now old new code =
     LeavesStore (RunsOn (SaysSection path name) s.world.version s.tells_files path before after old new code) kept now
-Runs s (asks_scan store roots) before after kept now old new code =
-    LeavesStore (LeavesHand (Ends not_built_saying old new code) before after) kept now
+Runs s (asks_scan store roots) before after kept now old new code = RunsScan s roots before after kept now old new code
 Runs s unbuilt before after kept now old new code = LeavesStore (LeavesHand (Ends not_built_saying old new code) before after) kept now
 Runs s unreadable before after kept now old new code = LeavesStore (LeavesHand (Ends usage_saying old new code) before after) kept now

@@ -1,23 +1,17 @@
 -- The command `scan` (this project's rule): the store is opened, the folders are walked, and the listed files are read
 -- and their rows kept, in path order, up to the first that isn't as it was listed. The store holds what was kept,
 -- however the scan ended.
-use Rattle.std.specs.Prelude.{◌≡◌, ◌≢◌, ◌⊎◌, ℕ, ◌≤◌, Bool, true, false, List, [], ◌∷◌, ◌++◌, map, length, All, count_by, IsTrue, Option, option_map, Ok, Err}
-use Rattle.row_types.specs.Faults.{HasCause}
+use Rattle.std.specs.Prelude.{◌≡◌, ◌≢◌, ◌⊎◌, ℕ, ◌≤◌, Bool, true, false, List, [], ◌∷◌, ◌++◌, map, length, All, IsTrue, Option, option_map, Ok, Err}
+use Rattle.row_types.specs.Faults.{HasCause, Rose}
 use Rattle.row_types.specs.Name.{NameFacts}
 use Rattle.row_types.specs.Row.{RowFacts, too_large_row}
 use Rattle.row_types.specs.Stamp.{StampFacts}
-use Rattle.row_types.specs.declared.identity.Kind.{Kind}
-use Rattle.row_types.specs.declared.identity.Kind.TheVariants.{Executable, Debuginfo}
 use Rattle.row_types.specs.declared.limits.TheConstants.{FILE_LIMIT}
-use Rattle.row_types.specs.declared.reading.Reading.{Reading}
-use Rattle.row_types.specs.declared.reading.Reading.TheVariants.{Plain, Elf}
 use Rattle.row_codec.specs.RowBytes.{row_bytes}
 use Rattle.scan_queue.specs.declared.miss.Seen.{Seen}
 use Rattle.scan_queue.specs.declared.miss.Seen.TheVariants as seen
 use Rattle.index_keeper.specs.Tables.{EditFacts, KeptFacts, edited, put_of}
-use Rattle.index_rows.specs.Classes.{is_of_kind}
 use Rattle.index_rows.specs.Rows.{names_of}
-use Rattle.index_rows.specs.declared.rows.TheConstants.{LOG_LIMIT}
 use Rattle.tree_trait.specs.Heard.{Heard, load}
 use Rattle.tree_trait.specs.Load.{LoadFacts, loaded, too_large, gone, failed, no_memory, FitsLoad}
 use Rattle.tree_walk.specs.Answers.{with_answers}
@@ -29,9 +23,9 @@ use Rattle.tree_walk.specs.declared.walked.Walk.{Walk}
 use Rattle.index_state.specs.Complete.{IsScan}
 use Rattle.index_state.specs.Kept.{tables_of}
 use Rattle.index_state.specs.Plan.{plan_of}
-use Rattle.index_state.specs.declared.answer.Plan.{Plan}
 use Rattle.dbgd_run.specs.Endings.{Saying, Streams, EndsOrWants}
 use Rattle.dbgd_run.specs.Load.{Hand, fault_saying, gone_saying, no_memory_saying, not_built_saying}
+use Rattle.dbgd_run.specs.Numbers.{summary_of}
 use Rattle.dbgd_run.specs.Read.{IsRowOf}
 use Rattle.dbgd_run.specs.Setting.{Rules, Setting, TellsStill}
 use Rattle.dbgd_run.specs.Store.{Holding, Stock}
@@ -57,11 +51,11 @@ Reads name no_memory row = ⊥
 
 -- the load found this in place of the file that was listed
 abbrev pub FindsOther : NameFacts → LoadFacts → Seen → Type 0
-FindsOther name (loaded found) other = (found.stamp ≢ name.stamp) × (other ≡ seen.File found.stamp)
-FindsOther name (too_large stamp) other = (stamp ≢ name.stamp) × (other ≡ seen.File stamp)
-FindsOther name gone other = other ≡ seen.Gone
-FindsOther name failed other = ⊥
-FindsOther name no_memory other = ⊥
+FindsOther name (loaded found) met = (found.stamp ≢ name.stamp) × (met ≡ seen.File found.stamp)
+FindsOther name (too_large stamp) met = (stamp ≢ name.stamp) × (met ≡ seen.File stamp)
+FindsOther name gone met = met ≡ seen.Gone
+FindsOther name failed met = ⊥
+FindsOther name no_memory met = ⊥
 
 -- the file was read
 pub record IsFileRead (version : List ℕ → StampFacts → List ℕ → Type 0) (file : FileRead) : Type 0 where
@@ -124,23 +118,6 @@ pub record HasTorn (s : Setting) (old new : Holding) (rows : List RowFacts) (row
   pub tables : IsTrue s.tells_tables → (new.tables ≡ tables_of rows) ⊎ (new.tables ≡ edited (tables_of rows) (put_row row))
   pub made : new.made ≡ with_puts old.made rows
 
--- whether a file is of the kind
-abbrev pub is_of : Kind → Reading → Bool
-is_of kind (Plain why) = false
-is_of kind (Elf ident sources) = is_of_kind kind ident
-
--- the numbers of a scan, by its plan and the rows that stand at its end
-abbrev pub summary_of : Plan → List RowFacts → Summary
-summary_of plan rows = record {
-  files = plan.files;
-  added = plan.add;
-  replaced = plan.replace;
-  dropped = plan.drop;
-  kept = plan.keep;
-  executables = count_by (λ row. is_of Executable row.reading) rows;
-  debuginfo = count_by (λ row. is_of Debuginfo row.reading) rows;
-}
-
 -- the ends of a scan whose walk was whole. Read says which files were read, which names are left, and what was heard
 -- last; Kept, which rows the store has kept
 
@@ -153,12 +130,12 @@ pub record EndsUnread (Read : List FileRead → List NameFacts → List Heard �
   pub keeps : Kept (rows_read files)
 
 -- the next file was another by the time that it was loaded
-pub record EndsAltered (Read : List FileRead → List NameFacts → List Heard → Type 0) (Kept : List RowFacts → Type 0) (name : NameFacts) (other : Seen) : Type 0 where
+pub record EndsAltered (Read : List FileRead → List NameFacts → List Heard → Type 0) (Kept : List RowFacts → Type 0) (name : NameFacts) (met : Seen) : Type 0 where
   pub files : List FileRead
   pub answer : LoadFacts
   pub left : List NameFacts
   pub reads : Read files (name ∷ left) (load_of name answer ∷ [])
-  pub finds : FindsOther name answer other
+  pub finds : FindsOther name answer met
   pub keeps : Kept (rows_read files)
 
 -- the next file was read, and the store failed to keep its row
@@ -169,16 +146,6 @@ pub record EndsUnkept (version : List ℕ → StampFacts → List ℕ → Type 0
   pub reads : Read files (last.name ∷ left) (loads_read (last ∷ []))
   pub read : IsFileRead version last
   pub tears : Torn (rows_read files) last.row
-
--- the next file was read, and the log has no room for its row
-pub record EndsFull (version : List ℕ → StampFacts → List ℕ → Type 0) (Read : List FileRead → List NameFacts → List Heard → Type 0) (Kept : List RowFacts → Type 0) : Type 0 where
-  pub files : List FileRead
-  pub last : FileRead
-  pub left : List NameFacts
-  pub reads : Read files (last.name ∷ left) (loads_read (last ∷ []))
-  pub read : IsFileRead version last
-  pub full : length files ≡ LOG_LIMIT
-  pub keeps : Kept (rows_read files)
 
 -- memory was refused before the next file was loaded, or for the row of the file that was read last
 pub record EndsWanting (version : List ℕ → StampFacts → List ℕ → Type 0) (Read : List FileRead → List NameFacts → List Heard → Type 0) (Kept : List RowFacts → Type 0) : Type 0 where
@@ -201,16 +168,17 @@ pub record EndsWhole (true_row : RowFacts → Type 0) (world_told : Bool) (Read 
   pub scan : world_told ≡ true → IsScan true_row (names_read files) (rows_read files)
   pub numbers : summary ≡ summary_of (plan_of (names_read files) []) (rows_read files)
 
--- how the scan of an open store came to its end; Walk says it of a walk that ended with a fault
+-- how the scan of an open store came to its end; Walk says it of a walk that ended with a fault. A log that was empty has
+-- room for a whole listing
 abbrev pub EndsOpen : Rules → (WalkFault → Type 0) → (List FileRead → List NameFacts → List Heard → Type 0) → (List RowFacts → Type 0)
     → (List RowFacts → RowFacts → Type 0) → ScanEnd → Type 0
 EndsOpen r Walk Read Kept Torn Unopened = ⊥
 EndsOpen r Walk Read Kept Torn Filled = ⊥
 EndsOpen r Walk Read Kept Torn (Unlisted fault) = Walk fault
 EndsOpen r Walk Read Kept Torn Unread = EndsUnread Read Kept
-EndsOpen r Walk Read Kept Torn (Altered name other) = EndsAltered Read Kept name other
+EndsOpen r Walk Read Kept Torn (Altered name met) = EndsAltered Read Kept name met
 EndsOpen r Walk Read Kept Torn Unkept = EndsUnkept r.version Read Torn
-EndsOpen r Walk Read Kept Torn Full = EndsFull r.version Read Kept
+EndsOpen r Walk Read Kept Torn Full = ⊥
 EndsOpen r Walk Read Kept Torn OutOfMemory = EndsWanting r.version Read Kept
 EndsOpen r Walk Read Kept Torn (Whole summary) = EndsWhole r.true_row r.told Read Kept summary
 
@@ -240,23 +208,43 @@ EndsBy s roots before after old new Unopened = EndsEarly s before after old new
 EndsBy s roots before after old new Filled = EndsFilled s before after old new
 EndsBy s roots before after old new (Unlisted fault) = EndsOver s roots before after old new (Unlisted fault)
 EndsBy s roots before after old new Unread = EndsOver s roots before after old new Unread
-EndsBy s roots before after old new (Altered name other) = EndsOver s roots before after old new (Altered name other)
+EndsBy s roots before after old new (Altered name met) = EndsOver s roots before after old new (Altered name met)
 EndsBy s roots before after old new Unkept = EndsOver s roots before after old new Unkept
 EndsBy s roots before after old new Full = EndsOver s roots before after old new Full
 EndsBy s roots before after old new OutOfMemory = EndsEarly s before after old new ⊎ EndsOver s roots before after old new OutOfMemory
 EndsBy s roots before after old new (Whole summary) = EndsOver s roots before after old new (Whole summary)
 
+-- whether the walk's fault is a failed call
+abbrev pub is_walk_failure : WalkFault → Bool
+is_walk_failure stop.Failed = true
+is_walk_failure stop.TooMany = false
+is_walk_failure stop.TooManyEntries = false
+is_walk_failure (stop.RootGone path) = false
+is_walk_failure stop.OutOfMemory = false
+
 -- whether a call of the hand failed
 abbrev pub is_hand_fault : ScanEnd → Bool
-is_hand_fault (Unlisted stop.Failed) = true
+is_hand_fault Unopened = false
+is_hand_fault Filled = false
+is_hand_fault (Unlisted fault) = is_walk_failure fault
 is_hand_fault Unread = true
-is_hand_fault _ = false
+is_hand_fault (Altered name met) = false
+is_hand_fault Unkept = false
+is_hand_fault Full = false
+is_hand_fault OutOfMemory = false
+is_hand_fault (Whole summary) = false
 
 -- whether a call of the store failed
 abbrev pub is_store_fault : ScanEnd → Bool
 is_store_fault Unopened = true
+is_store_fault Filled = false
+is_store_fault (Unlisted fault) = false
+is_store_fault Unread = false
+is_store_fault (Altered name met) = false
 is_store_fault Unkept = true
-is_store_fault _ = false
+is_store_fault Full = false
+is_store_fault OutOfMemory = false
+is_store_fault (Whole summary) = false
 
 -- of a failed call of the store
 abbrev pub store_fault_saying : Saying
@@ -276,7 +264,7 @@ scan_saying Unopened = store_fault_saying
 scan_saying Filled = not_built_saying
 scan_saying (Unlisted fault) = walk_saying fault
 scan_saying Unread = fault_saying
-scan_saying (Altered name other) = record { out = []; err = altered_line name other; status = status.Altered }
+scan_saying (Altered name met) = record { out = []; err = altered_line name met; status = status.Altered }
 scan_saying Unkept = store_fault_saying
 scan_saying Full = record { out = []; err = changes_limit_line; status = status.Limit }
 scan_saying OutOfMemory = no_memory_saying
@@ -286,7 +274,7 @@ scan_saying (Whole summary) = record { out = summary_line summary; err = []; sta
 pub record Scans (s : Setting) (roots : List (List ℕ)) (before after : Hand) (old new : Stock) (end : ScanEnd) : Type 0 where
   pub ends : EndsBy s roots before after old.holding new.holding end
   pub hand : HasCause before.faults after.faults (IsTrue (is_hand_fault end))
-  pub store : HasCause old.faults new.faults (IsTrue (is_store_fault end))
+  pub store : IsTrue (is_store_fault end) → Rose old.faults new.faults
   pub later : old.epoch ≤ new.epoch
 
 -- the scan came to an end, and it was said, or want of memory in its place

@@ -19,7 +19,7 @@ pub trait ElfTruth: Truth {
 impl ElfTruth for OpenWorld {
     ghost use Rattle.std.proofs.lemmas.Bool.{false≢true};
 
-    ghost read_rows = { λ _ _. tt };
+    ghost read_rows = { λ _ h. h.edition };
 
     ghost only_read = { λ e. absurd (false≢true e) };
 }

@@ -1,6 +1,6 @@
 //! A listed file: it is loaded, and its row is made.
 
-ghost use Rattle.std.specs.Prelude.{◌≡◌, ◌<◌};
+ghost use Rattle.std.specs.Prelude.{◌≡◌, ◌<◌, IfOk};
 ghost use Rattle.row_types.specs.Row.{too_large_row};
 ghost use Rattle.row_types.specs.declared.limits.TheConstants.{FILE_LIMIT};
 ghost use Rattle.tree_trait.specs.Load.{LoadFacts, load_facts, loaded, FitsLoad, IsAskedFile};
@@ -21,10 +21,11 @@ pub fn load_row<W: ElfTruth, T: Tree<W>>(
     name: Name,
     hand: &mut T,
 ) -> Result<TrueRow<W>, ScanEnd>
-    ensures { (answer : LoadFacts)
+    ensures loads { (answer : LoadFacts)
         × LoadsNext W.version T.told (T.still hand.old) (T.still hand.new) name.path
         (shown T.present T.heard T.faults hand.old) (shown T.present T.heard T.faults hand.new) answer
         × LeadsTo name answer result }
+    ensures named { IfOk result (λ row. row.name ≡ name) }
 {
     let answer = hand.load(alloc, name.path.text(), FILE_LIMIT);
     row_by(alloc, name, answer)
@@ -37,7 +38,8 @@ fn row_by<W: ElfTruth>(
     answer: LoadAnswer<W>,
 ) -> Result<TrueRow<W>, ScanEnd>
     requires { FitsLoad W.version name.path FILE_LIMIT (load_facts answer) }
-    ensures { LeadsTo name (load_facts answer) result }
+    ensures leads { LeadsTo name (load_facts answer) result }
+    ensures named { IfOk result (λ row. row.name ≡ name) }
 {
     match answer {
         LoadAnswer::Found(found) => found_row(alloc, name, &found),
@@ -67,7 +69,8 @@ fn found_row<W: ElfTruth>(
     found: &Found<W>,
 ) -> Result<TrueRow<W>, ScanEnd>
     requires { IsAskedFile W.version name.path FILE_LIMIT found.now }
-    ensures { LeadsTo name (loaded found.now) result }
+    ensures leads { LeadsTo name (loaded found.now) result }
+    ensures named { IfOk result (λ row. row.name ≡ name) }
 {
     if found.stamp == name.stamp {
         Ok(read_row(alloc, name, found))

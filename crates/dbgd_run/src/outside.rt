@@ -8,6 +8,7 @@ ghost use Rattle.dbgd_run.specs.Endings.{streams};
 ghost use Rattle.dbgd_run.specs.Load.{hand};
 ghost use Rattle.dbgd_run.specs.Lines.{asked_by};
 ghost use Rattle.dbgd_run.specs.Runs.{Runs};
+ghost use Rattle.dbgd_run.specs.ScanCauses.{ScanCauses};
 ghost use Rattle.dbgd_run.specs.Setting.{rules, setting};
 ghost use Rattle.dbgd_run.specs.Statuses.{code_of};
 ghost use Rattle.dbgd_run.specs.Store.{stock};
@@ -16,6 +17,7 @@ ghost use Rattle.dbgd_run.specs.Words.{line_of, unreadable};
 use crate::elf_truth::ElfTruth;
 use crate::ident::run_ident;
 use crate::sayings::NOT_BUILT;
+use crate::scan::run_scan;
 use crate::section::run_section;
 use crate::sink::Sink;
 use crate::speech::{Message, Said, speak};
@@ -72,7 +74,16 @@ fn run_line<W: ElfTruth, T: Tree<W>, S: Store<W>, O: Sink>(
         Line::Section { path, name } => {
             run_section(alloc, path, name, &mut outside.hands[0], out, err)
         }
-        Line::Scan { .. } | Line::NotBuilt => speak(out, err, &NOT_BUILT),
+        Line::Scan { store, roots } => run_scan(
+            alloc,
+            store,
+            &roots,
+            &mut outside.hands[0],
+            &mut outside.store,
+            out,
+            err,
+        ),
+        Line::NotBuilt => speak(out, err, &NOT_BUILT),
         Line::Usage => speak(out, err, &USAGE),
     }
 }
@@ -96,7 +107,15 @@ pub fn run_local<W: ElfTruth, T: Tree<W>, S: Store<W>, O: Sink>(
     ensures causes { (d : T) →
         let before = slice_index_or outside.old.hands.items 0 d in
         let after = slice_index_or outside.new.hands.items 0 d in
-        IfSome result (HasCauses (line_of (map string_bytes words.now))
+        IfSome result (HasCauses (setting (rules W.version W.true_row W.told) T.told (T.still before) S.K.told) (line_of (map string_bytes words.now))
+        (hand T.present T.heard T.faults before) (hand T.present T.heard T.faults after)
+        (stock S.tables S.made S.epoch S.faults outside.old.store) (stock S.tables S.made S.epoch S.faults outside.new.store)
+        (streams O.written O.write_faults outside.old.out outside.old.err)
+        (streams O.written O.write_faults outside.new.out outside.new.err)) }
+    ensures scan { (d : T) →
+        let before = slice_index_or outside.old.hands.items 0 d in
+        let after = slice_index_or outside.new.hands.items 0 d in
+        IfSome result (ScanCauses (setting (rules W.version W.true_row W.told) T.told (T.still before) S.K.told) (line_of (map string_bytes words.now))
         (hand T.present T.heard T.faults before) (hand T.present T.heard T.faults after)
         (stock S.tables S.made S.epoch S.faults outside.old.store) (stock S.tables S.made S.epoch S.faults outside.new.store)
         (streams O.written O.write_faults outside.old.out outside.old.err)
@@ -126,7 +145,15 @@ pub fn run<W: ElfTruth, T: Tree<W>, S: Store<W>, O: Sink>(
     ensures causes { (d : T) →
         let before = slice_index_or outside.old.hands.items 0 d in
         let after = slice_index_or outside.new.hands.items 0 d in
-        HasCauses (line_of (map string_bytes words.now))
+        HasCauses (setting (rules W.version W.true_row W.told) T.told (T.still before) S.K.told) (line_of (map string_bytes words.now))
+        (hand T.present T.heard T.faults before) (hand T.present T.heard T.faults after)
+        (stock S.tables S.made S.epoch S.faults outside.old.store) (stock S.tables S.made S.epoch S.faults outside.new.store)
+        (streams O.written O.write_faults outside.old.out outside.old.err)
+        (streams O.written O.write_faults outside.new.out outside.new.err) result }
+    ensures scan { (d : T) →
+        let before = slice_index_or outside.old.hands.items 0 d in
+        let after = slice_index_or outside.new.hands.items 0 d in
+        ScanCauses (setting (rules W.version W.true_row W.told) T.told (T.still before) S.K.told) (line_of (map string_bytes words.now))
         (hand T.present T.heard T.faults before) (hand T.present T.heard T.faults after)
         (stock S.tables S.made S.epoch S.faults outside.old.store) (stock S.tables S.made S.epoch S.faults outside.new.store)
         (streams O.written O.write_faults outside.old.out outside.old.err)

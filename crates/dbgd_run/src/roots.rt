@@ -1,6 +1,6 @@
 //! The folders of a scan.
 
-ghost use Rattle.std.specs.Prelude.{◌≡◌, ◌↔◌, map, IsSome, IfSome, IfOk};
+ghost use Rattle.std.specs.Prelude.{◌≡◌, ◌↔◌, true, map, IsSome, IfSome, IfOk};
 ghost use Rattle.std.specs.List.{list_all};
 ghost use Rattle.std.specs.String.{string_bytes};
 ghost use Rattle.dbgd_run.specs.Roots.{AreRoots};

@@ -14,7 +14,7 @@ pub returns-in-Full : goal.returns-in-Full
 returns-in-Full g c = rw c.in-Full.is (inl c.speak-in-Full.ensures)
 
 pub returns-in-Unopened : goal.returns-in-Unopened
-returns-in-Unopened g c = ?
+returns-in-Unopened g c = let h = c.in-Unopened in let k = c.speak-in-Unopened.ensures in ?
 
 pub returns-in-Unlisted : goal.returns-in-Unlisted
 returns-in-Unlisted g c = rw c.in-Unlisted.is (inl c.say_walk.ensures)
