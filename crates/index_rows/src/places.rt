@@ -1,14 +1,15 @@
 //! The list of rows in path order, and the log, as plain lists.
 
-ghost use Rattle.std.specs.Prelude.{◌≡◌, ◌<◌, ◌++◌, ◌∷◌, [], IsSome, IfSome, vec_len};
+ghost use Rattle.std.specs.Prelude.{◌≡◌, ◌<◌, ◌++◌, ◌∷◌, [], IsSome, IfSome, IfOk, vec_len};
 ghost use Rattle.std.specs.Option.{option_copied};
 ghost use Rattle.std.specs.Vec.{vec_capacity};
 ghost use Rattle.index_rows.specs.ByPath.{AscendsBy};
 ghost use Rattle.index_rows.specs.Places.{IsPlace};
-ghost use Rattle.index_rows.specs.Rows.{path_of, row_at, with_row, without_row};
+ghost use Rattle.index_rows.specs.Rows.{names_of, path_of, row_at, with_row, without_row};
 
 use crate::change::Change;
-use row_types::{CanonPath, Row};
+use row_types::{CanonPath, Name, Row};
+use std::alloc::{AllocError, Global};
 
 /// The place of the path's row, or else the place at which it would stand. The search halves the list.
 pub(crate) fn place_of(rows: &[Row], path: &CanonPath) -> Result<usize, usize>
@@ -28,6 +29,17 @@ pub(crate) fn row_at<'a>(rows: &'a [Row], path: &CanonPath) -> Option<&'a Row>
         Ok(place) => Some(&rows[place]),
         Err(_) => None,
     }
+}
+
+/// A copy of each row's name.
+pub(crate) fn names_of(alloc: Global, rows: &[Row]) -> Result<Vec<Name>, AllocError>
+    ensures { IfOk result (λ names. names.items ≡ names_of rows.now) }
+{
+    let mut names = Vec::new(alloc);
+    for row in rows {
+        names.push(row.name.copy(alloc)?)?;
+    }
+    Ok(names)
 }
 
 /// Puts the row in place of its path's.

@@ -1,11 +1,11 @@
 //! The rows of an index.
 
-ghost use Rattle.std.specs.Prelude.{◌≡◌, ◌↔◌, length, filter, Err, IsSome, IsSomeAnd, IfSome, OnOk, OnErr};
+ghost use Rattle.std.specs.Prelude.{◌≡◌, ◌↔◌, length, filter, Err, IsSome, IsSomeAnd, IfSome, IfOk, OnOk, OnErr};
 ghost use Rattle.std.specs.List.{list_any};
 ghost use Rattle.std.specs.Option.{option_copied};
 ghost use Rattle.index_rows.specs.Classes.{has_class, has_id, lists_source};
 ghost use Rattle.index_rows.specs.Log.{replay};
-ghost use Rattle.index_rows.specs.Rows.{after_drop, after_put, after_void, CanBeVoid, IsDropOf, IsIndex, nothing_yet, row_at};
+ghost use Rattle.index_rows.specs.Rows.{after_drop, after_put, after_void, CanBeVoid, IsDropOf, IsIndex, names_of, nothing_yet, row_at};
 ghost use Rattle.index_rows.specs.declared.prepared.Prepared.{Prepared};
 ghost use Rattle.index_rows.specs.declared.fault.RowsFault.{RowsFault};
 
@@ -14,8 +14,8 @@ use crate::fault::RowsFault;
 use crate::places;
 use crate::prepared::{Prepared, into_name, void_change};
 use crate::row_iter::{self, Pick, RowIter};
-use row_types::{BuildId, CanonPath, Kind, Row, TrueRow, Truth};
-use std::alloc::Global;
+use row_types::{BuildId, CanonPath, Kind, Name, Row, TrueRow, Truth};
+use std::alloc::{AllocError, Global};
 use std::marker::{Model, PhantomData};
 use std::mem;
 
@@ -105,6 +105,14 @@ impl<W: Truth> Rows<W> {
         ensures holds { IsIndex W.true_row self.now }
     {
         RowIter::all(self.rows.as_slice())
+    }
+
+    /// A copy of each row's name.
+    pub fn names(&self, alloc: Global) -> Result<Vec<Name>, AllocError>
+        ensures value { IfOk result (λ names. names.items ≡ names_of self.now.rows) }
+        ensures holds { IsIndex W.true_row self.now }
+    {
+        places::names_of(alloc, self.rows.as_slice())
     }
 
     /// Whether some row with the id lists the source.

@@ -1,0 +1,11 @@
+pub mod ByName
+pub mod Found
+pub mod Keeps
+pub mod LogSteps
+pub mod Members
+pub mod Parts
+pub mod PassSteps
+pub mod Rooms
+pub mod Steps
+pub mod StoreSteps
+pub mod Whole

@@ -1,0 +1,184 @@
+-- What a pass still has to do, after each of its steps.
+use Rattle.std.proofs.Common.{◌≡◌, ℕ, ◌||◌, ◌&&◌, Bool, true, false, not, List, [], ◌∷◌, ◌++◌, map, Option, Some, None, refl, sym, ◌∙◌, ap, subst}
+use Rattle.std.specs.List.{filter}
+use Rattle.std.specs.Option.{option_map}
+use Rattle.std.specs.Prelude.{IfSome}
+use Rattle.std.specs.Str.{bytes_eq}
+use Rattle.std.proofs.lemmas.Bool.{false_from_ne_true, or_left, or_right, true≢false}
+use Rattle.std.proofs.lemmas.List.Elements.{filter-append}
+use Rattle.std.proofs.lemmas.Slice.Eq.{bytes_eq-Decides}
+use Rattle.row_types.specs.Name.{NameFacts}
+use Rattle.row_types.specs.Row.{RowFacts}
+use Rattle.index_rows.specs.ByPath.{put_at}
+use Rattle.index_rows.specs.Rows.{names_of, path_of, with_row}
+use Rattle.index_rows.proofs.Lists.{map_filter}
+use Rattle.index_rows.proofs.PathLemmas.{map_put}
+use Rattle.index_rows.proofs.RowLemmas.{path_in}
+use Rattle.scan_queue.specs.Names.{IsByPath, is_in, not_in, same_name, without}
+use Rattle.scan_queue.specs.Pass.{Adds, PassFacts, Takes, begun, left, misses_without, missed_names}
+use Rattle.scan_queue.specs.declared.miss.Miss.{Miss}
+use Rattle.scan_queue.proofs.NameTests.{same_name-Decides}
+use Rattle.index_state.specs.Invariant.{ListedAccounted, RowsAccounted, to_look_for, to_read}
+use Rattle.index_state.proofs.ByName.{one_of_path}
+use Rattle.index_state.proofs.Members.{in_append, in_filter, in_put_other, in_put_self, in_put_stale, in_without_other, not_in_without}
+
+-- a name of three lists
+in_three : (xs ys zs : List NameFacts) (n : NameFacts) → is_in (xs ++ ys ++ zs) n ≡ ((is_in xs n || is_in ys n) || is_in zs n)
+in_three xs ys zs n = in_append (xs ++ ys) zs n ∙ ap (λ b. b || is_in zs n) (in_append xs ys n)
+
+without_three : (name : NameFacts) (xs ys zs : List NameFacts) → without name xs ++ without name ys ++ without name zs ≡ without name (xs ++ ys ++ zs)
+without_three name xs ys zs =
+    ap (λ (l : List NameFacts). l ++ without name zs) (sym (filter-append (λ other. not (same_name name other)) xs ys))
+    ∙ sym (filter-append (λ other. not (same_name name other)) (xs ++ ys) zs)
+
+missed_without : (name : NameFacts) (missed : List Miss) → missed_names (misses_without name missed) ≡ without name (missed_names missed)
+missed_without name missed = map_filter (λ (m : Miss). m.name) (λ (n : NameFacts). not (same_name name n)) missed
+
+to_read_left : (name : NameFacts) (pass : PassFacts) → to_read (left name pass) ≡ without name (to_read pass)
+to_read_left name pass =
+    ap (λ (l : List NameFacts). without name pass.todo ++ without name pass.out ++ l) (missed_without name pass.missed)
+    ∙ without_three name pass.todo pass.out (missed_names pass.missed)
+
+to_look_for_left : (name : NameFacts) (pass : PassFacts) → to_look_for (left name pass) ≡ without name (to_look_for pass)
+to_look_for_left name pass =
+    ap (λ (l : List NameFacts). without name pass.groom ++ without name pass.out ++ l) (missed_without name pass.missed)
+    ∙ without_three name pass.groom pass.out (missed_names pass.missed)
+
+-- a name that leaves is no longer to be read
+gone_from_read : (name : NameFacts) (pass : PassFacts) → is_in (to_read (left name pass)) name ≡ false
+gone_from_read name pass = ap (λ (l : List NameFacts). is_in l name) (to_read_left name pass) ∙ not_in_without name (to_read pass)
+
+-- the others are as before
+others_to_read : (name n : NameFacts) (pass : PassFacts) → same_name n name ≡ false → is_in (to_read (left name pass)) n ≡ is_in (to_read pass) n
+others_to_read name n pass e = ap (λ (l : List NameFacts). is_in l n) (to_read_left name pass) ∙ in_without_other name n (to_read pass) e
+
+others_to_look_for : (name n : NameFacts) (pass : PassFacts) → same_name n name ≡ false → is_in (to_look_for (left name pass)) n ≡ is_in (to_look_for pass) n
+others_to_look_for name n pass e = ap (λ (l : List NameFacts). is_in l n) (to_look_for_left name pass) ∙ in_without_other name n (to_look_for pass) e
+
+move_front : (f s b : Bool) → (f || (s || b)) ≡ (s || (f || b))
+move_front true true b = refl
+move_front true false b = refl
+move_front false s b = refl
+
+in_added : (x n : NameFacts) (before after : List NameFacts) → Adds x before after → is_in after n ≡ (same_name n x || is_in before n)
+in_added x n before after adds =
+    ap (λ (l : List NameFacts). is_in l n) adds.new
+    ∙ in_append adds.front (x ∷ adds.back) n
+    ∙ move_front (is_in adds.front n) (same_name n x) (is_in adds.back n)
+    ∙ ap (λ b. same_name n x || b) (sym (in_append adds.front adds.back n) ∙ ap (λ (l : List NameFacts). is_in l n) (sym adds.old))
+
+swap_taken : (t s o m : Bool) → ((t || (s || o)) || m) ≡ (((s || t) || o) || m)
+swap_taken true true o m = refl
+swap_taken true false o m = refl
+swap_taken false true o m = refl
+swap_taken false false o m = refl
+
+three_as : (a b c d e f : Bool) → a ≡ d → b ≡ e → c ≡ f → ((a || b) || c) ≡ ((d || e) || f)
+three_as a b c d e f p q r = cc
+
+-- a name that is taken is still to be read
+take_same_read : (n name : NameFacts) (from into : PassFacts) → Takes from into name → is_in (to_read into) n ≡ is_in (to_read from) n
+take_same_read n name from into takes =
+    in_three into.todo into.out (missed_names into.missed) n
+    ∙ three_as (is_in into.todo n) (is_in into.out n) (is_in (missed_names into.missed) n) (is_in into.todo n) (same_name n name || is_in from.out n) (is_in (missed_names from.missed) n)
+    refl (in_added name n from.out into.out takes.out) (ap (λ (p : PassFacts). is_in (missed_names p.missed) n) takes.same)
+    ∙ swap_taken (is_in into.todo n) (same_name n name) (is_in from.out n) (is_in (missed_names from.missed) n)
+    ∙ ap (λ (l : List NameFacts). (is_in l n || is_in from.out n) || is_in (missed_names from.missed) n) (sym takes.first)
+    ∙ sym (in_three from.todo from.out (missed_names from.missed) n)
+
+grown : (g o m s : Bool) → ((g || o) || m) ≡ true → ((g || (s || o)) || m) ≡ true
+grown true o m s h = refl
+grown false o m true h = refl
+grown false o m false h = h
+
+take_more_look : (n name : NameFacts) (from into : PassFacts) → Takes from into name → is_in (to_look_for from) n ≡ true → is_in (to_look_for into) n ≡ true
+take_more_look n name from into takes h =
+    in_three into.groom into.out (missed_names into.missed) n
+    ∙ three_as (is_in into.groom n) (is_in into.out n) (is_in (missed_names into.missed) n) (is_in from.groom n) (same_name n name || is_in from.out n) (is_in (missed_names from.missed) n)
+    (ap (λ (p : PassFacts). is_in p.groom n) takes.same) (in_added name n from.out into.out takes.out) (ap (λ (p : PassFacts). is_in (missed_names p.missed) n) takes.same)
+    ∙ grown (is_in from.groom n) (is_in from.out n) (is_in (missed_names from.missed) n) (same_name n name)
+    (sym (in_three from.groom from.out (missed_names from.missed) n) ∙ h)
+
+either_grows : (l a b : Bool) → (a ≡ true → b ≡ true) → (l || a) ≡ true → (l || b) ≡ true
+either_grows true a b f h = refl
+either_grows false a b f h = f h
+
+-- after a name was taken
+pub taken_listed : (rows : List RowFacts) (name : NameFacts) (from into : PassFacts) → Takes from into name → ListedAccounted rows from → ListedAccounted rows into
+taken_listed rows name from into takes h = λ n listed.
+    h n (ap (λ (p : PassFacts). is_in p.listing n) (sym takes.same) ∙ listed) ∙ ap not (sym (take_same_read n name from into takes))
+
+pub taken_rows : (rows : List RowFacts) (name : NameFacts) (from into : PassFacts) → Takes from into name → RowsAccounted rows from → RowsAccounted rows into
+taken_rows rows name from into takes h = λ n stands.
+    ap (λ (p : PassFacts). is_in p.listing n || is_in (to_look_for into) n) takes.same
+    ∙ either_grows (is_in from.listing n) (is_in (to_look_for from) n) (is_in (to_look_for into) n) (take_more_look n name from into takes) (h n stands)
+
+nothing_more : (b : Bool) → ((b || false) || false) ≡ b
+nothing_more true = refl
+nothing_more false = refl
+
+not_twice : (l c : Bool) → l ≡ true → c ≡ not (l && not c)
+not_twice true true e = refl
+not_twice true false e = refl
+not_twice false c e = absurd (true≢false (sym e))
+
+-- as a pass begins
+pub begun_listed : (rows : List RowFacts) (listing : List NameFacts) → ListedAccounted rows (begun listing (names_of rows))
+begun_listed rows listing = λ n listed.
+    not_twice (is_in listing n) (is_in (names_of rows) n) listed
+    ∙ ap not (sym (in_three (not_in (names_of rows) listing) [] [] n ∙ nothing_more (is_in (not_in (names_of rows) listing) n) ∙ in_filter (λ m. not (is_in (names_of rows) m)) n listing))
+
+either_is : (l r : Bool) → r ≡ true → (l || (r && not l)) ≡ true
+either_is true r e = refl
+either_is false true e = refl
+either_is false false e = absurd (true≢false (sym e))
+
+pub begun_rows : (rows : List RowFacts) (listing : List NameFacts) → RowsAccounted rows (begun listing (names_of rows))
+begun_rows rows listing = λ n stands.
+    ap (λ b. is_in listing n || b) (in_three (not_in listing (names_of rows)) [] [] n ∙ nothing_more (is_in (not_in listing (names_of rows)) n) ∙ in_filter (λ m. not (is_in listing m)) n (names_of rows))
+    ∙ either_is (is_in listing n) (is_in (names_of rows) n) stands
+
+-- after a listed name that has a row left
+pub known_listed : (rows : List RowFacts) (name : NameFacts) (pass : PassFacts) → is_in (names_of rows) name ≡ true → ListedAccounted rows pass → ListedAccounted rows (left name pass)
+known_listed rows name pass stands h = λ n listed.
+    elim (same_name n name) as (λ b. same_name n name ≡ b → is_in (names_of rows) n ≡ not (is_in (to_read (left name pass)) n)) [
+      | true ↦ λ e. subst (λ (x : NameFacts). is_in (names_of rows) x ≡ not (is_in (to_read (left name pass)) x)) (sym ((same_name-Decides n name).0 e)) (stands ∙ ap not (sym (gone_from_read name pass)))
+      | false ↦ λ e. h n listed ∙ ap not (sym (others_to_read name n pass e))
+    ] refl
+
+pub known_rows : (rows : List RowFacts) (name : NameFacts) (pass : PassFacts) → is_in pass.listing name ≡ true → RowsAccounted rows pass → RowsAccounted rows (left name pass)
+known_rows rows name pass listed h = λ n stands.
+    elim (same_name n name) as (λ b. same_name n name ≡ b → (is_in pass.listing n || is_in (to_look_for (left name pass)) n) ≡ true) [
+      | true ↦ λ e. or_left _ _ (ap (is_in pass.listing) ((same_name-Decides n name).0 e) ∙ listed)
+      | false ↦ λ e. ap (λ b. is_in pass.listing n || b) (others_to_look_for name n pass e) ∙ h n stands
+    ] refl
+
+-- the names of the rows with one put
+pub names_with : (row : RowFacts) (rows : List RowFacts) → names_of (with_row row rows) ≡ put_at path_in row.name (names_of rows)
+names_with row rows = map_put (λ (r : RowFacts). r.name) path_in row rows
+
+-- after a listed name's row was put and the name left
+pub put_listed : (rows : List RowFacts) (row : RowFacts) (pass : PassFacts) → IsByPath pass.listing → is_in pass.listing row.name ≡ true → ListedAccounted rows pass → ListedAccounted (with_row row rows) (left row.name pass)
+put_listed rows row pass by_path own h = λ n listed.
+    ap (λ (l : List NameFacts). is_in l n) (names_with row rows)
+    ∙ elim (same_name n row.name) as (λ b. same_name n row.name ≡ b → is_in (put_at path_in row.name (names_of rows)) n ≡ not (is_in (to_read (left row.name pass)) n)) [
+      | true ↦ λ e. subst (λ (x : NameFacts). is_in (put_at path_in row.name (names_of rows)) x ≡ not (is_in (to_read (left row.name pass)) x)) (sym ((same_name-Decides n row.name).0 e))
+          (in_put_self row.name (names_of rows) ∙ ap not (sym (gone_from_read row.name pass)))
+      | false ↦ λ e.
+          let apart : bytes_eq n.path row.name.path ≡ false = false_from_ne_true (bytes_eq n.path row.name.path)
+          (λ same. true≢false (sym (one_of_path n row.name pass.listing by_path listed own same) ∙ e)) in
+          in_put_other row.name n (names_of rows) apart ∙ h n listed ∙ ap not (sym (others_to_read row.name n pass e))
+    ] refl
+
+pub put_rows : (rows : List RowFacts) (row : RowFacts) (pass : PassFacts) → is_in pass.listing row.name ≡ true → RowsAccounted rows pass → RowsAccounted (with_row row rows) (left row.name pass)
+put_rows rows row pass own h = λ n stands.
+    let put : is_in (put_at path_in row.name (names_of rows)) n ≡ true = ap (λ (l : List NameFacts). is_in l n) (sym (names_with row rows)) ∙ stands in
+    elim (same_name n row.name) as (λ b. same_name n row.name ≡ b → (is_in pass.listing n || is_in (to_look_for (left row.name pass)) n) ≡ true) [
+      | true ↦ λ e. or_left _ _ (ap (is_in pass.listing) ((same_name-Decides n row.name).0 e) ∙ own)
+      | false ↦ λ e. elim (bytes_eq n.path row.name.path) as (λ b. bytes_eq n.path row.name.path ≡ b → (is_in pass.listing n || is_in (to_look_for (left row.name pass)) n) ≡ true) [
+        | true ↦ λ same. absurd (true≢false (sym put ∙ in_put_stale row.name n (names_of rows) ((bytes_eq-Decides n.path row.name.path).0 same) e))
+        | false ↦ λ apart.
+            ap (λ b. is_in pass.listing n || b) (others_to_look_for row.name n pass e)
+            ∙ h n (sym (in_put_other row.name n (names_of rows) apart) ∙ put)
+      ] refl
+    ] refl

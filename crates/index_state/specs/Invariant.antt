@@ -1,0 +1,73 @@
+-- The index invariant (this project's rule): what holds of an index at every moment.
+use Rattle.std.specs.Prelude.{◌≡◌, ℕ, ◌≤◌, ◌<◌, ◌||◌, Bool, true, not, List, ◌++◌, length, All, IfSome, IsTrue}
+use Rattle.row_types.specs.Name.{NameFacts}
+use Rattle.row_types.specs.Row.{RowFacts}
+use Rattle.row_types.specs.declared.limits.TheConstants.{EDITION}
+use Rattle.row_codec.specs.Spelled.{IsSpelled}
+use Rattle.index_rows.specs.ByPath.{AscendsBy}
+use Rattle.index_rows.specs.Log.{replay}
+use Rattle.index_rows.specs.Rows.{names_of, path_of}
+use Rattle.index_rows.specs.declared.change.Change.{Change}
+use Rattle.index_rows.specs.declared.rows.TheConstants.{LOG_LIMIT}
+use Rattle.scan_queue.specs.Names.{is_in}
+use Rattle.scan_queue.specs.Pass.{IsPass, PassFacts, missed_names}
+use Rattle.index_state.specs.Changes.{HasOrigin, VoidWhere}
+use Rattle.index_state.specs.Keeping.{Meanings}
+use Rattle.index_state.specs.Kept.{Agrees}
+use Rattle.index_state.specs.State.{StateFacts, lasting}
+
+-- the rows stand strictly by path, are of the edition, true, and have row bytes
+pub record AreTrueRows (true_row : RowFacts → Type 0) (rows : List RowFacts) : Type 0 where
+  pub ascend : AscendsBy path_of rows
+  pub edition : All (λ row. row.edition ≡ EDITION) rows
+  pub holds : All true_row rows
+  pub spelled : All IsSpelled rows
+
+-- the rows' names are those that the log leaves, which is no longer than its limit
+pub record Replays (log : List Change) (rows : List RowFacts) : Type 0 where
+  pub names : names_of rows ≡ replay log
+  pub bounded : length log ≤ LOG_LIMIT
+
+-- the log ends in a void change exactly where the index is broken, and then the keeper has counted a fault
+pub record IsBrokenByFault (broken : Bool) (log : List Change) (faults : ℕ) : Type 0 where
+  pub void : VoidWhere broken log
+  pub counted : IsTrue broken → 0 < faults
+
+-- a keeper that tells has the rows, its number is that of the opening, and the log is what the store made
+pub record AgreesWithStore {K : Type 0} (true_row : RowFacts → Type 0) (m : Meanings K) (state : StateFacts K) : Type 0 where
+  pub tables : IsTrue m.told → Agrees true_row state.broken state.rows (m.tables state.keeper) (m.images state.keeper)
+  pub number : m.epoch state.keeper ≡ state.origin.epoch
+  pub since : HasOrigin true_row state.origin (m.made state.keeper) (lasting state.broken state.log)
+
+-- the names that are to be read, that were handed out or that were missed
+abbrev pub to_read : PassFacts → List NameFacts
+to_read pass = pass.todo ++ pass.out ++ missed_names pass.missed
+
+-- the names that are to be looked for, that were handed out or that were missed
+abbrev pub to_look_for : PassFacts → List NameFacts
+to_look_for pass = pass.groom ++ pass.out ++ missed_names pass.missed
+
+-- a listed name is a row's name exactly where it is no longer to be read
+abbrev pub ListedAccounted : List RowFacts → PassFacts → Type 0
+ListedAccounted rows pass = (name : NameFacts) → is_in pass.listing name ≡ true → is_in (names_of rows) name ≡ not (is_in (to_read pass) name)
+
+-- each row's name is listed, or is still to be looked for
+abbrev pub RowsAccounted : List RowFacts → PassFacts → Type 0
+RowsAccounted rows pass = (name : NameFacts) → is_in (names_of rows) name ≡ true → (is_in pass.listing name || is_in (to_look_for pass) name) ≡ true
+
+-- what holds of an index at every moment
+pub record IndexInvariant {K : Type 0} (true_row : RowFacts → Type 0) (m : Meanings K) (state : StateFacts K) : Type 0 where
+  -- rows sorted and true
+  pub rows_true : AreTrueRows true_row state.rows
+  -- rows replay the log
+  pub rows_replay : Replays state.log state.rows
+  -- broken means a void last change
+  pub broken_void : IsBrokenByFault state.broken state.log (m.faults state.keeper)
+  -- the store agrees with the rows
+  pub store_agrees : AgreesWithStore true_row m state
+  -- each name stands in one place of the pass
+  pub one_place : IfSome state.pass IsPass
+  -- listed names are accounted for
+  pub listed : IfSome state.pass (ListedAccounted state.rows)
+  -- rows are accounted for
+  pub looked_for : IfSome state.pass (RowsAccounted state.rows)

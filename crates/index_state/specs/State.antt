@@ -1,0 +1,61 @@
+-- The state of an index (this project's rule): the rows with their log, the keeper of the store, the pass, if one
+-- was begun, and what the opening left.
+use Rattle.std.specs.Prelude.{ℕ, ◌-◌, Bool, true, false, List, [], length, take, Option, Some, None}
+use Rattle.std.specs.Option.{option_map}
+use Rattle.row_types.specs.Row.{RowFacts}
+use Rattle.index_rows.specs.Rows.{RowsFacts}
+use Rattle.index_rows.specs.declared.change.Change.{Change}
+use Rattle.scan_queue.specs.Pass.{PassFacts}
+use Rattle.index_keeper.specs.Tables.{EditFacts}
+
+-- what the opening left: the number of the keeper's opening, how many puts the log began with, and the changes of
+-- the store by then, where the keeper tells them
+pub record Origin : Type 0 where
+  pub epoch : ℕ
+  pub puts : ℕ
+  pub made : Option (List EditFacts)
+
+-- the rows in path order, the changes that made their names, the keeper, the pass and its roots, whether the index
+-- is broken, and its origin
+pub record StateFacts (K : Type 0) : Type 0 where
+  pub rows : List RowFacts
+  pub log : List Change
+  pub keeper : K
+  pub pass : Option PassFacts
+  pub roots : List (List ℕ)
+  pub broken : Bool
+  pub origin : Origin
+
+-- the pass in which nothing is listed and no name stands
+abbrev pub no_pass : PassFacts
+no_pass = record { listing = []; todo = []; out = []; groom = []; missed = []; filled = true }
+
+-- the pass, if one was begun, else the one in which nothing is listed
+abbrev pub pass_of : Option PassFacts → PassFacts
+pass_of None = no_pass
+pass_of (Some pass) = pass
+
+-- the changes that stand: all but the last one of a broken index, which is void
+abbrev pub lasting : Bool → List Change → List Change
+lasting false log = log
+lasting true log = take (length log - 1) log
+
+-- the changes of the store by the opening, where each change since then made one more
+abbrev pub made_first : ℕ → Option (List EditFacts) → Option (List EditFacts)
+made_first since made = option_map (λ edits. take (length edits - since) edits) made
+
+-- the state that is made of these parts
+abbrev pub state_of : {K : Type 0} → (K → Option (List EditFacts)) → RowsFacts → K → Option PassFacts → List (List ℕ) → Bool → ℕ → ℕ → StateFacts K
+state_of made rows keeper pass roots broken epoch puts = record {
+  rows = rows.rows;
+  log = rows.log;
+  keeper = keeper;
+  pass = pass;
+  roots = roots;
+  broken = broken;
+  origin = record {
+    epoch = epoch;
+    puts = puts;
+    made = made_first (length (lasting broken rows.log) - puts) (made keeper);
+  };
+}

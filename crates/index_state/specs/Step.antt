@@ -1,0 +1,152 @@
+-- The index step (this project's rule): what can happen to an index while it is held, and what comes of it. What a
+-- case doesn't name stays.
+use Rattle.std.specs.Prelude.{◌≡◌, ℕ, ◌<◌, Bool, true, false, List, [], ◌∷◌, ◌++◌, length, Option, Some, None, IsSome}
+use Rattle.std.specs.Option.{option_map}
+use Rattle.row_types.specs.Name.{NameFacts}
+use Rattle.row_types.specs.Row.{RowFacts}
+use Rattle.row_types.specs.Stamp.{StampFacts}
+use Rattle.index_rows.specs.Log.{drop_of, put_of}
+use Rattle.index_rows.specs.Rows.{names_of, with_row}
+use Rattle.index_rows.specs.declared.rows.TheConstants.{LOG_LIMIT}
+use Rattle.scan_queue.specs.Names.{is_in, stamp_at}
+use Rattle.scan_queue.specs.Pass.{PassFacts, Takes, begun, left}
+use Rattle.index_keeper.specs.declared.answer.KeepAnswer.TheVariants.{Done, Failed}
+use Rattle.index_state.specs.Keeping.{IsLeftAlone, IsPut, Meanings}
+use Rattle.index_state.specs.Plan.{plan_of}
+use Rattle.index_state.specs.State.{StateFacts, pass_of}
+use Rattle.index_state.specs.declared.answer.Plan.{Plan}
+use Rattle.index_state.specs.declared.answer.Begun.{Begun}
+use Rattle.index_state.specs.declared.answer.Begun.TheVariants.{Begun as BegunBy, Broken as BegunBroken, OutOfMemory as BegunNoMemory}
+use Rattle.index_state.specs.declared.answer.Published.{Published}
+use Rattle.index_state.specs.declared.answer.Published.TheVariants.{Added, Replaced, Already, NotListed, Broken, LogFull, KeeperFault, OutOfMemory}
+
+-- what happens: a pass over a listing with roots begins, a name is taken, a row is published
+pub data Event : Type 0 where
+  begins : (listing : List NameFacts) (roots : List (List ℕ)) → Event
+  takes : Event
+  publishes : (row : RowFacts) → Event
+
+-- the answer to each
+pub data Answer : Type 0 where
+  to_begin : Begun → Answer
+  to_take : Option NameFacts → Answer
+  to_publish : Published → Answer
+
+-- the state stays, and this is why
+pub record Stays {K : Type 0} (Why : Type 0) (old new : StateFacts K) : Type 0 where
+  pub why : Why
+  pub same : new ≡ old
+
+-- a pass begins, in place of an earlier one, and this is what it has to do
+pub record BeginsPass {K : Type 0} (listing : List NameFacts) (roots : List (List ℕ)) (plan : Plan) (old new : StateFacts K) : Type 0 where
+  pub sound : old.broken ≡ false
+  pub planned : plan ≡ plan_of listing (names_of old.rows)
+  pub after : new ≡ record old { pass = Some (begun listing (names_of old.rows)); roots = roots }
+
+-- a pass begins, or not
+abbrev pub Begins : {K : Type 0} → List NameFacts → List (List ℕ) → StateFacts K → Begun → StateFacts K → Type 0
+Begins listing roots old (BegunBy plan) new = BeginsPass listing roots plan old new
+Begins listing roots old BegunBroken new = Stays (old.broken ≡ true) old new
+Begins listing roots old BegunNoMemory new = Stays (old.broken ≡ false) old new
+
+-- no name is to be read, or no pass was begun
+pub record FindsNone (old new : Option PassFacts) : Type 0 where
+  pub none : (pass_of old).todo ≡ []
+  pub same : new ≡ old
+
+-- the first name that is to be read goes out
+pub record HandsOut (name : NameFacts) (old new : Option PassFacts) : Type 0 where
+  pub from : PassFacts
+  pub into : PassFacts
+  pub was : old ≡ Some from
+  pub is : new ≡ Some into
+  pub step : Takes from into name
+
+-- a name goes out, or none
+abbrev pub TakesFrom : Option PassFacts → Option NameFacts → Option PassFacts → Type 0
+TakesFrom old None new = FindsNone old new
+TakesFrom old (Some name) new = HandsOut name old new
+
+-- a name goes out, or none
+pub record TakesNext {K : Type 0} (old : StateFacts K) (answer : Option NameFacts) (new : StateFacts K) : Type 0 where
+  pub taken : TakesFrom old.pass answer new.pass
+  pub same : new ≡ record old { pass = new.pass }
+
+-- the name isn't listed, but its path may be, with this stamp
+pub record IsUnlisted {K : Type 0} (name : NameFacts) (listed : Option StampFacts) (old : StateFacts K) : Type 0 where
+  pub sound : old.broken ≡ false
+  pub unlisted : is_in (pass_of old.pass).listing name ≡ false
+  pub stamp : listed ≡ stamp_at (pass_of old.pass).listing name.path
+
+-- the name is listed, and has a row
+pub record IsKnown {K : Type 0} (name : NameFacts) (old : StateFacts K) : Type 0 where
+  pub sound : old.broken ≡ false
+  pub listed : is_in (pass_of old.pass).listing name ≡ true
+  pub stands : is_in (names_of old.rows) name ≡ true
+
+-- the name is listed, and has no row yet
+pub record IsAwaited {K : Type 0} (name : NameFacts) (old : StateFacts K) : Type 0 where
+  pub sound : old.broken ≡ false
+  pub listed : is_in (pass_of old.pass).listing name ≡ true
+  pub absent : is_in (names_of old.rows) name ≡ false
+
+-- the name is awaited, but the log has no room
+pub record IsShut {K : Type 0} (name : NameFacts) (old : StateFacts K) : Type 0 where
+  pub awaited : IsAwaited name old
+  pub full : length old.log ≡ LOG_LIMIT
+
+-- the name is awaited, and the log has room
+pub record HasRoom {K : Type 0} (name : NameFacts) (old : StateFacts K) : Type 0 where
+  pub awaited : IsAwaited name old
+  pub room : length old.log < LOG_LIMIT
+
+-- the name of a row that stands leaves the pass
+pub record Leaves {K : Type 0} (name : NameFacts) (old new : StateFacts K) : Type 0 where
+  pub known : IsKnown name old
+  pub after : new ≡ record old { pass = option_map (left name) old.pass }
+
+-- memory was refused; what contracts know of the keeper stays too
+pub record FindsNoMemory {K : Type 0} (m : Meanings K) (row : RowFacts) (old new : StateFacts K) : Type 0 where
+  pub can : HasRoom row.name old
+  pub keeper : IsLeftAlone m old.keeper new.keeper
+  pub same : new ≡ record old { keeper = new.keeper }
+
+-- the keeper failed to put the row: a void drop is listed, and the index is broken
+pub record Breaks {K : Type 0} (m : Meanings K) (row : RowFacts) (old new : StateFacts K) : Type 0 where
+  pub can : HasRoom row.name old
+  pub keeper : IsPut m row old.keeper new.keeper Failed
+  pub after : new ≡ record old { log = old.log ++ drop_of row.name ∷ []; broken = true; keeper = new.keeper }
+
+-- the keeper has the row, the row stands, its put is listed, and its name leaves the pass
+pub record Stores {K : Type 0} (m : Meanings K) (row : RowFacts) (old new : StateFacts K) : Type 0 where
+  pub can : HasRoom row.name old
+  pub keeper : IsPut m row old.keeper new.keeper Done
+  pub after : new ≡ record old { rows = with_row row old.rows; log = old.log ++ put_of row.name ∷ []; pass = option_map (left row.name) old.pass; keeper = new.keeper }
+
+-- the row stands, and its path had none
+pub record Adds {K : Type 0} (m : Meanings K) (row : RowFacts) (old new : StateFacts K) : Type 0 where
+  pub stored : Stores m row old new
+  pub fresh : stamp_at (names_of old.rows) row.name.path ≡ None
+
+-- the row stands in place of its path's
+pub record Replaces {K : Type 0} (m : Meanings K) (row : RowFacts) (old new : StateFacts K) : Type 0 where
+  pub stored : Stores m row old new
+  pub stood : IsSome (stamp_at (names_of old.rows) row.name.path)
+
+-- a row is published, or not
+abbrev pub Publishes : {K : Type 0} → Meanings K → RowFacts → StateFacts K → Published → StateFacts K → Type 0
+Publishes m row old Broken new = Stays (old.broken ≡ true) old new
+Publishes m row old (NotListed listed) new = Stays (IsUnlisted row.name listed old) old new
+Publishes m row old Already new = Leaves row.name old new
+Publishes m row old LogFull new = Stays (IsShut row.name old) old new
+Publishes m row old OutOfMemory new = FindsNoMemory m row old new
+Publishes m row old KeeperFault new = Breaks m row old new
+Publishes m row old Added new = Adds m row old new
+Publishes m row old Replaced new = Replaces m row old new
+
+-- the event happened, this was answered, and the first state became the second
+abbrev pub Step : {K : Type 0} → Meanings K → StateFacts K → Event → Answer → StateFacts K → Type 0
+Step m old (begins listing roots) (to_begin answer) new = Begins listing roots old answer new
+Step m old takes (to_take answer) new = TakesNext old answer new
+Step m old (publishes row) (to_publish answer) new = Publishes m row old answer new
+Step m old _ _ new = ⊥

@@ -1,0 +1,84 @@
+//! What an index answers.
+
+use row_types::Stamp;
+
+/// Why an index could not be opened.
+#[derive(Clone, Copy, Debug, PartialEq, Eq)]
+pub enum OpenFault {
+    /// The keeper failed.
+    KeeperFault,
+    /// The store gives a value. Reading it isn't built yet.
+    NotBuilt,
+    /// There was not enough memory.
+    OutOfMemory,
+}
+
+/// What a pass has to do, counted against the rows as it begins.
+#[derive(Clone, Copy, Debug, PartialEq, Eq)]
+pub struct Plan {
+    /// The listed names.
+    pub files: u64,
+    /// The listed paths without a row.
+    pub add: u64,
+    /// The listed paths whose row has another stamp.
+    pub replace: u64,
+    /// The rows whose path isn't listed.
+    pub drop: u64,
+    /// The listed names that are rows' names.
+    pub keep: u64,
+}
+
+/// What came of beginning a pass.
+#[derive(Clone, Copy, Debug, PartialEq, Eq)]
+pub enum Begun {
+    /// It has begun.
+    Begun(Plan),
+    /// The index is broken.
+    Broken,
+    /// There was not enough memory, and the index is as it was.
+    OutOfMemory,
+}
+
+/// What came of publishing a row. The refusals are looked for in the order broken, not listed, already there, log
+/// full, memory, keeper.
+#[derive(Clone, Copy, Debug, PartialEq, Eq)]
+pub enum Published {
+    /// The row stands, and its path had none.
+    Added,
+    /// The row stands in place of one of another stamp.
+    Replaced,
+    /// A row of this name stands.
+    Already,
+    /// The name isn't listed.
+    NotListed {
+        /// The stamp under which its path is listed.
+        listed: Option<Stamp>,
+    },
+    /// The index is broken.
+    Broken,
+    /// The log has no room.
+    LogFull,
+    /// The keeper failed, and the index is broken from now on.
+    KeeperFault,
+    /// There was not enough memory, and the index is as it was.
+    OutOfMemory,
+}
+
+/// How an index stands.
+#[derive(Clone, Copy, Debug, PartialEq, Eq)]
+pub struct Standing {
+    /// The names that are to be read.
+    pub todo: u64,
+    /// The names that were handed out.
+    pub out: u64,
+    /// The names that are to be looked for.
+    pub groom: u64,
+    /// The names that were missed.
+    pub missed: u64,
+    /// The changes of the log.
+    pub log: u64,
+    /// The rows.
+    pub rows: u64,
+    /// Whether the index is broken.
+    pub broken: bool,
+}

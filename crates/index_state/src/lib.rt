@@ -1,0 +1,19 @@
+//! The state of an index: rows with their log, the keeper of their store, and the pass that is under way, which
+//! change together in one step. Loading files, locks and printing stand in the crates above.
+#![tactic(auto)]
+
+mod answer;
+mod begin;
+mod look;
+mod open_pass;
+mod opening;
+mod plan;
+mod publish;
+mod state;
+mod stored;
+#[cfg(test)]
+mod tests;
+
+pub use answer::{Begun, OpenFault, Plan, Published, Standing};
+pub use opening::open_state;
+pub use state::State;

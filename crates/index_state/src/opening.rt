@@ -1,0 +1,56 @@
+//! Opening an index on the keeper of a store.
+
+ghost use Rattle.std.specs.Prelude.{◌≡◌, [], IfOk, IfErr, IsTrue};
+ghost use Rattle.index_state.specs.Invariant.{IndexInvariant};
+ghost use Rattle.index_state.specs.Keeping.{meanings};
+ghost use Rattle.index_state.specs.Opening.{IsSettled, Opens, Refuses, opened_on};
+
+use crate::answer::OpenFault;
+use crate::state::State;
+use index_keeper::{Keeper, KeptAnswer};
+use index_rows::Rows;
+use row_types::Truth;
+use std::alloc::Global;
+
+/// Opens the index whose store this keeper has. For now a store that gives values is refused.
+pub fn open_state<W: Truth, K: Keeper<W>>(
+    alloc: Global,
+    keeper: K,
+) -> Result<State<W, K>, (OpenFault, K)>
+    requires { IsSettled (meanings K.told K.tables K.images K.made K.faults K.epoch) keeper }
+    ensures ok { IfOk result (λ state. Opens (meanings K.told K.tables K.images K.made K.faults K.epoch) keeper state) }
+    ensures keeps { IfOk result (λ state. IndexInvariant W.true_row (meanings K.told K.tables K.images K.made K.faults K.epoch) state) }
+    ensures err { IfErr result (λ refusal. Refuses (meanings K.told K.tables K.images K.made K.faults K.epoch) keeper refusal.0 refusal.1) }
+{
+    let mut keeper = keeper;
+    match keeper.rows(alloc) {
+        KeptAnswer::All(kept) => {
+            if kept.is_empty() {
+                Ok(empty_state(alloc, keeper))
+            } else {
+                Err((OpenFault::NotBuilt, keeper))
+            }
+        }
+        KeptAnswer::Failed => Err((OpenFault::KeeperFault, keeper)),
+        KeptAnswer::OutOfMemory => Err((OpenFault::OutOfMemory, keeper)),
+    }
+}
+
+/// The index without rows.
+fn empty_state<W: Truth, K: Keeper<W>>(alloc: Global, keeper: K) -> State<W, K>
+    requires settled { IsSettled (meanings K.told K.tables K.images K.made K.faults K.epoch) keeper }
+    requires empty { IsTrue K.told → K.tables keeper ≡ [] }
+    ensures value { result ≡ opened_on (meanings K.told K.tables K.images K.made K.faults K.epoch) keeper }
+    ensures keeps { IndexInvariant W.true_row (meanings K.told K.tables K.images K.made K.faults K.epoch) result }
+{
+    let epoch = keeper.epoch();
+    State {
+        rows: Rows::new(alloc),
+        keeper,
+        pass: None,
+        roots: Vec::new(alloc),
+        broken: false,
+        epoch,
+        first_puts: 0,
+    }
+}
