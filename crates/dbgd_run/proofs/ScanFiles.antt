@@ -1,6 +1,6 @@
 -- The files of a listing, one after the other.
 use Rattle.std.proofs.Common.{◌≡◌, ℕ, ◌≤◌, Bool, true, false, List, [], ◌∷◌, ◌++◌, map, length, refl, sym, ◌∙◌, ap, subst, Option, Some, None, IsTrue, arith, inl, inr, length-append}
-use Rattle.std.specs.Prelude.{IfSome, option_map}
+use Rattle.std.specs.Prelude.{IfSome, option_map, Result, Ok, Err}
 use Rattle.std.specs.List.{All}
 use Rattle.std.proofs.lemmas.List.{length-map}
 use Rattle.std.proofs.lemmas.List.Elements.{All-nil, All-cons, All-weaker}
@@ -25,7 +25,7 @@ use Rattle.index_state.specs.State.{StateFacts, pass_of}
 use Rattle.index_state.specs.Step.{Breaks, FindsNoMemory, FindsNone, HandsOut, IsAwaited, IsShut, Stays, Stores, TakesNext}
 use Rattle.dbgd_run.specs.Load.{Hand}
 use Rattle.dbgd_run.specs.Scan.{EndsWanting, FileRead, FindsOther, IsFileRead, LoadsFiles, Reads, load_of, loads_read, names_read, rows_read}
-use Rattle.dbgd_run.specs.ScanSteps.{DoesNext, FilesEnd, HasRead, HasReadAll, IsBegun, IsPassOver, KeepsFiles, LoadsNext, ReadsThen, TearsFiles}
+use Rattle.dbgd_run.specs.ScanSteps.{DoesNext, FilesEnd, HasRead, HasReadAll, IsBegun, IsPassOver, KeepsFiles, KeepsNext, LeadsTo, LoadsNext, ReadsThen, TearsFiles}
 use Rattle.dbgd_run.specs.Setting.{Rules}
 use Rattle.dbgd_run.specs.declared.scan_end.ScanEnd.{ScanEnd}
 use Rattle.dbgd_run.specs.declared.scan_end.ScanEnd.TheVariants.{Unopened, Filled, Unlisted, Unread, Altered, Unkept, Full, OutOfMemory, Whole}
@@ -286,3 +286,30 @@ stop_keeper m old mid new name answer OutOfMemory later (inl does) =
 stop_keeper m old mid new name answer OutOfMemory later (inr does) =
     record { later = let same = does.next.keeper.faultless in omega arith; rose = λ e. absurd (cc) }
 stop_keeper m old mid new name answer (Whole summary) later does = absurd does
+
+-- what comes of the row that a load gave
+pub keeps_does : {K : Type 0} (m : Meanings K) (name : NameFacts) (answer : LoadFacts) (row : RowFacts) (old new : StateFacts K) (r : Option ScanEnd)
+    → Reads name answer row → KeepsNext m row old new r → DoesNext m name answer old new r
+keeps_does m name answer row old new None reads next = record { row = row; reads = reads; next = next }
+keeps_does m name answer row old new (Some Unopened) reads next = next
+keeps_does m name answer row old new (Some Filled) reads next = next
+keeps_does m name answer row old new (Some (Unlisted fault)) reads next = next
+keeps_does m name answer row old new (Some Unread) reads next = absurd next
+keeps_does m name answer row old new (Some (Altered listed met)) reads next = absurd next
+keeps_does m name answer row old new (Some Unkept) reads next = record { row = row; reads = reads; next = next }
+keeps_does m name answer row old new (Some Full) reads next = record { row = row; reads = reads; next = next }
+keeps_does m name answer row old new (Some OutOfMemory) reads next = inr (record { row = row; reads = reads; next = next })
+keeps_does m name answer row old new (Some (Whole summary)) reads next = next
+
+-- what comes of a load that gave no row
+pub leads_does : {K : Type 0} (m : Meanings K) (name : NameFacts) (answer : LoadFacts) (state : StateFacts K) (end : ScanEnd)
+    → LeadsTo name answer (Err end) → DoesNext m name answer state state (Some end)
+leads_does m name answer state Unopened leads = leads
+leads_does m name answer state Filled leads = leads
+leads_does m name answer state (Unlisted fault) leads = leads
+leads_does m name answer state Unread leads = record { why = leads; same = refl }
+leads_does m name answer state (Altered listed met) leads = record { why = leads; same = refl }
+leads_does m name answer state Unkept leads = absurd leads
+leads_does m name answer state Full leads = absurd leads
+leads_does m name answer state OutOfMemory leads = inl (record { why = leads; same = refl })
+leads_does m name answer state (Whole summary) leads = leads

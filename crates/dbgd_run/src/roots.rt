@@ -54,8 +54,16 @@ impl<'a> Roots<'a> {
 }
 
 /// Whether each word names a folder that can be scanned.
+#[tactic(auto, using(crate::proofs::RootLemmas::each_root))]
 fn are_roots(words: &[String]) -> bool
     ensures { result ≡ list_all is_root (map string_bytes words.now) }
+{
+    each_is_root(words)
+}
+
+/// The same, by the words themselves.
+fn each_is_root(words: &[String]) -> bool
+    ensures { result ≡ list_all (λ word. is_root (string_bytes word)) words.now }
 {
     words.iter().all(|word| is_root(word.as_str()))
 }

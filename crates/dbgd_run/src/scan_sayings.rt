@@ -136,11 +136,12 @@ pub fn say_end<O: Sink>(alloc: Global, end: &ScanEnd, out: &mut O, err: &mut O) 
         (streams O.written O.write_faults out.new err.new) (code_of result) }
 {
     match end {
-        ScanEnd::Unopened | ScanEnd::Unkept => speak(out, err, &STORE_FAULT),
+        ScanEnd::Unopened => speak(out, err, &STORE_FAULT),
         ScanEnd::Filled => speak(out, err, &NOT_BUILT),
         ScanEnd::Unlisted(fault) => say_walk(fault, out, err),
         ScanEnd::Unread => speak(out, err, &FILE_FAULT),
         ScanEnd::Altered { name, seen } => say_altered(alloc, name, seen, out, err),
+        ScanEnd::Unkept => speak(out, err, &STORE_FAULT),
         ScanEnd::Full => speak(out, err, &CHANGES_LIMIT),
         ScanEnd::OutOfMemory => speak(out, err, &NO_MEMORY),
         ScanEnd::Whole(summary) => say_summary(alloc, summary, out, err),

@@ -1,7 +1,6 @@
 //! The texts of a scan.
 
-ghost use Rattle.std.specs.Prelude.{◌≡◌, ◌++◌, codes, decimal, IfOk, OnOk};
-ghost use Rattle.std.specs.Fmt.{signed_decimal};
+ghost use Rattle.std.specs.Prelude.{◌≡◌, ◌++◌, ◌≤◌, decimal, replicate, IfOk, OnOk};
 ghost use Rattle.std.specs.String.{string_bytes};
 ghost use Rattle.dbgd_run.specs.Texts.{altered_line, line, nine_digits, seen_text, stamp_text, summary_line};
 
@@ -11,11 +10,34 @@ use row_types::{Name, Stamp};
 use scan_queue::Seen;
 use std::alloc::{AllocError, Global};
 
+/// So many zeros.
+fn zeros(count: usize) -> &'static str
+    requires { count ≤ 9 }
+    ensures { result.now ≡ replicate count 48 }
+{
+    match count {
+        0 => "",
+        1 => "0",
+        2 => "00",
+        3 => "000",
+        4 => "0000",
+        5 => "00000",
+        6 => "000000",
+        7 => "0000000",
+        8 => "00000000",
+        _ => "000000000",
+    }
+}
+
 /// A number in nine digits.
 fn nine_digits(alloc: Global, number: u32) -> Result<String, AllocError>
     ensures { IfOk result (λ text. string_bytes text ≡ nine_digits number) }
 {
-    format!(in alloc; "{number:09}")
+    let mut buffer = Buffer::new();
+    let digits = buffer.format(number);
+    let mut text = String::from_str(alloc, zeros(9usize.saturating_sub(digits.len())))?;
+    text.push_str(digits)?;
+    Ok(text)
 }
 
 /// A stamp: size, seconds, and nanoseconds in nine digits.
