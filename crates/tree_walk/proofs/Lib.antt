@@ -1,0 +1,11 @@
+pub mod AnswerLemmas
+pub mod EndLemmas
+pub mod FileLemmas
+pub mod GoesLemmas
+pub mod PathLemmas
+pub mod PresentLemmas
+pub mod ReachLemmas
+pub mod RootLemmas
+pub mod SetLemmas
+pub mod StepLemmas
+pub mod WalkLemmas

@@ -1,0 +1,270 @@
+-- The listing of a tree that is told and still: the files that are there under the roots.
+use Rattle.std.proofs.Common.{◌≡◌, ℕ, ◌+◌, ◌≤◌, ◌<◌, ◌||◌, ◌&&◌, ◌⊎◌, inl, inr, Bool, true, false, not, cond, List, [], ◌∷◌, ◌++◌, length, drop, map, Option, Some, None, option_map, is_some, IsSome, All, Contains, IsTrue, refl, sym, ◌∙◌, ap, subst, append_assoc, length-append, arith}
+use Rattle.std.specs.Prelude.{◌==◌}
+use Rattle.std.specs.List.{list_any, list_all, find, join_with_byte}
+use Rattle.std.specs.Str.{bytes_eq}
+use Rattle.std.proofs.lemmas.Bool.{false≢true, false_from_ne_true, not-true, and_parts, and_from, or_cases, or_left, or_right}
+use Rattle.std.proofs.lemmas.List.{get_or-map, length-map}
+use Rattle.std.proofs.lemmas.List.Elements.{All-contains, Contains-append_right, Contains-append_cases, Contains-push_cases}
+use Rattle.std.proofs.lemmas.List.Folds.{list_any_at}
+use Rattle.std.proofs.lemmas.List.Splits.{join_with_byte-slice_split, length-slice_split}
+use Rattle.std.proofs.lemmas.List.Sums.{AllPass-from_list_all}
+use Rattle.std.proofs.lemmas.Option.{none-some, same_Some}
+use Rattle.std.proofs.lemmas.Slice.Eq.{bytes_eq-Decides}
+use Rattle.row_types.specs.Canon.{pieces, IsCanonPath}
+use Rattle.row_types.specs.Name.{NameFacts}
+use Rattle.row_types.specs.Stamp.{StampFacts}
+use Rattle.row_types.specs.declared.limits.TheConstants.{PATH_LIMIT, SEPARATOR}
+use Rattle.tree_trait.specs.Dir.{DirFacts, listed, no_dir, dir_failed, dir_no_memory, child, makes, is_there, TellsDir}
+use Rattle.tree_trait.specs.Entry.{EntryFacts, is_entry_name, has_no_slash, has_entry}
+use Rattle.tree_trait.specs.Heard.{Heard, stat, read_dir}
+use Rattle.tree_trait.specs.Present.{stamp_at, are_distinct, are_apart, front_under, lies_under, is_folder}
+use Rattle.tree_trait.specs.Stat.{TellsStat}
+use Rattle.tree_trait.specs.declared.entry.EntryKind.TheVariants as kind
+use Rattle.tree_trait.specs.declared.stat.StatAnswer.{StatAnswer}
+use Rattle.tree_trait.specs.declared.stat.StatAnswer.TheVariants.{Folder, File, Other, Gone, Failed, OutOfMemory}
+use Rattle.tree_walk.specs.Answers.{is_look_answer, is_dir_answer, look_at, reading_of, first_look, first_reading, entries_of, entries_in}
+use Rattle.tree_walk.specs.Ends.{IsWhole}
+use Rattle.tree_walk.specs.Files.{is_within, IsFileUnder, AreFilesUnder, IsTold}
+use Rattle.tree_walk.specs.Walked.{IsNamed, IsReached, root, entry, IsEntry, IsFolder, IsCandidate, IsWalked, IsFull}
+use Rattle.tree_walk.specs.declared.walked.Walk.{Walk}
+use Rattle.tree_walk.proofs.AnswerLemmas.{place_of_first, look_says, reading_says}
+use Rattle.tree_walk.proofs.PathLemmas.{front_of_longer, front_begins, starts_rest, within_child, under_from_front, names_after}
+use Rattle.tree_walk.proofs.ReachLemmas.{look_was_due}
+
+-- some element that passes, and what all pass
+any_from_Contains : {X : Type 0} (p : X → Bool) (xs : List X) (x : X) → Contains xs x → p x ≡ true → list_any p xs ≡ true
+any_from_Contains p xs x c h = list_any_at p xs c.0 x c.1 (subst (λ z. p z ≡ true) (sym c.2) h)
+
+all_at : {X : Type 0} (p : X → Bool) (xs : List X) (x : X) → list_all p xs ≡ true → Contains xs x → p x ≡ true
+all_at p xs x h c = subst (λ z. p z ≡ true) c.2 (AllPass-from_list_all p xs h c.0 x c.1)
+
+any_more : {X : Type 0} (p q : X → Bool) (xs : List X) → ((x : X) → p x ≡ true → q x ≡ true) → list_any p xs ≡ true → list_any q xs ≡ true
+any_more p q [] f h = h
+any_more p q (x ∷ xs) f h =
+    elim (or_cases (p x) (list_any p xs) h) [ inl here ↦ or_left (q x) (list_any q xs) (f x here) | inr later ↦ or_right (q x) (list_any q xs) (any_more p q xs f later) ]
+
+-- a root under which a path lies
+any_root : {X : Type 0} (p : X → Bool) (xs : List X) → list_any p xs ≡ true → (x : X) × Contains xs x × (p x ≡ true)
+any_root p [] h = absurd (false≢true h)
+any_root p (x ∷ xs) h =
+    elim (or_cases (p x) (list_any p xs) h) [
+      | inl here ↦ (x, (0, omega arith, refl), here)
+      | inr later ↦ let found = any_root p xs later in (found.0, Contains-append_right (x ∷ []) xs found.0 found.1, found.2)
+    ]
+
+path_there : (names : List NameFacts) (name : NameFacts) → Contains names name → Contains (map (λ n. n.path) names) name.path
+path_there names name c =
+    (c.0, subst (λ (n : ℕ). c.0 < n) (sym (length-map names (λ (n : NameFacts). n.path))) c.1,
+    get_or-map (λ (n : NameFacts). n.path) names c.0 name name.path c.1 ∙ ap (λ (n : NameFacts). n.path) c.2)
+
+-- the file at a path
+pub file_found : (names : List NameFacts) (path : List ℕ) (stamp : StampFacts) → stamp_at names path ≡ Some stamp → Contains names (record { path = path; stamp = stamp })
+file_found [] path stamp h = absurd (none-some stamp h)
+file_found (n ∷ names) path stamp h =
+    elim (bytes_eq n.path path) as (λ v. bytes_eq n.path path ≡ v → option_map (λ (m : NameFacts). m.stamp) (cond v (Some n) (find (λ m. bytes_eq m.path path) names)) ≡ Some stamp → Contains (n ∷ names) (record { path = path; stamp = stamp })) [
+      | true ↦ λ e t.
+          let same : n ≡ record { path = path; stamp = stamp } =
+          ap (λ (p : List ℕ). record { path = p; stamp = n.stamp }) ((bytes_eq-Decides n.path path).0 e) ∙ ap (λ (s : StampFacts). record { path = path; stamp = s }) (same_Some n.stamp stamp t) in
+          (0, omega arith, same)
+      | false ↦ λ e t. Contains-append_right (n ∷ []) names (record { path = path; stamp = stamp }) (file_found names path stamp t)
+    ] refl h
+
+pub file_stamp : (names : List NameFacts) (name : NameFacts) → are_distinct (map (λ n. n.path) names) ≡ true → Contains names name → stamp_at names name.path ≡ Some name.stamp
+file_stamp [] name distinct c = absurd (let lt = c.1 in omega arith)
+file_stamp (n ∷ names) name distinct c =
+    let parts = and_parts (not (list_any (λ other. bytes_eq other n.path) (map (λ (m : NameFacts). m.path) names))) (are_distinct (map (λ (m : NameFacts). m.path) names)) distinct in
+    elim (Contains-append_cases (n ∷ []) names name c) [
+      | inl here ↦ elim (Contains-push_cases [] n name here) [
+        | inl none ↦ absurd (let lt = none.1 in omega arith)
+        | inr one ↦ ap (λ (b : Bool). option_map (λ (m : NameFacts). m.stamp) (cond b (Some n) (find (λ m. bytes_eq m.path name.path) names))) ((bytes_eq-Decides n.path name.path).1 (ap (λ (m : NameFacts). m.path) one))
+            ∙ ap (λ (m : NameFacts). Some m.stamp) one
+      ]
+      | inr later ↦
+          let none : list_any (λ other. bytes_eq other n.path) (map (λ (m : NameFacts). m.path) names) ≡ false = not-true _ parts.0 in
+          let other : bytes_eq n.path name.path ≡ false = false_from_ne_true (bytes_eq n.path name.path)
+          (λ t. false≢true (sym none ∙ any_from_Contains (λ other. bytes_eq other n.path) (map (λ (m : NameFacts). m.path) names) name.path (path_there names name later) ((bytes_eq-Decides name.path n.path).1 (sym ((bytes_eq-Decides n.path name.path).0 t))))) in
+          ap (λ (b : Bool). option_map (λ (m : NameFacts). m.stamp) (cond b (Some n) (find (λ m. bytes_eq m.path name.path) names))) other ∙ file_stamp names name parts.1 later
+    ]
+
+-- what the answers say of the tree
+told_look : (present : List NameFacts) (answers : List Heard) → All (IsTold present) answers → (path : List ℕ) (answer : StatAnswer) → first_look answers path ≡ Some answer → TellsStat present path answer × (is_look_answer answer ≡ true)
+told_look present answers told path answer h =
+    let at = place_of_first (look_at path) answers answer h in
+    let says = look_says path at.0 answer at.2 in
+    (subst (IsTold present) says.0 (All-contains (IsTold present) answers at.0 told at.1), says.1)
+
+told_reading : (present : List NameFacts) (answers : List Heard) → All (IsTold present) answers → (path : List ℕ) (answer : DirFacts) → first_reading answers path ≡ Some answer → TellsDir present path answer × (is_dir_answer answer ≡ true)
+told_reading present answers told path answer h =
+    let at = place_of_first (reading_of path) answers answer h in
+    let says = reading_says path at.0 answer at.2 in
+    (subst (IsTold present) says.0 (All-contains (IsTold present) answers at.0 told at.1), says.1)
+
+-- a look at a file finds it
+look_finds : (present : List NameFacts) (path : List ℕ) (stamp : StampFacts) (answer : StatAnswer) → stamp_at present path ≡ Some stamp → TellsStat present path answer → is_look_answer answer ≡ true → answer ≡ File stamp
+look_finds present path stamp Folder at t ok = absurd (none-some stamp (sym t.no_file ∙ at))
+look_finds present path stamp (File found) at t ok = ap (λ (s : StampFacts). File s) (same_Some found stamp (sym t ∙ at))
+look_finds present path stamp Other at t ok = absurd t
+look_finds present path stamp Gone at t ok = absurd (none-some stamp (sym t.no_file ∙ at))
+look_finds present path stamp Failed at t ok = absurd (false≢true ok)
+look_finds present path stamp OutOfMemory at t ok = absurd (false≢true ok)
+
+-- what lies under the reached paths lies under a root
+reached_within : (answers : List Heard) (roots : List (List ℕ)) (path : List ℕ) → IsReached answers roots path → list_any (λ r. is_within r path) roots ≡ true
+reached_within answers roots path (root p c) = any_from_Contains (λ r. is_within r path) roots path c (or_left (bytes_eq path path) (lies_under path path) ((bytes_eq-Decides path path).1 refl))
+reached_within answers roots path (entry folder p k r n) =
+    subst (λ (q : List ℕ). list_any (λ z. is_within z q) roots ≡ true) (sym n.joined)
+    (any_more (λ z. is_within z folder) (λ z. is_within z (child folder n.name)) roots (λ z h. within_child z folder n.name h) (reached_within answers roots folder r))
+
+candidate_within : (answers : List Heard) (roots : List (List ℕ)) (path : List ℕ) → IsCandidate answers roots path → list_any (λ r. is_within r path) roots ≡ true
+candidate_within answers roots path (inl r) = reached_within answers roots path (root path r)
+candidate_within answers roots path (inr e) = reached_within answers roots path (entry e.folder path kind.File e.reached e.named)
+
+-- a folder's entries are those that stand there
+entries_told : (present : List NameFacts) (folder : List ℕ) (answer : DirFacts) (e : EntryFacts) → TellsDir present folder answer → is_dir_answer answer ≡ true → is_folder present folder ≡ true → is_entry_name e.name ≡ true → is_there present folder e ≡ true → has_entry (entries_of (Some answer)) e ≡ true
+entries_told present folder (listed entries skipped) e t ok some valid there = t.listing.all e valid there
+entries_told present folder no_dir e t ok some valid there = absurd (false≢true (sym t ∙ some))
+entries_told present folder dir_failed e t ok some valid there = absurd (false≢true ok)
+entries_told present folder dir_no_memory e t ok some valid there = absurd (false≢true ok)
+
+named_told : (present : List NameFacts) (answers : List Heard) (folder : List ℕ) (e : EntryFacts) → All (IsTold present) answers → IsSome (first_reading answers folder) → is_folder present folder ≡ true → is_entry_name e.name ≡ true → is_there present folder e ≡ true → has_entry (entries_in answers folder) e ≡ true
+named_told present answers folder e told read some valid there =
+    elim (first_reading answers folder) as (λ o. first_reading answers folder ≡ o → IsSome o → has_entry (entries_of o) e ≡ true) [
+      | None ↦ λ h r. absurd (false≢true r)
+      | Some answer ↦ λ h r. let says = told_reading present answers told folder answer h in entries_told present folder answer e says.0 says.1 some valid there
+    ] refl read
+
+-- from a folder down to a file, name by name
+name_some : (name : List ℕ) → is_entry_name name ≡ true → 1 ≤ length name
+name_some [] h = absurd (false≢true h)
+name_some (b ∷ rest) h = omega arith
+
+joined_some : (name : List ℕ) (more : List (List ℕ)) → is_entry_name name ≡ true → 1 ≤ length (join_with_byte SEPARATOR (name ∷ more))
+joined_some name [] h = name_some name h
+joined_some name (next ∷ more) h =
+    let whole : length (name ++ (SEPARATOR ∷ join_with_byte SEPARATOR (next ∷ more))) ≡ length name + length (SEPARATOR ∷ join_with_byte SEPARATOR (next ∷ more)) = length-append name (SEPARATOR ∷ join_with_byte SEPARATOR (next ∷ more)) in
+    omega (arith, whole, name_some name h)
+
+front_some : (folder : List ℕ) → 1 ≤ length (front_under folder)
+front_some [] = omega arith
+front_some (b ∷ rest) =
+    let begins = front_begins (b ∷ rest) in
+    let whole : length (front_under (b ∷ rest)) ≡ length ((b ∷ rest) ++ begins.0) = ap length begins.1 in
+    let parts : length ((b ∷ rest) ++ begins.0) ≡ length (b ∷ rest) + length begins.0 = length-append (b ∷ rest) begins.0 in
+    omega (arith, whole, parts)
+
+down : (present : List NameFacts) (answers : List Heard) (roots : List (List ℕ)) (file : NameFacts) → All (IsTold present) answers → IsFull answers roots → Contains present file → length file.path ≤ PATH_LIMIT
+    → (folder name : List ℕ) (more : List (List ℕ)) → list_all is_entry_name (name ∷ more) ≡ true → file.path ≡ front_under folder ++ join_with_byte SEPARATOR (name ∷ more) → IsReached answers roots folder → IsSome (first_reading answers folder)
+    → IsEntry answers roots kind.File file.path
+down present answers roots file told full there short folder name [] valid e reached read =
+    let named : is_entry_name name ≡ true = (and_parts (is_entry_name name) true valid).0 in
+    let under : lies_under folder file.path ≡ true = under_from_front folder file.path name e (name_some name named) in
+    let some : is_folder present folder ≡ true = any_from_Contains (λ n. lies_under folder n.path) present file there under in
+    let stands : is_there present folder (record { name = name; kind = kind.File }) ≡ true =
+    any_from_Contains (λ n. makes kind.File (child folder name) n.path) present file there ((bytes_eq-Decides file.path (child folder name)).1 e) in
+    record {
+      folder = folder;
+      reached = reached;
+      named = record { name = name; listed = named_told present answers folder (record { name = name; kind = kind.File }) told read some named stands; joined = e };
+    }
+down present answers roots file told full there short folder name (next ∷ more) valid e reached read =
+    let parts = and_parts (is_entry_name name) (list_all is_entry_name (next ∷ more)) valid in
+    let rest : List ℕ = join_with_byte SEPARATOR (next ∷ more) in
+    let long : length (child folder name) ≡ length (front_under folder) + length name = length-append (front_under folder) name in
+    let front : front_under (child folder name) ≡ child folder name ++ SEPARATOR ∷ [] =
+    front_of_longer (child folder name) (omega (arith, long, name_some name parts.0, front_some folder)) in
+    let below : file.path ≡ front_under (child folder name) ++ rest =
+    e ∙ sym (append_assoc (front_under folder) name (SEPARATOR ∷ rest)) ∙ sym (append_assoc (child folder name) (SEPARATOR ∷ []) rest) ∙ ap (λ (f : List ℕ). f ++ rest) (sym front) in
+    let next_valid : is_entry_name next ≡ true = (and_parts (is_entry_name next) (list_all is_entry_name more) parts.1).0 in
+    let under : lies_under (child folder name) file.path ≡ true = under_from_front (child folder name) file.path rest below (joined_some next more next_valid) in
+    let above : lies_under folder file.path ≡ true = under_from_front folder file.path (join_with_byte SEPARATOR (name ∷ next ∷ more)) e (joined_some name (next ∷ more) parts.0) in
+    let some : is_folder present folder ≡ true = any_from_Contains (λ n. lies_under folder n.path) present file there above in
+    let stands : is_there present folder (record { name = name; kind = kind.Folder }) ≡ true =
+    any_from_Contains (λ n. makes kind.Folder (child folder name) n.path) present file there under in
+    let named : IsNamed answers folder kind.Folder (child folder name) = record { name = name; listed = named_told present answers folder (record { name = name; kind = kind.Folder }) told read some parts.0 stands; joined = refl } in
+    let whole : length file.path ≡ length (front_under (child folder name) ++ rest) = ap length below in
+    let split : length (front_under (child folder name) ++ rest) ≡ length (front_under (child folder name)) + length rest = length-append (front_under (child folder name)) rest in
+    let front_long : length (front_under (child folder name)) ≡ length (child folder name ++ SEPARATOR ∷ []) = ap length front in
+    let front_parts : length (child folder name ++ SEPARATOR ∷ []) ≡ length (child folder name) + 1 = length-append (child folder name) (SEPARATOR ∷ []) in
+    let child_short : length (child folder name) ≤ PATH_LIMIT = omega (arith, whole, split, front_long, front_parts, short) in
+    down present answers roots file told full there short (child folder name) next more parts.1 below
+    (entry folder (child folder name) kind.Folder reached named)
+    (full.folders (child folder name) (inr (record { folder = folder; reached = reached; named = named })) child_short)
+
+-- the pieces of what follows a folder
+by_pieces : (folder path rest : List ℕ) (P : Type 0) → path ≡ front_under folder ++ rest → list_all is_entry_name (pieces rest) ≡ true
+    → ((name : List ℕ) (more : List (List ℕ)) → list_all is_entry_name (name ∷ more) ≡ true → path ≡ front_under folder ++ join_with_byte SEPARATOR (name ∷ more) → P) → P
+by_pieces folder path rest P e valid f =
+    elim (pieces rest) as (λ ps. pieces rest ≡ ps → list_all is_entry_name ps ≡ true → P) [
+      | [] ↦ λ h v. absurd (let all : length (pieces rest) ≡ _ = length-slice_split (λ b. b == SEPARATOR) rest in let none : length (pieces rest) ≡ 0 = ap length h in omega (arith, all, none))
+      | name ∷ more ↦ λ h v. f name more v (e ∙ ap (λ (t : List ℕ). front_under folder ++ t) (sym (join_with_byte-slice_split SEPARATOR rest) ∙ ap (join_with_byte SEPARATOR) h))
+    ] refl valid
+
+-- a root above a file is a folder
+root_is_folder : (present : List NameFacts) (path : List ℕ) (file : NameFacts) (answer : StatAnswer) → are_apart (map (λ n. n.path) present) ≡ true → Contains present file → lies_under path file.path ≡ true → TellsStat present path answer → is_look_answer answer ≡ true → answer ≡ Folder
+root_is_folder present path file Folder apart there under t ok = refl
+root_is_folder present path file (File stamp) apart there under t ok =
+    let paths : List (List ℕ) = map (λ (n : NameFacts). n.path) present in
+    let here : Contains paths path = path_there present (record { path = path; stamp = stamp }) (file_found present path stamp t) in
+    let none : list_any (lies_under path) paths ≡ false = not-true _ (all_at (λ folder. not (list_any (lies_under folder) paths)) paths path apart here) in
+    absurd (false≢true (sym none ∙ any_from_Contains (lies_under path) paths file.path (path_there present file there) under))
+root_is_folder present path file Other apart there under t ok = absurd t
+root_is_folder present path file Gone apart there under t ok = absurd (false≢true (sym t.no_folder ∙ any_from_Contains (λ n. lies_under path n.path) present file there under))
+root_is_folder present path file Failed apart there under t ok = absurd (false≢true ok)
+root_is_folder present path file OutOfMemory apart there under t ok = absurd (false≢true ok)
+
+-- each file under a root is reached
+candidate_from_under : (present : List NameFacts) (answers : List Heard) (roots : List (List ℕ)) (walk : Walk) (file : NameFacts) → IsWhole answers roots walk → All (IsTold present) answers → are_apart (map (λ n. n.path) present) ≡ true → Contains present file → IsCanonPath file.path
+    → (r : List ℕ) → Contains roots r → is_within r file.path ≡ true → IsCandidate answers roots file.path
+candidate_from_under present answers roots walk file w told apart there kept r at within =
+    elim (or_cases (bytes_eq file.path r) (lies_under r file.path) within) [
+      | inl one ↦ inl (subst (Contains roots) (sym ((bytes_eq-Decides file.path r).0 one)) at)
+      | inr under ↦ elim (first_look answers r) as (λ o. first_look answers r ≡ o → IsSome o → IsCandidate answers roots file.path) [
+        | None ↦ λ e h. absurd (false≢true h)
+        | Some answer ↦ λ e h.
+            let says = told_look present answers told r answer e in
+            let folder : answer ≡ Folder = root_is_folder present r file answer apart there under says.0 says.1 in
+            let root_kept : IsCanonPath r = (look_was_due answers roots w.once.due r answer e).1 in
+            let is_folder_r : IsFolder answers roots r = inl (record { root = at; folder = e ∙ ap (λ (a : StatAnswer). Some a) folder }) in
+            let rest : List ℕ = drop (length (front_under r)) file.path in
+            let below : file.path ≡ front_under r ++ rest = starts_rest (front_under r) file.path (and_parts _ _ under).0 in
+            inr (by_pieces r file.path rest (IsEntry answers roots kind.File file.path) below
+            (names_after r file.path rest root_kept.canonical kept.canonical below (not-true _ (and_parts _ _ under).1))
+            (λ name more valid split. down present answers roots file told w.full there kept.short r name more valid split (root r at) (w.full.folders r is_folder_r root_kept.short)))
+      ] refl (w.full.looked r at)
+    ]
+
+-- the listing is the files under the roots
+pub files_are : (present : List NameFacts) (answers : List Heard) (roots : List (List ℕ)) (walk : Walk) → IsWhole answers roots walk → All (IsTold present) answers
+    → (0 < length roots → (are_distinct (map (λ n. n.path) present) ≡ true) × (are_apart (map (λ n. n.path) present) ≡ true)) → AreFilesUnder present roots walk.listing
+files_are present answers roots walk w told known = record {
+  by_path = w.listing.by_path;
+  all = λ name. (λ c. listed_is_under name ((w.listing.all name).0 c), λ u. (w.listing.all name).1 (under_is_walked name u));
+}
+  where
+    listed_is_under : (name : NameFacts) → IsWalked answers roots name → IsFileUnder present roots name
+    listed_is_under name walked = record {
+      there = file_found present name.path name.stamp (told_look present answers told name.path (File name.stamp) walked.file).0;
+      under = candidate_within answers roots name.path walked.candidate;
+      kept = (look_was_due answers roots w.once.due name.path (File name.stamp) walked.file).1;
+    }
+
+    looked_as_file : (name : NameFacts) → are_distinct (map (λ n. n.path) present) ≡ true → Contains present name → IsSome (first_look answers name.path) → first_look answers name.path ≡ Some (File name.stamp)
+    looked_as_file name distinct there some =
+        elim (first_look answers name.path) as (λ o. first_look answers name.path ≡ o → IsSome o → o ≡ Some (File name.stamp)) [
+          | None ↦ λ e h. absurd (false≢true h)
+          | Some answer ↦ λ e h. let says = told_look present answers told name.path answer e in
+              ap (λ (a : StatAnswer). Some a) (look_finds present name.path name.stamp answer (file_stamp present name distinct there) says.0 says.1)
+        ] refl some
+
+    looked_is : (name : NameFacts) → IsCandidate answers roots name.path → length name.path ≤ PATH_LIMIT → IsSome (first_look answers name.path)
+    looked_is name (inl r) short = w.full.looked name.path r
+    looked_is name (inr e) short = w.full.files name.path e short
+
+    under_is_walked : (name : NameFacts) → IsFileUnder present roots name → IsWalked answers roots name
+    under_is_walked name u =
+        let at = any_root (λ r. is_within r name.path) roots u.under in
+        let some : 0 < length roots = let lt = at.1.1 in omega arith in
+        let facts = known some in
+        let candidate : IsCandidate answers roots name.path = candidate_from_under present answers roots walk name w told facts.1 u.there u.kept at.0 at.1 at.2 in
+        record { candidate = candidate; short = u.kept.short; file = looked_as_file name facts.0 u.there (looked_is name candidate u.kept.short) }

@@ -1,0 +1,54 @@
+-- What is reached by answers is reached by more of them.
+use Rattle.std.proofs.Common.{◌≡◌, ℕ, ◌≤◌, ◌⊎◌, inl, inr, List, ◌++◌, length, All, Contains, Some, subst}
+use Rattle.std.proofs.lemmas.List.Elements.{All-contains}
+use Rattle.row_types.specs.Canon.{IsCanonPath}
+use Rattle.tree_trait.specs.Heard.{Heard, load, stat, read_dir}
+use Rattle.tree_trait.specs.declared.entry.EntryKind.{EntryKind}
+use Rattle.tree_trait.specs.declared.entry.EntryKind.TheVariants as kind
+use Rattle.tree_trait.specs.declared.stat.StatAnswer.{StatAnswer}
+use Rattle.tree_trait.specs.declared.stat.StatAnswer.TheVariants.{Folder}
+use Rattle.tree_walk.specs.Answers.{first_look, look_at}
+use Rattle.tree_walk.specs.Walked.{IsNamed, IsReached, root, entry, IsEntry, IsFolderRoot, IsFolder, IsCandidate, IsDue}
+use Rattle.tree_walk.proofs.AnswerLemmas.{entries_stay, look_stays, place_of_first, look_says}
+
+named_more : (answers more : List Heard) (folder : List ℕ) (k : EntryKind) (path : List ℕ) → IsNamed answers folder k path → IsNamed (answers ++ more) folder k path
+named_more answers more folder k path n = record {
+  name = n.name;
+  listed = entries_stay answers more folder (record { name = n.name; kind = k }) n.listed;
+  joined = n.joined;
+}
+
+pub reached_more : (answers more : List Heard) (roots : List (List ℕ)) (path : List ℕ) → IsReached answers roots path → IsReached (answers ++ more) roots path
+reached_more answers more roots path (root p c) = root p c
+reached_more answers more roots path (entry folder p k r n) = entry folder p k (reached_more answers more roots folder r) (named_more answers more folder k p n)
+
+pub entry_more : (answers more : List Heard) (roots : List (List ℕ)) (k : EntryKind) (path : List ℕ) → IsEntry answers roots k path → IsEntry (answers ++ more) roots k path
+entry_more answers more roots k path e = record {
+  folder = e.folder;
+  reached = reached_more answers more roots e.folder e.reached;
+  named = named_more answers more e.folder k path e.named;
+}
+
+pub folder_more : (answers more : List Heard) (roots : List (List ℕ)) (path : List ℕ) → IsFolder answers roots path → IsFolder (answers ++ more) roots path
+folder_more answers more roots path (inl r) = inl (record { root = r.root; folder = look_stays answers more path Folder r.folder })
+folder_more answers more roots path (inr e) = inr (entry_more answers more roots kind.Folder path e)
+
+pub candidate_more : (answers more : List Heard) (roots : List (List ℕ)) (path : List ℕ) → IsCandidate answers roots path → IsCandidate (answers ++ more) roots path
+candidate_more answers more roots path (inl r) = inl r
+candidate_more answers more roots path (inr e) = inr (entry_more answers more roots kind.File path e)
+
+pub due_more : (answers more : List Heard) (roots : List (List ℕ)) (h : Heard) → IsDue answers roots h → IsDue (answers ++ more) roots h
+due_more answers more roots (load path limit answer) d = d
+due_more answers more roots (stat path answer) d = (candidate_more answers more roots path d.0, d.1)
+due_more answers more roots (read_dir path answer) d = (folder_more answers more roots path d.0, d.1)
+
+-- a folder is reached
+pub folder_reached : (answers : List Heard) (roots : List (List ℕ)) (path : List ℕ) → IsFolder answers roots path → IsReached answers roots path
+folder_reached answers roots path (inl r) = root path r.root
+folder_reached answers roots path (inr e) = entry e.folder path kind.Folder e.reached e.named
+
+-- a look that was answered was due
+pub look_was_due : (answers : List Heard) (roots : List (List ℕ)) → All (IsDue answers roots) answers → (path : List ℕ) (answer : StatAnswer) → first_look answers path ≡ Some answer → IsCandidate answers roots path × IsCanonPath path
+look_was_due answers roots due path answer h =
+    let at = place_of_first (look_at path) answers answer h in
+    subst (IsDue answers roots) (look_says path at.0 answer at.2).0 (All-contains (IsDue answers roots) answers at.0 due at.1)

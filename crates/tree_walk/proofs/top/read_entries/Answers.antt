@@ -1,0 +1,35 @@
+use Rattle.std.proofs.Common.{◌≡◌, ℕ, ◌<◌, ◌≤◌, inl, inr, List, ◌++◌, length, sym, ◌∙◌, ap, subst}
+use Rattle.std.proofs.lemmas.Bool.{false≢true, cases_lt}
+use Rattle.tree_trait.specs.Entry.{EntryFacts}
+use Rattle.tree_walk.specs.Search.{SearchFacts, IsUnderway, paid, with_last}
+use Rattle.tree_walk.proofs.EndLemmas.{room_is}
+use Rattle.tree_walk.proofs.FileLemmas.{IsReadInto, read_into, read_over}
+use Rattle.tree_walk.proofs.GoesLemmas.{goes_on, goes_up, call_fault}
+use Rattle.tree_walk.proofs.top.read_entries.Goals as goal
+
+pub returns-in_err-content-clause-goes : goal.returns-in_err-content-clause-goes
+returns-in_err-content-clause-goes g c = λ answers roots u.
+    goes_up _ _ _ _ _ _ _ _ c.from_residual.result c.in_err-content.field-0.0 c.from_residual.ensures.1 c.in_err-content.ensures.goes
+    (λ more h. call_fault answers more roots c.in_err-content.field-0.0 (room_is answers roots (with_last c.args.search.now c.args.folder.now) _ _ u.search_is u.few) h)
+
+pub returns-then-pay-clause-goes : goal.returns-then-pay-clause-goes
+returns-then-pay-clause-goes g c = λ answers roots u.
+    goes_on _ _ _ _ _ _ _ _ _ _ c.in_ok-content.ensures.goes
+    (λ more h.
+    let items : List EntryFacts = c.in_ok-content.content.entries.items in
+    let fits : length items ≤ c.args.search.now.left = subst (λ (es : List EntryFacts). length es ≤ c.args.search.now.left) c.as_slice.ensures.value (c.pay.ensures.room.0 c.if-pay.true) in
+    let now : c.pay.new.self ≡ paid c.args.search.now (length items) c.in_ok-content.content.skipped =
+    c.if-pay.ensures.value ∙ ap (λ (es : List EntryFacts). paid c.args.search.now (length es) c.in_ok-content.content.skipped) c.as_slice.ensures.value in
+    let into = read_into answers more roots c.args.search.now c.args.folder.now items c.in_ok-content.content.skipped u h fits in
+    (subst (λ (s : SearchFacts). IsUnderway (answers ++ more) roots s c.args.folder.now items) (sym now) into.walk, into.reached, into.listed))
+
+pub returns-else-pay-clause-goes : goal.returns-else-pay-clause-goes
+returns-else-pay-clause-goes g c = λ answers roots u.
+    goes_on _ _ _ _ _ _ _ _ _ _ c.in_ok-content.ensures.goes
+    (λ more h.
+    let items : List EntryFacts = c.in_ok-content.content.entries.items in
+    let over : c.args.search.now.left < length items = elim (cases_lt c.args.search.now.left (length items)) [
+      | inl lt ↦ lt
+      | inr le ↦ absurd (false≢true (sym c.if-pay.false ∙ c.pay.ensures.room.1 (subst (λ (es : List EntryFacts). length es ≤ c.args.search.now.left) (sym c.as_slice.ensures.value) le)))
+    ] in
+    read_over answers more roots c.args.search.now c.args.folder.now items c.in_ok-content.content.skipped u h over)

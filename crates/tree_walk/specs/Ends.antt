@@ -1,0 +1,91 @@
+-- How a walk ends (this project's rule): at its first fault, or with everything asked.
+use Rattle.std.specs.Prelude.{◌≡◌, ℕ, ◌≤◌, ◌<◌, true, List, [], ◌∷◌, ◌++◌, length, All, Contains, Option, Result, Ok, Err}
+use Rattle.std.specs.List.{list_all}
+use Rattle.row_types.specs.Name.{NameFacts}
+use Rattle.scan_queue.specs.declared.listing.TheConstants.{LISTING_LIMIT}
+use Rattle.tree_trait.specs.Heard.{Heard, stat}
+use Rattle.tree_trait.specs.declared.stat.StatAnswer.{StatAnswer}
+use Rattle.tree_trait.specs.declared.stat.StatAnswer.TheVariants.{Gone}
+use Rattle.tree_walk.specs.Answers.{entries_read, has_failed, with_answers, looks, is_there}
+use Rattle.tree_walk.specs.Files.{IsTold}
+use Rattle.tree_walk.specs.Walked.{IsFull, IsWalkListing, AsksOnce, IsSkipped}
+use Rattle.tree_walk.specs.declared.fault.WalkFault.{WalkFault}
+use Rattle.tree_walk.specs.declared.fault.WalkFault.TheVariants.{Failed, TooMany, TooManyEntries, RootGone, OutOfMemory}
+use Rattle.tree_walk.specs.declared.walked.Walk.{Walk}
+use Rattle.tree_walk.specs.declared.walked.TheConstants.{ENTRY_LIMIT}
+
+-- no limit is passed, and no look at a root said that nothing is there
+pub record HasRoom (answers : List Heard) (roots : List (List ℕ)) : Type 0 where
+  pub names : List NameFacts
+  pub listing : IsWalkListing answers roots names
+  pub few : length names ≤ LISTING_LIMIT
+  pub entries : entries_read answers ≤ ENTRY_LIMIT
+  pub there : (path : List ℕ) → Contains roots path → Contains answers (stat path Gone) → ⊥
+
+-- the roots were looked at first, in the order given, and each is there
+pub record BeginsWithRoots (answers : List Heard) (roots : List (List ℕ)) : Type 0 where
+  pub given : List StatAnswer
+  pub rest : List Heard
+  pub each : length given ≡ length roots
+  pub there : list_all is_there given ≡ true
+  pub first : answers ≡ looks roots given ++ rest
+
+-- the walk was whole: everything due was asked, each folder once, and this is what it found
+pub record IsWhole (answers : List Heard) (roots : List (List ℕ)) (walk : Walk) : Type 0 where
+  pub first : BeginsWithRoots answers roots
+  pub full : IsFull answers roots
+  pub once : AsksOnce answers roots
+  pub room : HasRoom answers roots
+  pub listing : IsWalkListing answers roots walk.listing
+  pub skipped : IsSkipped answers roots walk.skipped
+
+-- all went well up to the last call
+pub record StopsAtLast (answers : List Heard) (roots : List (List ℕ)) (Stops : Heard → Type 0) : Type 0 where
+  pub earlier : List Heard
+  pub last : Heard
+  pub split : answers ≡ earlier ++ last ∷ []
+  pub room : HasRoom earlier roots
+  pub stops : Stops last
+
+-- the last answer made more files than a listing has
+pub record IsTooMany (answers : List Heard) (roots : List (List ℕ)) : Type 0 where
+  pub last : StopsAtLast answers roots (λ last. Unit {0})
+  pub names : List NameFacts
+  pub listing : IsWalkListing answers roots names
+  pub many : LISTING_LIMIT < length names
+
+-- the last answer made more entries than a walk reads
+pub record IsTooManyEntries (answers : List Heard) (roots : List (List ℕ)) : Type 0 where
+  pub last : StopsAtLast answers roots (λ last. Unit {0})
+  pub many : ENTRY_LIMIT < entries_read answers
+
+-- the last answer said that nothing is at this root; the roots before it are there
+pub record IsRootGone (answers : List Heard) (roots : List (List ℕ)) (path : List ℕ) : Type 0 where
+  pub before : List (List ℕ)
+  pub after : List (List ℕ)
+  pub given : List StatAnswer
+  pub split : roots ≡ before ++ path ∷ after
+  pub each : length given ≡ length before
+  pub there : list_all is_there given ≡ true
+  pub heard : answers ≡ looks before given ++ stat path Gone ∷ []
+
+-- the answers by which a walk ends with a fault; want of memory may end it at any
+abbrev pub IsCause : List Heard → List (List ℕ) → WalkFault → Type 0
+IsCause answers roots Failed = StopsAtLast answers roots (λ last. has_failed last ≡ true)
+IsCause answers roots TooMany = IsTooMany answers roots
+IsCause answers roots TooManyEntries = IsTooManyEntries answers roots
+IsCause answers roots (RootGone path) = IsRootGone answers roots path
+IsCause answers roots OutOfMemory = Unit {0}
+
+-- the answers by which a walk ends so
+abbrev pub IsEnd : List Heard → List (List ℕ) → Result Walk WalkFault → Type 0
+IsEnd answers roots (Ok walk) = IsWhole answers roots walk
+IsEnd answers roots (Err fault) = IsCause answers roots fault
+
+-- the walk heard some answers, which the list that the tree tells grew by; they are those of the files that are
+-- there, where the tree is told and still; and by them the walk ended so
+pub record Walks (before now : Option (List Heard)) (StillTold : Type 0) (present : List NameFacts) (roots : List (List ℕ)) (result : Result Walk WalkFault) : Type 0 where
+  pub answers : List Heard
+  pub heard : now ≡ with_answers before answers
+  pub told : StillTold → All (IsTold present) answers
+  pub ends : IsEnd answers roots result
