@@ -1,5 +1,5 @@
 -- The files of a listing, one after the other.
-use Rattle.std.proofs.Common.{◌≡◌, ℕ, ◌≤◌, Bool, true, false, List, [], ◌∷◌, ◌++◌, map, length, refl, sym, ◌∙◌, ap, subst, Option, Some, None, IsTrue, arith, inl, inr, length-append}
+use Rattle.std.proofs.Common.{◌≡◌, ℕ, ◌<◌, ◌≤◌, Bool, true, false, List, [], ◌∷◌, ◌++◌, map, length, refl, sym, ◌∙◌, ap, subst, Option, Some, None, IsTrue, arith, inl, inr, length-append}
 use Rattle.std.specs.Prelude.{IfSome, option_map, Result, Ok, Err}
 use Rattle.std.specs.List.{All}
 use Rattle.std.proofs.lemmas.List.{length-map}
@@ -313,3 +313,70 @@ leads_does m name answer state Unkept leads = absurd leads
 leads_does m name answer state Full leads = absurd leads
 leads_does m name answer state OutOfMemory leads = inl (record { why = leads; same = refl })
 leads_does m name answer state (Whole summary) leads = leads
+
+-- the next file was read and its row kept: so far one file more was read
+pub goes_on : {K : Type 0} (true_row : RowFacts → Type 0) (version : List ℕ → StampFacts → List ℕ → Type 0) (Still Now Then : Type 0) (tells : Bool) (m : Meanings K)
+    (listing : List NameFacts) (before between after : Hand) (old was mid new : StateFacts K) (name : NameFacts) (answer : LoadFacts) (files : List FileRead)
+    (left : List NameFacts) → (Still → IsTrue tells) → IndexInvariant true_row m mid → HasRead version Still Now m listing before between old was files left
+    → TakesNext was (Some name) mid → LoadsNext version tells Now Then name.path between after answer → DoesNext m name answer mid new None
+    → (more : List FileRead) × (rest : List NameFacts) × HasRead version Still Then m listing before after old new more rest
+goes_on true_row version Still Now Then tells m listing before between after old was mid new name answer files left tells_it holds had takes next does =
+    let goes : GoesOut version Still Now m listing before between old mid name files
+    = goes_out true_row version Still Now m listing before between old was mid name files left holds had takes in
+    (
+      files ++ file_of name answer does.row ∷ [],
+      goes.left,
+      reads_on version Still Now Then tells m listing before between after old mid new name answer does.row files goes.left tells_it goes.out next does.reads does.next,
+    )
+
+-- the next file ends the scan
+pub ends_there : {K : Type 0} (r : Rules) (Still Now Then : Type 0) (tells : Bool) (m : Meanings K) (listing : List NameFacts) (before between after : Hand)
+    (old was mid new : StateFacts K) (name : NameFacts) (answer : LoadFacts) (files : List FileRead) (left : List NameFacts) (end : ScanEnd)
+    → (Still → IsTrue tells) → IndexInvariant r.true_row m mid → HasRead r.version Still Now m listing before between old was files left
+    → TakesNext was (Some name) mid → LoadsNext r.version tells Now Then name.path between after answer → DoesNext m name answer mid new (Some end)
+    → FilesEnd r Still m listing before after old new (Some end)
+ends_there r Still Now Then tells m listing before between after old was mid new name answer files left end tells_it holds had takes next does =
+    let goes : GoesOut r.version Still Now m listing before between old mid name files
+    = goes_out r.true_row r.version Still Now m listing before between old was mid name files left holds had takes in
+    stops r Still Now Then tells m listing before between after old mid new name answer files goes.left end holds tells_it goes.out next does
+
+-- the name that went out is awaited
+pub is_awaited : {K : Type 0} (true_row : RowFacts → Type 0) (version : List ℕ → StampFacts → List ℕ → Type 0) (Still Now : Type 0) (m : Meanings K)
+    (listing : List NameFacts) (before between : Hand) (old was mid : StateFacts K) (name : NameFacts) (files : List FileRead) (left : List NameFacts)
+    → IndexInvariant true_row m mid → HasRead version Still Now m listing before between old was files left → TakesNext was (Some name) mid → IsAwaited name mid
+is_awaited true_row version Still Now m listing before between old was mid name files left holds had takes =
+    let goes : GoesOut version Still Now m listing before between old mid name files
+    = goes_out true_row version Still Now m listing before between old was mid name files left holds had takes in
+    awaits listing (names_read files) goes.left name mid (rows_read files) goes.out.loads.listed goes.out.pass goes.out.keeps.sound goes.out.keeps.stand goes.out.earlier
+
+-- the faults of the keeper as the name goes out
+pub keeper_before : {K : Type 0} (version : List ℕ → StampFacts → List ℕ → Type 0) (Still Now : Type 0) (m : Meanings K) (listing : List NameFacts)
+    (before between : Hand) (old was mid : StateFacts K) (r : Option NameFacts) (files : List FileRead) (left : List NameFacts)
+    → HasRead version Still Now m listing before between old was files left → TakesNext was r mid → m.faults old.keeper ≤ m.faults mid.keeper
+keeper_before version Still Now m listing before between old was mid r files left had takes =
+    subst (λ (s : StateFacts _). m.faults old.keeper ≤ m.faults s.keeper) (sym takes.same) had.keeper
+
+-- fewer names are left once one went out
+pub fewer_left : {K : Type 0} (version : List ℕ → StampFacts → List ℕ → Type 0) (Still Now : Type 0) (m : Meanings K) (listing : List NameFacts)
+    (before after : Hand) (old new : StateFacts K) (files : List FileRead) (left : List NameFacts)
+    → HasRead version Still Now m listing before after old new files left → (pass_of new.pass).todo ≡ left
+fewer_left version Still Now m listing before after old new files left had =
+    ap (λ (p : Option PassFacts). (pass_of p).todo) had.pass.is ∙ had.pass.todo
+
+-- the names that are left get fewer
+pub smaller : {K : Type 0} (true_row : RowFacts → Type 0) (version : List ℕ → StampFacts → List ℕ → Type 0) (Still Now Then : Type 0) (tells : Bool) (m : Meanings K)
+    (listing : List NameFacts) (before between after : Hand) (old was mid new : StateFacts K) (name : NameFacts) (answer : LoadFacts) (files : List FileRead)
+    (left : List NameFacts) → (Still → IsTrue tells) → IndexInvariant true_row m mid → HasRead version Still Now m listing before between old was files left
+    → TakesNext was (Some name) mid → LoadsNext version tells Now Then name.path between after answer → DoesNext m name answer mid new None
+    → length (pass_of new.pass).todo < length (pass_of was.pass).todo
+smaller true_row version Still Now Then tells m listing before between after old was mid new name answer files left tells_it holds had takes next does =
+    let goes : GoesOut version Still Now m listing before between old mid name files
+    = goes_out true_row version Still Now m listing before between old was mid name files left holds had takes in
+    let then : HasRead version Still Then m listing before after old new (files ++ file_of name answer does.row ∷ []) goes.left
+    = reads_on version Still Now Then tells m listing before between after old mid new name answer does.row files goes.left tells_it goes.out next does.reads does.next in
+    let first : length (pass_of was.pass).todo ≡ length left = ap length (fewer_left version Still Now m listing before between old was files left had) in
+    let second : length (pass_of new.pass).todo ≡ length goes.left
+    = ap length (fewer_left version Still Then m listing before after old new (files ++ file_of name answer does.row ∷ []) goes.left then) in
+    let whole : length listing ≡ length (names_read files ++ left) = ap length had.loads.listed in
+    let split : length listing ≡ length (names_read files ++ name ∷ goes.left) = ap length goes.out.loads.listed in
+    omega (arith, first, second, whole, split, length-append (names_read files) left, length-append (names_read files) (name ∷ goes.left))

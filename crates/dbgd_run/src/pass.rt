@@ -50,7 +50,8 @@ fn read_file<W: ElfTruth, T: Tree<W>, K: Keeper<W>>(
     state: &mut State<W, K>,
     hand: &mut T,
 ) -> Option<ScanEnd>
-    requires { IsAwaited name state.old }
+    requires awaited { IsAwaited name state.old }
+    requires holds { IndexInvariant W.true_row (meanings K.told K.tables K.images K.made K.faults K.epoch) state.old }
     ensures next { (answer : LoadFacts)
         × LoadsNext W.version T.told (T.still hand.old) (T.still hand.new) name.path
         (shown T.present T.heard T.faults hand.old) (shown T.present T.heard T.faults hand.new) answer

@@ -35,7 +35,8 @@ fn scan_roots<W: ElfTruth, T: Tree<W>, K: Keeper<W>>(
     roots: Vec<CanonPath>,
     hand: &mut T,
 ) -> ScanEnd
-    requires { IsNew state.old }
+    requires new { IsNew state.old }
+    requires holds { IndexInvariant W.true_row (meanings K.told K.tables K.images K.made K.faults K.epoch) state.old }
     ensures ends { EndsOpen (rules W.version W.true_row W.told)
         (EndsUnlisted (setting (rules W.version W.true_row W.told) T.told (T.still hand.old) K.told) roots.items
         (shown T.present T.heard T.faults hand.old) (shown T.present T.heard T.faults hand.new) state.old state.new)

@@ -1,6 +1,6 @@
 //! The numbers of a scan.
 
-ghost use Rattle.std.specs.Prelude.{◌≡◌, count_by};
+ghost use Rattle.std.specs.Prelude.{◌≡◌, ◌<◌, ◌^◌, count_by, length};
 ghost use Rattle.dbgd_run.specs.Numbers.{is_of, summary_of};
 
 use crate::elf_truth::ElfTruth;
@@ -32,6 +32,8 @@ pub struct Summary {
 pub fn summary_of<W: ElfTruth, K: Keeper<W>>(state: &State<W, K>, plan: &Plan) -> Summary
     ensures { result ≡ summary_of plan.now state.now.rows }
 {
+    // There are no more rows than this counts.
+    let _standing = state.standing();
     Summary {
         files: plan.files,
         added: plan.add,
@@ -45,6 +47,7 @@ pub fn summary_of<W: ElfTruth, K: Keeper<W>>(state: &State<W, K>, plan: &Plan) -
 
 /// How many rows are of files of the kind.
 fn count_of(rows: RowIter<'_>, kind: Kind) -> u64
+    requires { length rows.entry < 2 ^ 64 }
     ensures { result ≡ count_by (λ row. is_of kind row.reading) rows.entry }
 {
     rows.filter(|row| is_of(kind, &row.reading)).count() as u64
