@@ -6,6 +6,7 @@ pub mod ScanEnds
 pub mod ScanFiles
 pub mod ScanLemmas
 pub mod ScanLists
+pub mod ScanPass
 pub mod ScanState
 pub mod ScanStore
 pub mod ScanWhole
