@@ -1,11 +1,10 @@
 //! The numbers of a scan.
 
-ghost use Rattle.std.specs.Prelude.{◌≡◌, ◌<◌, ◌^◌, count_by, length};
+ghost use Rattle.std.specs.Prelude.{◌≡◌, count_by};
 ghost use Rattle.dbgd_run.specs.Numbers.{is_of, summary_of};
 
 use crate::elf_truth::ElfTruth;
 use index_keeper::Keeper;
-use index_rows::RowIter;
 use index_state::{Plan, State};
 use row_types::{Kind, Reading};
 
@@ -32,25 +31,24 @@ pub struct Summary {
 pub fn summary_of<W: ElfTruth, K: Keeper<W>>(state: &State<W, K>, plan: &Plan) -> Summary
     ensures { result ≡ summary_of plan.now state.now.rows }
 {
-    // There are no more rows than this counts.
-    let _standing = state.standing();
     Summary {
         files: plan.files,
         added: plan.add,
         replaced: plan.replace,
         dropped: plan.drop,
         kept: plan.keep,
-        executables: count_of(state.rows(), Kind::Executable),
-        debuginfo: count_of(state.rows(), Kind::Debuginfo),
+        executables: count_of(state, Kind::Executable),
+        debuginfo: count_of(state, Kind::Debuginfo),
     }
 }
 
 /// How many rows are of files of the kind.
-fn count_of(rows: RowIter<'_>, kind: Kind) -> u64
-    requires { length rows.entry < 2 ^ 64 }
-    ensures { result ≡ count_by (λ row. is_of kind row.reading) rows.entry }
+fn count_of<W: ElfTruth, K: Keeper<W>>(state: &State<W, K>, kind: Kind) -> u64
+    ensures { result ≡ count_by (λ row. is_of kind row.reading) state.now.rows }
 {
-    rows.filter(|row| is_of(kind, &row.reading)).count() as u64
+    // There are no more rows than this counts.
+    let _standing = state.standing();
+    state.rows().filter(|row| is_of(kind, &row.reading)).count() as u64
 }
 
 /// Whether a file is of the kind.

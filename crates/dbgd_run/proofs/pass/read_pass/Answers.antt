@@ -2,7 +2,6 @@ use Rattle.std.proofs.Common.{ap, ◌∙◌}
 use Rattle.index_state.specs.declared.answer.Plan.{Plan}
 use Rattle.dbgd_run.specs.Numbers.{summary_of}
 use Rattle.dbgd_run.specs.Setting.{rules}
-use Rattle.dbgd_run.proofs.ScanPass.{hand_pass, keeper_pass, none_failed}
 use Rattle.dbgd_run.proofs.ScanWhole.{ends_whole}
 use Rattle.dbgd_run.proofs.pass.read_pass.Goals as goal
 
@@ -10,11 +9,3 @@ pub returns-in-None-clause-ends : goal.returns-in-None-clause-ends
 returns-in-None-clause-ends g c =
     ends_whole (rules g.W.Truth.version g.W.Truth.true_row g.W.Truth.told) _ _ _ _ _ _ _ _ c.in-None.ensures.keeps g.met.W.Truth.one_row c.in-None.ensures.ends
     (c.summary_of.ensures ∙ ap (λ (plan : Plan). summary_of plan c.read_files.new.state.rows) c.requires.planned)
-
-pub returns-in-Some-clause-hand : goal.returns-in-Some-clause-hand
-returns-in-Some-clause-hand g c =
-    hand_pass (rules g.W.Truth.version g.W.Truth.true_row g.W.Truth.told) _ _ _ _ _ _ c.in-Some.ensures.ends c.in-Some.ensures.hand
-
-pub returns-in-Some-clause-keeper : goal.returns-in-Some-clause-keeper
-returns-in-Some-clause-keeper g c =
-    keeper_pass (rules g.W.Truth.version g.W.Truth.true_row g.W.Truth.told) _ _ _ _ _ _ _ c.in-Some.ensures.ends c.in-Some.ensures.keeper
