@@ -34,11 +34,11 @@ use Rattle.dbgd_run.proofs.ScanLists.{pairs_after, pairs_before, put_last}
 use Rattle.dbgd_run.proofs.ScanState.{TakesFirst, awaits, keeps_more, keeps_none, keeps_pass, keeps_wanting, leaves_pass, takes_first, tears_last}
 
 -- nothing was read yet
-pub starts : {K : Type 0} (version : List ℕ → StampFacts → List ℕ → Type 0) (Still : Type 0) (m : Meanings K) (listing : List NameFacts) (hand : Hand)
-    (state : StateFacts K) → IsBegun listing state → HasRead version Still Still m listing hand hand state state [] listing
-starts version Still m listing hand state begun = record {
+pub starts : {K : Type 0} (version : List ℕ → StampFacts → List ℕ → Type 0) (Still Now : Type 0) (m : Meanings K) (listing : List NameFacts) (hand : Hand)
+    (state : StateFacts K) → (Still → Now) → IsBegun listing state → HasRead version Still Now m listing hand hand state state [] listing
+starts version Still Now m listing hand state now begun = record {
   loads = record { listed = refl; read = All-nil (IsFileRead version); heard = with_nothing hand.heard; told = λ still. All-nil _ };
-  still = λ still. (still, refl);
+  still = λ still. (now still, refl);
   hand = omega arith;
   keeps = keeps_none m state begun.new;
   keeper = omega arith;

@@ -5,12 +5,12 @@ use Rattle.dbgd_run.proofs.ScanFiles.{ends_there, goes_on, is_awaited, smaller, 
 use Rattle.dbgd_run.proofs.pass.read_files.Goals as goal
 
 pub loop-name-init : goal.loop-name-init
-loop-name-init g c = ([], (pass_of c.args.state.now.pass).listing, starts _ _ _ _ _ _ c.requires)
+loop-name-init g c = ([], (pass_of c.args.state.now.pass).listing, starts _ _ _ _ _ _ _ (λ (t : IsTrue g.T.Tree.told × g.T.Tree.still c.args.hand.now). t.1) c.requires)
 
 pub read_file-requires-clause-awaited : goal.read_file-requires-clause-awaited
-read_file-requires-clause-awaited g c =
+read_file-requires-clause-awaited g c = λ κs.
     let had = c.loop-name.invariant in
-    is_awaited g.W.Truth.true_row _ _ _ _ _ _ _ _ _ _ _ had.0 had.1 c.in-Some.ensures.keeps had.2 c.in-Some.ensures.step
+    is_awaited {K = g.row.K.Denot} g.W.Truth.true_row _ _ _ _ _ _ _ _ _ _ _ had.0 had.1 c.in-Some.ensures.keeps had.2 c.in-Some.ensures.step
 
 pub returns-in-Some-read_file-clause-ends : goal.returns-in-Some-read_file-clause-ends
 returns-in-Some-read_file-clause-ends g c =
