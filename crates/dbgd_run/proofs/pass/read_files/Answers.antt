@@ -8,7 +8,7 @@ pub loop-name-init : goal.loop-name-init
 loop-name-init g c = ([], (pass_of c.args.state.now.pass).listing, starts _ _ _ _ _ _ _ (λ (t : IsTrue g.T.Tree.told × g.T.Tree.still c.args.hand.now). t.1) c.requires)
 
 pub read_file-requires-clause-awaited : goal.read_file-requires-clause-awaited
-read_file-requires-clause-awaited g c = λ κs.
+read_file-requires-clause-awaited g c = λ κs within.
     let had = c.loop-name.invariant in
     is_awaited {K = g.row.K.Denot} g.W.Truth.true_row _ _ _ _ _ _ _ _ _ _ _ had.0 had.1 c.in-Some.ensures.keeps had.2 c.in-Some.ensures.step
 
