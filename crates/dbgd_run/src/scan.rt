@@ -12,7 +12,7 @@ ghost use Rattle.dbgd_run.specs.Scan.{EndsBy, EndsOpen, ReadsFiles, RunsScan, Sc
 ghost use Rattle.dbgd_run.specs.ScanSteps.{EndsUnlisted, IsNew, KeepsFiles, TearsFiles};
 ghost use Rattle.dbgd_run.specs.Setting.{rules, setting};
 ghost use Rattle.dbgd_run.specs.Statuses.{code_of};
-ghost use Rattle.dbgd_run.specs.Store.{holding, stock};
+ghost use Rattle.dbgd_run.specs.Store.{stock};
 
 use crate::elf_truth::ElfTruth;
 use crate::pass::scan_listing;
@@ -65,10 +65,10 @@ fn scan_keeper<W: ElfTruth, T: Tree<W>, K: Keeper<W>>(
     hand: &mut T,
 ) -> (ScanEnd, K)
     requires { IsSettled (meanings K.told K.tables K.images K.made K.faults K.epoch) keeper }
-    ensures ends { (left : List KeptFacts) → (IsTrue K.told → K.images result.1 left)
+    ensures ends { (had left : List KeptFacts) → (IsTrue K.told → had ≡ K.tables keeper) → (IsTrue K.told → K.images result.1 left)
         → EndsBy (setting (rules W.version W.true_row W.told) T.told (T.still hand.old) K.told) roots.items
         (shown T.present T.heard T.faults hand.old) (shown T.present T.heard T.faults hand.new)
-        (holding K.tables K.made keeper) (record { tables = left; made = K.made result.1 }) result.0 }
+        (record { tables = had; made = K.made keeper }) (record { tables = left; made = K.made result.1 }) result.0 }
     ensures hand { HasCause (T.faults hand.old) (T.faults hand.new) (IsTrue (is_hand_fault result.0)) }
     ensures keeper { HasCause (K.faults keeper) (K.faults result.1) (IsTrue (is_store_fault result.0)) }
 {
