@@ -11,6 +11,7 @@ mod real_tree;
 mod tests;
 
 use dbgd_run::{Outside, Status, run, write_all};
+use index_keeper::MemStore;
 use real_sink::{RealSink, Stream};
 use real_tree::RealTree;
 use row_types::OpenWorld;
@@ -32,14 +33,18 @@ fn words(rt: &HostRuntime) -> Result<Vec<String>, AllocError> {
 /// Runs the program over the real objects, and gives its exit status.
 fn run_real(rt: &HostRuntime) -> Result<u8, AllocError> {
     let words = words(rt)?;
-    let hands = vec![in rt.alloc(); RealTree::new(*rt)]?;
+    let alloc = rt.alloc();
+    let hands = vec![in alloc; RealTree::new(*rt)]?;
+    // The index lasts as long as the program until a store in a file is built.
+    let store = MemStore::new(alloc, Vec::new(alloc), None, Vec::new(alloc));
     let mut outside = Outside {
         hands,
+        store,
         out: RealSink::new(Stream::Out(rt.stdout())),
         err: RealSink::new(Stream::Err(rt.stderr())),
         of: PhantomData::<OpenWorld>,
     };
-    Ok(run(rt.alloc(), words.as_slice(), &mut outside))
+    Ok(run(alloc, words.as_slice(), &mut outside))
 }
 
 fn main(rt: HostRuntime) -> ExitCode {

@@ -1,2 +1,13 @@
 pub mod CauseLemmas
+pub mod ReadLemmas
+pub mod RootLemmas
+pub mod ScanCauseLemmas
+pub mod ScanEnds
+pub mod ScanFiles
+pub mod ScanLemmas
+pub mod ScanLists
+pub mod ScanPass
+pub mod ScanState
+pub mod ScanStore
+pub mod ScanWhole
 pub mod SinkLemmas

@@ -1,22 +1,36 @@
 -- What a run does, by its words (this project's rule).
-use Rattle.std.specs.Prelude.{◌≡◌, ℕ, List, [], Bool}
-use Rattle.row_types.specs.Stamp.{StampFacts}
+use Rattle.std.specs.Prelude.{◌≡◌, ℕ, List, []}
 use Rattle.dbgd_run.specs.Endings.{Saying, Streams, Ends}
 use Rattle.dbgd_run.specs.Ident.{SaysIdent}
 use Rattle.dbgd_run.specs.Load.{Hand, RunsOn, not_built_saying}
+use Rattle.dbgd_run.specs.Scan.{RunsScan}
 use Rattle.dbgd_run.specs.Section.{SaysSection}
+use Rattle.dbgd_run.specs.Setting.{Setting}
+use Rattle.dbgd_run.specs.Store.{Stock}
 use Rattle.dbgd_run.specs.Texts.{usage_line}
-use Rattle.dbgd_run.specs.Words.{Line, asks_ident, asks_section, unbuilt, unreadable}
+use Rattle.dbgd_run.specs.Words.{Line, asks_ident, asks_section, asks_scan, unbuilt, unreadable}
 use Rattle.dbgd_run.specs.declared.status.Status.TheVariants as status
 
 -- of words that can't be read
 abbrev pub usage_saying : Saying
 usage_saying = record { out = []; err = usage_line; status = status.Usage }
 
--- what a line of words does with the first hand and the two sinks, and how it ends
-abbrev pub Runs : (List ℕ → StampFacts → List ℕ → Type 0) → Bool → Line → Hand → Hand → Streams → Streams → ℕ → Type 0
-Runs version told (asks_ident path) before after old new code = RunsOn (SaysIdent path) version told path before after old new code
-Runs version told (asks_section path name) before after old new code =
-    RunsOn (SaysSection path name) version told path before after old new code
-Runs version told unbuilt before after old new code = (after ≡ before) × Ends not_built_saying old new code
-Runs version told unreadable before after old new code = (after ≡ before) × Ends usage_saying old new code
+-- what is done without the store
+pub record LeavesStore (Does : Type 0) (kept now : Stock) : Type 0 where
+  pub does : Does
+  pub store : now ≡ kept
+
+-- what is said without a look at the hand
+pub record LeavesHand (Says : Type 0) (before after : Hand) : Type 0 where
+  pub says : Says
+  pub hand : after ≡ before
+
+-- what a line of words does with the first hand, the store and the two sinks, and how it ends
+abbrev pub Runs : Setting → Line → Hand → Hand → Stock → Stock → Streams → Streams → ℕ → Type 0
+Runs s (asks_ident path) before after kept now old new code =
+    LeavesStore (RunsOn (SaysIdent path) s.world.version s.tells_files path before after old new code) kept now
+Runs s (asks_section path name) before after kept now old new code =
+    LeavesStore (RunsOn (SaysSection path name) s.world.version s.tells_files path before after old new code) kept now
+Runs s (asks_scan store roots) before after kept now old new code = RunsScan s roots before after kept now old new code
+Runs s unbuilt before after kept now old new code = LeavesStore (LeavesHand (Ends not_built_saying old new code) before after) kept now
+Runs s unreadable before after kept now old new code = LeavesStore (LeavesHand (Ends usage_saying old new code) before after) kept now

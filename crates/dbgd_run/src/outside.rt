@@ -8,26 +8,32 @@ ghost use Rattle.dbgd_run.specs.Endings.{streams};
 ghost use Rattle.dbgd_run.specs.Load.{hand};
 ghost use Rattle.dbgd_run.specs.Lines.{asked_by};
 ghost use Rattle.dbgd_run.specs.Runs.{Runs};
+ghost use Rattle.dbgd_run.specs.ScanCauses.{ScanCauses};
+ghost use Rattle.dbgd_run.specs.Setting.{rules, setting};
 ghost use Rattle.dbgd_run.specs.Statuses.{code_of};
+ghost use Rattle.dbgd_run.specs.Store.{stock};
 ghost use Rattle.dbgd_run.specs.Words.{line_of, unreadable};
 
+use crate::elf_truth::ElfTruth;
 use crate::ident::run_ident;
 use crate::sayings::NOT_BUILT;
+use crate::scan::run_scan;
 use crate::section::run_section;
 use crate::sink::Sink;
 use crate::speech::{Message, Said, speak};
 use crate::status::Status;
 use crate::words::{Line, read_line};
-use row_types::Truth;
+use index_keeper::Store;
 use std::alloc::Global;
 use std::marker::PhantomData;
 use tree_trait::Tree;
 
-/// What the program is handed: the hands that read files, of which the first serves single files, and
-/// its two sinks.
+/// What the program is handed: the hands that read files, of which the first serves single files, the
+/// store of the index, and its two sinks.
 #[derive(Drop)]
-pub struct Outside<W: Truth, T: Tree<W>, O: Sink> {
+pub struct Outside<W: ElfTruth, T: Tree<W>, S: Store<W>, O: Sink> {
     pub hands: Vec<T>,
+    pub store: S,
     pub out: O,
     pub err: O,
     pub of: PhantomData<W>,
@@ -44,17 +50,18 @@ const USAGE: Said<'static> = Said {
 };
 
 /// Does what a line of words asks.
-fn run_line<W: Truth, T: Tree<W>, O: Sink>(
+fn run_line<W: ElfTruth, T: Tree<W>, S: Store<W>, O: Sink>(
     alloc: Global,
     line: Line<'_>,
-    outside: &mut Outside<W, T, O>,
+    outside: &mut Outside<W, T, S, O>,
 ) -> Status
     requires { 0 < vec_len outside.old.hands }
     ensures law { (d : T) →
         let before = slice_index_or outside.old.hands.items 0 d in
         let after = slice_index_or outside.new.hands.items 0 d in
-        Runs W.version T.told (asked_by line.entry)
+        Runs (setting (rules W.version W.true_row W.told) T.told (T.still before) S.K.told) (asked_by line.entry)
         (hand T.present T.heard T.faults before) (hand T.present T.heard T.faults after)
+        (stock S.tables S.made S.epoch S.faults outside.old.store) (stock S.tables S.made S.epoch S.faults outside.new.store)
         (streams O.written O.write_faults outside.old.out outside.old.err)
         (streams O.written O.write_faults outside.new.out outside.new.err) (code_of result) }
     ensures hands { vec_len outside.new.hands ≡ vec_len outside.old.hands }
@@ -67,31 +74,50 @@ fn run_line<W: Truth, T: Tree<W>, O: Sink>(
         Line::Section { path, name } => {
             run_section(alloc, path, name, &mut outside.hands[0], out, err)
         }
+        Line::Scan { store, roots } => run_scan(
+            alloc,
+            store,
+            &roots,
+            &mut outside.hands[0],
+            &mut outside.store,
+            out,
+            err,
+        ),
         Line::NotBuilt => speak(out, err, &NOT_BUILT),
         Line::Usage => speak(out, err, &USAGE),
     }
 }
 
 /// Does what the words after the program's name ask, and gives the exit status.
-pub fn run_local<W: Truth, T: Tree<W>, O: Sink>(
+pub fn run_local<W: ElfTruth, T: Tree<W>, S: Store<W>, O: Sink>(
     alloc: Global,
     words: &[String],
-    outside: &mut Outside<W, T, O>,
+    outside: &mut Outside<W, T, S, O>,
 ) -> Option<u8>
     requires { 0 < vec_len outside.old.hands }
     ensures some { IsSome result }
     ensures law { (d : T) →
         let before = slice_index_or outside.old.hands.items 0 d in
         let after = slice_index_or outside.new.hands.items 0 d in
-        IfSome result (Runs W.version T.told (line_of (map string_bytes words.now))
+        IfSome result (Runs (setting (rules W.version W.true_row W.told) T.told (T.still before) S.K.told) (line_of (map string_bytes words.now))
         (hand T.present T.heard T.faults before) (hand T.present T.heard T.faults after)
+        (stock S.tables S.made S.epoch S.faults outside.old.store) (stock S.tables S.made S.epoch S.faults outside.new.store)
         (streams O.written O.write_faults outside.old.out outside.old.err)
         (streams O.written O.write_faults outside.new.out outside.new.err)) }
     ensures causes { (d : T) →
         let before = slice_index_or outside.old.hands.items 0 d in
         let after = slice_index_or outside.new.hands.items 0 d in
-        IfSome result (HasCauses (line_of (map string_bytes words.now))
+        IfSome result (HasCauses (setting (rules W.version W.true_row W.told) T.told (T.still before) S.K.told) (line_of (map string_bytes words.now))
         (hand T.present T.heard T.faults before) (hand T.present T.heard T.faults after)
+        (stock S.tables S.made S.epoch S.faults outside.old.store) (stock S.tables S.made S.epoch S.faults outside.new.store)
+        (streams O.written O.write_faults outside.old.out outside.old.err)
+        (streams O.written O.write_faults outside.new.out outside.new.err)) }
+    ensures scan { (d : T) →
+        let before = slice_index_or outside.old.hands.items 0 d in
+        let after = slice_index_or outside.new.hands.items 0 d in
+        IfSome result (ScanCauses (setting (rules W.version W.true_row W.told) T.told (T.still before) S.K.told) (line_of (map string_bytes words.now))
+        (hand T.present T.heard T.faults before) (hand T.present T.heard T.faults after)
+        (stock S.tables S.made S.epoch S.faults outside.old.store) (stock S.tables S.made S.epoch S.faults outside.new.store)
         (streams O.written O.write_faults outside.old.out outside.old.err)
         (streams O.written O.write_faults outside.new.out outside.new.err)) }
     ensures hands { vec_len outside.new.hands ≡ vec_len outside.old.hands }
@@ -102,24 +128,34 @@ pub fn run_local<W: Truth, T: Tree<W>, O: Sink>(
 }
 
 /// Does all that the program does, and gives the exit status.
-pub fn run<W: Truth, T: Tree<W>, O: Sink>(
+pub fn run<W: ElfTruth, T: Tree<W>, S: Store<W>, O: Sink>(
     alloc: Global,
     words: &[String],
-    outside: &mut Outside<W, T, O>,
+    outside: &mut Outside<W, T, S, O>,
 ) -> u8
     requires { 0 < vec_len outside.old.hands }
     ensures law { (d : T) →
         let before = slice_index_or outside.old.hands.items 0 d in
         let after = slice_index_or outside.new.hands.items 0 d in
-        Runs W.version T.told (line_of (map string_bytes words.now))
+        Runs (setting (rules W.version W.true_row W.told) T.told (T.still before) S.K.told) (line_of (map string_bytes words.now))
         (hand T.present T.heard T.faults before) (hand T.present T.heard T.faults after)
+        (stock S.tables S.made S.epoch S.faults outside.old.store) (stock S.tables S.made S.epoch S.faults outside.new.store)
         (streams O.written O.write_faults outside.old.out outside.old.err)
         (streams O.written O.write_faults outside.new.out outside.new.err) result }
     ensures causes { (d : T) →
         let before = slice_index_or outside.old.hands.items 0 d in
         let after = slice_index_or outside.new.hands.items 0 d in
-        HasCauses (line_of (map string_bytes words.now))
+        HasCauses (setting (rules W.version W.true_row W.told) T.told (T.still before) S.K.told) (line_of (map string_bytes words.now))
         (hand T.present T.heard T.faults before) (hand T.present T.heard T.faults after)
+        (stock S.tables S.made S.epoch S.faults outside.old.store) (stock S.tables S.made S.epoch S.faults outside.new.store)
+        (streams O.written O.write_faults outside.old.out outside.old.err)
+        (streams O.written O.write_faults outside.new.out outside.new.err) result }
+    ensures scan { (d : T) →
+        let before = slice_index_or outside.old.hands.items 0 d in
+        let after = slice_index_or outside.new.hands.items 0 d in
+        ScanCauses (setting (rules W.version W.true_row W.told) T.told (T.still before) S.K.told) (line_of (map string_bytes words.now))
+        (hand T.present T.heard T.faults before) (hand T.present T.heard T.faults after)
+        (stock S.tables S.made S.epoch S.faults outside.old.store) (stock S.tables S.made S.epoch S.faults outside.new.store)
         (streams O.written O.write_faults outside.old.out outside.old.err)
         (streams O.written O.write_faults outside.new.out outside.new.err) result }
     ensures hands { vec_len outside.new.hands ≡ vec_len outside.old.hands }

@@ -5,5 +5,6 @@ mod fakes;
 mod files;
 mod helpers;
 mod outsides;
+mod scans;
 mod sections;
 mod words;

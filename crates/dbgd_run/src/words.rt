@@ -3,15 +3,19 @@
 ghost use Rattle.std.specs.Prelude.{◌≡◌, map};
 ghost use Rattle.std.specs.String.{string_bytes};
 ghost use Rattle.dbgd_run.specs.Lines.{asked_by};
-ghost use Rattle.dbgd_run.specs.Words.{ident_line, line_of, section_line};
+ghost use Rattle.dbgd_run.specs.Words.{ident_line, line_of, roots_line, scan_line, section_line};
+
+use crate::roots::Roots;
 
 /// What a command line asks.
-#[derive(Clone, Copy, Debug, PartialEq, Eq)]
+#[derive(Debug, Drop)]
 pub enum Line<'a> {
     /// The identity of the file at a path.
     Ident { path: &'a str },
     /// The bytes of the section of a name, of the file at a path.
     Section { path: &'a str, name: &'a str },
+    /// A scan of folders into the store of a path.
+    Scan { store: &'a str, roots: Roots<'a> },
     /// A command that isn't built yet.
     NotBuilt,
     /// No command, or one with other words than it takes.
@@ -28,7 +32,8 @@ pub fn read_line(words: &[String]) -> Line<'_>
     match command.as_str() {
         "ident" => ident(rest),
         "section" => section(rest),
-        "sources" | "query" | "scan" | "serve" | "trial" => Line::NotBuilt,
+        "scan" => scan(rest),
+        "sources" | "query" | "serve" | "trial" => Line::NotBuilt,
         _ => Line::Usage,
     }
 }
@@ -55,5 +60,26 @@ fn section(words: &[String]) -> Line<'_>
             name: name.as_str(),
         },
         _ => Line::Usage,
+    }
+}
+
+/// Reads the words of `scan`.
+fn scan(words: &[String]) -> Line<'_>
+    ensures { asked_by result ≡ scan_line (map string_bytes words.now) }
+{
+    match words {
+        [] => Line::Usage,
+        [option, store, roots @ ..] if option.as_str() == "-d" => rooted(store.as_str(), roots),
+        _ => Line::NotBuilt,
+    }
+}
+
+/// Reads the folders of a scan.
+fn rooted<'a>(store: &'a str, words: &'a [String]) -> Line<'a>
+    ensures { asked_by result ≡ roots_line store.now (map string_bytes words.now) }
+{
+    match Roots::check(words) {
+        Some(roots) => Line::Scan { store, roots },
+        None => Line::NotBuilt,
     }
 }

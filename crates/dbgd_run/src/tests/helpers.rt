@@ -1,8 +1,10 @@
 //! What the tests share: hands of one file, and a run whose end is compared.
 
+use crate::elf_truth::ElfTruth;
 use crate::mem_sink::MemSink;
 use crate::outside::{Outside, run};
-use row_types::{OpenWorld, Stamp, Truth};
+use index_keeper::MemStore;
+use row_types::{OpenWorld, Stamp};
 use std::alloc::Global;
 use std::marker::PhantomData;
 use std::process::Abort;
@@ -54,8 +56,13 @@ pub fn hand_of(alloc: Global, bytes: &[u8], bad_calls: &[u64]) -> Result<MemTree
     Ok(MemTree::new(alloc, script))
 }
 
-/// Runs a case over a hand and two sinks in memory.
-pub fn run_case<W: Truth, T: Tree<W>>(
+/// A store that keeps nothing and doesn't fail.
+pub fn empty_store<W: ElfTruth>(alloc: Global) -> MemStore<W> {
+    MemStore::new(alloc, Vec::new(alloc), None, Vec::new(alloc))
+}
+
+/// Runs a case over a hand, an empty store and two sinks in memory.
+pub fn run_case<W: ElfTruth + Send, T: Tree<W>>(
     rt: &impl Abort,
     alloc: Global,
     hand: T,
@@ -66,6 +73,7 @@ pub fn run_case<W: Truth, T: Tree<W>>(
     hands.push(hand)?;
     let mut outside = Outside {
         hands,
+        store: empty_store(alloc),
         out: MemSink::new(alloc, Vec::from_slice(alloc, bad.out)?),
         err: MemSink::new(alloc, Vec::from_slice(alloc, bad.err)?),
         of: PhantomData::<W>,

@@ -3,7 +3,9 @@
 use crate::mem_sink::MemSink;
 use crate::outside::{Outside, run};
 use crate::tests::fakes::{Crowded, Narrow};
-use crate::tests::helpers::{BadWrites, Case, NO_BAD_WRITES, hand_of, run_case, words_of};
+use crate::tests::helpers::{
+    BadWrites, Case, NO_BAD_WRITES, empty_store, hand_of, run_case, words_of,
+};
 use row_types::{OpenWorld, Stamp};
 use sample_files::both_classes;
 use std::alloc::Global;
@@ -112,6 +114,7 @@ fn run_narrow(rt: &impl Abort, alloc: Global, bad: &[u64], case: &Case<'_>) -> R
     let hand = hand_of(alloc, &both_classes(alloc)?, &[])?;
     let mut outside = Outside {
         hands: vec![in alloc; hand]?,
+        store: empty_store(alloc),
         out: Narrow {
             sink: MemSink::new(alloc, Vec::from_slice(alloc, bad)?),
         },

@@ -2,7 +2,7 @@
 
 use crate::mem_sink::MemSink;
 use crate::outside::{Outside, run_local};
-use crate::tests::helpers::{Case, NO_BAD_WRITES, hand_of, run_case, words_of};
+use crate::tests::helpers::{Case, NO_BAD_WRITES, empty_store, hand_of, run_case, words_of};
 use row_types::OpenWorld;
 use std::marker::PhantomData;
 use std::test::Fail;
@@ -12,7 +12,7 @@ const USAGE: &str =
 
 #[test]
 fn other_words_give_the_usage(rt: HostRuntime) -> Result<(), Fail> {
-    let lines: [&[&str]; 10] = [
+    let lines: [&[&str]; 11] = [
         &[],
         &[""],
         &["frobnicate"],
@@ -23,6 +23,7 @@ fn other_words_give_the_usage(rt: HostRuntime) -> Result<(), Fail> {
         &["ident", "/w/a", "/w/a"],
         &["section", "/w/a"],
         &["section", "/w/a", ".text", ".text"],
+        &["scan"],
     ];
     for words in lines {
         let case = Case {
@@ -44,7 +45,7 @@ fn other_words_give_the_usage(rt: HostRuntime) -> Result<(), Fail> {
 
 #[test]
 fn a_later_command_is_not_built_whatever_follows(rt: HostRuntime) -> Result<(), Fail> {
-    for command in ["sources", "query", "scan", "serve", "trial"] {
+    for command in ["sources", "query", "serve", "trial"] {
         for words in [[command].as_slice(), [command, "--help", ""].as_slice()] {
             let case = Case {
                 words,
@@ -65,10 +66,42 @@ fn a_later_command_is_not_built_whatever_follows(rt: HostRuntime) -> Result<(), 
 }
 
 #[test]
+fn a_scan_of_other_words_is_not_built(rt: HostRuntime) -> Result<(), Fail> {
+    let lines: [&[&str]; 9] = [
+        &["scan", "-d"],
+        &["scan", "-d", "m"],
+        &["scan", "/w"],
+        &["scan", "--help"],
+        &["scan", "-d", "m", "-c", "2", "/w"],
+        &["scan", "-d", "m", "w"],
+        &["scan", "-d", "m", "/w/"],
+        &["scan", "-d", "m", "/w", "/w/../v"],
+        &["scan", "--database", "m", "/w"],
+    ];
+    for words in lines {
+        let case = Case {
+            words,
+            out: b"",
+            err: "dbgd: not built yet\n",
+            status: 8,
+        };
+        run_case(
+            &rt,
+            rt.alloc(),
+            hand_of(rt.alloc(), b"", &[])?,
+            &NO_BAD_WRITES,
+            &case,
+        )?;
+    }
+    Ok(())
+}
+
+#[test]
 fn the_local_part_answers_every_line(rt: HostRuntime) -> Result<(), Fail> {
     let alloc = rt.alloc();
     let mut outside = Outside {
         hands: vec![in alloc; hand_of(alloc, b"", &[])?]?,
+        store: empty_store(alloc),
         out: MemSink::new(alloc, Vec::new(alloc)),
         err: MemSink::new(alloc, Vec::new(alloc)),
         of: PhantomData::<OpenWorld>,

@@ -1,0 +1,63 @@
+#!/usr/bin/env bash
+# Scans real folders of this system, and compares the counts with those of `find`, and of `ident` over the same files.
+#
+# usage: checks/scan.sh [PROGRAM]      from the repository's top; PROGRAM is ./dbgd unless given
+set -u
+export LC_ALL=C
+
+program=${1:-${DBGD:-./dbgd}}
+say() { printf 'scan: %s\n' "$*" 1>&2; }
+
+command -v "$program" >/dev/null || { say "there is no program $program"; exit 1; }
+
+work=$(mktemp -d) || exit 1
+trap 'rm -rf "$work"' EXIT
+scanned=0 differing=0
+differs() { differing=$((differing + 1)); say "$*"; }
+
+# The program may be built by its first call, which may take long.
+"$program" ident checks/data/ppc32_big.elf >/dev/null 2>&1
+
+compare() { # DIR
+  local files executables=0 debuginfo=0 line
+  find "$1" -type f -print0 >"$work/files"
+  files=$(tr -cd '\0' <"$work/files" | wc -c)
+  while IFS= read -r -d '' file; do
+    line=$("$program" ident "$file" 2>/dev/null) || continue
+    case $line in
+      *' both') executables=$((executables + 1)) debuginfo=$((debuginfo + 1)) ;;
+      *' executable') executables=$((executables + 1)) ;;
+      *' debuginfo') debuginfo=$((debuginfo + 1)) ;;
+    esac
+  done <"$work/files"
+  "$program" scan -d m "$1" >"$work/out" 2>"$work/err"
+  local status=$?
+  scanned=$((scanned + files))
+  printf 'scan: %d files, %d added, 0 replaced, 0 dropped, 0 kept, %d executables, %d debuginfo\n' \
+    "$files" "$files" "$executables" "$debuginfo" >"$work/wanted"
+  [ "$status" = 0 ] && [ ! -s "$work/err" ] && cmp -s "$work/out" "$work/wanted" ||
+    differs "$1: wanted $(cat "$work/wanted"), got $(cat "$work/out" "$work/err"), status $status"
+}
+
+# A tree of our own: files in folders, a link, a FIFO, an empty folder.
+mkdir -p "$work/tree/inner/deep" "$work/tree/none"
+cp checks/data/*.elf "$work/tree/inner/"
+printf 'hello\n' >"$work/tree/inner/deep/text"
+: >"$work/tree/empty"
+ln -s inner/deep/text "$work/tree/link"
+ln -s inner "$work/tree/folder"
+mkfifo "$work/tree/fifo"
+compare "$work/tree"
+
+# A root that is a link is gone, and nothing is listed behind it.
+"$program" scan -d m "$work/tree/folder" >"$work/out" 2>"$work/err"
+[ $? = 3 ] && [ ! -s "$work/out" ] && [ "$(cat "$work/err")" = "dbgd: gone $work/tree/folder" ] ||
+  differs "a root that is a link isn't gone"
+
+# Folders of this system.
+for folder in /usr/sbin /usr/libexec /etc/default; do
+  folder=$(readlink -f -- "$folder") && [ -d "$folder" ] && compare "$folder"
+done
+
+say "$scanned files compared; $differing differ"
+[ "$differing" = 0 ]

@@ -1,0 +1,73 @@
+-- Lists of names and rows in path order.
+use Rattle.std.proofs.Common.{◌≡◌, ℕ, Bool, true, false, List, [], ◌∷◌, ◌++◌, map, refl, sym, ◌∙◌, ap, subst}
+use Rattle.std.specs.Prelude.{◌||◌, not}
+use Rattle.std.specs.List.{All, AllPairs, filter, list_any}
+use Rattle.std.proofs.lemmas.List.Elements.{All-nil, All-cons, All-head, All-tail, All-weaker}
+use Rattle.row_types.specs.Ascends.{IsBefore}
+use Rattle.row_types.specs.Name.{NameFacts}
+use Rattle.row_types.specs.Row.{RowFacts}
+use Rattle.scan_queue.specs.Names.{IsByPath, is_in, same_name, without}
+use Rattle.scan_queue.proofs.NameTests.{path_differs, path_differs_back, same_name-Decides}
+use Rattle.index_rows.specs.ByPath.{is_before}
+use Rattle.index_rows.specs.Rows.{names_of, path_of, with_row}
+use Rattle.index_rows.proofs.Lists.{filter_all, filter_none, first_related, rest_related}
+use Rattle.index_rows.proofs.PathLemmas.{fails_after, tests_before}
+
+-- what holds of each holds of one in the middle
+all_mid : {X : Type 0} (P : X → Type 0) (xs : List X) (y : X) (ys : List X) → All P (xs ++ y ∷ ys) → P y
+all_mid P [] y ys h = All-head P y ys h
+all_mid P (x ∷ xs) y ys h = all_mid P xs y ys (All-tail P x (xs ++ y ∷ ys) h)
+
+-- each element in front is related to the one in the middle
+pub pairs_before : {X : Type 0} (R : X → X → Type 0) (xs : List X) (y : X) (ys : List X) → AllPairs R (xs ++ y ∷ ys) → All (λ x. R x y) xs
+pairs_before R [] y ys h = All-nil (λ x. R x y)
+pairs_before R (x ∷ xs) y ys h =
+    All-cons (λ z. R z y) x xs (all_mid (R x) xs y ys (first_related R x (xs ++ y ∷ ys) h))
+    (pairs_before R xs y ys (rest_related R x (xs ++ y ∷ ys) h))
+
+-- the one in the middle is related to each element behind it
+pub pairs_after : {X : Type 0} (R : X → X → Type 0) (xs : List X) (y : X) (ys : List X) → AllPairs R (xs ++ y ∷ ys) → All (R y) ys
+pairs_after R [] y ys h = first_related R y ys h
+pairs_after R (x ∷ xs) y ys h = pairs_after R xs y ys (rest_related R x (xs ++ y ∷ ys) h)
+
+-- a name is one with itself
+pub same_itself : (name : NameFacts) → same_name name name ≡ true
+same_itself name = (same_name-Decides name name).1 refl
+
+-- a name is among those around it
+pub in_mid : (xs : List NameFacts) (name : NameFacts) (ys : List NameFacts) → is_in (xs ++ name ∷ ys) name ≡ true
+in_mid [] name ys = rw (same_itself name) refl
+in_mid (x ∷ xs) name ys =
+    elim (same_name name x) as (λ b. (b || is_in (xs ++ name ∷ ys) name) ≡ true) [ true ↦ refl | false ↦ in_mid xs name ys ]
+
+-- a name isn't among rows that stand before it
+pub not_among : (rows : List RowFacts) (name : NameFacts) → All (λ row. IsBefore row.name.path name.path) rows → is_in (names_of rows) name ≡ false
+not_among [] name h = refl
+not_among (row ∷ rows) name h =
+    let first : same_name name row.name ≡ false
+    = path_differs_back name row.name (All-head (λ (r : RowFacts). IsBefore r.name.path name.path) row rows h) in
+    rw first (not_among rows name (All-tail (λ (r : RowFacts). IsBefore r.name.path name.path) row rows h))
+
+-- a name takes nothing away from names that stand after it
+pub without_none : (name : NameFacts) (names : List NameFacts) → All (λ other. IsBefore name.path other.path) names → without name names ≡ names
+without_none name names h =
+    filter_all (λ other. not (same_name name other)) names
+    (All-weaker (λ (other : NameFacts). IsBefore name.path other.path) (λ other. not (same_name name other) ≡ true)
+    (λ other before. rw (path_differs name other before) refl) names h)
+
+-- a name alone is taken away
+pub without_itself : (name : NameFacts) → without name (name ∷ []) ≡ []
+without_itself name = rw (same_itself name) refl
+
+-- a row that stands after all others comes last
+pub put_last : (row : RowFacts) (rows : List RowFacts) → All (λ other. IsBefore other.name.path row.name.path) rows → with_row row rows ≡ rows ++ row ∷ []
+put_last row rows h =
+    let front : filter (λ other. is_before (path_of other) (path_of row)) rows ≡ rows
+    = filter_all (λ other. is_before (path_of other) (path_of row)) rows
+    (All-weaker (λ (other : RowFacts). IsBefore other.name.path row.name.path) (λ other. is_before (path_of other) (path_of row) ≡ true)
+    (λ other before. tests_before other.name.path row.name.path before) rows h) in
+    let back : filter (λ other. is_before (path_of row) (path_of other)) rows ≡ []
+    = filter_none (λ other. is_before (path_of row) (path_of other)) rows
+    (All-weaker (λ (other : RowFacts). IsBefore other.name.path row.name.path) (λ other. is_before (path_of row) (path_of other) ≡ false)
+    (λ other before. fails_after other.name.path row.name.path before) rows h) in
+    ap (λ xs. xs ++ row ∷ filter (λ other. is_before (path_of row) (path_of other)) rows) front ∙ ap (λ xs. rows ++ row ∷ xs) back

@@ -1,0 +1,284 @@
+-- The command `scan` (this project's rule): the store is opened, the folders are walked, and the listed files are read
+-- and their rows kept, in path order, up to the first that isn't as it was listed. The store holds what was kept,
+-- however the scan ended.
+use Rattle.std.specs.Prelude.{◌≡◌, ◌≢◌, ◌⊎◌, ℕ, ◌≤◌, Bool, true, false, List, [], ◌∷◌, ◌++◌, map, length, All, IsTrue, Option, option_map, Ok, Err}
+use Rattle.row_types.specs.Faults.{HasCause, Rose}
+use Rattle.row_types.specs.Name.{NameFacts}
+use Rattle.row_types.specs.Row.{RowFacts, too_large_row}
+use Rattle.row_types.specs.Stamp.{StampFacts}
+use Rattle.row_types.specs.declared.limits.TheConstants.{FILE_LIMIT}
+use Rattle.row_codec.specs.RowBytes.{row_bytes}
+use Rattle.scan_queue.specs.declared.miss.Seen.{Seen}
+use Rattle.scan_queue.specs.declared.miss.Seen.TheVariants as seen
+use Rattle.index_keeper.specs.Tables.{EditFacts, KeptFacts, edited, put_of}
+use Rattle.index_rows.specs.Rows.{names_of}
+use Rattle.tree_trait.specs.Heard.{Heard, load}
+use Rattle.tree_trait.specs.Load.{LoadFacts, loaded, too_large, gone, failed, no_memory, FitsLoad}
+use Rattle.tree_walk.specs.Answers.{with_answers}
+use Rattle.tree_walk.specs.Ends.{Walks}
+use Rattle.tree_walk.specs.Files.{IsTold}
+use Rattle.tree_walk.specs.declared.fault.WalkFault.{WalkFault}
+use Rattle.tree_walk.specs.declared.fault.WalkFault.TheVariants as stop
+use Rattle.tree_walk.specs.declared.walked.Walk.{Walk}
+use Rattle.index_state.specs.Complete.{IsScan}
+use Rattle.index_state.specs.Kept.{tables_of}
+use Rattle.index_state.specs.Plan.{plan_of}
+use Rattle.dbgd_run.specs.Endings.{Saying, Streams, EndsOrWants}
+use Rattle.dbgd_run.specs.Load.{Hand, fault_saying, gone_saying, no_memory_saying, not_built_saying}
+use Rattle.dbgd_run.specs.Numbers.{summary_of}
+use Rattle.dbgd_run.specs.Read.{IsRowOf}
+use Rattle.dbgd_run.specs.Setting.{Rules, Setting, TellsStill}
+use Rattle.dbgd_run.specs.Store.{Holding, Stock}
+use Rattle.dbgd_run.specs.Texts.{altered_line, changes_limit_line, entries_limit_line, files_limit_line, folder_fault_line, store_fault_line, summary_line}
+use Rattle.dbgd_run.specs.declared.scan_end.ScanEnd.{ScanEnd}
+use Rattle.dbgd_run.specs.declared.scan_end.ScanEnd.TheVariants.{Unopened, Filled, Unlisted, Unread, Altered, Unkept, Full, OutOfMemory, Whole}
+use Rattle.dbgd_run.specs.declared.status.Status.TheVariants as status
+use Rattle.dbgd_run.specs.declared.summary.Summary.{Summary}
+
+-- a listed file that was read: its name, what its load answered, and its row
+pub record FileRead : Type 0 where
+  pub name : NameFacts
+  pub answer : LoadFacts
+  pub row : RowFacts
+
+-- the load found the file that was listed, and the row says what it is
+abbrev pub Reads : NameFacts → LoadFacts → RowFacts → Type 0
+Reads name (loaded found) row = (found.stamp ≡ name.stamp) × IsRowOf name found.bytes row
+Reads name (too_large stamp) row = (stamp ≡ name.stamp) × (row ≡ too_large_row name)
+Reads name gone row = ⊥
+Reads name failed row = ⊥
+Reads name no_memory row = ⊥
+
+-- the load found this in place of the file that was listed
+abbrev pub FindsOther : NameFacts → LoadFacts → Seen → Type 0
+FindsOther name (loaded found) met = (found.stamp ≢ name.stamp) × (met ≡ seen.File found.stamp)
+FindsOther name (too_large stamp) met = (stamp ≢ name.stamp) × (met ≡ seen.File stamp)
+FindsOther name gone met = met ≡ seen.Gone
+FindsOther name failed met = ⊥
+FindsOther name no_memory met = ⊥
+
+-- the file was read
+pub record IsFileRead (version : List ℕ → StampFacts → List ℕ → Type 0) (file : FileRead) : Type 0 where
+  pub asked : FitsLoad version file.name.path FILE_LIMIT file.answer
+  pub read : Reads file.name file.answer file.row
+
+-- the names of the files, in order
+abbrev pub names_read : List FileRead → List NameFacts
+names_read files = map (λ file. file.name) files
+
+-- the rows of the files, in order
+abbrev pub rows_read : List FileRead → List RowFacts
+rows_read files = map (λ file. file.row) files
+
+-- the load of a listed file, as a tree tells it
+abbrev pub load_of : NameFacts → LoadFacts → Heard
+load_of name answer = load name.path FILE_LIMIT answer
+
+-- the loads of the files, in order
+abbrev pub loads_read : List FileRead → List Heard
+loads_read files = map (λ file. load_of file.name file.answer) files
+
+-- the files were loaded and read, in the listing's order; these names are left of it, and this was heard last
+pub record LoadsFiles (version : List ℕ → StampFacts → List ℕ → Type 0) (Still : Type 0) (listing : List NameFacts) (before after : Hand) (files : List FileRead) (left : List NameFacts) (last : List Heard) : Type 0 where
+  pub listed : listing ≡ names_read files ++ left
+  pub read : All (IsFileRead version) files
+  pub heard : after.heard ≡ with_answers before.heard (loads_read files ++ last)
+  pub told : Still → All (IsTold before.present) (loads_read files ++ last)
+
+-- the walk was whole, and then the files of its listing were loaded and read
+pub record ReadsFiles (s : Setting) (roots : List (List ℕ)) (before after : Hand) (files : List FileRead) (left : List NameFacts) (last : List Heard) : Type 0 where
+  pub walk : Walk
+  pub between : Hand
+  pub walks : Walks before.heard between.heard (TellsStill s) before.present roots (Ok walk)
+  pub still : TellsStill s → between.present ≡ before.present
+  pub loads : LoadsFiles s.world.version (TellsStill s) walk.listing between after files left last
+
+-- the change that keeps a row
+abbrev pub put_row : RowFacts → EditFacts
+put_row row = put_of row.name.path (row_bytes row)
+
+-- the changes of a store, with those that keep the rows
+abbrev pub with_puts : Option (List EditFacts) → List RowFacts → Option (List EditFacts)
+with_puts made rows = option_map (λ edits. edits ++ map put_row rows) made
+
+-- the store has what it had
+pub record KeepsAll (s : Setting) (old new : Holding) : Type 0 where
+  pub tables : IsTrue s.tells_tables → new.tables ≡ old.tables
+  pub made : new.made ≡ old.made
+
+-- the store had nothing, and these rows were kept, one after the other
+pub record HasKept (s : Setting) (old new : Holding) (rows : List RowFacts) : Type 0 where
+  pub empty : IsTrue s.tells_tables → old.tables ≡ []
+  pub tables : IsTrue s.tells_tables → new.tables ≡ tables_of rows
+  pub made : new.made ≡ with_puts old.made rows
+
+-- the store had nothing, these rows were kept, and then this one or not
+pub record HasTorn (s : Setting) (old new : Holding) (rows : List RowFacts) (row : RowFacts) : Type 0 where
+  pub empty : IsTrue s.tells_tables → old.tables ≡ []
+  pub tables : IsTrue s.tells_tables → (new.tables ≡ tables_of rows) ⊎ (new.tables ≡ edited (tables_of rows) (put_row row))
+  pub made : new.made ≡ with_puts old.made rows
+
+-- the ends of a scan whose walk was whole. Read says which files were read, which names are left, and what was heard
+-- last; Kept, which rows the store has kept
+
+-- the load of the next file failed
+pub record EndsUnread (Read : List FileRead → List NameFacts → List Heard → Type 0) (Kept : List RowFacts → Type 0) : Type 0 where
+  pub files : List FileRead
+  pub name : NameFacts
+  pub left : List NameFacts
+  pub reads : Read files (name ∷ left) (load_of name failed ∷ [])
+  pub keeps : Kept (rows_read files)
+
+-- the next file was another by the time that it was loaded
+pub record EndsAltered (Read : List FileRead → List NameFacts → List Heard → Type 0) (Kept : List RowFacts → Type 0) (name : NameFacts) (met : Seen) : Type 0 where
+  pub files : List FileRead
+  pub answer : LoadFacts
+  pub left : List NameFacts
+  pub reads : Read files (name ∷ left) (load_of name answer ∷ [])
+  pub finds : FindsOther name answer met
+  pub keeps : Kept (rows_read files)
+
+-- the next file was read, and the store failed to keep its row
+pub record EndsUnkept (version : List ℕ → StampFacts → List ℕ → Type 0) (Read : List FileRead → List NameFacts → List Heard → Type 0) (Torn : List RowFacts → RowFacts → Type 0) : Type 0 where
+  pub files : List FileRead
+  pub last : FileRead
+  pub left : List NameFacts
+  pub reads : Read files (last.name ∷ left) (loads_read (last ∷ []))
+  pub read : IsFileRead version last
+  pub tears : Torn (rows_read files) last.row
+
+-- memory was refused before the next file was loaded, or for the row of the file that was read last
+pub record EndsWanting (version : List ℕ → StampFacts → List ℕ → Type 0) (Read : List FileRead → List NameFacts → List Heard → Type 0) (Kept : List RowFacts → Type 0) : Type 0 where
+  pub files : List FileRead
+  pub last : List FileRead
+  pub left : List NameFacts
+  pub few : length last ≤ 1
+  pub reads : Read files (names_read last ++ left) (loads_read last)
+  pub read : All (IsFileRead version) last
+  pub keeps : Kept (rows_read files)
+
+-- each listed file was read and its row kept: the rows are true and have the listed names; in a told world they are one
+-- scan of the listing. The numbers are those of the plan against the rows before, of which there were none
+pub record EndsWhole (true_row : RowFacts → Type 0) (world_told : Bool) (Read : List FileRead → List NameFacts → List Heard → Type 0) (Kept : List RowFacts → Type 0) (summary : Summary) : Type 0 where
+  pub files : List FileRead
+  pub reads : Read files [] []
+  pub keeps : Kept (rows_read files)
+  pub names : names_of (rows_read files) ≡ names_read files
+  pub holds : All true_row (rows_read files)
+  pub scan : world_told ≡ true → IsScan true_row (names_read files) (rows_read files)
+  pub numbers : summary ≡ summary_of (plan_of (names_read files) []) (rows_read files)
+
+-- how the scan of an open store came to its end; Walk says it of a walk that ended with a fault. A log that was empty has
+-- room for a whole listing
+abbrev pub EndsOpen : Rules → (WalkFault → Type 0) → (List FileRead → List NameFacts → List Heard → Type 0) → (List RowFacts → Type 0)
+    → (List RowFacts → RowFacts → Type 0) → ScanEnd → Type 0
+EndsOpen r Walk Read Kept Torn Unopened = ⊥
+EndsOpen r Walk Read Kept Torn Filled = ⊥
+EndsOpen r Walk Read Kept Torn (Unlisted fault) = Walk fault
+EndsOpen r Walk Read Kept Torn Unread = EndsUnread Read Kept
+EndsOpen r Walk Read Kept Torn (Altered name met) = EndsAltered Read Kept name met
+EndsOpen r Walk Read Kept Torn Unkept = EndsUnkept r.version Read Torn
+EndsOpen r Walk Read Kept Torn Full = ⊥
+EndsOpen r Walk Read Kept Torn OutOfMemory = EndsWanting r.version Read Kept
+EndsOpen r Walk Read Kept Torn (Whole summary) = EndsWhole r.true_row r.told Read Kept summary
+
+-- the walk ended with a fault, and nothing was kept
+pub record EndsInWalk (s : Setting) (roots : List (List ℕ)) (before after : Hand) (old new : Holding) (fault : WalkFault) : Type 0 where
+  pub walks : Walks before.heard after.heard (TellsStill s) before.present roots (Err fault)
+  pub keeps : HasKept s old new []
+
+-- the scan ended before a folder was looked at
+pub record EndsEarly (s : Setting) (before after : Hand) (old new : Holding) : Type 0 where
+  pub hand : after ≡ before
+  pub keeps : KeepsAll s old new
+
+-- it ended there since the store held something
+pub record EndsFilled (s : Setting) (before after : Hand) (old new : Holding) : Type 0 where
+  pub early : EndsEarly s before after old new
+  pub filled : IsTrue s.tells_tables → old.tables ≢ []
+
+-- how the scan of an open store came to its end, and what it left
+abbrev pub EndsOver : Setting → List (List ℕ) → Hand → Hand → Holding → Holding → ScanEnd → Type 0
+EndsOver s roots before after old new end =
+    EndsOpen s.world (EndsInWalk s roots before after old new) (ReadsFiles s roots before after) (HasKept s old new) (HasTorn s old new) end
+
+-- how the scan came to its end, and what it left
+abbrev pub EndsBy : Setting → List (List ℕ) → Hand → Hand → Holding → Holding → ScanEnd → Type 0
+EndsBy s roots before after old new Unopened = EndsEarly s before after old new
+EndsBy s roots before after old new Filled = EndsFilled s before after old new
+EndsBy s roots before after old new (Unlisted fault) = EndsOver s roots before after old new (Unlisted fault)
+EndsBy s roots before after old new Unread = EndsOver s roots before after old new Unread
+EndsBy s roots before after old new (Altered name met) = EndsOver s roots before after old new (Altered name met)
+EndsBy s roots before after old new Unkept = EndsOver s roots before after old new Unkept
+EndsBy s roots before after old new Full = EndsOver s roots before after old new Full
+EndsBy s roots before after old new OutOfMemory = EndsEarly s before after old new ⊎ EndsOver s roots before after old new OutOfMemory
+EndsBy s roots before after old new (Whole summary) = EndsOver s roots before after old new (Whole summary)
+
+-- whether the walk's fault is a failed call
+abbrev pub is_walk_failure : WalkFault → Bool
+is_walk_failure stop.Failed = true
+is_walk_failure stop.TooMany = false
+is_walk_failure stop.TooManyEntries = false
+is_walk_failure (stop.RootGone path) = false
+is_walk_failure stop.OutOfMemory = false
+
+-- whether a call of the hand failed
+abbrev pub is_hand_fault : ScanEnd → Bool
+is_hand_fault Unopened = false
+is_hand_fault Filled = false
+is_hand_fault (Unlisted fault) = is_walk_failure fault
+is_hand_fault Unread = true
+is_hand_fault (Altered name met) = false
+is_hand_fault Unkept = false
+is_hand_fault Full = false
+is_hand_fault OutOfMemory = false
+is_hand_fault (Whole summary) = false
+
+-- whether a call of the store failed
+abbrev pub is_store_fault : ScanEnd → Bool
+is_store_fault Unopened = true
+is_store_fault Filled = false
+is_store_fault (Unlisted fault) = false
+is_store_fault Unread = false
+is_store_fault (Altered name met) = false
+is_store_fault Unkept = true
+is_store_fault Full = false
+is_store_fault OutOfMemory = false
+is_store_fault (Whole summary) = false
+
+-- of a failed call of the store
+abbrev pub store_fault_saying : Saying
+store_fault_saying = record { out = []; err = store_fault_line; status = status.Fault }
+
+-- of a walk that ended with a fault
+abbrev pub walk_saying : WalkFault → Saying
+walk_saying stop.Failed = record { out = []; err = folder_fault_line; status = status.Fault }
+walk_saying stop.TooMany = record { out = []; err = files_limit_line; status = status.Limit }
+walk_saying stop.TooManyEntries = record { out = []; err = entries_limit_line; status = status.Limit }
+walk_saying (stop.RootGone path) = gone_saying path
+walk_saying stop.OutOfMemory = no_memory_saying
+
+-- of the end of a scan
+abbrev pub scan_saying : ScanEnd → Saying
+scan_saying Unopened = store_fault_saying
+scan_saying Filled = not_built_saying
+scan_saying (Unlisted fault) = walk_saying fault
+scan_saying Unread = fault_saying
+scan_saying (Altered name met) = record { out = []; err = altered_line name met; status = status.Altered }
+scan_saying Unkept = store_fault_saying
+scan_saying Full = record { out = []; err = changes_limit_line; status = status.Limit }
+scan_saying OutOfMemory = no_memory_saying
+scan_saying (Whole summary) = record { out = summary_line summary; err = []; status = status.Done }
+
+-- the scan came to this end, and a call failed only where a count rose
+pub record Scans (s : Setting) (roots : List (List ℕ)) (before after : Hand) (old new : Stock) (end : ScanEnd) : Type 0 where
+  pub ends : EndsBy s roots before after old.holding new.holding end
+  pub hand : HasCause before.faults after.faults (IsTrue (is_hand_fault end))
+  pub store : IsTrue (is_store_fault end) → Rose old.faults new.faults
+  pub later : old.epoch ≤ new.epoch
+
+-- the scan came to an end, and it was said, or want of memory in its place
+pub record RunsScan (s : Setting) (roots : List (List ℕ)) (before after : Hand) (kept now : Stock) (old new : Streams) (code : ℕ) : Type 0 where
+  pub end : ScanEnd
+  pub scans : Scans s roots before after kept now end
+  pub said : EndsOrWants (scan_saying end) old new code

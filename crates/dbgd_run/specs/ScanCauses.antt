@@ -1,0 +1,75 @@
+-- When a scan ends how (this project's rule).
+use Rattle.std.specs.Prelude.{◌≡◌, ◌≢◌, ◌⊎◌, ℕ, List, [], ◌∷◌, ◌++◌, All, Contains, IsTrue}
+use Rattle.row_types.specs.Faults.{Rose}
+use Rattle.row_types.specs.Name.{NameFacts}
+use Rattle.scan_queue.specs.declared.miss.Seen.{Seen}
+use Rattle.tree_trait.specs.Heard.{Heard}
+use Rattle.tree_trait.specs.Load.{LoadFacts}
+use Rattle.tree_trait.specs.Stat.{IsNothingAt}
+use Rattle.tree_walk.specs.Answers.{with_answers}
+use Rattle.tree_walk.specs.Ends.{IsRootGone, IsTooMany, IsTooManyEntries}
+use Rattle.tree_walk.specs.Files.{IsTold}
+use Rattle.dbgd_run.specs.Endings.{Streams}
+use Rattle.dbgd_run.specs.Load.{Hand}
+use Rattle.dbgd_run.specs.Scan.{FindsOther, load_of}
+use Rattle.dbgd_run.specs.Setting.{Setting, TellsStill}
+use Rattle.dbgd_run.specs.Statuses.{code_of}
+use Rattle.dbgd_run.specs.Store.{Stock}
+use Rattle.dbgd_run.specs.Words.{Line, asks_ident, asks_section, asks_scan, unbuilt, unreadable}
+use Rattle.dbgd_run.specs.declared.status.Status.TheVariants as status
+
+-- the hand heard that nothing is at a root
+pub record HeardGone (roots : List (List ℕ)) (before after : Hand) : Type 0 where
+  pub answers : List Heard
+  pub path : List ℕ
+  pub heard : after.heard ≡ with_answers before.heard answers
+  pub gone : IsRootGone answers roots path
+
+-- the last that the hand heard was another file than the listed one
+pub record HeardOther (before after : Hand) : Type 0 where
+  pub earlier : List Heard
+  pub name : NameFacts
+  pub answer : LoadFacts
+  pub met : Seen
+  pub heard : after.heard ≡ with_answers before.heard (earlier ++ load_of name answer ∷ [])
+  pub finds : FindsOther name answer met
+
+-- the hand heard of more files than a listing has, or of more entries than a walk reads
+pub record HeardMany (roots : List (List ℕ)) (before after : Hand) : Type 0 where
+  pub answers : List Heard
+  pub heard : after.heard ≡ with_answers before.heard answers
+  pub many : IsTooMany answers roots ⊎ IsTooManyEntries answers roots
+
+-- no answers of the files that are there pass a limit
+pub record IsWithinLimits (present : List NameFacts) (roots : List (List ℕ)) : Type 0 where
+  pub files : (answers : List Heard) → All (IsTold present) answers → IsTooMany answers roots → ⊥
+  pub entries : (answers : List Heard) → All (IsTold present) answers → IsTooManyEntries answers roots → ⊥
+
+-- nothing stands against a scan: the hand tells files that never change, something is at each root, no limit is met,
+-- the store tells that it holds nothing, and no count rose
+pub record IsUnhindered (s : Setting) (roots : List (List ℕ)) (before after : Hand) (kept now : Stock) (old new : Streams) : Type 0 where
+  pub still : TellsStill s
+  pub there : (path : List ℕ) → Contains roots path → IsNothingAt before.present path → ⊥
+  pub limits : IsWithinLimits before.present roots
+  pub tells : IsTrue s.tells_tables
+  pub empty : kept.holding.tables ≡ []
+  pub hand : ¬ Rose before.faults after.faults
+  pub store : ¬ Rose kept.faults now.faults
+  pub out : ¬ Rose old.out_faults new.out_faults
+
+-- 3 only where a root is gone, 4 only where a listed file was another, which never comes of files that never change, 5
+-- only where a limit was met; and a scan that nothing stands against is done, or wants memory
+pub record HasScanCauses (s : Setting) (roots : List (List ℕ)) (before after : Hand) (kept now : Stock) (old new : Streams) (code : ℕ) : Type 0 where
+  pub absent : code ≡ code_of status.Absent → HeardGone roots before after
+  pub altered : code ≡ code_of status.Altered → HeardOther before after
+  pub still : TellsStill s → code ≢ code_of status.Altered
+  pub limit : code ≡ code_of status.Limit → HeardMany roots before after
+  pub complete : IsUnhindered s roots before after kept now old new → (code ≡ code_of status.Done) ⊎ (code ≡ code_of status.OutOfMemory)
+
+-- the same of a line of words, if it asks for a scan
+abbrev pub ScanCauses : Setting → Line → Hand → Hand → Stock → Stock → Streams → Streams → ℕ → Type 0
+ScanCauses s (asks_ident path) before after kept now old new code = Unit {0}
+ScanCauses s (asks_section path name) before after kept now old new code = Unit {0}
+ScanCauses s (asks_scan store roots) before after kept now old new code = HasScanCauses s roots before after kept now old new code
+ScanCauses s unbuilt before after kept now old new code = Unit {0}
+ScanCauses s unreadable before after kept now old new code = Unit {0}

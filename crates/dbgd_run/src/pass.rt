@@ -1,0 +1,136 @@
+//! A scan of what a walk listed.
+
+ghost use Rattle.std.specs.Prelude.{◌≡◌, [], Some, IsTrue};
+ghost use Rattle.row_types.specs.Faults.{HasCause};
+ghost use Rattle.tree_trait.specs.Load.{LoadFacts};
+ghost use Rattle.index_state.specs.Invariant.{IndexInvariant};
+ghost use Rattle.index_state.specs.Keeping.{meanings};
+ghost use Rattle.index_state.specs.Plan.{plan_of};
+ghost use Rattle.index_state.specs.State.{pass_of};
+ghost use Rattle.index_state.specs.Step.{IsAwaited};
+ghost use Rattle.dbgd_run.specs.Load.{hand as shown};
+ghost use Rattle.dbgd_run.specs.Scan.{EndsOpen, LoadsFiles, is_hand_fault, is_store_fault};
+ghost use Rattle.dbgd_run.specs.ScanSteps.{DoesNext, FilesEnd, IsBegun, IsNew, KeepsFiles, KeepsNext, LoadsNext, TearsFiles};
+ghost use Rattle.dbgd_run.specs.Setting.{rules};
+
+use crate::elf_truth::ElfTruth;
+use crate::listed::load_row;
+use crate::scan_end::ScanEnd;
+use crate::summary::summary_of;
+use index_keeper::Keeper;
+use index_state::{Begun, Plan, Published, State};
+use row_types::{CanonPath, Name, TrueRow};
+use scan_queue::Listing;
+use std::alloc::Global;
+use tree_trait::Tree;
+
+/// Keeps the row of a listed file, or says how the scan ends.
+fn keep_row<W: ElfTruth, K: Keeper<W>>(
+    alloc: Global,
+    row: TrueRow<W>,
+    state: &mut State<W, K>,
+) -> Option<ScanEnd>
+    requires { IsAwaited row.name state.old }
+    ensures step { KeepsNext (meanings K.told K.tables K.images K.made K.faults K.epoch) row state.old state.new result }
+    ensures keeps { IndexInvariant W.true_row (meanings K.told K.tables K.images K.made K.faults K.epoch) state.new }
+{
+    match state.publish(alloc, row) {
+        Published::Added | Published::Replaced => None,
+        Published::LogFull => Some(ScanEnd::Full),
+        Published::OutOfMemory => Some(ScanEnd::OutOfMemory),
+        Published::KeeperFault => Some(ScanEnd::Unkept),
+        Published::Already | Published::NotListed { .. } | Published::Broken => unreachable!(),
+    }
+}
+
+/// Loads a listed file and keeps its row, or says how the scan ends.
+fn read_file<W: ElfTruth, T: Tree<W>, K: Keeper<W>>(
+    alloc: Global,
+    name: Name,
+    state: &mut State<W, K>,
+    hand: &mut T,
+) -> Option<ScanEnd>
+    requires awaited { IsAwaited name state.old }
+    requires holds { IndexInvariant W.true_row (meanings K.told K.tables K.images K.made K.faults K.epoch) state.old }
+    ensures next { (answer : LoadFacts)
+        × LoadsNext W.version T.told (T.still hand.old) (T.still hand.new) name.path
+        (shown T.present T.heard T.faults hand.old) (shown T.present T.heard T.faults hand.new) answer
+        × DoesNext (meanings K.told K.tables K.images K.made K.faults K.epoch) name answer state.old state.new result }
+    ensures keeps { IndexInvariant W.true_row (meanings K.told K.tables K.images K.made K.faults K.epoch) state.new }
+{
+    match load_row(alloc, name, hand) {
+        Ok(row) => keep_row(alloc, row, state),
+        Err(end) => Some(end),
+    }
+}
+
+/// Loads the listed files and keeps their rows, in path order, up to the first thing that goes wrong.
+fn read_files<W: ElfTruth, T: Tree<W>, K: Keeper<W>>(
+    alloc: Global,
+    state: &mut State<W, K>,
+    hand: &mut T,
+) -> Option<ScanEnd>
+    requires { IsBegun (pass_of state.old.pass).listing state.old }
+    ensures ends { FilesEnd (rules W.version W.true_row W.told) (IsTrue T.told × T.still hand.old)
+        (meanings K.told K.tables K.images K.made K.faults K.epoch) (pass_of state.old.pass).listing
+        (shown T.present T.heard T.faults hand.old) (shown T.present T.heard T.faults hand.new) state.old state.new result }
+    ensures hand { HasCause (T.faults hand.old) (T.faults hand.new) (result ≡ Some ScanEnd.Unread) }
+    ensures keeper { HasCause (K.faults state.old.keeper) (K.faults state.new.keeper) (result ≡ Some ScanEnd.Unkept) }
+    ensures keeps { IndexInvariant W.true_row (meanings K.told K.tables K.images K.made K.faults K.epoch) state.new }
+{
+    while let Some(name) = state.take() {
+        if let Some(end) = read_file(alloc, name, state, hand) {
+            return Some(end);
+        }
+    }
+    None
+}
+
+/// Reads the files of the pass that was begun, and says how the scan ends.
+fn read_pass<W: ElfTruth, T: Tree<W>, K: Keeper<W>>(
+    alloc: Global,
+    state: &mut State<W, K>,
+    plan: &Plan,
+    hand: &mut T,
+) -> ScanEnd
+    requires begun { IsBegun (pass_of state.old.pass).listing state.old }
+    requires planned { plan.now ≡ plan_of (pass_of state.old.pass).listing [] }
+    ensures ends { EndsOpen (rules W.version W.true_row W.told) (λ fault. ⊥)
+        (LoadsFiles W.version (IsTrue T.told × T.still hand.old) (pass_of state.old.pass).listing
+        (shown T.present T.heard T.faults hand.old) (shown T.present T.heard T.faults hand.new))
+        (KeepsFiles (meanings K.told K.tables K.images K.made K.faults K.epoch) state.old state.new)
+        (TearsFiles (meanings K.told K.tables K.images K.made K.faults K.epoch) state.old state.new) result }
+    ensures hand { HasCause (T.faults hand.old) (T.faults hand.new) (IsTrue (is_hand_fault result)) }
+    ensures keeper { HasCause (K.faults state.old.keeper) (K.faults state.new.keeper) (IsTrue (is_store_fault result)) }
+    ensures keeps { IndexInvariant W.true_row (meanings K.told K.tables K.images K.made K.faults K.epoch) state.new }
+{
+    match read_files(alloc, state, hand) {
+        Some(end) => end,
+        None => ScanEnd::Whole(summary_of(state, plan)),
+    }
+}
+
+/// Reads the files of a listing into an index without rows, and says how the scan ends.
+pub fn scan_listing<W: ElfTruth, T: Tree<W>, K: Keeper<W>>(
+    alloc: Global,
+    state: &mut State<W, K>,
+    listing: Listing,
+    roots: Vec<CanonPath>,
+    hand: &mut T,
+) -> ScanEnd
+    requires { IsNew state.old }
+    ensures ends { EndsOpen (rules W.version W.true_row W.told) (λ fault. ⊥)
+        (LoadsFiles W.version (IsTrue T.told × T.still hand.old) listing
+        (shown T.present T.heard T.faults hand.old) (shown T.present T.heard T.faults hand.new))
+        (KeepsFiles (meanings K.told K.tables K.images K.made K.faults K.epoch) state.old state.new)
+        (TearsFiles (meanings K.told K.tables K.images K.made K.faults K.epoch) state.old state.new) result }
+    ensures hand { HasCause (T.faults hand.old) (T.faults hand.new) (IsTrue (is_hand_fault result)) }
+    ensures keeper { HasCause (K.faults state.old.keeper) (K.faults state.new.keeper) (IsTrue (is_store_fault result)) }
+    ensures keeps { IndexInvariant W.true_row (meanings K.told K.tables K.images K.made K.faults K.epoch) state.new }
+{
+    match state.begin(alloc, listing, roots) {
+        Begun::Begun(plan) => read_pass(alloc, state, &plan, hand),
+        Begun::OutOfMemory => ScanEnd::OutOfMemory,
+        Begun::Broken => unreachable!(),
+    }
+}
