@@ -322,8 +322,7 @@ pub goes_on : {K : Type 0} (true_row : RowFacts → Type 0) (version : List ℕ 
     → (more : List FileRead) × (rest : List NameFacts) × HasRead version Still Then m listing before after old new more rest
 goes_on true_row version Still Now Then tells m listing before between after old was mid new name answer files left tells_it holds had takes next does =
     let goes : GoesOut version Still Now m listing before between old mid name files
-    = goes_out true_row version Still Now m listing before between old was mid name files left holds had takes in
-    (
+    = goes_out true_row version Still Now m listing before between old was mid name files left holds had takes in (
       files ++ file_of name answer does.row ∷ [],
       goes.left,
       reads_on version Still Now Then tells m listing before between after old mid new name answer does.row files goes.left tells_it goes.out next does.reads does.next,

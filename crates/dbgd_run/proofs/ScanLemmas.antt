@@ -35,8 +35,6 @@ use Rattle.dbgd_run.specs.declared.scan_end.ScanEnd.{ScanEnd}
 use Rattle.dbgd_run.specs.declared.scan_end.ScanEnd.TheVariants as end
 use Rattle.dbgd_run.proofs.ScanLists.{in_mid, not_among, pairs_after, pairs_before, put_last, without_itself, without_none}
 
-
-
 -- nothing more was heard
 pub with_nothing : (told : Option (List Heard)) → told ≡ with_answers told []
 with_nothing None = refl
@@ -56,8 +54,6 @@ heard_load told new name (too_large stamp) said h = h
 heard_load told new name gone said h = h
 heard_load told new name failed said h = h
 heard_load told new name no_memory said h = absurd (cc)
-
-
 
 -- a row that was read has the listed name
 pub reads_named : (name : NameFacts) (answer : LoadFacts) (row : RowFacts) → Reads name answer row → row.name ≡ name

@@ -49,10 +49,12 @@ fn scan_roots<W: ElfTruth, T: Tree<W>, K: Keeper<W>>(
     ensures keeps { IndexInvariant W.true_row (meanings K.told K.tables K.images K.made K.faults K.epoch) state.new }
 {
     match walk(alloc, hand, roots.as_slice()) {
-        Ok(Walk {
-            listing,
-            skipped: _,
-        }) => scan_listing(alloc, state, listing, roots, hand),
+        Ok(
+            Walk {
+                listing,
+                skipped: _,
+            },
+        ) => scan_listing(alloc, state, listing, roots, hand),
         Err(fault) => ScanEnd::Unlisted(fault),
     }
 }

@@ -83,13 +83,7 @@ fn say_walk<O: Sink>(fault: &WalkFault, out: &mut O, err: &mut O) -> Status
 }
 
 /// Says what stood in a listed file's place.
-fn say_altered<O: Sink>(
-    alloc: Global,
-    name: &Name,
-    seen: &Seen,
-    out: &mut O,
-    err: &mut O,
-) -> Status
+fn say_altered<O: Sink>(alloc: Global, name: &Name, seen: &Seen, out: &mut O, err: &mut O) -> Status
     ensures { EndsOrWants (scan_saying (Altered name.now seen.now))
         (streams O.written O.write_faults out.old err.old)
         (streams O.written O.write_faults out.new err.new) (code_of result) }

@@ -18,12 +18,7 @@ use tree_trait::{Found, MemTree, Script, TwoWorld};
 type Memory = Outside<OpenWorld, MemTree<OpenWorld>, MemStore<OpenWorld>, MemSink>;
 
 /// A file of these bytes.
-fn file_of(
-    alloc: Global,
-    path: &str,
-    bytes: &[u8],
-    secs: i64,
-) -> Result<Found<OpenWorld>, Fail>
+fn file_of(alloc: Global, path: &str, bytes: &[u8], secs: i64) -> Result<Found<OpenWorld>, Fail>
     ensures { IfOk result (λ file. file.path ≡ path.now) }
 {
     let bytes = Vec::from_slice(alloc, bytes)?;
@@ -119,11 +114,15 @@ fn a_file_that_was_altered_ends_the_scan(rt: HostRuntime) -> Result<(), Fail> {
         moves: vec![in alloc; 3]?,
         bad_calls: Vec::new(alloc),
     };
-    let mut outside = around(alloc, MemTree::new(alloc, script), store_of(alloc, None), &[])?;
+    let mut outside = around(
+        alloc,
+        MemTree::new(alloc, script),
+        store_of(alloc, None),
+        &[],
+    )?;
     let err = "dbgd: altered /srv/a listed 6:100:000000000 seen 7:101:000000000\n";
     scan(&rt, alloc, &mut outside, "/srv", ("", err, 4))?;
-    let out =
-        "scan: 1 files, 1 added, 0 replaced, 0 dropped, 0 kept, 0 executables, 0 debuginfo\n";
+    let out = "scan: 1 files, 1 added, 0 replaced, 0 dropped, 0 kept, 0 executables, 0 debuginfo\n";
     scan(&rt, alloc, &mut outside, "/srv", (out, err, 0))
 }
 
@@ -131,9 +130,21 @@ fn a_file_that_was_altered_ends_the_scan(rt: HostRuntime) -> Result<(), Fail> {
 fn what_a_walk_meets_ends_the_scan(rt: HostRuntime) -> Result<(), Fail> {
     let alloc = rt.alloc();
     let mut gone = around(alloc, two_files(alloc, &[])?, store_of(alloc, None), &[])?;
-    scan(&rt, alloc, &mut gone, "/none", ("", "dbgd: gone /none\n", 3))?;
+    scan(
+        &rt,
+        alloc,
+        &mut gone,
+        "/none",
+        ("", "dbgd: gone /none\n", 3),
+    )?;
     let mut folder = around(alloc, two_files(alloc, &[1])?, store_of(alloc, None), &[])?;
-    scan(&rt, alloc, &mut folder, "/srv", ("", "dbgd: fault folder\n", 1))?;
+    scan(
+        &rt,
+        alloc,
+        &mut folder,
+        "/srv",
+        ("", "dbgd: fault folder\n", 1),
+    )?;
     // Two looks at the files follow, and then the first load.
     let mut file = around(alloc, two_files(alloc, &[4])?, store_of(alloc, None), &[])?;
     scan(&rt, alloc, &mut file, "/srv", ("", "dbgd: fault file\n", 1))
@@ -150,7 +161,13 @@ fn a_store_that_stops_ends_the_scan(rt: HostRuntime) -> Result<(), Fail> {
             store_of(alloc, Some(stop_at)),
             &[],
         )?;
-        scan(&rt, alloc, &mut outside, "/srv", ("", "dbgd: fault store\n", 1))?;
+        scan(
+            &rt,
+            alloc,
+            &mut outside,
+            "/srv",
+            ("", "dbgd: fault store\n", 1),
+        )?;
     }
     Ok(())
 }
@@ -159,7 +176,13 @@ fn a_store_that_stops_ends_the_scan(rt: HostRuntime) -> Result<(), Fail> {
 fn a_line_that_cannot_be_written_is_a_fault(rt: HostRuntime) -> Result<(), Fail> {
     let alloc = rt.alloc();
     let mut outside = around(alloc, two_files(alloc, &[])?, store_of(alloc, None), &[0])?;
-    scan(&rt, alloc, &mut outside, "/srv", ("", "dbgd: fault output\n", 1))
+    scan(
+        &rt,
+        alloc,
+        &mut outside,
+        "/srv",
+        ("", "dbgd: fault output\n", 1),
+    )
 }
 
 #[test]
@@ -190,7 +213,8 @@ fn a_told_world_is_scanned_by_its_files(rt: HostRuntime) -> Result<(), Fail> {
     let words = words_of(alloc, &["scan", "-d", "m", "/w"])?;
     let status = run(alloc, words.as_slice(), &mut outside);
     let out = outside.out.written().ok_or("out is told")?;
-    let line = "scan: 1 files, 1 added, 0 replaced, 0 dropped, 0 kept, 0 executables, 0 debuginfo\n";
+    let line =
+        "scan: 1 files, 1 added, 0 replaced, 0 dropped, 0 kept, 0 executables, 0 debuginfo\n";
     assert_eq!(rt; out, line.as_bytes());
     assert_eq!(rt; status, 0);
     Ok(())
