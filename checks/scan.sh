@@ -20,7 +20,7 @@ differs() { differing=$((differing + 1)); say "$*"; }
 
 compare() { # DIR
   local files executables=0 debuginfo=0 line
-  find "$1" -type f -print0 >"$work/files"
+  find "$1" -type f -readable -print0 >"$work/files"
   files=$(tr -cd '\0' <"$work/files" | wc -c)
   while IFS= read -r -d '' file; do
     line=$("$program" ident "$file" 2>/dev/null) || continue
