@@ -1,5 +1,9 @@
 //! The entries of a folder of the system.
 
+ghost use Rattle.std.specs.Prelude.{◌≡◌, ◌↔◌, [], true, false};
+ghost use Rattle.std.specs.Fs.{IsDir, IsFile};
+ghost use Rattle.row_types.specs.Faults.{raised};
+
 use crate::look::is_one;
 use crate::read_fault::{ReadFault, TRIES};
 use std::alloc::{AllocError, Global};
@@ -20,7 +24,11 @@ pub struct FolderRead {
 
 impl FolderRead {
     /// A folder of which nothing was read yet.
-    fn new(alloc: Global) -> FolderRead {
+    fn new(alloc: Global) -> FolderRead
+        ensures entries { result.entries.items ≡ [] }
+        ensures skipped { result.skipped ≡ 0 }
+        ensures refused { result.refused ≡ false }
+    {
         FolderRead {
             entries: Vec::new(alloc),
             skipped: 0,
@@ -29,7 +37,11 @@ impl FolderRead {
     }
 
     /// A folder that may not be read: it counts as one entry that was passed over.
-    fn closed(alloc: Global) -> FolderRead {
+    fn closed(alloc: Global) -> FolderRead
+        ensures entries { result.entries.items ≡ [] }
+        ensures skipped { result.skipped ≡ 1 }
+        ensures refused { result.refused ≡ true }
+    {
         FolderRead {
             entries: Vec::new(alloc),
             skipped: 1,
@@ -38,7 +50,11 @@ impl FolderRead {
     }
 
     /// Passes an entry over.
-    fn pass_over(&mut self) {
+    fn pass_over(&mut self)
+        ensures skipped { self.new.skipped ≡ raised self.old.skipped }
+        ensures entries { self.new.entries ≡ self.old.entries }
+        ensures refused { self.new.refused ≡ self.old.refused }
+    {
         self.skipped = self.skipped.saturating_add(1);
     }
 
@@ -86,7 +102,10 @@ impl FolderRead {
 }
 
 /// What an entry is.
-fn kind_of(seen: FileType) -> EntryKind {
+fn kind_of(seen: FileType) -> EntryKind
+    ensures folder { result ≡ EntryKind.Folder ↔ IsDir seen }
+    ensures file { result ≡ EntryKind.File ↔ IsFile seen }
+{
     if seen.is_dir() {
         EntryKind::Folder
     } else if seen.is_file() {

@@ -1,6 +1,7 @@
 //! The real file system as a tree.
 
-ghost use Rattle.std.specs.Prelude.{◌≡◌, ◌≤◌};
+ghost use Rattle.std.specs.Prelude.{◌≡◌, ◌≤◌, if◌then◌else◌};
+ghost use Rattle.row_types.specs.Faults.{raised};
 
 use crate::file_load::load_file;
 use crate::folder_read::read_folder;
@@ -35,7 +36,8 @@ impl<R: Drop> RealTree<R> {
 
     /// Counts an error of the system that is no fault of the call, if there was one.
     fn count_if(&mut self, refused: bool)
-        ensures { self.old.faults ≤ self.new.faults }
+        ensures value { self.new.faults ≡ if refused then raised self.old.faults else self.old.faults }
+        ensures later { self.old.faults ≤ self.new.faults }
     {
         if refused {
             self.faults.raise();
