@@ -8,7 +8,7 @@ use Rattle.tree_trait.specs.declared.stat.StatAnswer.{StatAnswer}
 use Rattle.tree_trait.specs.declared.stat.StatAnswer.TheVariants.{Gone}
 use Rattle.tree_walk.specs.Answers.{entries_read, has_failed, with_answers, looks, is_there}
 use Rattle.tree_walk.specs.Files.{IsTold}
-use Rattle.tree_walk.specs.Walked.{IsFull, IsWalkListing, AsksOnce, IsSkipped}
+use Rattle.tree_walk.specs.Walked.{IsFull, IsWalkListing, AsksDue, AsksOnce, IsSkipped}
 use Rattle.tree_walk.specs.declared.fault.WalkFault.{WalkFault}
 use Rattle.tree_walk.specs.declared.fault.WalkFault.TheVariants.{Failed, TooMany, TooManyEntries, RootGone, OutOfMemory}
 use Rattle.tree_walk.specs.declared.walked.Walk.{Walk}
@@ -54,8 +54,9 @@ pub record IsTooMany (answers : List Heard) (roots : List (List ℕ)) : Type 0 w
   pub listing : IsWalkListing answers roots names
   pub many : LISTING_LIMIT < length names
 
--- the last answer made more entries than a walk reads
+-- the last answer made more entries than a walk reads; only what was due was asked, so that no folder counts twice
 pub record IsTooManyEntries (answers : List Heard) (roots : List (List ℕ)) : Type 0 where
+  pub asked : AsksDue answers roots
   pub last : StopsAtLast answers roots (λ last. Unit {0})
   pub many : ENTRY_LIMIT < entries_read answers
 

@@ -1,15 +1,20 @@
 -- The files under the roots, by what a tree has (this project's rule).
-use Rattle.std.specs.Prelude.{◌≡◌, ℕ, ◌≤◌, ◌||◌, ◌↔◌, Bool, true, List, Contains, length}
+use Rattle.std.specs.Prelude.{◌≡◌, ℕ, ◌≤◌, ◌<◌, ◌||◌, ◌↔◌, Bool, true, List, All, Contains, length, map, sum_by}
 use Rattle.std.specs.List.{list_any}
 use Rattle.std.specs.Str.{bytes_eq}
 use Rattle.row_types.specs.Name.{NameFacts}
 use Rattle.row_types.specs.declared.limits.TheConstants.{PATH_LIMIT}
 use Rattle.scan_queue.specs.Names.{IsByPath}
-use Rattle.tree_trait.specs.Dir.{TellsDir}
+use Rattle.scan_queue.specs.declared.listing.TheConstants.{LISTING_LIMIT}
+use Rattle.tree_trait.specs.Dir.{IsListing, TellsDir}
+use Rattle.tree_trait.specs.Entry.{EntryFacts}
 use Rattle.tree_trait.specs.Heard.{Heard, load, stat, read_dir}
 use Rattle.tree_trait.specs.Load.{TellsLoad}
-use Rattle.tree_trait.specs.Present.{lies_under}
-use Rattle.tree_trait.specs.Stat.{TellsStat}
+use Rattle.tree_trait.specs.Present.{are_distinct, lies_under}
+use Rattle.tree_trait.specs.Stat.{IsNothingAt, TellsStat}
+use Rattle.tree_walk.specs.declared.fault.WalkFault.{WalkFault}
+use Rattle.tree_walk.specs.declared.fault.WalkFault.TheVariants.{Failed, TooMany, TooManyEntries, RootGone, OutOfMemory}
+use Rattle.tree_walk.specs.declared.walked.TheConstants.{ENTRY_LIMIT}
 
 -- whether a path is the root's own, or lies under it
 abbrev pub is_within : List ℕ → List ℕ → Bool
@@ -31,3 +36,35 @@ abbrev pub IsTold : List NameFacts → Heard → Type 0
 IsTold present (load path limit answer) = TellsLoad present path answer
 IsTold present (stat path answer) = TellsStat present path answer
 IsTold present (read_dir path answer) = TellsDir present path answer
+
+-- a folder and its entries
+pub record FolderFacts : Type 0 where
+  pub path : List ℕ
+  pub entries : List EntryFacts
+
+-- the folder is a root or lies under one, and these are its entries
+pub record IsFolderUnder (present : List NameFacts) (roots : List (List ℕ)) (folder : FolderFacts) : Type 0 where
+  pub under : list_any (λ root. is_within root folder.path) roots ≡ true
+  pub listing : IsListing present folder.path folder.entries
+
+-- more files stand under the roots than a listing has
+pub record HasManyFiles (present : List NameFacts) (roots : List (List ℕ)) : Type 0 where
+  pub names : List NameFacts
+  pub by_path : IsByPath names
+  pub each : All (IsFileUnder present roots) names
+  pub many : LISTING_LIMIT < length names
+
+-- the folders under the roots have more entries than a walk reads
+pub record HasManyEntries (present : List NameFacts) (roots : List (List ℕ)) : Type 0 where
+  pub folders : List FolderFacts
+  pub distinct : are_distinct (map (λ folder. folder.path) folders) ≡ true
+  pub each : All (IsFolderUnder present roots) folders
+  pub many : ENTRY_LIMIT < sum_by (λ folder. length folder.entries) folders
+
+-- whether a walk of the files that are there may end with the fault; a failed call and want of memory say nothing of them
+abbrev pub FitsFault : List NameFacts → List (List ℕ) → WalkFault → Type 0
+FitsFault present roots Failed = Unit {0}
+FitsFault present roots TooMany = HasManyFiles present roots
+FitsFault present roots TooManyEntries = HasManyEntries present roots
+FitsFault present roots (RootGone path) = Contains roots path × IsNothingAt present path
+FitsFault present roots OutOfMemory = Unit {0}

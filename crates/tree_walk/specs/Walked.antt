@@ -68,6 +68,11 @@ IsDue answers roots (load path limit answer) = ⊥
 IsDue answers roots (stat path answer) = IsCandidate answers roots path × IsCanonPath path
 IsDue answers roots (read_dir path answer) = IsFolder answers roots path × IsCanonPath path
 
+-- nothing was asked but what was due, and no folder twice
+pub record AsksDue (answers : List Heard) (roots : List (List ℕ)) : Type 0 where
+  pub due : All (IsDue answers roots) answers
+  pub few : (path : List ℕ) → times_read answers path ≤ 1
+
 -- nothing was asked but what was due, and each folder once
 pub record AsksOnce (answers : List Heard) (roots : List (List ℕ)) : Type 0 where
   pub due : All (IsDue answers roots) answers

@@ -8,10 +8,10 @@ ghost use Rattle.tree_trait.specs.Dir.{child};
 ghost use Rattle.tree_trait.specs.Entry.{EntryFacts, has_entry};
 ghost use Rattle.tree_trait.specs.Heard.{Heard};
 ghost use Rattle.tree_trait.specs.Present.{IsPresence, StaysStill, front_under};
-ghost use Rattle.tree_trait.specs.Stat.{IsNothingAt};
 ghost use Rattle.tree_walk.specs.Answers.{entries_in};
 ghost use Rattle.tree_walk.specs.Ends.{Walks, IsCause};
-ghost use Rattle.tree_walk.specs.Files.{AreFilesUnder};
+ghost use Rattle.tree_walk.specs.Files.{AreFilesUnder, FitsFault};
+ghost use Rattle.tree_walk.specs.declared.fault.WalkFault.{WalkFault};
 ghost use Rattle.tree_walk.specs.Search.{Goes, IsBeginning, IsUnderway, with_last};
 ghost use Rattle.tree_walk.specs.Walked.{IsReached};
 
@@ -34,7 +34,7 @@ pub fn walk<W: Truth, T: Tree<W>>(
 
     // Whether or not the answers are told at the end.
     ensures files { IsTrue T.told → T.still hand.old → IfOk result (λ walk. AreFilesUnder (T.present hand.old) roots.now walk.listing) }
-    ensures gone { IsTrue T.told → T.still hand.old → (path : List ℕ) → result ≡ Err (WalkFault.RootGone path) → IsNothingAt (T.present hand.old) path }
+    ensures refused { IsTrue T.told → T.still hand.old → (fault : WalkFault) → result ≡ Err fault → FitsFault (T.present hand.old) roots.now fault }
     ensures cause { HasCause (T.faults hand.old) (T.faults hand.new) (result ≡ Err WalkFault.Failed) }
     ensures known { IsTrue T.told → 0 < length roots.now → IsPresence W.version (T.still hand.new) (T.present hand.new) }
     ensures still { T.still hand.old → StaysStill (T.still hand.new) (T.present hand.old) (T.present hand.new) }
