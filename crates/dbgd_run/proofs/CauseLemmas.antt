@@ -142,7 +142,7 @@ causes-run s (asks_scan store roots) before after kept now old new code run =
     let caused : IsCaused (Rose before.faults after.faults ⊎ (Rose kept.faults now.faults ⊎ Rose old.out_faults new.out_faults))
     (IsTrue s.tells_tables → kept.holding.tables ≢ []) code
     = caused-wants _ _ (scan_saying run.end) old new code
-    (caused-scan _ _ run.end (λ f. inl (run.scans.hand.rose f)) (λ f. inr (inl (run.scans.store f)))
+    (caused-scan _ _ run.end (λ f. inl (run.scans.hand.rose f)) (λ f. inr (inl (run.scans.store.rose f)))
     (λ e. (subst (λ (end : ScanEnd). EndsBy s roots before after kept.holding now.holding end) e run.scans.ends).filled)) (λ r. inr (inr r)) run.said in
     record {
       fault = caused.fault;

@@ -13,20 +13,20 @@ use Rattle.scan_queue.specs.declared.miss.Seen.{Seen}
 use Rattle.tree_trait.specs.Heard.{Heard, load, stat, read_dir}
 use Rattle.tree_trait.specs.Load.{LoadFacts, loaded, too_large, gone, failed, no_memory, TellsLoad}
 use Rattle.tree_trait.specs.Present.{stamp_at}
-use Rattle.tree_trait.specs.Stat.{IsNothingAt, TellsStat}
+use Rattle.tree_trait.specs.Stat.{TellsStat}
 use Rattle.tree_trait.specs.declared.stat.StatAnswer.{StatAnswer}
-use Rattle.tree_trait.specs.declared.stat.StatAnswer.TheVariants.{File, Gone}
-use Rattle.tree_walk.specs.Answers.{first_look, is_look_answer, looks, with_answers}
-use Rattle.tree_walk.specs.Ends.{IsRootGone}
-use Rattle.tree_walk.specs.Files.{IsTold}
+use Rattle.tree_trait.specs.declared.stat.StatAnswer.TheVariants.{File}
+use Rattle.tree_walk.specs.Answers.{first_look, is_look_answer, with_answers}
+use Rattle.tree_walk.specs.Files.{HasManyEntries, HasManyFiles, IsTold}
 use Rattle.tree_walk.specs.declared.fault.WalkFault.{WalkFault}
 use Rattle.tree_walk.specs.declared.fault.WalkFault.TheVariants as stop
 use Rattle.dbgd_run.specs.Endings.{EndsOrWants, Saying, Streams}
 use Rattle.dbgd_run.specs.Load.{Hand}
 use Rattle.dbgd_run.specs.Runs.{Runs}
 use Rattle.dbgd_run.specs.Scan.{EndsAltered, EndsBy, FileRead, FindsOther, ReadsFiles, RunsScan, Scans, load_of, loads_read, names_read, scan_saying}
-use Rattle.dbgd_run.specs.ScanCauses.{HasScanCauses, HeardGone, HeardMany, HeardOther, IsUnhindered, ScanCauses}
+use Rattle.dbgd_run.specs.ScanCauses.{HasRootGone, HasScanCauses, HeardGone, HeardMany, HeardOther, IsScanned, IsTurnedAway, IsUnhindered, ScanCauses}
 use Rattle.dbgd_run.specs.Setting.{Setting, TellsStill}
+use Rattle.dbgd_run.specs.Sink.{Appends}
 use Rattle.dbgd_run.specs.Statuses.{code_of}
 use Rattle.dbgd_run.specs.Store.{Holding, Stock}
 use Rattle.dbgd_run.specs.Words.{Line, asks_ident, asks_section, asks_scan, unbuilt, unreadable}
@@ -49,21 +49,56 @@ said_other saying old new code k said is one six =
       | inr rest ↦ elim rest [ inl fault ↦ absurd (one (sym is ∙ fault.0)) | inr e ↦ absurd (six (sym is ∙ e)) ]
     ]
 
+-- nothing is to be said on the standard output, so that it can't fail
+said_quiet : (saying : Saying) (old new : Streams) (code : ℕ) → saying.out ≡ [] → EndsOrWants saying old new code
+    → (code ≡ code_of saying.status) ⊎ (code ≡ 6)
+said_quiet saying old new code quiet (inl (inl whole)) = inl whole.ends
+said_quiet saying old new code quiet (inl (inr cut)) =
+    let none : length saying.out ≡ 0 = ap length quiet in
+    let some = cut.some in
+    absurd (omega (arith, none, some))
+said_quiet saying old new code quiet (inr unsaid) = inr unsaid.ends
+
+-- 0: all was said
+said_done : (saying : Saying) (old new : Streams) (code : ℕ) → EndsOrWants saying old new code → code ≡ 0
+    → (code_of saying.status ≡ 0) × Appends old.out saying.out new.out
+said_done saying old new code (inl (inl whole)) e = (sym whole.ends ∙ e, whole.out)
+said_done saying old new code (inl (inr cut)) e = let fault : code ≡ 1 = cut.ends in absurd (omega (arith, fault, e))
+said_done saying old new code (inr unsaid) e = let wants : code ≡ 6 = unsaid.ends in absurd (omega (arith, wants, e))
+
 -- two pieces that were heard
 with_both : (told mid new : Option (List Heard)) (xs ys : List Heard) → mid ≡ with_answers told xs → new ≡ with_answers mid ys → new ≡ with_answers told (xs ++ ys)
 with_both None mid new xs ys m n = n ∙ ap (λ t. with_answers t ys) m
 with_both (Some heard) mid new xs ys m n = n ∙ ap (λ t. with_answers t ys) m ∙ ap Some (append_assoc heard xs ys)
 
+-- 0
+done_end : (s : Setting) (roots : List (List ℕ)) (before after : Hand) (kept now : Stock) (old new : Streams) (end : ScanEnd) → code_of (scan_saying end).status ≡ 0
+    → EndsBy s roots before after kept.holding now.holding end → Appends old.out (scan_saying end).out new.out → IsScanned s roots before after kept now old new
+done_end s roots before after kept now old new Unopened e ends said = absurd (omega arith)
+done_end s roots before after kept now old new Filled e ends said = absurd (omega arith)
+done_end s roots before after kept now old new (Unlisted stop.Failed) e ends said = absurd (omega arith)
+done_end s roots before after kept now old new (Unlisted stop.TooMany) e ends said = absurd (omega arith)
+done_end s roots before after kept now old new (Unlisted stop.TooManyEntries) e ends said = absurd (omega arith)
+done_end s roots before after kept now old new (Unlisted (stop.RootGone path)) e ends said = absurd (omega arith)
+done_end s roots before after kept now old new (Unlisted stop.OutOfMemory) e ends said = absurd (omega arith)
+done_end s roots before after kept now old new Unread e ends said = absurd (omega arith)
+done_end s roots before after kept now old new (Altered name met) e ends said = absurd (omega arith)
+done_end s roots before after kept now old new Unkept e ends said = absurd (omega arith)
+done_end s roots before after kept now old new Full e ends said = absurd (omega arith)
+done_end s roots before after kept now old new OutOfMemory e ends said = absurd (omega arith)
+done_end s roots before after kept now old new (Whole summary) e ends said = record { summary = summary; ends = ends; line = said }
+
 -- 3
 absent_end : (s : Setting) (roots : List (List ℕ)) (before after : Hand) (old new : Holding) (end : ScanEnd) → code_of (scan_saying end).status ≡ 3
-    → EndsBy s roots before after old new end → HeardGone roots before after
+    → EndsBy s roots before after old new end → HeardGone roots before after × (TellsStill s → HasRootGone before.present roots)
 absent_end s roots before after old new Unopened e ends = absurd (omega arith)
 absent_end s roots before after old new Filled e ends = absurd (omega arith)
 absent_end s roots before after old new (Unlisted stop.Failed) e ends = absurd (omega arith)
 absent_end s roots before after old new (Unlisted stop.TooMany) e ends = absurd (omega arith)
 absent_end s roots before after old new (Unlisted stop.TooManyEntries) e ends = absurd (omega arith)
 absent_end s roots before after old new (Unlisted (stop.RootGone path)) e ends =
-    record { answers = ends.walks.answers; path = path; heard = ends.walks.heard; gone = ends.walks.ends }
+    (record { answers = ends.walks.answers; path = path; heard = ends.walks.heard; gone = ends.walks.ends },
+    λ still. let fits = ends.fits still in record { path = path; root = fits.0; nothing = fits.1 })
 absent_end s roots before after old new (Unlisted stop.OutOfMemory) e ends = absurd (omega arith)
 absent_end s roots before after old new Unread e ends = absurd (omega arith)
 absent_end s roots before after old new (Altered name met) e ends = absurd (omega arith)
@@ -74,14 +109,15 @@ absent_end s roots before after old new (Whole summary) e ends = absurd (omega a
 
 -- 5
 limit_end : (s : Setting) (roots : List (List ℕ)) (before after : Hand) (old new : Holding) (end : ScanEnd) → code_of (scan_saying end).status ≡ 5
-    → EndsBy s roots before after old new end → HeardMany roots before after
+    → EndsBy s roots before after old new end
+    → HeardMany roots before after × (TellsStill s → HasManyFiles before.present roots ⊎ HasManyEntries before.present roots)
 limit_end s roots before after old new Unopened e ends = absurd (omega arith)
 limit_end s roots before after old new Filled e ends = absurd (omega arith)
 limit_end s roots before after old new (Unlisted stop.Failed) e ends = absurd (omega arith)
 limit_end s roots before after old new (Unlisted stop.TooMany) e ends =
-    record { answers = ends.walks.answers; heard = ends.walks.heard; many = inl ends.walks.ends }
+    (record { answers = ends.walks.answers; heard = ends.walks.heard; many = inl ends.walks.ends }, λ still. inl (ends.fits still))
 limit_end s roots before after old new (Unlisted stop.TooManyEntries) e ends =
-    record { answers = ends.walks.answers; heard = ends.walks.heard; many = inr ends.walks.ends }
+    (record { answers = ends.walks.answers; heard = ends.walks.heard; many = inr ends.walks.ends }, λ still. inr (ends.fits still))
 limit_end s roots before after old new (Unlisted (stop.RootGone path)) e ends = absurd (omega arith)
 limit_end s roots before after old new (Unlisted stop.OutOfMemory) e ends = absurd (omega arith)
 limit_end s roots before after old new Unread e ends = absurd (omega arith)
@@ -179,37 +215,40 @@ altered_end s roots before after old new Full e ends = absurd (omega arith)
 altered_end s roots before after old new OutOfMemory e ends = absurd (omega arith)
 altered_end s roots before after old new (Whole summary) e ends = absurd (omega arith)
 
--- a root of which it was heard that nothing is there
-root_gone : (present : List NameFacts) (roots : List (List ℕ)) (answers : List Heard) (path : List ℕ) → All (IsTold present) answers
-    → IsRootGone answers roots path → IsNothingAt present path
-root_gone present roots answers path told heard =
-    All-contains (IsTold present) (looks heard.before heard.given ++ stat path Gone ∷ []) (stat path Gone)
-    (subst (λ (xs : List Heard). All (IsTold present) xs) heard.heard told) (Contains-push (looks heard.before heard.given) (stat path Gone))
-
--- it is one of the roots
-gone_root : (roots : List (List ℕ)) (answers : List Heard) (path : List ℕ) → IsRootGone answers roots path → Contains roots path
-gone_root roots answers path heard =
-    subst (λ (xs : List (List ℕ)). Contains xs path) (sym heard.split) (Contains-append_right heard.before (path ∷ heard.after) path (0, omega arith, refl))
+-- a store that holds something is turned away
+filled_end : (s : Setting) (roots : List (List ℕ)) (before after : Hand) (kept now : Stock) (old new : Streams) (code : ℕ) (end : ScanEnd)
+    → IsTrue s.tells_tables → kept.holding.tables ≢ [] → Scans s roots before after kept now end → EndsOrWants (scan_saying end) old new code
+    → IsTurnedAway kept now code
+filled_end s roots before after kept now old new code Unopened tells some scans said =
+    elim (said_quiet (scan_saying Unopened) old new code refl said) [ inl e ↦ inr (inl (e, scans.store.rose refl)) | inr e ↦ inr (inr e) ]
+filled_end s roots before after kept now old new code Filled tells some scans said =
+    elim (said_quiet (scan_saying Filled) old new code refl said) [ inl e ↦ inl e | inr e ↦ inr (inr e) ]
+filled_end s roots before after kept now old new code (Unlisted fault) tells some scans said = absurd (some (scans.ends.keeps.empty tells))
+filled_end s roots before after kept now old new code Unread tells some scans said = absurd (some (scans.ends.keeps.empty tells))
+filled_end s roots before after kept now old new code (Altered name met) tells some scans said = absurd (some (scans.ends.keeps.empty tells))
+filled_end s roots before after kept now old new code Unkept tells some scans said = absurd (some (scans.ends.tears.empty tells))
+filled_end s roots before after kept now old new code Full tells some scans said = absurd scans.ends
+filled_end s roots before after kept now old new code OutOfMemory tells some scans said =
+    elim (said_quiet (scan_saying OutOfMemory) old new code refl said) [ inl e ↦ inr (inr e) | inr e ↦ inr (inr e) ]
+filled_end s roots before after kept now old new code (Whole summary) tells some scans said = absurd (some (scans.ends.keeps.empty tells))
 
 -- where nothing stands against it, the scan's end is whole, or memory was wanted
 unhindered_end : (s : Setting) (roots : List (List ℕ)) (before after : Hand) (kept now : Stock) (old new : Streams) (end : ScanEnd)
     → IsUnhindered s roots before after kept now old new → Scans s roots before after kept now end
     → (code_of (scan_saying end).status ≡ 0) ⊎ (code_of (scan_saying end).status ≡ 6)
-unhindered_end s roots before after kept now old new Unopened free scans = absurd (free.store (scans.store refl))
+unhindered_end s roots before after kept now old new Unopened free scans = absurd (free.store (scans.store.rose refl))
 unhindered_end s roots before after kept now old new Filled free scans = absurd (scans.ends.filled free.tells free.empty)
 unhindered_end s roots before after kept now old new (Unlisted stop.Failed) free scans = absurd (free.hand (scans.hand.rose refl))
-unhindered_end s roots before after kept now old new (Unlisted stop.TooMany) free scans =
-    absurd (free.limits.files scans.ends.walks.answers (scans.ends.walks.told free.still) scans.ends.walks.ends)
-unhindered_end s roots before after kept now old new (Unlisted stop.TooManyEntries) free scans =
-    absurd (free.limits.entries scans.ends.walks.answers (scans.ends.walks.told free.still) scans.ends.walks.ends)
+unhindered_end s roots before after kept now old new (Unlisted stop.TooMany) free scans = absurd (free.files (scans.ends.fits free.still))
+unhindered_end s roots before after kept now old new (Unlisted stop.TooManyEntries) free scans = absurd (free.entries (scans.ends.fits free.still))
 unhindered_end s roots before after kept now old new (Unlisted (stop.RootGone path)) free scans =
-    absurd (free.there path (gone_root roots scans.ends.walks.answers path scans.ends.walks.ends)
-    (root_gone before.present roots scans.ends.walks.answers path (scans.ends.walks.told free.still) scans.ends.walks.ends))
+    let fits = scans.ends.fits free.still in
+    absurd (free.there (record { path = path; root = fits.0; nothing = fits.1 }))
 unhindered_end s roots before after kept now old new (Unlisted stop.OutOfMemory) free scans = inr refl
 unhindered_end s roots before after kept now old new Unread free scans = absurd (free.hand (scans.hand.rose refl))
 unhindered_end s roots before after kept now old new (Altered name met) free scans =
     absurd (never_other s roots before after _ name met free.still scans.ends)
-unhindered_end s roots before after kept now old new Unkept free scans = absurd (free.store (scans.store refl))
+unhindered_end s roots before after kept now old new Unkept free scans = absurd (free.store (scans.store.rose refl))
 unhindered_end s roots before after kept now old new Full free scans = absurd scans.ends
 unhindered_end s roots before after kept now old new OutOfMemory free scans = inr refl
 unhindered_end s roots before after kept now old new (Whole summary) free scans = inl refl
@@ -218,24 +257,32 @@ unhindered_end s roots before after kept now old new (Whole summary) free scans 
 scan_causes : (s : Setting) (roots : List (List ℕ)) (before after : Hand) (kept now : Stock) (old new : Streams) (code : ℕ)
     → RunsScan s roots before after kept now old new code → HasScanCauses s roots before after kept now old new code
 scan_causes s roots before after kept now old new code run = record {
-  absent = λ e.
-      absent_end s roots before after kept.holding now.holding run.end
-      (said_other (scan_saying run.end) old new code 3 run.said e (λ i. omega arith) (λ i. omega arith)) run.scans.ends;
-  altered = λ e.
-      (altered_end s roots before after kept.holding now.holding run.end
-      (said_other (scan_saying run.end) old new code 4 run.said e (λ i. omega arith) (λ i. omega arith)) run.scans.ends).0;
-  still = λ still e.
-      (altered_end s roots before after kept.holding now.holding run.end
-      (said_other (scan_saying run.end) old new code 4 run.said e (λ i. omega arith) (λ i. omega arith)) run.scans.ends).1 still;
-  limit = λ e.
-      limit_end s roots before after kept.holding now.holding run.end
-      (said_other (scan_saying run.end) old new code 5 run.said e (λ i. omega arith) (λ i. omega arith)) run.scans.ends;
+  done = λ e.
+      let said = said_done (scan_saying run.end) old new code run.said e in
+      done_end s roots before after kept now old new run.end said.0 run.scans.ends said.1;
+  absent = λ e. (gone e).0;
+  altered = λ e. (other e).0;
+  limit = λ e. (many e).0;
+  still = λ still. record { absent = λ e. (gone e).1 still; altered = λ e. (other e).1 still; limit = λ e. (many e).1 still };
+  filled = λ tells some. filled_end s roots before after kept now old new code run.end tells some run.scans run.said;
   complete = λ free.
       elim (said_code (scan_saying run.end) old new code run.said) [
         | inl e ↦ elim (unhindered_end s roots before after kept now old new run.end free run.scans) [ inl done ↦ inl (e ∙ done) | inr wants ↦ inr (e ∙ wants) ]
         | inr rest ↦ elim rest [ inl fault ↦ absurd (free.out fault.1) | inr wants ↦ inr wants ]
       ];
 }
+  where
+    said_so : (k : ℕ) → code ≡ k → (k ≡ 1 → ⊥) → (k ≡ 6 → ⊥) → code_of (scan_saying run.end).status ≡ k
+    said_so k e one six = said_other (scan_saying run.end) old new code k run.said e one six
+
+    gone : code ≡ 3 → HeardGone roots before after × (TellsStill s → HasRootGone before.present roots)
+    gone e = absent_end s roots before after kept.holding now.holding run.end (said_so 3 e (λ i. omega arith) (λ i. omega arith)) run.scans.ends
+
+    other : code ≡ 4 → HeardOther before after × (TellsStill s → ⊥)
+    other e = altered_end s roots before after kept.holding now.holding run.end (said_so 4 e (λ i. omega arith) (λ i. omega arith)) run.scans.ends
+
+    many : code ≡ 5 → HeardMany roots before after × (TellsStill s → HasManyFiles before.present roots ⊎ HasManyEntries before.present roots)
+    many e = limit_end s roots before after kept.holding now.holding run.end (said_so 5 e (λ i. omega arith) (λ i. omega arith)) run.scans.ends
 
 -- the same of each line
 pub causes-scan : (s : Setting) (line : Line) (before after : Hand) (kept now : Stock) (old new : Streams) (code : ℕ)

@@ -8,6 +8,7 @@ use Rattle.index_keeper.specs.Keeper.{IsOnlyImage}
 use Rattle.index_keeper.specs.Tables.{EditFacts, KeptFacts}
 use Rattle.tree_trait.specs.Heard.{Heard}
 use Rattle.tree_walk.specs.Ends.{Walks}
+use Rattle.tree_walk.specs.Files.{AreFilesUnder}
 use Rattle.tree_walk.specs.declared.fault.WalkFault.{WalkFault}
 use Rattle.tree_walk.specs.declared.fault.WalkFault.TheVariants as stop
 use Rattle.tree_walk.specs.declared.walked.Walk.{Walk}
@@ -46,9 +47,10 @@ walk_cause before after stop.OutOfMemory cause = record { later = cause.later; r
 -- what was loaded after a whole walk
 pub walked : {K : Type 0} (s : Setting) (m : Meanings K) (roots : List (List ℕ)) (before between after : Hand) (old new : StateFacts K) (walk : Walk) (Mid : Type 0) (end : ScanEnd)
     → Walks before.heard between.heard (TellsStill s) before.present roots (Ok walk) → (TellsStill s → Mid) → (TellsStill s → between.present ≡ before.present)
+    → (TellsStill s → AreFilesUnder before.present roots walk.listing)
     → EndsOpen s.world (λ fault. ⊥) (LoadsFiles s.world.version Mid walk.listing between after) (KeepsFiles m old new) (TearsFiles m old new) end
     → EndsOpen s.world (EndsUnlisted s roots before after old new) (ReadsFiles s roots before after) (KeepsFiles m old new) (TearsFiles m old new) end
-walked s m roots before between after old new walk Mid end walks still same ends =
+walked s m roots before between after old new walk Mid end walks still same under ends =
     ends_open s.world (λ fault. ⊥) (EndsUnlisted s roots before after old new) (LoadsFiles s.world.version Mid walk.listing between after)
     (ReadsFiles s roots before after) (KeepsFiles m old new) (KeepsFiles m old new) (TearsFiles m old new) (TearsFiles m old new)
     (λ fault none. absurd none)
@@ -57,6 +59,7 @@ walked s m roots before between after old new walk Mid end walks still same ends
       between = between;
       walks = walks;
       still = same;
+      under = under;
       loads = record { listed = loads.listed; read = loads.read; heard = loads.heard; told = λ t. loads.told (still t) };
     })
     (λ rows keeps. keeps) (λ rows row tears. tears) end ends
@@ -122,6 +125,7 @@ ends_opened s m roots before after keeper old new had left end told holds opens 
     (ReadsFiles s roots before after) (KeepsFiles m old new) (HasKept s from into) (TearsFiles m old new) (HasTorn s from into)
     (λ fault unlisted. record {
       walks = unlisted.walks;
+      fits = unlisted.fits;
       keeps =
           kept_holding s m keeper old new had left [] told holds opens was image
           (subst (λ (state : StateFacts _). KeepsFiles m old state []) (sym unlisted.same) (keeps_none m old (opens_new m keeper old opens)));

@@ -2,7 +2,7 @@
 -- and their rows kept, in path order, up to the first that isn't as it was listed. The store holds what was kept,
 -- however the scan ended.
 use Rattle.std.specs.Prelude.{◌≡◌, ◌≢◌, ◌⊎◌, ℕ, ◌≤◌, Bool, true, false, List, [], ◌∷◌, ◌++◌, map, length, All, IsTrue, Option, option_map, Ok, Err}
-use Rattle.row_types.specs.Faults.{HasCause, Rose}
+use Rattle.row_types.specs.Faults.{HasCause}
 use Rattle.row_types.specs.Name.{NameFacts}
 use Rattle.row_types.specs.Row.{RowFacts, too_large_row}
 use Rattle.row_types.specs.Stamp.{StampFacts}
@@ -16,7 +16,7 @@ use Rattle.tree_trait.specs.Heard.{Heard, load}
 use Rattle.tree_trait.specs.Load.{LoadFacts, loaded, too_large, gone, failed, no_memory, FitsLoad}
 use Rattle.tree_walk.specs.Answers.{with_answers}
 use Rattle.tree_walk.specs.Ends.{Walks}
-use Rattle.tree_walk.specs.Files.{IsTold}
+use Rattle.tree_walk.specs.Files.{AreFilesUnder, FitsFault, IsTold}
 use Rattle.tree_walk.specs.declared.fault.WalkFault.{WalkFault}
 use Rattle.tree_walk.specs.declared.fault.WalkFault.TheVariants as stop
 use Rattle.tree_walk.specs.declared.walked.Walk.{Walk}
@@ -85,12 +85,14 @@ pub record LoadsFiles (version : List ℕ → StampFacts → List ℕ → Type 0
   pub heard : after.heard ≡ with_answers before.heard (loads_read files ++ last)
   pub told : Still → All (IsTold before.present) (loads_read files ++ last)
 
--- the walk was whole, and then the files of its listing were loaded and read
+-- the walk was whole, and then the files of its listing were loaded and read; of a hand that tells files which never
+-- change, these are the files under the roots
 pub record ReadsFiles (s : Setting) (roots : List (List ℕ)) (before after : Hand) (files : List FileRead) (left : List NameFacts) (last : List Heard) : Type 0 where
   pub walk : Walk
   pub between : Hand
   pub walks : Walks before.heard between.heard (TellsStill s) before.present roots (Ok walk)
   pub still : TellsStill s → between.present ≡ before.present
+  pub under : TellsStill s → AreFilesUnder before.present roots walk.listing
   pub loads : LoadsFiles s.world.version (TellsStill s) walk.listing between after files left last
 
 -- the change that keeps a row
@@ -182,9 +184,10 @@ EndsOpen r Walk Read Kept Torn Full = ⊥
 EndsOpen r Walk Read Kept Torn OutOfMemory = EndsWanting r.version Read Kept
 EndsOpen r Walk Read Kept Torn (Whole summary) = EndsWhole r.true_row r.told Read Kept summary
 
--- the walk ended with a fault, and nothing was kept
+-- the walk ended with a fault, which files that never change explain, and nothing was kept
 pub record EndsInWalk (s : Setting) (roots : List (List ℕ)) (before after : Hand) (old new : Holding) (fault : WalkFault) : Type 0 where
   pub walks : Walks before.heard after.heard (TellsStill s) before.present roots (Err fault)
+  pub fits : TellsStill s → FitsFault before.present roots fault
   pub keeps : HasKept s old new []
 
 -- the scan ended before a folder was looked at
@@ -274,7 +277,7 @@ scan_saying (Whole summary) = record { out = summary_line summary; err = []; sta
 pub record Scans (s : Setting) (roots : List (List ℕ)) (before after : Hand) (old new : Stock) (end : ScanEnd) : Type 0 where
   pub ends : EndsBy s roots before after old.holding new.holding end
   pub hand : HasCause before.faults after.faults (IsTrue (is_hand_fault end))
-  pub store : IsTrue (is_store_fault end) → Rose old.faults new.faults
+  pub store : HasCause old.faults new.faults (IsTrue (is_store_fault end))
   pub later : old.epoch ≤ new.epoch
 
 -- the scan came to an end, and it was said, or want of memory in its place

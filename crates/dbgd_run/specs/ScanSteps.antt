@@ -11,6 +11,7 @@ use Rattle.tree_trait.specs.Heard.{after_load}
 use Rattle.tree_trait.specs.Load.{LoadFacts, failed, no_memory, is_failed, FitsLoad, TellsLoad}
 use Rattle.tree_trait.specs.Present.{StaysStill}
 use Rattle.tree_walk.specs.Ends.{Walks}
+use Rattle.tree_walk.specs.Files.{FitsFault}
 use Rattle.tree_walk.specs.declared.fault.WalkFault.{WalkFault}
 use Rattle.index_state.specs.Keeping.{Meanings}
 use Rattle.index_state.specs.Kept.{tables_of}
@@ -78,6 +79,7 @@ DoesNext m name answer old new (Some (Whole summary)) = ⊥
 -- the walk ended with a fault, and the index stays as it is
 pub record EndsUnlisted {K : Type 0} (s : Setting) (roots : List (List ℕ)) (before after : Hand) (old new : StateFacts K) (fault : WalkFault) : Type 0 where
   pub walks : Walks before.heard after.heard (TellsStill s) before.present roots (Err fault)
+  pub fits : TellsStill s → FitsFault before.present roots fault
   pub same : new ≡ old
 
 -- the index has exactly these rows, each put once, and is not broken

@@ -5,6 +5,7 @@ ghost use Rattle.row_types.specs.Reading.{IsTrueRow};
 ghost use Rattle.row_types.specs.Row.{RowFacts};
 
 use row_types::{OpenWorld, Truth};
+use sample_world::SampleWorld;
 use tree_trait::TwoWorld;
 
 /// A world whose true rows are those of the reader of ELF files. It has no calls.
@@ -25,6 +26,12 @@ impl ElfTruth for OpenWorld {
 }
 
 impl ElfTruth for TwoWorld {
+    ghost read_rows = { λ _ h. h };
+
+    ghost only_read = { λ _ _ h. h };
+}
+
+impl ElfTruth for SampleWorld {
     ghost read_rows = { λ _ h. h };
 
     ghost only_read = { λ _ _ h. h };

@@ -2,12 +2,14 @@
 
 ghost use Rattle.std.specs.Prelude.{◌≡◌, IfOk};
 
+use crate::elf_truth::ElfTruth;
 use crate::mem_sink::MemSink;
 use crate::outside::{Outside, run};
 use crate::tests::helpers::words_of;
 use index_keeper::MemStore;
 use row_types::{OpenWorld, Stamp};
 use sample_files::both_classes;
+use sample_world::{SampleWorld, changed_file_script, reference_script};
 use std::alloc::Global;
 use std::marker::PhantomData;
 use std::process::Abort;
@@ -15,16 +17,16 @@ use std::test::Fail;
 use tree_trait::{Found, MemTree, Script, TwoWorld};
 
 /// The objects of a scan in memory.
-type Memory = Outside<OpenWorld, MemTree<OpenWorld>, MemStore<OpenWorld>, MemSink>;
+type Memory<W> = Outside<W, MemTree<W>, MemStore<W>, MemSink>;
 
 /// A file of these bytes.
-fn file_of(alloc: Global, path: &str, bytes: &[u8], secs: i64) -> Result<Found<OpenWorld>, Fail>
+fn file_of(alloc: Global, path: &str, bytes: &[u8]) -> Result<Found<OpenWorld>, Fail>
     ensures { IfOk result (λ file. file.path ≡ path.now) }
 {
     let bytes = Vec::from_slice(alloc, bytes)?;
     let stamp = Stamp {
         size: bytes.len() as u64,
-        secs,
+        secs: 100,
         nanos: 0,
     };
     Ok(Found::new(String::from_str(alloc, path)?, stamp, bytes))
@@ -32,8 +34,8 @@ fn file_of(alloc: Global, path: &str, bytes: &[u8], secs: i64) -> Result<Found<O
 
 /// A hand that has `/srv/a` of both classes and `/srv/b`, a text, and fails at these calls.
 fn two_files(alloc: Global, bad_calls: &[u64]) -> Result<MemTree<OpenWorld>, Fail> {
-    let first = file_of(alloc, "/srv/a", &both_classes(alloc)?, 100)?;
-    let second = file_of(alloc, "/srv/b", b"hello\n", 100)?;
+    let first = file_of(alloc, "/srv/a", &both_classes(alloc)?)?;
+    let second = file_of(alloc, "/srv/b", b"hello\n")?;
     let script = Script {
         stages: vec![in alloc; vec![in alloc; first, second]?]?,
         moves: Vec::new(alloc),
@@ -43,35 +45,35 @@ fn two_files(alloc: Global, bad_calls: &[u64]) -> Result<MemTree<OpenWorld>, Fai
 }
 
 /// A store that keeps nothing yet, and stops at the call of a number.
-fn store_of(alloc: Global, stop_at: Option<u64>) -> MemStore<OpenWorld> {
+fn store_of<W: ElfTruth>(alloc: Global, stop_at: Option<u64>) -> MemStore<W> {
     MemStore::new(alloc, Vec::new(alloc), stop_at, Vec::new(alloc))
 }
 
 /// The objects around a hand and a store; the writes of these numbers fail on out.
-fn around(
+fn around<W: ElfTruth + Send>(
     alloc: Global,
-    hand: MemTree<OpenWorld>,
-    store: MemStore<OpenWorld>,
+    hand: MemTree<W>,
+    store: MemStore<W>,
     bad_writes: &[u64],
-) -> Result<Memory, Fail> {
+) -> Result<Memory<W>, Fail> {
     Ok(Outside {
         hands: vec![in alloc; hand]?,
         store,
         out: MemSink::new(alloc, Vec::from_slice(alloc, bad_writes)?),
         err: MemSink::new(alloc, Vec::new(alloc)),
-        of: PhantomData::<OpenWorld>,
+        of: PhantomData::<W>,
     })
 }
 
-/// Scans a folder, and compares the status and all that the sinks got by then.
-fn scan(
+/// Scans folders, and compares the status and all that the sinks got by then.
+fn scan<W: ElfTruth + Send>(
     rt: &impl Abort,
     alloc: Global,
-    outside: &mut Memory,
-    root: &str,
+    outside: &mut Memory<W>,
+    words: &[&str],
     ends: (&str, &str, u8),
 ) -> Result<(), Fail> {
-    let words = words_of(alloc, &["scan", "-d", "m", root])?;
+    let words = words_of(alloc, words)?;
     if outside.hands.is_empty() {
         return Err("a hand".into());
     }
@@ -84,6 +86,9 @@ fn scan(
     Ok(())
 }
 
+/// A scan of the folder that most tests have.
+const SCAN: &[&str] = &["scan", "-d", "m", "/srv"];
+
 /// The line of a scan of the two files.
 const TWO: &str =
     "scan: 2 files, 2 added, 0 replaced, 0 dropped, 0 kept, 1 executables, 1 debuginfo\n";
@@ -92,13 +97,13 @@ const TWO: &str =
 fn two_files_are_counted(rt: HostRuntime) -> Result<(), Fail> {
     let alloc = rt.alloc();
     let mut outside = around(alloc, two_files(alloc, &[])?, store_of(alloc, None), &[])?;
-    scan(&rt, alloc, &mut outside, "/srv", (TWO, "", 0))?;
+    scan(&rt, alloc, &mut outside, SCAN, (TWO, "", 0))?;
     // A store that holds rows can't be read yet.
     scan(
         &rt,
         alloc,
         &mut outside,
-        "/srv",
+        SCAN,
         (TWO, "dbgd: not built yet\n", 8),
     )
 }
@@ -106,24 +111,24 @@ fn two_files_are_counted(rt: HostRuntime) -> Result<(), Fail> {
 #[test]
 fn a_file_that_was_altered_ends_the_scan(rt: HostRuntime) -> Result<(), Fail> {
     let alloc = rt.alloc();
-    let listed = file_of(alloc, "/srv/a", b"hello\n", 100)?;
-    let altered = file_of(alloc, "/srv/a", b"hello!\n", 101)?;
-    let script = Script {
-        stages: vec![in alloc; vec![in alloc; listed]?, vec![in alloc; altered]?]?,
-        // The load comes after a look at the root, its entries, and a look at the file.
-        moves: vec![in alloc; 3]?,
-        bad_calls: Vec::new(alloc),
-    };
-    let mut outside = around(
-        alloc,
-        MemTree::new(alloc, script),
-        store_of(alloc, None),
-        &[],
-    )?;
+    // The load comes after a look at the root, its entries, and a look at the file.
+    let hand = MemTree::new(alloc, changed_file_script(alloc, 3)?);
+    let mut outside: Memory<SampleWorld> = around(alloc, hand, store_of(alloc, None), &[])?;
     let err = "dbgd: altered /srv/a listed 6:100:000000000 seen 7:101:000000000\n";
-    scan(&rt, alloc, &mut outside, "/srv", ("", err, 4))?;
+    scan(&rt, alloc, &mut outside, SCAN, ("", err, 4))?;
     let out = "scan: 1 files, 1 added, 0 replaced, 0 dropped, 0 kept, 0 executables, 0 debuginfo\n";
-    scan(&rt, alloc, &mut outside, "/srv", (out, err, 0))
+    scan(&rt, alloc, &mut outside, SCAN, (out, err, 0))
+}
+
+#[test]
+fn the_reference_tree_is_scanned(rt: HostRuntime) -> Result<(), Fail> {
+    let alloc = rt.alloc();
+    let hand = MemTree::new(alloc, reference_script(alloc, Vec::new(alloc))?);
+    let mut outside: Memory<SampleWorld> = around(alloc, hand, store_of(alloc, None), &[])?;
+    let words = &["scan", "-d", "m", "/srv/bin", "/srv/debug", "/w"];
+    let out =
+        "scan: 12 files, 12 added, 0 replaced, 0 dropped, 0 kept, 4 executables, 4 debuginfo\n";
+    scan(&rt, alloc, &mut outside, words, (out, "", 0))
 }
 
 #[test]
@@ -134,7 +139,7 @@ fn what_a_walk_meets_ends_the_scan(rt: HostRuntime) -> Result<(), Fail> {
         &rt,
         alloc,
         &mut gone,
-        "/none",
+        &["scan", "-d", "m", "/none"],
         ("", "dbgd: gone /none\n", 3),
     )?;
     let mut folder = around(alloc, two_files(alloc, &[1])?, store_of(alloc, None), &[])?;
@@ -142,12 +147,12 @@ fn what_a_walk_meets_ends_the_scan(rt: HostRuntime) -> Result<(), Fail> {
         &rt,
         alloc,
         &mut folder,
-        "/srv",
+        SCAN,
         ("", "dbgd: fault folder\n", 1),
     )?;
     // Two looks at the files follow, and then the first load.
     let mut file = around(alloc, two_files(alloc, &[4])?, store_of(alloc, None), &[])?;
-    scan(&rt, alloc, &mut file, "/srv", ("", "dbgd: fault file\n", 1))
+    scan(&rt, alloc, &mut file, SCAN, ("", "dbgd: fault file\n", 1))
 }
 
 #[test]
@@ -165,7 +170,7 @@ fn a_store_that_stops_ends_the_scan(rt: HostRuntime) -> Result<(), Fail> {
             &rt,
             alloc,
             &mut outside,
-            "/srv",
+            SCAN,
             ("", "dbgd: fault store\n", 1),
         )?;
     }
@@ -180,7 +185,7 @@ fn a_line_that_cannot_be_written_is_a_fault(rt: HostRuntime) -> Result<(), Fail>
         &rt,
         alloc,
         &mut outside,
-        "/srv",
+        SCAN,
         ("", "dbgd: fault output\n", 1),
     )
 }
@@ -203,19 +208,18 @@ fn a_told_world_is_scanned_by_its_files(rt: HostRuntime) -> Result<(), Fail> {
         moves: Vec::new(alloc),
         bad_calls: Vec::new(alloc),
     };
-    let mut outside = Outside {
-        hands: vec![in alloc; MemTree::new(alloc, script)]?,
-        store: MemStore::new(alloc, Vec::new(alloc), None, Vec::new(alloc)),
-        out: MemSink::new(alloc, Vec::new(alloc)),
-        err: MemSink::new(alloc, Vec::new(alloc)),
-        of: PhantomData::<TwoWorld>,
-    };
-    let words = words_of(alloc, &["scan", "-d", "m", "/w"])?;
-    let status = run(alloc, words.as_slice(), &mut outside);
-    let out = outside.out.written().ok_or("out is told")?;
-    let line =
-        "scan: 1 files, 1 added, 0 replaced, 0 dropped, 0 kept, 0 executables, 0 debuginfo\n";
-    assert_eq!(rt; out, line.as_bytes());
-    assert_eq!(rt; status, 0);
-    Ok(())
+    let mut outside: Memory<TwoWorld> = around(
+        alloc,
+        MemTree::new(alloc, script),
+        store_of(alloc, None),
+        &[],
+    )?;
+    let out = "scan: 1 files, 1 added, 0 replaced, 0 dropped, 0 kept, 0 executables, 0 debuginfo\n";
+    scan(
+        &rt,
+        alloc,
+        &mut outside,
+        &["scan", "-d", "m", "/w"],
+        (out, "", 0),
+    )
 }

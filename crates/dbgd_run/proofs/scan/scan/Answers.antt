@@ -1,4 +1,4 @@
-use Rattle.std.proofs.Common.{◌≡◌, ◌≤◌, ℕ, List, Option, IsTrue, sym, subst}
+use Rattle.std.proofs.Common.{◌≡◌, ◌≤◌, ℕ, List, Option, IsTrue, sym, subst, arith}
 use Rattle.index_keeper.specs.Tables.{EditFacts, KeptFacts}
 use Rattle.dbgd_run.specs.Load.{Hand, hand as shown}
 use Rattle.dbgd_run.specs.Scan.{EndsBy}
@@ -20,6 +20,9 @@ returns-in-Opened g c =
           (subst (λ (made : Option (List EditFacts)). EndsBy s c.in-Ok.roots.items before after (held had (g.S.K.Keeper.made c.in-Opened.keeper)) (held left made) c.scan_keeper-end.result.0) (sym c.give_back.ensures.made)
           (c.scan_keeper-end.ensures.ends had left (λ t. sym (c.in-Opened.ensures.tables t)) c.give_back.ensures.image)));
       hand = c.scan_keeper-end.ensures.hand;
-      store = λ fails. rose_given _ _ _ _ _ c.open_store.ensures.cause.later c.in-Opened.ensures.faultless (c.scan_keeper-end.ensures.keeper.rose fails) c.give_back.ensures.faults;
+      store = record {
+        later = let opened = c.open_store.ensures.cause.later in let given = c.give_back.ensures.later in omega (arith, opened, given);
+        rose = λ fails. rose_given _ _ _ _ _ c.open_store.ensures.cause.later c.in-Opened.ensures.faultless (c.scan_keeper-end.ensures.keeper.rose fails) c.give_back.ensures.faults;
+      };
       later = subst (λ (epoch : ℕ). g.S.Store.epoch c.args.store.now ≤ epoch) (sym c.give_back.ensures.epoch) c.open_store.ensures.later;
     }

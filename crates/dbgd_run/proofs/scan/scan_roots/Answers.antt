@@ -1,6 +1,7 @@
 use Rattle.std.proofs.Common.{ℕ, List, IsTrue, subst}
 use Rattle.std.specs.Prelude.{Ok}
 use Rattle.tree_walk.specs.Ends.{Walks}
+use Rattle.tree_walk.specs.Files.{AreFilesUnder}
 use Rattle.index_state.specs.Keeping.{meanings}
 use Rattle.dbgd_run.specs.Setting.{rules, setting}
 use Rattle.dbgd_run.proofs.ScanStore.{walked}
@@ -14,4 +15,6 @@ returns-in-Ok-clause-ends g c =
     c.in-Ok.field-0 (IsTrue g.T.Tree.told × g.T.Tree.still c.walk.new.hand) _
     (subst (λ (xs : List (List ℕ)). Walks (g.T.Tree.heard c.args.hand.now) (g.T.Tree.heard c.walk.new.hand)
     (IsTrue g.T.Tree.told × g.T.Tree.still c.args.hand.now) (g.T.Tree.present c.args.hand.now) xs (Ok c.in-Ok.field-0)) c.as_slice.ensures.value c.in-Ok.ensures.walk)
-    (λ t. (t.0, (c.walk.ensures.still t.1).still)) (λ t. (c.walk.ensures.still t.1).same) c.scan_listing.ensures.ends
+    (λ t. (t.0, (c.walk.ensures.still t.1).still)) (λ t. (c.walk.ensures.still t.1).same)
+    (λ t. subst (λ (xs : List (List ℕ)). AreFilesUnder (g.T.Tree.present c.args.hand.now) xs c.in-Ok.field-0.listing) c.as_slice.ensures.value (c.in-Ok.ensures.files t.0 t.1))
+    c.scan_listing.ensures.ends
