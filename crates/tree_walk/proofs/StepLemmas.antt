@@ -323,6 +323,14 @@ next_folder answers roots search path s =
           absurd (omega (arith, push, one, all))
     ] refl
 
+-- paths are compared either way
+pub bytes_back : (a b : List ℕ) → bytes_eq a b ≡ bytes_eq b a
+bytes_back a b =
+    elim (bytes_eq b a) as (λ v. bytes_eq b a ≡ v → bytes_eq a b ≡ v) [
+      | true ↦ λ e. (bytes_eq-Decides a b).1 (sym ((bytes_eq-Decides b a).0 e))
+      | false ↦ λ e. false_from_ne_true (bytes_eq a b) (λ t. false≢true (sym e ∙ (bytes_eq-Decides b a).1 (sym ((bytes_eq-Decides a b).0 t))))
+    ] refl
+
 -- the reading of that folder
 pub read_step : (answers : List Heard) (roots : List (List ℕ)) (search : SearchFacts) (path : List ℕ) (answer : DirFacts) (left skipped : ℕ) → IsSearch answers roots (with_last search path) [] [] → is_dir_answer answer ≡ true
     → left + length (entries_of (Some answer)) ≡ search.left → skipped ≡ min (search.skipped + passed_over (read_dir path answer)) (2 ^ 64 - 1)
@@ -367,13 +375,6 @@ read_step answers roots search path answer left skipped s ok paid passed =
             ]
           ] refl (subst (λ (o : Option DirFacts). has_entry (entries_of o) entry ≡ true) (after_reading answers path answer ok next.unread at) h);
     }
-  where
-    bytes_back : (a b : List ℕ) → bytes_eq a b ≡ bytes_eq b a
-    bytes_back a b =
-        elim (bytes_eq b a) as (λ v. bytes_eq b a ≡ v → bytes_eq a b ≡ v) [
-          | true ↦ λ e. (bytes_eq-Decides a b).1 (sym ((bytes_eq-Decides b a).0 e))
-          | false ↦ λ e. false_from_ne_true (bytes_eq a b) (λ t. false≢true (sym e ∙ (bytes_eq-Decides b a).1 (sym ((bytes_eq-Decides a b).0 t))))
-        ] refl
 
 -- its entries are those of the answer
 pub read_entries : (answers : List Heard) (roots : List (List ℕ)) (search : SearchFacts) (path : List ℕ) (answer : DirFacts) → IsSearch answers roots (with_last search path) [] [] → is_dir_answer answer ≡ true → entries_in (answers ++ read_dir path answer ∷ []) path ≡ entries_of (Some answer)

@@ -53,13 +53,3 @@ pub files_of : (before now : Option (List Heard)) (StillTold : Type 0) (present 
     → (0 < length roots → (are_distinct (map (λ n. n.path) present) ≡ true) × (are_apart (map (λ n. n.path) present) ≡ true) × All (λ n. is_canonical n.path ≡ true) present) → IfOk result (λ walk. AreFilesUnder present roots walk.listing)
 files_of before now StillTold present roots (Ok walk) w still known = files_are present w.answers roots walk w.ends (w.told still) known
 files_of before now StillTold present roots (Err fault) w still known = tt
-
--- a root that is gone
-gone_at : (present : List NameFacts) (answers : List Heard) (roots : List (List ℕ)) (path : List ℕ) → All (IsTold present) answers → IsRootGone answers roots path → IsNothingAt present path
-gone_at present answers roots path told gone =
-    All-contains (IsTold present) answers (stat path Gone) told
-    (subst (λ (a : List Heard). Contains a (stat path Gone)) (sym gone.heard) (Contains-push (looks gone.before gone.given) (stat path Gone)))
-
-pub gone_of : (before now : Option (List Heard)) (StillTold : Type 0) (present : List NameFacts) (roots : List (List ℕ)) (result : Result Walk WalkFault) → Walks before now StillTold present roots result → StillTold → (path : List ℕ) → result ≡ Err (RootGone path) → IsNothingAt present path
-gone_of before now StillTold present roots result w still path e =
-    gone_at present w.answers roots path (w.told still) (subst (λ (r : Result Walk WalkFault). IsEnd w.answers roots r) e w.ends)
