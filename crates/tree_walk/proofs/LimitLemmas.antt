@@ -1,10 +1,10 @@
 -- What the faults of a walk say of the files that are there.
-use Rattle.std.proofs.Common.{◌≡◌, ℕ, ◌+◌, ◌≤◌, ◌<◌, inl, inr, Bool, true, false, not, List, [], ◌∷◌, ◌++◌, length, map, Option, Result, Err, All, Contains, refl, sym, ◌∙◌, ap, subst, arith}
+use Rattle.std.proofs.Common.{◌≡◌, ℕ, ◌+◌, ◌≤◌, ◌<◌, inl, inr, Bool, true, false, not, List, [], ◌∷◌, ◌++◌, length, map, Option, Result, Err, All, Contains, refl, sym, ap, subst, arith}
 use Rattle.std.specs.Prelude.{sum_by, count_by}
 use Rattle.std.specs.List.{list_any}
 use Rattle.std.specs.Str.{bytes_eq}
 use Rattle.std.proofs.lemmas.Bool.{false≢true, and_from, or_cases, false_from_ne_true}
-use Rattle.std.proofs.lemmas.List.Elements.{All-contains, All-cons, All-head, All-nil, All-push, All-tail, All-weaker, All-contains_itself, Contains-append_right, Contains-push}
+use Rattle.std.proofs.lemmas.List.Elements.{All-contains, All-cons, All-head, All-nil, All-tail, All-weaker, All-contains_itself, Contains-append_right, Contains-push}
 use Rattle.std.proofs.lemmas.List.Sums.{sum_by_push, sum_by-cons}
 use Rattle.std.proofs.lemmas.Slice.Eq.{bytes_eq-Decides}
 use Rattle.row_types.specs.Name.{NameFacts}
@@ -16,28 +16,27 @@ use Rattle.tree_walk.specs.Answers.{entry_count, entries_read, reads, times_read
 use Rattle.tree_walk.specs.Ends.{IsCause, IsEnd, IsRootGone, IsTooMany, IsTooManyEntries, Walks}
 use Rattle.tree_walk.specs.Files.{FolderFacts, FitsFault, HasManyEntries, HasManyFiles, IsFileUnder, IsFolderUnder, IsTold}
 use Rattle.tree_walk.specs.Search.{SearchFacts, has, with_last, IsSearch}
-use Rattle.tree_walk.specs.Walked.{AsksDue, IsDue, IsWalked}
+use Rattle.tree_walk.specs.Walked.{AsksDue, IsDue}
 use Rattle.tree_walk.specs.declared.fault.WalkFault.{WalkFault}
 use Rattle.tree_walk.specs.declared.fault.WalkFault.TheVariants.{Failed, TooMany, TooManyEntries, RootGone, OutOfMemory}
 use Rattle.tree_walk.specs.declared.walked.Walk.{Walk}
 use Rattle.tree_walk.specs.declared.walked.TheConstants.{ENTRY_LIMIT}
 use Rattle.tree_walk.proofs.AnswerLemmas.{one_if, times_after_reading}
 use Rattle.tree_walk.proofs.PresentLemmas.{reached_within, walked_under}
-use Rattle.tree_walk.proofs.ReachLemmas.{due_more, folder_more, folder_reached}
-use Rattle.tree_walk.proofs.StepLemmas.{IsNextFolder, next_folder, bytes_back}
+use Rattle.tree_walk.proofs.ReachLemmas.{folder_reached}
+use Rattle.tree_walk.proofs.StepLemmas.{read_due, bytes_back}
 
 -- a test counts at most once
 one_at_most : (b : Bool) → one_if b ≤ 1
 one_at_most true = omega arith
 one_at_most false = omega arith
 
--- the reading of the next folder was due, whatever it answers, and no folder was asked twice
+-- with the reading of the next folder, whatever it answers, only what was due was asked, and no folder twice
 pub asks_due : (answers : List Heard) (roots : List (List ℕ)) (search : SearchFacts) (path : List ℕ) (answer : DirFacts) → IsSearch answers roots (with_last search path) [] [] → AsksDue (answers ++ read_dir path answer ∷ []) roots
 asks_due answers roots search path answer s =
     let more : List Heard = read_dir path answer ∷ [] in
-    let next : IsNextFolder answers roots search path = next_folder answers roots search path s in
     record {
-      due = All-push (IsDue (answers ++ more) roots) answers (read_dir path answer) (All-weaker (IsDue answers roots) (IsDue (answers ++ more) roots) (due_more answers more roots) answers s.due) (folder_more answers more roots path next.is_folder, next.kept);
+      due = read_due answers roots search path answer s;
       few = λ p.
           let push : count_by (bytes_eq p) (search.todo ++ path ∷ []) ≡ count_by (bytes_eq p) search.todo + one_if (bytes_eq p path) = sum_by_push (λ (q : List ℕ). one_if (bytes_eq p q)) search.todo path in
           let times : times_read (answers ++ more) p ≡ times_read answers p + one_if (bytes_eq path p) = times_after_reading answers path answer p in
@@ -74,12 +73,19 @@ counted path dir_no_memory folders = omega arith
 
 all_counted : (answers : List Heard) → sum_by (λ folder. length folder.entries) (folders_of answers) ≡ entries_read answers
 all_counted [] = refl
-all_counted (load path limit answer ∷ rest) = let here : entries_read (load path limit answer ∷ rest) ≡ 0 + entries_read rest = sum_by-cons entry_count (load path limit answer) rest in let later = all_counted rest in omega (arith, here, later)
-all_counted (stat path answer ∷ rest) = let here : entries_read (stat path answer ∷ rest) ≡ 0 + entries_read rest = sum_by-cons entry_count (stat path answer) rest in let later = all_counted rest in omega (arith, here, later)
+all_counted (load path limit answer ∷ rest) =
+    let all : entries_read (load path limit answer ∷ rest) ≡ 0 + entries_read rest = sum_by-cons entry_count (load path limit answer) rest in
+    let later = all_counted rest in
+    omega (arith, all, later)
+all_counted (stat path answer ∷ rest) =
+    let all : entries_read (stat path answer ∷ rest) ≡ 0 + entries_read rest = sum_by-cons entry_count (stat path answer) rest in
+    let later = all_counted rest in
+    omega (arith, all, later)
 all_counted (read_dir path answer ∷ rest) =
     let here = counted path answer (folders_of rest) in
-    let both : entries_read (read_dir path answer ∷ rest) ≡ entry_count (read_dir path answer) + entries_read rest = sum_by-cons entry_count (read_dir path answer) rest in
-    here ∙ ap (λ (n : ℕ). entry_count (read_dir path answer) + n) (all_counted rest) ∙ sym both
+    let all : entries_read (read_dir path answer ∷ rest) ≡ entry_count (read_dir path answer) + entries_read rest = sum_by-cons entry_count (read_dir path answer) rest in
+    let later = all_counted rest in
+    omega (arith, here, all, later)
 
 -- a folder that was listed was asked
 times_more : (h : Heard) (rest : List Heard) (p : List ℕ) → times_read (h ∷ rest) p ≡ one_if (reads p h) + times_read rest p
@@ -168,7 +174,7 @@ gone_root : (present : List NameFacts) (answers : List Heard) (roots : List (Lis
 gone_root present answers roots path told gone = (
   subst (λ (rs : List (List ℕ)). Contains rs path) (sym gone.split) (Contains-append_right gone.before (path ∷ gone.after) path (0, omega arith, refl)),
   All-contains (IsTold present) answers (stat path Gone) told
-  (subst (λ (a : List Heard). Contains a (stat path Gone)) (sym gone.heard) (Contains-push (looks gone.before gone.given) (stat path Gone))),
+      (subst (λ (a : List Heard). Contains a (stat path Gone)) (sym gone.heard) (Contains-push (looks gone.before gone.given) (stat path Gone))),
 )
 
 cause_fits : (present : List NameFacts) (answers : List Heard) (roots : List (List ℕ)) (fault : WalkFault) → All (IsTold present) answers → IsCause answers roots fault → FitsFault present roots fault

@@ -1,21 +1,17 @@
 -- How a walk ends.
-use Rattle.std.proofs.Common.{◌≡◌, ℕ, ◌<◌, Bool, true, false, List, [], ◌∷◌, ◌++◌, length, map, Option, Result, Ok, Err, IfOk, IfErr, MatchResult, All, Contains, refl, sym, ◌∙◌, ap, subst, arith}
+use Rattle.std.proofs.Common.{◌≡◌, ℕ, ◌<◌, true, List, [], length, map, Option, Result, Ok, Err, IfOk, IfErr, All, sym, ◌∙◌, ap, subst}
 use Rattle.std.specs.Result.{IsErrAnd}
-use Rattle.std.proofs.lemmas.List.Elements.{All-contains, Contains-push}
 use Rattle.std.proofs.lemmas.Result.{err_from_is_err_and}
 use Rattle.row_types.specs.Faults.{summed}
 use Rattle.row_types.specs.Canon.{is_canonical}
 use Rattle.row_types.specs.Name.{NameFacts}
-use Rattle.tree_trait.specs.Heard.{Heard, stat}
+use Rattle.tree_trait.specs.Heard.{Heard}
 use Rattle.tree_trait.specs.Present.{are_distinct, are_apart}
-use Rattle.tree_trait.specs.Stat.{IsNothingAt}
-use Rattle.tree_trait.specs.declared.stat.StatAnswer.TheVariants.{Gone}
-use Rattle.tree_walk.specs.Answers.{looks}
-use Rattle.tree_walk.specs.Ends.{IsCause, IsEnd, IsRootGone, Walks}
-use Rattle.tree_walk.specs.Files.{AreFilesUnder, IsTold}
+use Rattle.tree_walk.specs.Ends.{IsCause, IsEnd, Walks}
+use Rattle.tree_walk.specs.Files.{AreFilesUnder}
 use Rattle.tree_walk.specs.Search.{SearchFacts, names_of, Goes, IsUnderway}
 use Rattle.tree_walk.specs.declared.fault.WalkFault.{WalkFault}
-use Rattle.tree_walk.specs.declared.fault.WalkFault.TheVariants.{RootGone, OutOfMemory}
+use Rattle.tree_walk.specs.declared.fault.WalkFault.TheVariants.{OutOfMemory}
 use Rattle.tree_walk.specs.declared.walked.Walk.{Walk}
 use Rattle.tree_walk.proofs.EndLemmas.{whole_is}
 use Rattle.tree_walk.proofs.PresentLemmas.{files_are}
