@@ -26,6 +26,7 @@ use Rattle.tree_walk.specs.declared.walked.TheConstants.{ENTRY_LIMIT}
 use Rattle.tree_walk.proofs.AnswerLemmas.{looked_stays, look_stays, after_look}
 use Rattle.tree_walk.proofs.ReachLemmas.{reached_more, folder_reached}
 use Rattle.tree_walk.proofs.EndLemmas.{room_is, too_many_is}
+use Rattle.tree_walk.proofs.LimitLemmas.{asks_due}
 use Rattle.tree_walk.proofs.SetLemmas.{same, same-Decides}
 use Rattle.tree_walk.proofs.StepLemmas.{read_step, read_entries, next_folder, note_step, is_looked_is, folder_step, folder_known, folder_stays, long_step, long_known, entry_step}
 
@@ -198,6 +199,7 @@ read_over answers more roots search folder entries skipped u r over =
     let was : search.left + entries_read answers ≡ ENTRY_LIMIT = u.search_is.left in
     subst (λ (m : List Heard). IsTooManyEntries (answers ++ m) roots) (sym r.heard)
     (record {
+      asked = asks_due answers roots search folder d u.search_is;
       last = record { earlier = answers; last = read_dir folder d; split = refl; room = room_is answers roots (with_last search folder) [] [] u.search_is u.few; stops = tt };
       many = omega (arith, count, read, was, over);
     })

@@ -112,7 +112,7 @@ look_finds present path stamp Failed at t ok = absurd (false≢true ok)
 look_finds present path stamp OutOfMemory at t ok = absurd (false≢true ok)
 
 -- what lies under the reached paths lies under a root
-reached_within : (answers : List Heard) (roots : List (List ℕ)) (path : List ℕ) → IsReached answers roots path → list_any (λ r. is_within r path) roots ≡ true
+pub reached_within : (answers : List Heard) (roots : List (List ℕ)) (path : List ℕ) → IsReached answers roots path → list_any (λ r. is_within r path) roots ≡ true
 reached_within answers roots path (root p c) = any_from_Contains (λ r. is_within r path) roots path c (or_left (bytes_eq path path) (lies_under path path) ((bytes_eq-Decides path path).1 refl))
 reached_within answers roots path (entry folder p k r n) =
     subst (λ (q : List ℕ). list_any (λ z. is_within z q) roots ≡ true) (sym n.joined)
@@ -236,21 +236,22 @@ candidate_from_under present answers roots walk file w told apart there kept r a
       ] refl (w.full.looked r at)
     ]
 
+-- what is listed is a file under a root
+pub walked_under : (present : List NameFacts) (answers : List Heard) (roots : List (List ℕ)) → All (IsTold present) answers → (name : NameFacts) → IsWalked answers roots name → IsFileUnder present roots name
+walked_under present answers roots told name walked = record {
+  there = file_found present name.path name.stamp (told_look present answers told name.path (File name.stamp) walked.file).0;
+  under = candidate_within answers roots name.path walked.candidate;
+  short = walked.short;
+}
+
 -- the listing is the files under the roots
 pub files_are : (present : List NameFacts) (answers : List Heard) (roots : List (List ℕ)) (walk : Walk) → IsWhole answers roots walk → All (IsTold present) answers
     → (0 < length roots → (are_distinct (map (λ n. n.path) present) ≡ true) × (are_apart (map (λ n. n.path) present) ≡ true) × All (λ n. is_canonical n.path ≡ true) present) → AreFilesUnder present roots walk.listing
 files_are present answers roots walk w told known = record {
   by_path = w.listing.by_path;
-  all = λ name. (λ c. listed_is_under name ((w.listing.all name).0 c), λ u. (w.listing.all name).1 (under_is_walked name u));
+  all = λ name. (λ c. walked_under present answers roots told name ((w.listing.all name).0 c), λ u. (w.listing.all name).1 (under_is_walked name u));
 }
   where
-    listed_is_under : (name : NameFacts) → IsWalked answers roots name → IsFileUnder present roots name
-    listed_is_under name walked = record {
-      there = file_found present name.path name.stamp (told_look present answers told name.path (File name.stamp) walked.file).0;
-      under = candidate_within answers roots name.path walked.candidate;
-      short = walked.short;
-    }
-
     looked_as_file : (name : NameFacts) → are_distinct (map (λ n. n.path) present) ≡ true → Contains present name → IsSome (first_look answers name.path) → first_look answers name.path ≡ Some (File name.stamp)
     looked_as_file name distinct there some =
         elim (first_look answers name.path) as (λ o. first_look answers name.path ≡ o → IsSome o → o ≡ Some (File name.stamp)) [

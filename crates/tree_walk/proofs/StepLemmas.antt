@@ -323,6 +323,21 @@ next_folder answers roots search path s =
           absurd (omega (arith, push, one, all))
     ] refl
 
+-- the reading of that folder is due
+pub read_due : (answers : List Heard) (roots : List (List ℕ)) (search : SearchFacts) (path : List ℕ) (answer : DirFacts) → IsSearch answers roots (with_last search path) [] [] → All (IsDue (answers ++ read_dir path answer ∷ []) roots) (answers ++ read_dir path answer ∷ [])
+read_due answers roots search path answer s =
+    let more : List Heard = read_dir path answer ∷ [] in
+    let next : IsNextFolder answers roots search path = next_folder answers roots search path s in
+    All-push (IsDue (answers ++ more) roots) answers (read_dir path answer) (All-weaker (IsDue answers roots) (IsDue (answers ++ more) roots) (due_more answers more roots) answers s.due) (folder_more answers more roots path next.is_folder, next.kept)
+
+-- paths are compared either way
+pub bytes_back : (a b : List ℕ) → bytes_eq a b ≡ bytes_eq b a
+bytes_back a b =
+    elim (bytes_eq b a) as (λ v. bytes_eq b a ≡ v → bytes_eq a b ≡ v) [
+      | true ↦ λ e. (bytes_eq-Decides a b).1 (sym ((bytes_eq-Decides b a).0 e))
+      | false ↦ λ e. false_from_ne_true (bytes_eq a b) (λ t. false≢true (sym e ∙ (bytes_eq-Decides b a).1 (sym ((bytes_eq-Decides a b).0 t))))
+    ] refl
+
 -- the reading of that folder
 pub read_step : (answers : List Heard) (roots : List (List ℕ)) (search : SearchFacts) (path : List ℕ) (answer : DirFacts) (left skipped : ℕ) → IsSearch answers roots (with_last search path) [] [] → is_dir_answer answer ≡ true
     → left + length (entries_of (Some answer)) ≡ search.left → skipped ≡ min (search.skipped + passed_over (read_dir path answer)) (2 ^ 64 - 1)
@@ -339,7 +354,7 @@ read_step answers roots search path answer left skipped s ok paid passed =
       files = λ p. s.files p ∙ ap file_of (sym (looks p));
       others = λ p. s.others p ∙ ap is_no_file (sym (looks p));
       ordered = s.ordered;
-      due = All-push (IsDue (answers ++ more) roots) answers (read_dir path answer) (All-weaker (IsDue answers roots) (IsDue (answers ++ more) roots) (due_more answers more roots) answers s.due) (folder_more answers more roots path next.is_folder, next.kept);
+      due = read_due answers roots search path answer s;
       folders = λ p h. (folder_more answers more roots p (s.folders p h).0, (s.folders p h).1);
       counts = λ p.
           let push : count_by (bytes_eq p) (search.todo ++ path ∷ []) ≡ count_by (bytes_eq p) search.todo + one_if (bytes_eq p path) = sum_by_push (λ (q : List ℕ). one_if (bytes_eq p q)) search.todo path in
@@ -367,13 +382,6 @@ read_step answers roots search path answer left skipped s ok paid passed =
             ]
           ] refl (subst (λ (o : Option DirFacts). has_entry (entries_of o) entry ≡ true) (after_reading answers path answer ok next.unread at) h);
     }
-  where
-    bytes_back : (a b : List ℕ) → bytes_eq a b ≡ bytes_eq b a
-    bytes_back a b =
-        elim (bytes_eq b a) as (λ v. bytes_eq b a ≡ v → bytes_eq a b ≡ v) [
-          | true ↦ λ e. (bytes_eq-Decides a b).1 (sym ((bytes_eq-Decides b a).0 e))
-          | false ↦ λ e. false_from_ne_true (bytes_eq a b) (λ t. false≢true (sym e ∙ (bytes_eq-Decides b a).1 (sym ((bytes_eq-Decides a b).0 t))))
-        ] refl
 
 -- its entries are those of the answer
 pub read_entries : (answers : List Heard) (roots : List (List ℕ)) (search : SearchFacts) (path : List ℕ) (answer : DirFacts) → IsSearch answers roots (with_last search path) [] [] → is_dir_answer answer ≡ true → entries_in (answers ++ read_dir path answer ∷ []) path ≡ entries_of (Some answer)

@@ -1,21 +1,17 @@
 -- How a walk ends.
-use Rattle.std.proofs.Common.{◌≡◌, ℕ, ◌<◌, Bool, true, false, List, [], ◌∷◌, ◌++◌, length, map, Option, Result, Ok, Err, IfOk, IfErr, MatchResult, All, Contains, refl, sym, ◌∙◌, ap, subst, arith}
+use Rattle.std.proofs.Common.{◌≡◌, ℕ, ◌<◌, true, List, [], length, map, Option, Result, Ok, Err, IfOk, IfErr, All, sym, ◌∙◌, ap, subst}
 use Rattle.std.specs.Result.{IsErrAnd}
-use Rattle.std.proofs.lemmas.List.Elements.{All-contains, Contains-push}
 use Rattle.std.proofs.lemmas.Result.{err_from_is_err_and}
 use Rattle.row_types.specs.Faults.{summed}
 use Rattle.row_types.specs.Canon.{is_canonical}
 use Rattle.row_types.specs.Name.{NameFacts}
-use Rattle.tree_trait.specs.Heard.{Heard, stat}
+use Rattle.tree_trait.specs.Heard.{Heard}
 use Rattle.tree_trait.specs.Present.{are_distinct, are_apart}
-use Rattle.tree_trait.specs.Stat.{IsNothingAt}
-use Rattle.tree_trait.specs.declared.stat.StatAnswer.TheVariants.{Gone}
-use Rattle.tree_walk.specs.Answers.{looks}
-use Rattle.tree_walk.specs.Ends.{IsCause, IsEnd, IsRootGone, Walks}
-use Rattle.tree_walk.specs.Files.{AreFilesUnder, IsTold}
+use Rattle.tree_walk.specs.Ends.{IsCause, IsEnd, Walks}
+use Rattle.tree_walk.specs.Files.{AreFilesUnder}
 use Rattle.tree_walk.specs.Search.{SearchFacts, names_of, Goes, IsUnderway}
 use Rattle.tree_walk.specs.declared.fault.WalkFault.{WalkFault}
-use Rattle.tree_walk.specs.declared.fault.WalkFault.TheVariants.{RootGone, OutOfMemory}
+use Rattle.tree_walk.specs.declared.fault.WalkFault.TheVariants.{OutOfMemory}
 use Rattle.tree_walk.specs.declared.walked.Walk.{Walk}
 use Rattle.tree_walk.proofs.EndLemmas.{whole_is}
 use Rattle.tree_walk.proofs.PresentLemmas.{files_are}
@@ -53,13 +49,3 @@ pub files_of : (before now : Option (List Heard)) (StillTold : Type 0) (present 
     → (0 < length roots → (are_distinct (map (λ n. n.path) present) ≡ true) × (are_apart (map (λ n. n.path) present) ≡ true) × All (λ n. is_canonical n.path ≡ true) present) → IfOk result (λ walk. AreFilesUnder present roots walk.listing)
 files_of before now StillTold present roots (Ok walk) w still known = files_are present w.answers roots walk w.ends (w.told still) known
 files_of before now StillTold present roots (Err fault) w still known = tt
-
--- a root that is gone
-gone_at : (present : List NameFacts) (answers : List Heard) (roots : List (List ℕ)) (path : List ℕ) → All (IsTold present) answers → IsRootGone answers roots path → IsNothingAt present path
-gone_at present answers roots path told gone =
-    All-contains (IsTold present) answers (stat path Gone) told
-    (subst (λ (a : List Heard). Contains a (stat path Gone)) (sym gone.heard) (Contains-push (looks gone.before gone.given) (stat path Gone)))
-
-pub gone_of : (before now : Option (List Heard)) (StillTold : Type 0) (present : List NameFacts) (roots : List (List ℕ)) (result : Result Walk WalkFault) → Walks before now StillTold present roots result → StillTold → (path : List ℕ) → result ≡ Err (RootGone path) → IsNothingAt present path
-gone_of before now StillTold present roots result w still path e =
-    gone_at present w.answers roots path (w.told still) (subst (λ (r : Result Walk WalkFault). IsEnd w.answers roots r) e w.ends)

@@ -5,7 +5,8 @@ use Rattle.tree_trait.specs.Present.{are_distinct, are_apart}
 use Rattle.tree_walk.specs.Ends.{IsCause}
 use Rattle.tree_walk.specs.Search.{SearchFacts, Goes, IsUnderway, IsCallFault}
 use Rattle.tree_walk.proofs.GoesLemmas.{goes_then}
-use Rattle.tree_walk.proofs.WalkLemmas.{walks_ended, walks_up, files_of, gone_of}
+use Rattle.tree_walk.proofs.LimitLemmas.{fault_fits}
+use Rattle.tree_walk.proofs.WalkLemmas.{walks_ended, walks_up, files_of}
 use Rattle.tree_walk.proofs.top.walk.Goals as goal
 
 pub returns-in_err-read_folder-clause-walk : goal.returns-in_err-read_folder-clause-walk
@@ -19,9 +20,15 @@ returns-in_err-read_folder-clause-walk g c =
     (λ more w. c.in_err-read_folder.ensures.goes more roots (subst (λ (s : SearchFacts). IsUnderway more roots s [] []) c.in-Some.ensures w))
     (λ more last bad. bad))
 
-pub returns-in_err-read_folder-clause-gone : goal.returns-in_err-read_folder-clause-gone
-returns-in_err-read_folder-clause-gone g c = λ told still path e.
-    gone_of _ _ _ _ _ _ (returns-in_err-read_folder-clause-walk g c) (told, still) path e
+pub returns-in_err-read_folder-clause-refused : goal.returns-in_err-read_folder-clause-refused
+returns-in_err-read_folder-clause-refused g c = λ told still fault e.
+    fault_fits _ _ _ _ _ _ (returns-in_err-read_folder-clause-walk g c) (told, still) fault e
+
+pub returns-in_err-search-clause-refused : goal.returns-in_err-search-clause-refused
+returns-in_err-search-clause-refused g c = λ told still fault e.
+    fault_fits _ _ _ _ _ _
+    (walks_up _ _ _ _ c.args.roots.now (λ more search. IsUnderway more c.args.roots.now search [] []) c.from_residual.result c.in_err-search.field-0.0 c.from_residual.ensures.1 c.in_err-search.ensures.goes)
+    (told, still) fault e
 
 pub loop-folder-preserved : goal.loop-folder-preserved
 loop-folder-preserved g c =
