@@ -18,12 +18,14 @@ use Rattle.tree_trait.specs.declared.stat.StatAnswer.{StatAnswer}
 use Rattle.tree_trait.specs.declared.stat.StatAnswer.TheVariants.{File}
 use Rattle.tree_walk.specs.Answers.{first_look, is_look_answer, with_answers}
 use Rattle.tree_walk.specs.Files.{HasManyEntries, HasManyFiles, IsTold}
+use Rattle.tree_walk.specs.Walked.{IsWalked}
 use Rattle.tree_walk.specs.declared.fault.WalkFault.{WalkFault}
 use Rattle.tree_walk.specs.declared.fault.WalkFault.TheVariants as stop
 use Rattle.dbgd_run.specs.Endings.{EndsOrWants, Saying, Streams}
 use Rattle.dbgd_run.specs.Load.{Hand}
 use Rattle.dbgd_run.specs.Runs.{Runs}
-use Rattle.dbgd_run.specs.Scan.{EndsAltered, EndsBy, FileRead, FindsOther, ReadsFiles, RunsScan, Scans, load_of, loads_read, names_read, scan_saying}
+use Rattle.dbgd_run.specs.Scan.{EndsAltered, EndsBy, FileRead, FindsOther, ReadsFiles, RunsScan, Scans, load_of, loads_read, names_read}
+use Rattle.dbgd_run.specs.ScanSaid.{scan_saying}
 use Rattle.dbgd_run.specs.ScanCauses.{HasRootGone, HasScanCauses, HeardGone, HeardMany, HeardOther, IsScanned, IsTurnedAway, IsUnhindered, ScanCauses}
 use Rattle.dbgd_run.specs.Setting.{Setting, TellsStill}
 use Rattle.dbgd_run.specs.Sink.{Appends}
@@ -96,9 +98,10 @@ absent_end s roots before after old new Filled e ends = absurd (omega arith)
 absent_end s roots before after old new (Unlisted stop.Failed) e ends = absurd (omega arith)
 absent_end s roots before after old new (Unlisted stop.TooMany) e ends = absurd (omega arith)
 absent_end s roots before after old new (Unlisted stop.TooManyEntries) e ends = absurd (omega arith)
-absent_end s roots before after old new (Unlisted (stop.RootGone path)) e ends =
-    (record { answers = ends.walks.answers; path = path; heard = ends.walks.heard; gone = ends.walks.ends },
-    λ still. let fits = ends.fits still in record { path = path; root = fits.0; nothing = fits.1 })
+absent_end s roots before after old new (Unlisted (stop.RootGone path)) e ends = (
+  record { answers = ends.walks.answers; path = path; heard = ends.walks.heard; gone = ends.walks.ends },
+  λ still. let fits = ends.fits still in record { path = path; root = fits.0; nothing = fits.1 },
+)
 absent_end s roots before after old new (Unlisted stop.OutOfMemory) e ends = absurd (omega arith)
 absent_end s roots before after old new Unread e ends = absurd (omega arith)
 absent_end s roots before after old new (Altered name met) e ends = absurd (omega arith)
@@ -127,18 +130,27 @@ limit_end s roots before after old new Full e ends = absurd ends
 limit_end s roots before after old new OutOfMemory e ends = absurd (omega arith)
 limit_end s roots before after old new (Whole summary) e ends = absurd (omega arith)
 
+-- the next file of the listing is listed
+listed_next : (s : Setting) (roots : List (List ℕ)) (before after : Hand) (files : List FileRead) (name : NameFacts) (left : List NameFacts) (last : List Heard)
+    → (reads : ReadsFiles s roots before after files (name ∷ left) last) → IsWalked reads.walks.answers roots name
+listed_next s roots before after files name left last reads =
+    (reads.walks.ends.listing.all name).0
+    (subst (λ (xs : List NameFacts). Contains xs name) (sym reads.loads.listed)
+    (Contains-append_right (names_read files) (name ∷ left) name (0, omega arith, refl)))
+
 -- a file that was another, after the answers of the walk and the other loads
 other_heard : (s : Setting) (roots : List (List ℕ)) (before after : Hand) (Kept : List RowFacts → Type 0) (name : NameFacts) (met : Seen)
-    → EndsAltered (ReadsFiles s roots before after) Kept name met → HeardOther before after
+    → EndsAltered (ReadsFiles s roots before after) Kept name met → HeardOther roots before after
 other_heard s roots before after Kept name met ends = record {
-  earlier = ends.reads.walks.answers ++ loads_read ends.files;
+  walked = ends.reads.walks.answers;
+  loads = loads_read ends.files;
   name = name;
   answer = ends.answer;
   met = met;
   heard =
       with_both before.heard ends.reads.between.heard after.heard ends.reads.walks.answers (loads_read ends.files ++ load_of name ends.answer ∷ [])
-      ends.reads.walks.heard ends.reads.loads.heard
-      ∙ ap (λ xs. with_answers before.heard xs) (sym (append_assoc ends.reads.walks.answers (loads_read ends.files) (load_of name ends.answer ∷ [])));
+      ends.reads.walks.heard ends.reads.loads.heard;
+  listed = listed_next s roots before after ends.files name ends.left _ ends.reads;
   finds = ends.finds;
 }
 
@@ -183,12 +195,9 @@ never_other : (s : Setting) (roots : List (List ℕ)) (before after : Hand) (Kep
     → TellsStill s → EndsAltered (ReadsFiles s roots before after) Kept name met → ⊥
 never_other s roots before after Kept name met still ends =
     let reads = ends.reads in
-    let listed : Contains reads.walk.listing name
-    = subst (λ (xs : List NameFacts). Contains xs name) (sym reads.loads.listed)
-    (Contains-append_right (names_read ends.files) (name ∷ ends.left) name (0, omega arith, refl)) in
     let there : stamp_at before.present name.path ≡ Some name.stamp
     = first_told before.present name.path reads.walks.answers (File name.stamp) (reads.walks.told still)
-    ((reads.walks.ends.listing.all name).0 listed).file in
+    (listed_next s roots before after ends.files name ends.left _ reads).file in
     let loads : All (IsTold before.present) (loads_read ends.files ++ load_of name ends.answer ∷ [])
     = subst (λ (present : List NameFacts). All (IsTold present) (loads_read ends.files ++ load_of name ends.answer ∷ [])) (reads.still still)
     (reads.loads.told still) in
@@ -199,7 +208,7 @@ never_other s roots before after Kept name met still ends =
 
 -- 4
 altered_end : (s : Setting) (roots : List (List ℕ)) (before after : Hand) (old new : Holding) (end : ScanEnd) → code_of (scan_saying end).status ≡ 4
-    → EndsBy s roots before after old new end → HeardOther before after × (TellsStill s → ⊥)
+    → EndsBy s roots before after old new end → HeardOther roots before after × (TellsStill s → ⊥)
 altered_end s roots before after old new Unopened e ends = absurd (omega arith)
 altered_end s roots before after old new Filled e ends = absurd (omega arith)
 altered_end s roots before after old new (Unlisted stop.Failed) e ends = absurd (omega arith)
@@ -278,7 +287,7 @@ scan_causes s roots before after kept now old new code run = record {
     gone : code ≡ 3 → HeardGone roots before after × (TellsStill s → HasRootGone before.present roots)
     gone e = absent_end s roots before after kept.holding now.holding run.end (said_so 3 e (λ i. omega arith) (λ i. omega arith)) run.scans.ends
 
-    other : code ≡ 4 → HeardOther before after × (TellsStill s → ⊥)
+    other : code ≡ 4 → HeardOther roots before after × (TellsStill s → ⊥)
     other e = altered_end s roots before after kept.holding now.holding run.end (said_so 4 e (λ i. omega arith) (λ i. omega arith)) run.scans.ends
 
     many : code ≡ 5 → HeardMany roots before after × (TellsStill s → HasManyFiles before.present roots ⊎ HasManyEntries before.present roots)

@@ -28,7 +28,8 @@ use Rattle.index_state.specs.Kept.{Agrees, tables_of}
 use Rattle.index_state.specs.State.{StateFacts, pass_of}
 use Rattle.index_state.specs.Step.{BeginsPass, Breaks, FindsNoMemory, HandsOut, IsAwaited, IsShut, Stays, Stores, TakesNext}
 use Rattle.dbgd_run.specs.Load.{Hand}
-use Rattle.dbgd_run.specs.Scan.{FileRead, IsFileRead, LoadsFiles, Reads, load_of, loads_read, names_read, put_row, rows_read, with_puts}
+use Rattle.dbgd_run.specs.Kept.{put_row, with_puts}
+use Rattle.dbgd_run.specs.Scan.{FileRead, IsFileRead, LoadsFiles, Reads, load_of, loads_read, names_read, rows_read}
 use Rattle.dbgd_run.specs.ScanSteps.{DoesNext, FilesEnd, HasRead, HasReadAll, IsBegun, IsNew, IsPassOver, KeepsFiles, LoadsNext, ReadsThen, TearsFiles}
 use Rattle.dbgd_run.specs.Setting.{Rules}
 use Rattle.dbgd_run.specs.declared.scan_end.ScanEnd.{ScanEnd}

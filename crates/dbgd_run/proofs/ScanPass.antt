@@ -16,7 +16,9 @@ use Rattle.index_state.specs.State.{StateFacts, pass_of}
 use Rattle.index_state.specs.Step.{BeginsPass, Stays}
 use Rattle.index_state.specs.declared.answer.Plan.{Plan}
 use Rattle.dbgd_run.specs.Load.{Hand}
-use Rattle.dbgd_run.specs.Scan.{EndsOpen, FileRead, IsFileRead, LoadsFiles, is_hand_fault, is_store_fault, rows_read, with_puts}
+use Rattle.dbgd_run.specs.Kept.{with_puts}
+use Rattle.dbgd_run.specs.Scan.{EndsOpen, FileRead, IsFileRead, LoadsFiles, rows_read}
+use Rattle.dbgd_run.specs.ScanSaid.{is_hand_fault, is_store_fault}
 use Rattle.dbgd_run.specs.ScanSteps.{IsBegun, IsNew, IsPassOver, KeepsFiles, TearsFiles}
 use Rattle.dbgd_run.specs.Setting.{Rules}
 use Rattle.dbgd_run.specs.declared.scan_end.ScanEnd.{ScanEnd}

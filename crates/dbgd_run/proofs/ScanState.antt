@@ -19,7 +19,7 @@ use Rattle.index_state.specs.Keeping.{Meanings}
 use Rattle.index_state.specs.Kept.{Agrees, IsInStore, tables_of}
 use Rattle.index_state.specs.State.{StateFacts, pass_of}
 use Rattle.index_state.specs.Step.{BeginsPass, Breaks, FindsNoMemory, HandsOut, IsAwaited, Stores, TakesNext}
-use Rattle.dbgd_run.specs.Scan.{put_row, with_puts}
+use Rattle.dbgd_run.specs.Kept.{put_row, with_puts}
 use Rattle.dbgd_run.specs.ScanSteps.{IsNew, IsPassOver, KeepsFiles, TearsFiles}
 use Rattle.dbgd_run.proofs.ScanLists.{in_mid, not_among, without_itself, without_none}
 

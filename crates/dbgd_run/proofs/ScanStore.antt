@@ -19,7 +19,9 @@ use Rattle.index_state.specs.Opening.{IsRead, IsSettled, Opens, Refuses, opened_
 use Rattle.index_state.specs.State.{StateFacts}
 use Rattle.index_state.specs.declared.answer.OpenFault.TheVariants as fault
 use Rattle.dbgd_run.specs.Load.{Hand}
-use Rattle.dbgd_run.specs.Scan.{EndsBy, EndsEarly, EndsFilled, EndsInWalk, EndsOpen, EndsOver, FileRead, HasKept, HasTorn, KeepsAll, LoadsFiles, ReadsFiles, Scans, is_hand_fault, is_store_fault, is_walk_failure, with_puts}
+use Rattle.dbgd_run.specs.Kept.{HasKept, HasTorn, KeepsAll, with_puts}
+use Rattle.dbgd_run.specs.Scan.{EndsBy, EndsEarly, EndsFilled, EndsInWalk, EndsOpen, EndsOver, FileRead, LoadsFiles, ReadsFiles, Scans}
+use Rattle.dbgd_run.specs.ScanSaid.{is_hand_fault, is_store_fault, is_walk_failure}
 use Rattle.dbgd_run.specs.ScanSteps.{EndsUnlisted, IsNew, KeepsFiles, TearsFiles}
 use Rattle.dbgd_run.specs.Setting.{Rules, Setting, TellsStill}
 use Rattle.dbgd_run.specs.Store.{Holding, Stock}

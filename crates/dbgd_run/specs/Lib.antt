@@ -1,6 +1,7 @@
 pub mod Causes
 pub mod Endings
 pub mod Ident
+pub mod Kept
 pub mod Lines
 pub mod Load
 pub mod MemSink
@@ -10,6 +11,7 @@ pub mod Roots
 pub mod Runs
 pub mod Scan
 pub mod ScanCauses
+pub mod ScanSaid
 pub mod ScanSteps
 pub mod Section
 pub mod Setting

@@ -1,9 +1,11 @@
 -- What a run does, by its words (this project's rule).
 use Rattle.std.specs.Prelude.{◌≡◌, ℕ, List, []}
+use Rattle.dbgd_run.specs.Causes.{HasCauses}
 use Rattle.dbgd_run.specs.Endings.{Saying, Streams, Ends}
 use Rattle.dbgd_run.specs.Ident.{SaysIdent}
 use Rattle.dbgd_run.specs.Load.{Hand, RunsOn, not_built_saying}
 use Rattle.dbgd_run.specs.Scan.{RunsScan}
+use Rattle.dbgd_run.specs.ScanCauses.{ScanCauses}
 use Rattle.dbgd_run.specs.Section.{SaysSection}
 use Rattle.dbgd_run.specs.Setting.{Setting}
 use Rattle.dbgd_run.specs.Store.{Stock}
@@ -34,3 +36,9 @@ Runs s (asks_section path name) before after kept now old new code =
 Runs s (asks_scan store roots) before after kept now old new code = RunsScan s roots before after kept now old new code
 Runs s unbuilt before after kept now old new code = LeavesStore (LeavesHand (Ends not_built_saying old new code) before after) kept now
 Runs s unreadable before after kept now old new code = LeavesStore (LeavesHand (Ends usage_saying old new code) before after) kept now
+
+-- all that is promised of a run: what it does, when its status comes, and of a scan, how it ends when
+pub record IsRun (s : Setting) (line : Line) (before after : Hand) (kept now : Stock) (old new : Streams) (code : ℕ) : Type 0 where
+  pub law : Runs s line before after kept now old new code
+  pub causes : HasCauses s line before after kept now old new code
+  pub scan : ScanCauses s line before after kept now old new code

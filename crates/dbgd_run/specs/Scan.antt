@@ -2,7 +2,7 @@
 -- and their rows kept, in path order, up to the first that isn't as it was listed. The store holds what was kept,
 -- however the scan ended.
 use Rattle.std.specs.Prelude.{◌≡◌, ◌≢◌, ◌⊎◌, ℕ, ◌≤◌, Bool, true, false, List, [], ◌∷◌, ◌++◌, map, length, All, IsTrue, Option, option_map, Ok, Err}
-use Rattle.row_types.specs.Faults.{HasCause}
+use Rattle.row_types.specs.Faults.{HasCause, Rose}
 use Rattle.row_types.specs.Name.{NameFacts}
 use Rattle.row_types.specs.Row.{RowFacts, too_large_row}
 use Rattle.row_types.specs.Stamp.{StampFacts}
@@ -95,31 +95,6 @@ pub record ReadsFiles (s : Setting) (roots : List (List ℕ)) (before after : Ha
   pub under : TellsStill s → AreFilesUnder before.present roots walk.listing
   pub loads : LoadsFiles s.world.version (TellsStill s) walk.listing between after files left last
 
--- the change that keeps a row
-abbrev pub put_row : RowFacts → EditFacts
-put_row row = put_of row.name.path (row_bytes row)
-
--- the changes of a store, with those that keep the rows
-abbrev pub with_puts : Option (List EditFacts) → List RowFacts → Option (List EditFacts)
-with_puts made rows = option_map (λ edits. edits ++ map put_row rows) made
-
--- the store has what it had
-pub record KeepsAll (s : Setting) (old new : Holding) : Type 0 where
-  pub tables : IsTrue s.tells_tables → new.tables ≡ old.tables
-  pub made : new.made ≡ old.made
-
--- the store had nothing, and these rows were kept, one after the other
-pub record HasKept (s : Setting) (old new : Holding) (rows : List RowFacts) : Type 0 where
-  pub empty : IsTrue s.tells_tables → old.tables ≡ []
-  pub tables : IsTrue s.tells_tables → new.tables ≡ tables_of rows
-  pub made : new.made ≡ with_puts old.made rows
-
--- the store had nothing, these rows were kept, and then this one or not
-pub record HasTorn (s : Setting) (old new : Holding) (rows : List RowFacts) (row : RowFacts) : Type 0 where
-  pub empty : IsTrue s.tells_tables → old.tables ≡ []
-  pub tables : IsTrue s.tells_tables → (new.tables ≡ tables_of rows) ⊎ (new.tables ≡ edited (tables_of rows) (put_row row))
-  pub made : new.made ≡ with_puts old.made rows
-
 -- the ends of a scan whose walk was whole. Read says which files were read, which names are left, and what was heard
 -- last; Kept, which rows the store has kept
 
@@ -161,7 +136,7 @@ pub record EndsWanting (version : List ℕ → StampFacts → List ℕ → Type 
 
 -- each listed file was read and its row kept: the rows are true and have the listed names; in a told world they are one
 -- scan of the listing. The numbers are those of the plan against the rows before, of which there were none
-pub record EndsWhole (true_row : RowFacts → Type 0) (world_told : Bool) (Read : List FileRead → List NameFacts → List Heard → Type 0) (Kept : List RowFacts → Type 0) (summary : Summary) : Type 0 where
+pub record EndsScanned (true_row : RowFacts → Type 0) (world_told : Bool) (Read : List FileRead → List NameFacts → List Heard → Type 0) (Kept : List RowFacts → Type 0) (summary : Summary) : Type 0 where
   pub files : List FileRead
   pub reads : Read files [] []
   pub keeps : Kept (rows_read files)
@@ -182,7 +157,7 @@ EndsOpen r Walk Read Kept Torn (Altered name met) = EndsAltered Read Kept name m
 EndsOpen r Walk Read Kept Torn Unkept = EndsUnkept r.version Read Torn
 EndsOpen r Walk Read Kept Torn Full = ⊥
 EndsOpen r Walk Read Kept Torn OutOfMemory = EndsWanting r.version Read Kept
-EndsOpen r Walk Read Kept Torn (Whole summary) = EndsWhole r.true_row r.told Read Kept summary
+EndsOpen r Walk Read Kept Torn (Whole summary) = EndsScanned r.true_row r.told Read Kept summary
 
 -- the walk ended with a fault, which files that never change explain, and nothing was kept
 pub record EndsInWalk (s : Setting) (roots : List (List ℕ)) (before after : Hand) (old new : Holding) (fault : WalkFault) : Type 0 where
@@ -209,76 +184,16 @@ EndsOver s roots before after old new end =
 abbrev pub EndsBy : Setting → List (List ℕ) → Hand → Hand → Holding → Holding → ScanEnd → Type 0
 EndsBy s roots before after old new Unopened = EndsEarly s before after old new
 EndsBy s roots before after old new Filled = EndsFilled s before after old new
-EndsBy s roots before after old new (Unlisted fault) = EndsOver s roots before after old new (Unlisted fault)
-EndsBy s roots before after old new Unread = EndsOver s roots before after old new Unread
-EndsBy s roots before after old new (Altered name met) = EndsOver s roots before after old new (Altered name met)
-EndsBy s roots before after old new Unkept = EndsOver s roots before after old new Unkept
-EndsBy s roots before after old new Full = EndsOver s roots before after old new Full
 EndsBy s roots before after old new OutOfMemory = EndsEarly s before after old new ⊎ EndsOver s roots before after old new OutOfMemory
-EndsBy s roots before after old new (Whole summary) = EndsOver s roots before after old new (Whole summary)
+EndsBy s roots before after old new end = EndsOver s roots before after old new end
 
--- whether the walk's fault is a failed call
-abbrev pub is_walk_failure : WalkFault → Bool
-is_walk_failure stop.Failed = true
-is_walk_failure stop.TooMany = false
-is_walk_failure stop.TooManyEntries = false
-is_walk_failure (stop.RootGone path) = false
-is_walk_failure stop.OutOfMemory = false
-
--- whether a call of the hand failed
-abbrev pub is_hand_fault : ScanEnd → Bool
-is_hand_fault Unopened = false
-is_hand_fault Filled = false
-is_hand_fault (Unlisted fault) = is_walk_failure fault
-is_hand_fault Unread = true
-is_hand_fault (Altered name met) = false
-is_hand_fault Unkept = false
-is_hand_fault Full = false
-is_hand_fault OutOfMemory = false
-is_hand_fault (Whole summary) = false
-
--- whether a call of the store failed
-abbrev pub is_store_fault : ScanEnd → Bool
-is_store_fault Unopened = true
-is_store_fault Filled = false
-is_store_fault (Unlisted fault) = false
-is_store_fault Unread = false
-is_store_fault (Altered name met) = false
-is_store_fault Unkept = true
-is_store_fault Full = false
-is_store_fault OutOfMemory = false
-is_store_fault (Whole summary) = false
-
--- of a failed call of the store
-abbrev pub store_fault_saying : Saying
-store_fault_saying = record { out = []; err = store_fault_line; status = status.Fault }
-
--- of a walk that ended with a fault
-abbrev pub walk_saying : WalkFault → Saying
-walk_saying stop.Failed = record { out = []; err = folder_fault_line; status = status.Fault }
-walk_saying stop.TooMany = record { out = []; err = files_limit_line; status = status.Limit }
-walk_saying stop.TooManyEntries = record { out = []; err = entries_limit_line; status = status.Limit }
-walk_saying (stop.RootGone path) = gone_saying path
-walk_saying stop.OutOfMemory = no_memory_saying
-
--- of the end of a scan
-abbrev pub scan_saying : ScanEnd → Saying
-scan_saying Unopened = store_fault_saying
-scan_saying Filled = not_built_saying
-scan_saying (Unlisted fault) = walk_saying fault
-scan_saying Unread = fault_saying
-scan_saying (Altered name met) = record { out = []; err = altered_line name met; status = status.Altered }
-scan_saying Unkept = store_fault_saying
-scan_saying Full = record { out = []; err = changes_limit_line; status = status.Limit }
-scan_saying OutOfMemory = no_memory_saying
-scan_saying (Whole summary) = record { out = summary_line summary; err = []; status = status.Done }
-
--- the scan came to this end, and a call failed only where a count rose
+-- the scan came to this end, by then the store was opened, and a call failed only where a count rose
 pub record Scans (s : Setting) (roots : List (List ℕ)) (before after : Hand) (old new : Stock) (end : ScanEnd) : Type 0 where
   pub ends : EndsBy s roots before after old.holding new.holding end
   pub hand : HasCause before.faults after.faults (IsTrue (is_hand_fault end))
   pub store : HasCause old.faults new.faults (IsTrue (is_store_fault end))
   pub later : old.epoch ≤ new.epoch
+  pub opened : IsTrue (is_open end) → Rose old.epoch new.epoch
 
 -- the scan came to an end, and it was said, or want of memory in its place
 pub record RunsScan (s : Setting) (roots : List (List ℕ)) (before after : Hand) (kept now : Stock) (old new : Streams) (code : ℕ) : Type 0 where

@@ -9,6 +9,7 @@ use Rattle.tree_trait.specs.Stat.{IsNothingAt}
 use Rattle.tree_walk.specs.Answers.{with_answers}
 use Rattle.tree_walk.specs.Ends.{IsRootGone, IsTooMany, IsTooManyEntries}
 use Rattle.tree_walk.specs.Files.{HasManyEntries, HasManyFiles}
+use Rattle.tree_walk.specs.Walked.{IsWalked}
 use Rattle.dbgd_run.specs.Endings.{Streams}
 use Rattle.dbgd_run.specs.Load.{Hand}
 use Rattle.dbgd_run.specs.Scan.{EndsBy, FindsOther, load_of}
@@ -29,13 +30,15 @@ pub record HeardGone (roots : List (List ℕ)) (before after : Hand) : Type 0 wh
   pub heard : after.heard ≡ with_answers before.heard answers
   pub gone : IsRootGone answers roots path
 
--- the last that the hand heard was another file than the listed one
-pub record HeardOther (before after : Hand) : Type 0 where
-  pub earlier : List Heard
+-- the hand heard a walk, then loads, and last that a listed file was another
+pub record HeardOther (roots : List (List ℕ)) (before after : Hand) : Type 0 where
+  pub walked : List Heard
+  pub loads : List Heard
   pub name : NameFacts
   pub answer : LoadFacts
   pub met : Seen
-  pub heard : after.heard ≡ with_answers before.heard (earlier ++ load_of name answer ∷ [])
+  pub heard : after.heard ≡ with_answers before.heard (walked ++ loads ++ load_of name answer ∷ [])
+  pub listed : IsWalked walked roots name
   pub finds : FindsOther name answer met
 
 -- the hand heard of more files than a listing has, or of more entries than a walk reads
@@ -86,7 +89,7 @@ pub record IsUnhindered (s : Setting) (roots : List (List ℕ)) (before after : 
 pub record HasScanCauses (s : Setting) (roots : List (List ℕ)) (before after : Hand) (kept now : Stock) (old new : Streams) (code : ℕ) : Type 0 where
   pub done : code ≡ code_of status.Done → IsScanned s roots before after kept now old new
   pub absent : code ≡ code_of status.Absent → HeardGone roots before after
-  pub altered : code ≡ code_of status.Altered → HeardOther before after
+  pub altered : code ≡ code_of status.Altered → HeardOther roots before after
   pub limit : code ≡ code_of status.Limit → HeardMany roots before after
   pub still : TellsStill s → HasStillCauses before.present roots code
   pub filled : IsTrue s.tells_tables → kept.holding.tables ≢ [] → IsTurnedAway kept now code

@@ -18,7 +18,8 @@ use Rattle.index_state.specs.Kept.{tables_of}
 use Rattle.index_state.specs.State.{StateFacts}
 use Rattle.index_state.specs.Step.{Breaks, FindsNoMemory, IsShut, Stays, Stores}
 use Rattle.dbgd_run.specs.Load.{Hand}
-use Rattle.dbgd_run.specs.Scan.{EndsOpen, FileRead, FindsOther, LoadsFiles, Reads, put_row, rows_read, with_puts}
+use Rattle.dbgd_run.specs.Kept.{put_row, with_puts}
+use Rattle.dbgd_run.specs.Scan.{EndsOpen, FileRead, FindsOther, LoadsFiles, Reads, rows_read}
 use Rattle.dbgd_run.specs.Setting.{Rules, Setting, TellsStill}
 use Rattle.dbgd_run.specs.declared.scan_end.ScanEnd.{ScanEnd}
 use Rattle.dbgd_run.specs.declared.scan_end.ScanEnd.TheVariants.{Unopened, Filled, Unlisted, Unread, Altered, Unkept, Full, OutOfMemory, Whole}

@@ -1,18 +1,15 @@
 //! The top call: all that the program does with what is handed in.
 
-ghost use Rattle.std.specs.Prelude.{◌≡◌, ◌↔◌, ◌⊎◌, ◌<◌, ◌≤◌, ℕ, drop, map, vec_len, slice_index_or, IfSome, IsSome};
+ghost use Rattle.std.specs.Prelude.{◌≡◌, ◌<◌, drop, map, vec_len, slice_index_or, IfSome, IsSome};
 ghost use Rattle.std.specs.String.{string_bytes};
-ghost use Rattle.row_types.specs.Faults.{Rose};
-ghost use Rattle.dbgd_run.specs.Causes.{HasCauses};
 ghost use Rattle.dbgd_run.specs.Endings.{streams};
 ghost use Rattle.dbgd_run.specs.Load.{hand};
 ghost use Rattle.dbgd_run.specs.Lines.{asked_by};
-ghost use Rattle.dbgd_run.specs.Runs.{Runs};
-ghost use Rattle.dbgd_run.specs.ScanCauses.{ScanCauses};
+ghost use Rattle.dbgd_run.specs.Runs.{IsRun, Runs};
 ghost use Rattle.dbgd_run.specs.Setting.{rules, setting};
 ghost use Rattle.dbgd_run.specs.Statuses.{code_of};
 ghost use Rattle.dbgd_run.specs.Store.{stock};
-ghost use Rattle.dbgd_run.specs.Words.{line_of, unreadable};
+ghost use Rattle.dbgd_run.specs.Words.{line_of};
 
 use crate::elf_truth::ElfTruth;
 use crate::ident::run_ident;
@@ -96,26 +93,10 @@ pub fn run_local<W: ElfTruth, T: Tree<W>, S: Store<W>, O: Sink>(
 ) -> Option<u8>
     requires { 0 < vec_len outside.old.hands }
     ensures some { IsSome result }
-    ensures law { (d : T) →
+    ensures run { (d : T) →
         let before = slice_index_or outside.old.hands.items 0 d in
         let after = slice_index_or outside.new.hands.items 0 d in
-        IfSome result (Runs (setting (rules W.version W.true_row W.told) T.told (T.still before) S.K.told) (line_of (map string_bytes words.now))
-        (hand T.present T.heard T.faults before) (hand T.present T.heard T.faults after)
-        (stock S.tables S.made S.epoch S.faults outside.old.store) (stock S.tables S.made S.epoch S.faults outside.new.store)
-        (streams O.written O.write_faults outside.old.out outside.old.err)
-        (streams O.written O.write_faults outside.new.out outside.new.err)) }
-    ensures causes { (d : T) →
-        let before = slice_index_or outside.old.hands.items 0 d in
-        let after = slice_index_or outside.new.hands.items 0 d in
-        IfSome result (HasCauses (setting (rules W.version W.true_row W.told) T.told (T.still before) S.K.told) (line_of (map string_bytes words.now))
-        (hand T.present T.heard T.faults before) (hand T.present T.heard T.faults after)
-        (stock S.tables S.made S.epoch S.faults outside.old.store) (stock S.tables S.made S.epoch S.faults outside.new.store)
-        (streams O.written O.write_faults outside.old.out outside.old.err)
-        (streams O.written O.write_faults outside.new.out outside.new.err)) }
-    ensures scan { (d : T) →
-        let before = slice_index_or outside.old.hands.items 0 d in
-        let after = slice_index_or outside.new.hands.items 0 d in
-        IfSome result (ScanCauses (setting (rules W.version W.true_row W.told) T.told (T.still before) S.K.told) (line_of (map string_bytes words.now))
+        IfSome result (IsRun (setting (rules W.version W.true_row W.told) T.told (T.still before) S.K.told) (line_of (map string_bytes words.now))
         (hand T.present T.heard T.faults before) (hand T.present T.heard T.faults after)
         (stock S.tables S.made S.epoch S.faults outside.old.store) (stock S.tables S.made S.epoch S.faults outside.new.store)
         (streams O.written O.write_faults outside.old.out outside.old.err)
@@ -134,26 +115,10 @@ pub fn run<W: ElfTruth, T: Tree<W>, S: Store<W>, O: Sink>(
     outside: &mut Outside<W, T, S, O>,
 ) -> u8
     requires { 0 < vec_len outside.old.hands }
-    ensures law { (d : T) →
+    ensures run { (d : T) →
         let before = slice_index_or outside.old.hands.items 0 d in
         let after = slice_index_or outside.new.hands.items 0 d in
-        Runs (setting (rules W.version W.true_row W.told) T.told (T.still before) S.K.told) (line_of (map string_bytes words.now))
-        (hand T.present T.heard T.faults before) (hand T.present T.heard T.faults after)
-        (stock S.tables S.made S.epoch S.faults outside.old.store) (stock S.tables S.made S.epoch S.faults outside.new.store)
-        (streams O.written O.write_faults outside.old.out outside.old.err)
-        (streams O.written O.write_faults outside.new.out outside.new.err) result }
-    ensures causes { (d : T) →
-        let before = slice_index_or outside.old.hands.items 0 d in
-        let after = slice_index_or outside.new.hands.items 0 d in
-        HasCauses (setting (rules W.version W.true_row W.told) T.told (T.still before) S.K.told) (line_of (map string_bytes words.now))
-        (hand T.present T.heard T.faults before) (hand T.present T.heard T.faults after)
-        (stock S.tables S.made S.epoch S.faults outside.old.store) (stock S.tables S.made S.epoch S.faults outside.new.store)
-        (streams O.written O.write_faults outside.old.out outside.old.err)
-        (streams O.written O.write_faults outside.new.out outside.new.err) result }
-    ensures scan { (d : T) →
-        let before = slice_index_or outside.old.hands.items 0 d in
-        let after = slice_index_or outside.new.hands.items 0 d in
-        ScanCauses (setting (rules W.version W.true_row W.told) T.told (T.still before) S.K.told) (line_of (map string_bytes words.now))
+        IsRun (setting (rules W.version W.true_row W.told) T.told (T.still before) S.K.told) (line_of (map string_bytes words.now))
         (hand T.present T.heard T.faults before) (hand T.present T.heard T.faults after)
         (stock S.tables S.made S.epoch S.faults outside.old.store) (stock S.tables S.made S.epoch S.faults outside.new.store)
         (streams O.written O.write_faults outside.old.out outside.old.err)

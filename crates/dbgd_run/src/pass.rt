@@ -9,7 +9,8 @@ ghost use Rattle.index_state.specs.Plan.{plan_of};
 ghost use Rattle.index_state.specs.State.{pass_of};
 ghost use Rattle.index_state.specs.Step.{IsAwaited};
 ghost use Rattle.dbgd_run.specs.Load.{hand as shown};
-ghost use Rattle.dbgd_run.specs.Scan.{EndsOpen, LoadsFiles, is_hand_fault, is_store_fault};
+ghost use Rattle.dbgd_run.specs.Scan.{EndsOpen, LoadsFiles};
+ghost use Rattle.dbgd_run.specs.ScanSaid.{is_hand_fault, is_store_fault};
 ghost use Rattle.dbgd_run.specs.ScanSteps.{DoesNext, FilesEnd, IsBegun, IsNew, KeepsFiles, KeepsNext, LoadsNext, TearsFiles};
 ghost use Rattle.dbgd_run.specs.Setting.{rules};
 

@@ -1,7 +1,7 @@
 //! What `scan` says, by how it ended.
 
 ghost use Rattle.dbgd_run.specs.Endings.{Ends, EndsOrWants, streams};
-ghost use Rattle.dbgd_run.specs.Scan.{scan_saying, walk_saying};
+ghost use Rattle.dbgd_run.specs.ScanSaid.{scan_saying, walk_saying};
 ghost use Rattle.dbgd_run.specs.Statuses.{code_of};
 ghost use Rattle.dbgd_run.specs.declared.scan_end.ScanEnd.TheVariants.{Altered, Whole};
 

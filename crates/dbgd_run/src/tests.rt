@@ -5,6 +5,8 @@ mod fakes;
 mod files;
 mod helpers;
 mod outsides;
+mod scan_helpers;
+mod scan_stores;
 mod scans;
 mod sections;
 mod words;

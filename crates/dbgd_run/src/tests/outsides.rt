@@ -148,7 +148,14 @@ fn a_line_is_written_piece_by_piece(rt: HostRuntime) -> Result<(), Fail> {
         err: "dbgd: fault output\n",
         status: 1,
     };
-    run_narrow(&rt, rt.alloc(), &[4], &cut)
+    run_narrow(&rt, rt.alloc(), &[4], &cut)?;
+    let scanned = Case {
+        words: &["scan", "-d", "m", "/w"],
+        out: b"scan: 1 file",
+        err: "dbgd: fault output\n",
+        status: 1,
+    };
+    run_narrow(&rt, rt.alloc(), &[4], &scanned)
 }
 
 #[test]

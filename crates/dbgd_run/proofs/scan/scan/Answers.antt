@@ -1,4 +1,5 @@
 use Rattle.std.proofs.Common.{◌≡◌, ◌≤◌, ℕ, List, Option, IsTrue, sym, subst, arith}
+use Rattle.row_types.specs.Faults.{Rose}
 use Rattle.index_keeper.specs.Tables.{EditFacts, KeptFacts}
 use Rattle.dbgd_run.specs.Load.{Hand, hand as shown}
 use Rattle.dbgd_run.specs.Scan.{EndsBy}
@@ -25,4 +26,5 @@ returns-in-Opened g c =
         rose = λ fails. rose_given _ _ _ _ _ c.open_store.ensures.cause.later c.in-Opened.ensures.faultless (c.scan_keeper-end.ensures.keeper.rose fails) c.give_back.ensures.faults;
       };
       later = subst (λ (epoch : ℕ). g.S.Store.epoch c.args.store.now ≤ epoch) (sym c.give_back.ensures.epoch) c.open_store.ensures.later;
+      opened = λ _. subst (λ (epoch : ℕ). Rose (g.S.Store.epoch c.args.store.now) epoch) (sym c.give_back.ensures.epoch) c.in-Opened.ensures.rises;
     }
