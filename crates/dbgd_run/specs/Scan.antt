@@ -1,16 +1,14 @@
 -- The command `scan` (this project's rule): the store is opened, the folders are walked, and the listed files are read
 -- and their rows kept, in path order, up to the first that isn't as it was listed. The store holds what was kept,
 -- however the scan ended.
-use Rattle.std.specs.Prelude.{◌≡◌, ◌≢◌, ◌⊎◌, ℕ, ◌≤◌, Bool, true, false, List, [], ◌∷◌, ◌++◌, map, length, All, IsTrue, Option, option_map, Ok, Err}
+use Rattle.std.specs.Prelude.{◌≡◌, ◌≢◌, ◌⊎◌, ℕ, ◌≤◌, Bool, true, List, [], ◌∷◌, ◌++◌, map, length, All, IsTrue, Ok, Err}
 use Rattle.row_types.specs.Faults.{HasCause, Rose}
 use Rattle.row_types.specs.Name.{NameFacts}
 use Rattle.row_types.specs.Row.{RowFacts, too_large_row}
 use Rattle.row_types.specs.Stamp.{StampFacts}
 use Rattle.row_types.specs.declared.limits.TheConstants.{FILE_LIMIT}
-use Rattle.row_codec.specs.RowBytes.{row_bytes}
 use Rattle.scan_queue.specs.declared.miss.Seen.{Seen}
 use Rattle.scan_queue.specs.declared.miss.Seen.TheVariants as seen
-use Rattle.index_keeper.specs.Tables.{EditFacts, KeptFacts, edited, put_of}
 use Rattle.index_rows.specs.Rows.{names_of}
 use Rattle.tree_trait.specs.Heard.{Heard, load}
 use Rattle.tree_trait.specs.Load.{LoadFacts, loaded, too_large, gone, failed, no_memory, FitsLoad}
@@ -18,22 +16,20 @@ use Rattle.tree_walk.specs.Answers.{with_answers}
 use Rattle.tree_walk.specs.Ends.{Walks}
 use Rattle.tree_walk.specs.Files.{AreFilesUnder, FitsFault, IsTold}
 use Rattle.tree_walk.specs.declared.fault.WalkFault.{WalkFault}
-use Rattle.tree_walk.specs.declared.fault.WalkFault.TheVariants as stop
 use Rattle.tree_walk.specs.declared.walked.Walk.{Walk}
 use Rattle.index_state.specs.Complete.{IsScan}
-use Rattle.index_state.specs.Kept.{tables_of}
 use Rattle.index_state.specs.Plan.{plan_of}
-use Rattle.dbgd_run.specs.Endings.{Saying, Streams, EndsOrWants}
-use Rattle.dbgd_run.specs.Load.{Hand, fault_saying, gone_saying, no_memory_saying, not_built_saying}
+use Rattle.dbgd_run.specs.Endings.{Streams, EndsOrWants}
+use Rattle.dbgd_run.specs.Load.{Hand}
 use Rattle.dbgd_run.specs.Numbers.{summary_of}
 use Rattle.dbgd_run.specs.Read.{IsRowOf}
 use Rattle.dbgd_run.specs.Setting.{Rules, Setting, TellsStill}
 use Rattle.dbgd_run.specs.Store.{Holding, Stock}
-use Rattle.dbgd_run.specs.Texts.{altered_line, changes_limit_line, entries_limit_line, files_limit_line, folder_fault_line, store_fault_line, summary_line}
 use Rattle.dbgd_run.specs.declared.scan_end.ScanEnd.{ScanEnd}
 use Rattle.dbgd_run.specs.declared.scan_end.ScanEnd.TheVariants.{Unopened, Filled, Unlisted, Unread, Altered, Unkept, Full, OutOfMemory, Whole}
-use Rattle.dbgd_run.specs.declared.status.Status.TheVariants as status
 use Rattle.dbgd_run.specs.declared.summary.Summary.{Summary}
+use Rattle.dbgd_run.specs.Kept.{HasKept, HasTorn, KeepsAll}
+use Rattle.dbgd_run.specs.ScanSaid.{is_hand_fault, is_open, is_store_fault, scan_saying}
 
 -- a listed file that was read: its name, what its load answered, and its row
 pub record FileRead : Type 0 where

@@ -37,7 +37,7 @@ pub record HeardOther (roots : List (List ℕ)) (before after : Hand) : Type 0 w
   pub name : NameFacts
   pub answer : LoadFacts
   pub met : Seen
-  pub heard : after.heard ≡ with_answers before.heard (walked ++ loads ++ load_of name answer ∷ [])
+  pub heard : after.heard ≡ with_answers before.heard (walked ++ (loads ++ load_of name answer ∷ []))
   pub listed : IsWalked walked roots name
   pub finds : FindsOther name answer met
 
