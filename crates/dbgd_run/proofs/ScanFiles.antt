@@ -223,97 +223,6 @@ stops r Still Now Then tells m listing before between after old mid new name ans
 }
 stops r Still Now Then tells m listing before between after old mid new name answer files left (Whole summary) holds tells_it out next does = absurd does
 
--- no name is left
-pub finishes : {K : Type 0} (version : List ℕ → StampFacts → List ℕ → Type 0) (Still Now : Type 0) (m : Meanings K) (listing : List NameFacts)
-    (before after : Hand) (old mid new : StateFacts K) (files : List FileRead) (left : List NameFacts)
-    → HasRead version Still Now m listing before after old mid files left → TakesNext mid None new
-    → HasReadAll version Still m listing before after old new
-finishes version Still Now m listing before after old mid new files left had takes =
-    let none : left ≡ []
-    = sym had.pass.todo ∙ sym (ap (λ (p : Option PassFacts). (pass_of p).todo) had.pass.is) ∙ takes.taken.none in
-    let same : new ≡ mid = takes.same ∙ pass_same mid new.pass takes.taken.same in
-    record {
-      files = files;
-      loads = subst (λ xs. LoadsFiles version Still listing before after files xs []) none had.loads;
-      keeps = subst (λ (s : StateFacts _). KeepsFiles m old s (rows_read files)) (sym same) had.keeps;
-      pass =
-          subst (λ xs. IsPassOver listing xs [] new.pass) none (subst (λ (p : Option PassFacts). IsPassOver listing left [] p) (sym takes.taken.same) had.pass);
-    }
-  where
-    pass_same : {K : Type 0} (state : StateFacts K) (pass : Option PassFacts) → pass ≡ state.pass → record state { pass = pass } ≡ state
-    pass_same state pass e = ap (λ (p : Option PassFacts). record state { pass = p }) e
-
--- a count that rose later rose since
-pub rose_since : (before between after : ℕ) → before ≤ between → Rose between after → Rose before after
-rose_since before between after later rose = omega arith
-
-some_end : (end : ScanEnd) → Some end ≡ Some Unread → end ≡ Unread
-some_end end e = cc
-
--- a fault of the hand is counted
-pub stop_hand : {K : Type 0} (version : List ℕ → StampFacts → List ℕ → Type 0) (tells : Bool) (Now Then : Type 0) (m : Meanings K) (mid new : StateFacts K)
-    (name : NameFacts) (answer : LoadFacts) (before between after : Hand) (end : ScanEnd) → before.faults ≤ between.faults
-    → LoadsNext version tells Now Then name.path between after answer → DoesNext m name answer mid new (Some end)
-    → HasCause before.faults after.faults (Some end ≡ Some Unread)
-stop_hand version tells Now Then m mid new name answer before between after end later next does = record {
-  later = let more = next.cause.later in omega arith;
-  rose = λ e.
-      let unread : end ≡ Unread = some_end end e in
-      let does_unread : Stays (answer ≡ failed) mid new = subst (λ (x : ScanEnd). DoesNext m name answer mid new (Some x)) unread does in
-      let rose : Rose between.faults after.faults = next.cause.rose (ap is_failed does_unread.why) in
-      rose_since before.faults between.faults after.faults later rose;
-}
-
--- a fault of the keeper is counted
-pub stop_keeper : {K : Type 0} (m : Meanings K) (old mid new : StateFacts K) (name : NameFacts) (answer : LoadFacts) (end : ScanEnd)
-    → m.faults old.keeper ≤ m.faults mid.keeper → DoesNext m name answer mid new (Some end)
-    → HasCause (m.faults old.keeper) (m.faults new.keeper) (Some end ≡ Some Unkept)
-stop_keeper m old mid new name answer Unopened later does = absurd does
-stop_keeper m old mid new name answer Filled later does = absurd does
-stop_keeper m old mid new name answer (Unlisted fault) later does = absurd does
-stop_keeper m old mid new name answer Unread later does =
-    record { later = subst (λ (s : StateFacts _). m.faults old.keeper ≤ m.faults s.keeper) (sym does.same) later; rose = λ e. absurd (cc) }
-stop_keeper m old mid new name answer (Altered listed met) later does =
-    record { later = subst (λ (s : StateFacts _). m.faults old.keeper ≤ m.faults s.keeper) (sym does.same) later; rose = λ e. absurd (cc) }
-stop_keeper m old mid new name answer Unkept later does = record {
-  later = let more = does.next.keeper.asked.cause.later in omega arith;
-  rose = λ e. rose_since (m.faults old.keeper) (m.faults mid.keeper) (m.faults new.keeper) later (does.next.keeper.asked.cause.rose refl);
-}
-stop_keeper m old mid new name answer Full later does =
-    record { later = subst (λ (s : StateFacts _). m.faults old.keeper ≤ m.faults s.keeper) (sym does.next.same) later; rose = λ e. absurd (cc) }
-stop_keeper m old mid new name answer OutOfMemory later (inl does) =
-    record { later = subst (λ (s : StateFacts _). m.faults old.keeper ≤ m.faults s.keeper) (sym does.same) later; rose = λ e. absurd (cc) }
-stop_keeper m old mid new name answer OutOfMemory later (inr does) =
-    record { later = let same = does.next.keeper.faultless in omega arith; rose = λ e. absurd (cc) }
-stop_keeper m old mid new name answer (Whole summary) later does = absurd does
-
--- what comes of the row that a load gave
-pub keeps_does : {K : Type 0} (m : Meanings K) (name : NameFacts) (answer : LoadFacts) (row : RowFacts) (old new : StateFacts K) (r : Option ScanEnd)
-    → Reads name answer row → KeepsNext m row old new r → DoesNext m name answer old new r
-keeps_does m name answer row old new None reads next = record { row = row; reads = reads; next = next }
-keeps_does m name answer row old new (Some Unopened) reads next = next
-keeps_does m name answer row old new (Some Filled) reads next = next
-keeps_does m name answer row old new (Some (Unlisted fault)) reads next = next
-keeps_does m name answer row old new (Some Unread) reads next = absurd next
-keeps_does m name answer row old new (Some (Altered listed met)) reads next = absurd next
-keeps_does m name answer row old new (Some Unkept) reads next = record { row = row; reads = reads; next = next }
-keeps_does m name answer row old new (Some Full) reads next = record { row = row; reads = reads; next = next }
-keeps_does m name answer row old new (Some OutOfMemory) reads next = inr (record { row = row; reads = reads; next = next })
-keeps_does m name answer row old new (Some (Whole summary)) reads next = next
-
--- what comes of a load that gave no row
-pub leads_does : {K : Type 0} (m : Meanings K) (name : NameFacts) (answer : LoadFacts) (state : StateFacts K) (end : ScanEnd)
-    → LeadsTo name answer (Err end) → DoesNext m name answer state state (Some end)
-leads_does m name answer state Unopened leads = leads
-leads_does m name answer state Filled leads = leads
-leads_does m name answer state (Unlisted fault) leads = leads
-leads_does m name answer state Unread leads = record { why = leads; same = refl }
-leads_does m name answer state (Altered listed met) leads = record { why = leads; same = refl }
-leads_does m name answer state Unkept leads = absurd leads
-leads_does m name answer state Full leads = absurd leads
-leads_does m name answer state OutOfMemory leads = inl (record { why = leads; same = refl })
-leads_does m name answer state (Whole summary) leads = leads
-
 -- the next file was read and its row kept: so far one file more was read
 pub goes_on : {K : Type 0} (true_row : RowFacts → Type 0) (version : List ℕ → StampFacts → List ℕ → Type 0) (Still Now Then : Type 0) (tells : Bool) (m : Meanings K)
     (listing : List NameFacts) (before between after : Hand) (old was mid new : StateFacts K) (name : NameFacts) (answer : LoadFacts) (files : List FileRead)
@@ -347,13 +256,6 @@ is_awaited true_row version Still Now m listing before between old was mid name 
     let goes : GoesOut version Still Now m listing before between old mid name files
     = goes_out true_row version Still Now m listing before between old was mid name files left holds had takes in
     awaits listing (names_read files) goes.left name mid (rows_read files) goes.out.loads.listed goes.out.pass goes.out.keeps.sound goes.out.keeps.stand goes.out.earlier
-
--- the faults of the keeper as the name goes out
-pub keeper_before : {K : Type 0} (version : List ℕ → StampFacts → List ℕ → Type 0) (Still Now : Type 0) (m : Meanings K) (listing : List NameFacts)
-    (before between : Hand) (old was mid : StateFacts K) (r : Option NameFacts) (files : List FileRead) (left : List NameFacts)
-    → HasRead version Still Now m listing before between old was files left → TakesNext was r mid → m.faults old.keeper ≤ m.faults mid.keeper
-keeper_before version Still Now m listing before between old was mid r files left had takes =
-    subst (λ (s : StateFacts _). m.faults old.keeper ≤ m.faults s.keeper) (sym takes.same) had.keeper
 
 -- fewer names are left once one went out
 pub fewer_left : {K : Type 0} (version : List ℕ → StampFacts → List ℕ → Type 0) (Still Now : Type 0) (m : Meanings K) (listing : List NameFacts)

@@ -27,38 +27,6 @@ use Rattle.dbgd_run.proofs.ScanEnds.{ends_open}
 use Rattle.dbgd_run.proofs.ScanLemmas.{with_nothing}
 use Rattle.dbgd_run.proofs.ScanState.{begins_new, keeps_none}
 
--- a fault of the hand, once the walk was whole
-pub hand_pass : (r : Rules) (R : List FileRead → List NameFacts → List Heard → Type 0) (A : List RowFacts → Type 0) (C : List RowFacts → RowFacts → Type 0)
-    (end : ScanEnd) (before after : ℕ) → EndsOpen r (λ fault. ⊥) R A C end → HasCause before after (Some end ≡ Some Unread)
-    → HasCause before after (IsTrue (is_hand_fault end))
-hand_pass r R A C Unopened before after ends cause = absurd ends
-hand_pass r R A C Filled before after ends cause = absurd ends
-hand_pass r R A C (Unlisted fault) before after ends cause = absurd ends
-hand_pass r R A C Unread before after ends cause = record { later = cause.later; rose = λ e. cause.rose refl }
-hand_pass r R A C (Altered name met) before after ends cause = record { later = cause.later; rose = λ e. absurd (cc) }
-hand_pass r R A C Unkept before after ends cause = record { later = cause.later; rose = λ e. absurd (cc) }
-hand_pass r R A C Full before after ends cause = absurd ends
-hand_pass r R A C OutOfMemory before after ends cause = record { later = cause.later; rose = λ e. absurd (cc) }
-hand_pass r R A C (Whole summary) before after ends cause = record { later = cause.later; rose = λ e. absurd (cc) }
-
--- a fault of the keeper, once the store was opened
-pub keeper_pass : (r : Rules) (W : WalkFault → Type 0) (R : List FileRead → List NameFacts → List Heard → Type 0) (A : List RowFacts → Type 0)
-    (C : List RowFacts → RowFacts → Type 0) (end : ScanEnd) (before after : ℕ) → EndsOpen r W R A C end → HasCause before after (Some end ≡ Some Unkept)
-    → HasCause before after (IsTrue (is_store_fault end))
-keeper_pass r W R A C Unopened before after ends cause = absurd ends
-keeper_pass r W R A C Filled before after ends cause = absurd ends
-keeper_pass r W R A C (Unlisted fault) before after ends cause = record { later = cause.later; rose = λ e. absurd (cc) }
-keeper_pass r W R A C Unread before after ends cause = record { later = cause.later; rose = λ e. absurd (cc) }
-keeper_pass r W R A C (Altered name met) before after ends cause = record { later = cause.later; rose = λ e. absurd (cc) }
-keeper_pass r W R A C Unkept before after ends cause = record { later = cause.later; rose = λ e. cause.rose refl }
-keeper_pass r W R A C Full before after ends cause = absurd ends
-keeper_pass r W R A C OutOfMemory before after ends cause = record { later = cause.later; rose = λ e. absurd (cc) }
-keeper_pass r W R A C (Whole summary) before after ends cause = record { later = cause.later; rose = λ e. absurd (cc) }
-
--- no fault came
-pub none_failed : (before after : ℕ) (end : ScanEnd) → HasCause before after (None ≡ Some end) → HasCause before after (IsTrue false)
-none_failed before after end cause = record { later = cause.later; rose = λ e. absurd (cc) }
-
 -- the pass that was begun
 pass_after : {K : Type 0} (listing : List NameFacts) (roots : List (List ℕ)) (plan : Plan) (old new : StateFacts K) → IsNew old → BeginsPass listing roots plan old new
     → IsPassOver listing listing [] new.pass

@@ -31,21 +31,6 @@ use Rattle.dbgd_run.proofs.ScanEnds.{ends_open}
 use Rattle.dbgd_run.proofs.ScanFiles.{rose_since}
 use Rattle.dbgd_run.proofs.ScanState.{keeps_none, tables_stand}
 
--- a cause after calls that didn't fail
-pub cause_after : (before between after : ℕ) (Fails : Type 0) → before ≤ between → HasCause between after Fails → HasCause before after Fails
-cause_after before between after Fails later cause = record {
-  later = let more = cause.later in omega arith;
-  rose = λ f. rose_since before between after later (cause.rose f);
-}
-
--- a walk's fault is one of the hand where a call failed
-pub walk_cause : (before after : ℕ) (fault : WalkFault) → HasCause before after (fault ≡ stop.Failed) → HasCause before after (IsTrue (is_hand_fault (Unlisted fault)))
-walk_cause before after stop.Failed cause = record { later = cause.later; rose = λ e. cause.rose refl }
-walk_cause before after stop.TooMany cause = record { later = cause.later; rose = λ e. absurd (cc) }
-walk_cause before after stop.TooManyEntries cause = record { later = cause.later; rose = λ e. absurd (cc) }
-walk_cause before after (stop.RootGone path) cause = record { later = cause.later; rose = λ e. absurd (cc) }
-walk_cause before after stop.OutOfMemory cause = record { later = cause.later; rose = λ e. absurd (cc) }
-
 -- what was loaded after a whole walk
 pub walked : {K : Type 0} (s : Setting) (m : Meanings K) (roots : List (List ℕ)) (before between after : Hand) (old new : StateFacts K) (walk : Walk) (Mid : Type 0) (end : ScanEnd)
     → Walks before.heard between.heard (TellsStill s) before.present roots (Ok walk) → (TellsStill s → Mid) → (TellsStill s → between.present ≡ before.present)
@@ -134,18 +119,6 @@ ends_opened s m roots before after keeper old new had left end told holds opens 
     })
     (λ files names last reads. reads) (λ rows keeps. kept_holding s m keeper old new had left rows told holds opens was image keeps)
     (λ rows row tears. torn_holding s m keeper old new had left rows row told opens was image tears) end ends)
-
--- a keeper that was handed back as it was read
-pub refused_early : {K : Type 0} (s : Setting) (m : Meanings K) (hand : Hand) (keeper given : K) (had left : List KeptFacts) → (IsTrue s.tells_tables → IsTrue m.told)
-    → IsSettled m keeper → IsRead m keeper given → (IsTrue s.tells_tables → had ≡ m.tables keeper) → (IsTrue s.tells_tables → m.images given left)
-    → EndsEarly s hand hand (held had (m.made keeper)) (held left (m.made given))
-refused_early s m hand keeper given had left told settled read was image = record {
-  hand = refl;
-  keeps = record {
-    tables = λ t. (settled (told t)).only left (((read.tells (told t)).images left).0 (image t)) ∙ sym (was t);
-    made = read.stays;
-  };
-}
 
 -- a fault of a keeper is one of its store once it is given back
 pub rose_given : (old mid new keeper given : ℕ) → old ≤ mid → keeper ≡ 0 → Rose keeper given → new ≡ summed mid given → Rose old new
