@@ -1,5 +1,5 @@
 -- The log and the changes that the store made, with one change more.
-use Rattle.std.proofs.Common.{◌≡◌, ◌≢◌, ℕ, ◌+◌, ◌-◌, ◌≤◌, ◌<◌, Bool, true, false, List, [], ◌∷◌, ◌++◌, length, take, Option, Some, None, refl, sym, ◌∙◌, ap, subst, arith, append_assoc, length-append}
+use Rattle.std.proofs.Common.{◌≡◌, ℕ, ◌+◌, ◌-◌, ◌≤◌, Bool, true, false, List, [], ◌∷◌, ◌++◌, length, take, Option, Some, None, refl, sym, ◌∙◌, ap, arith, append_assoc, length-append}
 use Rattle.std.specs.List.{fold}
 use Rattle.std.specs.Option.{option_map}
 use Rattle.std.proofs.Math.Seq.{take-append_seam}
@@ -12,7 +12,7 @@ use Rattle.index_rows.specs.declared.change.Change.{Change}
 use Rattle.index_rows.proofs.RowLemmas.{replay_more}
 use Rattle.index_keeper.specs.Tables.{EditFacts}
 use Rattle.scan_queue.specs.Names.{is_in}
-use Rattle.index_state.specs.Changes.{EachChanges, EndsVoid, GoesOn, HasOrigin, IsMadeBy, IsVoid, MadeFor, TellsSince, VoidWhere}
+use Rattle.index_state.specs.Changes.{EachChanges, EndsVoid, HasOrigin, IsMadeBy, IsVoid, MadeFor, TellsSince, VoidWhere}
 use Rattle.index_state.specs.State.{Origin, lasting, made_first}
 use Rattle.index_state.proofs.Members.{in_put_self}
 

@@ -1,26 +1,24 @@
 -- What a pass still has to do, after each of its steps.
-use Rattle.std.proofs.Common.{◌≡◌, ℕ, ◌||◌, ◌&&◌, Bool, true, false, not, List, [], ◌∷◌, ◌++◌, map, Option, Some, None, refl, sym, ◌∙◌, ap, subst}
-use Rattle.std.specs.List.{filter}
-use Rattle.std.specs.Option.{option_map}
-use Rattle.std.specs.Prelude.{IfSome}
+use Rattle.std.proofs.Common.{◌≡◌, ◌||◌, ◌&&◌, Bool, true, false, not, List, [], ◌∷◌, ◌++◌, refl, sym, ◌∙◌, ap, subst}
+use Rattle.std.specs.List.{All}
 use Rattle.std.specs.Str.{bytes_eq}
 use Rattle.std.proofs.lemmas.Bool.{false_from_ne_true, or_left, or_right, true≢false}
-use Rattle.std.proofs.lemmas.List.Elements.{filter-append}
+use Rattle.std.proofs.lemmas.List.Elements.{All-head, filter-append}
 use Rattle.std.proofs.lemmas.Slice.Eq.{bytes_eq-Decides}
 use Rattle.row_types.specs.Name.{NameFacts}
 use Rattle.row_types.specs.Row.{RowFacts}
 use Rattle.index_rows.specs.ByPath.{put_at}
-use Rattle.index_rows.specs.Rows.{names_of, path_of, with_row}
+use Rattle.index_rows.specs.Rows.{names_of, with_row}
 use Rattle.index_rows.proofs.Lists.{map_filter}
 use Rattle.index_rows.proofs.PathLemmas.{map_put}
 use Rattle.index_rows.proofs.RowLemmas.{path_in}
 use Rattle.scan_queue.specs.Names.{IsByPath, is_in, not_in, same_name, without}
-use Rattle.scan_queue.specs.Pass.{Adds, PassFacts, Takes, begun, left, misses_without, missed_names}
+use Rattle.scan_queue.specs.Pass.{Adds, IsPass, PassFacts, Takes, begun, left, misses_without, missed_names}
 use Rattle.scan_queue.specs.declared.miss.Miss.{Miss}
 use Rattle.scan_queue.proofs.NameTests.{same_name-Decides}
 use Rattle.index_state.specs.Invariant.{ListedAccounted, RowsAccounted, to_look_for, to_read}
 use Rattle.index_state.proofs.ByName.{one_of_path}
-use Rattle.index_state.proofs.Members.{in_append, in_filter, in_put_other, in_put_self, in_put_stale, in_without_other, not_in_without}
+use Rattle.index_state.proofs.Members.{in_append, in_filter, in_put_other, in_put_self, in_put_stale, in_without_other, not_in_without, same_name_self}
 
 -- a name of three lists
 in_three : (xs ys zs : List NameFacts) (n : NameFacts) → is_in (xs ++ ys ++ zs) n ≡ ((is_in xs n || is_in ys n) || is_in zs n)
@@ -85,6 +83,26 @@ take_same_read n name from into takes =
     ∙ swap_taken (is_in into.todo n) (same_name n name) (is_in from.out n) (is_in (missed_names from.missed) n)
     ∙ ap (λ (l : List NameFacts). (is_in l n || is_in from.out n) || is_in (missed_names from.missed) n) (sym takes.first)
     ∙ sym (in_three from.todo from.out (missed_names from.missed) n)
+
+-- a name that is taken is listed
+pub taken_is_listed : (name : NameFacts) (from into : PassFacts) → Takes from into name → IsPass from → is_in into.listing name ≡ true
+taken_is_listed name from into takes place =
+    ap (λ (p : PassFacts). is_in p.listing name) takes.same
+    ∙ All-head (λ (n : NameFacts). is_in from.listing n ≡ true) name into.todo
+    (subst (λ (l : List NameFacts). All (λ n. is_in from.listing n ≡ true) l) takes.first place.listed)
+
+-- and stands among the names that are out
+taken_is_out : (name : NameFacts) (from into : PassFacts) → Takes from into name → is_in (to_read into) name ≡ true
+taken_is_out name from into takes =
+    in_three into.todo into.out (missed_names into.missed) name
+    ∙ or_left (is_in into.todo name || is_in into.out name) (is_in (missed_names into.missed) name)
+    (or_right (is_in into.todo name) (is_in into.out name)
+    (in_added name name from.out into.out takes.out ∙ or_left (same_name name name) (is_in from.out name) (same_name_self name)))
+
+-- so no row has it
+pub taken_is_absent : (rows : List RowFacts) (name : NameFacts) (from into : PassFacts) → Takes from into name → IsPass from → ListedAccounted rows into → is_in (names_of rows) name ≡ false
+taken_is_absent rows name from into takes place listed =
+    listed name (taken_is_listed name from into takes place) ∙ ap not (taken_is_out name from into takes)
 
 grown : (g o m s : Bool) → ((g || o) || m) ≡ true → ((g || (s || o)) || m) ≡ true
 grown true o m s h = refl

@@ -1,8 +1,8 @@
 -- Rows with room for a put.
-use Rattle.std.proofs.Common.{◌≡◌, ◌≢◌, ℕ, ◌<◌, false, length, sym, ◌∙◌, ap, subst}
+use Rattle.std.proofs.Common.{◌≡◌, ◌<◌, false, length, sym, ◌∙◌, ap, subst}
 use Rattle.std.proofs.lemmas.Bool.{true≢false}
 use Rattle.row_types.specs.Row.{RowFacts}
-use Rattle.index_rows.specs.Rows.{CanBeVoid, IsIndex, IsReady, RowsFacts, Stands, names_of}
+use Rattle.index_rows.specs.Rows.{CanBeVoid, IsIndex, IsReady, RowsFacts, names_of}
 use Rattle.index_rows.specs.declared.prepared.Prepared.{Prepared}
 use Rattle.index_rows.specs.declared.prepared.Prepared.TheVariants.{Put}
 use Rattle.index_rows.specs.declared.rows.TheConstants.{LOG_LIMIT}

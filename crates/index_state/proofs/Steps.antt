@@ -1,5 +1,5 @@
 -- Each step, from the parts of the state.
-use Rattle.std.proofs.Common.{◌≡◌, ℕ, Bool, true, false, List, [], ◌∷◌, ◌++◌, length, Option, Some, refl, sym, ◌∙◌, ap, subst}
+use Rattle.std.proofs.Common.{◌≡◌, ℕ, Bool, true, false, List, Option, Some, sym, ◌∙◌, ap, subst}
 use Rattle.std.specs.Option.{option_map}
 use Rattle.std.specs.Prelude.{IfSome}
 use Rattle.row_types.specs.Name.{NameFacts}
@@ -7,19 +7,18 @@ use Rattle.row_types.specs.Row.{RowFacts}
 use Rattle.row_types.specs.declared.limits.TheConstants.{EDITION}
 use Rattle.row_codec.specs.RowBytes.{row_bytes}
 use Rattle.index_rows.specs.Rows.{RowsFacts, after_put, names_of, with_row}
-use Rattle.index_rows.specs.declared.change.Change.{Change}
 use Rattle.scan_queue.specs.Pass.{IsPass, PassFacts, begun, left}
 use Rattle.index_keeper.specs.Tables.{put_of as put_edit}
 use Rattle.index_state.specs.Invariant.{IndexInvariant}
 use Rattle.index_state.specs.Keeping.{Meanings}
 use Rattle.index_state.specs.Plan.{plan_of}
 use Rattle.index_state.specs.State.{StateFacts, state_of}
-use Rattle.index_state.specs.Step.{BeginsPass, Breaks, FindsNoMemory, HasRoom, IsAwaited, IsShut, Publishes, Stays, Stores}
-use Rattle.index_state.specs.Stored.{IsChanged, IsFull, IsMarked, IsNew, IsRefused, IsStored, SaysKept}
+use Rattle.index_state.specs.Step.{BeginsPass, Breaks, FindsNoMemory, IsAwaited, Publishes, Stores}
+use Rattle.index_state.specs.Stored.{IsMarked, IsRefused, IsStored, SaysKept}
 use Rattle.index_state.specs.declared.answer.Plan.{Plan}
 use Rattle.index_state.specs.declared.answer.Published.{Published}
 use Rattle.index_state.specs.declared.answer.Published.TheVariants.{Added, Replaced, Already, NotListed, Broken, LogFull, KeeperFault, OutOfMemory}
-use Rattle.index_state.proofs.Keeps.{after_fault, after_stored, fault_keeps, put_keeps, still_keeps}
+use Rattle.index_state.proofs.Keeps.{after_stored, fault_keeps, put_keeps, still_keeps}
 use Rattle.index_state.proofs.Parts.{fault_state, put_state, still_state}
 
 -- a pass begins
@@ -64,7 +63,7 @@ awaited_in {K} m rows keeper pass roots broken epoch puts state name said seen s
 -- the parts after a put that was made
 done_is : {K : Type 0} (true_row : RowFacts → Type 0) (m : Meanings K) (rows mid now : RowsFacts) (keeper after : K) (pass left_pass : Option PassFacts) (roots : List (List ℕ)) (broken : Bool) (epoch puts : ℕ) (row : RowFacts) → broken ≡ false → IndexInvariant true_row m (state_of m.made rows keeper pass roots broken epoch puts) → IsStored m row rows keeper mid after → now ≡ after_put row mid → left_pass ≡ option_map (left row.name) pass → state_of m.made now after left_pass roots broken epoch puts ≡ after_stored row after (state_of m.made rows keeper pass roots broken epoch puts)
 done_is true_row m rows mid now keeper after pass left_pass roots broken epoch puts row sound h stored put_is pass_is =
-    put_state true_row m rows now keeper after pass left_pass roots broken epoch puts row (put_edit row.name.path (row_bytes row)) sound h.store_agrees.since
+    put_state true_row m rows now keeper after pass left_pass roots broken epoch puts row (put_edit row.name.path (row_bytes row)) sound h.store_agrees_with_rows.since
     (ap (λ (f : RowsFacts). f.rows) put_is ∙ ap (λ (f : RowsFacts). with_row row f.rows) stored.rows)
     (ap (λ (f : RowsFacts). f.log) put_is ∙ ap (λ (f : RowsFacts). (after_put row f).log) stored.rows)
     pass_is stored.kept.asked.grows

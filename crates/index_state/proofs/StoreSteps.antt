@@ -1,5 +1,5 @@
 -- What the store has of the rows, after a put that was made and after one that failed.
-use Rattle.std.proofs.Common.{◌≡◌, ℕ, Bool, true, false, List, [], ◌∷◌, ◌++◌, map, ◌⊎◌, inl, inr, refl, sym, ◌∙◌, ap, subst, append_assoc}
+use Rattle.std.proofs.Common.{◌≡◌, Bool, true, false, List, [], ◌∷◌, ◌⊎◌, inl, inr, refl, sym, ◌∙◌, ap, subst, append_assoc}
 use Rattle.std.specs.List.{filter}
 use Rattle.std.proofs.lemmas.Bool.{true≢false}
 use Rattle.row_types.specs.Row.{RowFacts}
@@ -8,9 +8,9 @@ use Rattle.row_codec.specs.Spelled.{IsSpelled}
 use Rattle.index_rows.specs.ByPath.{put_at}
 use Rattle.index_rows.specs.Rows.{with_row}
 use Rattle.index_rows.proofs.PathLemmas.{map_put}
-use Rattle.index_keeper.specs.Keeper.{IsMade, IsOnlyImage, IsTorn, IsUntouched}
-use Rattle.index_keeper.specs.Tables.{EditFacts, KeptFacts, edited, put_of, stands_after, stands_before}
-use Rattle.index_state.specs.Kept.{Agrees, IsInDoubt, IsInStore, IsNext, kept_of, tables_of}
+use Rattle.index_keeper.specs.Keeper.{IsMade, IsTorn, IsUntouched}
+use Rattle.index_keeper.specs.Tables.{KeptFacts, edited, put_of, stands_after, stands_before}
+use Rattle.index_state.specs.Kept.{Agrees, IsInDoubt, IsNext, kept_of, tables_of}
 
 -- to keep what is kept under a path is to put it there
 edited_put : (rows : List KeptFacts) (row : KeptFacts) → edited rows (put_of row.path row.bytes) ≡ put_at (λ (r : KeptFacts). r.path) row rows

@@ -1,5 +1,5 @@
 -- Where nothing is left of a pass, the rows are those of its listing.
-use Rattle.std.proofs.Common.{◌≡◌, ℕ, ◌<◌, ◌||◌, Bool, true, false, not, List, [], ◌∷◌, ◌++◌, length, map, Option, Some, None, refl, sym, ◌∙◌, ap, subst, arith, slice_index_or}
+use Rattle.std.proofs.Common.{◌≡◌, ℕ, ◌||◌, Bool, true, false, not, List, [], ◌∷◌, ◌++◌, length, Option, Some, None, refl, sym, ◌∙◌, ap, subst, arith, slice_index_or}
 use Rattle.std.specs.List.{All}
 use Rattle.std.specs.Prelude.{IfSome, IsTrue}
 use Rattle.std.specs.Str.{bytes_eq}
@@ -18,7 +18,7 @@ use Rattle.scan_queue.specs.Pass.{IsPass, PassFacts, missed_names}
 use Rattle.scan_queue.specs.declared.miss.Miss.{Miss}
 use Rattle.scan_queue.proofs.NameTests.{not_before_itself, same_name-Decides}
 use Rattle.scan_queue.proofs.Picks.{head_pairs, tail_pairs}
-use Rattle.index_state.specs.Complete.{IsComplete, IsScan, LeavesNone, standing_of}
+use Rattle.index_state.specs.Complete.{CompletePass, LeavesNone, standing_of}
 use Rattle.index_state.specs.Invariant.{IndexInvariant, ListedAccounted, RowsAccounted, to_look_for, to_read}
 use Rattle.index_state.specs.Keeping.{Meanings}
 use Rattle.index_state.specs.Kept.{Agrees}
@@ -119,22 +119,22 @@ nil_of_length [] e = refl
 nil_of_length (x ∷ xs) e = absurd (omega arith)
 
 in_store : {K : Type 0} (true_row : RowFacts → Type 0) (m : Meanings K) (state : StateFacts K) → IndexInvariant true_row m state → IsTrue m.told → (b : Bool) → state.broken ≡ b → b ≡ false → Agrees true_row b state.rows (m.tables state.keeper) (m.images state.keeper)
-in_store true_row m state h told b e _ = subst (λ (c : Bool). Agrees true_row c state.rows (m.tables state.keeper) (m.images state.keeper)) e (h.store_agrees.tables told)
+in_store true_row m state h told b e _ = subst (λ (c : Bool). Agrees true_row c state.rows (m.tables state.keeper) (m.images state.keeper)) e (h.store_agrees_with_rows.tables told)
 
-complete : {K : Type 0} (world_told : Bool) (true_row : RowFacts → Type 0) (m : Meanings K) (state : StateFacts K) (pass : PassFacts) → (world_told ≡ true → (a b : RowFacts) → a.name ≡ b.name → true_row a → true_row b → a ≡ b) → IndexInvariant true_row m state → state.pass ≡ Some pass → pass.todo ≡ [] → pass.out ≡ [] → pass.groom ≡ [] → pass.missed ≡ [] → IsComplete world_told true_row m pass.listing state
+complete : {K : Type 0} (world_told : Bool) (true_row : RowFacts → Type 0) (m : Meanings K) (state : StateFacts K) (pass : PassFacts) → (world_told ≡ true → (a b : RowFacts) → a.name ≡ b.name → true_row a → true_row b → a ≡ b) → IndexInvariant true_row m state → state.pass ≡ Some pass → pass.todo ≡ [] → pass.out ≡ [] → pass.groom ≡ [] → pass.missed ≡ [] → CompletePass world_told true_row m pass.listing state
 complete world_told true_row m state pass one h is todo out groom missed =
-    let by_path : IsByPath (names_of state.rows) = names_by_path state.rows h.rows_true.ascend in
-    let place = subst (λ (o : Option PassFacts). IfSome o (λ p. IsByPath p.listing)) is (listing_by_path state.pass h.one_place) in
-    let listed : ListedAccounted state.rows pass = subst (λ (o : Option PassFacts). IfSome o (ListedAccounted state.rows)) is h.listed in
-    let looked : RowsAccounted state.rows pass = subst (λ (o : Option PassFacts). IfSome o (RowsAccounted state.rows)) is h.looked_for in
+    let by_path : IsByPath (names_of state.rows) = names_by_path state.rows h.rows_sorted_and_true.ascend in
+    let place = subst (λ (o : Option PassFacts). IfSome o (λ p. IsByPath p.listing)) is (listing_by_path state.pass h.each_name_in_one_place) in
+    let listed : ListedAccounted state.rows pass = subst (λ (o : Option PassFacts). IfSome o (ListedAccounted state.rows)) is h.listed_names_accounted_for in
+    let looked : RowsAccounted state.rows pass = subst (λ (o : Option PassFacts). IfSome o (RowsAccounted state.rows)) is h.rows_accounted_for in
     let names : names_of state.rows ≡ pass.listing = whole_names state.rows pass by_path place listed looked (nothing_read pass todo out missed) (nothing_look_for pass groom out missed) in
     record {
       names = names;
       scan = λ told. record {
-        ascend = h.rows_true.ascend;
-        holds = h.rows_true.holds;
+        ascend = h.rows_sorted_and_true.ascend;
+        holds = h.rows_sorted_and_true.holds;
         listed = subst (λ (l : List NameFacts). All (λ row. is_in l row.name ≡ true) state.rows) names (rows_in state.rows);
-        each = scanned true_row pass.listing state.rows (one told) h.rows_true.holds by_path names;
+        each = scanned true_row pass.listing state.rows (one told) h.rows_sorted_and_true.holds by_path names;
       };
       kept = λ told sound. (in_store true_row m state h told false sound refl).same;
     }
@@ -144,13 +144,13 @@ complete world_told true_row m state pass one h is todo out groom missed =
     listing_by_path (Some q) i = i.listing.by_path
 
 -- where a standing leaves none, the index is complete
-pub whole : {K : Type 0} (world_told : Bool) (true_row : RowFacts → Type 0) (m : Meanings K) (state : StateFacts K) (standing : Standing) → (world_told ≡ true → (a b : RowFacts) → a.name ≡ b.name → true_row a → true_row b → a ≡ b) → IndexInvariant true_row m state → standing ≡ standing_of state → IfSome state.pass (λ pass. LeavesNone standing → IsComplete world_told true_row m pass.listing state)
+pub whole : {K : Type 0} (world_told : Bool) (true_row : RowFacts → Type 0) (m : Meanings K) (state : StateFacts K) (standing : Standing) → (world_told ≡ true → (a b : RowFacts) → a.name ≡ b.name → true_row a → true_row b → a ≡ b) → IndexInvariant true_row m state → standing ≡ standing_of state → IfSome state.pass (λ pass. LeavesNone standing → CompletePass world_told true_row m pass.listing state)
 whole world_told true_row m state standing one h says = each state.pass refl
   where
     none_of : (pass : PassFacts) → state.pass ≡ Some pass → (n : ℕ) (f : PassFacts → ℕ) → n ≡ f (pass_of state.pass) → n ≡ 0 → f pass ≡ 0
     none_of pass is n f e zero_is = ap (λ (o : Option PassFacts). f (pass_of o)) (sym is) ∙ sym e ∙ zero_is
 
-    each : (p : Option PassFacts) → state.pass ≡ p → IfSome p (λ pass. LeavesNone standing → IsComplete world_told true_row m pass.listing state)
+    each : (p : Option PassFacts) → state.pass ≡ p → IfSome p (λ pass. LeavesNone standing → CompletePass world_told true_row m pass.listing state)
     each None is = tt
     each (Some pass) is = λ none.
         complete world_told true_row m state pass one h is

@@ -1,6 +1,6 @@
 -- The complete pass (this project's rule): where nothing is left of a pass, index and store are one sequential scan
 -- of its listing.
-use Rattle.std.specs.Prelude.{◌≡◌, ℕ, Bool, true, false, List, [], ◌∷◌, Option, Some, None, All, length, IsTrue}
+use Rattle.std.specs.Prelude.{◌≡◌, ℕ, Bool, true, false, List, [], ◌∷◌, Some, All, length, IsTrue}
 use Rattle.row_types.specs.Name.{NameFacts}
 use Rattle.row_types.specs.Row.{RowFacts}
 use Rattle.index_rows.specs.ByPath.{AscendsBy}
@@ -21,7 +21,7 @@ pub record IsScan (true_row : RowFacts → Type 0) (listing : List NameFacts) (r
 
 -- the rows' names are the listing; in a told world the rows are the scan of it; a keeper that tells has the tables
 -- of the rows, where the index isn't broken
-pub record IsComplete {K : Type 0} (world_told : Bool) (true_row : RowFacts → Type 0) (m : Meanings K) (listing : List NameFacts) (state : StateFacts K) : Type 0 where
+pub record CompletePass {K : Type 0} (world_told : Bool) (true_row : RowFacts → Type 0) (m : Meanings K) (listing : List NameFacts) (state : StateFacts K) : Type 0 where
   pub names : names_of state.rows ≡ listing
   pub scan : world_told ≡ true → IsScan true_row listing state.rows
   pub kept : IsTrue m.told → state.broken ≡ false → m.tables state.keeper ≡ tables_of state.rows

@@ -57,17 +57,18 @@ RowsAccounted rows pass = (name : NameFacts) → is_in (names_of rows) name ≡ 
 
 -- what holds of an index at every moment
 pub record IndexInvariant {K : Type 0} (true_row : RowFacts → Type 0) (m : Meanings K) (state : StateFacts K) : Type 0 where
-  -- rows sorted and true
-  pub rows_true : AreTrueRows true_row state.rows
-  -- rows replay the log
-  pub rows_replay : Replays state.log state.rows
-  -- broken means a void last change
-  pub broken_void : IsBrokenByFault state.broken state.log (m.faults state.keeper)
-  -- the store agrees with the rows
-  pub store_agrees : AgreesWithStore true_row m state
-  -- each name stands in one place of the pass
-  pub one_place : IfSome state.pass IsPass
-  -- listed names are accounted for
-  pub listed : IfSome state.pass (ListedAccounted state.rows)
-  -- rows are accounted for
-  pub looked_for : IfSome state.pass (RowsAccounted state.rows)
+  -- by path, no path twice; each of the edition, true in the world, and with row bytes
+  pub rows_sorted_and_true : AreTrueRows true_row state.rows
+  -- the changes of the log, made from nothing in order, leave the rows' names; the log keeps its limit
+  pub rows_replay_the_log : Replays state.log state.rows
+  -- a sound index has no void change at all; a broken one has that one alone, and the keeper has counted a fault
+  pub broken_means_a_void_last_change : IsBrokenByFault state.broken state.log (m.faults state.keeper)
+  -- under each row's path the tables of a keeper that tells have its row bytes, and nothing else, but for the one put
+  -- or removal that a broken index leaves in doubt; the keeper's number and its changes are those since the opening
+  pub store_agrees_with_rows : AgreesWithStore true_row m state
+  -- a name is in one list of the pass at most: to be read, out, to be looked for or missed
+  pub each_name_in_one_place : IfSome state.pass IsPass
+  -- of a listed name there is a row, or it is still to be read, out or missed, and never both
+  pub listed_names_accounted_for : IfSome state.pass (ListedAccounted state.rows)
+  -- the row of a name that isn't listed is still to be looked for, out or missed
+  pub rows_accounted_for : IfSome state.pass (RowsAccounted state.rows)

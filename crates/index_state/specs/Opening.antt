@@ -1,6 +1,6 @@
 -- How an index is opened on a keeper (this project's rule). A store that gives values isn't read yet.
-use Rattle.std.specs.Prelude.{◌≡◌, ◌≢◌, ◌≤◌, [], false, None, IsTrue, Result, MatchResult}
-use Rattle.row_types.specs.Faults.{HasCause, Rose}
+use Rattle.std.specs.Prelude.{◌≡◌, ◌≢◌, ◌≤◌, [], false, None, IsTrue}
+use Rattle.row_types.specs.Faults.{Rose}
 use Rattle.index_keeper.specs.Keeper.{IsOnlyImage, IsUntouched}
 use Rattle.index_state.specs.Keeping.{Meanings}
 use Rattle.index_state.specs.State.{StateFacts}

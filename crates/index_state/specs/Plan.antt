@@ -1,5 +1,5 @@
 -- What a pass has to do (this project's rule), counted against the rows as it begins.
-use Rattle.std.specs.Prelude.{ℕ, Bool, true, false, not, List, length, count_by, Option, Some, None, is_none}
+use Rattle.std.specs.Prelude.{Bool, false, not, List, length, count_by, Option, Some, None, is_none}
 use Rattle.row_types.specs.Name.{NameFacts}
 use Rattle.row_types.specs.Stamp.{StampFacts}
 use Rattle.scan_queue.specs.Names.{is_in, same_stamp, stamp_at}

@@ -1,12 +1,14 @@
 -- The index step (this project's rule): what can happen to an index while it is held, and what comes of it. What a
 -- case doesn't name stays.
-use Rattle.std.specs.Prelude.{◌≡◌, ℕ, ◌<◌, Bool, true, false, List, [], ◌∷◌, ◌++◌, length, Option, Some, None, IsSome}
+use Rattle.std.specs.Prelude.{◌≡◌, ℕ, ◌<◌, true, false, List, [], ◌∷◌, ◌++◌, length, map, filter, Option, Some, None, IsSome}
 use Rattle.std.specs.Option.{option_map}
 use Rattle.row_types.specs.Name.{NameFacts}
 use Rattle.row_types.specs.Row.{RowFacts}
 use Rattle.row_types.specs.Stamp.{StampFacts}
+use Rattle.row_types.specs.declared.identity.Kind.{Kind}
+use Rattle.index_rows.specs.Classes.{has_class}
 use Rattle.index_rows.specs.Log.{drop_of, put_of}
-use Rattle.index_rows.specs.Rows.{names_of, with_row}
+use Rattle.index_rows.specs.Rows.{names_of, path_of, with_row}
 use Rattle.index_rows.specs.declared.rows.TheConstants.{LOG_LIMIT}
 use Rattle.scan_queue.specs.Names.{is_in, stamp_at}
 use Rattle.scan_queue.specs.Pass.{PassFacts, Takes, begun, left}
@@ -20,17 +22,20 @@ use Rattle.index_state.specs.declared.answer.Begun.TheVariants.{Begun as BegunBy
 use Rattle.index_state.specs.declared.answer.Published.{Published}
 use Rattle.index_state.specs.declared.answer.Published.TheVariants.{Added, Replaced, Already, NotListed, Broken, LogFull, KeeperFault, OutOfMemory}
 
--- what happens: a pass over a listing with roots begins, a name is taken, a row is published
+-- what happens: a pass over a listing with roots begins, a name is taken, a row is published, the files of an id and
+-- a kind are looked up
 pub data Event : Type 0 where
   begins : (listing : List NameFacts) (roots : List (List ℕ)) → Event
   takes : Event
   publishes : (row : RowFacts) → Event
+  looks : (id : List ℕ) (kind : Kind) → Event
 
--- the answer to each
+-- the answer to each; to a look-up it is paths
 pub data Answer : Type 0 where
   to_begin : Begun → Answer
   to_take : Option NameFacts → Answer
   to_publish : Published → Answer
+  to_look : List (List ℕ) → Answer
 
 -- the state stays, and this is why
 pub record Stays {K : Type 0} (Why : Type 0) (old new : StateFacts K) : Type 0 where
@@ -62,12 +67,12 @@ pub record HandsOut (name : NameFacts) (old new : Option PassFacts) : Type 0 whe
   pub is : new ≡ Some into
   pub step : Takes from into name
 
--- a name goes out, or none
+-- what becomes of a pass, if one was begun, as the next name is asked for
 abbrev pub TakesFrom : Option PassFacts → Option NameFacts → Option PassFacts → Type 0
 TakesFrom old None new = FindsNone old new
 TakesFrom old (Some name) new = HandsOut name old new
 
--- a name goes out, or none
+-- the next name is asked for: the pass alone changes
 pub record TakesNext {K : Type 0} (old : StateFacts K) (answer : Option NameFacts) (new : StateFacts K) : Type 0 where
   pub taken : TakesFrom old.pass answer new.pass
   pub same : new ≡ record old { pass = new.pass }
@@ -144,9 +149,15 @@ Publishes m row old KeeperFault new = Breaks m row old new
 Publishes m row old Added new = Adds m row old new
 Publishes m row old Replaced new = Replaces m row old new
 
+-- the files are looked up: the paths of the rows with the id whose files are of the kind, in path order
+pub record LooksUp {K : Type 0} (id : List ℕ) (kind : Kind) (old : StateFacts K) (paths : List (List ℕ)) (new : StateFacts K) : Type 0 where
+  pub found : paths ≡ map path_of (filter (λ row. has_class id kind row.reading) old.rows)
+  pub same : new ≡ old
+
 -- the event happened, this was answered, and the first state became the second
-abbrev pub Step : {K : Type 0} → Meanings K → StateFacts K → Event → Answer → StateFacts K → Type 0
-Step m old (begins listing roots) (to_begin answer) new = Begins listing roots old answer new
-Step m old takes (to_take answer) new = TakesNext old answer new
-Step m old (publishes row) (to_publish answer) new = Publishes m row old answer new
-Step m old _ _ new = ⊥
+abbrev pub IndexStep : {K : Type 0} → Meanings K → StateFacts K → Event → Answer → StateFacts K → Type 0
+IndexStep m old (begins listing roots) (to_begin answer) new = Begins listing roots old answer new
+IndexStep m old takes (to_take answer) new = TakesNext old answer new
+IndexStep m old (publishes row) (to_publish answer) new = Publishes m row old answer new
+IndexStep m old (looks id kind) (to_look paths) new = LooksUp id kind old paths new
+IndexStep m old _ _ new = ⊥

@@ -1,13 +1,11 @@
 //! Beginning a pass, and handing out its names.
 
-ghost use Rattle.std.specs.Prelude.{◌≡◌, IfOk};
+ghost use Rattle.std.specs.Prelude.{◌≡◌, false, IfOk, IfSome};
 ghost use Rattle.index_rows.specs.Rows.{names_of};
-ghost use Rattle.scan_queue.specs.Names.{IsByPath};
 ghost use Rattle.scan_queue.specs.Pass.{IsPass, begun};
-ghost use Rattle.index_state.specs.Invariant.{IndexInvariant};
 ghost use Rattle.index_state.specs.Keeping.{meanings};
 ghost use Rattle.index_state.specs.Plan.{plan_of};
-ghost use Rattle.index_state.specs.Step.{Step, begins, takes, to_begin, to_take};
+ghost use Rattle.index_state.specs.Step.{IndexStep, IsAwaited, begins, takes, to_begin, to_take};
 
 use crate::answer::{Begun, Plan};
 use crate::open_pass::take_name;
@@ -22,8 +20,7 @@ use std::alloc::{AllocError, Global};
 impl<W: Truth, K: Keeper<W>> State<W, K> {
     /// Begins a pass over what a walk of the roots listed. An earlier pass is given up.
     pub fn begin(&mut self, alloc: Global, listing: Listing, roots: Vec<CanonPath>) -> Begun
-        ensures step { Step (meanings K.told K.tables K.images K.made K.faults K.epoch) self.old (begins listing roots.items) (to_begin result) self.new }
-        ensures keeps { IndexInvariant W.true_row (meanings K.told K.tables K.images K.made K.faults K.epoch) self.new }
+        ensures step { IndexStep (meanings K.told K.tables K.images K.made K.faults K.epoch) self.old (begins listing roots.items) (to_begin result) self.new }
     {
         if self.broken {
             return Begun::Broken;
@@ -40,8 +37,8 @@ impl<W: Truth, K: Keeper<W>> State<W, K> {
 
     /// Hands out the first name that is to be read.
     pub fn take(&mut self) -> Option<Name>
-        ensures step { Step (meanings K.told K.tables K.images K.made K.faults K.epoch) self.old takes (to_take result) self.new }
-        ensures keeps { IndexInvariant W.true_row (meanings K.told K.tables K.images K.made K.faults K.epoch) self.new }
+        ensures step { IndexStep (meanings K.told K.tables K.images K.made K.faults K.epoch) self.old takes (to_take result) self.new }
+        ensures awaited { IfSome result (λ name. self.new.broken ≡ false → IsAwaited name self.new) }
     {
         take_name(&mut self.pass)
     }

@@ -1,13 +1,14 @@
 //! Look-ups in an index, and how it stands.
 
-ghost use Rattle.std.specs.Prelude.{◌≡◌, filter, IfSome};
+ghost use Rattle.std.specs.Prelude.{◌≡◌, filter, map, IfSome};
 ghost use Rattle.std.specs.List.{list_any};
 ghost use Rattle.std.specs.Option.{option_copied};
 ghost use Rattle.index_rows.specs.Classes.{has_class, has_id, lists_source};
-ghost use Rattle.index_rows.specs.Rows.{row_at};
-ghost use Rattle.index_state.specs.Complete.{IsComplete, LeavesNone, standing_of};
+ghost use Rattle.index_rows.specs.Rows.{path_of, row_at};
+ghost use Rattle.index_state.specs.Complete.{CompletePass, LeavesNone, standing_of};
 ghost use Rattle.index_state.specs.Invariant.{IndexInvariant};
 ghost use Rattle.index_state.specs.Keeping.{meanings};
+ghost use Rattle.index_state.specs.Step.{IndexStep, looks, to_look};
 
 use crate::answer::Standing;
 use crate::open_pass::counts;
@@ -19,7 +20,8 @@ use row_types::{BuildId, CanonPath, Kind, Row, Truth};
 impl<W: Truth, K: Keeper<W>> State<W, K> {
     /// The rows with the id whose files are of the kind.
     pub fn with_class(&self, id: &BuildId, kind: Kind) -> RowIter<'_>
-        ensures { result ≡ filter (λ row. has_class id.now kind row.reading) self.now.rows }
+        ensures value { result ≡ filter (λ row. has_class id.now kind row.reading) self.now.rows }
+        ensures step { IndexStep (meanings K.told K.tables K.images K.made K.faults K.epoch) self.now (looks id.now kind) (to_look (map path_of result)) self.now }
     {
         self.rows.with_class(id, kind)
     }
@@ -58,8 +60,7 @@ impl<W: Truth, K: Keeper<W>> State<W, K> {
     /// listing.
     pub fn standing(&self) -> Standing
         ensures value { result ≡ standing_of self.now }
-        ensures whole { IfSome self.now.pass (λ pass. LeavesNone result → IsComplete W.told W.true_row (meanings K.told K.tables K.images K.made K.faults K.epoch) pass.listing self.now) }
-        ensures holds { IndexInvariant W.true_row (meanings K.told K.tables K.images K.made K.faults K.epoch) self.now }
+        ensures whole { IfSome self.now.pass (λ pass. LeavesNone result → CompletePass W.told W.true_row (meanings K.told K.tables K.images K.made K.faults K.epoch) pass.listing self.now) }
     {
         self.counted()
     }

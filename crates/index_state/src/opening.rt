@@ -1,7 +1,6 @@
 //! Opening an index on the keeper of a store.
 
 ghost use Rattle.std.specs.Prelude.{◌≡◌, [], IfOk, IfErr, IsTrue};
-ghost use Rattle.index_state.specs.Invariant.{IndexInvariant};
 ghost use Rattle.index_state.specs.Keeping.{meanings};
 ghost use Rattle.index_state.specs.Opening.{IsSettled, Opens, Refuses, opened_on};
 
@@ -19,7 +18,6 @@ pub fn open_state<W: Truth, K: Keeper<W>>(
 ) -> Result<State<W, K>, (OpenFault, K)>
     requires { IsSettled (meanings K.told K.tables K.images K.made K.faults K.epoch) keeper }
     ensures ok { IfOk result (λ state. Opens (meanings K.told K.tables K.images K.made K.faults K.epoch) keeper state) }
-    ensures keeps { IfOk result (λ state. IndexInvariant W.true_row (meanings K.told K.tables K.images K.made K.faults K.epoch) state) }
     ensures err { IfErr result (λ refusal. Refuses (meanings K.told K.tables K.images K.made K.faults K.epoch) keeper refusal.0 refusal.1) }
 {
     let mut keeper = keeper;
@@ -40,8 +38,7 @@ pub fn open_state<W: Truth, K: Keeper<W>>(
 fn empty_state<W: Truth, K: Keeper<W>>(alloc: Global, keeper: K) -> State<W, K>
     requires settled { IsSettled (meanings K.told K.tables K.images K.made K.faults K.epoch) keeper }
     requires empty { IsTrue K.told → K.tables keeper ≡ [] }
-    ensures value { result ≡ opened_on (meanings K.told K.tables K.images K.made K.faults K.epoch) keeper }
-    ensures keeps { IndexInvariant W.true_row (meanings K.told K.tables K.images K.made K.faults K.epoch) result }
+    ensures { result ≡ opened_on (meanings K.told K.tables K.images K.made K.faults K.epoch) keeper }
 {
     let epoch = keeper.epoch();
     State {

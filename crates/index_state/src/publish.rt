@@ -1,9 +1,8 @@
 //! Publishing what a file was found to be.
 
 ghost use Rattle.std.specs.Prelude.{◌≡◌};
-ghost use Rattle.index_state.specs.Invariant.{IndexInvariant};
 ghost use Rattle.index_state.specs.Keeping.{meanings};
-ghost use Rattle.index_state.specs.Step.{IsKnown, Leaves, Publishes, Step, publishes, to_publish};
+ghost use Rattle.index_state.specs.Step.{IndexStep, IsKnown, Leaves, Publishes, publishes, to_publish};
 ghost use Rattle.index_state.specs.Stored.{Finds, SaysKept};
 ghost use Rattle.index_state.specs.declared.answer.Published.{Published};
 
@@ -37,8 +36,7 @@ pub(crate) enum Finding {
 impl<W: Truth, K: Keeper<W>> State<W, K> {
     /// Keeps a row whose name is listed, in the store and then in the index.
     pub fn publish(&mut self, alloc: Global, row: TrueRow<W>) -> Published
-        ensures step { Step (meanings K.told K.tables K.images K.made K.faults K.epoch) self.old (publishes row) (to_publish result) self.new }
-        ensures keeps { IndexInvariant W.true_row (meanings K.told K.tables K.images K.made K.faults K.epoch) self.new }
+        ensures step { IndexStep (meanings K.told K.tables K.images K.made K.faults K.epoch) self.old (publishes row) (to_publish result) self.new }
     {
         match self.find(&row.row().name) {
             Finding::Broken => Published::Broken,
@@ -51,8 +49,7 @@ impl<W: Truth, K: Keeper<W>> State<W, K> {
 
     /// What is found of the name.
     fn find(&self, name: &Name) -> Finding
-        ensures value { Finds name.now self.now result }
-        ensures holds { IndexInvariant W.true_row (meanings K.told K.tables K.images K.made K.faults K.epoch) self.now }
+        ensures { Finds name.now self.now result }
     {
         if self.broken {
             return Finding::Broken;
@@ -76,7 +73,6 @@ impl<W: Truth, K: Keeper<W>> State<W, K> {
         requires { IsKnown name.now self.old }
         ensures said { result ≡ Published.Already }
         ensures step { Leaves name.now self.old self.new }
-        ensures keeps { IndexInvariant W.true_row (meanings K.told K.tables K.images K.made K.faults K.epoch) self.new }
     {
         leave(&mut self.pass, name);
         Published::Already
@@ -86,7 +82,6 @@ impl<W: Truth, K: Keeper<W>> State<W, K> {
     fn keep(&mut self, alloc: Global, row: TrueRow<W>, said: Published) -> Published
         requires { SaysKept row.name self.old said }
         ensures step { Publishes (meanings K.told K.tables K.images K.made K.faults K.epoch) row self.old result self.new }
-        ensures keeps { IndexInvariant W.true_row (meanings K.told K.tables K.images K.made K.faults K.epoch) self.new }
     {
         match store_row(alloc, &mut self.rows, &mut self.keeper, &row) {
             Stored::Done => {

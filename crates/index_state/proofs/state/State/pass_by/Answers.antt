@@ -9,8 +9,3 @@ pub invariant_of-self : goal.invariant_of-self
 invariant_of-self g c =
     let P : StateFacts g.row.K.Denot → Type 0 = IsKnown c.args.name.now in
     leave_keeps _ _ _ c.args.name.now c.leave.new.pass c.self.invariant (subst P (sym c.self.view_is) c.requires) c.leave.ensures.after c.leave.ensures.keeps
-
-pub returns-clause-keeps : goal.returns-clause-keeps
-returns-clause-keeps g c =
-    let P : StateFacts g.row.K.Denot → Type 0 = IsKnown c.args.name.now in
-    leave_keeps _ _ _ c.args.name.now c.leave.new.pass c.self.invariant (subst P (sym c.self.view_is) c.requires) c.leave.ensures.after c.leave.ensures.keeps
