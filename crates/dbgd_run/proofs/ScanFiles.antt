@@ -31,7 +31,7 @@ use Rattle.dbgd_run.specs.declared.scan_end.ScanEnd.{ScanEnd}
 use Rattle.dbgd_run.specs.declared.scan_end.ScanEnd.TheVariants.{Unopened, Filled, Unlisted, Unread, Altered, Unkept, Full, OutOfMemory, Whole}
 use Rattle.dbgd_run.proofs.ScanLemmas.{loads_last, loads_read_more, loads_unheard, reads_heard, reads_named, rows_before, rows_more, with_nothing}
 use Rattle.dbgd_run.proofs.ScanLists.{pairs_after, pairs_before, put_last}
-use Rattle.dbgd_run.proofs.ScanState.{TakesFirst, awaits, keeps_more, keeps_none, keeps_pass, keeps_wanting, leaves_pass, takes_first, tears_last}
+use Rattle.dbgd_run.proofs.ScanState.{TakesFirst, keeps_more, keeps_none, keeps_pass, keeps_wanting, leaves_pass, takes_first, tears_last}
 
 -- nothing was read yet
 pub starts : {K : Type 0} (version : List ℕ → StampFacts → List ℕ → Type 0) (Still Now : Type 0) (m : Meanings K) (listing : List NameFacts) (hand : Hand)
@@ -67,7 +67,7 @@ pub record GoesOut {K : Type 0} (version : List ℕ → StampFacts → List ℕ 
 pass_listing : {K : Type 0} (true_row : RowFacts → Type 0) (m : Meanings K) (state : StateFacts K) (listing reading handed : List NameFacts)
     → IndexInvariant true_row m state → IsPassOver listing reading handed state.pass → IsListing listing
 pass_listing true_row m state listing reading handed holds pass =
-    let sound : IsPass pass.from = subst (λ (p : Option PassFacts). IfSome p IsPass) pass.is holds.one_place in
+    let sound : IsPass pass.from = subst (λ (p : Option PassFacts). IfSome p IsPass) pass.is holds.each_name_in_one_place in
     subst IsListing pass.listing sound.listing
 
 -- the next name goes out
@@ -247,15 +247,6 @@ ends_there r Still Now Then tells m listing before between after old was mid new
     let goes : GoesOut r.version Still Now m listing before between old mid name files
     = goes_out r.true_row r.version Still Now m listing before between old was mid name files left holds had takes in
     stops r Still Now Then tells m listing before between after old mid new name answer files goes.left end holds tells_it goes.out next does
-
--- the name that went out is awaited
-pub is_awaited : {K : Type 0} (true_row : RowFacts → Type 0) (version : List ℕ → StampFacts → List ℕ → Type 0) (Still Now : Type 0) (m : Meanings K)
-    (listing : List NameFacts) (before between : Hand) (old was mid : StateFacts K) (name : NameFacts) (files : List FileRead) (left : List NameFacts)
-    → IndexInvariant true_row m mid → HasRead version Still Now m listing before between old was files left → TakesNext was (Some name) mid → IsAwaited name mid
-is_awaited true_row version Still Now m listing before between old was mid name files left holds had takes =
-    let goes : GoesOut version Still Now m listing before between old mid name files
-    = goes_out true_row version Still Now m listing before between old was mid name files left holds had takes in
-    awaits listing (names_read files) goes.left name mid (rows_read files) goes.out.loads.listed goes.out.pass goes.out.keeps.sound goes.out.keeps.stand goes.out.earlier
 
 -- fewer names are left once one went out
 pub fewer_left : {K : Type 0} (version : List ℕ → StampFacts → List ℕ → Type 0) (Still Now : Type 0) (m : Meanings K) (listing : List NameFacts)

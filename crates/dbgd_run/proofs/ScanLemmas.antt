@@ -34,7 +34,7 @@ use Rattle.dbgd_run.specs.ScanSteps.{DoesNext, FilesEnd, HasRead, HasReadAll, Is
 use Rattle.dbgd_run.specs.Setting.{Rules}
 use Rattle.dbgd_run.specs.declared.scan_end.ScanEnd.{ScanEnd}
 use Rattle.dbgd_run.specs.declared.scan_end.ScanEnd.TheVariants as end
-use Rattle.dbgd_run.proofs.ScanLists.{in_mid, not_among, pairs_after, pairs_before, put_last, without_itself, without_none}
+use Rattle.dbgd_run.proofs.ScanLists.{pairs_after, pairs_before, put_last, without_itself, without_none}
 
 -- nothing more was heard
 pub with_nothing : (told : Option (List Heard)) → told ≡ with_answers told []

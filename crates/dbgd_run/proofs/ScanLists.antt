@@ -34,20 +34,6 @@ pairs_after R (x ∷ xs) y ys h = pairs_after R xs y ys (rest_related R x (xs ++
 pub same_itself : (name : NameFacts) → same_name name name ≡ true
 same_itself name = (same_name-Decides name name).1 refl
 
--- a name is among those around it
-pub in_mid : (xs : List NameFacts) (name : NameFacts) (ys : List NameFacts) → is_in (xs ++ name ∷ ys) name ≡ true
-in_mid [] name ys = rw (same_itself name) refl
-in_mid (x ∷ xs) name ys =
-    elim (same_name name x) as (λ b. (b || is_in (xs ++ name ∷ ys) name) ≡ true) [ true ↦ refl | false ↦ in_mid xs name ys ]
-
--- a name isn't among rows that stand before it
-pub not_among : (rows : List RowFacts) (name : NameFacts) → All (λ row. IsBefore row.name.path name.path) rows → is_in (names_of rows) name ≡ false
-not_among [] name h = refl
-not_among (row ∷ rows) name h =
-    let first : same_name name row.name ≡ false
-    = path_differs_back name row.name (All-head (λ (r : RowFacts). IsBefore r.name.path name.path) row rows h) in
-    rw first (not_among rows name (All-tail (λ (r : RowFacts). IsBefore r.name.path name.path) row rows h))
-
 -- a name takes nothing away from names that stand after it
 pub without_none : (name : NameFacts) (names : List NameFacts) → All (λ other. IsBefore name.path other.path) names → without name names ≡ names
 without_none name names h =

@@ -21,7 +21,7 @@ use Rattle.index_state.specs.State.{StateFacts, pass_of}
 use Rattle.index_state.specs.Step.{BeginsPass, Breaks, FindsNoMemory, HandsOut, IsAwaited, Stores, TakesNext}
 use Rattle.dbgd_run.specs.Kept.{put_row, with_puts}
 use Rattle.dbgd_run.specs.ScanSteps.{IsNew, IsPassOver, KeepsFiles, TearsFiles}
-use Rattle.dbgd_run.proofs.ScanLists.{in_mid, not_among, without_itself, without_none}
+use Rattle.dbgd_run.proofs.ScanLists.{without_itself, without_none}
 
 -- no rows make no changes
 with_no_puts : (made : Option (List EditFacts)) → made ≡ with_puts made []
@@ -86,7 +86,7 @@ keeps_wanting m old mid new rows row had finds = record {
 pub tables_stand : {K : Type 0} (true_row : RowFacts → Type 0) (m : Meanings K) (state : StateFacts K) → IndexInvariant true_row m state
     → state.broken ≡ false → IsTrue m.told → IsInStore state.rows (m.tables state.keeper) (m.images state.keeper)
 tables_stand true_row m state holds sound told =
-    subst (λ b. Agrees true_row b state.rows (m.tables state.keeper) (m.images state.keeper)) sound (holds.store_agrees.tables told)
+    subst (λ b. Agrees true_row b state.rows (m.tables state.keeper) (m.images state.keeper)) sound (holds.store_agrees_with_rows.tables told)
 
 -- a row that the keeper failed to keep stands or not
 pub tears_last : {K : Type 0} (true_row : RowFacts → Type 0) (m : Meanings K) (old mid new : StateFacts K) (rows : List RowFacts) (row : RowFacts)
@@ -161,15 +161,4 @@ leaves_pass over left name old new later had leaves = record {
   out = ap (without name) had.out ∙ without_itself name;
   groom = ap (without name) had.groom;
   missed = ap (misses_without name) had.missed;
-}
-
--- a name that went out and has no row is awaited
-pub awaits : {K : Type 0} (over front left : List NameFacts) (name : NameFacts) (state : StateFacts K) (rows : List RowFacts) → over ≡ front ++ name ∷ left
-    → IsPassOver over left (name ∷ []) state.pass → state.broken ≡ false → state.rows ≡ rows → All (λ row. IsBefore row.name.path name.path) rows
-    → IsAwaited name state
-awaits over front left name state rows split pass sound stand before = record {
-  sound = sound;
-  listed =
-      ap (λ (p : Option PassFacts). is_in (pass_of p).listing name) pass.is ∙ ap (λ xs. is_in xs name) (pass.listing ∙ split) ∙ in_mid front name left;
-  absent = ap (λ (r : List RowFacts). is_in (names_of r) name) stand ∙ not_among rows name before;
 }

@@ -28,7 +28,6 @@ use Rattle.dbgd_run.specs.Store.{Holding, Stock}
 use Rattle.dbgd_run.specs.declared.scan_end.ScanEnd.{ScanEnd}
 use Rattle.dbgd_run.specs.declared.scan_end.ScanEnd.TheVariants.{Unopened, Filled, Unlisted, Unread, Altered, Unkept, Full, OutOfMemory, Whole}
 use Rattle.dbgd_run.proofs.ScanEnds.{ends_open}
-use Rattle.dbgd_run.proofs.ScanFiles.{rose_since}
 use Rattle.dbgd_run.proofs.ScanState.{keeps_none, tables_stand}
 
 -- what was loaded after a whole walk

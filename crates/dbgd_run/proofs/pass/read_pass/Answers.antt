@@ -7,5 +7,5 @@ use Rattle.dbgd_run.proofs.pass.read_pass.Goals as goal
 
 pub returns-in-None-clause-ends : goal.returns-in-None-clause-ends
 returns-in-None-clause-ends g c =
-    ends_whole (rules g.W.Truth.version g.W.Truth.true_row g.W.Truth.told) _ _ _ _ _ _ _ _ c.in-None.ensures.keeps g.W.Truth.one_row c.in-None.ensures.ends
+    ends_whole (rules g.W.Truth.version g.W.Truth.true_row g.W.Truth.told) _ _ _ _ _ _ _ _ c.show_index.ensures g.W.Truth.one_row c.in-None.ensures.ends
     (c.summary_of.ensures ∙ ap (λ (plan : Plan). summary_of plan c.read_files.new.state.rows) c.requires.planned)

@@ -16,4 +16,4 @@ returns-in-Ok-clause-ends g c = λ had left was image.
     (λ img. ends_opened {K = g.row.K.Denot}
     (setting (rules g.W.Truth.version g.W.Truth.true_row g.W.Truth.told) g.T.Tree.told (g.T.Tree.still c.args.hand.now) g.K.Keeper.told)
     (meanings g.K.Keeper.told g.K.Keeper.tables g.K.Keeper.images g.K.Keeper.made g.K.Keeper.faults g.K.Keeper.epoch) _ _ _ c.args.keeper _ _
-    had left _ (λ t. t) c.scan_roots-end.ensures.keeps c.in-Ok.ensures.ok was img c.scan_roots-end.ensures.ends) image
+    had left _ (λ t. t) c.into_keeper.ensures.holds c.in-Ok.ensures.ok was img c.scan_roots-end.ensures.ends) image
