@@ -63,13 +63,12 @@ room_is answers roots search folder rest s few =
     }
 
 -- too many files
-pub too_many_is : (answers : List Heard) (last : Heard) (roots : List (List ℕ)) (search next : SearchFacts) (folder to : List ℕ) (rest left : List EntryFacts)
-    → IsSearch answers roots search folder rest → length search.files ≤ LISTING_LIMIT → IsSearch (answers ++ last ∷ []) roots next to left → LISTING_LIMIT < length next.files → IsTooMany (answers ++ last ∷ []) roots
-too_many_is answers last roots search next folder to rest left s few t many = record {
-  last = record { earlier = answers; last = last; split = refl; room = room_is answers roots search folder rest s few; stops = tt };
-  names = names_of next.files;
-  listing = listing_is (answers ++ last ∷ []) roots next to left t;
-  many = subst (λ (n : ℕ). LISTING_LIMIT < n) (sym (length_names next.files)) many;
+pub too_many_is : (answers : List Heard) (roots : List (List ℕ)) (search : SearchFacts) (folder : List ℕ) (rest : List EntryFacts) → StopsAtLast answers roots (λ last. Unit {0}) → IsSearch answers roots search folder rest → LISTING_LIMIT < length search.files → IsTooMany answers roots
+too_many_is answers roots search folder rest last s many = record {
+  last = last;
+  names = names_of search.files;
+  listing = listing_is answers roots search folder rest s;
+  many = subst (λ (n : ℕ). LISTING_LIMIT < n) (sym (length_names search.files)) many;
 }
 
 -- an entry of a folder was seen to

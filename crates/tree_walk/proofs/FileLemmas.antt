@@ -25,8 +25,8 @@ use Rattle.tree_walk.specs.Walked.{IsNamed, IsReached, entry, IsEntry, IsCandida
 use Rattle.tree_walk.specs.declared.walked.TheConstants.{ENTRY_LIMIT}
 use Rattle.tree_walk.proofs.AnswerLemmas.{looked_stays, look_stays, after_look}
 use Rattle.tree_walk.proofs.ReachLemmas.{reached_more, folder_reached}
-use Rattle.tree_walk.proofs.EndLemmas.{room_is, too_many_is}
-use Rattle.tree_walk.proofs.LimitLemmas.{asks_due}
+use Rattle.tree_walk.proofs.EndLemmas.{too_many_is}
+use Rattle.tree_walk.proofs.LastLemmas.{begins_more, look_last, read_last}
 use Rattle.tree_walk.proofs.SetLemmas.{same, same-Decides}
 use Rattle.tree_walk.proofs.StepLemmas.{read_step, read_entries, next_folder, note_step, is_looked_is, folder_step, folder_known, folder_stays, long_step, long_known, entry_step}
 
@@ -43,15 +43,6 @@ still_looked answers more roots search next looked grows = record {
           | None ↦ λ e s. absurd (false≢true s)
           | Some a ↦ λ e s. sym (look_stays answers more p a e) ∙ h
         ] refl some
-
-begins_more : (answers more : List Heard) (roots : List (List ℕ)) → BeginsWithRoots answers roots → BeginsWithRoots (answers ++ more) roots
-begins_more answers more roots b = record {
-  given = b.given;
-  rest = b.rest ++ more;
-  each = b.each;
-  there = b.there;
-  first = ap (λ (h : List Heard). h ++ more) b.first ∙ append_assoc _ b.rest more;
-}
 
 -- a walk goes on
 pub underway_more : (answers more : List Heard) (roots : List (List ℕ)) (search next : SearchFacts) (folder to : List ℕ) (rest left : List EntryFacts) → IsUnderway answers roots search folder rest → IsSearch (answers ++ more) roots next to left → length next.files ≤ LISTING_LIMIT → ((path : List ℕ) → has search.folders path ≡ true → has next.folders path ≡ true) → IsUnderway (answers ++ more) roots next to left
@@ -120,9 +111,15 @@ known_file answers roots search folder name path rest joined kept u looked =
     subst (λ (p : List ℕ). IsSettled answers search p kind.File) joined (settled_short answers search path kind.File kept.short met) in
     underway_none answers roots search search folder (e ∷ rest) rest u (entry_step answers roots search folder e rest u.search_is settled) u.few (λ p h. h)
 
+-- a file of a folder may be looked at
+pub file_candidate : (answers : List Heard) (roots : List (List ℕ)) (folder name path : List ℕ) → path ≡ child folder name → IsReached answers roots folder → has_entry (entries_in answers folder) (record { name = name; kind = kind.File }) ≡ true → IsCandidate answers roots path
+file_candidate answers roots folder name path joined reached listed = inr (record { folder = folder; reached = reached; named = record { name = name; listed = listed; joined = joined } })
+
 -- a file that is looked at first
 pub record IsNewFile (answers : List Heard) (roots : List (List ℕ)) (search : SearchFacts) (folder : List ℕ) (path : List ℕ) (answer : StatAnswer) (rest : List EntryFacts) : Type 0 where
   pub fresh : first_look answers path ≡ None
+  pub candidate : IsCandidate answers roots path
+  pub kept : IsCanonPath path
   pub search_is : IsSearch (answers ++ stat path answer ∷ []) roots (noted search path answer) folder rest
 
 pub new_file : (answers : List Heard) (roots : List (List ℕ)) (search : SearchFacts) (folder name path : List ℕ) (answer : StatAnswer) (rest : List EntryFacts)
@@ -130,16 +127,16 @@ pub new_file : (answers : List Heard) (roots : List (List ℕ)) (search : Search
     → is_looked search path ≡ false → is_look_answer answer ≡ true → IsNewFile answers roots search folder path answer rest
 new_file answers roots search folder name path answer rest joined kept u reached listed looked ok =
     let e : EntryFacts = record { name = name; kind = kind.File } in
-    let named : IsNamed answers folder kind.File path = record { name = name; listed = listed; joined = joined } in
+    let candidate : IsCandidate answers roots path = file_candidate answers roots folder name path joined reached listed in
     let none : is_some (first_look answers path) ≡ false = sym (is_looked_is answers roots search folder (e ∷ rest) path u.search_is) ∙ looked in
     let fresh : first_look answers path ≡ None = is_none (first_look answers path) none in
-    let s = note_step answers roots search folder (e ∷ rest) path answer u.search_is (inr (record { folder = folder; reached = reached; named = named })) kept ok
+    let s = note_step answers roots search folder (e ∷ rest) path answer u.search_is candidate kept ok
     (λ c gone. false≢true (sym none ∙ u.looked.looked path c)) fresh in
     let here : first_look (answers ++ stat path answer ∷ []) path ≡ Some answer = after_look answers path answer ok fresh path ∙ ap (λ (b : Bool). cond b (Some answer) (first_look answers path)) ((same-Decides path path).1 refl) in
     let settled : IsSettled (answers ++ stat path answer ∷ []) (noted search path answer) (child folder name) kind.File =
     subst (λ (p : List ℕ). IsSettled (answers ++ stat path answer ∷ []) (noted search path answer) p kind.File) joined
     (settled_short (answers ++ stat path answer ∷ []) (noted search path answer) path kind.File kept.short (ap is_some here)) in
-    record { fresh = fresh; search_is = entry_step (answers ++ stat path answer ∷ []) roots (noted search path answer) folder e rest s settled }
+    record { fresh = fresh; candidate = candidate; kept = kept; search_is = entry_step (answers ++ stat path answer ∷ []) roots (noted search path answer) folder e rest s settled }
   where
     is_none : (o : Option StatAnswer) → is_some o ≡ false → o ≡ None
     is_none None h = refl
@@ -157,7 +154,8 @@ file_too_many : (answers more : List Heard) (roots : List (List ℕ)) (search : 
     → IsTooMany (answers ++ more) roots
 file_too_many answers more roots search folder name path answer rest heard u n many =
     subst (λ (m : List Heard). IsTooMany (answers ++ m) roots) (sym heard)
-    (too_many_is answers (stat path answer) roots search (noted search path answer) folder folder (record { name = name; kind = kind.File } ∷ rest) rest u.search_is u.few n.search_is many)
+    (too_many_is (answers ++ stat path answer ∷ []) roots (noted search path answer) folder rest
+    (look_last answers roots search folder (record { name = name; kind = kind.File } ∷ rest) path answer (λ last. Unit {0}) u n.candidate n.kept tt) n.search_is many)
 
 pub file_fault : (answers more : List Heard) (roots : List (List ℕ)) (search : SearchFacts) (folder name path : List ℕ) (answer : StatAnswer) (rest : List EntryFacts) (fault : WalkFault)
     → more ≡ stat path answer ∷ [] → IsUnderway answers roots search folder (record { name = name; kind = kind.File } ∷ rest) → IsNewFile answers roots search folder path answer rest → IsAddFault (noted search path answer) fault
@@ -199,8 +197,7 @@ read_over answers more roots search folder entries skipped u r over =
     let was : search.left + entries_read answers ≡ ENTRY_LIMIT = u.search_is.left in
     subst (λ (m : List Heard). IsTooManyEntries (answers ++ m) roots) (sym r.heard)
     (record {
-      asked = asks_due answers roots search folder d u.search_is;
-      last = record { earlier = answers; last = read_dir folder d; split = refl; room = room_is answers roots (with_last search folder) [] [] u.search_is u.few; stops = tt };
+      last = read_last answers roots search folder d (λ last. Unit {0}) u tt;
       many = omega (arith, count, read, was, over);
     })
 

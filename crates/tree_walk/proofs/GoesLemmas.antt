@@ -10,7 +10,7 @@ use Rattle.row_types.specs.Name.{NameFacts}
 use Rattle.tree_trait.specs.Heard.{Heard}
 use Rattle.tree_trait.specs.Present.{StaysStill}
 use Rattle.tree_walk.specs.Answers.{has_failed, with_answers}
-use Rattle.tree_walk.specs.Ends.{HasRoom, StopsAtLast, IsCause}
+use Rattle.tree_walk.specs.Ends.{StopsAtLast, IsCause}
 use Rattle.tree_walk.specs.Files.{IsTold}
 use Rattle.tree_walk.specs.Search.{Goes, IsCallFault}
 use Rattle.tree_walk.specs.declared.fault.WalkFault.{WalkFault}
@@ -58,19 +58,13 @@ goes_then before mid now StillTold MidTold present mid_present Good Bad MidGood 
       ends = f h.more k.more k.ends;
     }
 
--- a fault of one call, after answers that left room
-pub call_fault : (answers more : List Heard) (roots : List (List ℕ)) (fault : WalkFault) → HasRoom answers roots → IsCallFault more fault → IsCause (answers ++ more) roots fault
-call_fault answers more roots Failed room h = record {
-  earlier = answers;
-  last = h.0;
-  split = ap (λ (m : List Heard). answers ++ m) h.1;
-  room = room;
-  stops = h.2;
-}
-call_fault answers more roots TooMany room h = absurd h
-call_fault answers more roots TooManyEntries room h = absurd h
-call_fault answers more roots (RootGone path) room h = absurd h
-call_fault answers more roots OutOfMemory room h = tt
+-- a fault of one call, by which the walk ends
+pub call_fault : (answers more : List Heard) (roots : List (List ℕ)) (failed : Heard) (fault : WalkFault) → StopsAtLast (answers ++ failed ∷ []) roots (λ last. has_failed last ≡ true) → IsCallFault failed more fault → IsCause (answers ++ more) roots fault
+call_fault answers more roots failed Failed last h = subst (λ (m : List Heard). StopsAtLast (answers ++ m) roots (λ last. has_failed last ≡ true)) (sym h) last
+call_fault answers more roots failed TooMany last h = absurd h
+call_fault answers more roots failed TooManyEntries last h = absurd h
+call_fault answers more roots failed (RootGone path) last h = absurd h
+call_fault answers more roots failed OutOfMemory last h = tt
 
 -- a fault that is passed up
 pub goes_up : {U V : Type 0} (before now : Option (List Heard)) (StillTold : Type 0) (present : List NameFacts) (Good : List Heard → U → Type 0) (Bad : List Heard → WalkFault → Type 0) (NewGood : List Heard → V → Type 0) (NewBad : List Heard → WalkFault → Type 0) (next : Result V WalkFault) (fault : WalkFault)

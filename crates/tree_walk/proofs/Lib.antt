@@ -2,6 +2,7 @@ pub mod AnswerLemmas
 pub mod EndLemmas
 pub mod FileLemmas
 pub mod GoesLemmas
+pub mod LastLemmas
 pub mod LimitLemmas
 pub mod PathLemmas
 pub mod PresentLemmas

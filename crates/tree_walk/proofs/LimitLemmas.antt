@@ -27,7 +27,7 @@ use Rattle.tree_walk.proofs.ReachLemmas.{folder_reached}
 use Rattle.tree_walk.proofs.StepLemmas.{read_due, bytes_back}
 
 -- a test counts at most once
-one_at_most : (b : Bool) → one_if b ≤ 1
+pub one_at_most : (b : Bool) → one_if b ≤ 1
 one_at_most true = omega arith
 one_at_most false = omega arith
 
@@ -138,7 +138,7 @@ all_distinct (read_dir path answer ∷ rest) few =
 under_with : (present : List NameFacts) (answers : List Heard) (roots : List (List ℕ)) (path : List ℕ) (answer : DirFacts) (folders : List FolderFacts) → IsTold present (read_dir path answer) → IsDue answers roots (read_dir path answer) → All (IsFolderUnder present roots) folders → All (IsFolderUnder present roots) (with_listing path answer folders)
 under_with present answers roots path (listed entries skipped) folders told due h =
     All-cons (IsFolderUnder present roots) (record { path = path; entries = entries }) folders
-    (record { under = reached_within answers roots path (folder_reached answers roots path due.0); listing = told.listing }) h
+    (record { under = reached_within answers roots path (folder_reached answers roots path due.0); short = due.1.short; listing = told.listing }) h
 under_with present answers roots path no_dir folders told due h = h
 under_with present answers roots path dir_failed folders told due h = h
 under_with present answers roots path dir_no_memory folders told due h = h
@@ -155,8 +155,8 @@ all_under present answers roots (read_dir path answer ∷ rest) told due =
 many_entries : (present : List NameFacts) (answers : List Heard) (roots : List (List ℕ)) → All (IsTold present) answers → IsTooManyEntries answers roots → HasManyEntries present roots
 many_entries present answers roots told end = record {
   folders = folders_of answers;
-  distinct = all_distinct answers end.asked.few;
-  each = all_under present answers roots answers told end.asked.due;
+  distinct = all_distinct answers end.last.asked.few;
+  each = all_under present answers roots answers told end.last.asked.due;
   many = subst (λ (n : ℕ). ENTRY_LIMIT < n) (sym (all_counted answers)) end.many;
 }
 

@@ -20,16 +20,10 @@ use Rattle.tree_walk.specs.Walked.{IsCandidate, IsFolderRoot}
 use Rattle.tree_walk.specs.declared.fault.WalkFault.{WalkFault}
 use Rattle.tree_walk.specs.declared.fault.WalkFault.TheVariants.{Failed as WalkFailed, TooMany, TooManyEntries, RootGone, OutOfMemory as WalkMemory}
 use Rattle.tree_walk.proofs.EndLemmas.{room_is, too_many_is}
+use Rattle.tree_walk.proofs.LastLemmas.{looks_next, root_among, root_last}
 use Rattle.tree_walk.proofs.AnswerLemmas.{look_stays, looked_stays, after_look, look_again}
 use Rattle.tree_walk.proofs.SetLemmas.{same, same-Decides, sorted_none}
 use Rattle.tree_walk.proofs.StepLemmas.{note_step, again_step, is_looked_is, folder_step, folder_known, folder_stays}
-
--- one more look, in order
-pub looks_push : (paths : List (List ℕ)) (given : List StatAnswer) (path : List ℕ) (answer : StatAnswer) → length given ≡ length paths → looks (paths ++ path ∷ []) (given ++ answer ∷ []) ≡ looks paths given ++ stat path answer ∷ []
-looks_push [] [] path answer e = refl
-looks_push [] (a ∷ given) path answer e = absurd (omega (arith, e))
-looks_push (p ∷ paths) [] path answer e = absurd (omega (arith, e))
-looks_push (p ∷ paths) (a ∷ given) path answer e = ap (λ t. stat p a ∷ t) (looks_push paths given path answer (omega (arith, e)))
 
 -- something is there where the look was answered and didn't say otherwise
 there_from_answer : (answer : StatAnswer) → is_look_answer answer ≡ true → (answer ≡ Gone → ⊥) → is_there answer ≡ true
@@ -151,7 +145,7 @@ beginning_step answers roots seen search path answer b r kept ok there few =
       given = b.given ++ answer ∷ [];
       each = length_push b.given answer ∙ ap (λ (n : ℕ). n + 1) e ∙ sym (length_push seen path);
       there = list_all-append is_there b.given (answer ∷ []) ∙ and_from _ _ b.there (and_from _ true (there_from_answer answer ok there) refl);
-      first = ap (λ (h : List Heard). h ++ stat path answer ∷ []) b.first ∙ sym (looks_push seen b.given path answer b.each);
+      first = ap (λ (h : List Heard). h ++ stat path answer ∷ []) b.first ∙ sym (looks_next seen [] b.given path answer b.each);
     }
 
 -- nothing is at a root
@@ -176,10 +170,6 @@ underway answers roots search b = record {
   first = record { given = b.given; rest = []; each = b.each; there = b.there; first = b.first ∙ sym (append-nil (looks roots b.given)) };
 }
 
--- a root is among the roots
-root_among : (roots seen after : List (List ℕ)) (path : List ℕ) → roots ≡ seen ++ path ∷ after → Contains roots path
-root_among roots seen after path split = subst (λ (rs : List (List ℕ)). Contains rs path) (sym split) (Contains-append_right seen (path ∷ after) path (0, omega arith, refl))
-
 pub beginning_after : (answers more : List Heard) (roots seen after : List (List ℕ)) (search : SearchFacts) (path : List ℕ) (answer : StatAnswer)
     → roots ≡ seen ++ path ∷ after → more ≡ stat path answer ∷ [] → IsBeginning answers roots seen search → IsCanonPath path → is_look_answer answer ≡ true → (answer ≡ Gone → ⊥) → length (with_new_root search path answer).files ≤ LISTING_LIMIT
     → IsBeginning (answers ++ more) roots (seen ++ path ∷ []) (with_new_root search path answer)
@@ -194,7 +184,7 @@ root_fault answers more roots seen after search path answer WalkFailed split hea
 root_fault answers more roots seen after search path answer TooMany split heard b kept ok there bad =
     let step = root_step answers roots seen search path answer b.search_is b.looked (root_among roots seen after path split) kept ok there in
     subst (λ (m : List Heard). IsTooMany (answers ++ m) roots) (sym heard)
-    (too_many_is answers (stat path answer) roots search (with_new_root search path answer) [] [] [] [] b.search_is b.few step.search_is bad)
+    (too_many_is (answers ++ stat path answer ∷ []) roots (with_new_root search path answer) [] [] (root_last answers roots seen after search path answer (λ last. Unit {0}) b split kept tt) step.search_is bad)
 root_fault answers more roots seen after search path answer TooManyEntries split heard b kept ok there bad = absurd bad
 root_fault answers more roots seen after search path answer (RootGone gone) split heard b kept ok there bad = absurd bad
 root_fault answers more roots seen after search path answer WalkMemory split heard b kept ok there bad = tt

@@ -1,5 +1,5 @@
 -- How a walk ends (this project's rule): at its first fault, or with everything asked.
-use Rattle.std.specs.Prelude.{◌≡◌, ℕ, ◌≤◌, ◌<◌, true, List, [], ◌∷◌, ◌++◌, length, All, Contains, Option, Result, Ok, Err}
+use Rattle.std.specs.Prelude.{◌≡◌, ◌⊎◌, ℕ, ◌≤◌, ◌<◌, true, List, [], ◌∷◌, ◌++◌, length, All, Contains, Option, Result, Ok, Err}
 use Rattle.std.specs.List.{list_all}
 use Rattle.row_types.specs.Name.{NameFacts}
 use Rattle.scan_queue.specs.declared.listing.TheConstants.{LISTING_LIMIT}
@@ -39,8 +39,15 @@ pub record IsWhole (answers : List Heard) (roots : List (List ℕ)) (walk : Walk
   pub listing : IsWalkListing answers roots walk.listing
   pub skipped : IsSkipped answers roots walk.skipped
 
--- all went well up to the last call
+-- the roots were looked at first, in the order given: all of them, or as many as there were answers
+abbrev pub LooksAtRoots : List Heard → List (List ℕ) → Type 0
+LooksAtRoots answers roots = BeginsWithRoots answers roots ⊎ ((given : List StatAnswer) × (answers ≡ looks roots given))
+
+-- the roots were looked at first, nothing was asked but what was due, no folder twice, and all went well up to the last
+-- call
 pub record StopsAtLast (answers : List Heard) (roots : List (List ℕ)) (Stops : Heard → Type 0) : Type 0 where
+  pub first : LooksAtRoots answers roots
+  pub asked : AsksDue answers roots
   pub earlier : List Heard
   pub last : Heard
   pub split : answers ≡ earlier ++ last ∷ []
@@ -54,9 +61,8 @@ pub record IsTooMany (answers : List Heard) (roots : List (List ℕ)) : Type 0 w
   pub listing : IsWalkListing answers roots names
   pub many : LISTING_LIMIT < length names
 
--- the last answer made more entries than a walk reads; only what was due was asked, so that no folder counts twice
+-- the last answer made more entries than a walk reads
 pub record IsTooManyEntries (answers : List Heard) (roots : List (List ℕ)) : Type 0 where
-  pub asked : AsksDue answers roots
   pub last : StopsAtLast answers roots (λ last. Unit {0})
   pub many : ENTRY_LIMIT < entries_read answers
 

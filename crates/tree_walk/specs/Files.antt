@@ -42,9 +42,10 @@ pub record FolderFacts : Type 0 where
   pub path : List ℕ
   pub entries : List EntryFacts
 
--- the folder is a root or lies under one, and these are its entries
+-- the folder is a root or lies under one, its path is no longer than a path that is kept, and these are its entries
 pub record IsFolderUnder (present : List NameFacts) (roots : List (List ℕ)) (folder : FolderFacts) : Type 0 where
   pub under : list_any (λ root. is_within root folder.path) roots ≡ true
+  pub short : length folder.path ≤ PATH_LIMIT
   pub listing : IsListing present folder.path folder.entries
 
 -- more files stand under the roots than a listing has

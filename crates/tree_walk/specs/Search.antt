@@ -211,10 +211,10 @@ pub record Goes {V : Type 0} (before now : Option (List Heard)) (StillTold : Typ
   pub told : StillTold → All (IsTold present) more
   pub ends : MatchResult result (Good more) (Bad more)
 
--- one call failed, or memory was refused before anything was heard
-abbrev pub IsCallFault : List Heard → WalkFault → Type 0
-IsCallFault more FaultFailed = (last : Heard) × (more ≡ last ∷ []) × (has_failed last ≡ true)
-IsCallFault more TooMany = ⊥
-IsCallFault more TooManyEntries = ⊥
-IsCallFault more (RootGone path) = ⊥
-IsCallFault more FaultMemory = Unit {0}
+-- this call failed, and no other was made; or memory was refused
+abbrev pub IsCallFault : Heard → List Heard → WalkFault → Type 0
+IsCallFault failed more FaultFailed = more ≡ failed ∷ []
+IsCallFault failed more TooMany = ⊥
+IsCallFault failed more TooManyEntries = ⊥
+IsCallFault failed more (RootGone path) = ⊥
+IsCallFault failed more FaultMemory = Unit {0}

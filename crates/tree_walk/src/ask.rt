@@ -3,7 +3,8 @@
 ghost use Rattle.std.specs.Prelude.{◌≡◌, ◌∷◌, [], true, IsTrue};
 ghost use Rattle.row_types.specs.Canon.{IsCanonPath};
 ghost use Rattle.row_types.specs.Faults.{HasCause};
-ghost use Rattle.tree_trait.specs.Heard.{stat};
+ghost use Rattle.tree_trait.specs.Dir.{dir_failed};
+ghost use Rattle.tree_trait.specs.Heard.{stat, read_dir};
 ghost use Rattle.tree_trait.specs.Present.{IsPresence, StaysStill};
 ghost use Rattle.tree_walk.specs.Answers.{is_look_answer};
 ghost use Rattle.tree_walk.specs.Search.{Goes, IsCallFault, IsRead};
@@ -20,7 +21,7 @@ pub fn look<W: Truth, T: Tree<W>>(
     path: &CanonPath,
 ) -> Result<StatAnswer, WalkFault>
     ensures goes { Goes (T.heard hand.old) (T.heard hand.new) (IsTrue T.told × T.still hand.old) (T.present hand.old)
-        (λ more answer. (more ≡ stat path.now answer ∷ []) × (is_look_answer answer ≡ true)) IsCallFault result }
+        (λ more answer. (more ≡ stat path.now answer ∷ []) × (is_look_answer answer ≡ true)) (IsCallFault (stat path.now StatAnswer.Failed)) result }
     ensures kept { IsCanonPath path.now }
     ensures cause { HasCause (T.faults hand.old) (T.faults hand.new) (result ≡ Err WalkFault.Failed) }
     ensures known { IsTrue T.told → IsPresence W.version (T.still hand.new) (T.present hand.new) }
@@ -49,7 +50,7 @@ pub fn read<W: Truth, T: Tree<W>>(
     folder: &CanonPath,
 ) -> Result<Content, WalkFault>
     ensures goes { Goes (T.heard hand.old) (T.heard hand.new) (IsTrue T.told × T.still hand.old) (T.present hand.old)
-        (λ more content. IsRead folder.now more content.entries.items content.skipped) IsCallFault result }
+        (λ more content. IsRead folder.now more content.entries.items content.skipped) (IsCallFault (read_dir folder.now dir_failed)) result }
     ensures cause { HasCause (T.faults hand.old) (T.faults hand.new) (result ≡ Err WalkFault.Failed) }
     ensures known { IsTrue T.told → IsPresence W.version (T.still hand.new) (T.present hand.new) }
     ensures still { T.still hand.old → StaysStill (T.still hand.new) (T.present hand.old) (T.present hand.new) }

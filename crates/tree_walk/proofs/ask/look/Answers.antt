@@ -11,5 +11,5 @@ returns-in-Failed-clause-goes g c = record {
   more = stat c.args.path.now Failed ∷ [];
   heard = c.in-Failed.ensures.heard ∙ ap (λ (p : List ℕ). with_answers (g.T.Tree.heard c.args.hand.now) (stat p Failed ∷ [])) c.text.ensures.value;
   told = λ _. All-push (IsTold (g.T.Tree.present c.args.hand.now)) [] (stat c.args.path.now Failed) (All-nil (IsTold (g.T.Tree.present c.args.hand.now))) tt;
-  ends = (stat c.args.path.now Failed, refl, refl);
+  ends = refl;
 }

@@ -34,5 +34,5 @@ returns-in-Failed-clause-goes g c = record {
   more = read_dir c.args.folder.now dir_failed ∷ [];
   heard = c.in-Failed.ensures.heard ∙ ap (λ (p : List ℕ). with_answers (g.T.Tree.heard c.args.hand.now) (read_dir p dir_failed ∷ [])) c.text.ensures.value;
   told = λ _. All-push (IsTold (g.T.Tree.present c.args.hand.now)) [] (read_dir c.args.folder.now dir_failed) (All-nil (IsTold (g.T.Tree.present c.args.hand.now))) tt;
-  ends = (read_dir c.args.folder.now dir_failed, refl, refl);
+  ends = refl;
 }

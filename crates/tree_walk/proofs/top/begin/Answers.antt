@@ -1,7 +1,7 @@
 use Rattle.std.proofs.Common.{◌≡◌, ℕ, ◌+◌, ◌<◌, ◌≤◌, List, [], ◌∷◌, ◌++◌, length, take, drop, Ok, Err, sym, ◌∙◌, subst, arith}
 use Rattle.tree_trait.specs.Heard.{Heard}
 use Rattle.tree_walk.specs.Ends.{IsCause}
-use Rattle.tree_walk.specs.Search.{SearchFacts, IsBeginning, IsUnderway, IsCallFault}
+use Rattle.tree_walk.specs.Search.{SearchFacts, IsBeginning, IsUnderway}
 use Rattle.tree_walk.proofs.GoesLemmas.{goes_then, goes_up, split_at, take_one}
 use Rattle.tree_walk.proofs.top.begin.Goals as goal
 
@@ -11,7 +11,7 @@ returns-in_err-look_at_root-clause-goes g c =
     let i : ℕ = c.loop-root.root-index in
     let within : i < length roots = omega arith in
     goes_up _ _ _ _ (λ more search. IsUnderway more roots search [] []) (λ more fault. IsCause more roots fault) _ _ c.from_residual.result c.in_err-look_at_root.field-0.0 c.from_residual.ensures.1
-    (goes_then _ _ _ _ _ _ _ (λ more search. IsBeginning more roots (take i roots) search) IsCallFault
+    (goes_then _ _ _ _ _ _ _ (λ more search. IsBeginning more roots (take i roots) search) (λ more fault. IsCause more roots fault)
     (λ more last _. IsBeginning (more ++ last) roots (take i roots ++ c.root-item.result ∷ []) c.look_at_root.new.search) (λ more last fault. IsCause (more ++ last) roots fault)
     _ _ (Ok c.loop-root.search) (Err c.in_err-look_at_root.field-0.0) (Err c.in_err-look_at_root.field-0.0) c.loop-root.invariant.goes
     (λ t. let s = c.loop-root.invariant.still t.1 in ((t.0, s.still), s.same))
@@ -27,7 +27,7 @@ loop-root-preserved g c =
     let before : g.T.Tree.faults c.args.hand.now ≤ g.T.Tree.faults c.loop-root.hand = c.loop-root.invariant.later in
     let after : g.T.Tree.faults c.loop-root.hand ≤ g.T.Tree.faults c.look_at_root.new.hand = c.look_at_root.ensures.cause.later in
     record {
-      goes = goes_then _ _ _ _ _ _ _ (λ more search. IsBeginning more roots (take i roots) search) IsCallFault
+      goes = goes_then _ _ _ _ _ _ _ (λ more search. IsBeginning more roots (take i roots) search) (λ more fault. IsCause more roots fault)
           (λ more last _. IsBeginning (more ++ last) roots (take i roots ++ c.root-item.result ∷ []) c.look_at_root.new.search) (λ more last fault. IsCause (more ++ last) roots fault)
           _ _ (Ok c.loop-root.search) (Ok c.in_ok-look_at_root.field-0) (Ok c.look_at_root.new.search) c.loop-root.invariant.goes
           (λ t. let s = c.loop-root.invariant.still t.1 in ((t.0, s.still), s.same))

@@ -3,7 +3,7 @@ use Rattle.tree_trait.specs.Entry.{EntryFacts, has_entry}
 use Rattle.tree_trait.specs.Heard.{Heard}
 use Rattle.tree_walk.specs.Answers.{entries_in}
 use Rattle.tree_walk.specs.Ends.{IsCause}
-use Rattle.tree_walk.specs.Search.{SearchFacts, IsUnderway, IsCallFault}
+use Rattle.tree_walk.specs.Search.{SearchFacts, IsUnderway}
 use Rattle.tree_walk.proofs.AnswerLemmas.{entries_stay}
 use Rattle.tree_walk.proofs.FileLemmas.{has_at, left_from}
 use Rattle.tree_walk.proofs.GoesLemmas.{goes_then, goes_up}
@@ -19,7 +19,7 @@ returns-in_err-enter-clause-goes g c = λ answers roots u reached listed.
     let within : i < length entries = omega arith in
     let among : has_entry (entries_in answers folder) e ≡ true = subst (λ (es : List EntryFacts). has_entry es e ≡ true) (sym listed) (has_at entries i e within c.entry-item.is) in
     goes_up _ _ _ _ (λ more search. IsUnderway (answers ++ more) roots search folder []) (λ more fault. IsCause (answers ++ more) roots fault) _ _ c.from_residual.result c.in_err-enter.field-0.0 c.from_residual.ensures.1
-    (goes_then _ _ _ _ _ _ _ (λ more search. IsUnderway (answers ++ more) roots search folder (drop i entries)) IsCallFault
+    (goes_then _ _ _ _ _ _ _ (λ more search. IsUnderway (answers ++ more) roots search folder (drop i entries)) (λ more fault. IsCause (answers ++ more) roots fault)
     (λ more last _. IsUnderway ((answers ++ more) ++ last) roots c.enter.new.search folder (drop (i + 1) entries)) (λ more last fault. IsCause ((answers ++ more) ++ last) roots fault)
     _ _ (Ok c.loop-entry.search) (Err c.in_err-enter.field-0.0) (Err c.in_err-enter.field-0.0) (c.loop-entry.invariant.goes answers roots u reached listed)
     (λ t. let s = c.loop-entry.invariant.still t.1 in ((t.0, s.still), s.same))
@@ -43,7 +43,7 @@ loop-entry-preserved g c =
     record {
       goes = λ answers roots u reached listed.
           let among : has_entry (entries_in answers folder) e ≡ true = subst (λ (es : List EntryFacts). has_entry es e ≡ true) (sym listed) (has_at entries i e within c.entry-item.is) in
-          goes_then _ _ _ _ _ _ _ (λ more search. IsUnderway (answers ++ more) roots search folder (drop i entries)) IsCallFault
+          goes_then _ _ _ _ _ _ _ (λ more search. IsUnderway (answers ++ more) roots search folder (drop i entries)) (λ more fault. IsCause (answers ++ more) roots fault)
           (λ more last _. IsUnderway ((answers ++ more) ++ last) roots c.enter.new.search folder (drop (i + 1) entries)) (λ more last fault. IsCause ((answers ++ more) ++ last) roots fault)
           _ _ (Ok c.loop-entry.search) (Ok c.in_ok-enter.field-0) (Ok c.enter.new.search) (c.loop-entry.invariant.goes answers roots u reached listed)
           (λ t. let s = c.loop-entry.invariant.still t.1 in ((t.0, s.still), s.same))

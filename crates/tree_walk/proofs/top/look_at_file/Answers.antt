@@ -1,8 +1,11 @@
-use Rattle.std.proofs.Common.{List, ◌∷◌, ◌++◌, sym, ◌∙◌, subst}
+use Rattle.std.proofs.Common.{◌≡◌, true, ◌++◌, refl, sym, ◌∙◌, subst}
 use Rattle.std.proofs.lemmas.Result.{MatchResult-weaker}
+use Rattle.tree_trait.specs.Heard.{stat}
+use Rattle.tree_trait.specs.declared.stat.StatAnswer.TheVariants.{Failed}
+use Rattle.tree_walk.specs.Answers.{has_failed}
 use Rattle.tree_walk.specs.Search.{SearchFacts, IsUnderway}
-use Rattle.tree_walk.proofs.EndLemmas.{room_is}
-use Rattle.tree_walk.proofs.FileLemmas.{known_file, new_file, file_entry, file_fault}
+use Rattle.tree_walk.proofs.LastLemmas.{look_last}
+use Rattle.tree_walk.proofs.FileLemmas.{file_candidate, known_file, new_file, file_entry, file_fault}
 use Rattle.tree_walk.proofs.GoesLemmas.{goes_none, goes_on, goes_up, call_fault}
 use Rattle.tree_walk.proofs.top.look_at_file.Goals as goal
 
@@ -13,7 +16,8 @@ returns-then-is_looked-clause-goes g c = λ answers roots folder name rest joine
 pub returns-in_err-answer-clause-goes : goal.returns-in_err-answer-clause-goes
 returns-in_err-answer-clause-goes g c = λ answers roots folder name rest joined kept u reached listed.
     goes_up _ _ _ _ _ _ _ _ c.from_residual.result c.in_err-answer.field-0.0 c.from_residual.ensures.1 c.in_err-answer.ensures.goes
-    (λ more h. call_fault answers more roots c.in_err-answer.field-0.0 (room_is answers roots c.args.search.now folder _ u.search_is u.few) h)
+    (λ more h. call_fault answers more roots (stat c.args.path Failed) c.in_err-answer.field-0.0
+    (look_last answers roots c.args.search.now folder _ c.args.path Failed (λ last. has_failed last ≡ true) u (file_candidate answers roots folder name c.args.path joined reached listed) kept refl) h)
 
 pub returns-clause-goes : goal.returns-clause-goes
 returns-clause-goes g c = λ answers roots folder name rest joined kept u reached listed.

@@ -1,10 +1,12 @@
-use Rattle.std.proofs.Common.{ℕ, List, [], ◌∷◌, ◌++◌, sym, ◌∙◌, ap, subst}
+use Rattle.std.proofs.Common.{◌≡◌, ℕ, true, List, [], ◌∷◌, ◌++◌, refl, sym, ◌∙◌, ap, subst}
 use Rattle.std.proofs.lemmas.Result.{MatchResult-weaker}
 use Rattle.tree_trait.specs.Heard.{stat}
 use Rattle.tree_trait.specs.declared.stat.StatAnswer.{StatAnswer}
+use Rattle.tree_trait.specs.declared.stat.StatAnswer.TheVariants.{Failed}
+use Rattle.tree_walk.specs.Answers.{has_failed}
 use Rattle.tree_walk.specs.Ends.{IsRootGone}
 use Rattle.tree_walk.specs.Search.{SearchFacts, IsBeginning}
-use Rattle.tree_walk.proofs.EndLemmas.{room_is}
+use Rattle.tree_walk.proofs.LastLemmas.{root_last}
 use Rattle.tree_walk.proofs.RootLemmas.{beginning_after, root_fault, root_gone}
 use Rattle.tree_walk.proofs.GoesLemmas.{goes_on, goes_up, call_fault}
 use Rattle.tree_walk.proofs.top.look_at_root.Goals as goal
@@ -12,7 +14,8 @@ use Rattle.tree_walk.proofs.top.look_at_root.Goals as goal
 pub returns-in_err-answer-clause-goes : goal.returns-in_err-answer-clause-goes
 returns-in_err-answer-clause-goes g c = λ answers roots seen after split b.
     goes_up _ _ _ _ _ _ _ _ c.from_residual.result c.in_err-answer.field-0.0 c.from_residual.ensures.1 c.in_err-answer.ensures.goes
-    (λ more h. call_fault answers more roots c.in_err-answer.field-0.0 (room_is answers roots c.args.search.now [] [] b.search_is b.few) h)
+    (λ more h. call_fault answers more roots (stat c.args.root.now Failed) c.in_err-answer.field-0.0
+    (root_last answers roots seen after c.args.search.now c.args.root.now Failed (λ last. has_failed last ≡ true) b split c.in_err-answer.ensures.kept refl) h)
 
 pub returns-in_default-clause-goes : goal.returns-in_default-clause-goes
 returns-in_default-clause-goes g c = λ answers roots seen after split b.

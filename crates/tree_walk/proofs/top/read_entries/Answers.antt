@@ -1,8 +1,11 @@
-use Rattle.std.proofs.Common.{◌≡◌, ℕ, ◌<◌, ◌≤◌, inl, inr, List, ◌++◌, length, sym, ◌∙◌, ap, subst}
+use Rattle.std.proofs.Common.{◌≡◌, ℕ, ◌<◌, ◌≤◌, inl, inr, true, List, ◌++◌, length, refl, sym, ◌∙◌, ap, subst}
 use Rattle.std.proofs.lemmas.Bool.{false≢true, cases_lt}
+use Rattle.tree_trait.specs.Dir.{dir_failed}
 use Rattle.tree_trait.specs.Entry.{EntryFacts}
-use Rattle.tree_walk.specs.Search.{SearchFacts, IsUnderway, paid, with_last}
-use Rattle.tree_walk.proofs.EndLemmas.{room_is}
+use Rattle.tree_trait.specs.Heard.{read_dir}
+use Rattle.tree_walk.specs.Answers.{has_failed}
+use Rattle.tree_walk.specs.Search.{SearchFacts, IsUnderway, paid}
+use Rattle.tree_walk.proofs.LastLemmas.{read_last}
 use Rattle.tree_walk.proofs.FileLemmas.{IsReadInto, read_into, read_over}
 use Rattle.tree_walk.proofs.GoesLemmas.{goes_on, goes_up, call_fault}
 use Rattle.tree_walk.proofs.top.read_entries.Goals as goal
@@ -10,7 +13,8 @@ use Rattle.tree_walk.proofs.top.read_entries.Goals as goal
 pub returns-in_err-content-clause-goes : goal.returns-in_err-content-clause-goes
 returns-in_err-content-clause-goes g c = λ answers roots u.
     goes_up _ _ _ _ _ _ _ _ c.from_residual.result c.in_err-content.field-0.0 c.from_residual.ensures.1 c.in_err-content.ensures.goes
-    (λ more h. call_fault answers more roots c.in_err-content.field-0.0 (room_is answers roots (with_last c.args.search.now c.args.folder.now) _ _ u.search_is u.few) h)
+    (λ more h. call_fault answers more roots (read_dir c.args.folder.now dir_failed) c.in_err-content.field-0.0
+    (read_last answers roots c.args.search.now c.args.folder.now dir_failed (λ last. has_failed last ≡ true) u refl) h)
 
 pub returns-then-pay-clause-goes : goal.returns-then-pay-clause-goes
 returns-then-pay-clause-goes g c = λ answers roots u.
