@@ -27,7 +27,7 @@ use Rattle.tree_walk.proofs.AnswerLemmas.{looked_stays, look_stays, after_look}
 use Rattle.tree_walk.proofs.ReachLemmas.{reached_more, folder_reached}
 use Rattle.tree_walk.proofs.EndLemmas.{room_is, too_many_is}
 use Rattle.tree_walk.proofs.SetLemmas.{same, same-Decides}
-use Rattle.tree_walk.proofs.StepLemmas.{read_step, read_entries, next_folder, note_step, is_looked_is, folder_step, folder_known, folder_stays, long_step, long_known, entry_step}
+use Rattle.tree_walk.proofs.StepLemmas.{read_step, read_entries, next_folder, note_step, is_looked_is, folder_step, folder_known, folder_stays, long_step, long_known, entry_step, with_pending}
 
 -- the roots stay looked at
 still_looked : (answers more : List Heard) (roots : List (List ℕ)) (search next : SearchFacts) → AreLooked answers roots roots search → ((path : List ℕ) → has search.folders path ≡ true → has next.folders path ≡ true) → AreLooked (answers ++ more) roots roots next
@@ -219,25 +219,10 @@ left_from answers roots search folder entries i e within here u =
 
 -- with all entries seen to, nothing is pending
 pub all_seen : (answers : List Heard) (roots : List (List ℕ)) (search : SearchFacts) (folder : List ℕ) → IsUnderway answers roots search folder [] → IsUnderway answers roots search [] []
-all_seen answers roots search folder u =
-    let s = u.search_is in
-    record {
-      search_is = record {
-        files = s.files;
-        others = s.others;
-        ordered = s.ordered;
-        due = s.due;
-        folders = s.folders;
-        counts = s.counts;
-        long = s.long;
-        apart = s.apart;
-        left = s.left;
-        skipped = s.skipped;
-        answered = s.answered;
-        there = s.there;
-        closed = λ at e h. elim (s.closed at e h) [ inl done ↦ inl done | inr pending ↦ absurd (false≢true pending.among) ];
-      };
-      few = u.few;
-      looked = u.looked;
-      first = u.first;
-    }
+all_seen answers roots search folder u = record {
+  search_is = with_pending answers roots search folder [] [] [] u.search_is
+      (λ at e h. elim (u.search_is.closed at e h) [ inl done ↦ inl done | inr pending ↦ absurd (false≢true pending.among) ]);
+  few = u.few;
+  looked = u.looked;
+  first = u.first;
+}
