@@ -12,21 +12,21 @@ use Rattle.std.proofs.lemmas.List.{get_or_read}
 use Rattle.std.proofs.lemmas.Map.Text.{is_eq-slice_cmp}
 use Rattle.row_types.specs.Ascends.{Ascends, IsBefore}
 
--- each of the first paths stands after each one before it
-abbrev pub AscendsBelow : List (List ℕ) → ℕ → Type 0
-AscendsBelow paths end = (later : ℕ) → later < end → (k : ℕ) (d : List ℕ) → k < later → IsBefore (slice_index_or paths k d) (slice_index_or paths later d)
+-- each of the first elements stands after each one before it, by its path
+abbrev pub AscendsBelow : {X : Type 0} → (X → List ℕ) → List X → ℕ → Type 0
+AscendsBelow {X} path xs end = (later : ℕ) → later < end → (k : ℕ) (d : X) → k < later → IsBefore (path (slice_index_or xs k d)) (path (slice_index_or xs later d))
 
--- one more path, which stands after the one before it, stands after all before it
-pub ascends_more : (paths : List (List ℕ)) (i : ℕ) (path other : List ℕ) → 1 ≤ i → i < length paths → path ≡ slice_index_or paths (i - 1) path → other ≡ slice_index_or paths i other → IsBefore path other → AscendsBelow paths i → AscendsBelow paths (i + 1)
-ascends_more paths i path other some within first second before ascends =
-    below_more (λ later. (k : ℕ) (d : List ℕ) → k < later → IsBefore (slice_index_or paths k d) (slice_index_or paths later d)) i ascends
+-- one more element, which stands after the one before it, stands after all before it
+pub ascends_more : {X : Type 0} (path : X → List ℕ) (xs : List X) (i : ℕ) (x y : X) → 1 ≤ i → i < length xs → x ≡ slice_index_or xs (i - 1) x → y ≡ slice_index_or xs i y → IsBefore (path x) (path y) → AscendsBelow path xs i → AscendsBelow path xs (i + 1)
+ascends_more {X} path xs i x y some within first second before ascends =
+    below_more (λ later. (k : ℕ) (d : X) → k < later → IsBefore (path (slice_index_or xs k d)) (path (slice_index_or xs later d))) i ascends
     (λ k d lt.
-    let step : IsBefore (slice_index_or paths (i - 1) d) (slice_index_or paths i d) =
-    subst (λ p. IsBefore p (slice_index_or paths i d)) (get_or_read paths (i - 1) path (omega arith) first d)
-    (subst (IsBefore path) (get_or_read paths i other within second d) before) in
-    let earlier : (j : ℕ) → j < i - 1 → IsBefore (slice_index_or paths j d) (slice_index_or paths i d) =
-    λ j h. nat_list_cmp_total.trans (slice_index_or paths j d) (slice_index_or paths (i - 1) d) (slice_index_or paths i d) (ascends (i - 1) (omega arith) j d h) step in
-    below_more (λ j. IsBefore (slice_index_or paths j d) (slice_index_or paths i d)) (i - 1) earlier step k (omega arith))
+    let step : IsBefore (path (slice_index_or xs (i - 1) d)) (path (slice_index_or xs i d)) =
+    subst (λ (z : X). IsBefore (path z) (path (slice_index_or xs i d))) (get_or_read xs (i - 1) x (omega arith) first d)
+    (subst (λ (z : X). IsBefore (path x) (path z)) (get_or_read xs i y within second d) before) in
+    let earlier : (j : ℕ) → j < i - 1 → IsBefore (path (slice_index_or xs j d)) (path (slice_index_or xs i d)) =
+    λ j h. nat_list_cmp_total.trans (path (slice_index_or xs j d)) (path (slice_index_or xs (i - 1) d)) (path (slice_index_or xs i d)) (ascends (i - 1) (omega arith) j d h) step in
+    below_more (λ j. IsBefore (path (slice_index_or xs j d)) (path (slice_index_or xs i d))) (i - 1) earlier step k (omega arith))
 
 -- paths of which one doesn't stand after the one before it don't ascend
 pub not_ascending : (paths : List (List ℕ)) (i : ℕ) (path other : List ℕ) → 1 ≤ i → i < length paths → path ≡ slice_index_or paths (i - 1) path → other ≡ slice_index_or paths i other → (IsBefore path other → ⊥) → Ascends paths → ⊥
