@@ -75,10 +75,6 @@ index_after_void is_true old h can = record {
   ready = tt;
 }
 
--- what can be listed as void was prepared
-pub void_prepared : (p : Prepared) (rows : List RowFacts) → CanBeVoid p rows → p ≢ Nothing
-void_prepared p rows can e = subst (λ (q : Prepared). CanBeVoid q rows) e can
-
 -- the name of what was found by its path has the path
 pub has_path : (path : List ℕ) (rows : List RowFacts) (row : RowFacts) (name : NameFacts) → row_at path rows ≡ Some row → name ≡ row.name → name.path ≡ path
 has_path path rows row name e same =
