@@ -1,19 +1,19 @@
 -- The parts of a pass, after one slot has changed.
-use Rattle.std.proofs.Common.{◌≡◌, ℕ, zero, suc, ◌+◌, ◌≤◌, ◌<◌, ◌&&◌, Bool, true, false, Option, Some, None, List, [], ◌∷◌, length, map, take, All, refl, sym, ◌∙◌, ap, subst, arith, slice_index_or, slice_set, length-set}
-use Rattle.std.specs.List.{AllByRecursion, AllPairs, cons_option, filter_map, list_all}
+use Rattle.std.proofs.Common.{◌≡◌, ℕ, zero, suc, ◌<◌, ◌&&◌, Bool, true, false, Option, Some, None, List, [], ◌∷◌, length, map, take, refl, sym, ◌∙◌, ap, subst, arith, slice_index_or, slice_set, length-set}
+use Rattle.std.specs.List.{AllPairs, cons_option, filter_map, list_all}
 use Rattle.std.specs.Prelude.{count_by, is_some}
-use Rattle.std.proofs.lemmas.Bool.{and_from, and_parts, false≢true}
+use Rattle.std.proofs.lemmas.Bool.{and_parts, false≢true}
 use Rattle.std.proofs.lemmas.List.{get_or-map, map-set, set-get_or, take_all}
 use Rattle.std.proofs.lemmas.List.Elements.{All-set, All-weaker}
 use Rattle.row_types.specs.Name.{NameFacts}
-use Rattle.scan_queue.specs.Pass.{Adds, IsWhole, PassFacts, Takes}
+use Rattle.scan_queue.specs.Pass.{IsWhole, Takes}
 use Rattle.scan_queue.specs.Slots.{AreOrdered, AreSlots, HasCopy, IsLaidOut, IsMark, IsSlot, Key, KeyPrecedes, at_groom, at_missed, at_out, at_todo, facts_of, groom_of, is_done, is_groom, is_missed, is_out, is_todo, key_of, miss_of, out_of, todo_of}
 use Rattle.scan_queue.specs.declared.miss.Miss.{Miss}
 use Rattle.scan_queue.specs.declared.slot.Place.{Place}
 use Rattle.scan_queue.specs.declared.slot.Place.TheVariants.{Todo, Out, Groom, Missed, Done}
 use Rattle.scan_queue.specs.declared.slot.Slot.{Slot}
 use Rattle.scan_queue.proofs.Passes.{same_pass}
-use Rattle.scan_queue.proofs.Picks.{becomes, comes, first_goes, length_picked, none_picked, stays, was}
+use Rattle.scan_queue.proofs.Picks.{becomes, comes, first_goes, length_picked, stays, was}
 
 -- a slot that keeps its key leaves the slots in order
 order_kept : (slots : List Slot) (i : ℕ) (d y : Slot) → i < length slots → key_of y ≡ key_of (slice_index_or slots i d) → AreOrdered slots → AreOrdered (slice_set slots i y)

@@ -1,14 +1,14 @@
 -- A name leaves the pass.
-use Rattle.std.proofs.Common.{◌≡◌, ℕ, zero, suc, ◌+◌, ◌≤◌, ◌<◌, ◌||◌, inl, inr, Bool, true, false, not, cond, Option, Some, None, List, [], ◌∷◌, ◌++◌, length, map, take, drop, All, refl, sym, ◌∙◌, ap, subst, arith, slice_index_or, slice_set, length-drop, length-take}
+use Rattle.std.proofs.Common.{◌≡◌, ℕ, ◌+◌, ◌<◌, ◌||◌, inl, inr, Bool, true, false, not, Option, Some, None, List, [], ◌∷◌, ◌++◌, length, take, drop, All, refl, sym, ◌∙◌, ap, subst, arith, slice_index_or, slice_set, length-drop, length-take}
 use Rattle.std.specs.Prelude.{filter}
-use Rattle.std.specs.List.{AllByRecursion, AllPairs, cons_option, filter_map, list_any}
+use Rattle.std.specs.List.{AllByRecursion, cons_option, filter_map, list_any}
 use Rattle.std.proofs.lemmas.Bool.{cases_eq, cases_lt, cond-false, cond-true, false≢true, false_from_ne_true, not_from_false, not_from_true, or_from, or_left, or_right}
 use Rattle.std.proofs.lemmas.List.{get_or-drop, get_or-take, get_or_default}
 use Rattle.std.proofs.lemmas.List.Elements.{filter-append, recursion_from_All}
 use Rattle.std.proofs.lemmas.List.Folds.{list_any-append}
 use Rattle.row_types.specs.Name.{NameFacts}
 use Rattle.scan_queue.specs.Names.{is_in, same_name, without}
-use Rattle.scan_queue.specs.Pass.{PassFacts, Precedes, left, missed_names, misses_without, names_of}
+use Rattle.scan_queue.specs.Pass.{left, missed_names, misses_without, names_of}
 use Rattle.scan_queue.specs.Slots.{AreSlots, HasNameAt, IsNotHeld, at_groom, at_missed, at_out, at_todo, facts_of, groom_of, is_done, miss_of, out_of, todo_of}
 use Rattle.scan_queue.specs.declared.miss.Miss.{Miss}
 use Rattle.scan_queue.specs.declared.slot.Place.{Place}

@@ -1,14 +1,13 @@
 -- The slots of the names of a listing and of current names, by one walk over both.
-use Rattle.std.proofs.Common.{◌≡◌, ℕ, ◌+◌, ◌<◌, ◌≤◌, ◌⊎◌, inl, inr, ◌||◌, Bool, true, false, not, cond, Option, Some, None, List, [], ◌∷◌, ◌++◌, length, map, drop, All, refl, sym, ◌∙◌, ap, subst, append_assoc, arith, slice_index_or}
-use Rattle.std.specs.Prelude.{filter}
-use Rattle.std.specs.List.{AllByRecursion, AllPairs, cons_option, filter_map}
+use Rattle.std.proofs.Common.{◌≡◌, ℕ, ◌≤◌, ◌⊎◌, inl, inr, ◌||◌, Bool, true, false, not, cond, Option, Some, None, List, [], ◌∷◌, ◌++◌, length, map, drop, refl, sym, ◌∙◌, ap, subst, append_assoc, arith}
+use Rattle.std.specs.List.{AllByRecursion, cons_option, filter_map}
 use Rattle.std.specs.Ordering.{is_eq, is_lt, nat_cmp, ordering_reverse}
 use Rattle.std.specs.Cmp.Lexicographic.{slice_cmp, texts_ties}
 use Rattle.std.specs.declared.cmp.Ordering.{Ordering}
 use Rattle.std.specs.declared.cmp.Ordering.TheVariants.{Less, Equal, Greater}
 use Rattle.std.proofs.lemmas.Bool.{cond-false, cond-true, false≢true, false_from_ne_true, not-true, not_from_false, not_from_true, or_from, or_left, or_right}
 use Rattle.std.proofs.lemmas.Cmp.{nat_list_cmp_total}
-use Rattle.std.proofs.lemmas.List.{append-nil, drop_all, drop_more}
+use Rattle.std.proofs.lemmas.List.{append-nil, drop_all}
 use Rattle.std.proofs.lemmas.List.Elements.{All-from_recursion, All-map, filter_passes, recursion_from_All}
 use Rattle.std.proofs.lemmas.List.Kept.{AllPairs-cons}
 use Rattle.std.proofs.lemmas.Slice.Eq.{bytes_eq-Decides}
@@ -16,9 +15,7 @@ use Rattle.row_types.specs.Ascends.{IsBefore}
 use Rattle.row_types.specs.Name.{NameFacts}
 use Rattle.row_types.proofs.AscendsLemmas.{before_from_test}
 use Rattle.scan_queue.specs.Names.{IsByPath, comes_before, is_in, not_in, same_name}
-use Rattle.scan_queue.specs.Pass.{PassFacts, begun}
-use Rattle.scan_queue.specs.Slots.{AreFirst, AreOrdered, IsSlot, Key, KeyPrecedes, facts_of, groom_of, key_of, listed_slot, miss_of, out_of, todo_of, unlisted_slot}
-use Rattle.scan_queue.specs.declared.miss.Miss.{Miss}
+use Rattle.scan_queue.specs.Slots.{AreFirst, AreOrdered, IsSlot, KeyPrecedes, groom_of, key_of, listed_slot, miss_of, out_of, todo_of, unlisted_slot}
 use Rattle.scan_queue.specs.declared.slot.Slot.{Slot}
 use Rattle.scan_queue.proofs.Picks.{head_pairs, none_picked, tail_pairs, weaken}
 use Rattle.scan_queue.proofs.Passes.{same_pass}
