@@ -1,16 +1,14 @@
 -- Paths of entries: they are canonical, and lie under what their folders lie under.
-use Rattle.std.proofs.Common.{◌≡◌, ℕ, ◌+◌, ◌≤◌, ◌<◌, ◌||◌, ◌&&◌, ◌⊎◌, inl, inr, Bool, true, false, not, cond, List, [], ◌∷◌, ◌++◌, length, drop, All, nat_eq, refl, sym, ◌∙◌, ap, subst, append_assoc, length-append, arith}
+use Rattle.std.proofs.Common.{◌≡◌, ℕ, ◌+◌, ◌≤◌, ◌<◌, ◌||◌, ◌&&◌, inl, inr, true, false, not, cond, List, [], ◌∷◌, ◌++◌, length, drop, nat_eq, refl, sym, ◌∙◌, ap, subst, append_assoc, length-append, arith}
 use Rattle.std.specs.Prelude.{◌==◌, if◌then◌else◌}
-use Rattle.std.specs.List.{onto_first, list_all, starts_with, join_with_byte, count_by}
+use Rattle.std.specs.List.{onto_first, list_all, starts_with, count_by}
 use Rattle.std.specs.Str.{bytes_eq}
-use Rattle.std.proofs.lemmas.Bool.{false≢true, false_from_ne_true, not-true, eqb-true, and_parts, and_from, or_cases, cases_lt}
-use Rattle.std.proofs.lemmas.Bool.Decides.{Decides-eqb}
+use Rattle.std.proofs.lemmas.Bool.{false≢true, false_from_ne_true, eqb-true, and_parts, and_from, or_cases, cases_lt}
 use Rattle.std.proofs.lemmas.List.{append-nil}
 use Rattle.std.proofs.lemmas.List.Folds.{list_all-append}
 use Rattle.std.proofs.lemmas.List.Splits.{length-slice_split, slice_split_none}
-use Rattle.std.proofs.lemmas.List.Sums.{AllPass-from_list_all}
-use Rattle.std.proofs.lemmas.Slice.Eq.{bytes_eq-Decides, starts_is}
-use Rattle.row_types.specs.Canon.{pieces, canon, stays, is_plain_tail, has_form, IsCanonical, IsCanonPath}
+use Rattle.std.proofs.lemmas.Slice.Eq.{bytes_eq-Decides}
+use Rattle.row_types.specs.Canon.{pieces, stays, is_plain_tail, has_form, IsCanonical}
 use Rattle.row_types.specs.declared.limits.TheConstants.{SEPARATOR}
 use Rattle.row_types.proofs.CanonLemmas.{canon_of_form, form_of_canon, no_slash, pieces_no_slash}
 use Rattle.tree_trait.specs.Dir.{child}

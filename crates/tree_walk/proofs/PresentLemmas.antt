@@ -1,9 +1,9 @@
 -- The listing of a tree that is told and still: the files that are there under the roots.
-use Rattle.std.proofs.Common.{◌≡◌, ℕ, ◌+◌, ◌≤◌, ◌<◌, ◌||◌, ◌&&◌, ◌⊎◌, inl, inr, Bool, true, false, not, cond, List, [], ◌∷◌, ◌++◌, length, drop, map, Option, Some, None, option_map, is_some, IsSome, All, Contains, IsTrue, refl, sym, ◌∙◌, ap, subst, append_assoc, length-append, arith}
+use Rattle.std.proofs.Common.{◌≡◌, ℕ, ◌+◌, ◌≤◌, ◌<◌, inl, inr, Bool, true, false, not, cond, List, [], ◌∷◌, ◌++◌, length, drop, map, Some, None, option_map, IsSome, All, Contains, refl, sym, ◌∙◌, ap, subst, append_assoc, length-append, arith}
 use Rattle.std.specs.Prelude.{◌==◌}
 use Rattle.std.specs.List.{list_any, list_all, find, join_with_byte}
 use Rattle.std.specs.Str.{bytes_eq}
-use Rattle.std.proofs.lemmas.Bool.{false≢true, false_from_ne_true, not-true, and_parts, and_from, or_cases, or_left, or_right}
+use Rattle.std.proofs.lemmas.Bool.{false≢true, false_from_ne_true, not-true, and_parts, or_cases, or_left, or_right}
 use Rattle.std.proofs.lemmas.List.{get_or-map, length-map}
 use Rattle.std.proofs.lemmas.List.Elements.{All-contains, Contains-append_right, Contains-append_cases, Contains-push_cases}
 use Rattle.std.proofs.lemmas.List.Folds.{list_any_at}
@@ -16,8 +16,8 @@ use Rattle.row_types.specs.Name.{NameFacts}
 use Rattle.row_types.specs.Stamp.{StampFacts}
 use Rattle.row_types.specs.declared.limits.TheConstants.{PATH_LIMIT, SEPARATOR}
 use Rattle.tree_trait.specs.Dir.{DirFacts, listed, no_dir, dir_failed, dir_no_memory, child, makes, is_there, TellsDir}
-use Rattle.tree_trait.specs.Entry.{EntryFacts, is_entry_name, has_no_slash, has_entry}
-use Rattle.tree_trait.specs.Heard.{Heard, stat, read_dir}
+use Rattle.tree_trait.specs.Entry.{EntryFacts, is_entry_name, has_entry}
+use Rattle.tree_trait.specs.Heard.{Heard}
 use Rattle.tree_trait.specs.Present.{stamp_at, are_distinct, are_apart, front_under, lies_under, is_folder}
 use Rattle.tree_trait.specs.Stat.{TellsStat}
 use Rattle.tree_trait.specs.declared.entry.EntryKind.TheVariants as kind
@@ -30,7 +30,7 @@ use Rattle.tree_walk.specs.Files.{is_within, IsFileUnder, AreFilesUnder, IsTold}
 use Rattle.tree_walk.specs.Walked.{IsNamed, IsReached, root, entry, IsEntry, IsFolder, IsCandidate, IsWalked, IsFull}
 use Rattle.tree_walk.specs.declared.walked.Walk.{Walk}
 use Rattle.tree_walk.proofs.AnswerLemmas.{place_of_first, look_says, reading_says}
-use Rattle.tree_walk.proofs.PathLemmas.{front_begins, within_child, under_from_front, names_after}
+use Rattle.tree_walk.proofs.PathLemmas.{within_child, under_from_front, names_after}
 use Rattle.tree_walk.proofs.ReachLemmas.{look_was_due}
 
 -- some element that passes, and what all pass

@@ -1,4 +1,4 @@
-use Rattle.std.proofs.Common.{List, ◌∷◌, ◌++◌, sym, ◌∙◌, subst}
+use Rattle.std.proofs.Common.{◌++◌, sym, ◌∙◌, subst}
 use Rattle.std.proofs.lemmas.Result.{MatchResult-weaker}
 use Rattle.tree_walk.specs.Search.{SearchFacts, IsUnderway}
 use Rattle.tree_walk.proofs.EndLemmas.{room_is}

@@ -1,9 +1,9 @@
-use Rattle.std.proofs.Common.{◌≡◌, ℕ, ◌<◌, ◌≤◌, inl, inr, List, ◌++◌, length, sym, ◌∙◌, ap, subst}
+use Rattle.std.proofs.Common.{◌≡◌, ◌<◌, ◌≤◌, inl, inr, List, ◌++◌, length, sym, ◌∙◌, ap, subst}
 use Rattle.std.proofs.lemmas.Bool.{false≢true, cases_lt}
 use Rattle.tree_trait.specs.Entry.{EntryFacts}
 use Rattle.tree_walk.specs.Search.{SearchFacts, IsUnderway, paid, with_last}
 use Rattle.tree_walk.proofs.EndLemmas.{room_is}
-use Rattle.tree_walk.proofs.FileLemmas.{IsReadInto, read_into, read_over}
+use Rattle.tree_walk.proofs.FileLemmas.{read_into, read_over}
 use Rattle.tree_walk.proofs.GoesLemmas.{goes_on, goes_up, call_fault}
 use Rattle.tree_walk.proofs.top.read_entries.Goals as goal
 
