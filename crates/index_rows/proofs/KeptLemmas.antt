@@ -1,17 +1,16 @@
 -- An index's rows after a change.
-use Rattle.std.proofs.Common.{◌≡◌, ◌≢◌, ℕ, ◌<◌, ◌≤◌, List, [], ◌∷◌, ◌++◌, length, Option, Some, None, refl, sym, ◌∙◌, ap, subst, arith, length-append}
-use Rattle.std.specs.Prelude.{IsSome, IsSomeAnd}
-use Rattle.std.specs.List.{All}
+use Rattle.std.proofs.Common.{◌≡◌, ◌≢◌, ℕ, ◌<◌, ◌≤◌, List, [], ◌∷◌, ◌++◌, length, Option, Some, refl, sym, ◌∙◌, ap, subst, arith}
+use Rattle.std.specs.Prelude.{IsSomeAnd}
 use Rattle.std.specs.Str.{bytes_eq}
 use Rattle.std.proofs.lemmas.List.{length_push}
 use Rattle.std.proofs.lemmas.List.Elements.{All-filter}
 use Rattle.std.proofs.lemmas.Slice.Eq.{bytes_eq-Decides}
 use Rattle.row_types.specs.Name.{NameFacts}
 use Rattle.row_types.specs.Row.{RowFacts}
-use Rattle.index_rows.specs.ByPath.{AscendsBy, find_at}
+use Rattle.index_rows.specs.ByPath.{AscendsBy}
 use Rattle.index_rows.specs.Kept.{HasRoom, IsKept}
 use Rattle.index_rows.specs.Log.{put_of, drop_of, replay}
-use Rattle.index_rows.specs.Rows.{RowsFacts, path_of, names_of, row_at, Stands, IsReady, IsDropOf, IsIndex, with_row, without_row, after_put, after_drop, after_void, CanBeVoid, void_of}
+use Rattle.index_rows.specs.Rows.{RowsFacts, path_of, names_of, row_at, IsReady, IsDropOf, IsIndex, with_row, without_row, after_put, after_drop, after_void, CanBeVoid, void_of}
 use Rattle.index_rows.specs.declared.change.Change.{Change}
 use Rattle.index_rows.specs.declared.prepared.Prepared.{Prepared}
 use Rattle.index_rows.specs.declared.prepared.Prepared.TheVariants.{Nothing, Put, Drop}
@@ -74,10 +73,6 @@ index_after_void is_true old h can = record {
   bounded = void_bounded old.prepared old.rows old.log h.ready can;
   ready = tt;
 }
-
--- what can be listed as void was prepared
-pub void_prepared : (p : Prepared) (rows : List RowFacts) → CanBeVoid p rows → p ≢ Nothing
-void_prepared p rows can e = subst (λ (q : Prepared). CanBeVoid q rows) e can
 
 -- the name of what was found by its path has the path
 pub has_path : (path : List ℕ) (rows : List RowFacts) (row : RowFacts) (name : NameFacts) → row_at path rows ≡ Some row → name ≡ row.name → name.path ≡ path

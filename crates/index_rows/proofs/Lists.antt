@@ -1,10 +1,11 @@
 -- Filters, finds and pairs of lists.
-use Rattle.std.proofs.Common.{map, ◌≡◌, ℕ, ◌+◌, ◌<◌, suc, Bool, true, false, cond, List, [], ◌∷◌, ◌++◌, length, get_or, take, drop, Option, Some, None, refl, sym, ◌∙◌, ap, subst, arith}
-use Rattle.std.specs.List.{All, AllPairs, Contains, filter, find}
+use Rattle.std.proofs.Common.{map, ◌≡◌, ℕ, ◌<◌, suc, Bool, true, false, cond, List, [], ◌∷◌, ◌++◌, length, get_or, take, drop, Some, None, refl, sym, ◌∙◌, ap, subst, arith}
+use Rattle.std.specs.List.{All, AllPairs, filter, find}
 use Rattle.std.proofs.lemmas.Option.{none-some}
 use Rattle.std.proofs.lemmas.List.{append-nil, set-get_or, set_split}
 use Rattle.std.proofs.lemmas.List.Elements.{All-head, All-tail, All-append, filter-append}
 use Rattle.std.proofs.lemmas.List.Kept.{AllPairs-cons}
+pub use Rattle.row_types.proofs.AscendsLemmas.{first_related, rest_related}
 
 -- a test that is always true keeps all
 pub filter_true : {X : Type 0} (xs : List X) → filter (λ _. true) xs ≡ xs
@@ -107,14 +108,6 @@ found_there p (y ∷ ys) x e =
 
     behind : IsFound p ys x → IsFound p (y ∷ ys) x
     behind found = record { place = suc found.place; within = omega (arith, found.within); there = found.there; passes = found.passes }
-
--- the first is related to each later one
-pub first_related : {X : Type 0} (R : X → X → Type 0) (x : X) (xs : List X) → AllPairs R (x ∷ xs) → All (R x) xs
-first_related R x xs h = λ k d within. h 0 (suc k) d (omega arith) (omega (arith, within))
-
--- the later ones are related
-pub rest_related : {X : Type 0} (R : X → X → Type 0) (x : X) (xs : List X) → AllPairs R (x ∷ xs) → AllPairs R xs
-rest_related R x xs h = λ i j d later within. h (suc i) (suc j) d (omega (arith, later)) (omega (arith, within))
 
 -- the pairs of two lists, and those across
 pub all_pairs_append : {X : Type 0} (R : X → X → Type 0) (xs ys : List X) → AllPairs R xs → AllPairs R ys → All (λ x. All (R x) ys) xs → AllPairs R (xs ++ ys)

@@ -1,13 +1,11 @@
 -- Lists in path order: their places, and what puts and drops make of them.
-use Rattle.std.proofs.Common.{map, ◌≡◌, ℕ, ◌+◌, ◌-◌, ◌<◌, ◌≤◌, suc, min, Bool, true, false, not, List, [], ◌∷◌, ◌++◌, length, get_or, set, take, drop, Option, Some, None, Result, Ok, Err, refl, sym, ◌∙◌, ap, subst, arith}
-use Rattle.std.specs.List.{All, AllPairs, Contains, HoldsAt, filter, find, insert, remove}
+use Rattle.std.proofs.Common.{map, ◌≡◌, ℕ, ◌+◌, ◌<◌, ◌≤◌, suc, true, false, not, List, ◌∷◌, ◌++◌, length, get_or, set, take, drop, Some, None, Result, Ok, Err, sym, ◌∙◌, ap, subst, arith}
+use Rattle.std.specs.List.{All, HoldsAt, filter, find, insert, remove}
 use Rattle.std.specs.List.Sorted.{IsBinarySearchResult, IsSearchInRange, IsSortedBy}
-use Rattle.std.specs.Ordering.{nat_cmp, is_lt, is_eq, ordering_index, ordering_reverse}
+use Rattle.std.specs.Ordering.{nat_cmp, is_lt, is_eq, ordering_reverse}
 use Rattle.std.specs.Cmp.Lexicographic.{slice_cmp}
 use Rattle.std.specs.Str.{bytes_eq}
-use Rattle.std.specs.declared.cmp.Ordering.{Ordering}
-use Rattle.std.proofs.lemmas.Bool.{false≢true}
-use Rattle.std.specs.declared.cmp.Ordering.TheVariants.{Less, Equal, Greater}
+use Rattle.std.specs.declared.cmp.Ordering.TheVariants.{Less, Greater}
 use Rattle.std.proofs.lemmas.Cmp.{nat_list_cmp_total, tied_itself}
 use Rattle.std.proofs.lemmas.Map.Lookups.{exact_bytes}
 use Rattle.std.proofs.lemmas.Map.Text.{is_eq-slice_cmp}
@@ -17,6 +15,7 @@ use Rattle.std.proofs.lemmas.List.Elements.{All-append, All-cons, All-filter, Al
 use Rattle.std.proofs.lemmas.List.Kept.{AllPairs-cons, AllPairs-filter}
 use Rattle.std.proofs.lemmas.List.Sorted.{searchable_from_sorted}
 use Rattle.row_types.specs.Ascends.{IsBefore}
+use Rattle.row_types.proofs.AscendsLemmas.{before_differs, before_from_test}
 use Rattle.index_rows.specs.ByPath.{is_before, AscendsBy, put_at, find_at, without}
 use Rattle.index_rows.specs.Places.{StandsAt, BelongsAt, IsPlace}
 use Rattle.index_rows.proofs.Lists.{filter_all, filter_none, filter_front, filter_back, filter_skips, filter_but, around, split_place, find_none, find_first, map_filter, all_pairs_append, IsFound, found_there}
@@ -41,22 +40,9 @@ fails_after path other before = ap is_lt (after_before path other before)
 pub fails_itself : (path other : List ℕ) → path ≡ other → is_before path other ≡ false
 fails_itself path other same = ap (λ p. is_before p other) same ∙ ap is_lt (tied_itself nat_list_cmp_total other)
 
--- paths of which one stands before the other differ
-pub differs_before : (path other : List ℕ) → IsBefore path other → bytes_eq path other ≡ false
-differs_before path other before = sym (is_eq-slice_cmp path other) ∙ ap is_eq before
-
--- the same the other way round
+-- a path that stands after another differs from it
 pub differs_after : (path other : List ℕ) → IsBefore path other → bytes_eq other path ≡ false
 differs_after path other before = sym (is_eq-slice_cmp other path) ∙ ap is_eq (after_before path other before)
-
--- the test says what it tests
-pub from_test : (path other : List ℕ) → is_before path other ≡ true → IsBefore path other
-from_test path other passes = of_less (slice_cmp nat_cmp path other) passes
-  where
-    of_less : (o : Ordering) → is_lt o ≡ true → o ≡ Less
-    of_less Less e = refl
-    of_less Equal e = absurd (false≢true e)
-    of_less Greater e = absurd (false≢true e)
 
 -- what stands before a place that has the path
 pub below_place : {X : Type 0} (path : X → List ℕ) (key : List ℕ) (xs : List X) (place : ℕ) → AscendsBy path xs → place < length xs → HoldsAt (λ x. path x ≡ key) xs place → All (λ x. IsBefore (path x) key) (take place xs)
@@ -158,7 +144,7 @@ pub removed : {X : Type 0} (path : X → List ℕ) (key : List ℕ) (xs : List X
 removed {X} path key xs place d h =
     sym (ap (filter (λ x. not (bytes_eq (path x) key))) (split_place xs place d h.within)
     ∙ filter_but (λ x. not (bytes_eq (path x) key)) (take place xs) (get_or xs place d) (drop (suc place) xs)
-    (All-weaker (λ x. IsBefore (path x) key) (λ x. not (bytes_eq (path x) key) ≡ true) (λ x before. ap not (differs_before (path x) key before)) (take place xs) h.below)
+    (All-weaker (λ x. IsBefore (path x) key) (λ x. not (bytes_eq (path x) key) ≡ true) (λ x before. ap not (before_differs (path x) key before)) (take place xs) h.below)
     (ap not ((bytes_eq-Decides (path (get_or xs place d)) key).1 (h.here d)))
     (All-weaker (λ x. IsBefore key (path x)) (λ x. not (bytes_eq (path x) key) ≡ true) (λ x after. ap not (differs_after key (path x) after)) (drop (suc place) xs) h.above))
 
@@ -167,7 +153,7 @@ pub found_standing : {X : Type 0} (path : X → List ℕ) (key : List ℕ) (xs :
 found_standing path key xs place d h =
     ap (find (λ x. bytes_eq (path x) key)) (split_place xs place d h.within)
     ∙ find_first (λ x. bytes_eq (path x) key) (take place xs) (get_or xs place d) (drop (suc place) xs)
-    (All-weaker (λ x. IsBefore (path x) key) (λ x. bytes_eq (path x) key ≡ false) (λ x. differs_before (path x) key) (take place xs) h.below)
+    (All-weaker (λ x. IsBefore (path x) key) (λ x. bytes_eq (path x) key ≡ false) (λ x. before_differs (path x) key) (take place xs) h.below)
     ((bytes_eq-Decides (path (get_or xs place d)) key).1 (h.here d))
 
 -- what doesn't stand isn't found
@@ -176,7 +162,7 @@ not_standing path key xs place h =
     ap (find (λ x. bytes_eq (path x) key)) (sym (take-append-drop place xs))
     ∙ find_none (λ x. bytes_eq (path x) key) (take place xs ++ drop place xs)
     (All-append (λ x. bytes_eq (path x) key ≡ false) (take place xs) (drop place xs)
-    (All-weaker (λ x. IsBefore (path x) key) (λ x. bytes_eq (path x) key ≡ false) (λ x. differs_before (path x) key) (take place xs) h.below)
+    (All-weaker (λ x. IsBefore (path x) key) (λ x. bytes_eq (path x) key ≡ false) (λ x. before_differs (path x) key) (take place xs) h.below)
     (All-weaker (λ x. IsBefore key (path x)) (λ x. bytes_eq (path x) key ≡ false) (λ x. differs_after key (path x)) (drop place xs) h.above))
 
 -- a put keeps the order
@@ -200,10 +186,10 @@ put_ascends {X} path x xs ascends =
     back = filter (λ y. is_before (path x) (path y)) xs
 
     ahead : All (λ y. IsBefore (path y) (path x)) front
-    ahead = All-weaker (λ y. is_before (path y) (path x) ≡ true) (λ y. IsBefore (path y) (path x)) (λ y. from_test (path y) (path x)) front (filter_passes (λ y. is_before (path y) (path x)) xs)
+    ahead = All-weaker (λ y. is_before (path y) (path x) ≡ true) (λ y. IsBefore (path y) (path x)) (λ y. before_from_test (path y) (path x)) front (filter_passes (λ y. is_before (path y) (path x)) xs)
 
     behind : All (Before x) back
-    behind = All-weaker (λ y. is_before (path x) (path y) ≡ true) (Before x) (λ y. from_test (path x) (path y)) back (filter_passes (λ y. is_before (path x) (path y)) xs)
+    behind = All-weaker (λ y. is_before (path x) (path y) ≡ true) (Before x) (λ y. before_from_test (path x) (path y)) back (filter_passes (λ y. is_before (path x) (path y)) xs)
 
 -- the others keep the order
 pub without_ascends : {X : Type 0} (path : X → List ℕ) (key : List ℕ) (xs : List X) → AscendsBy path xs → AscendsBy path (without path key xs)

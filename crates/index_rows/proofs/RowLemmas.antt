@@ -1,8 +1,8 @@
 -- What puts, drops and void changes make of the rows' names and of the log.
-use Rattle.std.proofs.Common.{map, ◌≡◌, ℕ, ◌<◌, ◌≤◌, ◌&&◌, Bool, true, false, not, List, [], ◌∷◌, ◌++◌, length, get_or, Option, Some, None, refl, sym, ◌∙◌, ap, subst, nat_eq}
-use Rattle.std.specs.Prelude.{ℤ, IsSomeAnd, IsSome}
+use Rattle.std.proofs.Common.{◌≡◌, ℕ, ◌<◌, ◌&&◌, Bool, true, false, not, List, [], ◌∷◌, ◌++◌, length, get_or, Option, Some, None, refl, sym, ◌∙◌, ap, subst, nat_eq}
+use Rattle.std.specs.Prelude.{IsSomeAnd}
 use Rattle.std.specs.Bool.{Decides}
-use Rattle.std.specs.List.{All, filter, fold}
+use Rattle.std.specs.List.{All, filter}
 use Rattle.std.specs.Ordering.{int_eq}
 use Rattle.std.specs.Str.{bytes_eq}
 use Rattle.std.proofs.lemmas.Bool.Decides.{Decides-eqb, Decides-int_eq, Decides-and}
@@ -13,6 +13,7 @@ use Rattle.std.proofs.lemmas.List.Sums.{fold_push}
 use Rattle.row_types.specs.Name.{NameFacts}
 use Rattle.row_types.specs.Row.{RowFacts}
 use Rattle.row_types.specs.Stamp.{StampFacts}
+use Rattle.row_types.proofs.PartLemmas.{names_same, stamps_same}
 use Rattle.index_rows.specs.ByPath.{AscendsBy, put_at, find_at}
 use Rattle.index_rows.specs.Log.{put_of, drop_of, same_stamp, same_name, after_change, replay}
 use Rattle.index_rows.specs.Rows.{path_of, names_of, row_at, with_row, without_row, Stands}
@@ -28,22 +29,6 @@ path_in name = name.path
 abbrev pub is_other : NameFacts → NameFacts → Bool
 is_other name other = not (same_name other name)
 
--- a stamp of its parts
-stamp_from : ℕ → ℤ → ℕ → StampFacts
-stamp_from size secs nanos = record { size = size; secs = secs; nanos = nanos }
-
--- a name of its parts
-name_from : List ℕ → StampFacts → NameFacts
-name_from path stamp = record { path = path; stamp = stamp }
-
--- stamps of the same parts are the same
-stamps_same : (a b : ℕ) (c d : ℤ) (e f : ℕ) → a ≡ b → c ≡ d → e ≡ f → stamp_from a c e ≡ stamp_from b d f
-stamps_same a b c d e f p q r = cc
-
--- names of the same parts are the same
-names_same : (a b : List ℕ) (c d : StampFacts) → a ≡ b → c ≡ d → name_from a c ≡ name_from b d
-names_same a b c d p q = cc
-
 -- the test of stamps
 stamp_decides : (a b : StampFacts) → Decides (same_stamp a b) ((a.size ≡ b.size) × (a.secs ≡ b.secs) × (a.nanos ≡ b.nanos))
 stamp_decides a b =
@@ -57,7 +42,6 @@ same_itself a b e = (stamp_decides a b).1 (ap (λ (s : StampFacts). s.size) e, a
 
 -- names that pass the test are the same
 pub same_by_test : (a b : NameFacts) → same_name a b ≡ true → a ≡ b
-unfolding stamp_from name_from
 same_by_test a b e =
     let parts = (Decides-and (bytes_eq a.path b.path) (same_stamp a.stamp b.stamp) (bytes_eq-Decides a.path b.path) (stamp_decides a.stamp b.stamp)).0 e in
     names_same a.path b.path a.stamp b.stamp parts.0 (stamps_same a.stamp.size b.stamp.size a.stamp.secs b.stamp.secs a.stamp.nanos b.stamp.nanos parts.1.0 parts.1.1 parts.1.2)

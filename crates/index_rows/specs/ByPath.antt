@@ -1,5 +1,5 @@
 -- Lists in path order (this project's rule): what stands there has a path, by whose bytes it is ordered.
-use Rattle.std.specs.Prelude.{◌≡◌, ℕ, Bool, not, List, ◌∷◌, ◌++◌, filter}
+use Rattle.std.specs.Prelude.{ℕ, Bool, not, List, ◌∷◌, ◌++◌, filter}
 use Rattle.std.specs.List.{AllPairs, find}
 use Rattle.std.specs.Prelude.{Option}
 use Rattle.std.specs.Ordering.{nat_cmp, is_lt}

@@ -1,5 +1,5 @@
 -- The log (this project's rule): the changes that made the rows' names, in order.
-use Rattle.std.specs.Prelude.{ℕ, ◌&&◌, Bool, true, false, not, if◌then◌else◌, List, [], filter, fold, nat_eq}
+use Rattle.std.specs.Prelude.{◌&&◌, Bool, true, false, not, if◌then◌else◌, List, [], filter, fold, nat_eq}
 use Rattle.std.specs.Ordering.{int_eq}
 use Rattle.std.specs.Str.{bytes_eq}
 use Rattle.row_types.specs.Name.{NameFacts}

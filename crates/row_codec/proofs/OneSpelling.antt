@@ -13,6 +13,7 @@ use Rattle.row_types.specs.Row.{RowFacts}
 use Rattle.row_types.specs.Stamp.{StampFacts}
 use Rattle.row_types.specs.declared.reading.Reading.{Reading}
 use Rattle.row_types.specs.declared.reading.Reading.TheVariants.{Plain, Elf}
+use Rattle.row_types.proofs.PartLemmas.{names_same, rows_same, stamps_same}
 use Rattle.row_codec.specs.Spelled.{IsPathText, IsStamp, AreSources, IsSpelledReading}
 use Rattle.row_codec.specs.RowBytes.{four_bytes, eight_bytes, text_bytes, stamp_bytes, why_byte, flags_byte, ident_bytes, sources_bytes, reading_bytes, IsRowBytes}
 
@@ -72,14 +73,8 @@ stamp_front s t us vs p q e =
     let first = eight_front s.size t.size _ _ p.size q.size apart in
     let second = eight_front (cast_unsigned w64 s.secs) (cast_unsigned w64 t.secs) _ _ (unsigned_below s.secs p.secs) (unsigned_below t.secs q.secs) first.1 in
     let third = four_front s.nanos t.nanos us vs (omega (arith, p.nanos)) (omega (arith, q.nanos)) second.1 in
-    (same_stamp s.size t.size s.secs t.secs s.nanos t.nanos first.0 (same_secs s.secs t.secs p.secs q.secs second.0) third.0, third.1)
+    (stamps_same s.size t.size s.secs t.secs s.nanos t.nanos first.0 (same_secs s.secs t.secs p.secs q.secs second.0) third.0, third.1)
   where
-    stamp_of : ℕ → ℤ → ℕ → StampFacts
-    stamp_of size secs nanos = record { size = size; secs = secs; nanos = nanos }
-
-    same_stamp : (a b : ℕ) (y z : ℤ) (m n : ℕ) → a ≡ b → y ≡ z → m ≡ n → stamp_of a y m ≡ stamp_of b z n
-    same_stamp a b y z m n p q r = cc
-
     unsigned_below : (z : ℤ) → FitsSigned w64 z → cast_unsigned w64 z < 2 ^ 64
     unsigned_below (pos n) h = omega (arith, h.sfits)
     unsigned_below (negsuc n) h = omega arith
@@ -185,10 +180,4 @@ one_row a b bytes p q =
     let path = text_front a.name.path b.name.path _ _ (short_path a.name.path p.spelled.path) (short_path b.name.path q.spelled.path) apart in
     let stamp = stamp_front a.name.stamp b.name.stamp _ _ p.spelled.stamp q.spelled.stamp path.1 in
     let reading = reading_same a.reading b.reading p.spelled.reading q.spelled.reading stamp.1 in
-    same_row a.edition b.edition a.name.path b.name.path a.name.stamp b.name.stamp a.reading b.reading edition.0 path.0 stamp.0 reading
-  where
-    row_of : ℕ → List ℕ → StampFacts → Reading → RowFacts
-    row_of edition path stamp reading = record { name = record { path = path; stamp = stamp }; edition = edition; reading = reading }
-
-    same_row : (e f : ℕ) (p q : List ℕ) (s t : StampFacts) (r u : Reading) → e ≡ f → p ≡ q → s ≡ t → r ≡ u → row_of e p s r ≡ row_of f q t u
-    same_row e f p q s t r u a b c d = cc
+    rows_same a.name b.name a.edition b.edition a.reading b.reading (names_same a.name.path b.name.path a.name.stamp b.name.stamp path.0 stamp.0) edition.0 reading

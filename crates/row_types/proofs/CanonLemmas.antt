@@ -3,7 +3,7 @@ use Rattle.std.proofs.Common.{◌≡◌, ℕ, zero, suc, ◌+◌, ◌-◌, ◌||
 use Rattle.std.specs.Prelude.{◌==◌, if◌then◌else◌}
 use Rattle.std.specs.List.{onto_first, list_all, join_with_byte, count_by}
 use Rattle.std.specs.Str.{bytes_eq}
-use Rattle.std.proofs.lemmas.Bool.{eqb-true}
+use Rattle.std.proofs.lemmas.Bool.{eqb-true, not-true, and_from}
 use Rattle.std.proofs.lemmas.Bool.Decides.{same_from_decides}
 use Rattle.std.proofs.lemmas.List.{append-nil}
 use Rattle.std.proofs.lemmas.List.Folds.{list_all-append}
@@ -21,9 +21,6 @@ left_true false b h = h
 pub right_true : (a b : Bool) → (a && b) ≡ true → b ≡ true
 right_true true b h = h
 right_true false b h = cc
-
-both_true : (a b : Bool) → a ≡ true → b ≡ true → (a && b) ≡ true
-both_true a b p q = cc
 
 -- the last choice, where none of the tests passed
 chosen : {X : Type 0} (e d dd : Bool) (x y z : X) → not (e || d || dd) ≡ true → (if e || d then x else if dd then y else z) ≡ z
@@ -64,14 +61,14 @@ canon_of_tail : (tail : List ℕ) → is_plain_tail tail ≡ true → canon (SEP
 canon_of_tail [] h = refl
 canon_of_tail (b ∷ rest) h = canon_of_pieces (b ∷ rest) h
 
-canon_of_form : (text : List ℕ) → has_form text ≡ true → canon text ≡ text
+pub canon_of_form : (text : List ℕ) → has_form text ≡ true → canon text ≡ text
 canon_of_form [] h = cc
 canon_of_form (b ∷ tail) h =
     let slash : b ≡ SEPARATOR = eqb-true b SEPARATOR (left_true _ (is_plain_tail tail) h) in
     subst (λ (first : ℕ). canon (first ∷ tail) ≡ first ∷ tail) (sym slash) (canon_of_tail tail (right_true (b == SEPARATOR) _ h))
 
 -- whether a piece has no slash in it
-abbrev has_no_slash : List ℕ → Bool
+abbrev pub has_no_slash : List ℕ → Bool
 has_no_slash piece = list_all (λ b. not (b == SEPARATOR)) piece
 
 -- whether a piece is one that is kept
@@ -80,11 +77,11 @@ is_kept piece = stays piece && has_no_slash piece
 
 -- the pieces of a text have no slash
 onto_no_slash : (b : ℕ) (parts : List (List ℕ)) → (b == SEPARATOR) ≡ false → list_all has_no_slash parts ≡ true → list_all has_no_slash (onto_first b parts) ≡ true
-onto_no_slash b [] e h = both_true _ true (both_true _ true (ap not e) refl) refl
+onto_no_slash b [] e h = and_from _ true (and_from _ true (ap not e) refl) refl
 onto_no_slash b (part ∷ parts) e h =
-    both_true _ _ (both_true _ _ (ap not e) (left_true _ (list_all has_no_slash parts) h)) (right_true (has_no_slash part) _ h)
+    and_from _ _ (and_from _ _ (ap not e) (left_true _ (list_all has_no_slash parts) h)) (right_true (has_no_slash part) _ h)
 
-pieces_no_slash : (text : List ℕ) → list_all has_no_slash (pieces text) ≡ true
+pub pieces_no_slash : (text : List ℕ) → list_all has_no_slash (pieces text) ≡ true
 pieces_no_slash [] = refl
 pieces_no_slash (b ∷ rest) =
     elim (b == SEPARATOR) as (λ v. (b == SEPARATOR) ≡ v → list_all has_no_slash (cond v ([] ∷ pieces rest) (onto_first b (pieces rest))) ≡ true)
@@ -94,29 +91,25 @@ pieces_no_slash (b ∷ rest) =
 list_all_front : (p : List ℕ → Bool) (n : ℕ) (xs : List (List ℕ)) → list_all p xs ≡ true → list_all p (take n xs) ≡ true
 list_all_front p zero xs h = refl
 list_all_front p (suc n) [] h = refl
-list_all_front p (suc n) (x ∷ xs) h = both_true _ _ (left_true _ (list_all p xs) h) (list_all_front p n xs (right_true (p x) _ h))
+list_all_front p (suc n) (x ∷ xs) h = and_from _ _ (left_true _ (list_all p xs) h) (list_all_front p n xs (right_true (p x) _ h))
 
 -- whatever the next piece is, the kept ones are kept ones
 chosen_kept : (e d dd : Bool) (kept : List (List ℕ)) (piece : List ℕ) → list_all is_kept kept ≡ true → (not (e || d || dd) ≡ true → is_kept piece ≡ true) → list_all is_kept (if e || d then kept else if dd then take (length kept - 1) kept else kept ++ piece ∷ []) ≡ true
 chosen_kept true d dd kept piece h k = h
 chosen_kept false true dd kept piece h k = h
 chosen_kept false false true kept piece h k = list_all_front is_kept (length kept - 1) kept h
-chosen_kept false false false kept piece h k = list_all-append is_kept kept (piece ∷ []) ∙ both_true _ _ h (both_true _ true (k refl) refl)
+chosen_kept false false false kept piece h k = list_all-append is_kept kept (piece ∷ []) ∙ and_from _ _ h (and_from _ true (k refl) refl)
 
 fold_kept : (rest kept : List (List ℕ)) → list_all has_no_slash rest ≡ true → list_all is_kept kept ≡ true → list_all is_kept (fold keep kept rest) ≡ true
 fold_kept [] kept h k = k
 fold_kept (piece ∷ rest) kept h k =
     fold_kept rest (keep kept piece) (right_true (has_no_slash piece) _ h)
     (chosen_kept (bytes_eq piece []) (bytes_eq piece (codes ".")) (bytes_eq piece (codes "..")) kept piece k
-    (λ s. both_true (stays piece) (has_no_slash piece) s (left_true _ (list_all has_no_slash rest) h)))
+    (λ s. and_from (stays piece) (has_no_slash piece) s (left_true _ (list_all has_no_slash rest) h)))
 
 -- no byte of such a piece is a slash
-no_slash : (piece : List ℕ) → has_no_slash piece ≡ true → All (λ b. (b == SEPARATOR) ≡ false) piece
-no_slash piece h k d within = not_true _ (AllPass-from_list_all (λ b. not (b == SEPARATOR)) piece h k d within)
-  where
-    not_true : (v : Bool) → not v ≡ true → v ≡ false
-    not_true true e = cc
-    not_true false e = refl
+pub no_slash : (piece : List ℕ) → has_no_slash piece ≡ true → All (λ b. (b == SEPARATOR) ≡ false) piece
+no_slash piece h k d within = not-true _ (AllPass-from_list_all (λ b. not (b == SEPARATOR)) piece h k d within)
 
 -- pieces that were joined are the pieces again
 pieces_of_joined : (piece : List ℕ) (rest : List (List ℕ)) → list_all is_kept (piece ∷ rest) ≡ true → pieces (join_with_byte SEPARATOR (piece ∷ rest)) ≡ piece ∷ rest
@@ -130,7 +123,7 @@ pieces_of_joined piece (next ∷ rest) h =
 kept_stay : (kept : List (List ℕ)) → list_all is_kept kept ≡ true → list_all stays kept ≡ true
 kept_stay [] h = refl
 kept_stay (piece ∷ kept) h =
-    both_true _ _ (left_true (stays piece) _ (left_true (is_kept piece) _ h)) (kept_stay kept (right_true (is_kept piece) _ h))
+    and_from _ _ (left_true (stays piece) _ (left_true (is_kept piece) _ h)) (kept_stay kept (right_true (is_kept piece) _ h))
 
 -- the tail of a path of pieces
 tail_of_pieces : (tail : List ℕ) → list_all stays (pieces tail) ≡ true → is_plain_tail tail ≡ true
@@ -145,7 +138,7 @@ form_of_kept (piece ∷ rest) text h e =
     let stay : list_all stays (pieces tail) ≡ true = ap (list_all stays) (pieces_of_joined piece rest h) ∙ kept_stay (piece ∷ rest) h in
     subst (λ t. has_form t ≡ true) (sym (joined_pieces piece rest) ∙ e) (tail_of_pieces tail stay)
 
-form_of_canon : (text : List ℕ) → canon text ≡ text → has_form text ≡ true
+pub form_of_canon : (text : List ℕ) → canon text ≡ text → has_form text ≡ true
 form_of_canon text e = form_of_kept (fold keep [] (pieces text)) text (fold_kept (pieces text) [] (pieces_no_slash text) refl) e
 
 -- the form is that of canonical texts

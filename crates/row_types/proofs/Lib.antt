@@ -1,3 +1,4 @@
 pub mod AscendsLemmas
 pub mod CanonLemmas
+pub mod PartLemmas
 pub mod TrueRowLemmas

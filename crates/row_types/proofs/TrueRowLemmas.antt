@@ -14,6 +14,7 @@ use Rattle.row_types.specs.Reading.{ReadsBytes, IsReading, IsVersionRead, IsName
 use Rattle.row_types.specs.declared.limits.TheConstants.{FILE_LIMIT}
 use Rattle.row_types.specs.declared.reading.Reading.{Reading}
 use Rattle.row_types.specs.declared.reading.Reading.TheVariants.{Plain, Elf}
+use Rattle.row_types.proofs.PartLemmas.{rows_same}
 
 -- the row of a file above the limit is true
 pub too_large_is_true : (version : List ℕ → StampFacts → List ℕ → Type 0) (name : NameFacts) → FILE_LIMIT < name.stamp.size → IsTrueRow version (too_large_row name)
@@ -66,10 +67,4 @@ true_rows_same version unique one a b name p q =
     let reading : a.reading ≡ b.reading =
     readings_same version b.name (unique b.name.path b.name.stamp) (one b.name.path b.name.stamp) a.reading b.reading (nat_lt FILE_LIMIT b.name.stamp.size)
     (subst (λ n. IsNameReading version n a.reading) name p.reading) q.reading in
-    same_row a.name b.name a.edition b.edition a.reading b.reading name edition reading
-  where
-    row_of : NameFacts → ℕ → Reading → RowFacts
-    row_of n e r = record { name = n; edition = e; reading = r }
-
-    same_row : (n m : NameFacts) (e f : ℕ) (r s : Reading) → n ≡ m → e ≡ f → r ≡ s → row_of n e r ≡ row_of m f s
-    same_row n m e f r s p q t = cc
+    rows_same a.name b.name a.edition b.edition a.reading b.reading name edition reading

@@ -1,5 +1,5 @@
 -- Names by path.
-use Rattle.std.proofs.Common.{◌≡◌, ℕ, ◌+◌, ◌-◌, ◌≤◌, ◌<◌, ◌⊎◌, inl, inr, Bool, true, false, Option, Some, None, List, [], ◌∷◌, length, slice_index_or, refl, sym, ◌∙◌, ap, subst, arith, below_more}
+use Rattle.std.proofs.Common.{◌≡◌, ℕ, ◌+◌, ◌-◌, ◌≤◌, ◌<◌, inl, inr, true, false, Option, Some, None, List, [], ◌∷◌, length, slice_index_or, refl, sym, ◌∙◌, ap, subst, arith, below_more}
 use Rattle.std.specs.List.{AllWithin, find}
 use Rattle.std.specs.List.Sorted.{IsPartitionedBy}
 use Rattle.std.specs.Option.{option_map}
@@ -9,27 +9,18 @@ use Rattle.std.proofs.lemmas.Cmp.{nat_list_cmp_total}
 use Rattle.std.proofs.lemmas.List.{get_or_default}
 use Rattle.std.proofs.lemmas.List.Recursion.{found_at, found_nowhere}
 use Rattle.std.proofs.lemmas.Slice.Eq.{bytes_eq-Decides}
-use Rattle.row_types.specs.Stamp.{StampFacts}
 use Rattle.row_types.specs.Ascends.{IsBefore}
 use Rattle.row_types.specs.Name.{NameFacts}
 use Rattle.scan_queue.specs.Names.{IsByPath, comes_before, stamp_at}
-use Rattle.scan_queue.proofs.NameTests.{before_differs, before_from_test, test_from_before}
-
--- each of the first names stands after each one before it
-abbrev pub RisesBelow : List NameFacts → ℕ → Type 0
-RisesBelow names end = (later : ℕ) → later < end → (k : ℕ) (d : NameFacts) → k < later → IsBefore (slice_index_or names k d).path (slice_index_or names later d).path
+use Rattle.row_types.proofs.AscendsLemmas.{AscendsBelow, ascends_more, before_differs, before_from_test}
+use Rattle.scan_queue.proofs.NameTests.{test_from_before}
 
 -- one more name, which stands after the one before it, stands after all before it
-pub rises_more : (names : List NameFacts) (i : ℕ) (a b : NameFacts) → 1 ≤ i → i < length names → comes_before (slice_index_or names (i - 1) a).path (slice_index_or names i b).path ≡ true → RisesBelow names i → RisesBelow names (i + 1)
+pub rises_more : (names : List NameFacts) (i : ℕ) (a b : NameFacts) → 1 ≤ i → i < length names → comes_before (slice_index_or names (i - 1) a).path (slice_index_or names i b).path ≡ true → AscendsBelow (λ n. n.path) names i → AscendsBelow (λ n. n.path) names (i + 1)
 rises_more names i a b some within before rises =
-    below_more (λ later. (k : ℕ) (d : NameFacts) → k < later → IsBefore (slice_index_or names k d).path (slice_index_or names later d).path) i rises
-    (λ k d lt.
-    let step : IsBefore (slice_index_or names (i - 1) d).path (slice_index_or names i d).path =
-    subst (λ (n : NameFacts). IsBefore n.path (slice_index_or names i d).path) (get_or_default names (i - 1) a d (omega arith))
-    (subst (λ (n : NameFacts). IsBefore (slice_index_or names (i - 1) a).path n.path) (get_or_default names i b d within) (before_from_test (slice_index_or names (i - 1) a).path (slice_index_or names i b).path before)) in
-    let earlier : (j : ℕ) → j < i - 1 → IsBefore (slice_index_or names j d).path (slice_index_or names i d).path =
-    λ j h. nat_list_cmp_total.trans (slice_index_or names j d).path (slice_index_or names (i - 1) d).path (slice_index_or names i d).path (rises (i - 1) (omega arith) j d h) step in
-    below_more (λ j. IsBefore (slice_index_or names j d).path (slice_index_or names i d).path) (i - 1) earlier step k (omega arith))
+    ascends_more (λ n. n.path) names i (slice_index_or names (i - 1) a) (slice_index_or names i b) some within
+    (get_or_default names (i - 1) a (slice_index_or names (i - 1) a) (omega arith)) (get_or_default names i b (slice_index_or names i b) within)
+    (before_from_test (slice_index_or names (i - 1) a).path (slice_index_or names i b).path before) rises
 
 -- names of which one doesn't stand after the one before it aren't by path
 pub not_rising : (names : List NameFacts) (i : ℕ) (a b : NameFacts) → 1 ≤ i → i < length names → comes_before (slice_index_or names (i - 1) a).path (slice_index_or names i b).path ≡ false → IsByPath names → ⊥

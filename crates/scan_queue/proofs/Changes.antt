@@ -1,18 +1,19 @@
 -- The parts of a pass, after one slot has changed.
-use Rattle.std.proofs.Common.{◌≡◌, ℕ, zero, suc, ◌+◌, ◌≤◌, ◌<◌, ◌&&◌, Bool, true, false, Option, Some, None, List, [], ◌∷◌, length, map, take, All, refl, sym, ◌∙◌, ap, subst, arith, slice_index_or, slice_set, length-set}
-use Rattle.std.specs.List.{AllByRecursion, AllPairs, cons_option, filter_map, list_all}
+use Rattle.std.proofs.Common.{◌≡◌, ℕ, zero, suc, ◌<◌, ◌&&◌, Bool, true, false, Option, Some, None, List, [], ◌∷◌, length, map, take, refl, sym, ◌∙◌, ap, subst, arith, slice_index_or, slice_set, length-set}
+use Rattle.std.specs.List.{AllPairs, cons_option, filter_map, list_all}
 use Rattle.std.specs.Prelude.{count_by, is_some}
-use Rattle.std.proofs.lemmas.Bool.{and_from, and_parts, false≢true}
+use Rattle.std.proofs.lemmas.Bool.{and_parts, false≢true}
 use Rattle.std.proofs.lemmas.List.{get_or-map, map-set, set-get_or, take_all}
 use Rattle.std.proofs.lemmas.List.Elements.{All-set, All-weaker}
 use Rattle.row_types.specs.Name.{NameFacts}
-use Rattle.scan_queue.specs.Pass.{Adds, IsWhole, PassFacts, Takes}
+use Rattle.scan_queue.specs.Pass.{IsWhole, Takes}
 use Rattle.scan_queue.specs.Slots.{AreOrdered, AreSlots, HasCopy, IsLaidOut, IsMark, IsSlot, Key, KeyPrecedes, at_groom, at_missed, at_out, at_todo, facts_of, groom_of, is_done, is_groom, is_missed, is_out, is_todo, key_of, miss_of, out_of, todo_of}
 use Rattle.scan_queue.specs.declared.miss.Miss.{Miss}
 use Rattle.scan_queue.specs.declared.slot.Place.{Place}
 use Rattle.scan_queue.specs.declared.slot.Place.TheVariants.{Todo, Out, Groom, Missed, Done}
 use Rattle.scan_queue.specs.declared.slot.Slot.{Slot}
-use Rattle.scan_queue.proofs.Picks.{becomes, comes, first_goes, length_picked, none_picked, stays, was}
+use Rattle.scan_queue.proofs.Passes.{same_pass}
+use Rattle.scan_queue.proofs.Picks.{becomes, comes, first_goes, length_picked, stays, was}
 
 -- a slot that keeps its key leaves the slots in order
 order_kept : (slots : List Slot) (i : ℕ) (d y : Slot) → i < length slots → key_of y ≡ key_of (slice_index_or slots i d) → AreOrdered slots → AreOrdered (slice_set slots i y)
@@ -103,16 +104,10 @@ taken listing slots filled i d within mark todo =
     let t = take i slots in record {
       first = first_goes (filter_map todo_of t) _ _ _ (todo_of x) (todo_of y) x.name (was todo_of slots i d within) (becomes todo_of slots i y within) mark.passed (ap (λ (p : Place). at_todo p x.name) todo) refl;
       out = comes (filter_map out_of t) _ _ _ (out_of x) (out_of y) x.name (was out_of slots i d within) (becomes out_of slots i y within) (ap (λ (p : Place). at_out p x.name) todo) refl;
-      same = same_lists listing (filter_map todo_of (slice_set slots i y)) (filter_map out_of (slice_set slots i y)) (filter_map groom_of (slice_set slots i y)) (filter_map groom_of slots) (filter_map miss_of (slice_set slots i y)) (filter_map miss_of slots)
+      same = same_pass listing (filter_map todo_of (slice_set slots i y)) (filter_map out_of (slice_set slots i y)) (filter_map groom_of (slice_set slots i y)) (filter_map todo_of (slice_set slots i y)) (filter_map out_of (slice_set slots i y)) (filter_map groom_of slots) (filter_map miss_of (slice_set slots i y)) (filter_map miss_of slots) false refl refl
           (stays (filter_map groom_of t) _ _ _ (groom_of x) (groom_of y) (was groom_of slots i d within) (becomes groom_of slots i y within) (ap (λ (p : Place). at_groom p x.name) todo))
           (stays (filter_map miss_of t) _ _ _ (miss_of x) (miss_of y) (was miss_of slots i d within) (becomes miss_of slots i y within) (ap (λ (p : Place). at_missed p x.name) todo));
     }
-  where
-    pass_with : List NameFacts → List NameFacts → List NameFacts → List NameFacts → List Miss → PassFacts
-    pass_with listing todo out groom missed = record { listing = listing; todo = todo; out = out; groom = groom; missed = missed; filled = false }
-
-    same_lists : (listing todo out g groom : List NameFacts) (m missed : List Miss) → g ≡ groom → m ≡ missed → pass_with listing todo out g m ≡ pass_with listing todo out groom missed
-    same_lists listing todo out g groom m missed p q = cc
 
 -- none is to be read where the mark is at the end
 pub none_to_take : (slots : List Slot) → IsMark (length slots) slots → filter_map todo_of slots ≡ []

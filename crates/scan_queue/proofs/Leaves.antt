@@ -1,21 +1,21 @@
 -- A name leaves the pass.
-use Rattle.std.proofs.Common.{◌≡◌, ℕ, zero, suc, ◌+◌, ◌≤◌, ◌<◌, ◌||◌, inl, inr, Bool, true, false, not, cond, Option, Some, None, List, [], ◌∷◌, ◌++◌, length, map, take, drop, All, refl, sym, ◌∙◌, ap, subst, arith, slice_index_or, slice_set, length-drop, length-take}
+use Rattle.std.proofs.Common.{◌≡◌, ℕ, ◌+◌, ◌<◌, ◌||◌, inl, inr, Bool, true, false, not, Option, Some, None, List, [], ◌∷◌, ◌++◌, length, take, drop, All, refl, sym, ◌∙◌, ap, subst, arith, slice_index_or, slice_set, length-drop, length-take}
 use Rattle.std.specs.Prelude.{filter}
-use Rattle.std.specs.List.{AllByRecursion, AllPairs, cons_option, filter_map, list_any}
+use Rattle.std.specs.List.{AllByRecursion, cons_option, filter_map, list_any}
 use Rattle.std.proofs.lemmas.Bool.{cases_eq, cases_lt, cond-false, cond-true, false≢true, false_from_ne_true, not_from_false, not_from_true, or_from, or_left, or_right}
 use Rattle.std.proofs.lemmas.List.{get_or-drop, get_or-take, get_or_default}
 use Rattle.std.proofs.lemmas.List.Elements.{filter-append, recursion_from_All}
 use Rattle.std.proofs.lemmas.List.Folds.{list_any-append}
 use Rattle.row_types.specs.Name.{NameFacts}
 use Rattle.scan_queue.specs.Names.{is_in, same_name, without}
-use Rattle.scan_queue.specs.Pass.{PassFacts, Precedes, left, missed_names, misses_without, names_of}
+use Rattle.scan_queue.specs.Pass.{left, missed_names, misses_without, names_of}
 use Rattle.scan_queue.specs.Slots.{AreSlots, HasNameAt, IsNotHeld, at_groom, at_missed, at_out, at_todo, facts_of, groom_of, is_done, miss_of, out_of, todo_of}
 use Rattle.scan_queue.specs.declared.miss.Miss.{Miss}
 use Rattle.scan_queue.specs.declared.slot.Place.{Place}
 use Rattle.scan_queue.specs.declared.slot.Place.TheVariants.{Todo, Out, Groom, Missed, Done}
 use Rattle.scan_queue.specs.declared.slot.Slot.{Slot}
-use Rattle.scan_queue.proofs.Passes.{groom_names, miss_names, one_of_two, out_names, slots_in_order, todo_names}
-use Rattle.scan_queue.proofs.Picks.{becomes, was}
+use Rattle.scan_queue.proofs.Passes.{groom_names, miss_names, one_of_two, out_names, same_pass, slots_in_order, todo_names}
+use Rattle.scan_queue.proofs.Picks.{becomes, was, weaken}
 
 -- what is picked of the slot has another name
 abbrev Differs : {X : Type 0} → (Slot → Option X) → (X → NameFacts) → NameFacts → Slot → Type 0
@@ -100,16 +100,6 @@ groom_differs name s h = λ v e. differs name s v (groom_names s.place s.name v 
 miss_differs : (name : NameFacts) (s : Slot) → IsNotHeld name s → Differs miss_of (λ m. m.name) name s
 miss_differs name s h = λ v e. differs name s v.name (miss_names s.place s.name v e) (miss_held s.place s.name v e) h
 
-weaker : (P Q : Slot → Type 0) → ((s : Slot) → P s → Q s) → (slots : List Slot) → AllByRecursion P slots → AllByRecursion Q slots
-weaker P Q says [] h = tt
-weaker P Q says (s ∷ slots) h = (says s h.0, weaker P Q says slots h.1)
-
-pass_with : List NameFacts → List NameFacts → List NameFacts → List NameFacts → List Miss → Bool → PassFacts
-pass_with listing todo out groom missed filled = record { listing = listing; todo = todo; out = out; groom = groom; missed = missed; filled = filled }
-
-same_pass : (listing todo out groom t o g : List NameFacts) (missed m : List Miss) (filled : Bool) → todo ≡ t → out ≡ o → groom ≡ g → missed ≡ m → pass_with listing todo out groom missed filled ≡ pass_with listing t o g m filled
-same_pass listing todo out groom t o g missed m filled p q r s = cc
-
 any_names : (name : NameFacts) (missed : List Miss) → is_in (missed_names missed) name ≡ list_any (λ m. same_name name m.name) missed
 any_names name [] = refl
 any_names name (m ∷ missed) = ap (λ (b : Bool). same_name name m.name || b) (any_names name missed)
@@ -127,22 +117,21 @@ not_held name listing slots filled h =
     in_four name (filter_map todo_of slots) (filter_map out_of slots) (filter_map groom_of slots) (filter_map miss_of slots)
     ∙ or_from _ _
     (or_from _ _
-    (or_from _ _ (any_none todo_of (λ v. v) name slots (weaker (IsNotHeld name) (Differs todo_of (λ v. v) name) (todo_differs name) slots each))
-    (any_none out_of (λ v. v) name slots (weaker (IsNotHeld name) (Differs out_of (λ v. v) name) (out_differs name) slots each)))
-    (any_none groom_of (λ v. v) name slots (weaker (IsNotHeld name) (Differs groom_of (λ v. v) name) (groom_differs name) slots each)))
-    (any_none miss_of (λ m. m.name) name slots (weaker (IsNotHeld name) (Differs miss_of (λ m. m.name) name) (miss_differs name) slots each))
+    (or_from _ _ (any_none todo_of (λ v. v) name slots (weaken (IsNotHeld name) (Differs todo_of (λ v. v) name) (todo_differs name) slots each))
+    (any_none out_of (λ v. v) name slots (weaken (IsNotHeld name) (Differs out_of (λ v. v) name) (out_differs name) slots each)))
+    (any_none groom_of (λ v. v) name slots (weaken (IsNotHeld name) (Differs groom_of (λ v. v) name) (groom_differs name) slots each)))
+    (any_none miss_of (λ m. m.name) name slots (weaken (IsNotHeld name) (Differs miss_of (λ m. m.name) name) (miss_differs name) slots each))
 
 -- and the pass is as it was without it
 pub nothing_leaves : (name : NameFacts) (listing : List NameFacts) (slots : List Slot) (filled : Bool) → All (IsNotHeld name) slots → facts_of listing slots filled ≡ left name (facts_of listing slots filled)
-unfolding pass_with
 nothing_leaves name listing slots filled h =
     let each = recursion_from_All (IsNotHeld name) slots h in
     sym (same_pass listing (without name (filter_map todo_of slots)) (without name (filter_map out_of slots)) (without name (filter_map groom_of slots))
     (filter_map todo_of slots) (filter_map out_of slots) (filter_map groom_of slots) (misses_without name (filter_map miss_of slots)) (filter_map miss_of slots) filled
-    (kept_all todo_of (λ v. v) name slots (weaker (IsNotHeld name) (Differs todo_of (λ v. v) name) (todo_differs name) slots each))
-    (kept_all out_of (λ v. v) name slots (weaker (IsNotHeld name) (Differs out_of (λ v. v) name) (out_differs name) slots each))
-    (kept_all groom_of (λ v. v) name slots (weaker (IsNotHeld name) (Differs groom_of (λ v. v) name) (groom_differs name) slots each))
-    (kept_all miss_of (λ m. m.name) name slots (weaker (IsNotHeld name) (Differs miss_of (λ m. m.name) name) (miss_differs name) slots each)))
+    (kept_all todo_of (λ v. v) name slots (weaken (IsNotHeld name) (Differs todo_of (λ v. v) name) (todo_differs name) slots each))
+    (kept_all out_of (λ v. v) name slots (weaken (IsNotHeld name) (Differs out_of (λ v. v) name) (out_differs name) slots each))
+    (kept_all groom_of (λ v. v) name slots (weaken (IsNotHeld name) (Differs groom_of (λ v. v) name) (groom_differs name) slots each))
+    (kept_all miss_of (λ m. m.name) name slots (weaken (IsNotHeld name) (Differs miss_of (λ m. m.name) name) (miss_differs name) slots each)))
 
 is_done_done : (p : Place) → is_done p ≡ true → p ≡ Done
 is_done_done Done h = refl
@@ -185,20 +174,19 @@ back_differs name listing slots filled at kept there = λ k d within.
 
 -- once the name's slot is done, the pass is without the name
 pub name_leaves : (name : NameFacts) (listing : List NameFacts) (slots : List Slot) (filled : Bool) (at : ℕ) (d y : Slot) → AreSlots listing slots filled → HasNameAt name slots at → y.place ≡ Done → left name (facts_of listing slots filled) ≡ facts_of listing (slice_set slots at y) filled
-unfolding pass_with
 name_leaves name listing slots filled at d y kept there done =
     let front = recursion_from_All (IsNotHeld name) (take at slots) (front_differs name listing slots filled at kept there) in
     let back = recursion_from_All (IsNotHeld name) (drop (at + 1) slots) (back_differs name listing slots filled at kept there) in
     let x = slice_index_or slots at d in
     same_pass listing (without name (filter_map todo_of slots)) (without name (filter_map out_of slots)) (without name (filter_map groom_of slots))
     (filter_map todo_of (slice_set slots at y)) (filter_map out_of (slice_set slots at y)) (filter_map groom_of (slice_set slots at y)) (misses_without name (filter_map miss_of slots)) (filter_map miss_of (slice_set slots at y)) filled
-    (goes todo_of (λ v. v) name slots at d y there.within (weaker (IsNotHeld name) (Differs todo_of (λ v. v) name) (todo_differs name) (take at slots) front) (weaker (IsNotHeld name) (Differs todo_of (λ v. v) name) (todo_differs name) (drop (at + 1) slots) back)
+    (goes todo_of (λ v. v) name slots at d y there.within (weaken (IsNotHeld name) (Differs todo_of (λ v. v) name) (todo_differs name) (take at slots) front) (weaken (IsNotHeld name) (Differs todo_of (λ v. v) name) (todo_differs name) (drop (at + 1) slots) back)
     (λ v e. ap (same_name name) (todo_names x.place x.name v e) ∙ there.named d) (ap (λ (p : Place). at_todo p y.name) done))
-    (goes out_of (λ v. v) name slots at d y there.within (weaker (IsNotHeld name) (Differs out_of (λ v. v) name) (out_differs name) (take at slots) front) (weaker (IsNotHeld name) (Differs out_of (λ v. v) name) (out_differs name) (drop (at + 1) slots) back)
+    (goes out_of (λ v. v) name slots at d y there.within (weaken (IsNotHeld name) (Differs out_of (λ v. v) name) (out_differs name) (take at slots) front) (weaken (IsNotHeld name) (Differs out_of (λ v. v) name) (out_differs name) (drop (at + 1) slots) back)
     (λ v e. ap (same_name name) (out_names x.place x.name v e) ∙ there.named d) (ap (λ (p : Place). at_out p y.name) done))
-    (goes groom_of (λ v. v) name slots at d y there.within (weaker (IsNotHeld name) (Differs groom_of (λ v. v) name) (groom_differs name) (take at slots) front) (weaker (IsNotHeld name) (Differs groom_of (λ v. v) name) (groom_differs name) (drop (at + 1) slots) back)
+    (goes groom_of (λ v. v) name slots at d y there.within (weaken (IsNotHeld name) (Differs groom_of (λ v. v) name) (groom_differs name) (take at slots) front) (weaken (IsNotHeld name) (Differs groom_of (λ v. v) name) (groom_differs name) (drop (at + 1) slots) back)
     (λ v e. ap (same_name name) (groom_names x.place x.name v e) ∙ there.named d) (ap (λ (p : Place). at_groom p y.name) done))
-    (goes miss_of (λ m. m.name) name slots at d y there.within (weaker (IsNotHeld name) (Differs miss_of (λ m. m.name) name) (miss_differs name) (take at slots) front) (weaker (IsNotHeld name) (Differs miss_of (λ m. m.name) name) (miss_differs name) (drop (at + 1) slots) back)
+    (goes miss_of (λ m. m.name) name slots at d y there.within (weaken (IsNotHeld name) (Differs miss_of (λ m. m.name) name) (miss_differs name) (take at slots) front) (weaken (IsNotHeld name) (Differs miss_of (λ m. m.name) name) (miss_differs name) (drop (at + 1) slots) back)
     (λ v e. ap (same_name name) (miss_names x.place x.name v e) ∙ there.named d) (ap (λ (p : Place). at_missed p y.name) done))
 
 held_somewhere : (name : NameFacts) (slots : List Slot) (at : ℕ) (d : Slot) (p : Place) → HasNameAt name slots at → (slice_index_or slots at d).place ≡ p → is_done p ≡ false → (is_in (filter_map todo_of slots) name || is_in (filter_map out_of slots) name || is_in (filter_map groom_of slots) name || list_any (λ m. same_name name m.name) (filter_map miss_of slots)) ≡ true

@@ -1,26 +1,25 @@
 -- The slots of the names of a listing and of current names, by one walk over both.
-use Rattle.std.proofs.Common.{◌≡◌, ℕ, ◌+◌, ◌<◌, ◌≤◌, ◌⊎◌, inl, inr, ◌||◌, Bool, true, false, not, cond, Option, Some, None, List, [], ◌∷◌, ◌++◌, length, map, drop, All, refl, sym, ◌∙◌, ap, subst, append_assoc, arith, slice_index_or}
-use Rattle.std.specs.Prelude.{filter}
-use Rattle.std.specs.List.{AllByRecursion, AllPairs, cons_option, filter_map}
+use Rattle.std.proofs.Common.{◌≡◌, ℕ, ◌≤◌, ◌⊎◌, inl, inr, ◌||◌, Bool, true, false, not, cond, Option, Some, None, List, [], ◌∷◌, ◌++◌, length, map, drop, refl, sym, ◌∙◌, ap, subst, append_assoc, arith}
+use Rattle.std.specs.List.{AllByRecursion, cons_option, filter_map}
 use Rattle.std.specs.Ordering.{is_eq, is_lt, nat_cmp, ordering_reverse}
 use Rattle.std.specs.Cmp.Lexicographic.{slice_cmp, texts_ties}
 use Rattle.std.specs.declared.cmp.Ordering.{Ordering}
 use Rattle.std.specs.declared.cmp.Ordering.TheVariants.{Less, Equal, Greater}
 use Rattle.std.proofs.lemmas.Bool.{cond-false, cond-true, false≢true, false_from_ne_true, not-true, not_from_false, not_from_true, or_from, or_left, or_right}
 use Rattle.std.proofs.lemmas.Cmp.{nat_list_cmp_total}
-use Rattle.std.proofs.lemmas.List.{append-nil, drop_all, drop_more}
+use Rattle.std.proofs.lemmas.List.{append-nil, drop_all}
 use Rattle.std.proofs.lemmas.List.Elements.{All-from_recursion, All-map, filter_passes, recursion_from_All}
 use Rattle.std.proofs.lemmas.List.Kept.{AllPairs-cons}
 use Rattle.std.proofs.lemmas.Slice.Eq.{bytes_eq-Decides}
 use Rattle.row_types.specs.Ascends.{IsBefore}
 use Rattle.row_types.specs.Name.{NameFacts}
+use Rattle.row_types.proofs.AscendsLemmas.{before_from_test}
 use Rattle.scan_queue.specs.Names.{IsByPath, comes_before, is_in, not_in, same_name}
-use Rattle.scan_queue.specs.Pass.{PassFacts, begun}
-use Rattle.scan_queue.specs.Slots.{AreFirst, AreOrdered, IsSlot, Key, KeyPrecedes, facts_of, groom_of, key_of, listed_slot, miss_of, out_of, todo_of, unlisted_slot}
-use Rattle.scan_queue.specs.declared.miss.Miss.{Miss}
+use Rattle.scan_queue.specs.Slots.{AreFirst, AreOrdered, IsSlot, KeyPrecedes, groom_of, key_of, listed_slot, miss_of, out_of, todo_of, unlisted_slot}
 use Rattle.scan_queue.specs.declared.slot.Slot.{Slot}
-use Rattle.scan_queue.proofs.Picks.{head_pairs, none_picked, tail_pairs}
-use Rattle.scan_queue.proofs.NameTests.{before_from_test, path_differs, path_differs_back, same_name-Decides, test_from_before}
+use Rattle.scan_queue.proofs.Picks.{head_pairs, none_picked, tail_pairs, weaken}
+use Rattle.scan_queue.proofs.Passes.{same_pass}
+use Rattle.scan_queue.proofs.NameTests.{path_differs, path_differs_back, same_name-Decides, test_from_before}
 
 -- the slots of one listed name, with those of the current ones before it in front, and then the rest
 abbrev pub upto : NameFacts → (List NameFacts → List Slot) → List NameFacts → List Slot
@@ -31,14 +30,6 @@ upto l rest (c ∷ cs) = cond (comes_before c.path l.path) (unlisted_slot c ∷ 
 abbrev pub merged : List NameFacts → List NameFacts → List Slot
 merged [] cs = map unlisted_slot cs
 merged (l ∷ ls) cs = upto l (merged ls) cs
-
--- one step of the walk
-step_at : (a ls b cs : List NameFacts) (x y : NameFacts) → a ≡ x ∷ ls → b ≡ y ∷ cs → merged a b ≡ cond (comes_before y.path x.path) (unlisted_slot y ∷ merged a cs) (cond (same_name x y) (merged ls cs) (listed_slot x ∷ merged ls b))
-step_at a ls b cs x y p q = rw (p, q) refl
-
-pub one_step : (listing current : List NameFacts) (i j : ℕ) (d e : NameFacts) → i < length listing → j < length current → merged (drop i listing) (drop j current) ≡ cond (comes_before (slice_index_or current j e).path (slice_index_or listing i d).path) (unlisted_slot (slice_index_or current j e) ∷ merged (drop i listing) (drop (j + 1) current)) (cond (same_name (slice_index_or listing i d) (slice_index_or current j e)) (merged (drop (i + 1) listing) (drop (j + 1) current)) (listed_slot (slice_index_or listing i d) ∷ merged (drop (i + 1) listing) (drop j current)))
-one_step listing current i j d e p q =
-    step_at (drop i listing) (drop (i + 1) listing) (drop j current) (drop (j + 1) current) (slice_index_or listing i d) (slice_index_or current j e) (drop_more listing i d p) (drop_more current j e q)
 
 -- with no current name left the listed ones follow
 pub only_listed : (ls : List NameFacts) → merged ls [] ≡ map listed_slot ls
@@ -61,10 +52,6 @@ choose : (Q : List Slot → Type 0) (b s : Bool) (x y z : List Slot) → (b ≡ 
 choose Q true s x y z first second third = first refl
 choose Q false true x y z first second third = second refl refl
 choose Q false false x y z first second third = third refl refl
-
-weaken : {X : Type 0} (P Q : X → Type 0) → ((x : X) → P x → Q x) → (xs : List X) → AllByRecursion P xs → AllByRecursion Q xs
-weaken P Q says [] h = tt
-weaken P Q says (x ∷ xs) h = (says x h.0, weaken P Q says xs h.1)
 
 hold : {X : Type 0} (P : X → Type 0) → ((x : X) → P x) → (xs : List X) → AllByRecursion P xs
 hold P says [] = tt
@@ -262,22 +249,15 @@ both : (P Q R : Slot → Type 0) → ((s : Slot) → P s → Q s → R s) → (s
 both P Q R says [] p q = tt
 both P Q R says (s ∷ slots) p q = (says s p.0 q.0, both P Q R says slots p.1 q.1)
 
-pass_with : List NameFacts → List NameFacts → List NameFacts → List NameFacts → List Miss → PassFacts
-pass_with listing todo out groom missed = record { listing = listing; todo = todo; out = out; groom = groom; missed = missed; filled = true }
-
-same_pass : (listing todo t out o groom g : List NameFacts) (missed m : List Miss) → todo ≡ t → out ≡ o → groom ≡ g → missed ≡ m → pass_with listing todo out groom missed ≡ pass_with listing t o g m
-same_pass listing todo t out o groom g missed m p q r s = cc
-
 -- the merged slots are those of the pass as it begins
 pub merged_first : (listing current : List NameFacts) → IsByPath listing → IsByPath current → AreFirst listing current (merged listing current)
-unfolding pass_with
 merged_first listing current by_path in_order =
     let slots = merged listing current in
     let groomed = groom_merged listing current (rises listing by_path) (rises current in_order) in
     let unlisted : AllByRecursion (λ n. not (is_in listing n) ≡ true) (filter_map groom_of slots) =
     subst (AllByRecursion (λ (n : NameFacts). not (is_in listing n) ≡ true)) (sym groomed)
     (recursion_from_All (λ (n : NameFacts). not (is_in listing n) ≡ true) (not_in listing current) (filter_passes (λ (n : NameFacts). not (is_in listing n)) current)) in record {
-      facts = same_pass listing (filter_map todo_of slots) (not_in current listing) (filter_map out_of slots) [] (filter_map groom_of slots) (not_in listing current) (filter_map miss_of slots) []
+      facts = same_pass listing (filter_map todo_of slots) (filter_map out_of slots) (filter_map groom_of slots) (not_in current listing) [] (not_in listing current) (filter_map miss_of slots) [] true
           (todo_merged listing current (rises listing by_path) (rises current in_order))
           (none_picked out_of slots (every (λ (s : Slot). out_of s ≡ None) listing current (hold (λ (n : NameFacts). out_of (listed_slot n) ≡ None) (λ n. refl) listing) (hold (λ (n : NameFacts). out_of (unlisted_slot n) ≡ None) (λ n. refl) current)))
           groomed

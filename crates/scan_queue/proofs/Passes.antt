@@ -1,7 +1,7 @@
 -- The parts of a pass make one.
-use Rattle.std.proofs.Common.{◌≡◌, ℕ, zero, ◌+◌, ◌≤◌, ◌<◌, ◌⊎◌, inl, inr, Bool, true, false, not, cond, Option, Some, None, List, [], ◌∷◌, ◌++◌, length, map, take, All, refl, sym, ◌∙◌, ap, subst, arith, slice_index_or}
+use Rattle.std.proofs.Common.{◌≡◌, ℕ, ◌+◌, ◌≤◌, ◌<◌, inl, inr, Bool, true, false, not, cond, Some, List, [], ◌∷◌, ◌++◌, length, refl, sym, ◌∙◌, ap, subst, arith, slice_index_or}
 use Rattle.std.specs.Prelude.{count_by}
-use Rattle.std.specs.List.{AllByRecursion, AllPairs, AllPass, cons_option, filter_map, sum_by}
+use Rattle.std.specs.List.{AllByRecursion, AllPairs, cons_option, filter_map}
 use Rattle.std.proofs.lemmas.Bool.{false≢true, false_from_ne_true, not_from_false}
 use Rattle.std.proofs.lemmas.List.{get_or-map, length-map}
 use Rattle.std.proofs.lemmas.List.Elements.{recursion_from_All}
@@ -9,7 +9,7 @@ use Rattle.std.proofs.lemmas.List.Sums.{sum_by-append, sum_by-cons}
 use Rattle.row_types.specs.Ascends.{IsBefore}
 use Rattle.row_types.specs.Name.{NameFacts}
 use Rattle.scan_queue.specs.Names.{is_in, same_name}
-use Rattle.scan_queue.specs.Pass.{InOrder, IsPass, Precedes, missed_names, names_of}
+use Rattle.scan_queue.specs.Pass.{PassFacts, InOrder, IsPass, Precedes, missed_names, names_of}
 use Rattle.scan_queue.specs.Slots.{AreSlots, IsLaidOut, IsSlot, KeyPrecedes, PlaceFits, at_groom, at_missed, at_out, at_todo, facts_of, groom_of, key_of, miss_of, out_of, todo_of}
 use Rattle.scan_queue.specs.declared.miss.Cause.TheVariants.{ReadFault}
 use Rattle.scan_queue.specs.declared.miss.Miss.{Miss}
@@ -19,6 +19,14 @@ use Rattle.scan_queue.specs.declared.slot.Slot.{Slot}
 use Rattle.scan_queue.proofs.Picks.{all_picked, head_pairs, pairs_picked, tail_pairs}
 use Rattle.scan_queue.proofs.Places.{slot_precedes}
 use Rattle.scan_queue.proofs.NameTests.{not_before_itself, same_name-Decides}
+
+-- a pass of its parts
+abbrev pub pass_from : List NameFacts → List NameFacts → List NameFacts → List NameFacts → List Miss → Bool → PassFacts
+pass_from listing todo out groom missed filled = record { listing = listing; todo = todo; out = out; groom = groom; missed = missed; filled = filled }
+
+-- passes of the same lists are the same
+pub same_pass : (listing todo out groom t o g : List NameFacts) (missed m : List Miss) (filled : Bool) → todo ≡ t → out ≡ o → groom ≡ g → missed ≡ m → pass_from listing todo out groom missed filled ≡ pass_from listing t o g m filled
+same_pass listing todo out groom t o g missed m filled p q r s = rw (p, q, r, s) refl
 
 -- a name that is picked is its slot's
 pub todo_names : (p : Place) (n v : NameFacts) → at_todo p n ≡ Some v → v ≡ n
@@ -32,9 +40,6 @@ out_names _ n v e = cc
 pub groom_names : (p : Place) (n v : NameFacts) → at_groom p n ≡ Some v → v ≡ n
 groom_names Groom n v e = cc
 groom_names _ n v e = cc
-
-miss_with : NameFacts → Miss → NameFacts
-miss_with n m = m.name
 
 pub miss_names : (p : Place) (n : NameFacts) (v : Miss) → at_missed p n ≡ Some v → v.name ≡ n
 miss_names (Missed cause) n v e =

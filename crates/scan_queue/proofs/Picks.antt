@@ -1,12 +1,13 @@
 -- What is picked from the slots, where one slot changes.
-use Rattle.std.proofs.Common.{◌≡◌, ℕ, zero, suc, ◌+◌, ◌≤◌, ◌<◌, Bool, true, false, not, cond, Option, Some, None, List, [], ◌∷◌, ◌++◌, length, take, drop, All, refl, sym, ◌∙◌, ap, arith, add-one, slice_index_or, slice_set}
-use Rattle.std.specs.Prelude.{filter, count_by, is_some}
-use Rattle.std.specs.List.{AllByRecursion, AllPairs, cons_option, filter_map, sum_by}
+use Rattle.std.proofs.Common.{◌≡◌, ℕ, ◌+◌, ◌<◌, Bool, true, false, cond, Option, Some, None, List, [], ◌∷◌, ◌++◌, length, take, drop, All, refl, sym, ◌∙◌, ap, arith, add-one, slice_index_or, slice_set}
+use Rattle.std.specs.Prelude.{count_by, is_some}
+use Rattle.std.specs.List.{AllByRecursion, AllPairs, cons_option, filter_map}
 use Rattle.std.proofs.lemmas.List.{drop_more, set_split, take-append-drop, take_more}
-use Rattle.std.proofs.lemmas.List.Elements.{All-cons, All-nil, filter-append, filter_map-append, recursion_from_All}
+use Rattle.std.proofs.lemmas.List.Elements.{All-cons, All-nil, filter_map-append, recursion_from_All}
 use Rattle.std.proofs.lemmas.List.Kept.{AllPairs-cons}
 use Rattle.std.proofs.lemmas.List.Sums.{sum_by-cons}
 use Rattle.row_types.specs.Name.{NameFacts}
+pub use Rattle.row_types.proofs.AscendsLemmas.{first_related as head_pairs, rest_related as tail_pairs}
 use Rattle.scan_queue.specs.Pass.{Adds}
 use Rattle.scan_queue.specs.Slots.{at_todo, is_todo, todo_of}
 use Rattle.scan_queue.specs.declared.slot.Place.{Place}
@@ -60,6 +61,11 @@ passed_more slots i d within other passed =
     ap (filter_map todo_of) (take_more slots i d within) ∙ filter_map-append todo_of (take i slots) (slice_index_or slots i d ∷ [])
     ∙ none_before (filter_map todo_of (take i slots)) (todo_of (slice_index_or slots i d)) passed (not_todo (slice_index_or slots i d).place (slice_index_or slots i d).name other)
 
+-- what holds of each, by another fact that holds of each
+pub weaken : {X : Type 0} (P Q : X → Type 0) → ((x : X) → P x → Q x) → (xs : List X) → AllByRecursion P xs → AllByRecursion Q xs
+weaken P Q says [] h = tt
+weaken P Q says (x ∷ xs) h = (says x h.0, weaken P Q says xs h.1)
+
 -- where nothing is picked of any slot, nothing is
 pub none_picked : {X : Type 0} (f : Slot → Option X) (slots : List Slot) → AllByRecursion (λ s. f s ≡ None) slots → filter_map f slots ≡ []
 none_picked f [] h = refl
@@ -71,14 +77,6 @@ all_picked f P Q says [] h = All-nil Q
 all_picked f P Q says (s ∷ slots) h =
     elim (f s) as (λ o. f s ≡ o → All Q (cons_option o (filter_map f slots)))
     [ None ↦ λ e. all_picked f P Q says slots h.1 | Some v ↦ λ e. All-cons Q v (filter_map f slots) (says s v h.0 e) (all_picked f P Q says slots h.1) ] refl
-
--- what holds of each slot and each later one holds of the rest
-pub tail_pairs : {X : Type 0} (R : X → X → Type 0) (x : X) (xs : List X) → AllPairs R (x ∷ xs) → AllPairs R xs
-tail_pairs R x xs h = λ i j d lt within. h (suc i) (suc j) d (omega arith) (omega arith)
-
--- the first stands so to each later one
-pub head_pairs : {X : Type 0} (R : X → X → Type 0) (x : X) (xs : List X) → AllPairs R (x ∷ xs) → All (R x) xs
-head_pairs R x xs h = λ k d within. h zero (suc k) d (omega arith) (omega arith)
 
 -- each two that are picked stand as their slots do
 pub pairs_picked : {X : Type 0} (f : Slot → Option X) (S : Slot → Slot → Type 0) (R : X → X → Type 0) → ((s t : Slot) (v w : X) → f s ≡ Some v → f t ≡ Some w → S s t → R v w) → (slots : List Slot) → AllPairs S slots → AllPairs R (filter_map f slots)

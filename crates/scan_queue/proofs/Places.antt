@@ -1,5 +1,5 @@
 -- Where a name's slot stands.
-use Rattle.std.proofs.Common.{◌≡◌, ℕ, ◌+◌, ◌≤◌, ◌<◌, ◌⊎◌, inl, inr, Bool, true, false, List, length, All, map, slice_index_or, sym, ◌∙◌, ap, subst, arith, below_more}
+use Rattle.std.proofs.Common.{◌≡◌, ℕ, ◌+◌, ◌<◌, inl, inr, true, false, List, length, All, map, slice_index_or, sym, ◌∙◌, subst, arith, below_more}
 use Rattle.std.specs.List.{AllWithin}
 use Rattle.std.specs.List.Sorted.{IsPartitionedBy}
 use Rattle.std.proofs.lemmas.Bool.{cases_lt, cases_eq, false≢true, false_from_ne_true}
@@ -7,10 +7,11 @@ use Rattle.std.proofs.lemmas.Cmp.{nat_list_cmp_total}
 use Rattle.std.proofs.lemmas.List.{get_or_default, get_or-map, length-map}
 use Rattle.row_types.specs.Ascends.{IsBefore}
 use Rattle.row_types.specs.Name.{NameFacts}
+use Rattle.row_types.proofs.AscendsLemmas.{before_from_test}
 use Rattle.scan_queue.specs.Names.{comes_before, same_name}
 use Rattle.scan_queue.specs.Slots.{AreOrdered, HasNameAt, Key, KeyPrecedes, key_of}
 use Rattle.scan_queue.specs.declared.slot.Slot.{Slot}
-use Rattle.scan_queue.proofs.NameTests.{before_from_test, not_before_itself, same_name-Decides, test_from_before}
+use Rattle.scan_queue.proofs.NameTests.{not_before_itself, same_name-Decides, test_from_before}
 
 -- each slot comes before each later one
 pub slot_precedes : (slots : List Slot) → AreOrdered slots → (i j : ℕ) (d : Slot) → i < j → j < length slots → KeyPrecedes (key_of (slice_index_or slots i d)) (key_of (slice_index_or slots j d))

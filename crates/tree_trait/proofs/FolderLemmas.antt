@@ -1,11 +1,11 @@
 -- Paths under a folder, and the entries that they give.
-use Rattle.std.proofs.Common.{◌≡◌, ◌≢◌, ℕ, ◌+◌, ◌-◌, ◌≤◌, ◌<◌, ◌||◌, ◌&&◌, ◌⊎◌, Bool, true, false, not, cond, List, [], ◌∷◌, ◌++◌, length, take, drop, map, fold, Option, Some, None, option_map, is_some, MatchOption, Result, Ok, Err, IfOk, Bor, nat_eq, refl, sym, ◌∙◌, ap, subst, inl, inr, append_assoc, length-append, arith, get_or}
+use Rattle.std.proofs.Common.{◌≡◌, ◌≢◌, ℕ, ◌+◌, ◌≤◌, ◌<◌, ◌||◌, ◌&&◌, ◌⊎◌, Bool, true, false, not, cond, List, [], ◌∷◌, ◌++◌, length, take, drop, map, Option, Some, None, option_map, is_some, MatchOption, Bor, nat_eq, refl, sym, ◌∙◌, ap, subst, inl, inr, append_assoc, length-append, arith}
 use Rattle.std.specs.Prelude.{◌==◌, nat_lt, if◌then◌else◌}
 use Rattle.std.specs.List.{list_any, list_all, starts_with, position_or_len, prefix_len, before_first, after_first}
 use Rattle.std.specs.Str.{bytes_eq}
 use Rattle.std.proofs.Math.Seq.{drop-append_seam, take-append_seam}
-use Rattle.std.proofs.lemmas.Bool.{eqb-true, lt-ltb, ltb-true}
-use Rattle.std.proofs.lemmas.Bool.Decides.{Decides-eqb, same_from_decides, nat_tests}
+use Rattle.std.proofs.lemmas.Bool.{eqb-true, lt-ltb, ltb-true, false_from_ne_true, not-true, and_from, or_cases, or_from, or_left, or_parts, or_right}
+use Rattle.std.proofs.lemmas.Bool.Decides.{Decides-eqb, same_from_decides}
 use Rattle.std.proofs.lemmas.List.{append_cancel_left}
 use Rattle.std.proofs.lemmas.List.Folds.{list_all-append, list_any-append}
 use Rattle.std.proofs.lemmas.List.Sums.{split_at_first, passes_at_first}
@@ -13,6 +13,7 @@ use Rattle.std.proofs.lemmas.Slice.Eq.{bytes_eq-Decides, starts_is}
 use Rattle.row_types.specs.Canon.{stays}
 use Rattle.row_types.specs.Name.{NameFacts}
 use Rattle.row_types.specs.declared.limits.TheConstants.{SEPARATOR}
+use Rattle.row_types.proofs.CanonLemmas.{left_true, right_true}
 use Rattle.tree_trait.specs.Dir.{child, makes, is_there, are_once, IsListing}
 use Rattle.tree_trait.specs.Entry.{EntryFacts, has_no_slash, is_entry_name, same_kind, same_entry, has_entry}
 use Rattle.tree_trait.specs.Folder.{first_piece, piece_under, with_piece, with_pieces}
@@ -20,54 +21,6 @@ use Rattle.tree_trait.specs.Found.{FoundFacts, name_of}
 use Rattle.tree_trait.specs.Present.{front_under, lies_under, is_folder}
 use Rattle.tree_trait.specs.declared.entry.EntryKind.{EntryKind}
 use Rattle.tree_trait.specs.declared.entry.EntryKind.TheVariants.{Folder, File, Other}
-
--- parts of tests
-left_true : (a b : Bool) → (a && b) ≡ true → a ≡ true
-left_true true b h = refl
-left_true false b h = h
-
-right_true : (a b : Bool) → (a && b) ≡ true → b ≡ true
-right_true true b h = h
-right_true false b h = cc
-
-both_true : (a b : Bool) → a ≡ true → b ≡ true → (a && b) ≡ true
-both_true a b p q = cc
-
-or_left : (a b : Bool) → a ≡ true → (a || b) ≡ true
-or_left true b h = refl
-or_left false b h = cc
-
-or_right : (a b : Bool) → b ≡ true → (a || b) ≡ true
-or_right true b h = refl
-or_right false b h = h
-
-or_cases : (a b : Bool) → (a || b) ≡ true → (a ≡ true) ⊎ (b ≡ true)
-or_cases true b h = inl refl
-or_cases false b h = inr h
-
-or_false : (a b : Bool) → a ≡ false → b ≡ false → (a || b) ≡ false
-or_false a b p q = cc
-
-left_false : (a b : Bool) → (a || b) ≡ false → a ≡ false
-left_false true b h = h
-left_false false b h = refl
-
-right_false : (a b : Bool) → (a || b) ≡ false → b ≡ false
-right_false true b h = cc
-right_false false b h = h
-
-not_so : (b : Bool) → (b ≡ true → ⊥) → b ≡ false
-not_so true h = absurd (h refl)
-not_so false h = refl
-
-unnot : (b : Bool) → not b ≡ true → b ≡ false
-unnot true h = cc
-unnot false h = refl
-
--- a fact for the good answer, from another
-pub on_ok : {T E : Type 0} (P Q : T → Type 0) (r : Result T E) → ((x : T) → P x → Q x) → IfOk r P → IfOk r Q
-on_ok P Q (Ok x) f h = f x h
-on_ok P Q (Err e) f h = tt
 
 -- what follows a folder's path and a slash
 pub rest_of : (parent folder path inner : List ℕ) (r : Option (Bor (List ℕ))) → parent ++ SEPARATOR ∷ [] ≡ front_under folder → path ≡ parent ++ inner → MatchOption r ((rest : List ℕ) → inner ≢ SEPARATOR ∷ rest) (λ x. inner ≡ SEPARATOR ∷ x.now) → MatchOption r ((rest : List ℕ) → path ≢ front_under folder ++ rest) (λ x. path ≡ front_under folder ++ x.now)
@@ -77,14 +30,14 @@ rest_of parent folder path inner (Some x) front split h =
     split ∙ ap (λ t. parent ++ t) h ∙ sym (append_assoc parent (SEPARATOR ∷ []) x.now) ∙ ap (λ f. f ++ x.now) front
 
 -- whether a path begins with the front
-starts_at : (front path rest : List ℕ) → path ≡ front ++ rest → starts_with nat_eq path front ≡ true
+pub starts_at : (front path rest : List ℕ) → path ≡ front ++ rest → starts_with nat_eq path front ≡ true
 starts_at front path rest e = (starts_is Decides-eqb path front (starts_with nat_eq path front) refl).1 rest e
 
-starts_rest : (front path : List ℕ) → starts_with nat_eq path front ≡ true → path ≡ front ++ drop (length front) path
+pub starts_rest : (front path : List ℕ) → starts_with nat_eq path front ≡ true → path ≡ front ++ drop (length front) path
 starts_rest front path h = (starts_is Decides-eqb path front (starts_with nat_eq path front) refl).0 h
 
 pub is_some_starts : (front path : List ℕ) (r : Option (Bor (List ℕ))) → MatchOption r ((rest : List ℕ) → path ≢ front ++ rest) (λ x. path ≡ front ++ x.now) → is_some r ≡ starts_with nat_eq path front
-is_some_starts front path None h = sym (not_so (starts_with nat_eq path front) (λ t. h (drop (length front) path) (starts_rest front path t)))
+is_some_starts front path None h = sym (false_from_ne_true (starts_with nat_eq path front) (λ t. h (drop (length front) path) (starts_rest front path t)))
 is_some_starts front path (Some x) h = sym (starts_at front path x.now h)
 
 -- the piece behind a folder
@@ -97,7 +50,7 @@ piece_at folder path rest e =
 pub piece_of_rest : (folder path : List ℕ) (r : Option (Bor (List ℕ))) → MatchOption r ((rest : List ℕ) → path ≢ front_under folder ++ rest) (λ x. path ≡ front_under folder ++ x.now) → option_map (λ x. first_piece x.now) r ≡ piece_under folder path
 piece_of_rest folder path None h =
     let front : List ℕ = front_under folder in
-    let none : starts_with nat_eq path front ≡ false = not_so (starts_with nat_eq path front) (λ t. h (drop (length front) path) (starts_rest front path t)) in
+    let none : starts_with nat_eq path front ≡ false = false_from_ne_true (starts_with nat_eq path front) (λ t. h (drop (length front) path) (starts_rest front path t)) in
     subst (λ b. None ≡ (if b then Some (first_piece (drop (length front) path)) else None)) (sym none) refl
 piece_of_rest folder path (Some x) h = sym (piece_at folder path x.now h)
 
@@ -126,7 +79,7 @@ position_in (b ∷ rest) more h =
 first_file : (name : List ℕ) → has_no_slash name ≡ true → first_piece name ≡ record { name = name; kind = File }
 first_file name h =
     let end = position_end name h in
-    let past : nat_lt (position_or_len slash name) (length name) ≡ false = not_so _ (λ t. let lt = ltb-true _ _ t in omega (arith, end, lt)) in
+    let past : nat_lt (position_or_len slash name) (length name) ≡ false = false_from_ne_true _ (λ t. let lt = ltb-true _ _ t in omega (arith, end, lt)) in
     ap (λ b. if b then record { name = before_first slash name; kind = Folder } else record { name = name; kind = File }) past
 
 -- a text before a slash is a folder's name
@@ -139,7 +92,7 @@ first_dir name more h =
     ∙ ap (λ n. record { name = take n whole; kind = Folder }) place
     ∙ ap (λ t. record { name = t; kind = Folder }) (take-append_seam name (SEPARATOR ∷ more))
 
--- an entry's path is longer than a slash, so its front has one more
+-- what the paths under a folder begin with is longer than nothing, and so is an entry's name
 front_long : (folder : List ℕ) → 1 ≤ length (front_under folder)
 front_long folder =
     elim (bytes_eq folder (SEPARATOR ∷ [])) as (λ v. bytes_eq folder (SEPARATOR ∷ []) ≡ v → 1 ≤ length (if v then folder else folder ++ SEPARATOR ∷ [])) [
@@ -147,18 +100,20 @@ front_long folder =
       | false ↦ λ t. omega (arith, length-append folder (SEPARATOR ∷ []))
     ] refl
 
-name_long : (name : List ℕ) → is_entry_name name ≡ true → 1 ≤ length name
+pub name_long : (name : List ℕ) → is_entry_name name ≡ true → 1 ≤ length name
 name_long [] h = cc
 name_long (b ∷ rest) h = omega arith
 
-front_of_child : (folder name : List ℕ) → is_entry_name name ≡ true → front_under (child folder name) ≡ child folder name ++ SEPARATOR ∷ []
+-- what paths under a folder that isn't the root begin with
+pub front_of_longer : (path : List ℕ) → 1 < length path → front_under path ≡ path ++ SEPARATOR ∷ []
+front_of_longer path long =
+    let other : bytes_eq path (SEPARATOR ∷ []) ≡ false = false_from_ne_true (bytes_eq path (SEPARATOR ∷ [])) (λ t. let one = ap length ((bytes_eq-Decides path (SEPARATOR ∷ [])).0 t) in absurd (omega (arith, one, long))) in
+    ap (λ (b : Bool). if b then path else path ++ SEPARATOR ∷ []) other
+
+-- an entry is never the root, so its front has one more slash
+pub front_of_child : (folder name : List ℕ) → is_entry_name name ≡ true → front_under (child folder name) ≡ child folder name ++ SEPARATOR ∷ []
 front_of_child folder name h =
-    let long = name_long name h in
-    let front = front_long folder in
-    let whole = length-append (front_under folder) name in
-    let other : bytes_eq (child folder name) (SEPARATOR ∷ []) ≡ false =
-    not_so _ (λ t. let one = ap length ((bytes_eq-Decides (child folder name) (SEPARATOR ∷ [])).0 t) in absurd (omega (arith, one, whole, front, long))) in
-    ap (λ b. if b then child folder name else child folder name ++ SEPARATOR ∷ []) other
+    front_of_longer (child folder name) (let long = name_long name h in let front = front_long folder in omega (arith, length-append (front_under folder) name, front, long))
 
 -- a file's piece is an entry that the file makes
 made_by_piece : (folder path rest : List ℕ) (e : EntryFacts) → path ≡ front_under folder ++ rest → first_piece rest ≡ e → is_entry_name e.name ≡ true → makes e.kind (child folder e.name) path ≡ true
@@ -186,8 +141,8 @@ made_by_piece folder path rest e split piece valid =
         let longer = ap length whole in
         let one = length-append (child folder name ++ SEPARATOR ∷ []) more in
         let two = length-append (child folder name) (SEPARATOR ∷ []) in
-        both_true _ _ (starts_at _ path more below)
-        (ap not (not_so (bytes_eq path (child folder name)) (λ t. let same = ap length ((bytes_eq-Decides path (child folder name)).0 t) in absurd (omega (arith, same, longer, one, two)))))
+        and_from _ _ (starts_at _ path more below)
+        (ap not (false_from_ne_true (bytes_eq path (child folder name)) (λ t. let same = ap length ((bytes_eq-Decides path (child folder name)).0 t) in absurd (omega (arith, same, longer, one, two)))))
 
 pub piece_makes : (folder path : List ℕ) (e : EntryFacts) → piece_under folder path ≡ Some e → is_entry_name e.name ≡ true → makes e.kind (child folder e.name) path ≡ true
 piece_makes folder path e piece valid =
@@ -239,7 +194,7 @@ bytes_back a b =
     same_from_decides (bytes_eq a b) (bytes_eq b a) one (λ t. sym (two.0 t), λ e. two.1 (sym e))
 
 entry_itself : (e : EntryFacts) → same_entry e e ≡ true
-entry_itself e = both_true _ _ ((bytes_eq-Decides e.name e.name).1 refl) (kind_itself e.kind)
+entry_itself e = and_from _ _ ((bytes_eq-Decides e.name e.name).1 refl) (kind_itself e.kind)
 
 entry_back : (e f : EntryFacts) → same_entry e f ≡ same_entry f e
 entry_back e f =
@@ -250,7 +205,7 @@ piece_each : (P : EntryFacts → Bool) (known : List EntryFacts) (p : Option Ent
 piece_each P known None h k = h
 piece_each P known (Some e) h k =
     elim (is_entry_name e.name && not (has_entry known e)) as (λ v. (is_entry_name e.name && not (has_entry known e)) ≡ v → list_all P (if v then known ++ e ∷ [] else known) ≡ true) [
-      | true ↦ λ t. list_all-append P known (e ∷ []) ∙ both_true _ _ h (both_true (P e) true (k e refl (left_true (is_entry_name e.name) _ t)) refl)
+      | true ↦ λ t. list_all-append P known (e ∷ []) ∙ and_from _ _ h (and_from (P e) true (k e refl (left_true (is_entry_name e.name) _ t)) refl)
       | false ↦ λ t. h
     ] refl
 
@@ -275,7 +230,7 @@ piece_adds : (known : List EntryFacts) (e : EntryFacts) → is_entry_name e.name
 piece_adds known e valid =
     elim (has_entry known e) as (λ v. has_entry known e ≡ v → has_entry (if is_entry_name e.name && not v then known ++ e ∷ [] else known) e ≡ true) [
       | true ↦ λ t. subst (λ b. has_entry (if b then known ++ e ∷ [] else known) e ≡ true) (sym (and_no (is_entry_name e.name))) t
-      | false ↦ λ t. subst (λ b. has_entry (if b then known ++ e ∷ [] else known) e ≡ true) (sym (both_true (is_entry_name e.name) true valid refl))
+      | false ↦ λ t. subst (λ b. has_entry (if b then known ++ e ∷ [] else known) e ≡ true) (sym (and_from (is_entry_name e.name) true valid refl))
           (list_any-append (same_entry e) known (e ∷ []) ∙ or_right (has_entry known e) _ (or_left (same_entry e e) false (entry_itself e)))
     ] refl
   where
@@ -298,16 +253,16 @@ all_of folder (file ∷ rest) known e valid (inr h) =
 once_more : (known : List EntryFacts) (e : EntryFacts) → are_once known ≡ true → has_entry known e ≡ false → are_once (known ++ e ∷ []) ≡ true
 once_more [] e h n = refl
 once_more (first ∷ rest) e h n =
-    both_true _ _
+    and_from _ _
     (ap not (list_any-append (same_entry first) rest (e ∷ [])
-    ∙ or_false _ _ (unnot (has_entry rest first) (left_true _ (are_once rest) h)) (or_false _ false (entry_back first e ∙ left_false (same_entry e first) _ n) refl)))
-    (once_more rest e (right_true (not (has_entry rest first)) _ h) (right_false (same_entry e first) _ n))
+    ∙ or_from _ _ (not-true (has_entry rest first) (left_true _ (are_once rest) h)) (or_from _ false (entry_back first e ∙ (or_parts (same_entry e first) (has_entry rest e) n).0) refl)))
+    (once_more rest e (right_true (not (has_entry rest first)) _ h) (or_parts (same_entry e first) (has_entry rest e) n).1)
 
 piece_once : (known : List EntryFacts) (p : Option EntryFacts) → are_once known ≡ true → are_once (with_piece known p) ≡ true
 piece_once known None h = h
 piece_once known (Some e) h =
     elim (is_entry_name e.name && not (has_entry known e)) as (λ v. (is_entry_name e.name && not (has_entry known e)) ≡ v → are_once (if v then known ++ e ∷ [] else known) ≡ true) [
-      | true ↦ λ t. once_more known e h (unnot (has_entry known e) (right_true (is_entry_name e.name) _ t))
+      | true ↦ λ t. once_more known e h (not-true (has_entry known e) (right_true (is_entry_name e.name) _ t))
       | false ↦ λ t. h
     ] refl
 

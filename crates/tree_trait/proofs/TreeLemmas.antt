@@ -1,28 +1,19 @@
 -- What holds of a tree in memory at each stage.
-use Rattle.std.proofs.Common.{◌≡◌, ℕ, ◌≤◌, ◌<◌, Bool, true, false, ◌&&◌, List, [], map, length, All, slice_index_or, refl, sym, ◌∙◌, ap, subst, inl, arith}
+use Rattle.std.proofs.Common.{ℕ, ◌<◌, List, [], map, length, All, slice_index_or, sym, subst, inl}
 use Rattle.std.specs.Prelude.{IsTrue}
 use Rattle.std.specs.List.{list_all}
 use Rattle.std.proofs.lemmas.Bool.{ltb-true}
-use Rattle.std.proofs.lemmas.List.{length-map}
 use Rattle.std.proofs.lemmas.List.Elements.{All-map}
 use Rattle.std.proofs.lemmas.List.Sums.{AllPass-from_list_all}
 use Rattle.std.proofs.lemmas.Simd.{map-map}
 use Rattle.row_types.specs.Canon.{is_canonical}
 use Rattle.row_types.specs.Name.{NameFacts}
 use Rattle.row_types.specs.Stamp.{StampFacts}
+use Rattle.row_types.proofs.CanonLemmas.{left_true, right_true}
 use Rattle.tree_trait.specs.Found.{FoundFacts, IsFound, name_of}
-use Rattle.tree_trait.specs.Present.{IsKnown, IsPresence, StaysStill, are_distinct, are_apart}
+use Rattle.tree_trait.specs.Present.{IsKnown, IsPresence, are_distinct, are_apart}
 use Rattle.tree_trait.specs.Script.{ScriptFacts, is_script, is_stage, names_at}
 use Rattle.tree_trait.specs.MemTree.{TreeFacts, IsScripted, IsStill, names_of}
-
--- both parts of a test that passed
-pub left_true : (a b : Bool) → IsTrue (a && b) → IsTrue a
-left_true true b h = refl
-left_true false b h = h
-
-pub right_true : (a b : Bool) → IsTrue (a && b) → IsTrue b
-right_true true b h = h
-right_true false b h = cc
 
 -- each stage of a sound script is sound
 stage_sound : (script : ScriptFacts) (stage : ℕ) → IsTrue (is_script script) → stage < length script.stages → IsTrue (is_stage (slice_index_or script.stages stage []))
@@ -50,26 +41,6 @@ scripted_known version script stage Still scripted apart =
 pub tree_known : (version : List ℕ → StampFacts → List ℕ → Type 0) (tree : TreeFacts) → IsScripted version tree.script tree.stage → IsPresence version (IsStill tree) (names_of tree)
 tree_known version tree scripted = scripted_known version tree.script tree.stage (IsStill tree) scripted (λ still. still.apart)
 
--- a still tree is still at a later stage
-pub still_later : (old new : TreeFacts) → new.script ≡ old.script → old.stage ≤ new.stage → new.stage < length old.script.stages → IsStill old → StaysStill (IsStill new) (names_of old) (names_of new)
-still_later old new script later placed still =
-    let same : names_of new ≡ names_of old = ap (λ s. names_at s new.stage) script ∙ still.rests new.stage later placed in
-    record {
-      still = record {
-        rests = λ stage above within.
-            ap (λ s. names_at s stage) script
-            ∙ still.rests stage (omega arith) (subst (λ (s : ScriptFacts). stage < length s.stages) script within)
-            ∙ sym same;
-        apart = subst (λ (names : List NameFacts). IsTrue (are_apart (map (λ name. name.path) names))) (sym same) still.apart;
-      };
-      same = same;
-    }
-
--- the same, where the old tree is known by an equation
-pub still_after : (inside old new : TreeFacts) → inside ≡ old → new.script ≡ inside.script → inside.stage ≤ new.stage → new.stage < length inside.script.stages → IsStill old → StaysStill (IsStill new) (names_of old) (names_of new)
-still_after inside old new same script later placed =
-    subst (λ (tree : TreeFacts). IsStill tree → StaysStill (IsStill new) (names_of tree) (names_of new)) same (still_later inside new script later placed)
-
 -- a sound script's first stage is there
 pub scripted_first : (version : List ℕ → StampFacts → List ℕ → Type 0) (script : ScriptFacts) → IsTrue (is_script script) → All (All (IsFound version)) script.stages → IsScripted version script 0
 scripted_first version script sound known = record {
@@ -77,7 +48,3 @@ scripted_first version script sound known = record {
   placed = ltb-true 0 (length script.stages) (left_true _ (list_all is_stage script.stages) sound);
   known = known;
 }
-
--- a place in a list is one in the list of what its elements show
-pub placed_in : {X Y : Type 0} (f : X → Y) (xs ys : List X) (n : ℕ) → n < length ys → ys ≡ xs → n < length (map f xs)
-placed_in f xs ys n placed same = omega (arith, length-map xs f, ap length same)

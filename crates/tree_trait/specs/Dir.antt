@@ -3,7 +3,7 @@ use Rattle.std.specs.Prelude.{◌≡◌, ℕ, ◌&&◌, Bool, true, false, not, 
 use Rattle.std.specs.List.{list_any, list_all}
 use Rattle.std.specs.Str.{bytes_eq}
 use Rattle.row_types.specs.Name.{NameFacts}
-use Rattle.tree_trait.specs.Entry.{EntryFacts, is_entry_name, same_entry, has_entry}
+use Rattle.tree_trait.specs.Entry.{EntryFacts, is_entry_name, has_entry}
 use Rattle.tree_trait.specs.Present.{front_under, lies_under, is_folder}
 use Rattle.tree_trait.specs.declared.entry.EntryKind.{EntryKind}
 use Rattle.tree_trait.specs.declared.entry.EntryKind.TheVariants as kind

@@ -1,6 +1,6 @@
 -- The listing of a folder, from the paths of all files (this project's rule): each file under the folder gives the
 -- piece of its path that stands next.
-use Rattle.std.specs.Prelude.{ℕ, ◌==◌, ◌&&◌, nat_lt, nat_eq, Bool, not, if◌then◌else◌, List, [], ◌∷◌, ◌++◌, length, drop, fold, Option, Some, None}
+use Rattle.std.specs.Prelude.{ℕ, ◌==◌, ◌&&◌, nat_lt, nat_eq, not, if◌then◌else◌, List, [], ◌∷◌, ◌++◌, length, drop, fold, Option, Some, None}
 use Rattle.std.specs.List.{starts_with, position_or_len, before_first}
 use Rattle.row_types.specs.Name.{NameFacts}
 use Rattle.row_types.specs.declared.limits.TheConstants.{SEPARATOR}

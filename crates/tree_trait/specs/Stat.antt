@@ -1,5 +1,5 @@
 -- What is answered of a path (this project's rule).
-use Rattle.std.specs.Prelude.{◌≡◌, ℕ, Bool, true, false, List, Some, None, IsTrue, IsFalse}
+use Rattle.std.specs.Prelude.{◌≡◌, ℕ, Bool, true, false, List, Some, None}
 use Rattle.row_types.specs.Name.{NameFacts}
 use Rattle.tree_trait.specs.Present.{stamp_at, is_folder}
 use Rattle.tree_trait.specs.declared.stat.StatAnswer.{StatAnswer}

@@ -1,6 +1,8 @@
--- A told world of one path with two versions, which their sizes tell apart (this project's example).
-use Rattle.std.specs.Prelude.{◌≡◌, ℕ, pos, ◌⊎◌, List, codes, true, Result, Err, refl}
-use Rattle.std.proofs.Common.{sym, ◌∙◌, ap, subst, inl, inr, arith}
+-- A told world of one path with two versions, which their sizes tell apart (this project's example). The lemmas stand
+-- here since the laws of the world cite them.
+use Rattle.std.specs.Prelude.{◌≡◌, ℕ, ◌==◌, pos, ◌⊎◌, List, codes, true, Result, Err, refl}
+use Rattle.std.proofs.Common.{sym, ◌∙◌, ap, subst, inl, inr}
+use Rattle.std.proofs.lemmas.Bool.{false≢true}
 use Rattle.file_formats.specs.Header.{head_of}
 use Rattle.file_formats.specs.Identity.{Identity, IsIdentity}
 use Rattle.file_formats.specs.Table.{table_of}
@@ -36,10 +38,7 @@ pub record IsEither (asked : List ℕ) (stamp : StampFacts) (bytes : List ℕ) :
 
 -- no stamp is both
 apart : (stamp : StampFacts) → stamp ≡ first_stamp → stamp ≡ second_stamp → ⊥
-apart stamp p q =
-    let one : stamp.size ≡ 1 = ap (λ s. s.size) p in
-    let two : stamp.size ≡ 2 = ap (λ s. s.size) q in
-    omega arith
+apart stamp p q = false≢true (ap (λ (s : StampFacts). s.size == 2) (sym p ∙ q))
 
 -- the stamp tells the bytes
 same_bytes : (stamp : StampFacts) (a b : List ℕ) → IsOne first_stamp (codes "x") stamp a ⊎ IsOne second_stamp (codes "yy") stamp a → IsOne first_stamp (codes "x") stamp b ⊎ IsOne second_stamp (codes "yy") stamp b → a ≡ b

@@ -1,6 +1,6 @@
 -- The first answers, with one more answer.
-use Rattle.std.proofs.Common.{◌≡◌, ℕ, ◌+◌, ◌<◌, ◌&&◌, Bool, true, false, not, cond, List, [], ◌∷◌, ◌++◌, length, Option, Some, None, is_some, IsSome, Contains, refl, sym, ◌∙◌, ap, subst, arith, add-zero}
-use Rattle.std.specs.Prelude.{if◌then◌else◌, sum_by, count_by}
+use Rattle.std.proofs.Common.{◌≡◌, ℕ, ◌+◌, ◌<◌, ◌&&◌, Bool, true, false, not, cond, List, [], ◌∷◌, ◌++◌, Option, Some, None, is_some, IsSome, Contains, refl, sym, ◌∙◌, ap, subst, arith, add-zero}
+use Rattle.std.specs.Prelude.{if◌then◌else◌}
 use Rattle.std.specs.List.{list_all}
 use Rattle.std.specs.Option.{option_or}
 use Rattle.std.specs.Str.{bytes_eq}
@@ -71,22 +71,27 @@ entries_stay answers more folder entry h =
       | Some d ↦ λ e t. subst (λ (o : Option DirFacts). has_entry (entries_of o) entry ≡ true) (sym (reading_stays answers more folder d e)) t
     ] refl h
 
--- one more look, at a path that wasn't looked at
-pub after_look : (answers : List Heard) (path : List ℕ) (answer : StatAnswer) → is_look_answer answer ≡ true → first_look answers path ≡ None → (p : List ℕ) → first_look (answers ++ stat path answer ∷ []) p ≡ cond (same p path) (Some answer) (first_look answers p)
-after_look answers path answer ok fresh p =
-    first_some-append (look_at p) answers (stat path answer ∷ [])
-    ∙ elim (same p path) as (λ v. same p path ≡ v → option_or (first_look answers p) (option_or (if bytes_eq path p && is_look_answer answer then Some answer else None) None) ≡ cond v (Some answer) (first_look answers p)) [
+-- one more answer, at a path that had none
+after_first : {Y : Type 0} (f : List ℕ → Heard → Option Y) (good : Bool) (answers : List Heard) (last : Heard) (path : List ℕ) (answer : Y) → good ≡ true → first_some (f path) answers ≡ None → ((p : List ℕ) → f p last ≡ (if bytes_eq path p && good then Some answer else None)) → (p : List ℕ) → first_some (f p) (answers ++ last ∷ []) ≡ cond (same p path) (Some answer) (first_some (f p) answers)
+after_first {Y} f good answers last path answer ok fresh says p =
+    first_some-append (f p) answers (last ∷ [])
+    ∙ ap (λ (o : Option Y). option_or (first_some (f p) answers) (option_or o None)) (says p)
+    ∙ elim (same p path) as (λ v. same p path ≡ v → option_or (first_some (f p) answers) (option_or (if bytes_eq path p && good then Some answer else None) None) ≡ cond v (Some answer) (first_some (f p) answers)) [
       | true ↦ λ e.
           let one : p ≡ path = (same-Decides p path).0 e in
-          let none : first_look answers p ≡ None = subst (λ (z : List ℕ). first_look answers z ≡ None) (sym one) fresh in
-          let here : (bytes_eq path p && is_look_answer answer) ≡ true = and_from (bytes_eq path p) (is_look_answer answer) ((bytes_eq-Decides path p).1 (sym one)) ok in
-          ap (λ (o : Option StatAnswer). option_or o (option_or (if bytes_eq path p && is_look_answer answer then Some answer else None) None)) none
+          let none : first_some (f p) answers ≡ None = subst (λ (z : List ℕ). first_some (f z) answers ≡ None) (sym one) fresh in
+          let here : (bytes_eq path p && good) ≡ true = and_from (bytes_eq path p) good ((bytes_eq-Decides path p).1 (sym one)) ok in
+          ap (λ (o : Option Y). option_or o (option_or (if bytes_eq path p && good then Some answer else None) None)) none
           ∙ ap (λ (b : Bool). option_or (if b then Some answer else None) None) here
       | false ↦ λ e.
           let other : bytes_eq path p ≡ false = false_from_ne_true (bytes_eq path p) (λ t. false≢true (sym e ∙ (same-Decides p path).1 (sym ((bytes_eq-Decides path p).0 t)))) in
-          ap (λ (b : Bool). option_or (first_look answers p) (option_or (if b then Some answer else None) None)) (and_left (bytes_eq path p) (is_look_answer answer) other)
-          ∙ or_none (first_look answers p)
+          ap (λ (b : Bool). option_or (first_some (f p) answers) (option_or (if b then Some answer else None) None)) (and_left (bytes_eq path p) good other)
+          ∙ or_none (first_some (f p) answers)
     ] refl
+
+-- one more look, at a path that wasn't looked at
+pub after_look : (answers : List Heard) (path : List ℕ) (answer : StatAnswer) → is_look_answer answer ≡ true → first_look answers path ≡ None → (p : List ℕ) → first_look (answers ++ stat path answer ∷ []) p ≡ cond (same p path) (Some answer) (first_look answers p)
+after_look answers path answer ok fresh p = after_first look_at (is_look_answer answer) answers (stat path answer) path answer ok fresh (λ q. refl) p
 
 -- one more look, at a path that was looked at before
 pub look_again : (answers : List Heard) (path : List ℕ) (answer known : StatAnswer) → first_look answers path ≡ Some known → (p : List ℕ) → first_look (answers ++ stat path answer ∷ []) p ≡ first_look answers p
@@ -101,20 +106,7 @@ look_again answers path answer known before p =
 
 -- one more reading, of a folder that wasn't read
 pub after_reading : (answers : List Heard) (path : List ℕ) (answer : DirFacts) → is_dir_answer answer ≡ true → first_reading answers path ≡ None → (p : List ℕ) → first_reading (answers ++ read_dir path answer ∷ []) p ≡ cond (same p path) (Some answer) (first_reading answers p)
-after_reading answers path answer ok fresh p =
-    first_some-append (reading_of p) answers (read_dir path answer ∷ [])
-    ∙ elim (same p path) as (λ v. same p path ≡ v → option_or (first_reading answers p) (option_or (if bytes_eq path p && is_dir_answer answer then Some answer else None) None) ≡ cond v (Some answer) (first_reading answers p)) [
-      | true ↦ λ e.
-          let one : p ≡ path = (same-Decides p path).0 e in
-          let none : first_reading answers p ≡ None = subst (λ (z : List ℕ). first_reading answers z ≡ None) (sym one) fresh in
-          let here : (bytes_eq path p && is_dir_answer answer) ≡ true = and_from (bytes_eq path p) (is_dir_answer answer) ((bytes_eq-Decides path p).1 (sym one)) ok in
-          ap (λ (o : Option DirFacts). option_or o (option_or (if bytes_eq path p && is_dir_answer answer then Some answer else None) None)) none
-          ∙ ap (λ (b : Bool). option_or (if b then Some answer else None) None) here
-      | false ↦ λ e.
-          let other : bytes_eq path p ≡ false = false_from_ne_true (bytes_eq path p) (λ t. false≢true (sym e ∙ (same-Decides p path).1 (sym ((bytes_eq-Decides path p).0 t)))) in
-          ap (λ (b : Bool). option_or (first_reading answers p) (option_or (if b then Some answer else None) None)) (and_left (bytes_eq path p) (is_dir_answer answer) other)
-          ∙ or_none (first_reading answers p)
-    ] refl
+after_reading answers path answer ok fresh p = after_first reading_of (is_dir_answer answer) answers (read_dir path answer) path answer ok fresh (λ q. refl) p
 
 -- a look is no reading, and a reading no look
 pub reading_past_look : (answers : List Heard) (path : List ℕ) (answer : StatAnswer) (p : List ℕ) → first_reading (answers ++ stat path answer ∷ []) p ≡ first_reading answers p

@@ -1,21 +1,20 @@
 -- Paths of entries: they are canonical, and lie under what their folders lie under.
-use Rattle.std.proofs.Common.{◌≡◌, ℕ, ◌+◌, ◌≤◌, ◌<◌, ◌||◌, ◌&&◌, ◌⊎◌, inl, inr, Bool, true, false, not, cond, List, [], ◌∷◌, ◌++◌, length, drop, All, nat_eq, refl, sym, ◌∙◌, ap, subst, append_assoc, length-append, arith}
+use Rattle.std.proofs.Common.{◌≡◌, ℕ, ◌+◌, ◌≤◌, ◌<◌, ◌||◌, ◌&&◌, inl, inr, true, false, not, cond, List, [], ◌∷◌, ◌++◌, length, drop, nat_eq, refl, sym, ◌∙◌, ap, subst, append_assoc, length-append, arith}
 use Rattle.std.specs.Prelude.{◌==◌, if◌then◌else◌}
-use Rattle.std.specs.List.{onto_first, list_all, starts_with, join_with_byte, count_by}
+use Rattle.std.specs.List.{onto_first, list_all, starts_with, count_by}
 use Rattle.std.specs.Str.{bytes_eq}
-use Rattle.std.proofs.lemmas.Bool.{false≢true, false_from_ne_true, not-true, eqb-true, and_parts, and_from, or_cases, cases_lt}
-use Rattle.std.proofs.lemmas.Bool.Decides.{Decides-eqb}
+use Rattle.std.proofs.lemmas.Bool.{false≢true, false_from_ne_true, eqb-true, and_parts, and_from, or_cases, cases_lt}
 use Rattle.std.proofs.lemmas.List.{append-nil}
 use Rattle.std.proofs.lemmas.List.Folds.{list_all-append}
 use Rattle.std.proofs.lemmas.List.Splits.{length-slice_split, slice_split_none}
-use Rattle.std.proofs.lemmas.List.Sums.{AllPass-from_list_all}
-use Rattle.std.proofs.lemmas.Slice.Eq.{bytes_eq-Decides, starts_is}
-use Rattle.row_types.specs.Canon.{pieces, canon, stays, is_plain_tail, has_form, IsCanonical, IsCanonPath}
+use Rattle.std.proofs.lemmas.Slice.Eq.{bytes_eq-Decides}
+use Rattle.row_types.specs.Canon.{pieces, stays, is_plain_tail, has_form, IsCanonical}
 use Rattle.row_types.specs.declared.limits.TheConstants.{SEPARATOR}
-use Rattle.row_types.proofs.CanonLemmas.{has_form_is_canonical}
+use Rattle.row_types.proofs.CanonLemmas.{canon_of_form, form_of_canon, no_slash, pieces_no_slash}
 use Rattle.tree_trait.specs.Dir.{child}
 use Rattle.tree_trait.specs.Entry.{has_no_slash, is_entry_name}
 use Rattle.tree_trait.specs.Present.{front_under, lies_under}
+use Rattle.tree_trait.proofs.FolderLemmas.{front_of_longer, starts_at, starts_rest}
 use Rattle.tree_walk.specs.Files.{is_within}
 
 -- the pieces of two texts with a slash between them
@@ -35,21 +34,12 @@ pieces-append (x ∷ xs) ys =
     ]
 
 -- a text without a slash is one piece
-no_slash : (name : List ℕ) → has_no_slash name ≡ true → All (λ b. (b == SEPARATOR) ≡ false) name
-no_slash name h k d within = not-true _ (AllPass-from_list_all (λ b. not (b == SEPARATOR)) name h k d within)
-
 name_is_piece : (name : List ℕ) → is_entry_name name ≡ true → pieces name ≡ name ∷ []
 name_is_piece name h = slice_split_none (λ b. b == SEPARATOR) name (no_slash name (and_parts (stays name) (has_no_slash name) h).1)
 
 plain_name : (name : List ℕ) → is_entry_name name ≡ true → is_plain_tail name ≡ true
 plain_name [] h = refl
 plain_name (b ∷ rest) h = ap (list_all stays) (name_is_piece (b ∷ rest) h) ∙ and_from (stays (b ∷ rest)) true (and_parts (stays (b ∷ rest)) (has_no_slash (b ∷ rest)) h).0 refl
-
--- what paths under a folder that isn't the root begin with
-pub front_of_longer : (path : List ℕ) → 1 < length path → front_under path ≡ path ++ SEPARATOR ∷ []
-front_of_longer path long =
-    let other : bytes_eq path (SEPARATOR ∷ []) ≡ false = false_from_ne_true (bytes_eq path (SEPARATOR ∷ [])) (λ t. let one = ap length ((bytes_eq-Decides path (SEPARATOR ∷ [])).0 t) in absurd (omega (arith, one, long))) in
-    ap (λ (b : Bool). if b then path else path ++ SEPARATOR ∷ []) other
 
 -- the path of an entry is canonical
 form_of_child : (tail name : List ℕ) → is_plain_tail tail ≡ true → is_entry_name name ≡ true → has_form (child (SEPARATOR ∷ tail) name) ≡ true
@@ -68,20 +58,10 @@ child_form (b ∷ tail) name h n =
     let parts = and_parts (b == SEPARATOR) (is_plain_tail tail) h in
     subst (λ (z : ℕ). has_form (child (z ∷ tail) name) ≡ true) (sym (eqb-true b SEPARATOR parts.0)) (form_of_child tail name parts.1 n)
 
-pub form_of_canonical : (text : List ℕ) → IsCanonical text → has_form text ≡ true
-form_of_canonical text h = has_form_is_canonical text ∙ (bytes_eq-Decides (canon text) text).1 h
-
 pub child_canonical : (folder name : List ℕ) → IsCanonical folder → is_entry_name name ≡ true → IsCanonical (child folder name)
-child_canonical folder name h n =
-    (bytes_eq-Decides (canon (child folder name)) (child folder name)).0 (sym (has_form_is_canonical (child folder name)) ∙ child_form folder name (form_of_canonical folder h) n)
+child_canonical folder name h n = canon_of_form (child folder name) (child_form folder name (form_of_canon folder h) n)
 
 -- what begins with a folder's front
-starts_at : (front path rest : List ℕ) → path ≡ front ++ rest → starts_with nat_eq path front ≡ true
-starts_at front path rest e = (starts_is Decides-eqb path front (starts_with nat_eq path front) refl).1 rest e
-
-pub starts_rest : (front path : List ℕ) → starts_with nat_eq path front ≡ true → path ≡ front ++ drop (length front) path
-starts_rest front path h = (starts_is Decides-eqb path front (starts_with nat_eq path front) refl).0 h
-
 within_from_start : (root path : List ℕ) → starts_with nat_eq path (front_under root) ≡ true → is_within root path ≡ true
 within_from_start root path h =
     elim (bytes_eq path root) as (λ v. (v || (starts_with nat_eq path (front_under root) && not v)) ≡ true) [ true ↦ refl | false ↦ and_from _ true h refl ]
@@ -119,18 +99,6 @@ under_from_front folder path rest e some =
     and_from _ _ (starts_at (front_under folder) path rest e) (ap not other)
 
 -- what follows the front of a canonical folder, in a canonical path, is names
-onto_no_slash : (b : ℕ) (parts : List (List ℕ)) → (b == SEPARATOR) ≡ false → list_all has_no_slash parts ≡ true → list_all has_no_slash (onto_first b parts) ≡ true
-onto_no_slash b [] e h = and_from _ true (and_from _ true (ap not e) refl) refl
-onto_no_slash b (part ∷ parts) e h =
-    let both = and_parts (has_no_slash part) (list_all has_no_slash parts) h in
-    and_from _ _ (and_from _ _ (ap not e) both.0) both.1
-
-pieces_no_slash : (text : List ℕ) → list_all has_no_slash (pieces text) ≡ true
-pieces_no_slash [] = refl
-pieces_no_slash (b ∷ rest) =
-    elim (b == SEPARATOR) as (λ v. (b == SEPARATOR) ≡ v → list_all has_no_slash (cond v ([] ∷ pieces rest) (onto_first b (pieces rest))) ≡ true)
-    [ true ↦ λ e. pieces_no_slash rest | false ↦ λ e. onto_no_slash b (pieces rest) e (pieces_no_slash rest) ] refl
-
 names_of_pieces : (ps : List (List ℕ)) → list_all stays ps ≡ true → list_all has_no_slash ps ≡ true → list_all is_entry_name ps ≡ true
 names_of_pieces [] h n = refl
 names_of_pieces (p ∷ ps) h n =
@@ -158,7 +126,7 @@ names_after_form (b ∷ tail) path rest h form e other =
     (pieces_no_slash rest)
 
 pub names_after : (folder path rest : List ℕ) → IsCanonical folder → IsCanonical path → path ≡ front_under folder ++ rest → bytes_eq path folder ≡ false → list_all is_entry_name (pieces rest) ≡ true
-names_after folder path rest h k e other = names_after_form folder path rest (form_of_canonical folder h) (form_of_canonical path k) e other
+names_after folder path rest h k e other = names_after_form folder path rest (form_of_canon folder h) (form_of_canon path k) e other
 
 -- a path of an entry that isn't kept is too long
 pub too_long : (folder name : List ℕ) (limit : ℕ) → IsCanonical (child folder name) → ((length (child folder name) ≤ limit) → ⊥) → limit < length (child folder name)

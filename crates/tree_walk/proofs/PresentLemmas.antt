@@ -1,9 +1,9 @@
 -- The listing of a tree that is told and still: the files that are there under the roots.
-use Rattle.std.proofs.Common.{◌≡◌, ℕ, ◌+◌, ◌≤◌, ◌<◌, ◌||◌, ◌&&◌, ◌⊎◌, inl, inr, Bool, true, false, not, cond, List, [], ◌∷◌, ◌++◌, length, drop, map, Option, Some, None, option_map, is_some, IsSome, All, Contains, IsTrue, refl, sym, ◌∙◌, ap, subst, append_assoc, length-append, arith}
+use Rattle.std.proofs.Common.{◌≡◌, ℕ, ◌+◌, ◌≤◌, ◌<◌, inl, inr, Bool, true, false, not, cond, List, [], ◌∷◌, ◌++◌, length, drop, map, Some, None, option_map, IsSome, All, Contains, refl, sym, ◌∙◌, ap, subst, append_assoc, length-append, arith}
 use Rattle.std.specs.Prelude.{◌==◌}
 use Rattle.std.specs.List.{list_any, list_all, find, join_with_byte}
 use Rattle.std.specs.Str.{bytes_eq}
-use Rattle.std.proofs.lemmas.Bool.{false≢true, false_from_ne_true, not-true, and_parts, and_from, or_cases, or_left, or_right}
+use Rattle.std.proofs.lemmas.Bool.{false≢true, false_from_ne_true, not-true, and_parts, or_cases, or_left, or_right}
 use Rattle.std.proofs.lemmas.List.{get_or-map, length-map}
 use Rattle.std.proofs.lemmas.List.Elements.{All-contains, Contains-append_right, Contains-append_cases, Contains-push_cases}
 use Rattle.std.proofs.lemmas.List.Folds.{list_any_at}
@@ -16,20 +16,21 @@ use Rattle.row_types.specs.Name.{NameFacts}
 use Rattle.row_types.specs.Stamp.{StampFacts}
 use Rattle.row_types.specs.declared.limits.TheConstants.{PATH_LIMIT, SEPARATOR}
 use Rattle.tree_trait.specs.Dir.{DirFacts, listed, no_dir, dir_failed, dir_no_memory, child, makes, is_there, TellsDir}
-use Rattle.tree_trait.specs.Entry.{EntryFacts, is_entry_name, has_no_slash, has_entry}
-use Rattle.tree_trait.specs.Heard.{Heard, stat, read_dir}
+use Rattle.tree_trait.specs.Entry.{EntryFacts, is_entry_name, has_entry}
+use Rattle.tree_trait.specs.Heard.{Heard}
 use Rattle.tree_trait.specs.Present.{stamp_at, are_distinct, are_apart, front_under, lies_under, is_folder}
 use Rattle.tree_trait.specs.Stat.{TellsStat}
 use Rattle.tree_trait.specs.declared.entry.EntryKind.TheVariants as kind
 use Rattle.tree_trait.specs.declared.stat.StatAnswer.{StatAnswer}
 use Rattle.tree_trait.specs.declared.stat.StatAnswer.TheVariants.{Folder, File, Other, Gone, Failed, OutOfMemory}
+use Rattle.tree_trait.proofs.FolderLemmas.{front_of_child, name_long, starts_rest}
 use Rattle.tree_walk.specs.Answers.{is_look_answer, is_dir_answer, look_at, reading_of, first_look, first_reading, entries_of, entries_in}
 use Rattle.tree_walk.specs.Ends.{IsWhole}
 use Rattle.tree_walk.specs.Files.{is_within, IsFileUnder, AreFilesUnder, IsTold}
 use Rattle.tree_walk.specs.Walked.{IsNamed, IsReached, root, entry, IsEntry, IsFolder, IsCandidate, IsWalked, IsFull}
 use Rattle.tree_walk.specs.declared.walked.Walk.{Walk}
 use Rattle.tree_walk.proofs.AnswerLemmas.{place_of_first, look_says, reading_says}
-use Rattle.tree_walk.proofs.PathLemmas.{front_of_longer, front_begins, starts_rest, within_child, under_from_front, names_after}
+use Rattle.tree_walk.proofs.PathLemmas.{within_child, under_from_front, names_after}
 use Rattle.tree_walk.proofs.ReachLemmas.{look_was_due}
 
 -- some element that passes, and what all pass
@@ -137,30 +138,18 @@ named_told present answers folder e told read some valid there =
     ] refl read
 
 -- from a folder down to a file, name by name
-name_some : (name : List ℕ) → is_entry_name name ≡ true → 1 ≤ length name
-name_some [] h = absurd (false≢true h)
-name_some (b ∷ rest) h = omega arith
-
 joined_some : (name : List ℕ) (more : List (List ℕ)) → is_entry_name name ≡ true → 1 ≤ length (join_with_byte SEPARATOR (name ∷ more))
-joined_some name [] h = name_some name h
+joined_some name [] h = name_long name h
 joined_some name (next ∷ more) h =
     let whole : length (name ++ (SEPARATOR ∷ join_with_byte SEPARATOR (next ∷ more))) ≡ length name + length (SEPARATOR ∷ join_with_byte SEPARATOR (next ∷ more)) = length-append name (SEPARATOR ∷ join_with_byte SEPARATOR (next ∷ more)) in
-    omega (arith, whole, name_some name h)
-
-front_some : (folder : List ℕ) → 1 ≤ length (front_under folder)
-front_some [] = omega arith
-front_some (b ∷ rest) =
-    let begins = front_begins (b ∷ rest) in
-    let whole : length (front_under (b ∷ rest)) ≡ length ((b ∷ rest) ++ begins.0) = ap length begins.1 in
-    let parts : length ((b ∷ rest) ++ begins.0) ≡ length (b ∷ rest) + length begins.0 = length-append (b ∷ rest) begins.0 in
-    omega (arith, whole, parts)
+    omega (arith, whole, name_long name h)
 
 down : (present : List NameFacts) (answers : List Heard) (roots : List (List ℕ)) (file : NameFacts) → All (IsTold present) answers → IsFull answers roots → Contains present file → length file.path ≤ PATH_LIMIT
     → (folder name : List ℕ) (more : List (List ℕ)) → list_all is_entry_name (name ∷ more) ≡ true → file.path ≡ front_under folder ++ join_with_byte SEPARATOR (name ∷ more) → IsReached answers roots folder → IsSome (first_reading answers folder)
     → IsEntry answers roots kind.File file.path
 down present answers roots file told full there short folder name [] valid e reached read =
     let named : is_entry_name name ≡ true = (and_parts (is_entry_name name) true valid).0 in
-    let under : lies_under folder file.path ≡ true = under_from_front folder file.path name e (name_some name named) in
+    let under : lies_under folder file.path ≡ true = under_from_front folder file.path name e (name_long name named) in
     let some : is_folder present folder ≡ true = any_from_Contains (λ n. lies_under folder n.path) present file there under in
     let stands : is_there present folder (record { name = name; kind = kind.File }) ≡ true =
     any_from_Contains (λ n. makes kind.File (child folder name) n.path) present file there ((bytes_eq-Decides file.path (child folder name)).1 e) in
@@ -172,9 +161,7 @@ down present answers roots file told full there short folder name [] valid e rea
 down present answers roots file told full there short folder name (next ∷ more) valid e reached read =
     let parts = and_parts (is_entry_name name) (list_all is_entry_name (next ∷ more)) valid in
     let rest : List ℕ = join_with_byte SEPARATOR (next ∷ more) in
-    let long : length (child folder name) ≡ length (front_under folder) + length name = length-append (front_under folder) name in
-    let front : front_under (child folder name) ≡ child folder name ++ SEPARATOR ∷ [] =
-    front_of_longer (child folder name) (omega (arith, long, name_some name parts.0, front_some folder)) in
+    let front : front_under (child folder name) ≡ child folder name ++ SEPARATOR ∷ [] = front_of_child folder name parts.0 in
     let below : file.path ≡ front_under (child folder name) ++ rest =
     e ∙ sym (append_assoc (front_under folder) name (SEPARATOR ∷ rest)) ∙ sym (append_assoc (child folder name) (SEPARATOR ∷ []) rest) ∙ ap (λ (f : List ℕ). f ++ rest) (sym front) in
     let next_valid : is_entry_name next ≡ true = (and_parts (is_entry_name next) (list_all is_entry_name more) parts.1).0 in

@@ -1,5 +1,5 @@
 -- What is reached by answers is reached by more of them.
-use Rattle.std.proofs.Common.{◌≡◌, ℕ, ◌≤◌, ◌⊎◌, inl, inr, List, ◌++◌, length, All, Contains, Some, subst}
+use Rattle.std.proofs.Common.{◌≡◌, ℕ, inl, inr, List, ◌++◌, All, Some, subst}
 use Rattle.std.proofs.lemmas.List.Elements.{All-contains}
 use Rattle.row_types.specs.Canon.{IsCanonPath}
 use Rattle.tree_trait.specs.Heard.{Heard, load, stat, read_dir}
@@ -8,7 +8,7 @@ use Rattle.tree_trait.specs.declared.entry.EntryKind.TheVariants as kind
 use Rattle.tree_trait.specs.declared.stat.StatAnswer.{StatAnswer}
 use Rattle.tree_trait.specs.declared.stat.StatAnswer.TheVariants.{Folder}
 use Rattle.tree_walk.specs.Answers.{first_look, look_at}
-use Rattle.tree_walk.specs.Walked.{IsNamed, IsReached, root, entry, IsEntry, IsFolderRoot, IsFolder, IsCandidate, IsDue}
+use Rattle.tree_walk.specs.Walked.{IsNamed, IsReached, root, entry, IsEntry, IsFolder, IsCandidate, IsDue}
 use Rattle.tree_walk.proofs.AnswerLemmas.{entries_stay, look_stays, place_of_first, look_says}
 
 named_more : (answers more : List Heard) (folder : List ℕ) (k : EntryKind) (path : List ℕ) → IsNamed answers folder k path → IsNamed (answers ++ more) folder k path

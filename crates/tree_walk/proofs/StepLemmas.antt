@@ -1,9 +1,7 @@
 -- What is kept agrees with the answers after each step.
-use Rattle.std.proofs.Common.{◌≡◌, ℕ, ◌+◌, ◌-◌, ◌^◌, ◌≤◌, ◌<◌, ◌||◌, ◌⊎◌, inl, inr, min, Bool, true, false, not, cond, List, [], ◌∷◌, ◌++◌, length, Option, Some, None, is_some, IsSome, MatchBool, All, Contains, refl, sym, ◌∙◌, ap, subst, arith, add-zero}
+use Rattle.std.proofs.Common.{◌≡◌, ℕ, ◌+◌, ◌-◌, ◌^◌, ◌<◌, ◌||◌, ◌⊎◌, inl, inr, min, Bool, true, false, not, cond, List, [], ◌∷◌, ◌++◌, length, Option, Some, None, is_some, IsSome, MatchBool, Contains, refl, sym, ◌∙◌, ap, subst, arith, add-zero}
 use Rattle.std.specs.Prelude.{nat_lt, if◌then◌else◌, count_by}
-use Rattle.std.specs.BTreeMap.{insert_entry}
 use Rattle.std.specs.Cmp.Lexicographic.{slice_cmp}
-use Rattle.std.specs.List.{list_all, list_any}
 use Rattle.std.specs.List.Sorted.{IsStrictlySortedBy}
 use Rattle.std.specs.Map.{lookup, keys_of}
 use Rattle.std.specs.Ordering.{nat_cmp}
@@ -277,9 +275,11 @@ entries_same a b h =
     ap (λ (n : List ℕ). record { name = n; kind = b.kind }) (sym ((bytes_eq-Decides a.name b.name).0 parts.0))
     ∙ ap (λ (k : EntryKind). record { name = a.name; kind = k }) (sym (kinds_same a.kind b.kind parts.1))
 
--- one of the entries was seen to
-pub entry_step : (answers : List Heard) (roots : List (List ℕ)) (search : SearchFacts) (folder : List ℕ) (first : EntryFacts) (rest : List EntryFacts) → IsSearch answers roots search folder (first ∷ rest) → IsSettled answers search (child folder first.name) first.kind → IsSearch answers roots search folder rest
-entry_step answers roots search folder first rest s settled = record {
+-- the same search with other entries to see to
+pub with_pending : (answers : List Heard) (roots : List (List ℕ)) (search : SearchFacts) (folder to : List ℕ) (rest left : List EntryFacts) → IsSearch answers roots search folder rest
+    → ((at : List ℕ) (entry : EntryFacts) → has_entry (entries_in answers at) entry ≡ true → IsSettled answers search (child at entry.name) entry.kind ⊎ IsPending to left at entry)
+    → IsSearch answers roots search to left
+with_pending answers roots search folder to rest left s closed = record {
   files = s.files;
   others = s.others;
   ordered = s.ordered;
@@ -292,17 +292,23 @@ entry_step answers roots search folder first rest s settled = record {
   skipped = s.skipped;
   answered = s.answered;
   there = s.there;
-  closed = λ at entry h. elim (s.closed at entry h) [
-    | inl done ↦ inl done
-    | inr pending ↦ elim (or_cases (same_entry entry first) (has_entry rest entry) pending.among) [
-      | inl one ↦
-          let is_first : first ≡ entry = entries_same entry first one in
-          inl (subst (λ (z : List ℕ). IsSettled answers search (child z entry.name) entry.kind) (sym pending.here)
-          (subst (λ (e : EntryFacts). IsSettled answers search (child folder e.name) e.kind) is_first settled))
-      | inr later ↦ inr (record { here = pending.here; among = later })
-    ]
-  ];
+  closed = closed;
 }
+
+-- one of the entries was seen to
+pub entry_step : (answers : List Heard) (roots : List (List ℕ)) (search : SearchFacts) (folder : List ℕ) (first : EntryFacts) (rest : List EntryFacts) → IsSearch answers roots search folder (first ∷ rest) → IsSettled answers search (child folder first.name) first.kind → IsSearch answers roots search folder rest
+entry_step answers roots search folder first rest s settled =
+    with_pending answers roots search folder folder (first ∷ rest) rest s
+    (λ at entry h. elim (s.closed at entry h) [
+      | inl done ↦ inl done
+      | inr pending ↦ elim (or_cases (same_entry entry first) (has_entry rest entry) pending.among) [
+        | inl one ↦
+            let is_first : first ≡ entry = entries_same entry first one in
+            inl (subst (λ (z : List ℕ). IsSettled answers search (child z entry.name) entry.kind) (sym pending.here)
+            (subst (λ (e : EntryFacts). IsSettled answers search (child folder e.name) e.kind) is_first settled))
+        | inr later ↦ inr (record { here = pending.here; among = later })
+      ]
+    ])
 
 -- the next folder is one, and wasn't read
 pub record IsNextFolder (answers : List Heard) (roots : List (List ℕ)) (search : SearchFacts) (path : List ℕ) : Type 0 where

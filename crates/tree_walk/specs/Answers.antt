@@ -1,6 +1,6 @@
 -- The answers that a walk heard (this project's rule). The first answer of a path counts; a call that failed, and
 -- one that met want of memory, answered nothing.
-use Rattle.std.specs.Prelude.{◌≡◌, ℕ, ◌+◌, ◌^◌, ◌&&◌, min, Bool, true, false, not, if◌then◌else◌, List, [], ◌∷◌, ◌++◌, map, length, sum_by, count_by, Option, Some, None, option_map}
+use Rattle.std.specs.Prelude.{ℕ, ◌&&◌, Bool, true, false, not, if◌then◌else◌, List, [], ◌∷◌, ◌++◌, map, length, sum_by, count_by, Option, Some, None, option_map}
 use Rattle.std.specs.List.{zip}
 use Rattle.std.specs.Option.{option_or}
 use Rattle.std.specs.Str.{bytes_eq}

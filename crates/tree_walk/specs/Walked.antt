@@ -1,6 +1,6 @@
 -- The walk listing (this project's rule): the files that the answers name under the roots. Links and other entries
 -- that are neither a folder nor a file lead nowhere.
-use Rattle.std.specs.Prelude.{◌≡◌, ℕ, ◌+◌, ◌≤◌, ◌<◌, ◌⊎◌, ◌↔◌, true, List, length, All, Contains, Some, IsSome}
+use Rattle.std.specs.Prelude.{◌≡◌, ℕ, ◌≤◌, ◌<◌, ◌⊎◌, ◌↔◌, true, List, length, All, Contains, Some, IsSome}
 use Rattle.row_types.specs.Canon.{IsCanonPath}
 use Rattle.row_types.specs.Faults.{summed}
 use Rattle.row_types.specs.Name.{NameFacts}

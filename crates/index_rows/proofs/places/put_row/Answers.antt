@@ -1,5 +1,5 @@
 -- A write where the path stands, or an insert where it belongs, is a put.
-use Rattle.std.proofs.Common.{◌≡◌, ℕ, List, ◌∙◌, ap, subst}
+use Rattle.std.proofs.Common.{ℕ, List, ◌∙◌, ap, subst}
 use Rattle.row_types.specs.Row.{RowFacts}
 use Rattle.index_rows.specs.Places.{StandsAt, BelongsAt}
 use Rattle.index_rows.specs.Rows.{path_of}

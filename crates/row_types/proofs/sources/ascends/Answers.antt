@@ -14,4 +14,4 @@ returns-then-not-is_before c = (
 pub loop-i-preserved : goal.loop-i-preserved
 loop-i-preserved c =
     let before : IsBefore c.index-paths-i.result c.index-paths-i-in-loop-i.result = c.is_before.ensures.0 c.if-not-is_before.false in
-    ascends_more c.args.paths.now c.loop-i.i _ _ (omega arith) (omega arith) c.index-paths-i.is c.index-paths-i-in-loop-i.is before c.loop-i.invariant
+    ascends_more (λ path. path) c.args.paths.now c.loop-i.i _ _ (omega arith) (omega arith) c.index-paths-i.is c.index-paths-i-in-loop-i.is before c.loop-i.invariant

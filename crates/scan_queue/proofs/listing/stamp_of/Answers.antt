@@ -1,5 +1,5 @@
 -- The first name that isn't before the path decides.
-use Rattle.std.proofs.Common.{◌≡◌, ℕ, ◌<◌, length, true, Some, subst, sym, ◌∙◌, ap, arith}
+use Rattle.std.proofs.Common.{◌≡◌, ℕ, length, true, Some, subst, sym, ◌∙◌, ap, arith}
 use Rattle.std.specs.List.{AllWithin}
 use Rattle.std.specs.Str.{bytes_eq}
 use Rattle.row_types.specs.Name.{NameFacts}

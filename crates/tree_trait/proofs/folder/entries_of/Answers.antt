@@ -1,12 +1,13 @@
 -- The pieces of all files are the folder's listing.
 use Rattle.std.proofs.Common.{◌≡◌, [], map, sym, subst}
+use Rattle.std.proofs.lemmas.Result.{IfOk-weaker}
 use Rattle.tree_trait.specs.Dir.{IsListing}
 use Rattle.tree_trait.specs.Folder.{with_pieces}
 use Rattle.tree_trait.specs.Found.{name_of}
-use Rattle.tree_trait.proofs.FolderLemmas.{listing, on_ok}
+use Rattle.tree_trait.proofs.FolderLemmas.{listing}
 use Rattle.tree_trait.proofs.folder.entries_of.Goals as goal
 
 pub returns : goal.returns
 returns g c =
-    on_ok (λ v. v.items ≡ with_pieces c.args.folder.now [] (map name_of c.args.files.now)) (λ v. IsListing (map name_of c.args.files.now) c.args.folder.now v.items) c.collected.result
+    IfOk-weaker c.collected.result (λ v. v.items ≡ with_pieces c.args.folder.now [] (map name_of c.args.files.now)) (λ v. IsListing (map name_of c.args.files.now) c.args.folder.now v.items)
     (λ v e. subst (IsListing (map name_of c.args.files.now) c.args.folder.now) (sym e) (listing c.args.folder.now (map name_of c.args.files.now))) c.collected.ensures

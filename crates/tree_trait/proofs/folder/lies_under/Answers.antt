@@ -1,6 +1,5 @@
 -- The path begins with the folder's path and a slash, and is another.
-use Rattle.std.proofs.Common.{◌≡◌, Bool, true, false, not, ◌&&◌, sym, ◌∙◌, ap, nat_eq}
-use Rattle.std.specs.List.{starts_with}
+use Rattle.std.proofs.Common.{not, ◌&&◌, sym, ◌∙◌, ap}
 use Rattle.std.specs.Str.{bytes_eq}
 use Rattle.tree_trait.specs.Present.{front_under}
 use Rattle.tree_trait.proofs.FolderLemmas.{is_some_starts}

@@ -1,5 +1,5 @@
 -- The folder's path is cut off, and the slash behind it.
-use Rattle.std.proofs.Common.{◌≡◌, ◌++◌, sym, ◌∙◌, ap, lit<}
+use Rattle.std.proofs.Common.{◌++◌, sym, ◌∙◌, ap, lit<}
 use Rattle.std.proofs.lemmas.Str.Pattern.{strip_prefix_char}
 use Rattle.tree_trait.proofs.FolderLemmas.{rest_of}
 use Rattle.tree_trait.proofs.folder.rest_under.Goals as goal

@@ -1,6 +1,5 @@
-use Rattle.std.proofs.Common.{◌≡◌, ℕ, ◌&&◌, Bool, true, List, map, sym, ◌∙◌, ap, subst}
+use Rattle.std.proofs.Common.{◌≡◌, ℕ, ◌&&◌, Bool, true, List, map, sym, ◌∙◌, ap}
 use Rattle.std.specs.List.{list_all}
-use Rattle.std.proofs.lemmas.Bool.{and_from}
 use Rattle.std.proofs.lemmas.List.Folds.{list_all-map}
 use Rattle.row_types.specs.Canon.{is_canonical}
 use Rattle.tree_trait.specs.Found.{FoundFacts}

@@ -1,4 +1,4 @@
-use Rattle.std.proofs.Common.{ℕ, ◌<◌, ◌≤◌, List, take, Ok, IsTrue}
+use Rattle.std.proofs.Common.{◌<◌, ◌≤◌, take, Ok, IsTrue}
 use Rattle.tree_trait.specs.Present.{IsPresence, StaysStill}
 use Rattle.tree_walk.specs.Ends.{IsCause}
 use Rattle.tree_walk.specs.Search.{Goes, IsBeginning}

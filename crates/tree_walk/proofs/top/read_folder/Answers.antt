@@ -1,4 +1,4 @@
-use Rattle.std.proofs.Common.{ℕ, List, [], ◌++◌, append_assoc, sym, ◌∙◌, subst}
+use Rattle.std.proofs.Common.{List, [], ◌++◌, append_assoc, sym, ◌∙◌, subst}
 use Rattle.std.proofs.lemmas.Result.{MatchResult-weaker}
 use Rattle.tree_trait.specs.Entry.{EntryFacts}
 use Rattle.tree_trait.specs.Heard.{Heard}

@@ -1,4 +1,4 @@
-use Rattle.std.proofs.Common.{ℕ, ◌+◌, ◌<◌, ◌≤◌, [], length, Ok, IsTrue}
+use Rattle.std.proofs.Common.{◌+◌, ◌<◌, ◌≤◌, [], length, Ok, IsTrue}
 use Rattle.tree_trait.specs.Present.{IsPresence, StaysStill}
 use Rattle.tree_walk.specs.Ends.{IsCause}
 use Rattle.tree_walk.specs.Search.{Goes, IsUnderway}

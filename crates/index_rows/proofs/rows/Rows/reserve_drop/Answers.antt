@@ -1,6 +1,5 @@
 -- The name is that of the path's row, and the log has room.
-use Rattle.std.proofs.Common.{◌≡◌, ◌≢◌, ◌<◌, ◌+◌, ◌≤◌, length, vec_len, rules, arith, sym, ◌∙◌, ap, Some, Option, List}
-use Rattle.std.specs.Vec.{vec_capacity}
+use Rattle.std.proofs.Common.{◌≡◌, ◌≢◌, length, vec_len, rules, arith, sym, ◌∙◌, ap, Some, List}
 use Rattle.row_types.specs.Row.{RowFacts}
 use Rattle.row_types.specs.Name.{NameFacts}
 use Rattle.index_rows.specs.Rows.{row_at}

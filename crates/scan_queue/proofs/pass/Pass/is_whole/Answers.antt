@@ -1,8 +1,8 @@
 -- All slots are done exactly where nothing is picked.
-use Rattle.std.proofs.Common.{◌≡◌, true, List, sym, ◌∙◌, ap, subst}
+use Rattle.std.proofs.Common.{List, sym, ◌∙◌, ap, subst}
 use Rattle.std.specs.List.{list_all}
 use Rattle.scan_queue.specs.Pass.{IsWhole}
-use Rattle.scan_queue.specs.Slots.{facts_of, is_done}
+use Rattle.scan_queue.specs.Slots.{is_done}
 use Rattle.scan_queue.specs.declared.slot.Slot.{Slot}
 use Rattle.scan_queue.proofs.Changes.{all_done, done_all}
 use Rattle.scan_queue.proofs.pass.Pass.is_whole.Goals as goal

@@ -2,7 +2,6 @@
 use Rattle.std.proofs.Common.{subst}
 use Rattle.scan_queue.specs.Pass.{IsPass}
 use Rattle.scan_queue.proofs.Passes.{laid_out_is_pass}
-use Rattle.scan_queue.proofs.Leaves.{held}
 use Rattle.scan_queue.proofs.pass.Pass.listing.Goals as goal
 
 pub returns-clause-holds : goal.returns-clause-holds

@@ -1,11 +1,11 @@
 -- The first name that is to be read is handed out, or none is left.
-use Rattle.std.proofs.Common.{◌≡◌, ◌<◌, length, true, false, ℕ, List, sym, ◌∙◌, ap, subst, arith, slice_index_or, slice_set}
+use Rattle.std.proofs.Common.{◌≡◌, ◌<◌, length, false, List, sym, ◌∙◌, ap, subst, arith, slice_index_or, slice_set}
 use Rattle.row_types.specs.Name.{NameFacts}
-use Rattle.scan_queue.specs.Pass.{IsPass, PassFacts, Takes}
+use Rattle.scan_queue.specs.Pass.{PassFacts, Takes}
 use Rattle.scan_queue.specs.Slots.{IsLaidOut, IsMark, facts_of}
 use Rattle.scan_queue.specs.declared.slot.Place.TheVariants.{Todo}
 use Rattle.scan_queue.specs.declared.slot.Slot.{Slot}
-use Rattle.scan_queue.proofs.Changes.{laid_out_marked, laid_out_taken, none_to_take, out_slot, taken}
+use Rattle.scan_queue.proofs.Changes.{laid_out_marked, laid_out_taken, out_slot, taken}
 use Rattle.scan_queue.proofs.Passes.{laid_out_is_pass}
 use Rattle.scan_queue.proofs.pass.Pass.take.Goals as goal
 
