@@ -1,11 +1,9 @@
 -- The tables of a store (this project's rule): rows of a path and its bytes, by path, each path once.
 use Rattle.std.specs.Prelude.{◌≡◌, ℕ, Bool, List, ◌++◌, filter, Option, Some, None, option_map}
-use Rattle.std.specs.List.{AllPairs, find}
+use Rattle.std.specs.List.{find}
 use Rattle.std.specs.Option.{option_to_list}
-use Rattle.std.specs.Ordering.{nat_cmp, is_lt}
-use Rattle.std.specs.Cmp.Lexicographic.{slice_cmp}
 use Rattle.std.specs.Str.{bytes_eq}
-use Rattle.row_types.specs.Ascends.{IsBefore}
+use Rattle.row_types.specs.Ascends.{AscendsBy, is_before}
 
 -- a row of the tables: a path, and the bytes that are kept under it
 pub record KeptFacts : Type 0 where
@@ -14,7 +12,7 @@ pub record KeptFacts : Type 0 where
 
 -- each row's path stands before that of each later one
 abbrev pub AscendsByPath : List KeptFacts → Type 0
-AscendsByPath rows = AllPairs (λ a b. IsBefore a.path b.path) rows
+AscendsByPath rows = AscendsBy (λ row. row.path) rows
 
 -- a change of the tables: a path, and the bytes that are kept under it from then on, or none
 pub record EditFacts : Type 0 where
@@ -31,11 +29,11 @@ removal_of path = record { path = path; bytes = None }
 
 -- whether the row stands before the path
 abbrev pub stands_before : List ℕ → KeptFacts → Bool
-stands_before path row = is_lt (slice_cmp nat_cmp row.path path)
+stands_before path row = is_before row.path path
 
 -- whether the row stands after the path
 abbrev pub stands_after : List ℕ → KeptFacts → Bool
-stands_after path row = is_lt (slice_cmp nat_cmp path row.path)
+stands_after path row = is_before path row.path
 
 -- the row of the path after the change, if it is kept
 abbrev pub row_after : EditFacts → List KeptFacts

@@ -7,7 +7,7 @@ use Rattle.std.proofs.lemmas.List.Elements.{All-filter}
 use Rattle.std.proofs.lemmas.Slice.Eq.{bytes_eq-Decides}
 use Rattle.row_types.specs.Name.{NameFacts}
 use Rattle.row_types.specs.Row.{RowFacts}
-use Rattle.index_rows.specs.ByPath.{AscendsBy}
+use Rattle.row_types.specs.Ascends.{AscendsBy}
 use Rattle.index_rows.specs.Kept.{HasRoom, IsKept}
 use Rattle.index_rows.specs.Log.{put_of, drop_of, replay}
 use Rattle.index_rows.specs.Rows.{RowsFacts, path_of, names_of, row_at, IsReady, IsDropOf, IsIndex, with_row, without_row, after_put, after_drop, after_void, CanBeVoid, void_of}

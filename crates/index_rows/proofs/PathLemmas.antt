@@ -14,9 +14,9 @@ use Rattle.std.proofs.lemmas.List.{set-get_or, set_split, take-append-drop, get_
 use Rattle.std.proofs.lemmas.List.Elements.{All-append, All-cons, All-filter, All-weaker, filter-append, filter_passes}
 use Rattle.std.proofs.lemmas.List.Kept.{AllPairs-cons, AllPairs-filter}
 use Rattle.std.proofs.lemmas.List.Sorted.{searchable_from_sorted}
-use Rattle.row_types.specs.Ascends.{IsBefore}
+use Rattle.row_types.specs.Ascends.{IsBefore, is_before, AscendsBy}
 use Rattle.row_types.proofs.AscendsLemmas.{before_differs, before_from_test}
-use Rattle.index_rows.specs.ByPath.{is_before, AscendsBy, put_at, find_at, without}
+use Rattle.index_rows.specs.ByPath.{put_at, find_at, without}
 use Rattle.index_rows.specs.Places.{StandsAt, BelongsAt, IsPlace}
 use Rattle.index_rows.proofs.Lists.{filter_all, filter_none, filter_front, filter_back, filter_skips, filter_but, around, split_place, find_none, find_first, map_filter, all_pairs_append, IsFound, found_there}
 

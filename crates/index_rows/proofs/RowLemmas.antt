@@ -10,12 +10,13 @@ use Rattle.std.proofs.lemmas.Slice.Eq.{bytes_eq-Decides}
 use Rattle.std.proofs.lemmas.List.{get_or_default}
 use Rattle.std.proofs.lemmas.List.Elements.{All-map}
 use Rattle.std.proofs.lemmas.List.Sums.{fold_push}
-use Rattle.row_types.specs.Name.{NameFacts}
+use Rattle.row_types.specs.Name.{NameFacts, same_name}
 use Rattle.row_types.specs.Row.{RowFacts}
-use Rattle.row_types.specs.Stamp.{StampFacts}
+use Rattle.row_types.specs.Stamp.{StampFacts, same_stamp}
 use Rattle.row_types.proofs.PartLemmas.{names_same, stamps_same}
-use Rattle.index_rows.specs.ByPath.{AscendsBy, put_at, find_at}
-use Rattle.index_rows.specs.Log.{put_of, drop_of, same_stamp, same_name, after_change, replay}
+use Rattle.row_types.specs.Ascends.{AscendsBy}
+use Rattle.index_rows.specs.ByPath.{put_at, find_at}
+use Rattle.index_rows.specs.Log.{put_of, drop_of, after_change, replay}
 use Rattle.index_rows.specs.Rows.{path_of, names_of, row_at, with_row, without_row, Stands}
 use Rattle.index_rows.specs.declared.change.Change.{Change}
 use Rattle.index_rows.proofs.Lists.{filter_all, filter_same, map_filter}

@@ -1,19 +1,8 @@
 -- Lists in path order (this project's rule): what stands there has a path, by whose bytes it is ordered.
-use Rattle.std.specs.Prelude.{ℕ, Bool, not, List, ◌∷◌, ◌++◌, filter}
-use Rattle.std.specs.List.{AllPairs, find}
-use Rattle.std.specs.Prelude.{Option}
-use Rattle.std.specs.Ordering.{nat_cmp, is_lt}
-use Rattle.std.specs.Cmp.Lexicographic.{slice_cmp}
+use Rattle.std.specs.Prelude.{ℕ, not, List, ◌∷◌, ◌++◌, filter, Option}
+use Rattle.std.specs.List.{find}
 use Rattle.std.specs.Str.{bytes_eq}
-use Rattle.row_types.specs.Ascends.{IsBefore}
-
--- whether the first path stands before the second
-abbrev pub is_before : List ℕ → List ℕ → Bool
-is_before path other = is_lt (slice_cmp nat_cmp path other)
-
--- each stands before each later one
-abbrev pub AscendsBy : {X : Type 0} → (X → List ℕ) → List X → Type 0
-AscendsBy path xs = AllPairs (λ x y. IsBefore (path x) (path y)) xs
+use Rattle.row_types.specs.Ascends.{is_before}
 
 -- the list with x at its path's place; what had the path goes
 abbrev pub put_at : {X : Type 0} → (X → List ℕ) → X → List X → List X

@@ -15,14 +15,6 @@ put_of name = record { put = true; name = name }
 abbrev pub drop_of : NameFacts → Change
 drop_of name = record { put = false; name = name }
 
--- whether the stamps are the same
-abbrev pub same_stamp : StampFacts → StampFacts → Bool
-same_stamp stamp other = nat_eq stamp.size other.size && int_eq stamp.secs other.secs && nat_eq stamp.nanos other.nanos
-
--- whether the names are the same
-abbrev pub same_name : NameFacts → NameFacts → Bool
-same_name name other = bytes_eq name.path other.path && same_stamp name.stamp other.stamp
-
 -- the names after a change: a put removes any name of its path and adds its own in path order, a drop removes
 -- that very name, if it stands
 abbrev pub after_change : List NameFacts → Change → List NameFacts

@@ -2,7 +2,8 @@
 use Rattle.std.specs.Prelude.{◌≡◌, ℕ, ◌≤◌, ◌<◌, List, [], ◌∷◌, ◌++◌, map, length, All, Option, IsSomeAnd}
 use Rattle.row_types.specs.Name.{NameFacts}
 use Rattle.row_types.specs.Row.{RowFacts}
-use Rattle.index_rows.specs.ByPath.{AscendsBy, put_at, find_at, without}
+use Rattle.row_types.specs.Ascends.{AscendsBy}
+use Rattle.index_rows.specs.ByPath.{put_at, find_at, without}
 use Rattle.index_rows.specs.Log.{put_of, drop_of, replay}
 use Rattle.index_rows.specs.declared.change.Change.{Change}
 use Rattle.index_rows.specs.declared.prepared.Prepared.{Prepared}

@@ -3,7 +3,7 @@
 ghost use Rattle.std.specs.Prelude.{◌≡◌, ◌<◌, ◌++◌, ◌∷◌, [], IsSome, IfSome, IfOk, vec_len};
 ghost use Rattle.std.specs.Option.{option_copied};
 ghost use Rattle.std.specs.Vec.{vec_capacity};
-ghost use Rattle.index_rows.specs.ByPath.{AscendsBy};
+ghost use Rattle.row_types.specs.Ascends.{AscendsBy};
 ghost use Rattle.index_rows.specs.Places.{IsPlace};
 ghost use Rattle.index_rows.specs.Rows.{names_of, path_of, row_at, with_row, without_row};
 

@@ -9,15 +9,14 @@ use Rattle.std.proofs.lemmas.List.{get_or-map, length-map}
 use Rattle.std.proofs.lemmas.List.Elements.{All-head, All-tail, All-weaker}
 use Rattle.std.proofs.lemmas.List.Folds.{list_any_none}
 use Rattle.std.proofs.lemmas.Slice.Eq.{bytes_eq-Decides}
-use Rattle.row_types.specs.Ascends.{IsBefore}
-use Rattle.row_types.specs.Name.{NameFacts}
+use Rattle.row_types.specs.Ascends.{IsBefore, AscendsBy}
+use Rattle.row_types.specs.Name.{NameFacts, same_name}
 use Rattle.row_types.specs.Row.{RowFacts}
-use Rattle.row_types.specs.Stamp.{StampFacts}
+use Rattle.row_types.specs.Stamp.{StampFacts, same_stamp}
 use Rattle.row_types.specs.declared.reading.Reading.TheVariants.{Plain}
 use Rattle.file_formats.specs.declared.fault.Why.TheVariants.{TooLarge}
-use Rattle.index_rows.specs.ByPath.{AscendsBy}
 use Rattle.index_rows.specs.Rows.{Stands, names_of, path_of, row_at}
-use Rattle.scan_queue.specs.Names.{IsByPath, is_in, same_name, same_stamp, stamp_at}
+use Rattle.scan_queue.specs.Names.{IsByPath, is_in, stamp_at}
 use Rattle.scan_queue.proofs.NameTests.{path_differs, same_name-Decides, same_stamp-Decides}
 use Rattle.scan_queue.proofs.Picks.{head_pairs, tail_pairs}
 use Rattle.index_state.specs.Plan.{has_stamp}

@@ -9,12 +9,12 @@ use Rattle.std.specs.declared.cmp.Ordering.TheVariants.{Less, Equal, Greater}
 use Rattle.std.proofs.lemmas.Bool.{and_right, false_from_ne_true, or_left, or_right, true≢false}
 use Rattle.std.proofs.lemmas.List.Folds.{list_any-append}
 use Rattle.std.proofs.lemmas.Map.Text.{is_eq-slice_cmp}
-use Rattle.row_types.specs.Ascends.{IsBefore}
-use Rattle.row_types.specs.Name.{NameFacts}
-use Rattle.index_rows.specs.ByPath.{is_before, put_at}
+use Rattle.row_types.specs.Ascends.{IsBefore, is_before}
+use Rattle.row_types.specs.Name.{NameFacts, same_name}
+use Rattle.index_rows.specs.ByPath.{put_at}
 use Rattle.index_rows.proofs.PathLemmas.{before_after, fails_after, fails_itself, tests_before}
 use Rattle.index_rows.proofs.RowLemmas.{path_in}
-use Rattle.scan_queue.specs.Names.{is_in, same_name, without}
+use Rattle.scan_queue.specs.Names.{is_in, without}
 use Rattle.scan_queue.proofs.NameTests.{path_differs, path_differs_back, same_name-Decides}
 
 -- names are one in either order

@@ -5,14 +5,14 @@ use Rattle.std.specs.Str.{bytes_eq}
 use Rattle.std.proofs.lemmas.Bool.{false_from_ne_true, or_left, or_right, true≢false}
 use Rattle.std.proofs.lemmas.List.Elements.{All-head, filter-append}
 use Rattle.std.proofs.lemmas.Slice.Eq.{bytes_eq-Decides}
-use Rattle.row_types.specs.Name.{NameFacts}
+use Rattle.row_types.specs.Name.{NameFacts, same_name}
 use Rattle.row_types.specs.Row.{RowFacts}
 use Rattle.index_rows.specs.ByPath.{put_at}
 use Rattle.index_rows.specs.Rows.{names_of, with_row}
 use Rattle.index_rows.proofs.Lists.{map_filter}
 use Rattle.index_rows.proofs.PathLemmas.{map_put}
 use Rattle.index_rows.proofs.RowLemmas.{path_in}
-use Rattle.scan_queue.specs.Names.{IsByPath, is_in, not_in, same_name, without}
+use Rattle.scan_queue.specs.Names.{IsByPath, is_in, not_in, without}
 use Rattle.scan_queue.specs.Pass.{Adds, IsPass, PassFacts, Takes, begun, left, misses_without, missed_names}
 use Rattle.scan_queue.specs.declared.miss.Miss.{Miss}
 use Rattle.scan_queue.proofs.NameTests.{same_name-Decides}

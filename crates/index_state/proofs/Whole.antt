@@ -9,11 +9,11 @@ use Rattle.std.proofs.lemmas.Cmp.{nat_list_cmp_total}
 use Rattle.std.proofs.lemmas.List.{length-map}
 use Rattle.std.proofs.lemmas.List.Folds.{list_any_at}
 use Rattle.row_types.specs.Ascends.{IsBefore}
-use Rattle.row_types.specs.Name.{NameFacts}
+use Rattle.row_types.specs.Name.{NameFacts, same_name}
 use Rattle.row_types.specs.Row.{RowFacts}
 use Rattle.index_rows.specs.Rows.{names_of, path_of, row_at}
 use Rattle.index_rows.proofs.Lists.{IsFound, found_there}
-use Rattle.scan_queue.specs.Names.{IsByPath, is_in, same_name}
+use Rattle.scan_queue.specs.Names.{IsByPath, is_in}
 use Rattle.scan_queue.specs.Pass.{IsPass, PassFacts, missed_names}
 use Rattle.scan_queue.specs.declared.miss.Miss.{Miss}
 use Rattle.scan_queue.proofs.NameTests.{not_before_itself, same_name-Decides}

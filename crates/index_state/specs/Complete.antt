@@ -3,7 +3,7 @@
 use Rattle.std.specs.Prelude.{◌≡◌, ℕ, Bool, true, false, List, [], ◌∷◌, Some, All, length, IsTrue}
 use Rattle.row_types.specs.Name.{NameFacts}
 use Rattle.row_types.specs.Row.{RowFacts}
-use Rattle.index_rows.specs.ByPath.{AscendsBy}
+use Rattle.row_types.specs.Ascends.{AscendsBy}
 use Rattle.index_rows.specs.Rows.{names_of, path_of, row_at}
 use Rattle.scan_queue.specs.Names.{is_in}
 use Rattle.scan_queue.specs.Pass.{PassFacts}

@@ -3,8 +3,8 @@ use Rattle.std.specs.Prelude.{◌≡◌, ℕ, ◌≤◌, ◌<◌, ◌||◌, Bool
 use Rattle.row_types.specs.Name.{NameFacts}
 use Rattle.row_types.specs.Row.{RowFacts}
 use Rattle.row_types.specs.declared.limits.TheConstants.{EDITION}
+use Rattle.row_types.specs.Ascends.{AscendsBy}
 use Rattle.row_codec.specs.Spelled.{IsSpelled}
-use Rattle.index_rows.specs.ByPath.{AscendsBy}
 use Rattle.index_rows.specs.Log.{replay}
 use Rattle.index_rows.specs.Rows.{names_of, path_of}
 use Rattle.index_rows.specs.declared.change.Change.{Change}

@@ -1,8 +1,8 @@
 -- What a pass has to do (this project's rule), counted against the rows as it begins.
 use Rattle.std.specs.Prelude.{Bool, false, not, List, length, count_by, Option, Some, None, is_none}
 use Rattle.row_types.specs.Name.{NameFacts}
-use Rattle.row_types.specs.Stamp.{StampFacts}
-use Rattle.scan_queue.specs.Names.{is_in, same_stamp, stamp_at}
+use Rattle.row_types.specs.Stamp.{StampFacts, same_stamp}
+use Rattle.scan_queue.specs.Names.{is_in, stamp_at}
 use Rattle.index_state.specs.declared.answer.Plan.{Plan}
 
 -- whether there is a stamp, and it is this one

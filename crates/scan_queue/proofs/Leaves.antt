@@ -6,8 +6,8 @@ use Rattle.std.proofs.lemmas.Bool.{cases_eq, cases_lt, cond-false, cond-true, fa
 use Rattle.std.proofs.lemmas.List.{get_or-drop, get_or-take, get_or_default}
 use Rattle.std.proofs.lemmas.List.Elements.{filter-append, recursion_from_All}
 use Rattle.std.proofs.lemmas.List.Folds.{list_any-append}
-use Rattle.row_types.specs.Name.{NameFacts}
-use Rattle.scan_queue.specs.Names.{is_in, same_name, without}
+use Rattle.row_types.specs.Name.{NameFacts, same_name}
+use Rattle.scan_queue.specs.Names.{is_in, without}
 use Rattle.scan_queue.specs.Pass.{left, missed_names, misses_without, names_of}
 use Rattle.scan_queue.specs.Slots.{AreSlots, HasNameAt, IsNotHeld, at_groom, at_missed, at_out, at_todo, facts_of, groom_of, is_done, miss_of, out_of, todo_of}
 use Rattle.scan_queue.specs.declared.miss.Miss.{Miss}

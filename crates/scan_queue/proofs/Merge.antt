@@ -11,10 +11,10 @@ use Rattle.std.proofs.lemmas.List.{append-nil, drop_all}
 use Rattle.std.proofs.lemmas.List.Elements.{All-from_recursion, All-map, filter_passes, recursion_from_All}
 use Rattle.std.proofs.lemmas.List.Kept.{AllPairs-cons}
 use Rattle.std.proofs.lemmas.Slice.Eq.{bytes_eq-Decides}
-use Rattle.row_types.specs.Ascends.{IsBefore}
-use Rattle.row_types.specs.Name.{NameFacts}
+use Rattle.row_types.specs.Ascends.{IsBefore, is_before}
+use Rattle.row_types.specs.Name.{NameFacts, same_name}
 use Rattle.row_types.proofs.AscendsLemmas.{before_from_test}
-use Rattle.scan_queue.specs.Names.{IsByPath, comes_before, is_in, not_in, same_name}
+use Rattle.scan_queue.specs.Names.{IsByPath, is_in, not_in}
 use Rattle.scan_queue.specs.Slots.{AreFirst, AreOrdered, IsSlot, KeyPrecedes, groom_of, key_of, listed_slot, miss_of, out_of, todo_of, unlisted_slot}
 use Rattle.scan_queue.specs.declared.slot.Slot.{Slot}
 use Rattle.scan_queue.proofs.Picks.{head_pairs, none_picked, tail_pairs, weaken}
@@ -24,7 +24,7 @@ use Rattle.scan_queue.proofs.NameTests.{path_differs, path_differs_back, same_na
 -- the slots of one listed name, with those of the current ones before it in front, and then the rest
 abbrev pub upto : NameFacts → (List NameFacts → List Slot) → List NameFacts → List Slot
 upto l rest [] = listed_slot l ∷ rest []
-upto l rest (c ∷ cs) = cond (comes_before c.path l.path) (unlisted_slot c ∷ upto l rest cs) (cond (same_name l c) (rest cs) (listed_slot l ∷ rest (c ∷ cs)))
+upto l rest (c ∷ cs) = cond (is_before c.path l.path) (unlisted_slot c ∷ upto l rest cs) (cond (same_name l c) (rest cs) (listed_slot l ∷ rest (c ∷ cs)))
 
 -- the slots of all names
 abbrev pub merged : List NameFacts → List NameFacts → List Slot
@@ -65,7 +65,7 @@ every_unlisted P (c ∷ cs) h = (h.0, every_unlisted P cs h.1)
 every_upto : (P : Slot → Type 0) (l : NameFacts) (rest : List NameFacts → List Slot) → P (listed_slot l) → ((cs : List NameFacts) → AllByRecursion (λ c. P (unlisted_slot c)) cs → AllByRecursion P (rest cs)) → (cs : List NameFacts) → AllByRecursion (λ c. P (unlisted_slot c)) cs → AllByRecursion P (upto l rest cs)
 every_upto P l rest here later [] h = (here, later [] tt)
 every_upto P l rest here later (c ∷ cs) h =
-    choose (AllByRecursion P) (comes_before c.path l.path) (same_name l c) (unlisted_slot c ∷ upto l rest cs) (rest cs) (listed_slot l ∷ rest (c ∷ cs))
+    choose (AllByRecursion P) (is_before c.path l.path) (same_name l c) (unlisted_slot c ∷ upto l rest cs) (rest cs) (listed_slot l ∷ rest (c ∷ cs))
     (λ _. (h.0, every_upto P l rest here later cs h.1)) (λ _ _. later cs h.1) (λ _ _. (here, later (c ∷ cs) h))
 
 every : (P : Slot → Type 0) (ls cs : List NameFacts) → AllByRecursion (λ l. P (listed_slot l)) ls → AllByRecursion (λ c. P (unlisted_slot c)) cs → AllByRecursion P (merged ls cs)
@@ -96,7 +96,7 @@ differ_back : (a b : NameFacts) → same_name a b ≡ false → same_name b a �
 differ_back a b h = false_from_ne_true (same_name b a) (λ e. false≢true (sym h ∙ same_back b a e))
 
 -- names after one that isn't before l aren't l
-after_differs : (l c n : NameFacts) → comes_before c.path l.path ≡ false → IsBefore c.path n.path → same_name n l ≡ false
+after_differs : (l c n : NameFacts) → is_before c.path l.path ≡ false → IsBefore c.path n.path → same_name n l ≡ false
 after_differs l c n not_before before =
     false_from_ne_true (same_name n l)
     (λ e. false≢true (sym not_before ∙ test_from_before c.path l.path (subst (λ (m : NameFacts). IsBefore c.path m.path) ((same_name-Decides n l).0 e) before)))
@@ -121,7 +121,7 @@ groom_unlisted (c ∷ cs) = ap (λ (r : List NameFacts). c ∷ r) (groom_unliste
 groom_upto : (l : NameFacts) (ls : List NameFacts) → AllByRecursion (λ m. IsBefore l.path m.path) ls → ((cs : List NameFacts) → Rises cs → filter_map groom_of (merged ls cs) ≡ not_in ls cs) → (cs : List NameFacts) → Rises cs → filter_map groom_of (upto l (merged ls) cs) ≡ not_in (l ∷ ls) cs
 groom_upto l ls first later [] h = later [] tt
 groom_upto l ls first later (c ∷ cs) h =
-    choose (λ (s : List Slot). filter_map groom_of s ≡ not_in (l ∷ ls) (c ∷ cs)) (comes_before c.path l.path) (same_name l c) (unlisted_slot c ∷ upto l (merged ls) cs) (merged ls cs) (listed_slot l ∷ merged ls (c ∷ cs))
+    choose (λ (s : List Slot). filter_map groom_of s ≡ not_in (l ∷ ls) (c ∷ cs)) (is_before c.path l.path) (same_name l c) (unlisted_slot c ∷ upto l (merged ls) cs) (merged ls cs) (listed_slot l ∷ merged ls (c ∷ cs))
     (λ before.
     let all = before_all c.path l ls (before_from_test c.path l.path before) first in
     let other : is_in (l ∷ ls) c ≡ false = absent c (l ∷ ls) (weaken (λ (m : NameFacts). IsBefore c.path m.path) (λ (m : NameFacts). same_name c m ≡ false) (λ m b. path_differs c m b) (l ∷ ls) all) in
@@ -145,7 +145,7 @@ todo_unlisted (c ∷ cs) = todo_unlisted cs
 todo_upto : (l : NameFacts) (ls : List NameFacts) → AllByRecursion (λ m. IsBefore l.path m.path) ls → ((cs : List NameFacts) → Rises cs → filter_map todo_of (merged ls cs) ≡ not_in cs ls) → (cs : List NameFacts) → Rises cs → filter_map todo_of (upto l (merged ls) cs) ≡ not_in cs (l ∷ ls)
 todo_upto l ls first later [] h = ap (λ (r : List NameFacts). l ∷ r) (later [] tt)
 todo_upto l ls first later (c ∷ cs) h =
-    choose (λ (s : List Slot). filter_map todo_of s ≡ not_in (c ∷ cs) (l ∷ ls)) (comes_before c.path l.path) (same_name l c) (unlisted_slot c ∷ upto l (merged ls) cs) (merged ls cs) (listed_slot l ∷ merged ls (c ∷ cs))
+    choose (λ (s : List Slot). filter_map todo_of s ≡ not_in (c ∷ cs) (l ∷ ls)) (is_before c.path l.path) (same_name l c) (unlisted_slot c ∷ upto l (merged ls) cs) (merged ls cs) (listed_slot l ∷ merged ls (c ∷ cs))
     (λ before.
     let all = before_all c.path l ls (before_from_test c.path l.path before) first in
     todo_upto l ls first later cs h.1
@@ -167,7 +167,7 @@ not_less a b Less e h = cc
 not_less a b Equal e h = inr (sym ((bytes_eq-Decides a b).0 (texts_ties a b ∙ ap is_eq e)))
 not_less a b Greater e h = inl (nat_list_cmp_total.antisymm b a ∙ ap ordering_reverse e)
 
-not_before : (a b : List ℕ) → comes_before a b ≡ false → IsBefore b a ⊎ (b ≡ a)
+not_before : (a b : List ℕ) → is_before a b ≡ false → IsBefore b a ⊎ (b ≡ a)
 not_before a b h = not_less a b (slice_cmp nat_cmp a b) refl h
 
 ordered_cons : (s : Slot) (rest : List Slot) → AllByRecursion (λ t. KeyPrecedes (key_of s) (key_of t)) rest → AreOrdered rest → AreOrdered (s ∷ rest)
@@ -190,7 +190,7 @@ order_upto l ls first later [] h =
     (every (λ (t : Slot). KeyPrecedes (key_of (listed_slot l)) (key_of t)) ls [] (weaken (λ (n : NameFacts). IsBefore l.path n.path) (λ (n : NameFacts). KeyPrecedes (key_of (listed_slot l)) (key_of (listed_slot n))) (λ n b. inl b) ls first) tt)
     (later [] tt)
 order_upto l ls first later (c ∷ cs) h =
-    choose AreOrdered (comes_before c.path l.path) (same_name l c) (unlisted_slot c ∷ upto l (merged ls) cs) (merged ls cs) (listed_slot l ∷ merged ls (c ∷ cs))
+    choose AreOrdered (is_before c.path l.path) (same_name l c) (unlisted_slot c ∷ upto l (merged ls) cs) (merged ls cs) (listed_slot l ∷ merged ls (c ∷ cs))
     (λ before.
     ordered_cons (unlisted_slot c) (upto l (merged ls) cs)
     (every (λ (t : Slot). KeyPrecedes (key_of (unlisted_slot c)) (key_of t)) (l ∷ ls) cs

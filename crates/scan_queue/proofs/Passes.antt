@@ -7,8 +7,8 @@ use Rattle.std.proofs.lemmas.List.{get_or-map, length-map}
 use Rattle.std.proofs.lemmas.List.Elements.{recursion_from_All}
 use Rattle.std.proofs.lemmas.List.Sums.{sum_by-append, sum_by-cons}
 use Rattle.row_types.specs.Ascends.{IsBefore}
-use Rattle.row_types.specs.Name.{NameFacts}
-use Rattle.scan_queue.specs.Names.{is_in, same_name}
+use Rattle.row_types.specs.Name.{NameFacts, same_name}
+use Rattle.scan_queue.specs.Names.{is_in}
 use Rattle.scan_queue.specs.Pass.{PassFacts, InOrder, IsPass, Precedes, missed_names, names_of}
 use Rattle.scan_queue.specs.Slots.{AreSlots, IsLaidOut, IsSlot, KeyPrecedes, PlaceFits, at_groom, at_missed, at_out, at_todo, facts_of, groom_of, key_of, miss_of, out_of, todo_of}
 use Rattle.scan_queue.specs.declared.miss.Cause.TheVariants.{ReadFault}

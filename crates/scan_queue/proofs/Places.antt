@@ -5,10 +5,9 @@ use Rattle.std.specs.List.Sorted.{IsPartitionedBy}
 use Rattle.std.proofs.lemmas.Bool.{cases_lt, cases_eq, false≢true, false_from_ne_true}
 use Rattle.std.proofs.lemmas.Cmp.{nat_list_cmp_total}
 use Rattle.std.proofs.lemmas.List.{get_or_default, get_or-map, length-map}
-use Rattle.row_types.specs.Ascends.{IsBefore}
-use Rattle.row_types.specs.Name.{NameFacts}
+use Rattle.row_types.specs.Ascends.{IsBefore, is_before}
+use Rattle.row_types.specs.Name.{NameFacts, same_name}
 use Rattle.row_types.proofs.AscendsLemmas.{before_from_test}
-use Rattle.scan_queue.specs.Names.{comes_before, same_name}
 use Rattle.scan_queue.specs.Slots.{AreOrdered, HasNameAt, Key, KeyPrecedes, key_of}
 use Rattle.scan_queue.specs.declared.slot.Slot.{Slot}
 use Rattle.scan_queue.proofs.NameTests.{not_before_itself, same_name-Decides, test_from_before}
@@ -33,15 +32,15 @@ two_apart a b c (inr tie) (inl second) = subst (λ (p : List ℕ). IsBefore p c.
 two_apart a b c (inr tie) (inr other) = absurd (false≢true (sym tie.2 ∙ other.1))
 
 -- in slots in order those before a path stand in front
-pub slots_parted : (slots : List Slot) (path : List ℕ) → AreOrdered slots → IsPartitionedBy (λ s. comes_before s.name.path path) slots
+pub slots_parted : (slots : List Slot) (path : List ℕ) → AreOrdered slots → IsPartitionedBy (λ s. is_before s.name.path path) slots
 slots_parted slots path order i j d le within h =
-    below_more (λ k. comes_before (slice_index_or slots k d).name.path path ≡ true) j
+    below_more (λ k. is_before (slice_index_or slots k d).name.path path ≡ true) j
     (λ k lt. test_from_before (slice_index_or slots k d).name.path path
     (key_before (key_of (slice_index_or slots k d)) (key_of (slice_index_or slots j d)) path (slot_precedes slots order k j d lt within) (before_from_test (slice_index_or slots j d).name.path path h)))
     h i (omega arith)
 
 -- the slot of one of the two places has the name, or none has
-pub in_no_slot : (slots : List Slot) (name : NameFacts) (at : ℕ) → AreOrdered slots → AllWithin (λ s. comes_before s.name.path name.path ≡ true) slots 0 at → AllWithin (λ s. comes_before s.name.path name.path ≡ false) slots at (length slots) → (HasNameAt name slots at → ⊥) → (HasNameAt name slots (at + 1) → ⊥) → All (λ s. same_name name s.name ≡ false) slots
+pub in_no_slot : (slots : List Slot) (name : NameFacts) (at : ℕ) → AreOrdered slots → AllWithin (λ s. is_before s.name.path name.path ≡ true) slots 0 at → AllWithin (λ s. is_before s.name.path name.path ≡ false) slots at (length slots) → (HasNameAt name slots at → ⊥) → (HasNameAt name slots (at + 1) → ⊥) → All (λ s. same_name name s.name ≡ false) slots
 in_no_slot slots name at order before after not_first not_second k d lt =
     false_from_ne_true (same_name name (slice_index_or slots k d).name)
     (λ named.

@@ -1,5 +1,4 @@
--- Lists of names (this project's rule): two names are one where path and stamp are, and a list is by path where
--- each path stands before each later one.
+-- Lists of names (this project's rule): a list is by path where each path stands before each later one.
 use Rattle.std.specs.Prelude.{ℕ, ◌≤◌, ◌==◌, ◌&&◌, Bool, not, List, Option, length, filter, find}
 use Rattle.std.specs.List.{AllPairs, list_any}
 use Rattle.std.specs.Option.{option_map}
@@ -10,18 +9,6 @@ use Rattle.row_types.specs.Ascends.{IsBefore}
 use Rattle.row_types.specs.Name.{NameFacts}
 use Rattle.row_types.specs.Stamp.{StampFacts}
 use Rattle.scan_queue.specs.declared.listing.TheConstants.{LISTING_LIMIT}
-
--- whether two stamps are one
-abbrev pub same_stamp : StampFacts → StampFacts → Bool
-same_stamp a b = (a.size == b.size) && int_eq a.secs b.secs && (a.nanos == b.nanos)
-
--- whether two names are one
-abbrev pub same_name : NameFacts → NameFacts → Bool
-same_name a b = bytes_eq a.path b.path && same_stamp a.stamp b.stamp
-
--- whether the first path stands before the second
-abbrev pub comes_before : List ℕ → List ℕ → Bool
-comes_before path other = is_lt (slice_cmp nat_cmp path other)
 
 -- whether the name is in the list
 abbrev pub is_in : List NameFacts → NameFacts → Bool
@@ -37,7 +24,7 @@ without name names = filter (λ other. not (same_name name other)) names
 
 -- each name's path stands before each later one's
 abbrev pub IsByPath : List NameFacts → Type 0
-IsByPath names = AllPairs (λ a b. IsBefore a.path b.path) names
+IsByPath names = AscendsBy (λ name. name.path) names
 
 -- the names that a listing may have: by path, and no more than its limit
 pub record IsListing (names : List NameFacts) : Type 0 where

@@ -2,8 +2,8 @@
 use Rattle.std.specs.Prelude.{◌≡◌, ◌≤◌, Bool, true, false, not, List, [], ◌∷◌, ◌++◌, ◌⊎◌, map, filter, count_by}
 use Rattle.std.specs.List.{AllPairs, AllPass}
 use Rattle.row_types.specs.Ascends.{IsBefore}
-use Rattle.row_types.specs.Name.{NameFacts}
-use Rattle.scan_queue.specs.Names.{IsListing, same_name, is_in, not_in, without}
+use Rattle.row_types.specs.Name.{NameFacts, same_name}
+use Rattle.scan_queue.specs.Names.{IsListing, is_in, not_in, without}
 use Rattle.scan_queue.specs.declared.miss.Cause.{Cause}
 use Rattle.scan_queue.specs.declared.miss.Miss.{Miss}
 

@@ -2,8 +2,8 @@
 use Rattle.std.specs.Prelude.{◌≡◌, ℕ, ◌≤◌, ◌<◌, Bool, true, false, List, [], ◌⊎◌, Option, Some, None, All, map, length, take}
 use Rattle.std.specs.List.{AllPairs, HoldsAt, filter_map}
 use Rattle.row_types.specs.Ascends.{IsBefore}
-use Rattle.row_types.specs.Name.{NameFacts}
-use Rattle.scan_queue.specs.Names.{IsListing, same_name, is_in}
+use Rattle.row_types.specs.Name.{NameFacts, same_name}
+use Rattle.scan_queue.specs.Names.{IsListing, is_in}
 use Rattle.scan_queue.specs.Pass.{PassFacts, begun}
 use Rattle.scan_queue.specs.declared.miss.Miss.{Miss}
 use Rattle.scan_queue.specs.declared.slot.Place.{Place}

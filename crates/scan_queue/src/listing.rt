@@ -2,7 +2,9 @@
 
 ghost use Rattle.std.specs.Prelude.{◌≡◌, ◌↔◌, ◌≤◌, true, false, IsTrue, IsOk, IfOk, IfErr, length};
 ghost use Rattle.std.specs.List.Sorted.{IsPartitionPoint};
-ghost use Rattle.scan_queue.specs.Names.{IsByPath, IsListing, comes_before, same_name, stamp_at};
+ghost use Rattle.row_types.specs.Ascends.{is_before};
+ghost use Rattle.row_types.specs.Name.{same_name};
+ghost use Rattle.scan_queue.specs.Names.{IsByPath, IsListing, stamp_at};
 
 use row_types::{CanonPath, Name, Stamp};
 use std::marker::Model;
@@ -95,7 +97,7 @@ fn is_by_path(names: &[Name]) -> bool
 
 /// Whether the first path stands before the second.
 pub(crate) fn is_before(path: &CanonPath, other: &CanonPath) -> bool
-    ensures { result ≡ comes_before path.now other.now }
+    ensures { result ≡ is_before path.now other.now }
 {
     path.cmp(other).is_lt()
 }
@@ -128,7 +130,7 @@ fn stamp_of(names: &[Name], path: &CanonPath) -> Option<Stamp>
 fn first_from(names: &[Name], path: &CanonPath) -> usize
     requires { IsByPath names.now }
     ensures within { result ≤ length names.now }
-    ensures parted { IsPartitionPoint (λ name. comes_before name.path path.now ≡ true) (λ name. comes_before name.path path.now ≡ false) names.now result }
+    ensures parted { IsPartitionPoint (λ name. is_before name.path path.now ≡ true) (λ name. is_before name.path path.now ≡ false) names.now result }
 {
     names.partition_point(|name| is_before(&name.path, path))
 }

@@ -3,7 +3,8 @@
 ghost use Rattle.std.specs.Prelude.{◌≡◌, ◌<◌, ◌≤◌, ◌↔◌, true, false, length, count_by, IsTrue, IfOk, MatchOption, All};
 ghost use Rattle.std.specs.List.{HoldsAt, list_all};
 ghost use Rattle.std.specs.List.Sorted.{IsPartitionPoint};
-ghost use Rattle.scan_queue.specs.Names.{comes_before, same_name};
+ghost use Rattle.row_types.specs.Ascends.{is_before};
+ghost use Rattle.row_types.specs.Name.{same_name};
 ghost use Rattle.scan_queue.specs.Slots.{AreOrdered, HasNameAt, IsMark, is_done, is_groom, is_missed, is_out, is_todo, listed_slot, unlisted_slot};
 
 use crate::listing::{is_before, is_same};
@@ -117,7 +118,7 @@ fn holds(slots: &[Slot], at: usize, name: &Name) -> bool
 fn first_from(slots: &[Slot], path: &CanonPath) -> usize
     requires { AreOrdered slots.now }
     ensures within { result ≤ length slots.now }
-    ensures parted { IsPartitionPoint (λ slot. comes_before slot.name.path path.now ≡ true) (λ slot. comes_before slot.name.path path.now ≡ false) slots.now result }
+    ensures parted { IsPartitionPoint (λ slot. is_before slot.name.path path.now ≡ true) (λ slot. is_before slot.name.path path.now ≡ false) slots.now result }
 {
     slots.partition_point(|slot| is_before(&slot.name.path, path))
 }

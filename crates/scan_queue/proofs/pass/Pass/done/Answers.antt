@@ -1,6 +1,7 @@
 -- A name leaves the pass, or isn't in it.
 use Rattle.std.proofs.Common.{◌≡◌, true, false, List, All, refl, sym, ◌∙◌, ap, subst, slice_index_or, slice_set}
-use Rattle.scan_queue.specs.Names.{is_in, same_name}
+use Rattle.row_types.specs.Name.{same_name}
+use Rattle.scan_queue.specs.Names.{is_in}
 use Rattle.scan_queue.specs.Pass.{IsPass, PassFacts, left, names_of}
 use Rattle.scan_queue.specs.Slots.{HasNameAt, IsLaidOut, IsNotHeld, facts_of, is_done}
 use Rattle.scan_queue.specs.declared.slot.Slot.{Slot}
