@@ -3,7 +3,7 @@ use Rattle.std.proofs.Common.{◌≡◌, ℕ, zero, suc, ◌<◌, ◌&&◌, Bool
 use Rattle.std.specs.List.{AllPairs, cons_option, filter_map, list_all}
 use Rattle.std.specs.Prelude.{count_by, is_some}
 use Rattle.std.proofs.lemmas.Bool.{and_parts, false≢true}
-use Rattle.std.proofs.lemmas.List.{get_or-map, map-set, set-get_or, take_all}
+use Rattle.std.proofs.lemmas.List.{get_or-map, map-set, set-get_or}
 use Rattle.std.proofs.lemmas.List.Elements.{All-set, All-weaker}
 use Rattle.row_types.specs.Name.{NameFacts}
 use Rattle.scan_queue.specs.Pass.{IsWhole, Takes}
@@ -108,10 +108,6 @@ taken listing slots filled i d within mark todo =
           (stays (filter_map groom_of t) _ _ _ (groom_of x) (groom_of y) (was groom_of slots i d within) (becomes groom_of slots i y within) (ap (λ (p : Place). at_groom p x.name) todo))
           (stays (filter_map miss_of t) _ _ _ (miss_of x) (miss_of y) (was miss_of slots i d within) (becomes miss_of slots i y within) (ap (λ (p : Place). at_missed p x.name) todo));
     }
-
--- none is to be read where the mark is at the end
-pub none_to_take : (slots : List Slot) → IsMark (length slots) slots → filter_map todo_of slots ≡ []
-none_to_take slots mark = subst (λ (s : List Slot). filter_map todo_of s ≡ []) (take_all (length slots) slots (omega arith)) mark.passed
 
 -- how many are picked
 pub todo_count : (slots : List Slot) → length (filter_map todo_of slots) ≡ count_by (λ s. is_todo s.place) slots

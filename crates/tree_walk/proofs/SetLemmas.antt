@@ -90,11 +90,6 @@ sorted-with_path (y ∷ ys) x h =
           (each_with_path (λ z. slice_cmp nat_cmp y z ≡ Less) ys x h.0 before, sorted-with_path ys x h.1)
     ] refl
 
--- no paths are in order
-pub sorted_none : IsStrictlySortedBy (slice_cmp nat_cmp) []
-unfolding IsStrictlySortedBy
-sorted_none = tt
-
 -- the paths of files with one more
 pub keys-insert_entry : (files : List (List ℕ × StampFacts)) (path : List ℕ) (stamp : StampFacts) → keys_of (insert_entry (slice_cmp nat_cmp) files path stamp) ≡ with_path (keys_of files) path
 keys-insert_entry [] path stamp = refl
