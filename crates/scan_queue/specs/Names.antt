@@ -1,12 +1,10 @@
 -- Lists of names (this project's rule): a list is by path where each path stands before each later one.
-use Rattle.std.specs.Prelude.{ℕ, ◌≤◌, ◌==◌, ◌&&◌, Bool, not, List, Option, length, filter, find}
-use Rattle.std.specs.List.{AllPairs, list_any}
+use Rattle.std.specs.Prelude.{ℕ, ◌≤◌, Bool, not, List, Option, length, filter, find}
+use Rattle.std.specs.List.{list_any}
 use Rattle.std.specs.Option.{option_map}
-use Rattle.std.specs.Cmp.Lexicographic.{slice_cmp}
-use Rattle.std.specs.Ordering.{int_eq, is_lt, nat_cmp}
 use Rattle.std.specs.Str.{bytes_eq}
-use Rattle.row_types.specs.Ascends.{IsBefore}
-use Rattle.row_types.specs.Name.{NameFacts}
+use Rattle.row_types.specs.Ascends.{AscendsBy}
+use Rattle.row_types.specs.Name.{NameFacts, same_name}
 use Rattle.row_types.specs.Stamp.{StampFacts}
 use Rattle.scan_queue.specs.declared.listing.TheConstants.{LISTING_LIMIT}
 
