@@ -26,7 +26,7 @@ use Rattle.index_state.specs.Step.{HasRoom, IsAwaited, IsKnown, TakesFrom}
 use Rattle.index_state.proofs.ByName.{stands_is_in}
 use Rattle.index_state.proofs.LogSteps.{ends_void, lasting_marked, lasting_sound, origin_more, sound_put}
 use Rattle.index_state.proofs.PassSteps.{begun_listed, begun_rows, known_listed, known_rows, put_listed, put_rows, taken_is_absent, taken_is_listed, taken_listed, taken_rows}
-use Rattle.index_state.proofs.StoreSteps.{agrees_put, agrees_still, agrees_torn}
+use Rattle.index_state.proofs.StoreSteps.{agrees_put, agrees_torn}
 
 -- with another pass
 pub with_pass : {K : Type 0} (true_row : RowFacts → Type 0) (m : Meanings K) (old : StateFacts K) (pass : Option PassFacts) (roots : List (List ℕ)) → IndexInvariant true_row m old → IfSome pass IsPass → IfSome pass (ListedAccounted old.rows) → IfSome pass (RowsAccounted old.rows) → IndexInvariant true_row m (record old { pass = pass; roots = roots })
@@ -97,25 +97,6 @@ leave_keeps true_row m old name pass h known e place =
 not_counted : (broken : Bool) (faults : ℕ) → broken ≡ false → IsTrue broken → 0 < faults
 not_counted false faults e h = absurd (true≢false (sym h))
 not_counted true faults e h = absurd (true≢false e)
-
--- where nothing came of asking the keeper
-pub still_keeps : {K : Type 0} (true_row : RowFacts → Type 0) (m : Meanings K) (old : StateFacts K) (keeper : K) → IndexInvariant true_row m old → old.broken ≡ false → IsLeftAlone m old.keeper keeper → IndexInvariant true_row m (record old { keeper = keeper })
-still_keeps true_row m old keeper h sound alone = record {
-  rows_sorted_and_true = h.rows_sorted_and_true;
-  rows_replay_the_log = h.rows_replay_the_log;
-  broken_means_a_void_last_change = record { void = h.broken_means_a_void_last_change.void; counted = not_counted old.broken (m.faults keeper) sound };
-  store_agrees_with_rows = record {
-    tables = λ told. agrees_still true_row old.broken old.rows (m.tables old.keeper) (m.tables keeper) (m.images old.keeper) (m.images keeper) sound (h.store_agrees_with_rows.tables told) (alone.tells told);
-    number = alone.number ∙ h.store_agrees_with_rows.number;
-    since = subst (λ (o : Option (List EditFacts)). HasOrigin true_row old.origin o (lasting old.broken old.log)) (sym alone.stays) h.store_agrees_with_rows.since;
-  };
-  each_name_in_one_place = h.each_name_in_one_place;
-  listed_names_accounted_for = h.listed_names_accounted_for;
-  rows_accounted_for = h.rows_accounted_for;
-}
-
-above_zero : (before now : ℕ) → before + 1 ≤ now → 0 < now
-above_zero before now h = omega arith
 
 -- the state after a put that failed
 abbrev pub after_fault : {K : Type 0} → RowFacts → K → StateFacts K → StateFacts K

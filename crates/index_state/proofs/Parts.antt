@@ -50,10 +50,3 @@ fault_state {K} m rows now keeper after pass roots broken epoch puts row sound r
     (ap (λ (l : List Change). made_first (length (lasting true l) - puts) (m.made after)) log_is
     ∙ ap (λ (l : List Change). made_first (length l - puts) (m.made after)) (lasting_marked rows.log (drop_of row.name) ∙ sym (lasting_sound broken rows.log sound))
     ∙ ap (λ (o : Option (List EditFacts)). made_first (length (lasting broken rows.log) - puts) o) made_is)
-
--- where nothing came of asking the keeper
-pub still_state : {K : Type 0} (m : Meanings K) (rows now : RowsFacts) (keeper after : K) (pass : Option PassFacts) (roots : List (List ℕ)) (broken : Bool) (epoch puts : ℕ) → now.rows ≡ rows.rows → now.log ≡ rows.log → m.made after ≡ m.made keeper → state_of m.made now after pass roots broken epoch puts ≡ record (state_of m.made rows keeper pass roots broken epoch puts) { keeper = after }
-still_state {K} m rows now keeper after pass roots broken epoch puts rows_is log_is made_is =
-    same_whole {K = K} now.rows rows.rows now.log rows.log after pass pass roots broken epoch puts _ _ rows_is log_is refl
-    (ap (λ (l : List Change). made_first (length (lasting broken l) - puts) (m.made after)) log_is
-    ∙ ap (λ (o : Option (List EditFacts)). made_first (length (lasting broken rows.log) - puts) o) made_is)

@@ -18,8 +18,8 @@ use Rattle.index_state.specs.Stored.{IsMarked, IsRefused, IsStored, SaysKept}
 use Rattle.index_state.specs.declared.answer.Plan.{Plan}
 use Rattle.index_state.specs.declared.answer.Published.{Published}
 use Rattle.index_state.specs.declared.answer.Published.TheVariants.{Added, Replaced, Already, NotListed, Broken, LogFull, KeeperFault, OutOfMemory}
-use Rattle.index_state.proofs.Keeps.{after_stored, fault_keeps, put_keeps, still_keeps}
-use Rattle.index_state.proofs.Parts.{fault_state, put_state, still_state}
+use Rattle.index_state.proofs.Keeps.{after_stored, fault_keeps, put_keeps}
+use Rattle.index_state.proofs.Parts.{fault_state, put_state}
 
 -- a pass begins
 pub begin_step : {K : Type 0} (old : StateFacts K) (listing : List NameFacts) (roots : List (List ℕ)) (plan : Plan) (pass : PassFacts) → old.broken ≡ false → plan ≡ plan_of listing (names_of old.rows) → pass ≡ begun listing (names_of old.rows) → BeginsPass listing roots plan old (record old { pass = Some pass; roots = roots })
@@ -96,37 +96,3 @@ failed_keeps {K} true_row m rows now keeper after pass roots broken epoch puts r
     let P : StateFacts K → Type 0 = IndexInvariant true_row m in
     subst P (sym (fault_state m rows now keeper after pass roots broken epoch puts row awaited.sound marked.rows marked.log marked.kept.asked.grows))
     (fault_keeps true_row m (state_of m.made rows keeper pass roots broken epoch puts) row after h (record { awaited = awaited; room = marked.room }) holds marked.kept)
-
-pub failed_step : {K : Type 0} (m : Meanings K) (rows now : RowsFacts) (keeper after : K) (pass : Option PassFacts) (roots : List (List ℕ)) (broken : Bool) (epoch puts : ℕ) (row : RowFacts) (said : Published) (state : StateFacts K) → IsSeen m rows keeper pass roots broken epoch puts state → SaysKept row.name state said → IsMarked m row rows keeper now after → Breaks m row state (state_of m.made now after pass roots true epoch puts)
-failed_step {K} m rows now keeper after pass roots broken epoch puts row said state seen says marked =
-    let awaited = awaited_in m rows keeper pass roots broken epoch puts state row.name said seen says in
-    let old : StateFacts K = state_of m.made rows keeper pass roots broken epoch puts in
-    let new : StateFacts K = state_of m.made now after pass roots true epoch puts in
-    let whole : Breaks m row old new = record {
-      can = record { awaited = awaited; room = marked.room };
-      keeper = marked.kept;
-      after = fault_state m rows now keeper after pass roots broken epoch puts row awaited.sound marked.rows marked.log marked.kept.asked.grows;
-    } in
-    let P : StateFacts K → Type 0 = λ s. Breaks m row s new in
-    subst P seen.is whole
-
--- the parts where memory was refused
-pub refused_keeps : {K : Type 0} (true_row : RowFacts → Type 0) (m : Meanings K) (rows now : RowsFacts) (keeper after : K) (pass : Option PassFacts) (roots : List (List ℕ)) (broken : Bool) (epoch puts : ℕ) (row : RowFacts) (said : Published) (state : StateFacts K) → IndexInvariant true_row m (state_of m.made rows keeper pass roots broken epoch puts) → IsSeen m rows keeper pass roots broken epoch puts state → SaysKept row.name state said → IsRefused m rows keeper now after → IndexInvariant true_row m (state_of m.made now after pass roots broken epoch puts)
-refused_keeps {K} true_row m rows now keeper after pass roots broken epoch puts row said state h seen says refused =
-    let awaited = awaited_in m rows keeper pass roots broken epoch puts state row.name said seen says in
-    let P : StateFacts K → Type 0 = IndexInvariant true_row m in
-    subst P (sym (still_state m rows now keeper after pass roots broken epoch puts refused.rows refused.log refused.kept.stays))
-    (still_keeps true_row m (state_of m.made rows keeper pass roots broken epoch puts) after h awaited.sound refused.kept)
-
-pub refused_step : {K : Type 0} (m : Meanings K) (rows now : RowsFacts) (keeper after : K) (pass : Option PassFacts) (roots : List (List ℕ)) (broken : Bool) (epoch puts : ℕ) (row : RowFacts) (said : Published) (state : StateFacts K) → IsSeen m rows keeper pass roots broken epoch puts state → SaysKept row.name state said → IsRefused m rows keeper now after → FindsNoMemory m row state (state_of m.made now after pass roots broken epoch puts)
-refused_step {K} m rows now keeper after pass roots broken epoch puts row said state seen says refused =
-    let awaited = awaited_in m rows keeper pass roots broken epoch puts state row.name said seen says in
-    let old : StateFacts K = state_of m.made rows keeper pass roots broken epoch puts in
-    let new : StateFacts K = state_of m.made now after pass roots broken epoch puts in
-    let whole : FindsNoMemory m row old new = record {
-      can = record { awaited = awaited; room = refused.room };
-      keeper = refused.kept;
-      same = still_state m rows now keeper after pass roots broken epoch puts refused.rows refused.log refused.kept.stays;
-    } in
-    let P : StateFacts K → Type 0 = λ s. FindsNoMemory m row s new in
-    subst P seen.is whole

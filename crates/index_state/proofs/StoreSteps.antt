@@ -45,14 +45,3 @@ agrees_torn true_row false row rows old new before now e spelled holds h torn = 
   without = subst now h.same torn.before;
   each = λ image is. in_doubt true_row row rows old image h.same spelled holds (torn.each image is);
 }
-
--- where nothing came of it the store is as it was
-pub agrees_still : (true_row : RowFacts → Type 0) (broken : Bool) (rows : List RowFacts) (old new : List KeptFacts) (before now : List KeptFacts → Type 0) → broken ≡ false → Agrees true_row broken rows old before → IsUntouched old new before now → Agrees true_row broken rows new now
-agrees_still true_row true rows old new before now e h same = absurd (true≢false e)
-agrees_still true_row false rows old new before now e h same = record {
-  same = same.tables ∙ h.same;
-  only = record {
-    left = (same.images new).1 (subst before (sym same.tables) h.only.left);
-    only = λ image is. h.only.only image ((same.images image).0 is) ∙ sym same.tables;
-  };
-}

@@ -19,7 +19,7 @@ pub record Meanings (K : Type 0) : Type 1 where
   pub faults : K → ℕ
   pub epoch : K → ℕ
 
--- these six
+-- what contracts know of a kind of keepers, put together from its six parts
 abbrev pub meanings : {K : Type 0} → Bool → (K → List KeptFacts) → (K → List KeptFacts → Type 0) → (K → Option (List EditFacts)) → (K → ℕ) → (K → ℕ) → Meanings K
 meanings told tables images made faults epoch = record {
   told = told;

@@ -1,9 +1,15 @@
-pub use Rattle.row_types.specs.Row
 pub use Rattle.row_types.specs.Faults
+pub use Rattle.row_types.specs.Name
+pub use Rattle.row_types.specs.Row
+pub use Rattle.row_types.specs.Stamp
 pub use Rattle.row_codec.specs.RowBytes
-pub use Rattle.index_rows.specs.Rows
+pub use Rattle.row_codec.specs.Spelled
+pub use Rattle.index_rows.specs.ByPath
 pub use Rattle.index_rows.specs.Classes
+pub use Rattle.index_rows.specs.Log
+pub use Rattle.index_rows.specs.Rows
 pub use Rattle.scan_queue.specs.Names
+pub use Rattle.scan_queue.specs.Pass
 pub use Rattle.index_keeper.specs.Keeper
 pub use Rattle.index_keeper.specs.Tables
 pub mod Changes

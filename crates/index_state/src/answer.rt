@@ -2,7 +2,8 @@
 
 use row_types::Stamp;
 
-/// Why an index could not be opened.
+/// Why an index could not be opened. The keeper's own answer to the reading of its rows comes first, KeeperFault or
+/// OutOfMemory; where it gave the rows, NotBuilt is looked for.
 #[derive(Clone, Copy, Debug, PartialEq, Eq)]
 pub enum OpenFault {
     /// The keeper failed.
