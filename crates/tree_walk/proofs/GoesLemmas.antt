@@ -75,10 +75,6 @@ goes_up {U} {V} before now StillTold present Good Bad NewGood NewBad next fault 
     subst (λ (r : Result V WalkFault). Goes before now StillTold present NewGood NewBad r) (sym same)
     (goes_on before now StillTold present Good Bad NewGood NewBad (Err fault) (Err fault) h f)
 
--- at a limit, or not
-pub within_limit : (over : Bool) (limit count : ℕ) → (over ≡ true) ↔ (limit < count) → over ≡ false → count ≤ limit
-within_limit over limit count e no_more = elim (cases_lt limit count) [ inl lt ↦ absurd (false≢true (sym no_more ∙ e.1 lt)) | inr le ↦ le ]
-
 -- memory was refused
 pub memory_end : {V : Type 0} (result : Result V WalkFault) (Good : V → Type 0) (answers : List Heard) (roots : List (List ℕ)) → IsErrAnd result (λ y. y ≡ OutOfMemory) → MatchResult result Good (IsCause answers roots)
 memory_end (Ok x) Good answers roots h = absurd h

@@ -22,7 +22,7 @@ use Rattle.tree_walk.specs.declared.fault.WalkFault.TheVariants.{Failed as WalkF
 use Rattle.tree_walk.proofs.EndLemmas.{room_is, too_many_is}
 use Rattle.tree_walk.proofs.LastLemmas.{looks_next, root_among, root_last}
 use Rattle.tree_walk.proofs.AnswerLemmas.{look_stays, looked_stays, after_look, look_again}
-use Rattle.tree_walk.proofs.SetLemmas.{same, same-Decides, sorted_none}
+use Rattle.tree_walk.proofs.SetLemmas.{same, same-Decides}
 use Rattle.tree_walk.proofs.StepLemmas.{note_step, again_step, is_looked_is, folder_step, folder_known, folder_stays}
 
 -- something is there where the look was answered and didn't say otherwise
@@ -33,32 +33,6 @@ there_from_answer Other ok there = refl
 there_from_answer Gone ok there = absurd (there refl)
 there_from_answer Failed ok there = absurd (false≢true ok)
 there_from_answer OutOfMemory ok there = absurd (false≢true ok)
-
--- nothing was asked yet
-pub begins : (roots : List (List ℕ)) → IsBeginning [] roots [] unasked
-begins roots = record {
-  search_is = record {
-    files = λ p. refl;
-    others = λ p. refl;
-    ordered = sorted_none;
-    due = λ k d lt. absurd (omega arith);
-    folders = λ p h. absurd (false≢true h);
-    counts = λ p. refl;
-    long = λ p h. absurd (false≢true h);
-    apart = sorted_none;
-    left = refl;
-    skipped = refl;
-    answered = refl;
-    there = λ p r c. absurd (let lt = c.1 in omega arith);
-    closed = λ at e h. absurd (false≢true h);
-  };
-  few = omega arith;
-  looked = record { looked = λ p c. absurd (let lt = c.1 in omega arith); folders = λ p c h. absurd (none-some Folder h) };
-  given = [];
-  each = refl;
-  there = refl;
-  first = refl;
-}
 
 -- what a root's first look makes of the search
 record IsAdded (answers : List Heard) (roots : List (List ℕ)) (search next : SearchFacts) (path : List ℕ) : Type 0 where
@@ -159,15 +133,6 @@ root_gone answers more roots seen after search path b split heard = record {
   there = b.there;
   room = subst (λ (h : List Heard). HasRoom h roots) b.first (room_is answers roots search [] [] b.search_is b.few);
   heard = ap (λ (m : List Heard). answers ++ m) heard ∙ ap (λ (h : List Heard). h ++ stat path Gone ∷ []) b.first;
-}
-
--- all roots were looked at
-pub underway : (answers : List Heard) (roots : List (List ℕ)) (search : SearchFacts) → IsBeginning answers roots roots search → IsUnderway answers roots search [] []
-underway answers roots search b = record {
-  search_is = b.search_is;
-  few = b.few;
-  looked = b.looked;
-  first = record { given = b.given; rest = []; each = b.each; there = b.there; first = b.first ∙ sym (append-nil (looks roots b.given)) };
 }
 
 pub beginning_after : (answers more : List Heard) (roots seen after : List (List ℕ)) (search : SearchFacts) (path : List ℕ) (answer : StatAnswer)
