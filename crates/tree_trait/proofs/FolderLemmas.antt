@@ -270,9 +270,16 @@ once_of : (folder : List ℕ) (files : List NameFacts) (known : List EntryFacts)
 once_of folder [] known h = h
 once_of folder (file ∷ rest) known h = once_of folder rest (with_piece known (piece_under folder file.path)) (piece_once known (piece_under folder file.path) h)
 
+-- each entry has an entry's name
+names_of : (folder : List ℕ) (files : List NameFacts) (known : List EntryFacts) → list_all (λ e. is_entry_name e.name) known ≡ true → list_all (λ e. is_entry_name e.name) (with_pieces folder known files) ≡ true
+names_of folder [] known h = h
+names_of folder (file ∷ rest) known h =
+    names_of folder rest (with_piece known (piece_under folder file.path)) (piece_each (λ e. is_entry_name e.name) known (piece_under folder file.path) h (λ e is valid. valid))
+
 -- the pieces of all files are the folder's listing
 pub listing : (folder : List ℕ) (files : List NameFacts) → IsListing files folder (with_pieces folder [] files)
 listing folder files = record {
+  names = names_of folder files [] refl;
   each = each_of folder files files [] (λ e h. h) refl;
   all = λ e valid there. all_of folder files [] e valid (inr there);
   once = once_of folder files [] refl;

@@ -57,8 +57,9 @@ abbrev pub are_once : List EntryFacts → Bool
 are_once [] = true
 are_once (entry ∷ rest) = not (has_entry rest entry) && are_once rest
 
--- the entries are those that stand in the folder, each once
+-- the entries are those that stand in the folder, by their names, each once
 pub record IsListing (present : List NameFacts) (folder : List ℕ) (entries : List EntryFacts) : Type 0 where
+  pub names : list_all (λ entry. is_entry_name entry.name) entries ≡ true
   pub each : list_all (is_there present folder) entries ≡ true
   pub all : (entry : EntryFacts) → is_entry_name entry.name ≡ true → is_there present folder entry ≡ true → has_entry entries entry ≡ true
   pub once : are_once entries ≡ true
