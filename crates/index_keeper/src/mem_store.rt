@@ -112,6 +112,7 @@ impl<W: Truth + Send> Store<W> for MemStore<W> {
         ensures image { IsImage keeper self.new.shelf.tables }
         ensures made { Some self.new.shelf.made ≡ Some keeper.shelf.made }
         ensures faults { self.new.faults ≡ summed self.old.faults keeper.faults }
+        ensures later { self.old.faults ≤ self.new.faults }
         ensures epoch { self.new.epoch ≡ self.old.epoch }
         ensures after { self.new ≡ after_giving self.old keeper }
     {

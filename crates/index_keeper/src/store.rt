@@ -49,5 +49,6 @@ pub trait Store<W: Truth>: Drop {
         ensures image { IsTrue Self.K.told → Self.K.images keeper (tables self.new) }
         ensures made { made self.new ≡ Self.K.made keeper }
         ensures faults { faults self.new ≡ summed (faults self.old) (Self.K.faults keeper) }
+        ensures later { faults self.old ≤ faults self.new }
         ensures epoch { epoch self.new ≡ epoch self.old };
 }
