@@ -1,5 +1,5 @@
 -- The tables of a store (this project's rule): rows of a path and its bytes, by path, each path once.
-use Rattle.std.specs.Prelude.{◌≡◌, ℕ, Bool, List, ◌++◌, filter, Option, Some, None, option_map}
+use Rattle.std.specs.Prelude.{ℕ, Bool, List, ◌++◌, filter, Option, Some, None, option_map}
 use Rattle.std.specs.List.{AllPairs, find}
 use Rattle.std.specs.Option.{option_to_list}
 use Rattle.std.specs.Ordering.{nat_cmp, is_lt}
