@@ -2,28 +2,15 @@
 # Compares `ident` with binutils' readelf on some hundred files of this system, and asks it about damaged
 # copies of a program, where only the answer's form is known.
 #
-# usage: checks/ident_readelf.sh [PROGRAM]      from the repository's top; PROGRAM is ./dbgd unless given
+# usage: checks/ident_readelf.sh [PROGRAM]      PROGRAM is ./dbgd of the repository's top unless given
 #
 # IDENT_FILES is the most files of one folder that are taken (120 unless set), spread over its listing. After
 # IDENT_SECONDS (80 unless set) the rest is left out.
-set -u
-export LC_ALL=C
+source "$(dirname -- "$(readlink -f -- "${BASH_SOURCE[0]}")")/lib/head.sh" || exit 1
 
-program=${1:-${DBGD:-./dbgd}}
 most=${IDENT_FILES:-120}
 seconds=${IDENT_SECONDS:-80}
-say() { printf 'ident_readelf: %s\n' "$*" 1>&2; }
-
 command -v readelf >/dev/null || { say "skipped: there is no readelf"; exit 0; }
-command -v "$program" >/dev/null || { say "there is no program $program"; exit 1; }
-
-# The first call may build the program, which takes longer than any answer below.
-"$program" ident "${BASH_SOURCE[0]}" >/dev/null </dev/null
-status=$?
-[ "$status" = 3 ] || { say "$program answers a text with status $status instead of 3"; exit 1; }
-
-work=$(mktemp -d) || exit 1
-trap 'rm -rf "$work"' EXIT
 
 # Regular files below a folder that this user may read, none above 64 MiB, at most so many, spread evenly.
 # A name with a tab or a line break is left out, since the lists below are lines with tabs.
@@ -102,11 +89,9 @@ ask() {
   IFS= read -r -d '' err <"$work/err"
 }
 
-SECONDS=0 compared=0 identified=0 differing=0 left_out=0
-differs() { # PATH WANTED
-  differing=$((differing + 1))
-  [ "$differing" -le 20 ] || return 0
-  printf '%s: wanted %s, got status %s: %s\n' "$1" "$2" "$status" "${out//$'\n'/ }${err//$'\n'/ }" 1>&2
+SECONDS=0 compared=0 identified=0 left_out=0
+answers_else() { # PATH WANTED
+  differs "$1: wanted $2, got status $status: ${out//$'\n'/ }${err//$'\n'/ }"
 }
 
 while IFS=$'\t' read -r path wanted; do
@@ -117,7 +102,7 @@ while IFS=$'\t' read -r path wanted; do
     plain*) good=3 ;;
     *) good=0 identified=$((identified + 1)) ;;
   esac
-  [ "$status" = "$good" ] && [ "$out" = "$wanted"$'\n' ] || differs "$path" "$wanted"
+  [ "$status" = "$good" ] && [ "$out" = "$wanted"$'\n' ] || answers_else "$path" "$wanted"
 done <"$work/wanted"
 
 # Damaged copies: an answer in one line, whatever it is, and no other end.
@@ -127,7 +112,7 @@ check_form() { # PATH
   [ "$SECONDS" -lt $((seconds + 30)) ] || { left_out=$((left_out + 1)); return 0; }
   ask "$1"
   damaged=$((damaged + 1))
-  [[ $status = [03] && ${out%$'\n'} =~ $form && $out = *$'\n' && -z $err ]] || differs "$1" "an answer"
+  [[ $status = [03] && ${out%$'\n'} =~ $form && $out = *$'\n' && -z $err ]] || answers_else "$1" "an answer"
 }
 whole=$(awk -F '\t' '$2 ~ / executable$/ { print $1; exit }' "$work/wanted")
 if [ -n "$whole" ]; then

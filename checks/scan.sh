@@ -1,23 +1,11 @@
 #!/usr/bin/env bash
 # Scans real folders of this system, and compares the counts with those of `find`, and of `ident` over the same files.
 #
-# usage: checks/scan.sh [PROGRAM]      from the repository's top; PROGRAM is ./dbgd unless given
-set -u
-export LC_ALL=C
+# usage: checks/scan.sh [PROGRAM]      PROGRAM is ./dbgd of the repository's top unless given
+source "$(dirname -- "$(readlink -f -- "${BASH_SOURCE[0]}")")/lib/head.sh" || exit 1
 
-program=${1:-${DBGD:-./dbgd}}
-say() { printf 'scan: %s\n' "$*" 1>&2; }
-
-command -v "$program" >/dev/null || { say "there is no program $program"; exit 1; }
-
-work=$(mktemp -d) || exit 1
-trap 'rm -rf "$work"' EXIT
-scanned=0 differing=0
-differs() { differing=$((differing + 1)); say "$*"; }
-
-# The program may be built by its first call, which may take long.
-"$program" ident checks/data/ppc32_big.elf >/dev/null 2>&1
-
+# Scans a folder, and looks for the counts of `find` and `ident`.
+scanned=0
 compare() { # DIR
   local files executables=0 debuginfo=0 line
   find "$1" -type f -readable -print0 >"$work/files"
@@ -48,6 +36,7 @@ ln -s inner/deep/text "$work/tree/link"
 ln -s inner "$work/tree/folder"
 mkfifo "$work/tree/fifo"
 compare "$work/tree"
+own=$scanned
 
 # A root that is a link is gone, and nothing is listed behind it.
 "$program" scan -d m "$work/tree/folder" >"$work/out" 2>"$work/err"
@@ -56,8 +45,10 @@ compare "$work/tree"
 
 # Folders of this system.
 for folder in /usr/sbin /usr/libexec /etc/default; do
-  folder=$(readlink -f -- "$folder") && [ -d "$folder" ] && compare "$folder"
+  [ -d "$folder" ] || { say "skipped: there is no folder $folder"; continue; }
+  compare "$(readlink -f -- "$folder")"
 done
+[ "$scanned" -gt "$own" ] || differs "no file of this system was compared"
 
 say "$scanned files compared; $differing differ"
 [ "$differing" = 0 ]

@@ -2,23 +2,11 @@
 # Compares `section` with binutils on programs of this system, and both commands with readelf on the small
 # programs of other architectures that lie in checks/data.
 #
-# usage: checks/section_objcopy.sh [PROGRAM]      from the repository's top; PROGRAM is ./dbgd unless given
-set -u
-export LC_ALL=C
-
-program=${1:-${DBGD:-./dbgd}}
-say() { printf 'section_objcopy: %s\n' "$*" 1>&2; }
+# usage: checks/section_objcopy.sh [PROGRAM]      PROGRAM is ./dbgd of the repository's top unless given
+source "$(dirname -- "$(readlink -f -- "${BASH_SOURCE[0]}")")/lib/head.sh" || exit 1
 
 command -v readelf >/dev/null || { say "skipped: there is no readelf"; exit 0; }
-command -v "$program" >/dev/null || { say "there is no program $program"; exit 1; }
-
-work=$(mktemp -d) || exit 1
-trap 'rm -rf "$work"' EXIT
-compared=0 differing=0
-differs() { differing=$((differing + 1)); say "$*"; }
-
-# The program may be built by its first call, which may take long.
-"$program" ident checks/data/ppc32_big.elf >/dev/null 2>&1
+compared=0
 
 # A section's bytes by readelf's place and size; fails where there is no such section with contents.
 by_readelf() { # FILE NAME

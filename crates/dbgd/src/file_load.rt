@@ -3,11 +3,11 @@
 ghost use Rattle.std.specs.Prelude.{◌≡◌, ◌+◌, ◌-◌, ◌^◌, min, take, IfOk, IfSome};
 ghost use Rattle.dbgd.specs.Answered.{IsAnswered};
 
-use crate::look::{is_same, look_at_file, open_seen, stamp_of};
+use crate::look::{is_same, look_at_file, stamp_of};
 use crate::read_fault::{ReadFault, TRIES};
 use row_types::OpenWorld;
 use std::alloc::Global;
-use std::fs::{Files, Metadata, OpenFile};
+use std::fs::{self, Files, Metadata, OpenFile};
 use std::io::Read;
 use tree_trait::{Found, LoadAnswer};
 
@@ -20,6 +20,19 @@ fn read_whole<F: Read + Drop>(alloc: Global, file: F, size: u64) -> Result<Vec<u
     let mut bytes = Vec::with_capacity(alloc, most as usize)?;
     file.take(most).read_to_end(&mut bytes)?;
     Ok(bytes)
+}
+
+/// Opens the regular file that was looked at, which didn't change since.
+fn open_seen<R: Files>(files: &R, path: &str, seen: &Metadata) -> Result<R::File, ReadFault>
+where
+    R::File: OpenFile + Drop,
+{
+    let file = fs::open(files, path)?;
+    if is_same(seen, &file.metadata()?) {
+        Ok(file)
+    } else {
+        Err(ReadFault::Changed)
+    }
 }
 
 /// The bytes of the file that was looked at.

@@ -42,11 +42,9 @@ impl FolderRead {
         ensures skipped { result.skipped ≡ 1 }
         ensures refused { result.refused ≡ true }
     {
-        FolderRead {
-            entries: Vec::new(alloc),
-            skipped: 1,
-            refused: true,
-        }
+        let mut read = FolderRead::new(alloc);
+        read.refuse();
+        read
     }
 
     /// Passes an entry over.
@@ -56,6 +54,16 @@ impl FolderRead {
         ensures refused { self.new.refused ≡ self.old.refused }
     {
         self.skipped = self.skipped.saturating_add(1);
+    }
+
+    /// Passes an entry over for an error of the system.
+    fn refuse(&mut self)
+        ensures skipped { self.new.skipped ≡ raised self.old.skipped }
+        ensures entries { self.new.entries ≡ self.old.entries }
+        ensures refused { self.new.refused ≡ true }
+    {
+        self.refused = true;
+        self.pass_over();
     }
 
     /// Adds an entry.
@@ -72,10 +80,7 @@ impl FolderRead {
         match entry.file_type().map_err(ReadFault::from) {
             Ok(seen) => return self.add(alloc, entry.file_name(), kind_of(seen)),
             Err(ReadFault::Gone) => {}
-            Err(ReadFault::Denied | ReadFault::TooLong) => {
-                self.refused = true;
-                self.pass_over();
-            }
+            Err(ReadFault::Denied | ReadFault::TooLong) => self.refuse(),
             Err(fault) => return Err(fault),
         }
         Ok(())

@@ -26,16 +26,22 @@ pub fn is_one(first: &Metadata, second: &Metadata) -> bool {
     first.dev() == second.dev() && first.ino() == second.ino()
 }
 
+/// Whether both are looks at one file, which the second shows to be a regular one.
+fn is_one_file(first: &Metadata, second: &Metadata) -> bool
+    ensures { OnTrue result (IsFile (file_type second.now)) }
+{
+    is_one(first, second) && second.is_file()
+}
+
 /// Whether both are looks at one regular file that didn't change between them.
 pub fn is_same(first: &Metadata, second: &Metadata) -> bool
     ensures size { OnTrue result (metadata_len second.now ≡ metadata_len first.now) }
     ensures file { OnTrue result (IsFile (file_type second.now)) }
 {
-    is_one(first, second)
+    is_one_file(first, second)
         && first.len() == second.len()
         && first.mtime() == second.mtime()
         && first.mtime_nsec() == second.mtime_nsec()
-        && second.is_file()
 }
 
 /// What stands at a path, if it is a regular file.
@@ -50,20 +56,22 @@ pub fn look_at_file<R: Files>(files: &R, path: &str) -> Result<Metadata, ReadFau
     }
 }
 
-/// Opens the regular file that was looked at.
-pub fn open_seen<R: Files>(files: &R, path: &str, seen: &Metadata) -> Result<R::File, ReadFault>
+/// The stamp of the regular file that was looked at, as it is when it is opened: one that is written all the
+/// time has a stamp too. Opening it shows that it may be read.
+fn stamp_of_opened<R: Files>(files: &R, path: &str, seen: &Metadata) -> Result<Stamp, ReadFault>
 where
     R::File: OpenFile + Drop,
 {
     let file = fs::open(files, path)?;
-    if is_same(seen, &file.metadata()?) {
-        Ok(file)
+    let opened = file.metadata()?;
+    if is_one_file(seen, &opened) {
+        stamp_of(&opened)
     } else {
         Err(ReadFault::Changed)
     }
 }
 
-/// One look at a path. A regular file is opened too, so that one that may not be read is known.
+/// One look at a path.
 fn look_once<R: Files>(files: &R, path: &str) -> Result<StatAnswer, ReadFault>
 where
     R::File: OpenFile + Drop,
@@ -75,14 +83,13 @@ where
     } else if seen.is_dir() {
         Ok(StatAnswer::Folder)
     } else if seen.is_file() {
-        let _file = open_seen(files, path, &seen)?;
-        Ok(StatAnswer::File(stamp_of(&seen)?))
+        Ok(StatAnswer::File(stamp_of_opened(files, path, &seen)?))
     } else {
         Ok(StatAnswer::Other)
     }
 }
 
-/// What stands at a path. A file that changed under the look is looked at again.
+/// What stands at a path. Where another file was opened than was looked at, the path is looked at again.
 pub fn look<R: Files>(files: &R, path: &str) -> Result<StatAnswer, ReadFault>
 where
     R::File: OpenFile + Drop,

@@ -1,16 +1,27 @@
 //! What the real tree answers on a disk: no clause can speak of that.
 
+mod changes;
 mod folders;
 mod loads;
 mod refusals;
 mod refusing;
 
 use std::alloc::Global;
+use std::fs::File;
+use std::io::{Error, ErrorKind};
 use std::os::unix::fs::symlink;
 use std::test::Fail;
 use std::time::{Duration, UNIX_EPOCH};
-use std::{env, fs, process};
+use std::{env, fs, io, process};
 use tree_trait::{DirAnswer, Entry, EntryKind, StatAnswer};
+
+/// Gives a file the time of 100 seconds and 7 nanoseconds.
+fn set_time(file: &File) -> io::Result<()> {
+    match UNIX_EPOCH.checked_add(Duration::new(100, 7)) {
+        Some(time) => file.set_modified(time),
+        None => Err(Error::from(ErrorKind::Other)),
+    }
+}
 
 /// Makes a folder of this name with the file `a` of four bytes, of 100 seconds and 7 nanoseconds, a link to it,
 /// and a folder with a link to itself.
@@ -21,13 +32,7 @@ fn make_folder(rt: &HostRuntime, name: &str) -> Result<String, Fail> {
     fs::create_dir(rt, folder.as_str())?;
     let file = format!(in rt.alloc(); "{folder}/a")?;
     fs::write(rt, file.as_str(), "four")?;
-    let time = UNIX_EPOCH
-        .checked_add(Duration::new(100, 7))
-        .ok_or("a time")?;
-    fs::File::options()
-        .write(true)
-        .open(rt, file.as_str())?
-        .set_modified(time)?;
+    set_time(&File::options().write(true).open(rt, file.as_str())?)?;
     symlink(rt, "a", format!(in rt.alloc(); "{folder}/link")?.as_str())?;
     fs::create_dir(rt, format!(in rt.alloc(); "{folder}/inner")?.as_str())?;
     symlink(

@@ -1,5 +1,5 @@
 -- What holds of a keeper in memory after a change.
-use Rattle.std.proofs.Common.{◌≡◌, ◌≤◌, ℕ, Bool, true, false, cond, List, Some, refl, sym, ◌∙◌, ap, subst, arith}
+use Rattle.std.proofs.Common.{◌≡◌, ◌≤◌, ℕ, Bool, true, false, cond, List, sym, ap, subst, arith}
 use Rattle.std.specs.Prelude.{All, IfSome}
 use Rattle.row_types.specs.Faults.{HasCause, Rose}
 use Rattle.row_types.specs.Row.{RowFacts}

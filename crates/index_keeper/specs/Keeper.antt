@@ -1,6 +1,6 @@
 -- Keepers (this project's rule): the tables as they are, and those that a crash now may leave. A crash within a
 -- call is a call that fails, after which the keeper is given back and the store is opened again.
-use Rattle.std.specs.Prelude.{◌≡◌, ◌⊎◌, ◌↔◌, ℕ, List, [], ◌∷◌, ◌++◌, Option, option_map, Bool}
+use Rattle.std.specs.Prelude.{◌≡◌, ◌⊎◌, ◌↔◌, List, [], ◌∷◌, ◌++◌, Option, option_map}
 use Rattle.index_keeper.specs.Tables.{KeptFacts, EditFacts, edited}
 use Rattle.index_keeper.specs.declared.answer.KeepAnswer.{KeepAnswer}
 use Rattle.index_keeper.specs.declared.answer.KeepAnswer.TheVariants.{Done, Failed, OutOfMemory}

@@ -1,6 +1,6 @@
 -- Which calls of a store in memory fail (this project's rule). The calls of a store and of its keepers that can
 -- fail are numbered from 0.
-use Rattle.std.specs.Prelude.{ℕ, ◌%◌, ◌==◌, ◌||◌, ◌&&◌, Bool, true, false, List, Option}
+use Rattle.std.specs.Prelude.{ℕ, ◌%◌, ◌==◌, ◌||◌, ◌&&◌, Bool, false, List, Option}
 use Rattle.std.specs.List.{list_any}
 use Rattle.std.specs.Option.{option_map_or}
 use Rattle.row_types.specs.Faults.{raised}

@@ -13,10 +13,13 @@ type Case = (&'static str, &'static str, &'static str);
 fn links_are_listed_and_not_followed(rt: HostRuntime) -> Result<(), Fail> {
     let folder = make_folder(&rt, "folders")?;
     let mut tree = RealTree::new(rt);
-    let cases: [Case; 7] = [
+    let cases: [Case; 9] = [
         ("", "folder", "a file, inner folder, link other, 0 skipped"),
         ("/inner", "folder", "round other, 0 skipped"),
         ("/inner/round", "gone", "gone"),
+        // A link on the way is resolved, and so is one before a last slash.
+        ("/inner/round/../a", "file 4 100 7", "gone"),
+        ("/inner/round/", "folder", "round other, 0 skipped"),
         ("/a", "file 4 100 7", "gone"),
         ("/link", "gone", "gone"),
         ("/b", "gone", "gone"),

@@ -25,10 +25,11 @@ pub fn answer_text(answer: &LoadAnswer<OpenWorld>) -> &[u8] {
 fn only_a_regular_file_within_the_limit_is_found(rt: HostRuntime) -> Result<(), Fail> {
     let folder = make_folder(&rt, "loads")?;
     let mut tree = RealTree::new(rt);
-    let cases: [Case; 8] = [
+    let cases: [Case; 9] = [
         ("a", 4, "four"),
         ("a", 3, "(too large)"),
         ("inner/../a", 4, "four"),
+        ("inner/round/../a", 4, "four"),
         ("link", 4, "(gone)"),
         ("inner", 4, "(gone)"),
         ("b", 4, "(gone)"),

@@ -1,7 +1,7 @@
 //! What the real tree answers where the system refuses.
 
 use super::loads::answer_text;
-use super::refusing::{Call, Refusing};
+use super::refusing::{Call, Refusal, Refusing};
 use super::{dir_text, make_folder, stat_text};
 use crate::real_tree::RealTree;
 use std::fs;
@@ -12,10 +12,6 @@ use tree_trait::Tree;
 /// The names that a folder lists. `n\xff` isn't UTF-8, and nothing stands at `away`.
 const NAMES: &[u8] = b".\0a\0..\0inner\0n\xff\0away\0";
 
-/// What is refused: a call on the paths with this end, with this error.
-#[derive(Clone, Copy)]
-struct Refusal(Call, &'static str, ErrorKind);
-
 /// A refusal, a path below the test's folder, what the call is to answer, and how often the tree has failed then.
 type Case = (Refusal, &'static str, &'static str, u64);
 
@@ -23,12 +19,10 @@ const FILE: Refusal = Refusal(Call::Open, "/a", ErrorKind::PermissionDenied);
 
 /// The real tree over a file system that refuses so.
 fn tree_of(rt: &HostRuntime, refusal: Refusal) -> RealTree<Refusing> {
-    let Refusal(call, end, error) = refusal;
     RealTree::new(Refusing {
         rt: *rt,
-        call,
-        end,
-        error,
+        refusal: Some(refusal),
+        change: None,
         names: NAMES,
     })
 }

@@ -1,8 +1,9 @@
-//! A file system that refuses one kind of call on one file.
+//! A file system that refuses one kind of call, or in which a file changes as it is opened.
 
+use super::set_time;
 use std::alloc::{Allocator, Global};
-use std::fs::{File, Files, Metadata, OpenOptions};
-use std::io::{Error, ErrorKind, Result};
+use std::fs::{self, File, Files, Metadata, OpenOptions};
+use std::io::{Error, ErrorKind, Result, Write};
 
 /// The calls that can be refused.
 #[derive(Clone, Copy, PartialEq, Eq)]
@@ -12,24 +13,54 @@ pub enum Call {
     OpenFolder,
 }
 
-/// The files of this machine, but that a call of this kind on each path with this end gives this error, and
-/// that each folder lists these names, each with a zero byte behind it.
+/// What is refused: a call on the paths with this end, with this error.
+#[derive(Clone, Copy)]
+pub struct Refusal(pub Call, pub &'static str, pub ErrorKind);
+
+/// What becomes of each file just before it is opened.
+#[derive(Clone, Copy)]
+pub enum Change {
+    /// It grows by a byte, and keeps its time.
+    Grows,
+    /// Another file takes its place.
+    GivesWay,
+}
+
+/// The files of this machine, but for what is refused and what changes, and that each folder lists these
+/// names, each with a zero byte behind it.
 #[derive(Clone, Copy)]
 pub struct Refusing {
     pub rt: HostRuntime,
-    pub call: Call,
-    pub end: &'static str,
-    pub error: ErrorKind,
+    pub refusal: Option<Refusal>,
+    pub change: Option<Change>,
     pub names: &'static [u8],
 }
 
 impl Refusing {
     /// Refuses the call, or lets it through.
     fn judge(&self, call: Call, path: &str) -> Result<()> {
-        if self.call == call && path.ends_with(self.end) {
-            Err(Error::from(self.error))
-        } else {
-            Ok(())
+        match self.refusal {
+            Some(Refusal(refused, end, error)) if refused == call && path.ends_with(end) => {
+                Err(Error::from(error))
+            }
+            _ => Ok(()),
+        }
+    }
+
+    /// Changes a file.
+    fn change(&self, path: &str) -> Result<()> {
+        match self.change {
+            Some(Change::Grows) => {
+                let mut file = File::options().append(true).open(&self.rt, path)?;
+                file.write_all(b"!")?;
+                set_time(&file)
+            }
+            Some(Change::GivesWay) => {
+                let other = format!(in self.rt.alloc(); "{path}.other")?;
+                fs::write(&self.rt, other.as_str(), "four")?;
+                fs::rename(&self.rt, other.as_str(), path)
+            }
+            None => Ok(()),
         }
     }
 }
@@ -49,6 +80,7 @@ impl Files for Refusing {
 
     fn open_file(&self, how: &OpenOptions, path: &str) -> Result<File> {
         self.judge(Call::Open, path)?;
+        self.change(path)?;
         self.rt.open_file(how, path)
     }
 

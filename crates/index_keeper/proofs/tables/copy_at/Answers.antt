@@ -1,4 +1,4 @@
-use Rattle.std.proofs.Common.{Some, sym, ◌∙◌, ap, rules}
+use Rattle.std.proofs.Common.{Some, sym, ◌∙◌, ap}
 use Rattle.index_keeper.specs.Tables.{KeptFacts}
 use Rattle.index_keeper.proofs.PlaceLemmas.{bytes_here, bytes_gone}
 use Rattle.index_keeper.proofs.tables.copy_at.Goals as goal

@@ -1,4 +1,4 @@
-use Rattle.std.proofs.Common.{sym, ◌∙◌, rules}
+use Rattle.std.proofs.Common.{◌∙◌}
 use Rattle.index_keeper.proofs.PlaceLemmas.{set_at, insert_at}
 use Rattle.index_keeper.proofs.tables.put_row.Goals as goal
 

@@ -1,4 +1,4 @@
-use Rattle.std.proofs.Common.{sym, ◌∙◌, rules}
+use Rattle.std.proofs.Common.{◌∙◌}
 use Rattle.index_keeper.proofs.PlaceLemmas.{remove_at, remove_gap}
 use Rattle.index_keeper.proofs.tables.remove_row.Goals as goal
 

@@ -1,4 +1,3 @@
-use Rattle.index_keeper.specs.Tables.{put_of}
 use Rattle.index_keeper.proofs.KeeperLemmas.{true_put, change_cause}
 use Rattle.index_keeper.proofs.mem_keeper.MemKeeperKeeper.put.Goals as goal
 
