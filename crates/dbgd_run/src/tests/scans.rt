@@ -1,6 +1,6 @@
 //! What `scan` does and says, by what the hand answers.
 
-use crate::tests::fakes::{Crowded, Wide};
+use crate::tests::fakes::Crowded;
 use crate::tests::helpers::empty_store;
 use crate::tests::scan_helpers::{End, Memory, SCAN, TWO, around, scan, two_files};
 use row_types::{OpenWorld, Stamp};
@@ -8,7 +8,7 @@ use sample_world::{SampleWorld, changed_file_script, reference_script};
 use std::alloc::Global;
 use std::process::Abort;
 use std::test::Fail;
-use tree_trait::{EntryKind, Found, MemTree, Script, Tree, TwoWorld};
+use tree_trait::{Found, MemTree, Script, Tree, TwoWorld};
 
 /// Scans a folder with a hand into an empty store.
 fn scan_with<T: Tree<OpenWorld>>(
@@ -146,26 +146,4 @@ fn a_hand_that_wants_memory_ends_the_scan(rt: HostRuntime) -> Result<(), Fail> {
         status: 6,
     };
     scan_with(&rt, rt.alloc(), Crowded::NoMemory, "/srv", end)
-}
-
-#[test]
-fn more_than_is_kept_ends_the_scan(rt: HostRuntime) -> Result<(), Fail> {
-    let files = End {
-        out: "",
-        err: "dbgd: limit files\n",
-        status: 5,
-    };
-    let hand = Wide {
-        kind: EntryKind::File,
-    };
-    scan_with(&rt, rt.alloc(), hand, "/wide", files)?;
-    let entries = End {
-        out: "",
-        err: "dbgd: limit entries\n",
-        status: 5,
-    };
-    let hand = Wide {
-        kind: EntryKind::Other,
-    };
-    scan_with(&rt, rt.alloc(), hand, "/wide", entries)
 }

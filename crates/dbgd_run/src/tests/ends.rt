@@ -1,0 +1,64 @@
+//! What is said of the ends of a scan that no small tree leads to.
+
+use crate::mem_sink::MemSink;
+use crate::scan_end::ScanEnd;
+use crate::scan_sayings::say_end;
+use row_types::{CanonPath, Name, Stamp};
+use scan_queue::Seen;
+use std::alloc::Global;
+use std::process::Abort;
+use std::test::Fail;
+use tree_walk::WalkFault;
+
+/// Says an end, and compares what the standard error got and the status.
+fn says(rt: &impl Abort, alloc: Global, end: &ScanEnd, line: &str, status: u8) -> Result<(), Fail> {
+    let mut out = MemSink::new(alloc, Vec::new(alloc));
+    let mut err = MemSink::new(alloc, Vec::new(alloc));
+    let said = say_end(alloc, end, &mut out, &mut err);
+    assert_eq!(rt; out.written(), Some(b"".as_slice()), "out of {end:?}");
+    assert_eq!(rt; err.written(), Some(line.as_bytes()), "err of {end:?}");
+    assert_eq!(rt; said.code(), status, "status of {end:?}");
+    Ok(())
+}
+
+#[test]
+fn each_limit_has_its_line(rt: HostRuntime) -> Result<(), Fail> {
+    let alloc = rt.alloc();
+    let files = ScanEnd::Unlisted(WalkFault::TooMany);
+    says(&rt, alloc, &files, "dbgd: limit files\n", 5)?;
+    let entries = ScanEnd::Unlisted(WalkFault::TooManyEntries);
+    says(&rt, alloc, &entries, "dbgd: limit entries\n", 5)?;
+    says(&rt, alloc, &ScanEnd::Full, "dbgd: limit changes\n", 5)
+}
+
+/// The end at a file that was another: it was listed one second and one nanosecond before 1970.
+fn altered(alloc: Global, seen: Seen) -> Result<ScanEnd, Fail> {
+    let Ok(path) = CanonPath::check(String::from_str(alloc, "/srv/a")?) else {
+        return Err("a path".into());
+    };
+    let stamp = Stamp {
+        size: 0,
+        secs: -2,
+        nanos: 999_999_999,
+    };
+    Ok(ScanEnd::Altered {
+        name: Name { path, stamp },
+        seen,
+    })
+}
+
+#[test]
+fn what_stands_in_a_file_s_place_is_said(rt: HostRuntime) -> Result<(), Fail> {
+    let alloc = rt.alloc();
+    let gone = "dbgd: altered /srv/a listed 0:-2:999999999 seen gone\n";
+    says(&rt, alloc, &altered(alloc, Seen::Gone)?, gone, 4)?;
+    let other = "dbgd: altered /srv/a listed 0:-2:999999999 seen other\n";
+    says(&rt, alloc, &altered(alloc, Seen::Other)?, other, 4)?;
+    let stamp = Stamp {
+        size: 18_446_744_073_709_551_615,
+        secs: 0,
+        nanos: 7,
+    };
+    let file = "dbgd: altered /srv/a listed 0:-2:999999999 seen 18446744073709551615:0:000000007\n";
+    says(&rt, alloc, &altered(alloc, Seen::File(stamp))?, file, 4)
+}
