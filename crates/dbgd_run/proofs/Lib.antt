@@ -1,6 +1,8 @@
+pub mod AlteredLemmas
 pub mod CauseLemmas
 pub mod ReadLemmas
 pub mod RootLemmas
+pub mod SaidLemmas
 pub mod ScanCauseLemmas
 pub mod ScanEnds
 pub mod ScanFiles

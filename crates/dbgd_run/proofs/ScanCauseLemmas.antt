@@ -34,44 +34,8 @@ use Rattle.dbgd_run.specs.Store.{Holding, Stock}
 use Rattle.dbgd_run.specs.Words.{Line, asks_ident, asks_section, asks_scan, unbuilt, unreadable}
 use Rattle.dbgd_run.specs.declared.scan_end.ScanEnd.{ScanEnd}
 use Rattle.dbgd_run.specs.declared.scan_end.ScanEnd.TheVariants.{Unopened, Filled, Unlisted, Unread, Altered, Unkept, Full, OutOfMemory, Whole}
-
--- the status is the saying's, or that of a fault of the standard output, or of want of memory
-said_code : (saying : Saying) (old new : Streams) (code : ℕ) → EndsOrWants saying old new code
-    → (code ≡ code_of saying.status) ⊎ (((code ≡ 1) × Rose old.out_faults new.out_faults) ⊎ (code ≡ 6))
-said_code saying old new code (inl (inl whole)) = inl whole.ends
-said_code saying old new code (inl (inr cut)) = inr (inl (cut.ends, cut.out_rose))
-said_code saying old new code (inr unsaid) = inr (inr unsaid.ends)
-
--- a status that is neither of the last two is the saying's
-said_other : (saying : Saying) (old new : Streams) (code k : ℕ) → EndsOrWants saying old new code → code ≡ k → (k ≡ 1 → ⊥) → (k ≡ 6 → ⊥)
-    → code_of saying.status ≡ k
-said_other saying old new code k said is one six =
-    elim (said_code saying old new code said) [
-      | inl e ↦ sym e ∙ is
-      | inr rest ↦ elim rest [ inl fault ↦ absurd (one (sym is ∙ fault.0)) | inr e ↦ absurd (six (sym is ∙ e)) ]
-    ]
-
--- nothing is to be said on the standard output, so that it can't fail
-said_quiet : (saying : Saying) (old new : Streams) (code : ℕ) → saying.out ≡ [] → EndsOrWants saying old new code
-    → (code ≡ code_of saying.status) ⊎ (code ≡ 6)
-said_quiet saying old new code quiet (inl (inl whole)) = inl whole.ends
-said_quiet saying old new code quiet (inl (inr cut)) =
-    let none : length saying.out ≡ 0 = ap length quiet in
-    let some = cut.some in
-    absurd (omega (arith, none, some))
-said_quiet saying old new code quiet (inr unsaid) = inr unsaid.ends
-
--- 0: all was said
-said_done : (saying : Saying) (old new : Streams) (code : ℕ) → EndsOrWants saying old new code → code ≡ 0
-    → (code_of saying.status ≡ 0) × Appends old.out saying.out new.out
-said_done saying old new code (inl (inl whole)) e = (sym whole.ends ∙ e, whole.out)
-said_done saying old new code (inl (inr cut)) e = let fault : code ≡ 1 = cut.ends in absurd (omega (arith, fault, e))
-said_done saying old new code (inr unsaid) e = let wants : code ≡ 6 = unsaid.ends in absurd (omega (arith, wants, e))
-
--- two pieces that were heard
-with_both : (told mid new : Option (List Heard)) (xs ys : List Heard) → mid ≡ with_answers told xs → new ≡ with_answers mid ys → new ≡ with_answers told (xs ++ ys)
-with_both None mid new xs ys m n = n ∙ ap (λ t. with_answers t ys) m
-with_both (Some heard) mid new xs ys m n = n ∙ ap (λ t. with_answers t ys) m ∙ ap Some (append_assoc heard xs ys)
+use Rattle.dbgd_run.proofs.SaidLemmas.{said_code, said_other, said_quiet, said_done}
+use Rattle.dbgd_run.proofs.AlteredLemmas.{other_heard, never_other}
 
 -- 0
 done_end : (s : Setting) (roots : List (List ℕ)) (before after : Hand) (kept now : Stock) (old new : Streams) (end : ScanEnd) → code_of (scan_saying end).status ≡ 0
@@ -129,82 +93,6 @@ limit_end s roots before after old new Unkept e ends = absurd (omega arith)
 limit_end s roots before after old new Full e ends = absurd ends
 limit_end s roots before after old new OutOfMemory e ends = absurd (omega arith)
 limit_end s roots before after old new (Whole summary) e ends = absurd (omega arith)
-
--- the next file of the listing is listed
-listed_next : (s : Setting) (roots : List (List ℕ)) (before after : Hand) (files : List FileRead) (name : NameFacts) (left : List NameFacts) (last : List Heard)
-    → (reads : ReadsFiles s roots before after files (name ∷ left) last) → IsWalked reads.walks.answers roots name
-listed_next s roots before after files name left last reads =
-    (reads.walks.ends.listing.all name).0
-    (subst (λ (xs : List NameFacts). Contains xs name) (sym reads.loads.listed)
-    (Contains-append_right (names_read files) (name ∷ left) name (0, omega arith, refl)))
-
--- a file that was another, after the answers of the walk and the other loads
-other_heard : (s : Setting) (roots : List (List ℕ)) (before after : Hand) (Kept : List RowFacts → Type 0) (name : NameFacts) (met : Seen)
-    → EndsAltered (ReadsFiles s roots before after) Kept name met → HeardOther roots before after
-other_heard s roots before after Kept name met ends = record {
-  walked = ends.reads.walks.answers;
-  loads = loads_read ends.files;
-  name = name;
-  answer = ends.answer;
-  met = met;
-  heard =
-      with_both before.heard ends.reads.between.heard after.heard ends.reads.walks.answers (loads_read ends.files ++ load_of name ends.answer ∷ [])
-      ends.reads.walks.heard ends.reads.loads.heard;
-  listed = listed_next s roots before after ends.files name ends.left _ ends.reads;
-  finds = ends.finds;
-}
-
-some_one : (a b : StatAnswer) → Some a ≡ Some b → a ≡ b
-some_one a b e = cc
-
--- the first look of told answers at a path is told
-first_told : (present : List NameFacts) (path : List ℕ) (answers : List Heard) (answer : StatAnswer) → All (IsTold present) answers
-    → first_look answers path ≡ Some answer → TellsStat present path answer
-first_told present path [] answer told e = absurd (cc)
-first_told present path (load asked limit given ∷ rest) answer told e =
-    first_told present path rest answer (All-tail (IsTold present) (load asked limit given) rest told) e
-first_told present path (read_dir asked given ∷ rest) answer told e =
-    first_told present path rest answer (All-tail (IsTold present) (read_dir asked given) rest told) e
-first_told present path (stat asked given ∷ rest) answer told e =
-    let here : TellsStat present asked given = All-head (IsTold present) (stat asked given) rest told in
-    let later : first_look rest path ≡ Some answer → TellsStat present path answer
-    = λ h. first_told present path rest answer (All-tail (IsTold present) (stat asked given) rest told) h in
-    look_told present path asked given answer (first_look rest path) here later (bytes_eq asked path) refl (is_look_answer given) e
-  where
-    look_told : (present : List NameFacts) (path asked : List ℕ) (given answer : StatAnswer) (next : Option StatAnswer) → TellsStat present asked given
-        → (next ≡ Some answer → TellsStat present path answer) → (same : Bool) → bytes_eq asked path ≡ same → (answered : Bool)
-        → option_or (if same && answered then Some given else None) next ≡ Some answer → TellsStat present path answer
-    look_told present path asked given answer next here later false is answered e = later e
-    look_told present path asked given answer next here later true is false e = later e
-    look_told present path asked given answer next here later true is true e =
-        let one : given ≡ answer = some_one given answer e in
-        subst (λ (a : StatAnswer). TellsStat present path a) one
-        (subst (λ (p : List ℕ). TellsStat present p given) ((bytes_eq-Decides asked path).0 is) here)
-
--- a load of the files that are there shows no other file
-none_other : (present : List NameFacts) (name : NameFacts) (answer : LoadFacts) (met : Seen) → stamp_at present name.path ≡ Some name.stamp
-    → TellsLoad present name.path answer → FindsOther name answer met → ⊥
-none_other present name (loaded found) met there tells finds = finds.0 (cc)
-none_other present name (too_large stamp) met there tells finds = finds.0 (cc)
-none_other present name gone met there tells finds = absurd (cc)
-none_other present name failed met there tells finds = finds
-none_other present name no_memory met there tells finds = finds
-
--- where the files are told and never change, no listed file is another
-never_other : (s : Setting) (roots : List (List ℕ)) (before after : Hand) (Kept : List RowFacts → Type 0) (name : NameFacts) (met : Seen)
-    → TellsStill s → EndsAltered (ReadsFiles s roots before after) Kept name met → ⊥
-never_other s roots before after Kept name met still ends =
-    let reads = ends.reads in
-    let there : stamp_at before.present name.path ≡ Some name.stamp
-    = first_told before.present name.path reads.walks.answers (File name.stamp) (reads.walks.told still)
-    (listed_next s roots before after ends.files name ends.left _ reads).file in
-    let loads : All (IsTold before.present) (loads_read ends.files ++ load_of name ends.answer ∷ [])
-    = subst (λ (present : List NameFacts). All (IsTold present) (loads_read ends.files ++ load_of name ends.answer ∷ [])) (reads.still still)
-    (reads.loads.told still) in
-    let last : TellsLoad before.present name.path ends.answer
-    = All-contains (IsTold before.present) (loads_read ends.files ++ load_of name ends.answer ∷ []) (load_of name ends.answer) loads
-    (Contains-push (loads_read ends.files) (load_of name ends.answer)) in
-    none_other before.present name ends.answer met there last ends.finds
 
 -- 4
 altered_end : (s : Setting) (roots : List (List ℕ)) (before after : Hand) (old new : Holding) (end : ScanEnd) → code_of (scan_saying end).status ≡ 4

@@ -78,7 +78,13 @@ fn a_put_replaces_the_row_of_its_path(rt: HostRuntime) -> Result<(), Fail> {
     assert_eq!(rt; rows.log_len(), 4);
     assert_rows(&rt, rows.rows(), &[("/a", 2), ("/b", 4), ("/c", 3)]);
     let names = rows.names(rt.alloc())?;
+    let paths = ["/a", "/b", "/c"];
+    let sizes = [2, 4, 3];
     assert_eq!(rt; names.len(), 3);
+    for ((name, path), size) in names.iter().zip(paths).zip(sizes) {
+        assert_eq!(rt; name.path.text(), path);
+        assert_eq!(rt; name.stamp.size, size, "size of {path}");
+    }
     Ok(())
 }
 

@@ -4,7 +4,6 @@ use Rattle.std.specs.List.{AllPairs, AllPass}
 use Rattle.row_types.specs.Ascends.{IsBefore}
 use Rattle.row_types.specs.Name.{NameFacts, same_name}
 use Rattle.scan_queue.specs.Names.{IsListing, is_in, not_in, without}
-use Rattle.scan_queue.specs.declared.miss.Cause.{Cause}
 use Rattle.scan_queue.specs.declared.miss.Miss.{Miss}
 
 -- the listing; the names to be read, those that were handed out, those to be looked for and those that were
@@ -69,12 +68,6 @@ pub record Takes (old new : PassFacts) (name : NameFacts) : Type 0 where
   pub out : Adds name old.out new.out
   pub same : new ≡ record old { todo = new.todo; out = new.out; filled = false }
 
--- the first name of groom is handed out, without its copy from then on
-pub record GroomTakes (old new : PassFacts) (name : NameFacts) : Type 0 where
-  pub first : old.groom ≡ name ∷ new.groom
-  pub out : Adds name old.out new.out
-  pub same : new ≡ record old { groom = new.groom; out = new.out; filled = false }
-
 -- the list has no name to hand out, and the pass stays
 pub record TakesNone (names : List NameFacts) (old new : PassFacts) : Type 0 where
   pub none : names ≡ []
@@ -92,12 +85,6 @@ left name pass = record pass {
   groom = without name pass.groom;
   missed = misses_without name pass.missed;
 }
-
--- the name was out, and is missed by the cause
-pub record Misses (old new : PassFacts) (name : NameFacts) (cause : Cause) : Type 0 where
-  pub out : Adds name new.out old.out
-  pub missed : Adds (record { name = name; cause = cause }) old.missed new.missed
-  pub same : new ≡ record old { out = new.out; missed = new.missed }
 
 -- no name is left to be looked at
 pub record IsWhole (pass : PassFacts) : Type 0 where

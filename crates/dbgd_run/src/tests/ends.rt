@@ -15,9 +15,9 @@ fn says(rt: &impl Abort, alloc: Global, end: &ScanEnd, line: &str, status: u8) -
     let mut out = MemSink::new(alloc, Vec::new(alloc));
     let mut err = MemSink::new(alloc, Vec::new(alloc));
     let said = say_end(alloc, end, &mut out, &mut err);
-    assert_eq!(rt; out.written(), Some(b"".as_slice()), "out of {end:?}");
-    assert_eq!(rt; err.written(), Some(line.as_bytes()), "err of {end:?}");
-    assert_eq!(rt; said.code(), status, "status of {end:?}");
+    assert_eq!(rt; out.written(), Some(b"".as_slice()), "out of {line:?}");
+    assert_eq!(rt; err.written(), Some(line.as_bytes()), "err of {line:?}");
+    assert_eq!(rt; said.code(), status, "status of {line:?}");
     Ok(())
 }
 
