@@ -8,4 +8,5 @@ pub mod PassSteps
 pub mod Rooms
 pub mod Steps
 pub mod StoreSteps
+pub mod TwoWorldRows
 pub mod Whole
