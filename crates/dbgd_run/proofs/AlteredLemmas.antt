@@ -1,12 +1,11 @@
 -- A scan that ends at a file that was another.
-use Rattle.std.proofs.Common.{◌≡◌, ◌≢◌, ℕ, ◌<◌, Bool, true, false, List, [], ◌∷◌, ◌++◌, length, refl, sym, ◌∙◌, ap, subst, inl, inr, ◌⊎◌, Option, Some, None, IsTrue, append_assoc, arith, cond}
-use Rattle.std.specs.Prelude.{◌&&◌, if◌then◌else◌, Err}
+use Rattle.std.proofs.Common.{◌≡◌, ℕ, Bool, true, false, List, [], ◌∷◌, ◌++◌, refl, sym, ◌∙◌, ap, subst, Option, Some, None, append_assoc, arith}
+use Rattle.std.specs.Prelude.{◌&&◌, if◌then◌else◌}
 use Rattle.std.specs.List.{All, Contains}
 use Rattle.std.specs.Option.{option_or}
 use Rattle.std.specs.Str.{bytes_eq}
 use Rattle.std.proofs.lemmas.List.Elements.{All-head, All-tail, All-contains, Contains-append_right, Contains-push}
 use Rattle.std.proofs.lemmas.Slice.Eq.{bytes_eq-Decides}
-use Rattle.row_types.specs.Faults.{Rose}
 use Rattle.row_types.specs.Name.{NameFacts}
 use Rattle.row_types.specs.Row.{RowFacts}
 use Rattle.scan_queue.specs.declared.miss.Seen.{Seen}
@@ -17,23 +16,12 @@ use Rattle.tree_trait.specs.Stat.{TellsStat}
 use Rattle.tree_trait.specs.declared.stat.StatAnswer.{StatAnswer}
 use Rattle.tree_trait.specs.declared.stat.StatAnswer.TheVariants.{File}
 use Rattle.tree_walk.specs.Answers.{first_look, is_look_answer, with_answers}
-use Rattle.tree_walk.specs.Files.{HasManyEntries, HasManyFiles, IsTold}
+use Rattle.tree_walk.specs.Files.{IsTold}
 use Rattle.tree_walk.specs.Walked.{IsWalked}
-use Rattle.tree_walk.specs.declared.fault.WalkFault.{WalkFault}
-use Rattle.tree_walk.specs.declared.fault.WalkFault.TheVariants as stop
-use Rattle.dbgd_run.specs.Endings.{EndsOrWants, Saying, Streams}
 use Rattle.dbgd_run.specs.Load.{Hand}
-use Rattle.dbgd_run.specs.Runs.{Runs}
-use Rattle.dbgd_run.specs.Scan.{EndsAltered, EndsBy, FileRead, FindsOther, ReadsFiles, RunsScan, Scans, load_of, loads_read, names_read}
-use Rattle.dbgd_run.specs.ScanSaid.{scan_saying}
-use Rattle.dbgd_run.specs.ScanCauses.{HasRootGone, HasScanCauses, HeardGone, HeardMany, HeardOther, IsScanned, IsTurnedAway, IsUnhindered, ScanCauses}
+use Rattle.dbgd_run.specs.Scan.{EndsAltered, FileRead, FindsOther, ReadsFiles, load_of, loads_read, names_read}
+use Rattle.dbgd_run.specs.ScanCauses.{HeardOther}
 use Rattle.dbgd_run.specs.Setting.{Setting, TellsStill}
-use Rattle.dbgd_run.specs.Sink.{Appends}
-use Rattle.dbgd_run.specs.Statuses.{code_of}
-use Rattle.dbgd_run.specs.Store.{Holding, Stock}
-use Rattle.dbgd_run.specs.Words.{Line, asks_ident, asks_section, asks_scan, unbuilt, unreadable}
-use Rattle.dbgd_run.specs.declared.scan_end.ScanEnd.{ScanEnd}
-use Rattle.dbgd_run.specs.declared.scan_end.ScanEnd.TheVariants.{Unopened, Filled, Unlisted, Unread, Altered, Unkept, Full, OutOfMemory, Whole}
 
 -- two pieces that were heard
 with_both : (told mid new : Option (List Heard)) (xs ys : List Heard) → mid ≡ with_answers told xs → new ≡ with_answers mid ys → new ≡ with_answers told (xs ++ ys)

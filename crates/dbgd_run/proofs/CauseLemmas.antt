@@ -1,5 +1,5 @@
 -- When a status comes, by what a run does.
-use Rattle.std.proofs.Common.{◌≡◌, sym, ◌∙◌, refl, subst, ◌≢◌, inl, inr, ◌⊎◌, ℕ, List, [], length, ap, Bool, IsTrue, Option, Some, None, Result, Ok, Err, arith}
+use Rattle.std.proofs.Common.{◌≡◌, sym, ◌∙◌, refl, subst, ◌≢◌, inl, inr, ◌⊎◌, ℕ, List, [], length, ap, IsTrue, Option, Some, None, Result, Ok, Err, arith}
 use Rattle.row_types.specs.Faults.{Rose}
 use Rattle.file_formats.specs.Identity.{Identity}
 use Rattle.file_formats.specs.declared.fault.Why.{Why}

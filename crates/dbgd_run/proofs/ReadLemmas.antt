@@ -1,11 +1,9 @@
 -- Rows of files that were read.
 use Rattle.std.proofs.Common.{◌≡◌, ℕ, ◌≤◌, List, refl, sym, subst, Bool, MatchBool}
-use Rattle.std.specs.Prelude.{nat_lt}
 use Rattle.std.proofs.lemmas.Bool.{le-ltb}
 use Rattle.file_formats.specs.declared.fault.Why.TheVariants.{TooLarge}
 use Rattle.row_types.specs.Name.{NameFacts}
 use Rattle.row_types.specs.Reading.{IsReading, IsTrueRow, ReadsBytes}
-use Rattle.row_types.specs.Row.{RowFacts}
 use Rattle.row_types.specs.Stamp.{StampFacts}
 use Rattle.row_types.specs.declared.limits.TheConstants.{EDITION, FILE_LIMIT}
 use Rattle.row_types.specs.declared.reading.Reading.{Reading}

@@ -1,5 +1,5 @@
 -- The ends of a scan, by what is said of what was read and kept.
-use Rattle.std.proofs.Common.{◌≡◌, ℕ, List}
+use Rattle.std.proofs.Common.{List}
 use Rattle.row_types.specs.Name.{NameFacts}
 use Rattle.row_types.specs.Row.{RowFacts}
 use Rattle.tree_trait.specs.Heard.{Heard}

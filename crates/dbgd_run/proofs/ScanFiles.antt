@@ -1,11 +1,10 @@
 -- The files of a listing, one after the other.
-use Rattle.std.proofs.Common.{◌≡◌, ℕ, ◌<◌, ◌≤◌, Bool, true, false, List, [], ◌∷◌, ◌++◌, map, length, refl, sym, ◌∙◌, ap, subst, Option, Some, None, IsTrue, arith, inl, inr, length-append}
-use Rattle.std.specs.Prelude.{IfSome, option_map, Result, Ok, Err}
+use Rattle.std.proofs.Common.{◌≡◌, ℕ, ◌<◌, ◌≤◌, Bool, false, List, [], ◌∷◌, ◌++◌, length, refl, sym, ◌∙◌, ap, subst, Option, Some, None, IsTrue, arith, inl, inr, length-append}
+use Rattle.std.specs.Prelude.{IfSome, option_map}
 use Rattle.std.specs.List.{All}
 use Rattle.std.proofs.lemmas.List.{length-map}
-use Rattle.std.proofs.lemmas.List.Elements.{All-nil, All-cons, All-weaker}
+use Rattle.std.proofs.lemmas.List.Elements.{All-nil, All-cons}
 use Rattle.row_types.specs.Ascends.{IsBefore}
-use Rattle.row_types.specs.Faults.{HasCause, Rose}
 use Rattle.row_types.specs.Name.{NameFacts}
 use Rattle.row_types.specs.Row.{RowFacts}
 use Rattle.row_types.specs.Stamp.{StampFacts}
@@ -16,16 +15,15 @@ use Rattle.tree_trait.specs.Heard.{after_load}
 use Rattle.tree_trait.specs.Present.{StaysStill}
 use Rattle.scan_queue.specs.declared.listing.TheConstants.{LISTING_LIMIT}
 use Rattle.scan_queue.specs.declared.miss.Seen.{Seen}
-use Rattle.index_rows.specs.Rows.{with_row}
 use Rattle.index_rows.specs.declared.rows.TheConstants.{LOG_LIMIT}
-use Rattle.tree_trait.specs.Load.{LoadFacts, loaded, too_large, gone, failed, no_memory, is_failed, is_no_memory}
+use Rattle.tree_trait.specs.Load.{LoadFacts, loaded, too_large, gone, failed, no_memory, is_no_memory}
 use Rattle.index_state.specs.Invariant.{IndexInvariant}
 use Rattle.index_state.specs.Keeping.{Meanings}
 use Rattle.index_state.specs.State.{StateFacts, pass_of}
-use Rattle.index_state.specs.Step.{Breaks, FindsNoMemory, FindsNone, HandsOut, IsAwaited, IsShut, Stays, Stores, TakesNext}
+use Rattle.index_state.specs.Step.{Stores, TakesNext}
 use Rattle.dbgd_run.specs.Load.{Hand}
-use Rattle.dbgd_run.specs.Scan.{EndsWanting, FileRead, FindsOther, IsFileRead, LoadsFiles, Reads, load_of, loads_read, names_read, rows_read}
-use Rattle.dbgd_run.specs.ScanSteps.{DoesNext, FilesEnd, HasRead, HasReadAll, IsBegun, IsPassOver, KeepsFiles, KeepsNext, LeadsTo, LoadsNext, ReadsThen, TearsFiles}
+use Rattle.dbgd_run.specs.Scan.{FileRead, FindsOther, IsFileRead, LoadsFiles, Reads, load_of, names_read, rows_read}
+use Rattle.dbgd_run.specs.ScanSteps.{DoesNext, FilesEnd, HasRead, IsBegun, IsPassOver, KeepsFiles, LoadsNext}
 use Rattle.dbgd_run.specs.Setting.{Rules}
 use Rattle.dbgd_run.specs.declared.scan_end.ScanEnd.{ScanEnd}
 use Rattle.dbgd_run.specs.declared.scan_end.ScanEnd.TheVariants.{Unopened, Filled, Unlisted, Unread, Altered, Unkept, Full, OutOfMemory, Whole}

@@ -1,40 +1,20 @@
 -- The scan of a listing, file by file.
-use Rattle.std.proofs.Common.{◌≡◌, ℕ, ◌≤◌, Bool, true, false, List, [], ◌∷◌, ◌++◌, map, length, refl, sym, ◌∙◌, ap, subst, inl, inr, ◌⊎◌, Option, Some, None, IsTrue, append_assoc, arith, length-append}
-use Rattle.std.specs.Prelude.{option_map}
+use Rattle.std.proofs.Common.{◌≡◌, ℕ, Bool, false, List, [], ◌∷◌, ◌++◌, refl, sym, ◌∙◌, ap, subst, Option, Some, None, IsTrue, append_assoc}
 use Rattle.std.specs.List.{All}
-use Rattle.std.proofs.lemmas.List.{append-nil, length-map, map-append}
-use Rattle.std.proofs.lemmas.List.Elements.{All-nil, All-cons, All-head, All-tail, All-push, All-weaker}
+use Rattle.std.proofs.lemmas.List.{append-nil, map-append}
+use Rattle.std.proofs.lemmas.List.Elements.{All-nil, All-cons, All-head, All-tail, All-push}
 use Rattle.row_types.specs.Ascends.{IsBefore}
 use Rattle.row_types.specs.Name.{NameFacts}
 use Rattle.row_types.specs.Row.{RowFacts}
 use Rattle.row_types.specs.Stamp.{StampFacts}
 use Rattle.row_types.specs.declared.limits.TheConstants.{FILE_LIMIT}
-use Rattle.row_codec.specs.RowBytes.{row_bytes}
-use Rattle.scan_queue.specs.Names.{IsByPath, is_in}
-use Rattle.scan_queue.specs.Pass.{Adds, PassFacts, Takes, begun, left as left_of}
-use Rattle.scan_queue.specs.declared.miss.Seen.{Seen}
-use Rattle.index_keeper.specs.Keeper.{IsTorn, made_after}
-use Rattle.index_keeper.specs.Tables.{EditFacts, KeptFacts, edited}
-use Rattle.index_keeper.specs.declared.answer.KeepAnswer.TheVariants.{Done, Failed}
-use Rattle.index_rows.proofs.Lists.{filter_true}
-use Rattle.index_rows.specs.Rows.{names_of, with_row}
 use Rattle.tree_trait.specs.Heard.{Heard, after_load, with_entry}
 use Rattle.tree_trait.specs.Load.{LoadFacts, loaded, too_large, gone, failed, no_memory, is_no_memory}
 use Rattle.tree_walk.specs.Answers.{with_answers}
 use Rattle.tree_walk.specs.Files.{IsTold}
-use Rattle.index_state.specs.Invariant.{IndexInvariant}
-use Rattle.index_state.specs.Keeping.{Meanings}
-use Rattle.index_state.specs.Kept.{Agrees, tables_of}
-use Rattle.index_state.specs.State.{StateFacts, pass_of}
-use Rattle.index_state.specs.Step.{BeginsPass, Breaks, FindsNoMemory, HandsOut, IsAwaited, IsShut, Stays, Stores, TakesNext}
 use Rattle.dbgd_run.specs.Load.{Hand}
-use Rattle.dbgd_run.specs.Kept.{put_row, with_puts}
 use Rattle.dbgd_run.specs.Scan.{FileRead, IsFileRead, LoadsFiles, Reads, load_of, loads_read, names_read, rows_read}
-use Rattle.dbgd_run.specs.ScanSteps.{DoesNext, FilesEnd, HasRead, HasReadAll, IsBegun, IsNew, IsPassOver, KeepsFiles, LoadsNext, ReadsThen, TearsFiles}
-use Rattle.dbgd_run.specs.Setting.{Rules}
-use Rattle.dbgd_run.specs.declared.scan_end.ScanEnd.{ScanEnd}
-use Rattle.dbgd_run.specs.declared.scan_end.ScanEnd.TheVariants as end
-use Rattle.dbgd_run.proofs.ScanLists.{pairs_after, pairs_before, put_last, without_itself, without_none}
+use Rattle.dbgd_run.specs.ScanSteps.{LoadsNext}
 
 -- nothing more was heard
 pub with_nothing : (told : Option (List Heard)) → told ≡ with_answers told []

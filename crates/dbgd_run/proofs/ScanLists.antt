@@ -1,14 +1,14 @@
 -- Lists of names and rows in path order.
-use Rattle.std.proofs.Common.{◌≡◌, ℕ, Bool, true, false, List, [], ◌∷◌, ◌++◌, map, refl, sym, ◌∙◌, ap, subst}
-use Rattle.std.specs.Prelude.{◌||◌, not}
-use Rattle.std.specs.List.{All, AllPairs, filter, list_any}
+use Rattle.std.proofs.Common.{◌≡◌, true, false, List, [], ◌∷◌, ◌++◌, refl, ◌∙◌, ap}
+use Rattle.std.specs.Prelude.{not}
+use Rattle.std.specs.List.{All, AllPairs, filter}
 use Rattle.std.proofs.lemmas.List.Elements.{All-nil, All-cons, All-head, All-tail, All-weaker}
 use Rattle.row_types.specs.Ascends.{IsBefore, is_before}
 use Rattle.row_types.specs.Name.{NameFacts, same_name}
 use Rattle.row_types.specs.Row.{RowFacts}
-use Rattle.scan_queue.specs.Names.{IsByPath, is_in, without}
-use Rattle.scan_queue.proofs.NameTests.{path_differs, path_differs_back, same_name-Decides}
-use Rattle.index_rows.specs.Rows.{names_of, path_of, with_row}
+use Rattle.scan_queue.specs.Names.{without}
+use Rattle.scan_queue.proofs.NameTests.{path_differs, same_name-Decides}
+use Rattle.index_rows.specs.Rows.{path_of, with_row}
 use Rattle.index_rows.proofs.Lists.{filter_all, filter_none, first_related, rest_related}
 use Rattle.index_rows.proofs.PathLemmas.{fails_after, tests_before}
 

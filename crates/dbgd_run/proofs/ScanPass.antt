@@ -1,28 +1,22 @@
 -- A pass over a listing.
-use Rattle.std.proofs.Common.{◌≡◌, ℕ, ◌≤◌, Bool, true, false, List, [], ◌∷◌, ◌++◌, length, refl, sym, ◌∙◌, ap, subst, Option, Some, None, IsTrue, arith}
-use Rattle.std.specs.List.{All}
+use Rattle.std.proofs.Common.{◌≡◌, ℕ, List, [], refl, sym, ◌∙◌, ap, subst, Option, arith}
 use Rattle.std.proofs.lemmas.List.Elements.{All-nil}
-use Rattle.row_types.specs.Faults.{HasCause}
 use Rattle.row_types.specs.Name.{NameFacts}
 use Rattle.row_types.specs.Row.{RowFacts}
-use Rattle.row_types.specs.Stamp.{StampFacts}
-use Rattle.scan_queue.specs.Pass.{PassFacts, begun}
+use Rattle.scan_queue.specs.Pass.{PassFacts}
 use Rattle.index_rows.specs.Rows.{names_of}
-use Rattle.tree_trait.specs.Heard.{Heard}
-use Rattle.tree_walk.specs.declared.fault.WalkFault.{WalkFault}
 use Rattle.index_state.specs.Keeping.{Meanings}
 use Rattle.index_state.specs.Plan.{plan_of}
 use Rattle.index_state.specs.State.{StateFacts, pass_of}
-use Rattle.index_state.specs.Step.{BeginsPass, Stays}
+use Rattle.index_state.specs.Step.{BeginsPass}
 use Rattle.index_state.specs.declared.answer.Plan.{Plan}
 use Rattle.dbgd_run.specs.Load.{Hand}
 use Rattle.dbgd_run.specs.Kept.{with_puts}
-use Rattle.dbgd_run.specs.Scan.{EndsOpen, FileRead, IsFileRead, LoadsFiles, rows_read}
-use Rattle.dbgd_run.specs.ScanSaid.{is_hand_fault, is_store_fault}
+use Rattle.dbgd_run.specs.Scan.{EndsOpen, IsFileRead, LoadsFiles}
 use Rattle.dbgd_run.specs.ScanSteps.{IsBegun, IsNew, IsPassOver, KeepsFiles, TearsFiles}
 use Rattle.dbgd_run.specs.Setting.{Rules}
 use Rattle.dbgd_run.specs.declared.scan_end.ScanEnd.{ScanEnd}
-use Rattle.dbgd_run.specs.declared.scan_end.ScanEnd.TheVariants.{Unopened, Filled, Unlisted, Unread, Altered, Unkept, Full, OutOfMemory, Whole}
+use Rattle.dbgd_run.specs.declared.scan_end.ScanEnd.TheVariants.{OutOfMemory}
 use Rattle.dbgd_run.proofs.ScanEnds.{ends_open}
 use Rattle.dbgd_run.proofs.ScanLemmas.{with_nothing}
 use Rattle.dbgd_run.proofs.ScanState.{begins_new, keeps_none}

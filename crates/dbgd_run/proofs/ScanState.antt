@@ -1,24 +1,22 @@
 -- The index during a scan.
-use Rattle.std.proofs.Common.{◌≡◌, ℕ, ◌≤◌, Bool, true, false, List, [], ◌∷◌, ◌++◌, map, length, refl, sym, ◌∙◌, ap, subst, ◌⊎◌, Option, Some, None, IsTrue, append_assoc, arith, length-append}
+use Rattle.std.proofs.Common.{◌≡◌, false, List, [], ◌∷◌, ◌++◌, map, length, refl, sym, ◌∙◌, ap, subst, ◌⊎◌, Option, Some, None, IsTrue, append_assoc, arith, length-append}
 use Rattle.std.specs.Prelude.{option_map}
 use Rattle.std.specs.List.{All}
 use Rattle.std.proofs.lemmas.List.{append-nil, map-append}
 use Rattle.row_types.specs.Ascends.{IsBefore}
 use Rattle.row_types.specs.Name.{NameFacts}
 use Rattle.row_types.specs.Row.{RowFacts}
-use Rattle.scan_queue.specs.Names.{is_in, without}
-use Rattle.scan_queue.specs.Pass.{Adds, PassFacts, begun, left as left_of, misses_without}
-use Rattle.index_keeper.specs.Keeper.{made_after}
-use Rattle.index_keeper.specs.Tables.{EditFacts, KeptFacts, edited}
-use Rattle.index_keeper.specs.declared.answer.KeepAnswer.TheVariants.{Done, Failed}
+use Rattle.scan_queue.specs.Names.{without}
+use Rattle.scan_queue.specs.Pass.{PassFacts, begun, left as left_of, misses_without}
+use Rattle.index_keeper.specs.Tables.{EditFacts, edited}
 use Rattle.index_rows.proofs.Lists.{filter_true}
 use Rattle.index_rows.specs.Log.{put_of}
 use Rattle.index_rows.specs.Rows.{names_of, with_row}
 use Rattle.index_state.specs.Invariant.{IndexInvariant}
 use Rattle.index_state.specs.Keeping.{Meanings}
 use Rattle.index_state.specs.Kept.{Agrees, IsInStore, tables_of}
-use Rattle.index_state.specs.State.{StateFacts, pass_of}
-use Rattle.index_state.specs.Step.{BeginsPass, Breaks, FindsNoMemory, HandsOut, IsAwaited, Stores, TakesNext}
+use Rattle.index_state.specs.State.{StateFacts}
+use Rattle.index_state.specs.Step.{Breaks, FindsNoMemory, HandsOut, Stores}
 use Rattle.dbgd_run.specs.Kept.{put_row, with_puts}
 use Rattle.dbgd_run.specs.ScanSteps.{IsNew, IsPassOver, KeepsFiles, TearsFiles}
 use Rattle.dbgd_run.proofs.ScanLists.{without_itself, without_none}

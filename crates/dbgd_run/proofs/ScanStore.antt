@@ -1,30 +1,23 @@
 -- The store of a scan.
-use Rattle.std.proofs.Common.{◌≡◌, ◌≢◌, ℕ, ◌≤◌, Bool, true, false, List, [], ◌∷◌, refl, sym, ◌∙◌, ap, subst, inl, inr, ◌⊎◌, Option, Some, None, IsTrue, arith}
-use Rattle.std.specs.Prelude.{Result, Ok, Err}
-use Rattle.row_types.specs.Faults.{HasCause, Rose, summed}
-use Rattle.row_types.specs.Name.{NameFacts}
+use Rattle.std.proofs.Common.{◌≡◌, ℕ, ◌≤◌, List, [], sym, ◌∙◌, ap, subst, inr, Option, IsTrue, arith}
+use Rattle.std.specs.Prelude.{Ok}
+use Rattle.row_types.specs.Faults.{Rose, summed}
 use Rattle.row_types.specs.Row.{RowFacts}
-use Rattle.index_keeper.specs.Keeper.{IsOnlyImage}
 use Rattle.index_keeper.specs.Tables.{EditFacts, KeptFacts}
-use Rattle.tree_trait.specs.Heard.{Heard}
 use Rattle.tree_walk.specs.Ends.{Walks}
 use Rattle.tree_walk.specs.Files.{AreFilesUnder}
-use Rattle.tree_walk.specs.declared.fault.WalkFault.{WalkFault}
-use Rattle.tree_walk.specs.declared.fault.WalkFault.TheVariants as stop
 use Rattle.tree_walk.specs.declared.walked.Walk.{Walk}
 use Rattle.index_state.specs.Invariant.{IndexInvariant}
 use Rattle.index_state.specs.Keeping.{Meanings}
 use Rattle.index_state.specs.Kept.{tables_of}
-use Rattle.index_state.specs.Opening.{IsRead, IsSettled, Opens, Refuses, opened_on}
+use Rattle.index_state.specs.Opening.{Opens}
 use Rattle.index_state.specs.State.{StateFacts}
-use Rattle.index_state.specs.declared.answer.OpenFault.TheVariants as fault
 use Rattle.dbgd_run.specs.Load.{Hand}
-use Rattle.dbgd_run.specs.Kept.{HasKept, HasTorn, KeepsAll, with_puts}
-use Rattle.dbgd_run.specs.Scan.{EndsBy, EndsEarly, EndsFilled, EndsInWalk, EndsOpen, EndsOver, FileRead, LoadsFiles, ReadsFiles, Scans}
-use Rattle.dbgd_run.specs.ScanSaid.{is_hand_fault, is_store_fault, is_walk_failure}
+use Rattle.dbgd_run.specs.Kept.{HasKept, HasTorn, with_puts}
+use Rattle.dbgd_run.specs.Scan.{EndsBy, EndsInWalk, EndsOpen, EndsOver, LoadsFiles, ReadsFiles}
 use Rattle.dbgd_run.specs.ScanSteps.{EndsUnlisted, IsNew, KeepsFiles, TearsFiles}
-use Rattle.dbgd_run.specs.Setting.{Rules, Setting, TellsStill}
-use Rattle.dbgd_run.specs.Store.{Holding, Stock}
+use Rattle.dbgd_run.specs.Setting.{Setting, TellsStill}
+use Rattle.dbgd_run.specs.Store.{Holding}
 use Rattle.dbgd_run.specs.declared.scan_end.ScanEnd.{ScanEnd}
 use Rattle.dbgd_run.specs.declared.scan_end.ScanEnd.TheVariants.{Unopened, Filled, Unlisted, Unread, Altered, Unkept, Full, OutOfMemory, Whole}
 use Rattle.dbgd_run.proofs.ScanEnds.{ends_open}

@@ -1,5 +1,5 @@
 -- What a run does, by its words (this project's rule).
-use Rattle.std.specs.Prelude.{◌≡◌, ℕ, List, []}
+use Rattle.std.specs.Prelude.{◌≡◌, ℕ, []}
 use Rattle.dbgd_run.specs.Causes.{HasCauses}
 use Rattle.dbgd_run.specs.Endings.{Saying, Streams, Ends}
 use Rattle.dbgd_run.specs.Ident.{SaysIdent}

@@ -1,6 +1,6 @@
 //! The command `scan`.
 
-ghost use Rattle.std.specs.Prelude.{◌≡◌, ◌≤◌, List, IsTrue};
+ghost use Rattle.std.specs.Prelude.{◌≡◌, List, IsTrue};
 ghost use Rattle.row_types.specs.Faults.{HasCause};
 ghost use Rattle.index_keeper.specs.Tables.{KeptFacts};
 ghost use Rattle.index_state.specs.Keeping.{meanings};

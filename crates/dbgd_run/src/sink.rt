@@ -1,6 +1,6 @@
 //! Where bytes go.
 
-ghost use Rattle.std.specs.Prelude.{◌≡◌, ◌<◌, ℕ, List, Option, OnOk, OnErr, IsErr, length};
+ghost use Rattle.std.specs.Prelude.{◌<◌, ℕ, List, Option, OnOk, OnErr, IsErr, length};
 ghost use Rattle.row_types.specs.Faults.{HasCause};
 ghost use Rattle.dbgd_run.specs.Sink.{Appends, IsFailed, Takes, WritesPart, front};
 

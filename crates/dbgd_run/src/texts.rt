@@ -1,6 +1,6 @@
 //! The program's texts.
 
-ghost use Rattle.std.specs.Prelude.{◌≡◌, ◌++◌, IfOk};
+ghost use Rattle.std.specs.Prelude.{◌≡◌, IfOk};
 ghost use Rattle.std.specs.String.{string_bytes};
 ghost use Rattle.dbgd_run.specs.Texts.{class_word, identity_line, plain_line, why_word};
 

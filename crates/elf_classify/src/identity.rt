@@ -1,6 +1,6 @@
 //! A file's identity: its build-id, and whether it holds code and debug information.
 
-ghost use Rattle.std.specs.Prelude.{◌≡◌, ◌≢◌, ◌↔◌, ◌<◌, ◌≤◌, ℕ, List, Result, Err, IsTrue, IfNone, IfSome};
+ghost use Rattle.std.specs.Prelude.{◌≡◌, ◌≢◌, ◌↔◌, ◌<◌, ℕ, List, Result, Err, IsTrue, IfNone, IfSome};
 ghost use Rattle.file_formats.specs.Identity.{HasCode, HasDebug, HasIdAt, Identity, IsBuildId, IsIdentity, is_code, is_debug, why_of};
 ghost use Rattle.file_formats.specs.Table.{IsIndex, name_of};
 

@@ -1,9 +1,7 @@
 //! Rows, lent one after the other.
 
 ghost use Rattle.std.specs.Prelude.{◌≡◌, ◌∷◌, [], filter, IfSome, IfNone};
-ghost use Rattle.std.specs.List.{list_any};
 ghost use Rattle.std.specs.Iterator.{YieldsFirstRef, item_count};
-ghost use Rattle.std.specs.Str.{bytes_eq};
 ghost use Rattle.index_rows.specs.Classes.{has_class, has_id, is_of_kind, lists_source};
 ghost use Rattle.index_rows.specs.Pick.{is_picked};
 

@@ -1,5 +1,5 @@
 -- The index invariant after each step.
-use Rattle.std.proofs.Common.{◌≡◌, ℕ, ◌+◌, ◌≤◌, ◌<◌, Bool, true, false, List, [], ◌∷◌, ◌++◌, length, Option, Some, None, refl, sym, ◌∙◌, ap, subst, arith}
+use Rattle.std.proofs.Common.{◌≡◌, ℕ, ◌<◌, Bool, true, false, List, [], ◌∷◌, ◌++◌, length, Option, Some, None, refl, sym, ◌∙◌, ap, subst, arith}
 use Rattle.std.specs.Option.{option_map}
 use Rattle.std.specs.Prelude.{IfSome, IsTrue}
 use Rattle.std.proofs.lemmas.Bool.{true≢false}
@@ -20,8 +20,8 @@ use Rattle.index_keeper.specs.Tables.{EditFacts, put_of as put_edit}
 use Rattle.index_keeper.specs.declared.answer.KeepAnswer.TheVariants.{Done, Failed}
 use Rattle.index_state.specs.Changes.{HasOrigin}
 use Rattle.index_state.specs.Invariant.{IndexInvariant, ListedAccounted, RowsAccounted}
-use Rattle.index_state.specs.Keeping.{IsLeftAlone, IsPut, Meanings}
-use Rattle.index_state.specs.State.{StateFacts, lasting, pass_of}
+use Rattle.index_state.specs.Keeping.{IsPut, Meanings}
+use Rattle.index_state.specs.State.{StateFacts, pass_of}
 use Rattle.index_state.specs.Step.{HasRoom, IsAwaited, IsKnown, TakesFrom}
 use Rattle.index_state.proofs.ByName.{stands_is_in}
 use Rattle.index_state.proofs.LogSteps.{ends_void, lasting_marked, lasting_sound, origin_more, sound_put}

@@ -13,8 +13,8 @@ use Rattle.index_state.specs.Invariant.{IndexInvariant}
 use Rattle.index_state.specs.Keeping.{Meanings}
 use Rattle.index_state.specs.Plan.{plan_of}
 use Rattle.index_state.specs.State.{StateFacts, state_of}
-use Rattle.index_state.specs.Step.{BeginsPass, Breaks, FindsNoMemory, IsAwaited, Publishes, Stores}
-use Rattle.index_state.specs.Stored.{IsMarked, IsRefused, IsStored, SaysKept}
+use Rattle.index_state.specs.Step.{BeginsPass, IsAwaited, Publishes, Stores}
+use Rattle.index_state.specs.Stored.{IsMarked, IsStored, SaysKept}
 use Rattle.index_state.specs.declared.answer.Plan.{Plan}
 use Rattle.index_state.specs.declared.answer.Published.{Published}
 use Rattle.index_state.specs.declared.answer.Published.TheVariants.{Added, Replaced, Already, NotListed, Broken, LogFull, KeeperFault, OutOfMemory}

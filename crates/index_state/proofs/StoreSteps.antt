@@ -8,7 +8,7 @@ use Rattle.row_codec.specs.Spelled.{IsSpelled}
 use Rattle.index_rows.specs.ByPath.{put_at}
 use Rattle.index_rows.specs.Rows.{with_row}
 use Rattle.index_rows.proofs.PathLemmas.{map_put}
-use Rattle.index_keeper.specs.Keeper.{IsMade, IsTorn, IsUntouched}
+use Rattle.index_keeper.specs.Keeper.{IsMade, IsTorn}
 use Rattle.index_keeper.specs.Tables.{KeptFacts, edited, put_of, stands_after, stands_before}
 use Rattle.index_state.specs.Kept.{Agrees, IsInDoubt, IsNext, kept_of, tables_of}
 

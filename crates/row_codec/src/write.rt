@@ -1,8 +1,8 @@
 //! The spelling of a row.
 
-ghost use Rattle.std.specs.Prelude.{◌≡◌, ◌<◌, ◌≤◌, ◌^◌, ◌++◌, ◌∷◌, [], length, All, FitsSigned, IfOk, OnOk};
+ghost use Rattle.std.specs.Prelude.{◌≡◌, ◌<◌, ◌^◌, ◌++◌, length, All, IfOk, OnOk};
 ghost use Rattle.std.specs.List.{flat_map};
-ghost use Rattle.std.specs.Int.{w64, cast_unsigned};
+ghost use Rattle.std.specs.Int.{cast_unsigned};
 ghost use Rattle.row_types.specs.BuildId.{IsIdLength};
 ghost use Rattle.row_types.specs.Row.{RowFacts};
 ghost use Rattle.row_codec.specs.Spelled.{IsPathText, IsStamp, AreSources, IsSpelledReading};

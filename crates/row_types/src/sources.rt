@@ -1,6 +1,6 @@
 //! The source paths of a file.
 
-ghost use Rattle.std.specs.Prelude.{◌≡◌, ◌↔◌, ◌<◌, [], IsTrue, IsOk, IfOk, IfErr, length};
+ghost use Rattle.std.specs.Prelude.{◌≡◌, ◌↔◌, ◌<◌, [], IsTrue, IsOk, IfOk, IfErr};
 ghost use Rattle.row_types.specs.Ascends.{Ascends, IsBefore};
 
 use crate::path::CanonPath;

@@ -2,7 +2,7 @@
 
 ghost use Rattle.std.specs.Prelude.{◌≡◌, ◌++◌, OnOk, replicate};
 ghost use Rattle.std.specs.Int.{w16, w32, w64};
-ghost use Rattle.sample_files.specs.Fields.{number, place_width, field_bytes, fields_bytes};
+ghost use Rattle.sample_files.specs.Fields.{number, field_bytes, fields_bytes};
 
 use crate::shape::{Class, Order, Shape};
 use std::alloc::AllocError;

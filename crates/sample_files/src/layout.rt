@@ -1,8 +1,7 @@
 //! The plain layout: the header, the sections' bytes, the section table.
 
-ghost use Rattle.std.specs.Prelude.{◌≡◌, ℕ, ◌+◌, ◌^◌, ◌<◌, ◌≤◌, ◌++◌, ◌∷◌, [], length, vec_len, codes, OnOk, IfOk};
+ghost use Rattle.std.specs.Prelude.{◌≡◌, ◌+◌, ◌^◌, ◌<◌, ◌≤◌, ◌++◌, length, vec_len, codes, OnOk, IfOk};
 ghost use Rattle.std.specs.List.{flat_map};
-ghost use Rattle.sample_files.specs.Fields.{fields_bytes};
 ghost use Rattle.sample_files.specs.Layout as layout;
 ghost use Rattle.sample_files.specs.Layout.{IsSmall};
 

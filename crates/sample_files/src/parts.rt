@@ -1,6 +1,6 @@
 //! A section before it has a place.
 
-ghost use Rattle.std.specs.Prelude.{◌≡◌, ℕ, ◌+◌, ◌<◌, ◌≤◌, ◌^◌, ◌++◌, length, replicate, OnOk};
+ghost use Rattle.std.specs.Prelude.{◌≡◌, ◌+◌, ◌<◌, ◌≤◌, ◌^◌, ◌++◌, length, replicate, OnOk};
 ghost use Rattle.sample_files.specs.Parts.{section, section_without_bytes};
 ghost use Rattle.sample_files.specs.Layout as layout;
 

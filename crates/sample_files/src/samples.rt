@@ -1,6 +1,6 @@
 //! The sample files.
 
-ghost use Rattle.std.specs.Prelude.{◌≡◌, ℕ, ◌+◌, ◌^◌, ◌<◌, ◌≤◌, ◌++◌, length, map, sum_by, codes, vec_len, IfOk, ◌∷◌, []};
+ghost use Rattle.std.specs.Prelude.{◌≡◌, ◌+◌, ◌^◌, ◌<◌, ◌≤◌, ◌++◌, length, map, sum_by, codes, vec_len, IfOk, ◌∷◌, []};
 ghost use Rattle.sample_files.specs.Parts.{section};
 ghost use Rattle.sample_files.specs.Samples as samples;
 

@@ -1,7 +1,7 @@
 //! The slots of a pass as it begins.
 
-ghost use Rattle.std.specs.Prelude.{◌≡◌, ◌++◌, map, IfOk, IsOk, OnOk};
-ghost use Rattle.scan_queue.specs.Names.{IsByPath, IsListing};
+ghost use Rattle.std.specs.Prelude.{◌≡◌, ◌++◌, map, IfOk, OnOk};
+ghost use Rattle.scan_queue.specs.Names.{IsByPath};
 ghost use Rattle.scan_queue.specs.Slots.{AreFirst, listed_slot, unlisted_slot};
 
 use crate::listing::{is_before, is_same};

@@ -1,6 +1,6 @@
 //! Objects of the outside that no memory form stands for.
 
-ghost use Rattle.std.specs.Prelude.{◌<◌, length};
+ghost use Rattle.std.specs.Prelude.{◌<◌};
 
 use crate::mem_sink::MemSink;
 use crate::sink::{Sink, WriteAnswer};

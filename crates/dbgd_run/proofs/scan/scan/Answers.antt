@@ -1,4 +1,4 @@
-use Rattle.std.proofs.Common.{◌≡◌, ◌≤◌, ℕ, List, Option, IsTrue, sym, subst, arith}
+use Rattle.std.proofs.Common.{◌≤◌, ℕ, List, Option, sym, subst, arith}
 use Rattle.row_types.specs.Faults.{Rose}
 use Rattle.index_keeper.specs.Tables.{EditFacts, KeptFacts}
 use Rattle.dbgd_run.specs.Load.{Hand, hand as shown}

@@ -1,4 +1,4 @@
-use Rattle.std.proofs.Common.{IsTrue, refl, sym, subst}
+use Rattle.std.proofs.Common.{IsTrue, sym, subst}
 use Rattle.index_state.specs.Keeping.{meanings}
 use Rattle.dbgd_run.specs.Load.{hand}
 use Rattle.dbgd_run.specs.Scan.{EndsBy}

@@ -1,4 +1,3 @@
-use Rattle.std.proofs.Common.{sym}
 use Rattle.dbgd_run.proofs.scan_sayings.say_walk.Goals as goal
 
 pub returns-in-RootGone : goal.returns-in-RootGone
