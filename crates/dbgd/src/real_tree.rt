@@ -7,7 +7,7 @@ use crate::file_load::load_file;
 use crate::folder_read::read_folder;
 use crate::look::look;
 use crate::read_fault::ReadFault;
-use row_types::{Faults, OpenWorld, Truth};
+use row_types::{Faults, OpenWorld};
 use std::alloc::Global;
 use std::fs::{File, Files, OpenFile};
 use std::io::Read;
