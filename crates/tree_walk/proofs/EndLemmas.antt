@@ -1,6 +1,6 @@
 -- What a walk found, by what it kept.
-use Rattle.std.proofs.Common.{◌≡◌, ℕ, ◌+◌, ◌-◌, ◌^◌, ◌≤◌, ◌<◌, inl, inr, min, Bool, true, false, List, [], ◌∷◌, ◌++◌, length, Option, Some, None, IsSome, Contains, refl, sym, ◌∙◌, ap, subst, arith, ◌⊎◌, cond, MatchBool}
-use Rattle.std.specs.Prelude.{count_by, nat_lt, Result, Err}
+use Rattle.std.proofs.Common.{◌≡◌, ℕ, ◌+◌, ◌-◌, ◌^◌, ◌≤◌, ◌<◌, inl, inr, min, Bool, true, false, List, [], length, Option, Some, None, IsSome, Contains, refl, sym, ◌∙◌, ap, subst, arith}
+use Rattle.std.specs.Prelude.{count_by}
 use Rattle.std.specs.Str.{bytes_eq}
 use Rattle.std.proofs.lemmas.Bool.{false≢true, MatchBool-at_true, MatchBool-at_false, le-ltb, lt-ltb}
 use Rattle.std.proofs.lemmas.Option.{none-some, same_Some}
@@ -11,20 +11,20 @@ use Rattle.row_types.specs.declared.limits.TheConstants.{PATH_LIMIT}
 use Rattle.scan_queue.specs.declared.listing.TheConstants.{LISTING_LIMIT}
 use Rattle.tree_trait.specs.Dir.{child}
 use Rattle.tree_trait.specs.Entry.{EntryFacts, has_entry}
-use Rattle.tree_trait.specs.Heard.{Heard, stat}
+use Rattle.tree_trait.specs.Heard.{Heard}
 use Rattle.tree_trait.specs.declared.entry.EntryKind.{EntryKind}
 use Rattle.tree_trait.specs.declared.entry.EntryKind.TheVariants as kind
 use Rattle.tree_trait.specs.declared.stat.StatAnswer.{StatAnswer}
 use Rattle.tree_trait.specs.declared.stat.StatAnswer.TheVariants.{Folder, File, Other, Gone, Failed, OutOfMemory}
-use Rattle.tree_walk.specs.Answers.{first_look, entries_in, times_read, entries_read, all_passed_over, first_reading, has_failed}
-use Rattle.tree_walk.specs.Ends.{HasRoom, IsWhole, IsTooMany, StopsAtLast, IsTooManyEntries}
+use Rattle.tree_walk.specs.Answers.{first_look, entries_in, times_read, entries_read, all_passed_over}
+use Rattle.tree_walk.specs.Ends.{HasRoom, IsWhole, IsTooMany, StopsAtLast}
 use Rattle.tree_walk.specs.Search.{SearchFacts, has, names_of, file_of, IsMet, IsSettled, IsSearch, IsUnderway}
-use Rattle.tree_walk.specs.Walked.{IsReached, root, entry, IsEntry, IsFolder, IsWalked, IsWalkListing, IsFull, AsksOnce, IsSkipped}
+use Rattle.tree_walk.specs.Walked.{IsReached, root, entry, IsEntry, IsFolder, IsWalked, IsWalkListing}
 use Rattle.tree_walk.specs.declared.walked.Walk.{Walk}
 use Rattle.tree_walk.specs.declared.walked.TheConstants.{ENTRY_LIMIT}
 use Rattle.tree_walk.proofs.AnswerLemmas.{one_if, was_read}
 use Rattle.tree_walk.proofs.ReachLemmas.{look_was_due}
-use Rattle.tree_walk.proofs.SetLemmas.{length_names, name_from_lookup, lookup_from_name, by_path_from_sorted, distinct_from_sorted, has_from_Contains, Contains-from_has, same}
+use Rattle.tree_walk.proofs.SetLemmas.{length_names, name_from_lookup, lookup_from_name, by_path_from_sorted, distinct_from_sorted, has_from_Contains, Contains-from_has}
 
 -- a file that was found is what the look said
 file_back : (answer : Option StatAnswer) (stamp : StampFacts) → file_of answer ≡ Some stamp → answer ≡ Some (File stamp)

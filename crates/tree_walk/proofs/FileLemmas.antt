@@ -1,6 +1,6 @@
 -- What an entry of a folder makes of a walk that is underway.
-use Rattle.std.proofs.Common.{◌≡◌, ℕ, ◌+◌, ◌-◌, ◌^◌, ◌≤◌, ◌<◌, ◌⊎◌, inl, inr, min, Bool, true, false, cond, List, [], ◌∷◌, ◌++◌, length, Option, Some, None, is_some, IsSome, MatchBool, Contains, refl, sym, ◌∙◌, ap, subst, append_assoc, drop, get_or, arith}
-use Rattle.std.specs.Prelude.{nat_lt, if◌then◌else◌}
+use Rattle.std.proofs.Common.{◌≡◌, ℕ, ◌+◌, ◌-◌, ◌^◌, ◌≤◌, ◌<◌, inl, inr, min, Bool, true, false, cond, List, [], ◌∷◌, ◌++◌, length, Option, Some, None, is_some, IsSome, MatchBool, refl, sym, ◌∙◌, ap, subst, drop, get_or, arith}
+use Rattle.std.specs.Prelude.{if◌then◌else◌}
 use Rattle.std.proofs.lemmas.Bool.{false≢true, lt-ltb, le-ltb, and_from}
 use Rattle.std.proofs.lemmas.List.{append-nil, drop_more}
 use Rattle.std.proofs.lemmas.List.Folds.{list_any_at}
@@ -15,19 +15,19 @@ use Rattle.tree_trait.specs.Heard.{Heard, stat, read_dir}
 use Rattle.tree_trait.specs.declared.entry.EntryKind.{EntryKind}
 use Rattle.tree_trait.specs.declared.entry.EntryKind.TheVariants as kind
 use Rattle.tree_trait.specs.declared.stat.StatAnswer.{StatAnswer}
-use Rattle.tree_trait.specs.declared.stat.StatAnswer.TheVariants.{Folder, Gone}
+use Rattle.tree_trait.specs.declared.stat.StatAnswer.TheVariants.{Folder}
 use Rattle.tree_walk.specs.Answers.{is_look_answer, first_look, entries_of, entries_in, entry_count, entries_read}
-use Rattle.tree_walk.specs.Ends.{BeginsWithRoots, IsTooMany, IsTooManyEntries, IsCause}
+use Rattle.tree_walk.specs.Ends.{IsTooMany, IsTooManyEntries, IsCause}
 use Rattle.tree_walk.specs.Search.{SearchFacts, has, with_path, noted, with_folder, with_long, with_last, paid, is_looked, IsMet, IsSettled, IsSearch, AreLooked, IsUnderway, IsAddFault, IsRead}
 use Rattle.tree_walk.specs.declared.fault.WalkFault.{WalkFault}
 use Rattle.tree_walk.specs.declared.fault.WalkFault.TheVariants.{Failed as WalkFailed, TooMany, TooManyEntries, RootGone, OutOfMemory as WalkMemory}
-use Rattle.tree_walk.specs.Walked.{IsNamed, IsReached, entry, IsEntry, IsCandidate}
+use Rattle.tree_walk.specs.Walked.{IsNamed, IsReached, entry, IsCandidate}
 use Rattle.tree_walk.specs.declared.walked.TheConstants.{ENTRY_LIMIT}
 use Rattle.tree_walk.proofs.AnswerLemmas.{looked_stays, look_stays, after_look}
 use Rattle.tree_walk.proofs.ReachLemmas.{reached_more, folder_reached}
 use Rattle.tree_walk.proofs.EndLemmas.{too_many_is}
 use Rattle.tree_walk.proofs.LastLemmas.{begins_more, look_last, read_last}
-use Rattle.tree_walk.proofs.SetLemmas.{same, same-Decides}
+use Rattle.tree_walk.proofs.SetLemmas.{same-Decides}
 use Rattle.tree_walk.proofs.StepLemmas.{read_step, read_entries, next_folder, note_step, is_looked_is, folder_step, folder_known, folder_stays, long_step, long_known, entry_step}
 
 -- the roots stay looked at

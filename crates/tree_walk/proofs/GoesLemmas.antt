@@ -1,14 +1,11 @@
 -- Answers that are heard one after the other.
-use Rattle.std.proofs.Common.{◌≡◌, ℕ, ◌≤◌, ◌<◌, inl, inr, Bool, true, false, List, [], ◌∷◌, ◌++◌, length, Option, Some, None, Result, Ok, Err, MatchResult, All, refl, sym, ◌∙◌, ap, subst, append_assoc, ◌+◌, take, drop, get_or}
-use Rattle.std.specs.Prelude.{◌↔◌}
+use Rattle.std.proofs.Common.{◌≡◌, ℕ, ◌<◌, true, List, [], ◌∷◌, ◌++◌, length, Option, Some, None, Result, Ok, Err, MatchResult, All, refl, sym, ◌∙◌, ap, subst, append_assoc, ◌+◌, take, drop, get_or}
 use Rattle.std.specs.Result.{IsErrAnd}
-use Rattle.std.proofs.lemmas.Bool.{false≢true, cases_lt}
 use Rattle.std.proofs.lemmas.List.{append-nil, drop_more, take_more, take-append-drop}
 use Rattle.std.proofs.lemmas.List.Elements.{All-append, All-nil}
 use Rattle.std.proofs.lemmas.Result.{err_from_is_err_and}
 use Rattle.row_types.specs.Name.{NameFacts}
 use Rattle.tree_trait.specs.Heard.{Heard}
-use Rattle.tree_trait.specs.Present.{StaysStill}
 use Rattle.tree_walk.specs.Answers.{has_failed, with_answers}
 use Rattle.tree_walk.specs.Ends.{StopsAtLast, IsCause}
 use Rattle.tree_walk.specs.Files.{IsTold}

@@ -1,22 +1,19 @@
 -- The roots, as they are looked at one after the other.
-use Rattle.std.proofs.Common.{◌≡◌, ℕ, ◌+◌, ◌≤◌, ◌||◌, ◌⊎◌, inl, inr, Bool, true, false, cond, List, [], ◌∷◌, ◌++◌, length, map, Option, Some, None, is_some, IsSome, Contains, refl, sym, ◌∙◌, ap, subst, arith, append_assoc}
+use Rattle.std.proofs.Common.{◌≡◌, ℕ, ◌+◌, ◌≤◌, inl, inr, Bool, true, false, cond, List, [], ◌∷◌, ◌++◌, length, Some, None, is_some, IsSome, Contains, refl, sym, ◌∙◌, ap, subst}
 use Rattle.std.specs.Prelude.{if◌then◌else◌}
-use Rattle.std.specs.List.{list_all, zip}
 use Rattle.std.proofs.lemmas.Bool.{false≢true, and_from}
-use Rattle.std.proofs.lemmas.List.{append-nil, length_push}
-use Rattle.std.proofs.lemmas.List.Elements.{Contains-append_right, Contains-push_cases}
+use Rattle.std.proofs.lemmas.List.{length_push}
+use Rattle.std.proofs.lemmas.List.Elements.{Contains-push_cases}
 use Rattle.std.proofs.lemmas.List.Folds.{list_all-append}
-use Rattle.std.proofs.lemmas.Option.{none-some, same_Some}
+use Rattle.std.proofs.lemmas.Option.{same_Some}
 use Rattle.row_types.specs.Canon.{IsCanonPath}
 use Rattle.scan_queue.specs.declared.listing.TheConstants.{LISTING_LIMIT}
-use Rattle.tree_trait.specs.Entry.{EntryFacts}
 use Rattle.tree_trait.specs.Heard.{Heard, stat}
 use Rattle.tree_trait.specs.declared.stat.StatAnswer.{StatAnswer}
 use Rattle.tree_trait.specs.declared.stat.StatAnswer.TheVariants.{Folder, File, Other, Gone, Failed, OutOfMemory}
-use Rattle.tree_walk.specs.Answers.{is_look_answer, first_look, looks, is_there}
-use Rattle.tree_walk.specs.Ends.{BeginsWithRoots, HasRoom, IsRootGone, IsTooMany, IsCause}
-use Rattle.tree_walk.specs.Search.{SearchFacts, has, unasked, is_looked, noted, with_folder, with_root, with_new_root, IsSearch, AreLooked, IsBeginning, IsUnderway, IsAddFault}
-use Rattle.tree_walk.specs.Walked.{IsCandidate, IsFolderRoot}
+use Rattle.tree_walk.specs.Answers.{is_look_answer, first_look, is_there}
+use Rattle.tree_walk.specs.Ends.{HasRoom, IsRootGone, IsTooMany, IsCause}
+use Rattle.tree_walk.specs.Search.{SearchFacts, has, is_looked, noted, with_root, with_new_root, IsSearch, AreLooked, IsBeginning, IsAddFault}
 use Rattle.tree_walk.specs.declared.fault.WalkFault.{WalkFault}
 use Rattle.tree_walk.specs.declared.fault.WalkFault.TheVariants.{Failed as WalkFailed, TooMany, TooManyEntries, RootGone, OutOfMemory as WalkMemory}
 use Rattle.tree_walk.proofs.EndLemmas.{room_is, too_many_is}

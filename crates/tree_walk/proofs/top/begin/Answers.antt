@@ -1,7 +1,6 @@
-use Rattle.std.proofs.Common.{◌≡◌, ℕ, ◌+◌, ◌<◌, ◌≤◌, List, [], ◌∷◌, ◌++◌, length, take, drop, Ok, Err, sym, ◌∙◌, subst, arith}
-use Rattle.tree_trait.specs.Heard.{Heard}
+use Rattle.std.proofs.Common.{ℕ, ◌+◌, ◌<◌, ◌≤◌, List, [], ◌∷◌, ◌++◌, length, take, drop, Ok, Err, ◌∙◌, subst, arith}
 use Rattle.tree_walk.specs.Ends.{IsCause}
-use Rattle.tree_walk.specs.Search.{SearchFacts, IsBeginning, IsUnderway}
+use Rattle.tree_walk.specs.Search.{IsBeginning, IsUnderway}
 use Rattle.tree_walk.proofs.GoesLemmas.{goes_then, goes_up, split_at, take_one}
 use Rattle.tree_walk.proofs.top.begin.Goals as goal
 

@@ -1,9 +1,9 @@
-use Rattle.std.proofs.Common.{◌≡◌, true, ℕ, ◌+◌, ◌<◌, ◌≤◌, List, [], ◌∷◌, ◌++◌, length, drop, Ok, Err, append_assoc, sym, ◌∙◌, subst, arith}
+use Rattle.std.proofs.Common.{◌≡◌, true, ℕ, ◌+◌, ◌<◌, ◌≤◌, List, [], ◌++◌, length, drop, Ok, Err, append_assoc, sym, ◌∙◌, subst, arith}
 use Rattle.tree_trait.specs.Entry.{EntryFacts, has_entry}
 use Rattle.tree_trait.specs.Heard.{Heard}
 use Rattle.tree_walk.specs.Answers.{entries_in}
 use Rattle.tree_walk.specs.Ends.{IsCause}
-use Rattle.tree_walk.specs.Search.{SearchFacts, IsUnderway}
+use Rattle.tree_walk.specs.Search.{IsUnderway}
 use Rattle.tree_walk.proofs.AnswerLemmas.{entries_stay}
 use Rattle.tree_walk.proofs.FileLemmas.{has_at, left_from}
 use Rattle.tree_walk.proofs.GoesLemmas.{goes_then, goes_up}

@@ -1,4 +1,4 @@
-use Rattle.std.proofs.Common.{◌≡◌, ℕ, ◌<◌, ◌≤◌, inl, inr, true, List, ◌++◌, length, refl, sym, ◌∙◌, ap, subst}
+use Rattle.std.proofs.Common.{◌≡◌, ◌<◌, ◌≤◌, inl, inr, true, List, ◌++◌, length, refl, sym, ◌∙◌, ap, subst}
 use Rattle.std.proofs.lemmas.Bool.{false≢true, cases_lt}
 use Rattle.tree_trait.specs.Dir.{dir_failed}
 use Rattle.tree_trait.specs.Entry.{EntryFacts}
@@ -6,7 +6,7 @@ use Rattle.tree_trait.specs.Heard.{read_dir}
 use Rattle.tree_walk.specs.Answers.{has_failed}
 use Rattle.tree_walk.specs.Search.{SearchFacts, IsUnderway, paid}
 use Rattle.tree_walk.proofs.LastLemmas.{read_last}
-use Rattle.tree_walk.proofs.FileLemmas.{IsReadInto, read_into, read_over}
+use Rattle.tree_walk.proofs.FileLemmas.{read_into, read_over}
 use Rattle.tree_walk.proofs.GoesLemmas.{goes_on, goes_up, call_fault}
 use Rattle.tree_walk.proofs.top.read_entries.Goals as goal
 
