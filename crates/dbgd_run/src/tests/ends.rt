@@ -14,10 +14,12 @@ use tree_walk::WalkFault;
 fn says(rt: &impl Abort, alloc: Global, end: &ScanEnd, line: &str, status: u8) -> Result<(), Fail> {
     let mut out = MemSink::new(alloc, Vec::new(alloc));
     let mut err = MemSink::new(alloc, Vec::new(alloc));
-    let said = say_end(alloc, end, &mut out, &mut err);
-    assert_eq!(rt; out.written(), Some(b"".as_slice()), "out of {line:?}");
-    assert_eq!(rt; err.written(), Some(line.as_bytes()), "err of {line:?}");
-    assert_eq!(rt; said.code(), status, "status of {line:?}");
+    let said = say_end(alloc, end, &mut out, &mut err).code();
+    let out = out.written().ok_or("out is told")?;
+    let err = err.written().ok_or("err is told")?;
+    assert_eq!(rt; out, b"".as_slice(), "out where {line:?} is said");
+    assert_eq!(rt; err, line.as_bytes(), "err where {line:?} is said");
+    assert_eq!(rt; said, status, "status where {line:?} is said");
     Ok(())
 }
 
