@@ -1,3 +1,4 @@
+pub use Rattle.row_types.specs.Ascends
 pub use Rattle.row_types.specs.Faults
 pub use Rattle.row_types.specs.Name
 pub use Rattle.row_types.specs.Row
