@@ -1,8 +1,11 @@
 //! The entries of a folder of the system.
 
-ghost use Rattle.std.specs.Prelude.{◌≡◌, ◌↔◌, [], true, false};
+ghost use Rattle.std.specs.Prelude.{◌≡◌, ◌≢◌, ◌↔◌, if◌then◌else◌, [], ◌∷◌, ◌++◌, true, false, Err, IsOk, OnOk, IfErr};
 ghost use Rattle.std.specs.Fs.{IsDir, IsFile};
+ghost use Rattle.std.specs.IoError.{error_kind};
 ghost use Rattle.row_types.specs.Faults.{raised};
+ghost use Rattle.tree_trait.specs.Entry.{is_entry_name};
+ghost use Rattle.dbgd.specs.Errors.{fault_of};
 
 use crate::look::is_one;
 use crate::read_fault::{ReadFault, TRIES};
@@ -66,8 +69,13 @@ impl FolderRead {
         self.pass_over();
     }
 
-    /// Adds an entry.
-    fn add(&mut self, alloc: Global, name: &str, kind: EntryKind) -> Result<(), ReadFault> {
+    /// Adds an entry. What can't be an entry's name is passed over.
+    fn add(&mut self, alloc: Global, name: &str, kind: EntryKind) -> Result<(), ReadFault>
+        ensures entries { OnOk result (self.new.entries.items ≡ if is_entry_name name.now then self.old.entries.items ++ record { name = name.now; kind = kind } ∷ [] else self.old.entries.items) }
+        ensures skipped { OnOk result (self.new.skipped ≡ if is_entry_name name.now then self.old.skipped else raised self.old.skipped) }
+        ensures refused { self.new.refused ≡ self.old.refused }
+        ensures err { IfErr result (λ fault. fault ≡ ReadFault.OutOfMemory) }
+    {
         match Entry::check(String::from_str(alloc, name)?, kind) {
             Ok(entry) => self.entries.push(entry).map_err(AllocError::from)?,
             Err(_) => self.pass_over(),
@@ -94,6 +102,8 @@ impl FolderRead {
     ) -> Result<(), ReadFault>
     where
         R: Drop,
+        ensures unnamed { IfErr next (λ error. error_kind error ≡ ErrorKind.InvalidFilename → IsOk result × (self.new.skipped ≡ raised self.old.skipped)) }
+        ensures err { IfErr next (λ error. error_kind error ≢ ErrorKind.InvalidFilename → result ≡ Err (fault_of (error_kind error))) }
     {
         match next {
             Ok(entry) => self.look_at(alloc, &entry),

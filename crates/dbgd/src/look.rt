@@ -1,6 +1,6 @@
 //! What stands at a path of the system. No link is followed at the path's end.
 
-ghost use Rattle.std.specs.Prelude.{◌≡◌, IfOk};
+ghost use Rattle.std.specs.Prelude.{◌≡◌, IfOk, IfErr};
 ghost use Rattle.std.specs.Bool.{OnTrue};
 ghost use Rattle.std.specs.Fs.{IsFile, file_type, metadata_len};
 ghost use Rattle.dbgd.specs.Answered.{IsSeen};
@@ -13,7 +13,8 @@ use tree_trait::StatAnswer;
 
 /// The stamp of a file that was looked at.
 pub fn stamp_of(seen: &Metadata) -> Result<Stamp, ReadFault>
-    ensures { IfOk result (λ stamp. stamp.size ≡ metadata_len seen.now) }
+    ensures size { IfOk result (λ stamp. stamp.size ≡ metadata_len seen.now) }
+    ensures err { IfErr result (λ fault. fault ≡ ReadFault.System) }
 {
     u32::try_from(seen.mtime_nsec())
         .ok()
