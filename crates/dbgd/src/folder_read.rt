@@ -169,7 +169,9 @@ pub fn read_folder<R: Files + AllocGlobal + Clone + Drop>(
     files: &R,
     alloc: Global,
     path: &str,
-) -> Result<FolderRead, ReadFault> {
+) -> Result<FolderRead, ReadFault>
+    ensures { IfErr result (λ fault. fault ≢ ReadFault.Denied) }
+{
     match read_settled(files, path) {
         Err(ReadFault::Denied) => Ok(FolderRead::closed(alloc)),
         read => read,

@@ -48,7 +48,9 @@ impl<R: Drop> RealTree<R> {
 #[cfg(test)]
 impl<R: Drop> RealTree<R> {
     /// How often the tree has failed.
-    pub fn count(&self) -> u64 {
+    pub fn count(&self) -> u64
+        ensures { result ≡ self.now.faults }
+    {
         self.faults.count()
     }
 }
