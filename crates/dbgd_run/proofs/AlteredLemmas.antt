@@ -11,7 +11,7 @@ use Rattle.row_types.specs.Row.{RowFacts}
 use Rattle.scan_queue.specs.declared.miss.Seen.{Seen}
 use Rattle.tree_trait.specs.Heard.{Heard, load, stat, read_dir}
 use Rattle.tree_trait.specs.Load.{LoadFacts, loaded, too_large, gone, failed, no_memory, TellsLoad}
-use Rattle.tree_trait.specs.Present.{stamp_at}
+use Rattle.row_types.specs.Name.{stamp_at}
 use Rattle.tree_trait.specs.Stat.{TellsStat}
 use Rattle.tree_trait.specs.declared.stat.StatAnswer.{StatAnswer}
 use Rattle.tree_trait.specs.declared.stat.StatAnswer.TheVariants.{File}

@@ -5,7 +5,7 @@ use Rattle.row_types.specs.Row.{RowFacts}
 use Rattle.tree_trait.specs.Heard.{Heard}
 use Rattle.tree_walk.specs.declared.fault.WalkFault.{WalkFault}
 use Rattle.dbgd_run.specs.Scan.{EndsOpen, FileRead}
-use Rattle.dbgd_run.specs.Setting.{Rules}
+use Rattle.row_types.specs.Rules.{Rules}
 use Rattle.dbgd_run.specs.declared.scan_end.ScanEnd.{ScanEnd}
 use Rattle.dbgd_run.specs.declared.scan_end.ScanEnd.TheVariants.{Unopened, Filled, Unlisted, Unread, Altered, Unkept, Full, OutOfMemory, Whole}
 

@@ -24,7 +24,7 @@ use Rattle.index_state.specs.Step.{Stores, TakesNext}
 use Rattle.dbgd_run.specs.Load.{Hand}
 use Rattle.dbgd_run.specs.Scan.{FileRead, FindsOther, IsFileRead, LoadsFiles, Reads, load_of, names_read, rows_read}
 use Rattle.dbgd_run.specs.ScanSteps.{DoesNext, FilesEnd, HasRead, IsBegun, IsPassOver, KeepsFiles, LoadsNext}
-use Rattle.dbgd_run.specs.Setting.{Rules}
+use Rattle.row_types.specs.Rules.{Rules}
 use Rattle.dbgd_run.specs.declared.scan_end.ScanEnd.{ScanEnd}
 use Rattle.dbgd_run.specs.declared.scan_end.ScanEnd.TheVariants.{Unopened, Filled, Unlisted, Unread, Altered, Unkept, Full, OutOfMemory, Whole}
 use Rattle.dbgd_run.proofs.ScanLemmas.{loads_last, loads_read_more, loads_unheard, reads_heard, reads_named, rows_before, rows_more, with_nothing}

@@ -14,7 +14,7 @@ use Rattle.dbgd_run.specs.Load.{Hand}
 use Rattle.dbgd_run.specs.Kept.{with_puts}
 use Rattle.dbgd_run.specs.Scan.{EndsOpen, IsFileRead, LoadsFiles}
 use Rattle.dbgd_run.specs.ScanSteps.{IsBegun, IsNew, IsPassOver, KeepsFiles, TearsFiles}
-use Rattle.dbgd_run.specs.Setting.{Rules}
+use Rattle.row_types.specs.Rules.{Rules}
 use Rattle.dbgd_run.specs.declared.scan_end.ScanEnd.{ScanEnd}
 use Rattle.dbgd_run.specs.declared.scan_end.ScanEnd.TheVariants.{OutOfMemory}
 use Rattle.dbgd_run.proofs.ScanEnds.{ends_open}

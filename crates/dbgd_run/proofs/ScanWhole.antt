@@ -19,7 +19,7 @@ use Rattle.dbgd_run.specs.Load.{Hand}
 use Rattle.dbgd_run.specs.Numbers.{summary_of}
 use Rattle.dbgd_run.specs.Scan.{EndsOpen, FileRead, IsFileRead, LoadsFiles, names_read, rows_read}
 use Rattle.dbgd_run.specs.ScanSteps.{HasReadAll, KeepsFiles, TearsFiles}
-use Rattle.dbgd_run.specs.Setting.{Rules}
+use Rattle.row_types.specs.Rules.{Rules}
 use Rattle.dbgd_run.specs.declared.scan_end.ScanEnd.TheVariants.{Whole}
 use Rattle.dbgd_run.specs.declared.summary.Summary.{Summary}
 use Rattle.dbgd_run.proofs.ScanLemmas.{reads_named}

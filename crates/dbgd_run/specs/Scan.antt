@@ -23,7 +23,8 @@ use Rattle.dbgd_run.specs.Endings.{Streams, EndsOrWants}
 use Rattle.dbgd_run.specs.Load.{Hand}
 use Rattle.dbgd_run.specs.Numbers.{summary_of}
 use Rattle.dbgd_run.specs.Read.{IsRowOf}
-use Rattle.dbgd_run.specs.Setting.{Rules, Setting, TellsStill}
+use Rattle.row_types.specs.Rules.{Rules}
+use Rattle.dbgd_run.specs.Setting.{Setting, TellsStill}
 use Rattle.dbgd_run.specs.Store.{Holding, Stock}
 use Rattle.dbgd_run.specs.declared.scan_end.ScanEnd.{ScanEnd}
 use Rattle.dbgd_run.specs.declared.scan_end.ScanEnd.TheVariants.{Unopened, Filled, Unlisted, Unread, Altered, Unkept, Full, OutOfMemory, Whole}

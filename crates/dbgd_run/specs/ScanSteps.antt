@@ -20,7 +20,8 @@ use Rattle.index_state.specs.Step.{Breaks, FindsNoMemory, IsShut, Stays, Stores}
 use Rattle.dbgd_run.specs.Load.{Hand}
 use Rattle.dbgd_run.specs.Kept.{put_row, with_puts}
 use Rattle.dbgd_run.specs.Scan.{EndsOpen, FileRead, FindsOther, LoadsFiles, Reads, rows_read}
-use Rattle.dbgd_run.specs.Setting.{Rules, Setting, TellsStill}
+use Rattle.row_types.specs.Rules.{Rules}
+use Rattle.dbgd_run.specs.Setting.{Setting, TellsStill}
 use Rattle.dbgd_run.specs.declared.scan_end.ScanEnd.{ScanEnd}
 use Rattle.dbgd_run.specs.declared.scan_end.ScanEnd.TheVariants.{Unopened, Filled, Unlisted, Unread, Altered, Unkept, Full, OutOfMemory, Whole}
 

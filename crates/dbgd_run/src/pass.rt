@@ -12,7 +12,7 @@ ghost use Rattle.dbgd_run.specs.Load.{hand as shown};
 ghost use Rattle.dbgd_run.specs.Scan.{EndsOpen, LoadsFiles};
 ghost use Rattle.dbgd_run.specs.ScanSaid.{is_hand_fault, is_store_fault};
 ghost use Rattle.dbgd_run.specs.ScanSteps.{DoesNext, FilesEnd, IsBegun, IsNew, KeepsFiles, KeepsNext, LoadsNext, TearsFiles};
-ghost use Rattle.dbgd_run.specs.Setting.{rules};
+ghost use Rattle.row_types.specs.Rules.{rules};
 
 use crate::elf_truth::ElfTruth;
 use crate::listed::load_row;

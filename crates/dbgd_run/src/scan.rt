@@ -10,7 +10,8 @@ ghost use Rattle.dbgd_run.specs.Load.{hand as shown};
 ghost use Rattle.dbgd_run.specs.Scan.{EndsBy, EndsOpen, ReadsFiles, RunsScan, Scans};
 ghost use Rattle.dbgd_run.specs.ScanSaid.{is_hand_fault, is_store_fault};
 ghost use Rattle.dbgd_run.specs.ScanSteps.{EndsUnlisted, IsNew, KeepsFiles, TearsFiles};
-ghost use Rattle.dbgd_run.specs.Setting.{rules, setting};
+ghost use Rattle.row_types.specs.Rules.{rules};
+ghost use Rattle.dbgd_run.specs.Setting.{setting};
 ghost use Rattle.dbgd_run.specs.Statuses.{code_of};
 ghost use Rattle.dbgd_run.specs.Store.{stock};
 

@@ -16,7 +16,8 @@ use Rattle.row_types.specs.Stamp.{StampFacts, same_stamp}
 use Rattle.row_types.specs.declared.reading.Reading.TheVariants.{Plain}
 use Rattle.file_formats.specs.declared.fault.Why.TheVariants.{TooLarge}
 use Rattle.index_rows.specs.Rows.{Stands, names_of, path_of, row_at}
-use Rattle.scan_queue.specs.Names.{IsByPath, is_in, stamp_at}
+use Rattle.row_types.specs.Name.{stamp_at}
+use Rattle.scan_queue.specs.Names.{IsByPath, is_in}
 use Rattle.scan_queue.proofs.NameTests.{path_differs, same_name-Decides, same_stamp-Decides}
 use Rattle.scan_queue.proofs.Picks.{head_pairs, tail_pairs}
 use Rattle.index_state.specs.Plan.{has_stamp}

@@ -5,7 +5,8 @@ use Rattle.std.proofs.lemmas.Bool.{true≢false}
 use Rattle.row_types.specs.Name.{NameFacts}
 use Rattle.row_types.specs.Stamp.{StampFacts}
 use Rattle.index_rows.specs.Rows.{names_of}
-use Rattle.scan_queue.specs.Names.{IsByPath, is_in, stamp_at}
+use Rattle.row_types.specs.Name.{stamp_at}
+use Rattle.scan_queue.specs.Names.{IsByPath, is_in}
 use Rattle.index_state.specs.Plan.{has_stamp}
 use Rattle.index_state.specs.State.{StateFacts, pass_of}
 use Rattle.index_state.specs.Step.{IsAwaited, IsKnown, IsUnlisted}

@@ -2,7 +2,8 @@
 use Rattle.std.specs.Prelude.{Bool, false, not, List, length, count_by, Option, Some, None, is_none}
 use Rattle.row_types.specs.Name.{NameFacts}
 use Rattle.row_types.specs.Stamp.{StampFacts, same_stamp}
-use Rattle.scan_queue.specs.Names.{is_in, stamp_at}
+use Rattle.row_types.specs.Name.{stamp_at}
+use Rattle.scan_queue.specs.Names.{is_in}
 use Rattle.index_state.specs.declared.answer.Plan.{Plan}
 
 -- whether there is a stamp, and it is this one

@@ -10,7 +10,8 @@ use Rattle.index_rows.specs.Classes.{has_class}
 use Rattle.index_rows.specs.Log.{drop_of, put_of}
 use Rattle.index_rows.specs.Rows.{names_of, path_of, with_row}
 use Rattle.index_rows.specs.declared.rows.TheConstants.{LOG_LIMIT}
-use Rattle.scan_queue.specs.Names.{is_in, stamp_at}
+use Rattle.row_types.specs.Name.{stamp_at}
+use Rattle.scan_queue.specs.Names.{is_in}
 use Rattle.scan_queue.specs.Pass.{PassFacts, Takes, begun, left}
 use Rattle.index_keeper.specs.declared.answer.KeepAnswer.TheVariants.{Done, Failed}
 use Rattle.index_state.specs.Keeping.{IsLeftAlone, IsPut, Meanings}

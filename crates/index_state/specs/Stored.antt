@@ -6,7 +6,7 @@ use Rattle.index_rows.specs.Log.{drop_of}
 use Rattle.index_rows.specs.Rows.{RowsFacts, names_of}
 use Rattle.index_rows.specs.declared.prepared.Prepared.TheVariants.{Put}
 use Rattle.index_rows.specs.declared.rows.TheConstants.{LOG_LIMIT}
-use Rattle.scan_queue.specs.Names.{stamp_at}
+use Rattle.row_types.specs.Name.{stamp_at}
 use Rattle.index_keeper.specs.declared.answer.KeepAnswer.TheVariants.{Done as KeepDone, Failed as KeepFailed}
 use Rattle.index_state.specs.Keeping.{IsLeftAlone, IsPut, Meanings}
 use Rattle.index_state.specs.State.{StateFacts}

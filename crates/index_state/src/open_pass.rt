@@ -2,7 +2,8 @@
 
 ghost use Rattle.std.specs.Prelude.{◌≡◌, IfSome};
 ghost use Rattle.std.specs.Option.{option_map};
-ghost use Rattle.scan_queue.specs.Names.{IsByPath, stamp_at};
+ghost use Rattle.row_types.specs.Name.{stamp_at};
+ghost use Rattle.scan_queue.specs.Names.{IsByPath};
 ghost use Rattle.scan_queue.specs.Pass.{IsPass, left};
 ghost use Rattle.index_state.specs.Complete.{counts_of};
 ghost use Rattle.index_state.specs.State.{pass_of};

@@ -2,7 +2,8 @@
 
 ghost use Rattle.std.specs.Prelude.{◌≡◌, count_by, is_none};
 ghost use Rattle.index_rows.specs.Rows.{names_of};
-ghost use Rattle.scan_queue.specs.Names.{IsByPath, is_in, stamp_at};
+ghost use Rattle.row_types.specs.Name.{stamp_at};
+ghost use Rattle.scan_queue.specs.Names.{IsByPath, is_in};
 ghost use Rattle.index_state.specs.Plan.{has_stamp, is_other, plan_of};
 
 use crate::answer::Plan;

@@ -5,7 +5,10 @@ pub mod BuildId
 pub mod Canon
 pub mod Faults
 pub mod Inside
+pub mod Limits
 pub mod Name
 pub mod Reading
 pub mod Row
+pub mod Rules
 pub mod Stamp
+pub mod Under

@@ -4,6 +4,7 @@ ghost use Rattle.std.specs.Prelude.{◌≡◌, ◌≤◌, ◌↔◌, Ok, IsTrue,
 ghost use Rattle.std.specs.String.{string_bytes};
 ghost use Rattle.hex.specs.Hex.{decode_of, encode_lower};
 ghost use Rattle.row_types.specs.BuildId.{IsHexFor, IsIdLength, IsIdText, padded};
+ghost use Rattle.row_types.specs.Limits.{ArePinnedIdLengths};
 
 use std::alloc::{AllocError, Global};
 use std::cmp::Ordering;
@@ -43,6 +44,7 @@ impl BuildId {
     pub fn new(bytes: &[u8]) -> Option<BuildId>
         ensures some { IsSome result ↔ IsIdLength (length bytes.now) }
         ensures value { IfSome result (λ id. id ≡ bytes.now) }
+        ensures lengths { ArePinnedIdLengths }
     {
         let len = bytes.len();
         if len < SHORTEST_ID || LONGEST_ID < len {

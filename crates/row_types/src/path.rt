@@ -4,6 +4,7 @@ ghost use Rattle.std.specs.Prelude.{◌≡◌, ◌↔◌, IsTrue, IsOk, IfOk, If
 ghost use Rattle.std.specs.List.{list_all};
 ghost use Rattle.std.specs.String.{string_bytes};
 ghost use Rattle.row_types.specs.Canon.{is_canonical, has_form, pieces, stays, IsCanonPath};
+ghost use Rattle.row_types.specs.Limits.{ArePinnedPathLimits};
 
 use crate::limits::{PATH_LIMIT, SEPARATOR};
 use std::alloc::{AllocError, Global};
@@ -35,6 +36,7 @@ impl CanonPath {
         ensures ok { IsOk result ↔ IsCanonPath (string_bytes text) }
         ensures value { IfOk result (λ path. path ≡ string_bytes text) }
         ensures back { IfErr result (λ given. given ≡ text) }
+        ensures limits { ArePinnedPathLimits }
     {
         if is_path(text.as_str()) {
             Ok(CanonPath { text })

@@ -37,6 +37,7 @@ impl Stamp {
     pub fn new(size: u64, secs: i64, nanos: u32) -> Option<Stamp>
         ensures none { IsNone result ↔ (NANOS_PER_SECOND ≤ nanos) }
         ensures value { IfSome result (λ s. s ≡ record { size = size; secs = secs; nanos = nanos }) }
+        ensures second { NANOS_PER_SECOND ≡ 1000000000 }
     {
         if nanos < NANOS_PER_SECOND {
             Some(Stamp { size, secs, nanos })

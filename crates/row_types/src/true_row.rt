@@ -1,6 +1,7 @@
 //! Rows that say what the files of a world are.
 
 ghost use Rattle.std.specs.Prelude.{◌≡◌, ◌≤◌, ◌↔◌, IsErr, IfOk, IfErr};
+ghost use Rattle.row_types.specs.Limits.{ArePinnedRowLimits};
 ghost use Rattle.row_types.specs.Row.{too_large_row};
 
 use crate::limits::{EDITION, FILE_LIMIT};
@@ -46,6 +47,7 @@ impl<W: Truth> TrueRow<W> {
         ensures refused { IsErr result ↔ (name.stamp.size ≤ FILE_LIMIT) }
         ensures value { IfOk result (λ row. row ≡ too_large_row name) }
         ensures back { IfErr result (λ given. given ≡ name) }
+        ensures limits { ArePinnedRowLimits }
     {
         if name.stamp.size <= FILE_LIMIT {
             return Err(name);

@@ -11,7 +11,8 @@ use Rattle.std.proofs.lemmas.List.Recursion.{found_at, found_nowhere}
 use Rattle.std.proofs.lemmas.Slice.Eq.{bytes_eq-Decides}
 use Rattle.row_types.specs.Ascends.{IsBefore, is_before}
 use Rattle.row_types.specs.Name.{NameFacts}
-use Rattle.scan_queue.specs.Names.{IsByPath, stamp_at}
+use Rattle.row_types.specs.Name.{stamp_at}
+use Rattle.scan_queue.specs.Names.{IsByPath}
 use Rattle.row_types.proofs.AscendsLemmas.{AscendsBelow, ascends_more, before_differs, before_from_test}
 use Rattle.scan_queue.proofs.NameTests.{test_from_before}
 

@@ -28,7 +28,3 @@ IsByPath names = AscendsBy (λ name. name.path) names
 pub record IsListing (names : List NameFacts) : Type 0 where
   pub by_path : IsByPath names
   pub few : length names ≤ LISTING_LIMIT
-
--- the stamp of the first name with the path
-abbrev pub stamp_at : List NameFacts → List ℕ → Option StampFacts
-stamp_at names path = option_map (λ name. name.stamp) (find (λ name. bytes_eq name.path path) names)

@@ -4,7 +4,8 @@ ghost use Rattle.std.specs.Prelude.{◌≡◌, ◌↔◌, ◌≤◌, true, false
 ghost use Rattle.std.specs.List.Sorted.{IsPartitionPoint};
 ghost use Rattle.row_types.specs.Ascends.{is_before};
 ghost use Rattle.row_types.specs.Name.{same_name};
-ghost use Rattle.scan_queue.specs.Names.{IsByPath, IsListing, stamp_at};
+ghost use Rattle.row_types.specs.Name.{stamp_at};
+ghost use Rattle.scan_queue.specs.Names.{IsByPath, IsListing};
 
 use row_types::{CanonPath, Name, Stamp};
 use std::marker::Model;

@@ -18,7 +18,8 @@ use Rattle.tree_trait.specs.Dir.{child, makes, is_there, are_once, IsListing}
 use Rattle.tree_trait.specs.Entry.{EntryFacts, has_no_slash, is_entry_name, same_kind, same_entry, has_entry}
 use Rattle.tree_trait.specs.Folder.{first_piece, piece_under, with_piece, with_pieces}
 use Rattle.tree_trait.specs.Found.{FoundFacts, name_of}
-use Rattle.tree_trait.specs.Present.{front_under, lies_under, is_folder}
+use Rattle.row_types.specs.Under.{front_under, lies_under}
+use Rattle.tree_trait.specs.Present.{is_folder}
 use Rattle.tree_trait.specs.declared.entry.EntryKind.{EntryKind}
 use Rattle.tree_trait.specs.declared.entry.EntryKind.TheVariants.{Folder, File, Other}
 

@@ -5,7 +5,8 @@ use Rattle.std.specs.Option.{option_copied}
 use Rattle.std.specs.Str.{bytes_eq}
 use Rattle.std.proofs.lemmas.Slice.Eq.{bytes_eq-Decides}
 use Rattle.tree_trait.specs.Found.{FoundFacts, name_of}
-use Rattle.tree_trait.specs.Present.{stamp_at, IsAt}
+use Rattle.row_types.specs.Name.{stamp_at}
+use Rattle.tree_trait.specs.Present.{IsAt}
 
 -- the stamp at a path is that of the first file of the path
 pub stamp_at-names : (files : List FoundFacts) (path : List ℕ) → stamp_at (map name_of files) path ≡ option_map (λ file. file.stamp) (find (λ file. bytes_eq file.path path) files)

@@ -4,7 +4,8 @@ use Rattle.std.specs.List.{list_any, list_all}
 use Rattle.std.specs.Str.{bytes_eq}
 use Rattle.row_types.specs.Name.{NameFacts}
 use Rattle.tree_trait.specs.Entry.{EntryFacts, is_entry_name, has_entry}
-use Rattle.tree_trait.specs.Present.{front_under, lies_under, is_folder}
+use Rattle.row_types.specs.Under.{front_under, lies_under}
+use Rattle.tree_trait.specs.Present.{is_folder}
 use Rattle.tree_trait.specs.declared.entry.EntryKind.{EntryKind}
 use Rattle.tree_trait.specs.declared.entry.EntryKind.TheVariants as kind
 use Rattle.tree_trait.specs.declared.dir.DirAnswer.{DirAnswer}

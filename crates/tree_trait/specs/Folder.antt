@@ -5,7 +5,7 @@ use Rattle.std.specs.List.{starts_with, position_or_len, before_first}
 use Rattle.row_types.specs.Name.{NameFacts}
 use Rattle.row_types.specs.declared.limits.TheConstants.{SEPARATOR}
 use Rattle.tree_trait.specs.Entry.{EntryFacts, is_entry_name, has_entry}
-use Rattle.tree_trait.specs.Present.{front_under}
+use Rattle.row_types.specs.Under.{front_under}
 use Rattle.tree_trait.specs.declared.entry.EntryKind.TheVariants.{Folder, File}
 
 -- the first piece of what follows a folder, and whether more follows it

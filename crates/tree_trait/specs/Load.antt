@@ -3,7 +3,7 @@ use Rattle.std.specs.Prelude.{◌≡◌, ℕ, ◌≤◌, ◌<◌, Bool, true, fa
 use Rattle.row_types.specs.Stamp.{StampFacts}
 use Rattle.row_types.specs.Name.{NameFacts}
 use Rattle.tree_trait.specs.Found.{FoundFacts}
-use Rattle.tree_trait.specs.Present.{stamp_at}
+use Rattle.row_types.specs.Name.{stamp_at}
 use Rattle.tree_trait.specs.declared.answer.LoadAnswer.{LoadAnswer}
 use Rattle.tree_trait.specs.declared.answer.LoadAnswer.TheVariants.{Found, TooLarge, Gone, Failed, OutOfMemory}
 

@@ -7,10 +7,6 @@ use Rattle.row_types.specs.Stamp.{StampFacts}
 use Rattle.row_types.specs.Name.{NameFacts}
 use Rattle.row_types.specs.declared.limits.TheConstants.{SEPARATOR, FILE_LIMIT}
 
--- the stamp of the file at a path, if one is there
-abbrev pub stamp_at : List NameFacts → List ℕ → Option StampFacts
-stamp_at names path = option_map (λ name. name.stamp) (find (λ name. bytes_eq name.path path) names)
-
 -- the file is the one at this path
 pub record IsAt (names : List NameFacts) (path : List ℕ) (file : NameFacts) : Type 0 where
   pub there : stamp_at names path ≡ Some file.stamp
@@ -20,14 +16,6 @@ pub record IsAt (names : List NameFacts) (path : List ℕ) (file : NameFacts) : 
 abbrev pub are_distinct : List (List ℕ) → Bool
 are_distinct [] = true
 are_distinct (path ∷ rest) = not (list_any (λ other. bytes_eq other path) rest) && are_distinct rest
-
--- what each path under a folder begins with
-abbrev pub front_under : List ℕ → List ℕ
-front_under folder = if bytes_eq folder (SEPARATOR ∷ []) then folder else folder ++ SEPARATOR ∷ []
-
--- whether a path lies under a folder, which leaves the folder itself out
-abbrev pub lies_under : List ℕ → List ℕ → Bool
-lies_under folder path = starts_with nat_eq path (front_under folder) && not (bytes_eq path folder)
 
 -- whether some file lies under a path, which makes it a folder
 abbrev pub is_folder : List NameFacts → List ℕ → Bool

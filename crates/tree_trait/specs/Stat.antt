@@ -1,7 +1,8 @@
 -- What is answered of a path (this project's rule).
 use Rattle.std.specs.Prelude.{◌≡◌, ℕ, Bool, true, false, List, Some, None}
 use Rattle.row_types.specs.Name.{NameFacts}
-use Rattle.tree_trait.specs.Present.{stamp_at, is_folder}
+use Rattle.row_types.specs.Name.{stamp_at}
+use Rattle.tree_trait.specs.Present.{is_folder}
 use Rattle.tree_trait.specs.declared.stat.StatAnswer.{StatAnswer}
 use Rattle.tree_trait.specs.declared.stat.StatAnswer.TheVariants.{Folder, File, Other, Gone, Failed, OutOfMemory}
 

@@ -8,7 +8,8 @@ ghost use Rattle.tree_trait.specs.Entry.{has_entry};
 ghost use Rattle.tree_trait.specs.Folder.{first_piece, piece_under, with_piece, with_pieces};
 ghost use Rattle.tree_trait.specs.Found.{name_of};
 ghost use Rattle.tree_trait.specs.Pieces.{piece_facts};
-ghost use Rattle.tree_trait.specs.Present.{front_under, lies_under, is_folder};
+ghost use Rattle.row_types.specs.Under.{front_under, lies_under};
+ghost use Rattle.tree_trait.specs.Present.{is_folder};
 
 use crate::entry::{Entry, EntryKind, is_entry_name};
 use crate::found::Found;

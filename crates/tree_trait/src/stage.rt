@@ -8,7 +8,8 @@ ghost use Rattle.tree_trait.specs.Dir.{dir_facts, TellsDir};
 ghost use Rattle.tree_trait.specs.Found.{name_of};
 ghost use Rattle.tree_trait.specs.Load.{load_facts, FitsLoad, TellsLoad};
 ghost use Rattle.tree_trait.specs.MemTree.{FailsWhere, StatFailsWhere, DirFailsWhere};
-ghost use Rattle.tree_trait.specs.Present.{IsAt, stamp_at};
+ghost use Rattle.row_types.specs.Name.{stamp_at};
+ghost use Rattle.tree_trait.specs.Present.{IsAt};
 ghost use Rattle.tree_trait.specs.Script.{is_listed, stage_for};
 ghost use Rattle.tree_trait.specs.Stat.{TellsStat};
 

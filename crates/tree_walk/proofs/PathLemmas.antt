@@ -13,9 +13,9 @@ use Rattle.row_types.specs.declared.limits.TheConstants.{SEPARATOR}
 use Rattle.row_types.proofs.CanonLemmas.{canon_of_form, form_of_canon, no_slash, pieces_no_slash}
 use Rattle.tree_trait.specs.Dir.{child}
 use Rattle.tree_trait.specs.Entry.{has_no_slash, is_entry_name}
-use Rattle.tree_trait.specs.Present.{front_under, lies_under}
+use Rattle.row_types.specs.Under.{front_under, lies_under}
 use Rattle.tree_trait.proofs.FolderLemmas.{front_of_longer, starts_at, starts_rest}
-use Rattle.tree_walk.specs.Files.{is_within}
+use Rattle.row_types.specs.Under.{is_within}
 
 -- the pieces of two texts with a slash between them
 onto-append : (x : ℕ) (parts more : List (List ℕ)) → 1 ≤ length parts → onto_first x (parts ++ more) ≡ onto_first x parts ++ more

@@ -18,7 +18,9 @@ use Rattle.row_types.specs.declared.limits.TheConstants.{PATH_LIMIT, SEPARATOR}
 use Rattle.tree_trait.specs.Dir.{DirFacts, listed, no_dir, dir_failed, dir_no_memory, child, makes, is_there, TellsDir}
 use Rattle.tree_trait.specs.Entry.{EntryFacts, is_entry_name, has_entry}
 use Rattle.tree_trait.specs.Heard.{Heard}
-use Rattle.tree_trait.specs.Present.{stamp_at, are_distinct, are_apart, front_under, lies_under, is_folder}
+use Rattle.row_types.specs.Name.{stamp_at}
+use Rattle.row_types.specs.Under.{front_under, lies_under}
+use Rattle.tree_trait.specs.Present.{are_distinct, are_apart, is_folder}
 use Rattle.tree_trait.specs.Stat.{TellsStat}
 use Rattle.tree_trait.specs.declared.entry.EntryKind.TheVariants as kind
 use Rattle.tree_trait.specs.declared.stat.StatAnswer.{StatAnswer}
@@ -26,7 +28,8 @@ use Rattle.tree_trait.specs.declared.stat.StatAnswer.TheVariants.{Folder, File, 
 use Rattle.tree_trait.proofs.FolderLemmas.{front_of_child, name_long, starts_rest}
 use Rattle.tree_walk.specs.Answers.{is_look_answer, is_dir_answer, look_at, reading_of, first_look, first_reading, entries_of, entries_in}
 use Rattle.tree_walk.specs.Ends.{IsWhole}
-use Rattle.tree_walk.specs.Files.{is_within, IsFileUnder, AreFilesUnder, IsTold}
+use Rattle.row_types.specs.Under.{is_within}
+use Rattle.tree_walk.specs.Files.{IsFileUnder, AreFilesUnder, IsTold}
 use Rattle.tree_walk.specs.Walked.{IsNamed, IsReached, root, entry, IsEntry, IsFolder, IsCandidate, IsWalked, IsFull}
 use Rattle.tree_walk.specs.declared.walked.Walk.{Walk}
 use Rattle.tree_walk.proofs.AnswerLemmas.{place_of_first, look_says, reading_says}

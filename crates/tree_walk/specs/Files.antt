@@ -10,15 +10,12 @@ use Rattle.tree_trait.specs.Dir.{IsListing, TellsDir}
 use Rattle.tree_trait.specs.Entry.{EntryFacts}
 use Rattle.tree_trait.specs.Heard.{Heard, load, stat, read_dir}
 use Rattle.tree_trait.specs.Load.{TellsLoad}
-use Rattle.tree_trait.specs.Present.{are_distinct, lies_under}
+use Rattle.row_types.specs.Under.{lies_under}
+use Rattle.tree_trait.specs.Present.{are_distinct}
 use Rattle.tree_trait.specs.Stat.{IsNothingAt, TellsStat}
 use Rattle.tree_walk.specs.declared.fault.WalkFault.{WalkFault}
 use Rattle.tree_walk.specs.declared.fault.WalkFault.TheVariants.{Failed, TooMany, TooManyEntries, RootGone, OutOfMemory}
 use Rattle.tree_walk.specs.declared.walked.TheConstants.{ENTRY_LIMIT}
-
--- whether a path is the root's own, or lies under it
-abbrev pub is_within : List ℕ → List ℕ → Bool
-is_within root path = bytes_eq path root || lies_under root path
 
 -- the file is there, under a root, and its path is no longer than a path that is kept
 pub record IsFileUnder (present : List NameFacts) (roots : List (List ℕ)) (name : NameFacts) : Type 0 where

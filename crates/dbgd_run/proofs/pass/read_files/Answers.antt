@@ -1,6 +1,6 @@
 use Rattle.std.proofs.Common.{IsTrue, []}
 use Rattle.index_state.specs.State.{pass_of}
-use Rattle.dbgd_run.specs.Setting.{rules}
+use Rattle.row_types.specs.Rules.{rules}
 use Rattle.dbgd_run.proofs.ScanFiles.{ends_there, goes_on, smaller, starts}
 use Rattle.dbgd_run.proofs.pass.read_files.Goals as goal
 

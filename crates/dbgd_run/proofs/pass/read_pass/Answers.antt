@@ -1,7 +1,7 @@
 use Rattle.std.proofs.Common.{ap, ◌∙◌}
 use Rattle.index_state.specs.declared.answer.Plan.{Plan}
 use Rattle.dbgd_run.specs.Numbers.{summary_of}
-use Rattle.dbgd_run.specs.Setting.{rules}
+use Rattle.row_types.specs.Rules.{rules}
 use Rattle.dbgd_run.proofs.ScanWhole.{ends_whole}
 use Rattle.dbgd_run.proofs.pass.read_pass.Goals as goal
 

@@ -1,4 +1,4 @@
-use Rattle.dbgd_run.specs.Setting.{rules}
+use Rattle.row_types.specs.Rules.{rules}
 use Rattle.dbgd_run.proofs.ScanPass.{begun_after, ends_begun, ends_unbegun, plan_after}
 use Rattle.dbgd_run.proofs.pass.scan_listing.Goals as goal
 

@@ -3,7 +3,8 @@ use Rattle.row_types.specs.Faults.{Rose}
 use Rattle.index_keeper.specs.Tables.{EditFacts, KeptFacts}
 use Rattle.dbgd_run.specs.Load.{Hand, hand as shown}
 use Rattle.dbgd_run.specs.Scan.{EndsBy}
-use Rattle.dbgd_run.specs.Setting.{Setting, rules, setting}
+use Rattle.row_types.specs.Rules.{rules}
+use Rattle.dbgd_run.specs.Setting.{Setting, setting}
 use Rattle.dbgd_run.proofs.ScanStore.{held, rose_given}
 use Rattle.dbgd_run.proofs.scan.scan.Goals as goal
 

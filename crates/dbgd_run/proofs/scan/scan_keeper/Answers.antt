@@ -2,7 +2,8 @@ use Rattle.std.proofs.Common.{IsTrue, sym, subst}
 use Rattle.index_state.specs.Keeping.{meanings}
 use Rattle.dbgd_run.specs.Load.{hand}
 use Rattle.dbgd_run.specs.Scan.{EndsBy}
-use Rattle.dbgd_run.specs.Setting.{rules, setting}
+use Rattle.row_types.specs.Rules.{rules}
+use Rattle.dbgd_run.specs.Setting.{setting}
 use Rattle.dbgd_run.proofs.ScanStore.{ends_opened, held}
 use Rattle.dbgd_run.proofs.scan.scan_keeper.Goals as goal
 

@@ -3,7 +3,8 @@ use Rattle.std.specs.Prelude.{Ok}
 use Rattle.tree_walk.specs.Ends.{Walks}
 use Rattle.tree_walk.specs.Files.{AreFilesUnder}
 use Rattle.index_state.specs.Keeping.{meanings}
-use Rattle.dbgd_run.specs.Setting.{rules, setting}
+use Rattle.row_types.specs.Rules.{rules}
+use Rattle.dbgd_run.specs.Setting.{setting}
 use Rattle.dbgd_run.proofs.ScanStore.{walked}
 use Rattle.dbgd_run.proofs.scan.scan_roots.Goals as goal
 

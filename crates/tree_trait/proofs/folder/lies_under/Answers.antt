@@ -1,7 +1,7 @@
 -- The path begins with the folder's path and a slash, and is another.
 use Rattle.std.proofs.Common.{not, ◌&&◌, sym, ◌∙◌, ap}
 use Rattle.std.specs.Str.{bytes_eq}
-use Rattle.tree_trait.specs.Present.{front_under}
+use Rattle.row_types.specs.Under.{front_under}
 use Rattle.tree_trait.proofs.FolderLemmas.{is_some_starts}
 use Rattle.tree_trait.proofs.folder.lies_under.Goals as goal
 
