@@ -1,2 +1,5 @@
 pub mod Answered
 pub mod Errors
+pub mod FolderRead
+pub mod Numbers
+pub mod Stamped

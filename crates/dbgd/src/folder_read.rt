@@ -1,79 +1,71 @@
 //! The entries of a folder of the system.
 
-ghost use Rattle.std.specs.Prelude.{◌≡◌, ◌≢◌, ◌↔◌, if◌then◌else◌, [], ◌∷◌, ◌++◌, true, false, Err, IsOk, OnOk, IfErr};
-ghost use Rattle.std.specs.Fs.{IsDir, IsFile};
+ghost use Rattle.std.specs.Prelude.{◌≡◌, ◌≢◌, Err, Ok, IfOk, IfErr, OnOk, MatchBool};
 ghost use Rattle.std.specs.IoError.{error_kind};
-ghost use Rattle.row_types.specs.Faults.{raised};
-ghost use Rattle.tree_trait.specs.Entry.{is_entry_name};
-ghost use Rattle.dbgd.specs.Errors.{fault_of};
+ghost use Rattle.dbgd.specs.Errors.{fault_in_listing};
+ghost use Rattle.dbgd.specs.FolderRead.{nothing_read, passed_over, refused, with_entry};
+ghost use Rattle.dbgd.specs.FolderRead.{after_look, is_passed_over};
 
-use crate::look::is_one;
-use crate::read_fault::{ReadFault, TRIES};
+use crate::look::{kind_of, unmoved};
+use crate::read_fault::ReadFault;
+use crate::tries::settled;
+use row_types::Faults;
 use std::alloc::{AllocError, Global};
-use std::fs::{self, DirEntry, FileType, Files};
+use std::fs::{self, DirEntry, Files};
 use std::io::{self, ErrorKind};
+use std::marker::Model;
 use tree_trait::{Entry, EntryKind};
 
-/// What the read of a folder gave.
+/// What the read of a folder gave. Contracts see it as a record of the same.
 #[derive(Drop)]
 pub struct FolderRead {
     /// The entries that could be looked at.
     pub entries: Vec<Entry>,
     /// How many entries were passed over.
     pub skipped: u64,
-    /// Whether the system answered with an error that passed an entry over.
-    pub refused: bool,
+    /// How often the system answered with an error that passed an entry over.
+    pub errors: Faults,
+}
+
+impl Model for FolderRead {
+    ghost use Rattle.dbgd.specs.FolderRead.{FolderFacts};
+
+    ghost Value = { FolderFacts };
+
+    ghost view = { λ r.
+        record { entries = r.entries.items; skipped = r.skipped; errors = r.errors } };
 }
 
 impl FolderRead {
     /// A folder of which nothing was read yet.
     fn new(alloc: Global) -> FolderRead
-        ensures entries { result.entries.items ≡ [] }
-        ensures skipped { result.skipped ≡ 0 }
-        ensures refused { result.refused ≡ false }
+        ensures { result ≡ nothing_read }
     {
         FolderRead {
             entries: Vec::new(alloc),
             skipped: 0,
-            refused: false,
+            errors: Faults::new(),
         }
-    }
-
-    /// A folder that may not be read: it counts as one entry that was passed over.
-    fn closed(alloc: Global) -> FolderRead
-        ensures entries { result.entries.items ≡ [] }
-        ensures skipped { result.skipped ≡ 1 }
-        ensures refused { result.refused ≡ true }
-    {
-        let mut read = FolderRead::new(alloc);
-        read.refuse();
-        read
     }
 
     /// Passes an entry over.
     fn pass_over(&mut self)
-        ensures skipped { self.new.skipped ≡ raised self.old.skipped }
-        ensures entries { self.new.entries ≡ self.old.entries }
-        ensures refused { self.new.refused ≡ self.old.refused }
+        ensures { self.new ≡ passed_over self.old }
     {
         self.skipped = self.skipped.saturating_add(1);
     }
 
     /// Passes an entry over for an error of the system.
     fn refuse(&mut self)
-        ensures skipped { self.new.skipped ≡ raised self.old.skipped }
-        ensures entries { self.new.entries ≡ self.old.entries }
-        ensures refused { self.new.refused ≡ true }
+        ensures { self.new ≡ refused self.old }
     {
-        self.refused = true;
+        self.errors.raise();
         self.pass_over();
     }
 
     /// Adds an entry. What can't be an entry's name is passed over.
     fn add(&mut self, alloc: Global, name: &str, kind: EntryKind) -> Result<(), ReadFault>
-        ensures entries { OnOk result (self.new.entries.items ≡ if is_entry_name name.now then self.old.entries.items ++ record { name = name.now; kind = kind } ∷ [] else self.old.entries.items) }
-        ensures skipped { OnOk result (self.new.skipped ≡ if is_entry_name name.now then self.old.skipped else raised self.old.skipped) }
-        ensures refused { self.new.refused ≡ self.old.refused }
+        ensures ok { OnOk result (self.new ≡ with_entry self.old name.now kind) }
         ensures err { IfErr result (λ fault. fault ≡ ReadFault.OutOfMemory) }
     {
         match Entry::check(String::from_str(alloc, name)?, kind) {
@@ -83,54 +75,55 @@ impl FolderRead {
         Ok(())
     }
 
-    /// Takes an entry in, as it is looked at without following a link. One that went away isn't there.
-    fn look_at<R: Files>(&mut self, alloc: Global, entry: &DirEntry<R>) -> Result<(), ReadFault> {
-        match entry.file_type().map_err(ReadFault::from) {
-            Ok(seen) => return self.add(alloc, entry.file_name(), kind_of(seen)),
+    /// Takes an entry in, by what a look at it gave. One that went away isn't there.
+    fn take(
+        &mut self,
+        alloc: Global,
+        name: &str,
+        seen: Result<EntryKind, ReadFault>,
+    ) -> Result<(), ReadFault>
+        ensures ok { OnOk result (self.new ≡ after_look self.old name.now seen) }
+        ensures memory { IfOk seen (λ _. IfErr result (λ fault. fault ≡ ReadFault.OutOfMemory)) }
+        ensures err { IfErr seen (λ fault.
+            MatchBool (is_passed_over fault) (result ≡ Ok tt) (result ≡ Err fault)) }
+    {
+        match seen {
+            Ok(kind) => return self.add(alloc, name, kind),
             Err(ReadFault::Gone) => {}
-            Err(ReadFault::Denied | ReadFault::TooLong) => self.refuse(),
+            Err(ReadFault::Denied | ReadFault::OutOfReach) => self.refuse(),
             Err(fault) => return Err(fault),
         }
         Ok(())
     }
 
-    /// Takes in what the system gave as the next entry. A name that isn't UTF-8 is passed over.
-    fn take_in<R: Files>(
+    /// Takes in what the system gave as the next entry, which is looked at without following a
+    /// link. A name that isn't UTF-8 is passed over.
+    fn take_next<R: Files + Drop>(
         &mut self,
         alloc: Global,
         next: io::Result<DirEntry<R>>,
     ) -> Result<(), ReadFault>
-    where
-        R: Drop,
-        ensures unnamed { IfErr next (λ error. error_kind error ≡ ErrorKind.InvalidFilename → IsOk result × (self.new.skipped ≡ raised self.old.skipped)) }
-        ensures err { IfErr next (λ error. error_kind error ≢ ErrorKind.InvalidFilename → result ≡ Err (fault_of (error_kind error))) }
+        ensures unnamed { IfErr next (λ error. error_kind error ≡ ErrorKind.InvalidFilename →
+            (result ≡ Ok tt) × (self.new ≡ passed_over self.old)) }
+        ensures err { IfErr next (λ error. error_kind error ≢ ErrorKind.InvalidFilename →
+            (result ≡ Err (fault_in_listing error)) × (self.new ≡ self.old)) }
     {
         match next {
-            Ok(entry) => self.look_at(alloc, &entry),
+            Ok(entry) => {
+                let seen = entry.file_type().map(kind_of);
+                self.take(alloc, entry.file_name(), seen.map_err(ReadFault::from))
+            }
             Err(error) if error.kind() == ErrorKind::InvalidFilename => {
                 self.pass_over();
                 Ok(())
             }
-            Err(error) => Err(ReadFault::from(error)),
+            Err(error) => Err(ReadFault::in_listing(error)),
         }
     }
 }
 
-/// What an entry is.
-fn kind_of(seen: FileType) -> EntryKind
-    ensures folder { result ≡ EntryKind.Folder ↔ IsDir seen }
-    ensures file { result ≡ EntryKind.File ↔ IsFile seen }
-{
-    if seen.is_dir() {
-        EntryKind::Folder
-    } else if seen.is_file() {
-        EntryKind::File
-    } else {
-        EntryKind::Other
-    }
-}
-
-/// The entries of the folder at a path, which isn't a link. Where the path led elsewhere meanwhile, it changed.
+/// The entries of the folder at a path, which isn't a link. Where the path led elsewhere meanwhile,
+/// it changed.
 fn read_once<R: Files + AllocGlobal + Clone + Drop>(
     files: &R,
     path: &str,
@@ -141,39 +134,16 @@ fn read_once<R: Files + AllocGlobal + Clone + Drop>(
     }
     let mut read = FolderRead::new(files.alloc());
     for next in fs::read_dir(files, path)? {
-        read.take_in(files.alloc(), next)?;
+        read.take_next(files.alloc(), next)?;
     }
-    if is_one(&seen, &fs::symlink_metadata(files, path)?) {
-        Ok(read)
-    } else {
-        Err(ReadFault::Changed)
-    }
+    unmoved(&seen, fs::symlink_metadata(files, path))?;
+    Ok(read)
 }
 
 /// The folder at a path. Where the path led elsewhere meanwhile, it is read again.
-fn read_settled<R: Files + AllocGlobal + Clone + Drop>(
+pub fn read_folder<R: Files + AllocGlobal + Clone + Drop>(
     files: &R,
     path: &str,
 ) -> Result<FolderRead, ReadFault> {
-    for _ in 1..TRIES {
-        match read_once(files, path) {
-            Err(ReadFault::Changed) => {}
-            read => return read,
-        }
-    }
-    read_once(files, path)
-}
-
-/// The folder at a path, which may be closed to this process.
-pub fn read_folder<R: Files + AllocGlobal + Clone + Drop>(
-    files: &R,
-    alloc: Global,
-    path: &str,
-) -> Result<FolderRead, ReadFault>
-    ensures { IfErr result (λ fault. fault ≢ ReadFault.Denied) }
-{
-    match read_settled(files, path) {
-        Err(ReadFault::Denied) => Ok(FolderRead::closed(alloc)),
-        read => read,
-    }
+    settled(|| read_once(files, path))
 }

@@ -9,6 +9,7 @@ mod real_sink;
 mod real_tree;
 #[cfg(test)]
 mod tests;
+mod tries;
 
 use dbgd_run::{Outside, Status, run, write_all};
 use index_keeper::MemStore;
@@ -21,7 +22,8 @@ use std::io::ErrorKind;
 use std::marker::PhantomData;
 use std::process::ExitCode;
 
-/// The words after the program's name. There are none where one isn't UTF-8, and none are no command.
+/// The words after the program's name. There are none where one isn't UTF-8, and none are no
+/// command.
 fn words(rt: &HostRuntime) -> Result<Vec<String>, AllocError> {
     match env::args(rt) {
         Ok(args) => args.skip(1).collect(rt.alloc()),

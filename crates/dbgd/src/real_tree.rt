@@ -1,7 +1,7 @@
 //! The real file system as a tree.
 
-ghost use Rattle.std.specs.Prelude.{◌≡◌, ◌≤◌, if◌then◌else◌};
-ghost use Rattle.row_types.specs.Faults.{raised};
+ghost use Rattle.std.specs.Prelude.{◌≡◌, ◌≤◌};
+ghost use Rattle.dbgd.specs.Errors.{counted};
 
 use crate::file_load::load_file;
 use crate::folder_read::read_folder;
@@ -9,13 +9,12 @@ use crate::look::look;
 use crate::read_fault::ReadFault;
 use row_types::{Faults, OpenWorld};
 use std::alloc::Global;
-use std::fs::{File, Files, OpenFile};
-use std::io::Read;
+use std::fs::Files;
 use tree_trait::{DirAnswer, LoadAnswer, StatAnswer, Tree};
 
-/// The files of this machine. Links are never followed: what they lead to isn't there under their path.
-/// It tells nothing of what it has, and counts each error of the system, also one that it takes itself
-/// where this process may not read what stands there.
+/// The files of this machine. Links are never followed: what they lead to isn't there under their
+/// path. It tells nothing of what it has, and counts each error of the system, also one that it
+/// takes itself, as where this process may not read what stands there.
 #[derive(Drop)]
 pub struct RealTree<R: Drop> {
     files: R,
@@ -34,12 +33,13 @@ impl<R: Drop> RealTree<R> {
         }
     }
 
-    /// Counts an error of the system that is no fault of the call, if there was one.
-    fn count_if(&mut self, refused: bool)
-        ensures value { self.new.faults ≡ if refused then raised self.old.faults else self.old.faults }
+    /// Counts what the system answered in the place of a file or folder.
+    fn count_fault(&mut self, fault: ReadFault)
+        ensures value { self.new.faults ≡ counted fault self.old.faults }
         ensures later { self.old.faults ≤ self.new.faults }
+        ensures memory { fault ≡ ReadFault.OutOfMemory → self.new ≡ self.old }
     {
-        if refused {
+        if fault.is_counted() {
             self.faults.raise();
         }
     }
@@ -55,10 +55,7 @@ impl<R: Drop> RealTree<R> {
     }
 }
 
-impl<R: Files + AllocGlobal + Clone + Send + Drop> Tree<OpenWorld> for RealTree<R>
-where
-    R::File: OpenFile + Read + Drop,
-{
+impl<R: Files + AllocGlobal + Clone + Send + Drop> Tree<OpenWorld> for RealTree<R> {
     ghost use Rattle.std.specs.Prelude.{false, None, []};
 
     ghost told = { false };
@@ -74,45 +71,35 @@ where
     fn load(&mut self, alloc: Global, path: &str, limit: u64) -> LoadAnswer<OpenWorld> {
         match load_file(&self.files, alloc, path, limit) {
             Ok(answer) => answer,
-            Err(ReadFault::Gone) => LoadAnswer::Gone,
-            Err(ReadFault::OutOfMemory) => LoadAnswer::OutOfMemory,
-            Err(_) => {
-                self.faults.raise();
-                LoadAnswer::Failed
+            Err(fault) => {
+                self.count_fault(fault);
+                fault.load_answer()
             }
         }
     }
 
-    fn stat(&mut self, _alloc: Global, path: &str) -> StatAnswer {
-        match look(&self.files, path) {
+    fn stat(&mut self, alloc: Global, path: &str) -> StatAnswer {
+        match look(&self.files, alloc, path) {
             Ok(answer) => answer,
-            Err(ReadFault::Gone) => StatAnswer::Gone,
-            Err(ReadFault::OutOfMemory) => StatAnswer::OutOfMemory,
-            Err(ReadFault::Denied) => {
-                self.faults.raise();
-                StatAnswer::Other
-            }
-            Err(_) => {
-                self.faults.raise();
-                StatAnswer::Failed
+            Err(fault) => {
+                self.count_fault(fault);
+                fault.stat_answer()
             }
         }
     }
 
     fn read_dir(&mut self, alloc: Global, path: &str) -> DirAnswer {
-        match read_folder(&self.files, alloc, path) {
+        match read_folder(&self.files, path) {
             Ok(read) => {
-                self.count_if(read.refused);
+                self.faults.add(read.errors);
                 DirAnswer::Listed {
                     entries: read.entries,
                     skipped: read.skipped,
                 }
             }
-            Err(ReadFault::Gone) => DirAnswer::Gone,
-            Err(ReadFault::OutOfMemory) => DirAnswer::OutOfMemory,
-            Err(_) => {
-                self.faults.raise();
-                DirAnswer::Failed
+            Err(fault) => {
+                self.count_fault(fault);
+                fault.dir_answer(alloc)
             }
         }
     }

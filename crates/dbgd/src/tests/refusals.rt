@@ -1,137 +1,129 @@
 //! What the real tree answers where the system refuses.
 
-use super::loads::answer_text;
-use super::refusing::{Call, Refusal, Refusing};
-use super::{dir_text, make_folder, stat_text};
+use super::asking::Question::{self, Load, ReadDir, Stat};
+use super::asking::{ask, ask_all};
+use super::make_folder;
+use super::refusing::Call::{self, Enter, List, Look, Open};
+use super::refusing::{Refusal, Refusing};
 use crate::real_tree::RealTree;
 use std::fs;
-use std::io::ErrorKind;
 use std::test::Fail;
-use tree_trait::Tree;
+
+// Numbers of Linux (asm-generic/errno-base.h and errno.h).
+const EPERM: i32 = 1;
+
+const ENOENT: i32 = 2;
+
+const ESRCH: i32 = 3;
+
+const EIO: i32 = 5;
+
+const ENOMEM: i32 = 12;
+
+const EACCES: i32 = 13;
+
+const ENOTDIR: i32 = 20;
+
+const EINVAL: i32 = 22;
+
+const ENAMETOOLONG: i32 = 36;
+
+const ELOOP: i32 = 40;
+
+const ESTALE: i32 = 116;
 
 /// The names that a folder lists. `n\xff` isn't UTF-8, and nothing stands at `away`.
 const NAMES: &[u8] = b".\0a\0..\0inner\0n\xff\0away\0";
 
-/// A refusal, a path below the test's folder, what the call is to answer, and how often the tree has failed then.
-type Case = (Refusal, &'static str, &'static str, u64);
-
-const FILE: Refusal = Refusal(Call::Open, "/a", ErrorKind::PermissionDenied);
-
 /// The real tree over a file system that refuses so.
 fn tree_of(rt: &HostRuntime, refusal: Refusal) -> RealTree<Refusing> {
-    RealTree::new(Refusing {
-        rt: *rt,
-        refusal: Some(refusal),
-        change: None,
-        names: NAMES,
-    })
+    let mut files = Refusing::nothing(*rt);
+    files.refusal = Some(refusal);
+    files.names = Some(NAMES);
+    RealTree::new(files)
 }
 
+/// The number of an error of the first look at a folder, what a look, a load and a read of it
+/// answer then, how often they have failed, and what a read of the folder above answers.
+type Refused = (i32, &'static str, u64, &'static str);
+
 #[test]
-fn a_file_that_may_not_be_read_is_something_else(rt: HostRuntime) -> Result<(), Fail> {
-    let folder = make_folder(&rt, "stat-refusals")?;
-    let cases: [Case; 6] = [
-        (FILE, "/a", "other", 1),
-        (FILE, "/inner", "folder", 0),
+fn each_error_has_its_answers(rt: HostRuntime) -> Result<(), Fail> {
+    let folder = make_folder(&rt, "errors")?;
+    let path = format!(in rt.alloc(); "{folder}/inner")?;
+    let gone = "gone | gone | gone";
+    let denied = "gone | failed | 1 skipped";
+    let cases: [Refused; 11] = [
+        (ENOENT, gone, 0, "a file, 1 skipped"),
+        (ENOTDIR, gone, 0, "a file, 1 skipped"),
+        (EACCES, denied, 3, "a file, 2 skipped"),
+        (EPERM, denied, 3, "a file, 2 skipped"),
+        (ESRCH, gone, 3, "a file, 2 skipped"),
+        (ELOOP, gone, 3, "a file, 2 skipped"),
+        (ENAMETOOLONG, gone, 3, "a file, 2 skipped"),
+        (ESTALE, gone, 3, "a file, 2 skipped"),
         (
-            Refusal(Call::Look, "/a", ErrorKind::PermissionDenied),
-            "/a",
-            "other",
-            1,
-        ),
-        (
-            Refusal(Call::Look, "/a", ErrorKind::NotADirectory),
-            "/a",
-            "gone",
+            ENOMEM,
+            "out of memory | out of memory | out of memory",
             0,
-        ),
-        (
-            Refusal(Call::Look, "/a", ErrorKind::OutOfMemory),
-            "/a",
             "out of memory",
-            0,
         ),
-        (
-            Refusal(Call::Open, "/a", ErrorKind::TimedOut),
-            "/a",
-            "failed",
-            1,
-        ),
+        (EINVAL, "failed | failed | failed", 3, "failed"),
+        (EIO, "failed | failed | failed", 3, "failed"),
     ];
-    for (refusal, path, want, count) in cases {
-        let mut tree = tree_of(&rt, refusal);
-        let path = format!(in rt.alloc(); "{folder}{path}")?;
-        let answer = tree.stat(rt.alloc(), path.as_str());
-        let text = stat_text(rt.alloc(), answer)?;
-        assert_eq!(rt; text.as_str(), want, "look at {path}");
-        assert_eq!(rt; tree.count(), count, "faults at {path}");
+    for (number, wanted, count, above) in cases {
+        let mut tree = tree_of(&rt, Refusal(Look, "/inner", number));
+        let text = ask_all(rt.alloc(), &mut tree, path.as_str())?;
+        assert_eq!(rt; text.as_str(), wanted, "error {number}");
+        assert_eq!(rt; tree.count(), count, "faults by error {number}");
+        let text = ask(rt.alloc(), &mut tree, ReadDir, folder.as_str(), 4)?;
+        assert_eq!(rt; text.as_str(), above, "above error {number}");
+        assert_eq!(rt; tree.count(), count / 3 * 4, "faults above error {number}");
     }
     fs::remove_dir_all(&rt, folder.as_str())?;
     Ok(())
 }
 
-#[test]
-fn a_folder_that_may_not_be_read_lists_nothing(rt: HostRuntime) -> Result<(), Fail> {
-    let folder = make_folder(&rt, "dir-refusals")?;
-    let cases: [Case; 7] = [
-        (FILE, "", "a file, inner folder, 1 skipped", 0),
-        (
-            Refusal(Call::OpenFolder, "/inner/", ErrorKind::PermissionDenied),
-            "/inner",
-            "1 skipped",
-            1,
-        ),
-        (
-            Refusal(Call::Look, "/inner", ErrorKind::PermissionDenied),
-            "/inner",
-            "1 skipped",
-            1,
-        ),
-        (
-            Refusal(Call::Look, "/inner", ErrorKind::PermissionDenied),
-            "",
-            "a file, 2 skipped",
-            1,
-        ),
-        (
-            Refusal(Call::Look, "/inner", ErrorKind::InvalidFilename),
-            "",
-            "a file, 2 skipped",
-            1,
-        ),
-        (
-            Refusal(Call::Look, "/inner", ErrorKind::TimedOut),
-            "",
-            "failed",
-            1,
-        ),
-        (
-            Refusal(Call::OpenFolder, "/", ErrorKind::OutOfMemory),
-            "",
-            "out of memory",
-            0,
-        ),
-    ];
-    for (refusal, path, want, count) in cases {
-        let mut tree = tree_of(&rt, refusal);
-        let path = format!(in rt.alloc(); "{folder}{path}")?;
-        let answer = tree.read_dir(rt.alloc(), path.as_str());
-        let text = dir_text(rt.alloc(), &answer)?;
-        assert_eq!(rt; text.as_str(), want, "read of {path}");
-        assert_eq!(rt; tree.count(), count, "faults at {path}");
-    }
-    fs::remove_dir_all(&rt, folder.as_str())?;
-    Ok(())
-}
+/// A call that is refused on the paths with this end, with the error of this number, a question at
+/// that path, its answer, and how often the tree has failed then.
+type Case = (Call, &'static str, i32, Question, &'static str, u64);
 
 #[test]
-fn the_load_of_a_file_that_may_not_be_read_fails(rt: HostRuntime) -> Result<(), Fail> {
-    let folder = make_folder(&rt, "load-refusals")?;
-    let mut tree = tree_of(&rt, FILE);
-    let path = format!(in rt.alloc(); "{folder}/a")?;
-    let answer = tree.load(rt.alloc(), path.as_str(), 4);
-    assert_eq!(rt; answer_text(&answer), b"(failed)".as_slice());
-    assert_eq!(rt; tree.count(), 1);
+fn an_error_after_the_look_has_its_answer(rt: HostRuntime) -> Result<(), Fail> {
+    let folder = make_folder(&rt, "later")?;
+    let cases: [Case; 17] = [
+        // A file that everyone may read isn't opened by a look.
+        (Open, "/a", EACCES, Stat, "file 4 100 7", 0),
+        (Open, "/a", EACCES, Load, "failed", 1),
+        (Open, "/a", ENOENT, Load, "gone", 0),
+        (Open, "/a", ELOOP, Load, "gone", 1),
+        (Open, "/own", EACCES, Stat, "gone", 1),
+        (Open, "/own", ESRCH, Stat, "gone", 1),
+        (Open, "/own", ENOENT, Stat, "gone", 0),
+        (Open, "/own", EIO, Stat, "failed", 1),
+        // A look enters a folder by the way to itself.
+        (Enter, "/inner/.", EACCES, Stat, "gone", 1),
+        (Enter, "/inner/.", EIO, Stat, "failed", 1),
+        (Enter, "/inner/", EACCES, Stat, "folder", 0),
+        (Enter, "/inner/", EACCES, ReadDir, "1 skipped", 1),
+        (Enter, "/inner/", ESRCH, ReadDir, "gone", 1),
+        (Enter, "/inner/", ENOMEM, ReadDir, "out of memory", 0),
+        (List, "/inner/", EINVAL, ReadDir, "gone", 1),
+        (List, "/inner/", ESRCH, ReadDir, "gone", 1),
+        (List, "/inner/", EIO, ReadDir, "failed", 1),
+    ];
+    for (call, end, number, what, want, count) in cases {
+        let mut tree = tree_of(&rt, Refusal(call, end, number));
+        let path = format!(in rt.alloc(); "{folder}{}", end.trim_end_matches('.'))?;
+        let path = path.as_str().trim_end_matches('/');
+        let text = ask(rt.alloc(), &mut tree, what, path, 4)?;
+        assert_eq!(rt;
+            text.as_str(),
+            want,
+            "{what:?} after {call:?} {end} {number}"
+        );
+        assert_eq!(rt; tree.count(), count, "faults after {call:?} {end} {number}");
+    }
     fs::remove_dir_all(&rt, folder.as_str())?;
     Ok(())
 }

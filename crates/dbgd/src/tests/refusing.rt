@@ -1,21 +1,22 @@
 //! A file system that refuses one kind of call, or in which a file changes as it is opened.
 
-use super::set_time;
+use super::{set_mode, set_time};
 use std::alloc::{Allocator, Global};
 use std::fs::{self, File, Files, Metadata, OpenOptions};
-use std::io::{Error, ErrorKind, Result, Write};
+use std::io::{Error, Read, Result, Write};
 
 /// The calls that can be refused.
-#[derive(Clone, Copy, PartialEq, Eq)]
+#[derive(Clone, Copy, Debug, PartialEq, Eq)]
 pub enum Call {
     Look,
     Open,
-    OpenFolder,
+    Enter,
+    List,
 }
 
-/// What is refused: a call on the paths with this end, with this error.
-#[derive(Clone, Copy)]
-pub struct Refusal(pub Call, pub &'static str, pub ErrorKind);
+/// What is refused: a call on the paths with this end, with the error of this number.
+#[derive(Clone, Copy, Debug)]
+pub struct Refusal(pub Call, pub &'static str, pub i32);
 
 /// What becomes of each file just before it is opened.
 #[derive(Clone, Copy)]
@@ -26,24 +27,61 @@ pub enum Change {
     GivesWay,
 }
 
-/// The files of this machine, but for what is refused and what changes, and that each folder lists these
-/// names, each with a zero byte behind it.
+/// The files of this machine, but for what is refused and what changes.
 #[derive(Clone, Copy)]
 pub struct Refusing {
     pub rt: HostRuntime,
     pub refusal: Option<Refusal>,
     pub change: Option<Change>,
-    pub names: &'static [u8],
+    /// The names that each folder lists in place of its own, each with a zero byte behind it.
+    pub names: Option<&'static [u8]>,
+}
+
+/// The names of a folder.
+#[derive(Drop)]
+pub enum Names {
+    Own(<HostRuntime as Files>::Dir),
+    Given(&'static [u8]),
+    /// Reading them gives the error of this number.
+    Refused(i32),
+}
+
+impl Read for Names {
+    fn read(&mut self, buf: &mut [u8]) -> Result<usize> {
+        match self {
+            Names::Own(names) => names.read(buf),
+            Names::Given(names) => names.read(buf),
+            Names::Refused(number) => Err(Error::from_raw_os_error(*number)),
+        }
+    }
 }
 
 impl Refusing {
+    /// The files of this machine.
+    pub fn nothing(rt: HostRuntime) -> Refusing {
+        Refusing {
+            rt,
+            refusal: None,
+            change: None,
+            names: None,
+        }
+    }
+
+    /// The number of the error that refuses the call, if one does.
+    fn refusal_of(&self, call: Call, path: &str) -> Option<i32> {
+        match self.refusal {
+            Some(Refusal(refused, end, number)) if refused == call && path.ends_with(end) => {
+                Some(number)
+            }
+            _ => None,
+        }
+    }
+
     /// Refuses the call, or lets it through.
     fn judge(&self, call: Call, path: &str) -> Result<()> {
-        match self.refusal {
-            Some(Refusal(refused, end, error)) if refused == call && path.ends_with(end) => {
-                Err(Error::from(error))
-            }
-            _ => Ok(()),
+        match self.refusal_of(call, path) {
+            Some(number) => Err(Error::from_raw_os_error(number)),
+            None => Ok(()),
         }
     }
 
@@ -58,6 +96,7 @@ impl Refusing {
             Some(Change::GivesWay) => {
                 let other = format!(in self.rt.alloc(); "{path}.other")?;
                 fs::write(&self.rt, other.as_str(), "four")?;
+                set_mode(&self.rt, other.as_str(), 0o600)?;
                 fs::rename(&self.rt, other.as_str(), path)
             }
             None => Ok(()),
@@ -76,7 +115,7 @@ impl Alloc for Refusing {
 impl Files for Refusing {
     type File = File;
 
-    type Dir = &'static [u8];
+    type Dir = Names;
 
     fn open_file(&self, how: &OpenOptions, path: &str) -> Result<File> {
         self.judge(Call::Open, path)?;
@@ -84,9 +123,13 @@ impl Files for Refusing {
         self.rt.open_file(how, path)
     }
 
-    fn open_dir(&self, path: &str) -> Result<&'static [u8]> {
-        self.judge(Call::OpenFolder, path)?;
-        Ok(self.names)
+    fn open_dir(&self, path: &str) -> Result<Names> {
+        self.judge(Call::Enter, path)?;
+        match (self.refusal_of(Call::List, path), self.names) {
+            (Some(number), _) => Ok(Names::Refused(number)),
+            (None, Some(names)) => Ok(Names::Given(names)),
+            (None, None) => Ok(Names::Own(self.rt.open_dir(path)?)),
+        }
     }
 
     fn metadata(&self, path: &str) -> Result<Metadata> {
