@@ -24,7 +24,7 @@ scan_of() { least "$program" scan -d m "$1" || { say "the scan of $1 failed"; ex
 
 mkdir "$work/empty"
 start=$(scan_of "$work/empty") || exit 1
-printf 'an empty folder: %d us\n' "$start"
+say "an empty folder: $start us"
 
 before=0 grown=0
 for count in 1000 4000 16000; do
@@ -36,8 +36,8 @@ for count in 1000 4000 16000; do
   scan=$(scan_of "$tree") || exit 1
   read=$(least read_all "$tree")
   each=$(((scan - start) * 1000 / count))
-  printf '%6d files: scan %d us, %d ns a file, %d ns a file without the start, %d.%02d times find and cat\n' \
-    "$count" "$scan" $((scan * 1000 / count)) "$each" $((scan / read)) $((scan * 100 / read % 100))
+  say "$(printf '%6d files: scan %d us, %d ns a file, %d ns a file without the start, %d.%02d times find and cat' \
+    "$count" "$scan" $((scan * 1000 / count)) "$each" $((scan / read)) $((scan * 100 / read % 100)))"
   [ "$each" -gt 0 ] || { say "the files take no longer than the start"; exit 1; }
   [ "$before" = 0 ] || [ $((each * 4)) -le $((before * 5)) ] || grown=1
   before=$each

@@ -70,33 +70,41 @@ else
   say "skipped: there is no /dev/full"
 fi
 
-# What this user may not read. The superuser may read all, so the program is run as another user then.
+# What a user may not read. The superuser may read all, so the program is run as another user then.
 as_user=()
 [ "$(id -u)" != 0 ] || as_user=(setpriv --reuid=65534 --regid=65534 --clear-groups)
 own=$program
 [ "$program" -ef dbgd ] && own=crates/dbgd/out/dbgd
-cp -- "$own" "$work/program" && chmod 755 "$work/program" && chmod 711 "$work"
-if "${as_user[@]}" true 2>/dev/null && "${as_user[@]}" "$work/program" ident "$work/text" >/dev/null 2>&1; [ $? = 3 ]; then
-  mkdir -p "$work/tree/closed" "$work/tree/unsearched" "$work/alone"
-  cp "$work/text" "$work/tree/open"
-  for folder in closed unsearched; do cp "$work/text" "$work/tree/$folder/"; done
-  printf 'text\n' >"$work/tree/shut"
-  chmod 0 "$work/tree/closed" "$work/tree/shut"
-  chmod 444 "$work/tree/unsearched"
-  run=("${as_user[@]}" "$work/program")
-  for folder in closed closed/text unsearched shut; do
-    ends 3 '' "dbgd: gone $work/tree/$folder"$'\n' "${run[@]}" scan -d m "$work/tree/$folder"
+install -m 755 -- "$own" "$work/program"
+chmod 711 "$work"
+mkdir -p "$work/tree/closed" "$work/tree/unsearched" "$work/alone"
+for folder in tree tree/closed tree/unsearched; do
+  printf 'text\n' >"$work/$folder/text"
+  chmod 644 "$work/$folder/text"
+done
+printf 'text\n' >"$work/tree/shut"
+chmod 755 "$work/tree" "$work/alone"
+chmod 0 "$work/tree/shut" "$work/tree/closed"
+chmod 444 "$work/tree/unsearched"
+run=("${as_user[@]}" "$work/program")
+if ! "${as_user[@]}" test -x "$work/program" 2>/dev/null; then
+  say "skipped: the program can't be run as another user"
+elif "${as_user[@]}" test -r "$work/tree/shut"; then
+  say "skipped: this user may read all"
+else
+  for path in closed closed/text unsearched unsearched/text shut; do
+    ends 3 '' "dbgd: gone $work/tree/$path"$'\n' "${run[@]}" scan -d m "$work/tree/$path"
   done
-  # A folder of the words that may not be read ends the scan, also behind one that may be.
+  # Also behind a folder that may be read.
   ends 3 '' "dbgd: gone $work/tree/closed"$'\n' "${run[@]}" scan -d m "$work/alone" "$work/tree/closed"
   # What may not be read below a folder of the words ends nothing.
-  ends 0 $'scan: 1 files, 1 added, 0 replaced, 0 dropped, 0 kept, 0 executables, 0 debuginfo\n' '' "${run[@]}" scan -d m "$work/tree"
-  ends 1 '' $'dbgd: fault file\n' "${run[@]}" ident "$work/tree/shut"
-  ends 1 '' $'dbgd: fault file\n' "${run[@]}" ident "$work/tree/closed/text"
-  chmod 700 "$work/tree/closed" "$work/tree/unsearched"
-else
-  say "skipped: the program can't be run as a user who may not read all"
+  ends 0 $'scan: 1 files, 1 added, 0 replaced, 0 dropped, 0 kept, 0 executables, 0 debuginfo\n' '' \
+    "${run[@]}" scan -d m "$work/tree"
+  for path in shut closed/text unsearched/text; do
+    ends 1 '' $'dbgd: fault file\n' "${run[@]}" ident "$work/tree/$path"
+  done
 fi
+chmod 700 "$work/tree/closed" "$work/tree/unsearched"
 
 say "$compared endings compared; $differing differ"
 [ "$differing" = 0 ]
