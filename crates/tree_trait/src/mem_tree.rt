@@ -1,17 +1,15 @@
 //! A tree in memory that answers by a script.
 
-ghost use Rattle.std.specs.Prelude.{◌≡◌, ◌<◌, ◌≤◌, ◌++◌, ◌∷◌, [], map, length, All, IsTrue, IsSome, IfSome, Some};
+ghost use Rattle.std.specs.Prelude.{◌≡◌, ◌≤◌, ◌<◌, ◌++◌, ◌∷◌, [], true, map, length, All, IsTrue, IsSomeAnd};
 ghost use Rattle.std.specs.Bool.{OnTrue, OnFalse};
-ghost use Rattle.row_types.specs.Faults.{HasCause};
-ghost use Rattle.tree_trait.specs.Dir.{dir_facts, is_dir_failed, is_dir_no_memory, TellsDir};
+ghost use Rattle.tree_trait.specs.Asks.{Asks};
+ghost use Rattle.tree_trait.specs.Dir.{dir_facts};
 ghost use Rattle.tree_trait.specs.Found.{IsFound, name_of};
-ghost use Rattle.tree_trait.specs.Heard.{after_load, after_stat, after_read_dir};
+ghost use Rattle.tree_trait.specs.Heard.{load, stat, read_dir, wants_memory};
 ghost use Rattle.tree_trait.specs.HeardCalls.{heard_facts};
-ghost use Rattle.tree_trait.specs.Load.{load_facts, is_failed, is_no_memory, FitsLoad, TellsLoad};
-ghost use Rattle.tree_trait.specs.MemTree.{TreeFacts, fresh, names_of, next_stage, answered, IsStill, is_bad, FailsWhere, StatFailsWhere, DirFailsWhere, tree_after_load, tree_after_stat, tree_after_read_dir};
-ghost use Rattle.tree_trait.specs.Present.{IsPresence, StaysStill};
+ghost use Rattle.tree_trait.specs.Load.{load_facts};
+ghost use Rattle.tree_trait.specs.MemTree.{TreeFacts, IsScripted, fresh, next_stage, answered, shown_by, is_bad, RunsScript};
 ghost use Rattle.tree_trait.specs.Script.{is_script, names_at};
-ghost use Rattle.tree_trait.specs.Stat.{is_stat_failed, is_stat_no_memory, TellsStat};
 
 use crate::answer::LoadAnswer;
 use crate::dir::DirAnswer;
@@ -99,23 +97,23 @@ impl<W: Truth> MemTree<W> {
 
     /// The files by which the next call is answered.
     fn next_files(&self) -> &[Found<W>]
-        ensures { map name_of result.now ≡ names_at self.now.script (next_stage self.now) }
+        ensures files { map name_of result.now ≡ names_at self.now.script (next_stage self.now) }
+        ensures scripted { IsScripted W.version self.now.script self.now.stage }
     {
         let stage = self.next_stage();
         files_at(self.stages.as_slice(), stage)
     }
 
     /// Ends a call that is listed, or leaves the tree as it is. Says which.
-    fn end_call(&mut self, call: Option<HeardCall<W>>, failed: bool) -> bool
-        ensures ended { OnTrue result (IfSome call (λ entry. self.new ≡ answered self.old failed (heard_facts entry))) }
-        ensures listed { OnTrue result (IsSome call) }
+    fn end_call(&mut self, call: Option<HeardCall<W>>) -> bool
+        ensures ended { OnTrue result (IsSomeAnd call (λ asked. self.new ≡ answered self.old (heard_facts asked))) }
         ensures same { OnFalse result (self.new ≡ self.old) }
-        ensures cause { OnTrue result (HasCause self.old.faults self.new.faults (IsTrue failed)) }
-        ensures known { IsPresence W.version (IsStill self.new) (names_of self.new) }
-        ensures still { IsStill self.old → StaysStill (IsStill self.new) (names_of self.old) (names_of self.new) }
+        ensures later { self.old.faults ≤ self.new.faults }
     {
+        let Some(call) = call else { return false };
         let stage = self.next_stage();
-        if !keep_call(&mut self.heard, call) {
+        let failed = call.has_failed();
+        if self.heard.push(call).is_err() {
             return false;
         }
         self.stage = stage;
@@ -128,33 +126,23 @@ impl<W: Truth> MemTree<W> {
 }
 
 impl<W: Truth + Send> Tree<W> for MemTree<W> {
-    ghost use Rattle.std.specs.Prelude.{true, Some};
-    ghost use Rattle.tree_trait.specs.MemTree.{names_of, IsStill};
+    ghost use Rattle.std.specs.Prelude.{true};
+    ghost use Rattle.tree_trait.specs.MemTree.{shown_by};
 
     ghost told = { true };
 
-    ghost present = { names_of };
-
-    ghost still = { IsStill };
-
-    ghost heard = { λ t. Some t.heard };
-
-    ghost faults = { λ t. t.faults };
+    ghost shows = { shown_by };
 
     fn load(&mut self, alloc: Global, path: &str, limit: u64) -> LoadAnswer<W>
-        ensures asked { FitsLoad W.version path.now limit (load_facts result) }
-        ensures told { TellsLoad (names_of self.new) path.now (load_facts result) }
-        ensures heard { Some self.new.heard ≡ after_load (Some self.old.heard) path.now limit (load_facts result) }
-        ensures cause { HasCause self.old.faults self.new.faults (IsTrue (is_failed (load_facts result))) }
-        ensures known { IsPresence W.version (IsStill self.new) (names_of self.new) }
-        ensures still { IsStill self.old → StaysStill (IsStill self.new) (names_of self.old) (names_of self.new) }
-        ensures memory { IsTrue (is_no_memory (load_facts result)) → self.new ≡ self.old }
-        ensures fails { FailsWhere (is_bad self.old) (load_facts result) }
-        ensures after { self.new ≡ tree_after_load self.old path.now limit (load_facts result) }
+        ensures asks { Asks true W.version (shown_by self.old) (shown_by self.new)
+            (load path.now limit (load_facts result)) }
+        ensures memory { IsTrue (wants_memory (load path.now limit (load_facts result)))
+            → self.new ≡ self.old }
+        ensures script { RunsScript self.old self.new (load path.now limit (load_facts result)) }
     {
         let answer = load_in(alloc, self.is_bad(), self.next_files(), path, limit);
         let call = heard_load(alloc, path, limit, &answer);
-        if self.end_call(call, answer.is_failed()) {
+        if self.end_call(call) {
             answer
         } else {
             LoadAnswer::OutOfMemory
@@ -162,18 +150,14 @@ impl<W: Truth + Send> Tree<W> for MemTree<W> {
     }
 
     fn stat(&mut self, alloc: Global, path: &str) -> StatAnswer
-        ensures told { TellsStat (names_of self.new) path.now result }
-        ensures heard { Some self.new.heard ≡ after_stat (Some self.old.heard) path.now result }
-        ensures cause { HasCause self.old.faults self.new.faults (IsTrue (is_stat_failed result)) }
-        ensures known { IsPresence W.version (IsStill self.new) (names_of self.new) }
-        ensures still { IsStill self.old → StaysStill (IsStill self.new) (names_of self.old) (names_of self.new) }
-        ensures memory { IsTrue (is_stat_no_memory result) → self.new ≡ self.old }
-        ensures fails { StatFailsWhere (is_bad self.old) result }
-        ensures after { self.new ≡ tree_after_stat self.old path.now result }
+        ensures asks { Asks true W.version (shown_by self.old) (shown_by self.new)
+            (stat path.now result) }
+        ensures memory { IsTrue (wants_memory (stat path.now result)) → self.new ≡ self.old }
+        ensures script { RunsScript self.old self.new (stat path.now result) }
     {
         let answer = stat_in(self.is_bad(), self.next_files(), path);
-        let call = heard_stat(alloc, path, answer);
-        if self.end_call(call, answer.is_failed()) {
+        let call = heard_stat(alloc, path, &answer);
+        if self.end_call(call) {
             answer
         } else {
             StatAnswer::OutOfMemory
@@ -181,34 +165,19 @@ impl<W: Truth + Send> Tree<W> for MemTree<W> {
     }
 
     fn read_dir(&mut self, alloc: Global, path: &str) -> DirAnswer
-        ensures told { TellsDir (names_of self.new) path.now (dir_facts result) }
-        ensures heard { Some self.new.heard ≡ after_read_dir (Some self.old.heard) path.now (dir_facts result) }
-        ensures cause { HasCause self.old.faults self.new.faults (IsTrue (is_dir_failed (dir_facts result))) }
-        ensures known { IsPresence W.version (IsStill self.new) (names_of self.new) }
-        ensures still { IsStill self.old → StaysStill (IsStill self.new) (names_of self.old) (names_of self.new) }
-        ensures memory { IsTrue (is_dir_no_memory (dir_facts result)) → self.new ≡ self.old }
-        ensures fails { DirFailsWhere (is_bad self.old) (dir_facts result) }
-        ensures after { self.new ≡ tree_after_read_dir self.old path.now (dir_facts result) }
+        ensures asks { Asks true W.version (shown_by self.old) (shown_by self.new)
+            (read_dir path.now (dir_facts result)) }
+        ensures memory { IsTrue (wants_memory (read_dir path.now (dir_facts result)))
+            → self.new ≡ self.old }
+        ensures script { RunsScript self.old self.new (read_dir path.now (dir_facts result)) }
     {
         let answer = dir_in(alloc, self.is_bad(), self.next_files(), path);
         let call = heard_read_dir(alloc, path, &answer);
-        if self.end_call(call, answer.is_failed()) {
+        if self.end_call(call) {
             answer
         } else {
             DirAnswer::OutOfMemory
         }
-    }
-}
-
-/// Adds a call to the list, if it is one. Says whether it did.
-fn keep_call<W: Truth>(calls: &mut Vec<HeardCall<W>>, call: Option<HeardCall<W>>) -> bool
-    ensures kept { OnTrue result (IfSome call (λ entry. map heard_facts calls.new.items ≡ map heard_facts calls.old.items ++ heard_facts entry ∷ [])) }
-    ensures listed { OnTrue result (IsSome call) }
-    ensures same { OnFalse result (calls.new.items ≡ calls.old.items) }
-{
-    match call {
-        Some(call) => calls.push(call).is_ok(),
-        None => false,
     }
 }
 

@@ -11,4 +11,4 @@ pub invariant_of-result : goal.invariant_of-result
 invariant_of-result g c =
     let sound = subst (λ (script : ScriptFacts). IsTrue (is_script script)) (sym c.script.view_is) c.requires in
     let known = subst (λ stages. All (λ stage. All (IsFound g.W.Truth.version) stage.items) stages) c.as_slice.ensures.value c.know_stages.ensures in
-    scripted_first g.W.Truth.version _ sound (All-map (All (IsFound g.W.Truth.version)) (λ stage. stage.items) c.script.inside.stages.items known)
+    scripted_first _ sound (All-map (All (IsFound g.W.Truth.version)) (λ stage. stage.items) c.script.inside.stages.items known)
