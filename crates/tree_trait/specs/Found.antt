@@ -13,6 +13,10 @@ pub record FoundFacts : Type 0 where
   pub stamp : StampFacts
   pub bytes : List ℕ
 
+-- the file of this path and stamp with these bytes
+abbrev pub found_facts : List ℕ → StampFacts → List ℕ → FoundFacts
+found_facts path stamp bytes = record { path = path; stamp = stamp; bytes = bytes }
+
 -- the bytes are a version of the path and the stamp, and as many as the stamp says
 pub record IsFound (version : Versions) (found : FoundFacts) : Type 0 where
   pub known : version found.path found.stamp found.bytes

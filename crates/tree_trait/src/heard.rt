@@ -68,7 +68,8 @@ pub fn heard_load<W: Truth>(
     limit: u64,
     answer: &LoadAnswer<W>,
 ) -> Option<HeardCall<W>>
-    ensures { IfSome result (λ call. IsListedAs (load path.now limit (load_facts answer.now)) (heard_facts call)) }
+    ensures { IfSome result (λ call.
+        IsListedAs (load path.now limit (load_facts answer.now)) (heard_facts call)) }
 {
     if matches!(answer, LoadAnswer::OutOfMemory) {
         return None;
@@ -99,7 +100,8 @@ pub fn heard_read_dir<W: Truth>(
     path: &str,
     answer: &DirAnswer,
 ) -> Option<HeardCall<W>>
-    ensures { IfSome result (λ call. IsListedAs (read_dir path.now (dir_facts answer.now)) (heard_facts call)) }
+    ensures { IfSome result (λ call.
+        IsListedAs (read_dir path.now (dir_facts answer.now)) (heard_facts call)) }
 {
     if matches!(answer, DirAnswer::OutOfMemory) {
         return None;

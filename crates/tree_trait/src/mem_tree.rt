@@ -1,6 +1,6 @@
 //! A tree in memory that answers by a script.
 
-ghost use Rattle.std.specs.Prelude.{◌≡◌, ◌≤◌, ◌<◌, ◌++◌, ◌∷◌, [], true, map, length, All, IsTrue, IsSomeAnd};
+ghost use Rattle.std.specs.Prelude.{◌≡◌, ◌≤◌, ◌<◌, true, map, length, All, IsTrue, IsSomeAnd};
 ghost use Rattle.std.specs.Bool.{OnTrue, OnFalse};
 ghost use Rattle.tree_trait.specs.Asks.{Asks};
 ghost use Rattle.tree_trait.specs.Dir.{dir_facts};
@@ -8,7 +8,8 @@ ghost use Rattle.tree_trait.specs.Found.{IsFound, name_of};
 ghost use Rattle.tree_trait.specs.Heard.{load, stat, read_dir, wants_memory};
 ghost use Rattle.tree_trait.specs.HeardCalls.{heard_facts};
 ghost use Rattle.tree_trait.specs.Load.{load_facts};
-ghost use Rattle.tree_trait.specs.MemTree.{TreeFacts, IsScripted, fresh, next_stage, answered, shown_by, is_bad, RunsScript};
+ghost use Rattle.tree_trait.specs.MemTree.{IsScripted, RunsScript, TreeFacts, answered};
+ghost use Rattle.tree_trait.specs.MemTree.{fresh, is_bad, next_stage, shown_by};
 ghost use Rattle.tree_trait.specs.Script.{is_script, names_at};
 
 use crate::answer::LoadAnswer;
@@ -23,14 +24,13 @@ use row_types::{Faults, Truth};
 use std::alloc::Global;
 use std::marker::Model;
 
-/// A tree in memory. It tells what it has and what it was asked, moves to its script's next stage before
-/// the calls that the script lists, and fails exactly at the calls that the script lists. Contracts see it
-/// as a record of the script, the stage, the next call's number, the questions so far and the faults.
+/// A tree in memory. It tells what it has and what it was asked, moves to its script's next stage
+/// before the calls that the script lists, and fails exactly at the calls that the script lists.
+/// Contracts see it as a record of the script, the stage, the next call's number, the questions so
+/// far and the faults.
 #[derive(Drop)]
 pub struct MemTree<W: Truth> {
-    stages: Vec<Vec<Found<W>>>,
-    moves: Vec<u64>,
-    bad_calls: Vec<u64>,
+    script: Script<W>,
     stage: usize,
     calls: u64,
     heard: Vec<HeardCall<W>>,
@@ -45,14 +45,14 @@ impl<W: Truth> Model for MemTree<W> {
     ghost Value = { TreeFacts };
 
     ghost view = { λ t. record {
-      script = record { stages = map (λ stage. stage.items) t.stages.items; moves = t.moves.items; bad_calls = t.bad_calls.items };
+      script = t.script;
       stage = t.stage;
       calls = t.calls;
       heard = map heard_facts t.heard.items;
       faults = t.faults;
     } };
 
-    ghost invariant = { λ t. IsScripted W.version (record { stages = map (λ stage. stage.items) t.stages.items; moves = t.moves.items; bad_calls = t.bad_calls.items }) t.stage };
+    ghost invariant = { λ t. IsScripted W.version t.script t.stage };
 }
 
 impl<W: Truth> MemTree<W> {
@@ -61,16 +61,9 @@ impl<W: Truth> MemTree<W> {
         requires { IsTrue (is_script script) }
         ensures { result ≡ fresh script }
     {
-        let Script {
-            stages,
-            moves,
-            bad_calls,
-        } = script;
-        know_stages(stages.as_slice());
+        script.know_files();
         MemTree {
-            stages,
-            moves,
-            bad_calls,
+            script,
             stage: 0,
             calls: 0,
             heard: Vec::new(alloc),
@@ -82,7 +75,7 @@ impl<W: Truth> MemTree<W> {
     fn is_bad(&self) -> bool
         ensures { result ≡ is_bad self.now }
     {
-        is_listed(self.bad_calls.as_slice(), self.calls)
+        is_listed(self.script.bad_calls.as_slice(), self.calls)
     }
 
     /// The stage in which the next call is answered.
@@ -91,8 +84,8 @@ impl<W: Truth> MemTree<W> {
         ensures placed { result < length self.now.script.stages }
         ensures later { self.now.stage ≤ result }
     {
-        let count = self.stages.as_slice().len();
-        stage_for(self.moves.as_slice(), self.calls, self.stage, count)
+        let count = self.script.stages.as_slice().len();
+        stage_for(self.script.moves.as_slice(), self.calls, self.stage, count)
     }
 
     /// The files by which the next call is answered.
@@ -101,12 +94,13 @@ impl<W: Truth> MemTree<W> {
         ensures scripted { IsScripted W.version self.now.script self.now.stage }
     {
         let stage = self.next_stage();
-        files_at(self.stages.as_slice(), stage)
+        files_at(self.script.stages.as_slice(), stage)
     }
 
     /// Ends a call that is listed, or leaves the tree as it is. Says which.
     fn end_call(&mut self, call: Option<HeardCall<W>>) -> bool
-        ensures ended { OnTrue result (IsSomeAnd call (λ asked. self.new ≡ answered self.old (heard_facts asked))) }
+        ensures ended { OnTrue result (IsSomeAnd call (λ asked.
+            self.new ≡ answered self.old (heard_facts asked))) }
         ensures same { OnFalse result (self.new ≡ self.old) }
         ensures later { self.old.faults ≤ self.new.faults }
     {
@@ -178,23 +172,5 @@ impl<W: Truth + Send> Tree<W> for MemTree<W> {
         } else {
             DirAnswer::OutOfMemory
         }
-    }
-}
-
-/// What is known of each file.
-fn know_files<W: Truth>(files: &[Found<W>])
-    ensures { All (IsFound W.version) files.now }
-{
-    for file in files {
-        file.is_version();
-    }
-}
-
-/// What is known of each file of each stage.
-fn know_stages<W: Truth>(stages: &[Vec<Found<W>>])
-    ensures { All (λ stage. All (IsFound W.version) stage.items) stages.now }
-{
-    for stage in stages {
-        know_files(stage.as_slice());
     }
 }

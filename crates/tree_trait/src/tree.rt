@@ -13,15 +13,15 @@ use crate::stat::StatAnswer;
 use row_types::Truth;
 use std::alloc::Global;
 
-/// The files of a world as they stand outside: the real file system, or a script in memory. Each object
-/// counts its own faults.
+/// The files of a world as they stand outside: the real file system, or a script in memory. Each
+/// object counts its own faults.
 pub trait Tree<W: Truth>: Send + Drop {
     /// Whether the tree tells what it has. It is a fact of the type.
     ghost told: { Bool };
 
-    /// What it shows: the names that are there, where told, and that they never change and none lies under
-    /// another; its questions so far with their answers, where they are told; and how often a call has
-    /// failed, a count that never falls and stands still at 2^64 - 1.
+    /// What it shows: the names that are there, where told, and that they never change and none
+    /// lies under another; its questions so far with their answers, where they are told; and how
+    /// often a call has failed, a count that never falls and stands still at 2^64 - 1.
     ghost shows: { Self → ShownTree };
 
     /// Reads the regular file at a path, if it has no more bytes than the limit.
