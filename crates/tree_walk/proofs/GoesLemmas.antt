@@ -87,8 +87,8 @@ call_fault answers more failed OutOfMemory last h = tt
 call_fault answers more failed _ last h = absurd h
 
 -- a list at one of its elements
-pub split_at : {X : Type 0} (xs : List X) (i : ℕ) (x : X) → i < length xs → x ≡ get_or xs i x → xs ≡ take i xs ++ x ∷ drop (i + 1) xs
-split_at xs i x within here = sym (take-append-drop i xs) ∙ ap (λ (r : List _). take i xs ++ r) (drop_more xs i x within ∙ ap (λ z. z ∷ drop (i + 1) xs) (sym here))
+pub split_at : {X : Type 0} (xs : List X) (i : ℕ) {x : X} → i < length xs → x ≡ get_or xs i x → xs ≡ take i xs ++ x ∷ drop (i + 1) xs
+split_at xs i {x} within here = sym (take-append-drop i xs) ∙ ap (λ (r : List _). take i xs ++ r) (drop_more xs i x within ∙ ap (λ z. z ∷ drop (i + 1) xs) (sym here))
 
-pub take_one : {X : Type 0} (xs : List X) (i : ℕ) (x : X) → i < length xs → x ≡ get_or xs i x → take i xs ++ x ∷ [] ≡ take (i + 1) xs
-take_one xs i x within here = ap (λ z. take i xs ++ z ∷ []) here ∙ sym (take_more xs i x within)
+pub take_one : {X : Type 0} (xs : List X) (i : ℕ) {x : X} → i < length xs → x ≡ get_or xs i x → take i xs ++ x ∷ [] ≡ take (i + 1) xs
+take_one xs i {x} within here = ap (λ z. take i xs ++ z ∷ []) here ∙ sym (take_more xs i x within)

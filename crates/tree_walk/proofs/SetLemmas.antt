@@ -67,11 +67,11 @@ has-with_path (y ∷ ys) x p =
     ] refl
 
 -- what each path has, each has with one more that has it
-each_with_path : (P : List ℕ → Type 0) (xs : List (List ℕ)) (x : List ℕ) → AllByRecursion P xs → P x → AllByRecursion P (with_path xs x)
-each_with_path P [] x h k = (k, tt)
-each_with_path P (y ∷ ys) x h k =
+each_with_path : (P : List ℕ → Type 0) (xs : List (List ℕ)) {x : List ℕ} → AllByRecursion P xs → P x → AllByRecursion P (with_path xs x)
+each_with_path P [] h k = (k, tt)
+each_with_path P (y ∷ ys) {x} h k =
     elim (slice_cmp nat_cmp x y) as (λ o. AllByRecursion P (match_ordering o (x ∷ y ∷ ys) (y ∷ ys) (y ∷ with_path ys x)))
-    [ Less ↦ (k, h) | Equal ↦ h | Greater ↦ (h.0, each_with_path P ys x h.1 k) ]
+    [ Less ↦ (k, h) | Equal ↦ h | Greater ↦ (h.0, each_with_path P ys h.1 k) ]
 
 later : (x y : List ℕ) (ys : List (List ℕ)) → slice_cmp nat_cmp x y ≡ Less → AllByRecursion (λ z. slice_cmp nat_cmp y z ≡ Less) ys → AllByRecursion (λ z. slice_cmp nat_cmp x z ≡ Less) ys
 later x y [] e h = tt
@@ -87,7 +87,7 @@ sorted-with_path (y ∷ ys) x h =
       | Equal ↦ λ e. h
       | Greater ↦ λ e.
           let before : slice_cmp nat_cmp y x ≡ Less = nat_list_cmp_total.antisymm y x ∙ ap ordering_reverse e in
-          (each_with_path (λ z. slice_cmp nat_cmp y z ≡ Less) ys x h.0 before, sorted-with_path ys x h.1)
+          (each_with_path (λ z. slice_cmp nat_cmp y z ≡ Less) ys h.0 before, sorted-with_path ys x h.1)
     ] refl
 
 -- the paths of files with one more

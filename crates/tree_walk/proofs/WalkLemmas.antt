@@ -19,7 +19,7 @@ use Rattle.tree_walk.proofs.PresentLemmas.{files_are}
 pub walk_ended : {answers : List Heard} {roots : List (List ℕ)} {search : SearchFacts} (result : Result Walk WalkFault) → IsUnderway answers roots search [] [] → search.todo ≡ []
     → IfOk result (λ walk. walk.listing ≡ found_names search.files) → IfOk result (λ walk. walk.skipped ≡ summed search.skipped (length search.long)) → IfErr result (λ fault. fault ≡ OutOfMemory)
     → MatchResult result (IsWhole answers roots) (IsCause answers roots)
-walk_ended {answers} {roots} {search} (Ok walk) u empty listing skipped memory = whole_is answers roots search walk u empty listing skipped
+walk_ended {answers} {roots} {search} (Ok walk) u empty listing skipped memory = whole_is walk u empty listing skipped
 walk_ended {answers} {roots} (Err fault) u empty listing skipped memory = subst (IsCause answers roots) (sym memory) tt
 
 -- the listing of a tree that is told and still

@@ -12,7 +12,7 @@ returns-in_err-enter-clause-goes g c = λ answers roots entered.
     let i : ℕ = c.loop-entry.entry-index in
     let within : i < length entries = omega arith in
     goes_then_up c.from_residual.ensures.1 (c.loop-entry.invariant.goes answers roots entered) c.loop-entry.invariant.hands.still
-    (λ more u. c.in_err-enter.ensures.goes (answers ++ more) roots (drop (i + 1) entries) (next_from more i c.entry-item.result entered within c.entry-item.is u))
+    (λ more u. c.in_err-enter.ensures.goes (answers ++ more) roots (drop (i + 1) entries) (next_from more i entered within c.entry-item.is u))
 
 pub loop-entry-preserved : goal.loop-entry-preserved
 loop-entry-preserved g c =
@@ -24,7 +24,7 @@ loop-entry-preserved g c =
     record {
       goes = λ answers roots entered.
           goes_then (c.loop-entry.invariant.goes answers roots entered) c.loop-entry.invariant.hands.still
-          (λ more u. c.in_ok-enter.ensures.goes (answers ++ more) roots (drop (i + 1) entries) (next_from more i c.entry-item.result entered within c.entry-item.is u))
+          (λ more u. c.in_ok-enter.ensures.goes (answers ++ more) roots (drop (i + 1) entries) (next_from more i entered within c.entry-item.is u))
           (λ heard u. u);
       left = c.in_ok-enter.ensures.ends.0 ∙ c.loop-entry.invariant.left;
       todo = omega (arith, had, more);

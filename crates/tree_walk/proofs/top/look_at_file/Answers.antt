@@ -17,7 +17,7 @@ pub returns-in_err-answer-clause-goes : goal.returns-in_err-answer-clause-goes
 returns-in_err-answer-clause-goes g c = λ answers roots folder entry rest is n.
     goes_up c.from_residual.ensures.1 c.in_err-answer.ensures.goes
     (λ more h. call_fault answers more (stat c.args.path Failed) c.in_err-answer.field-0.0
-    (look_last answers roots c.args.search.now folder _ c.args.path Failed (λ last. has_failed last ≡ true) n.next.underway (file_candidate is n) n.kept refl) h)
+    (look_last Failed (λ last. has_failed last ≡ true) n.next.underway (file_candidate is n) n.kept refl) h)
 
 pub returns-clause-goes : goal.returns-clause-goes
 returns-clause-goes g c = λ answers roots folder entry rest is n.

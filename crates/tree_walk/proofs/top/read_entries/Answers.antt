@@ -14,7 +14,7 @@ pub returns-in_err-content-clause-goes : goal.returns-in_err-content-clause-goes
 returns-in_err-content-clause-goes g c = λ answers roots u.
     goes_up c.from_residual.ensures.1 c.in_err-content.ensures.goes
     (λ more h. call_fault answers more (read_dir c.args.folder.now dir_failed) c.in_err-content.field-0.0
-    (read_last answers roots c.args.search.now c.args.folder.now dir_failed (λ last. has_failed last ≡ true) u refl) h)
+    (read_last c.args.search.now c.args.folder.now dir_failed (λ last. has_failed last ≡ true) u refl) h)
 
 pub returns-then-pay-clause-goes : goal.returns-then-pay-clause-goes
 returns-then-pay-clause-goes g c = λ answers roots u.
@@ -25,7 +25,7 @@ returns-then-pay-clause-goes g c = λ answers roots u.
     let now : c.pay.new.self ≡ paid c.args.search.now (length items) c.in_ok-content.content.skipped =
     c.if-pay.ensures.value ∙ ap (λ (es : List EntryFacts). paid c.args.search.now (length es) c.in_ok-content.content.skipped) c.as_slice.ensures.value in
     subst (λ (s : SearchFacts). IsEntered (answers ++ more) roots s c.args.folder.now items) (sym now)
-    (read_into answers more roots c.args.search.now c.args.folder.now items c.in_ok-content.content.skipped u h fits))
+    (read_into c.args.search.now u h fits))
 
 pub returns-else-pay-clause-goes : goal.returns-else-pay-clause-goes
 returns-else-pay-clause-goes g c = λ answers roots u.
@@ -36,4 +36,4 @@ returns-else-pay-clause-goes g c = λ answers roots u.
       | inl lt ↦ lt
       | inr le ↦ absurd (false≢true (sym c.if-pay.false ∙ c.pay.ensures.room.1 (subst (λ (es : List EntryFacts). length es ≤ c.args.search.now.left) (sym c.as_slice.ensures.value) le)))
     ] in
-    read_over answers more roots c.args.search.now c.args.folder.now items c.in_ok-content.content.skipped u h over)
+    read_over c.args.search.now u h over)

@@ -11,4 +11,4 @@ pub returns-clause-goes : goal.returns-clause-goes
 returns-clause-goes g c = λ answers roots u.
     goes_then (c.in_ok-entries.ensures.goes answers roots u) c.in_ok-entries.ensures.hands.still
     (λ more e. c.enter_all.ensures.goes (answers ++ more) roots (subst (λ (es : List EntryFacts). IsEntered (answers ++ more) roots c.read_entries.new.search c.args.folder.now es) (sym c.as_slice.ensures.value) e))
-    (λ heard h. MatchResult-weaker c.enter_all.result h (λ _ w. all_seen heard roots c.enter_all.new.search c.args.folder.now w) (λ fault k. k))
+    (λ heard h. MatchResult-weaker c.enter_all.result h (λ _ w. all_seen w) (λ fault k. k))
