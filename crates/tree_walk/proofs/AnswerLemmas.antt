@@ -1,5 +1,5 @@
 -- The first answers, with one more answer.
-use Rattle.std.proofs.Common.{◌≡◌, ℕ, ◌+◌, ◌<◌, ◌&&◌, Bool, true, false, not, cond, List, [], ◌∷◌, ◌++◌, Option, Some, None, is_some, IsSome, Contains, refl, sym, ◌∙◌, ap, subst, arith, add-zero}
+use Rattle.std.proofs.Common.{◌≡◌, ℕ, ◌+◌, ◌<◌, ◌&&◌, Bool, true, false, cond, List, [], ◌∷◌, ◌++◌, Option, Some, None, is_some, IsSome, Contains, refl, sym, ◌∙◌, ap, subst, arith, add-zero}
 use Rattle.std.specs.Prelude.{if◌then◌else◌}
 use Rattle.std.specs.List.{list_all}
 use Rattle.std.specs.Option.{option_or}
@@ -13,7 +13,7 @@ use Rattle.tree_trait.specs.Dir.{DirFacts}
 use Rattle.tree_trait.specs.Entry.{EntryFacts, has_entry}
 use Rattle.tree_trait.specs.Heard.{Heard, load, stat, read_dir}
 use Rattle.tree_trait.specs.declared.stat.StatAnswer.{StatAnswer}
-use Rattle.tree_walk.specs.Answers.{is_look_answer, is_dir_answer, look_at, reading_of, first_some, first_look, first_reading, entries_of, entries_in, reads, times_read, has_failed}
+use Rattle.tree_walk.specs.Answers.{is_look_answer, is_dir_answer, look_at, reading_of, first_some, first_look, first_reading, entries_of, entries_in, reads, times_read, is_answered}
 use Rattle.tree_walk.proofs.SetLemmas.{same, same-Decides}
 
 -- one, where a test passes
@@ -42,21 +42,21 @@ first_some-append f [] ys = refl
 first_some-append f (x ∷ xs) ys = ap (option_or (f x)) (first_some-append f xs ys) ∙ or_assoc (f x) (first_some f xs) (first_some f ys)
 
 -- what is given first is given by some element
-pub place_of_first : {X Y : Type 0} (f : X → Option Y) (xs : List X) (y : Y) → first_some f xs ≡ Some y → (x : X) × Contains xs x × (f x ≡ Some y)
-place_of_first f [] y h = absurd (none-some y h)
-place_of_first {X} {Y} f (x ∷ xs) y h =
+pub place_of_first : {X Y : Type 0} (f : X → Option Y) (xs : List X) {y : Y} → first_some f xs ≡ Some y → (x : X) × Contains xs x × (f x ≡ Some y)
+place_of_first f [] {y} h = absurd (none-some y h)
+place_of_first {X} {Y} f (x ∷ xs) {y} h =
     elim (f x) as (λ o. f x ≡ o → option_or o (first_some f xs) ≡ Some y → (z : X) × Contains (x ∷ xs) z × (f z ≡ Some y)) [
-      | None ↦ λ e found. let deeper = place_of_first f xs y found in (deeper.0, Contains-append_right (x ∷ []) xs deeper.0 deeper.1, deeper.2)
+      | None ↦ λ e found. let deeper = place_of_first f xs found in (deeper.0, Contains-append_right (x ∷ []) xs deeper.0 deeper.1, deeper.2)
       | Some w ↦ λ e found. (x, (0, omega arith, refl), e ∙ found)
     ] refl h
 
 -- later answers change no first answer
-pub look_stays : (answers more : List Heard) (path : List ℕ) (answer : StatAnswer) → first_look answers path ≡ Some answer → first_look (answers ++ more) path ≡ Some answer
-look_stays answers more path answer h =
+pub look_stays : (answers more : List Heard) (path : List ℕ) {answer : StatAnswer} → first_look answers path ≡ Some answer → first_look (answers ++ more) path ≡ Some answer
+look_stays answers more path h =
     first_some-append (look_at path) answers more ∙ ap (λ (o : Option StatAnswer). option_or o (first_some (look_at path) more)) h
 
-pub reading_stays : (answers more : List Heard) (path : List ℕ) (answer : DirFacts) → first_reading answers path ≡ Some answer → first_reading (answers ++ more) path ≡ Some answer
-reading_stays answers more path answer h =
+pub reading_stays : (answers more : List Heard) (path : List ℕ) {answer : DirFacts} → first_reading answers path ≡ Some answer → first_reading (answers ++ more) path ≡ Some answer
+reading_stays answers more path h =
     first_some-append (reading_of path) answers more ∙ ap (λ (o : Option DirFacts). option_or o (first_some (reading_of path) more)) h
 
 pub looked_stays : (answers more : List Heard) (path : List ℕ) → IsSome (first_look answers path) → IsSome (first_look (answers ++ more) path)
@@ -68,12 +68,12 @@ pub entries_stay : (answers more : List Heard) (folder : List ℕ) (entry : Entr
 entries_stay answers more folder entry h =
     elim (first_reading answers folder) as (λ o. first_reading answers folder ≡ o → has_entry (entries_of o) entry ≡ true → has_entry (entries_in (answers ++ more) folder) entry ≡ true) [
       | None ↦ λ e t. absurd (false≢true t)
-      | Some d ↦ λ e t. subst (λ (o : Option DirFacts). has_entry (entries_of o) entry ≡ true) (sym (reading_stays answers more folder d e)) t
+      | Some d ↦ λ e t. subst (λ (o : Option DirFacts). has_entry (entries_of o) entry ≡ true) (sym (reading_stays answers more folder e)) t
     ] refl h
 
 -- one more answer, at a path that had none
-after_first : {Y : Type 0} (f : List ℕ → Heard → Option Y) (good : Bool) (answers : List Heard) (last : Heard) (path : List ℕ) (answer : Y) → good ≡ true → first_some (f path) answers ≡ None → ((p : List ℕ) → f p last ≡ (if bytes_eq path p && good then Some answer else None)) → (p : List ℕ) → first_some (f p) (answers ++ last ∷ []) ≡ cond (same p path) (Some answer) (first_some (f p) answers)
-after_first {Y} f good answers last path answer ok fresh says p =
+after_first : {Y : Type 0} (f : List ℕ → Heard → Option Y) {good : Bool} (answers : List Heard) (last : Heard) (path : List ℕ) (answer : Y) → good ≡ true → first_some (f path) answers ≡ None → ((p : List ℕ) → f p last ≡ (if bytes_eq path p && good then Some answer else None)) → (p : List ℕ) → first_some (f p) (answers ++ last ∷ []) ≡ cond (same p path) (Some answer) (first_some (f p) answers)
+after_first {Y} f {good} answers last path answer ok fresh says p =
     first_some-append (f p) answers (last ∷ [])
     ∙ ap (λ (o : Option Y). option_or (first_some (f p) answers) (option_or o None)) (says p)
     ∙ elim (same p path) as (λ v. same p path ≡ v → option_or (first_some (f p) answers) (option_or (if bytes_eq path p && good then Some answer else None) None) ≡ cond v (Some answer) (first_some (f p) answers)) [
@@ -91,11 +91,11 @@ after_first {Y} f good answers last path answer ok fresh says p =
 
 -- one more look, at a path that wasn't looked at
 pub after_look : (answers : List Heard) (path : List ℕ) (answer : StatAnswer) → is_look_answer answer ≡ true → first_look answers path ≡ None → (p : List ℕ) → first_look (answers ++ stat path answer ∷ []) p ≡ cond (same p path) (Some answer) (first_look answers p)
-after_look answers path answer ok fresh p = after_first look_at (is_look_answer answer) answers (stat path answer) path answer ok fresh (λ q. refl) p
+after_look answers path answer ok fresh p = after_first look_at answers (stat path answer) path answer ok fresh (λ q. refl) p
 
 -- one more look, at a path that was looked at before
-pub look_again : (answers : List Heard) (path : List ℕ) (answer known : StatAnswer) → first_look answers path ≡ Some known → (p : List ℕ) → first_look (answers ++ stat path answer ∷ []) p ≡ first_look answers p
-look_again answers path answer known before p =
+pub look_again : (answers : List Heard) (path : List ℕ) (answer : StatAnswer) {known : StatAnswer} → first_look answers path ≡ Some known → (p : List ℕ) → first_look (answers ++ stat path answer ∷ []) p ≡ first_look answers p
+look_again answers path answer {known} before p =
     first_some-append (look_at p) answers (stat path answer ∷ [])
     ∙ elim (bytes_eq path p) as (λ v. bytes_eq path p ≡ v → option_or (first_look answers p) (option_or (if v && is_look_answer answer then Some answer else None) None) ≡ first_look answers p) [
       | true ↦ λ e.
@@ -106,7 +106,7 @@ look_again answers path answer known before p =
 
 -- one more reading, of a folder that wasn't read
 pub after_reading : (answers : List Heard) (path : List ℕ) (answer : DirFacts) → is_dir_answer answer ≡ true → first_reading answers path ≡ None → (p : List ℕ) → first_reading (answers ++ read_dir path answer ∷ []) p ≡ cond (same p path) (Some answer) (first_reading answers p)
-after_reading answers path answer ok fresh p = after_first reading_of (is_dir_answer answer) answers (read_dir path answer) path answer ok fresh (λ q. refl) p
+after_reading answers path answer ok fresh p = after_first reading_of answers (read_dir path answer) path answer ok fresh (λ q. refl) p
 
 -- a look is no reading, and a reading no look
 pub reading_past_look : (answers : List Heard) (path : List ℕ) (answer : StatAnswer) (p : List ℕ) → first_reading (answers ++ stat path answer ∷ []) p ≡ first_reading answers p
@@ -135,43 +135,38 @@ unread (x ∷ answers) p h =
       | false ↦ λ e z. ap (λ (o : Option DirFacts). option_or o (first_reading answers p)) (no_reading p x e) ∙ unread answers p (omega (arith, z))
     ] refl (sym (sum_by-cons (λ (y : Heard). one_if (reads p y)) x answers) ∙ h)
 
--- a folder that was asked has one, where no call failed
-undone : (b : Bool) → not (not b) ≡ true → b ≡ true
-undone true h = refl
-undone false h = h
-
-reading_there : (p : List ℕ) (h : Heard) → reads p h ≡ true → not (has_failed h) ≡ true → IsSome (reading_of p h)
-reading_there p (load asked limit answer) e ok = absurd (false≢true e)
-reading_there p (stat asked answer) e ok = absurd (false≢true e)
+-- a folder that was asked has one, where each call was answered
+reading_there : (p : List ℕ) (h : Heard) → reads p h ≡ true → is_answered h ≡ true → IsSome (reading_of p h)
 reading_there p (read_dir asked answer) e ok =
-    ap (λ (b : Bool). is_some (if b then Some answer else None)) (and_from (bytes_eq asked p) (is_dir_answer answer) e (undone (is_dir_answer answer) ok))
+    ap (λ (b : Bool). is_some (if b then Some answer else None)) (and_from (bytes_eq asked p) (is_dir_answer answer) e ok)
+reading_there p _ e ok = absurd (false≢true e)
 
-pub was_read : (answers : List Heard) (p : List ℕ) → list_all (λ h. not (has_failed h)) answers ≡ true → 0 < times_read answers p → IsSome (first_reading answers p)
+pub was_read : (answers : List Heard) (p : List ℕ) → list_all is_answered answers ≡ true → 0 < times_read answers p → IsSome (first_reading answers p)
 was_read [] p h some = absurd (omega (arith, some))
 was_read (x ∷ answers) p h some =
     elim (reads p x) as (λ v. reads p x ≡ v → IsSome (first_reading (x ∷ answers) p)) [
-      | true ↦ λ e. some_or (reading_of p x) (first_reading answers p) (reading_there p x e (and_parts (not (has_failed x)) _ h).0)
+      | true ↦ λ e. some_or (reading_of p x) (first_reading answers p) (reading_there p x e (and_parts (is_answered x) _ h).0)
       | false ↦ λ e.
           let all : times_read (x ∷ answers) p ≡ one_if (reads p x) + times_read answers p = sum_by-cons (λ (y : Heard). one_if (reads p y)) x answers in
           let none : one_if (reads p x) ≡ 0 = ap (λ (b : Bool). one_if b) e in
-          or_some (reading_of p x) (first_reading answers p) (was_read answers p (and_parts (not (has_failed x)) _ h).1 (omega (arith, some, all, none)))
+          or_some (reading_of p x) (first_reading answers p) (was_read answers p (and_parts (is_answered x) _ h).1 (omega (arith, some, all, none)))
     ] refl
 
 -- what a look that was answered says, it was answered at that path
-pub look_says : (p : List ℕ) (h : Heard) (answer : StatAnswer) → look_at p h ≡ Some answer → (h ≡ stat p answer) × (is_look_answer answer ≡ true)
-look_says p (load asked limit other) answer e = absurd (none-some answer e)
-look_says p (stat asked other) answer e =
+pub look_says : (p : List ℕ) (h : Heard) {answer : StatAnswer} → look_at p h ≡ Some answer → (h ≡ stat p answer) × (is_look_answer answer ≡ true)
+look_says p (load asked limit other) {answer} e = absurd (none-some answer e)
+look_says p (stat asked other) {answer} e =
     let parts = cond_some (bytes_eq asked p && is_look_answer other) other answer e in
     let both = and_parts (bytes_eq asked p) (is_look_answer other) parts.0 in (
       ap (λ (q : List ℕ). stat q other) ((bytes_eq-Decides asked p).0 both.0) ∙ ap (λ (a : StatAnswer). stat p a) parts.1,
       ap is_look_answer (sym parts.1) ∙ both.1,
     )
-look_says p (read_dir asked other) answer e = absurd (none-some answer e)
+look_says p (read_dir asked other) {answer} e = absurd (none-some answer e)
 
-pub reading_says : (p : List ℕ) (h : Heard) (answer : DirFacts) → reading_of p h ≡ Some answer → (h ≡ read_dir p answer) × (is_dir_answer answer ≡ true)
-reading_says p (load asked limit other) answer e = absurd (none-some answer e)
-reading_says p (stat asked said) answer e = absurd (none-some answer e)
-reading_says p (read_dir asked other) answer e =
+pub reading_says : (p : List ℕ) (h : Heard) {answer : DirFacts} → reading_of p h ≡ Some answer → (h ≡ read_dir p answer) × (is_dir_answer answer ≡ true)
+reading_says p (load asked limit other) {answer} e = absurd (none-some answer e)
+reading_says p (stat asked said) {answer} e = absurd (none-some answer e)
+reading_says p (read_dir asked other) {answer} e =
     let parts = cond_some (bytes_eq asked p && is_dir_answer other) other answer e in
     let both = and_parts (bytes_eq asked p) (is_dir_answer other) parts.0 in (
       ap (λ (q : List ℕ). read_dir q other) ((bytes_eq-Decides asked p).0 both.0) ∙ ap (λ (d : DirFacts). read_dir p d) parts.1,

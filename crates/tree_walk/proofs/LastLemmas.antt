@@ -26,12 +26,12 @@ looks_next (p ∷ paths) after [] path answer e = absurd (omega (arith, e))
 looks_next (p ∷ paths) after (a ∷ given) path answer e = ap (λ t. stat p a ∷ t) (looks_next paths after given path answer (omega (arith, e)))
 
 -- a root is among the roots
-pub root_among : (roots seen after : List (List ℕ)) (path : List ℕ) → roots ≡ seen ++ path ∷ after → Contains roots path
-root_among roots seen after path split = subst (λ (rs : List (List ℕ)). Contains rs path) (sym split) (Contains-append_right seen (path ∷ after) path (0, omega arith, refl))
+pub root_among : {roots : List (List ℕ)} (seen after : List (List ℕ)) (path : List ℕ) → roots ≡ seen ++ path ∷ after → Contains roots path
+root_among seen after path split = subst (λ (rs : List (List ℕ)). Contains rs path) (sym split) (Contains-append_right seen (path ∷ after) path (0, omega arith, refl))
 
 -- what began with the roots still does
-pub begins_more : (answers more : List Heard) (roots : List (List ℕ)) → BeginsWithRoots answers roots → BeginsWithRoots (answers ++ more) roots
-begins_more answers more roots b = record {
+pub begins_more : {answers : List Heard} (more : List Heard) {roots : List (List ℕ)} → BeginsWithRoots answers roots → BeginsWithRoots (answers ++ more) roots
+begins_more more b = record {
   given = b.given;
   rest = b.rest ++ more;
   each = b.each;
@@ -40,8 +40,8 @@ begins_more answers more roots b = record {
 }
 
 -- with a look that was due, whatever it answers, only what was due was asked, and no folder twice
-look_asked : (answers : List Heard) (roots : List (List ℕ)) (search : SearchFacts) (folder : List ℕ) (rest : List EntryFacts) (path : List ℕ) (answer : StatAnswer) → IsSearch answers roots search folder rest → IsCandidate answers roots path → IsCanonPath path → AsksDue (answers ++ stat path answer ∷ []) roots
-look_asked answers roots search folder rest path answer s candidate kept =
+look_asked : {answers : List Heard} {roots : List (List ℕ)} {search : SearchFacts} {folder : List ℕ} {rest : List EntryFacts} {path : List ℕ} (answer : StatAnswer) → IsSearch answers roots search folder rest → IsCandidate answers roots path → IsCanonPath path → AsksDue (answers ++ stat path answer ∷ []) roots
+look_asked {answers} {roots} {search} {path} answer s candidate kept =
     let more : List Heard = stat path answer ∷ [] in
     record {
       due = All-push (IsDue (answers ++ more) roots) answers (stat path answer) (All-weaker (IsDue answers roots) (IsDue (answers ++ more) roots) (due_more answers more roots) answers s.due) (candidate_more answers more roots path candidate, kept);
@@ -53,42 +53,42 @@ look_asked answers roots search folder rest path answer s candidate kept =
     }
 
 -- a look at the next root
-pub root_last : (answers : List Heard) (roots seen after : List (List ℕ)) (search : SearchFacts) (path : List ℕ) (answer : StatAnswer) (Stops : Heard → Type 0) → IsBeginning answers roots seen search → roots ≡ seen ++ path ∷ after → IsCanonPath path → Stops (stat path answer)
+pub root_last : {answers : List Heard} {roots seen : List (List ℕ)} (after : List (List ℕ)) {search : SearchFacts} {path : List ℕ} (answer : StatAnswer) (Stops : Heard → Type 0) → IsBeginning answers roots seen search → roots ≡ seen ++ path ∷ after → IsCanonPath path → Stops (stat path answer)
     → StopsAtLast (answers ++ stat path answer ∷ []) roots Stops
-root_last answers roots seen after search path answer Stops b split kept stops = record {
+root_last {answers} {roots} {seen} after {search} {path} answer Stops b split kept stops = record {
   first = inr (
     b.given ++ answer ∷ [],
     ap (λ (h : List Heard). h ++ stat path answer ∷ []) b.first ∙ sym (looks_next seen after b.given path answer b.each) ∙ ap (λ (rs : List (List ℕ)). looks rs (b.given ++ answer ∷ [])) (sym split),
   );
-  asked = look_asked answers roots search [] [] path answer b.search_is (inl (root_among roots seen after path split)) kept;
+  asked = look_asked answer b.search_is (inl (root_among seen after path split)) kept;
   earlier = answers;
   last = stat path answer;
   split = refl;
-  room = room_is answers roots search [] [] b.search_is b.few;
+  room = room_is b.search_is b.few;
   stops = stops;
 }
 
 -- a look at a file
-pub look_last : (answers : List Heard) (roots : List (List ℕ)) (search : SearchFacts) (folder : List ℕ) (rest : List EntryFacts) (path : List ℕ) (answer : StatAnswer) (Stops : Heard → Type 0) → IsUnderway answers roots search folder rest → IsCandidate answers roots path → IsCanonPath path → Stops (stat path answer)
+pub look_last : {answers : List Heard} {roots : List (List ℕ)} {search : SearchFacts} {folder : List ℕ} {rest : List EntryFacts} {path : List ℕ} (answer : StatAnswer) (Stops : Heard → Type 0) → IsUnderway answers roots search folder rest → IsCandidate answers roots path → IsCanonPath path → Stops (stat path answer)
     → StopsAtLast (answers ++ stat path answer ∷ []) roots Stops
-look_last answers roots search folder rest path answer Stops u candidate kept stops = record {
-  first = inl (begins_more answers (stat path answer ∷ []) roots u.first);
-  asked = look_asked answers roots search folder rest path answer u.search_is candidate kept;
+look_last {answers} {roots} {search} {folder} {rest} {path} answer Stops u candidate kept stops = record {
+  first = inl (begins_more (stat path answer ∷ []) u.first);
+  asked = look_asked answer u.search_is candidate kept;
   earlier = answers;
   last = stat path answer;
   split = refl;
-  room = room_is answers roots search folder rest u.search_is u.few;
+  room = room_is u.search_is u.few;
   stops = stops;
 }
 
 -- the reading of the next folder
-pub read_last : (answers : List Heard) (roots : List (List ℕ)) (search : SearchFacts) (path : List ℕ) (answer : DirFacts) (Stops : Heard → Type 0) → IsUnderway answers roots (with_last search path) [] [] → Stops (read_dir path answer) → StopsAtLast (answers ++ read_dir path answer ∷ []) roots Stops
-read_last answers roots search path answer Stops u stops = record {
-  first = inl (begins_more answers (read_dir path answer ∷ []) roots u.first);
-  asked = asks_due answers roots search path answer u.search_is;
+pub read_last : {answers : List Heard} {roots : List (List ℕ)} (search : SearchFacts) (path : List ℕ) (answer : DirFacts) (Stops : Heard → Type 0) → IsUnderway answers roots (with_last search path) [] [] → Stops (read_dir path answer) → StopsAtLast (answers ++ read_dir path answer ∷ []) roots Stops
+read_last {answers} {roots} search path answer Stops u stops = record {
+  first = inl (begins_more (read_dir path answer ∷ []) u.first);
+  asked = asks_due search path answer u.search_is;
   earlier = answers;
   last = read_dir path answer;
   split = refl;
-  room = room_is answers roots (with_last search path) [] [] u.search_is u.few;
+  room = room_is u.search_is u.few;
   stops = stops;
 }

@@ -1,5 +1,5 @@
 -- What the faults of a walk say of the files that are there.
-use Rattle.std.proofs.Common.{◌≡◌, ℕ, ◌+◌, ◌≤◌, ◌<◌, inl, inr, Bool, true, false, not, List, [], ◌∷◌, ◌++◌, length, map, Option, Result, Err, All, Contains, refl, sym, ap, subst, arith}
+use Rattle.std.proofs.Common.{◌≡◌, ℕ, ◌+◌, ◌≤◌, ◌<◌, inl, inr, Bool, true, false, not, List, [], ◌∷◌, ◌++◌, length, map, Result, Ok, Err, IfErr, IsTrue, All, Contains, refl, sym, ap, subst, arith}
 use Rattle.std.specs.Prelude.{sum_by, count_by}
 use Rattle.std.specs.List.{list_any}
 use Rattle.std.specs.Str.{bytes_eq}
@@ -8,13 +8,15 @@ use Rattle.std.proofs.lemmas.List.Elements.{All-contains, All-cons, All-head, Al
 use Rattle.std.proofs.lemmas.List.Sums.{sum_by_push, sum_by-cons}
 use Rattle.std.proofs.lemmas.Slice.Eq.{bytes_eq-Decides}
 use Rattle.row_types.specs.Name.{NameFacts}
+use Rattle.tree_trait.specs.Asks.{IsTold}
 use Rattle.tree_trait.specs.Dir.{DirFacts, listed, no_dir, dir_failed, dir_no_memory}
 use Rattle.tree_trait.specs.Heard.{Heard, load, stat, read_dir}
 use Rattle.tree_trait.specs.Present.{are_distinct}
+use Rattle.tree_trait.specs.Shown.{ShownTree}
 use Rattle.tree_trait.specs.declared.stat.StatAnswer.TheVariants.{Gone}
 use Rattle.tree_walk.specs.Answers.{entry_count, entries_read, reads, times_read, looks}
-use Rattle.tree_walk.specs.Ends.{IsCause, IsEnd, IsRootGone, IsTooMany, IsTooManyEntries, Walks}
-use Rattle.tree_walk.specs.Files.{FolderFacts, FitsFault, HasManyEntries, HasManyFiles, IsFileUnder, IsFolderUnder, IsTold}
+use Rattle.tree_walk.specs.Ends.{IsCause, IsRootGone, IsTooMany, IsTooManyEntries, Walks}
+use Rattle.tree_walk.specs.Files.{FolderFacts, FitsFault, HasManyEntries, HasManyFiles, IsFileUnder, IsFolderUnder}
 use Rattle.tree_walk.specs.Search.{SearchFacts, has, with_last, IsSearch}
 use Rattle.tree_walk.specs.Walked.{AsksDue, IsDue}
 use Rattle.tree_walk.specs.declared.fault.WalkFault.{WalkFault}
@@ -32,11 +34,11 @@ one_at_most true = omega arith
 one_at_most false = omega arith
 
 -- with the reading of the next folder, whatever it answers, only what was due was asked, and no folder twice
-pub asks_due : (answers : List Heard) (roots : List (List ℕ)) (search : SearchFacts) (path : List ℕ) (answer : DirFacts) → IsSearch answers roots (with_last search path) [] [] → AsksDue (answers ++ read_dir path answer ∷ []) roots
-asks_due answers roots search path answer s =
+pub asks_due : {answers : List Heard} {roots : List (List ℕ)} (search : SearchFacts) (path : List ℕ) (answer : DirFacts) → IsSearch answers roots (with_last search path) [] [] → AsksDue (answers ++ read_dir path answer ∷ []) roots
+asks_due {answers} {roots} search path answer s =
     let more : List Heard = read_dir path answer ∷ [] in
     record {
-      due = read_due answers roots search path answer s;
+      due = read_due search path answer s;
       few = λ p.
           let push : count_by (bytes_eq p) (search.todo ++ path ∷ []) ≡ count_by (bytes_eq p) search.todo + one_if (bytes_eq p path) = sum_by_push (λ (q : List ℕ). one_if (bytes_eq p q)) search.todo path in
           let times : times_read (answers ++ more) p ≡ times_read answers p + one_if (bytes_eq path p) = times_after_reading answers path answer p in
@@ -138,7 +140,7 @@ all_distinct (read_dir path answer ∷ rest) few =
 under_with : (present : List NameFacts) (answers : List Heard) (roots : List (List ℕ)) (path : List ℕ) (answer : DirFacts) (folders : List FolderFacts) → IsTold present (read_dir path answer) → IsDue answers roots (read_dir path answer) → All (IsFolderUnder present roots) folders → All (IsFolderUnder present roots) (with_listing path answer folders)
 under_with present answers roots path (listed entries skipped) folders told due h =
     All-cons (IsFolderUnder present roots) (record { path = path; entries = entries }) folders
-    (record { under = reached_within answers roots path (folder_reached answers roots path due.0); short = due.1.short; listing = told.listing }) h
+    (record { under = reached_within (folder_reached answers roots path due.0); short = due.1.short; listing = told.listing }) h
 under_with present answers roots path no_dir folders told due h = h
 under_with present answers roots path dir_failed folders told due h = h
 under_with present answers roots path dir_no_memory folders told due h = h
@@ -152,8 +154,8 @@ all_under present answers roots (read_dir path answer ∷ rest) told due =
     (all_under present answers roots rest (All-tail (IsTold present) (read_dir path answer) rest told) (All-tail (IsDue answers roots) (read_dir path answer) rest due))
 
 -- so the folders that were listed have more entries than a walk reads
-many_entries : (present : List NameFacts) (answers : List Heard) (roots : List (List ℕ)) → All (IsTold present) answers → IsTooManyEntries answers roots → HasManyEntries present roots
-many_entries present answers roots told end = record {
+many_entries : (present : List NameFacts) {answers : List Heard} {roots : List (List ℕ)} → All (IsTold present) answers → IsTooManyEntries answers roots → HasManyEntries present roots
+many_entries present {answers} {roots} told end = record {
   folders = folders_of answers;
   distinct = all_distinct answers end.last.asked.few;
   each = all_under present answers roots answers told end.last.asked.due;
@@ -161,17 +163,17 @@ many_entries present answers roots told end = record {
 }
 
 -- the files that were found are more than a listing has
-many_files : (present : List NameFacts) (answers : List Heard) (roots : List (List ℕ)) → All (IsTold present) answers → IsTooMany answers roots → HasManyFiles present roots
-many_files present answers roots told end = record {
+many_files : (present : List NameFacts) {answers : List Heard} {roots : List (List ℕ)} → All (IsTold present) answers → IsTooMany answers roots → HasManyFiles present roots
+many_files present {answers} {roots} told end = record {
   names = end.names;
   by_path = end.listing.by_path;
-  each = All-weaker (Contains end.names) (IsFileUnder present roots) (λ name c. walked_under present answers roots told name ((end.listing.all name).0 c)) end.names (All-contains_itself end.names);
+  each = All-weaker (Contains end.names) (IsFileUnder present roots) (λ name c. walked_under present told ((end.listing.all name).0 c)) end.names (All-contains_itself end.names);
   many = end.many;
 }
 
 -- nothing is at the root that is gone
-gone_root : (present : List NameFacts) (answers : List Heard) (roots : List (List ℕ)) (path : List ℕ) → All (IsTold present) answers → IsRootGone answers roots path → FitsFault present roots (RootGone path)
-gone_root present answers roots path told gone = (
+gone_root : (present : List NameFacts) {answers : List Heard} {roots : List (List ℕ)} {path : List ℕ} → All (IsTold present) answers → IsRootGone answers roots path → FitsFault present roots (RootGone path)
+gone_root present {answers} {path} told gone = (
   subst (λ (rs : List (List ℕ)). Contains rs path) (sym gone.split) (Contains-append_right gone.before (path ∷ gone.after) path (0, omega arith, refl)),
   All-contains (IsTold present) answers (stat path Gone) told
       (subst (λ (a : List Heard). Contains a (stat path Gone)) (sym gone.heard) (Contains-push (looks gone.before gone.given) (stat path Gone))),
@@ -179,12 +181,12 @@ gone_root present answers roots path told gone = (
 
 cause_fits : (present : List NameFacts) (answers : List Heard) (roots : List (List ℕ)) (fault : WalkFault) → All (IsTold present) answers → IsCause answers roots fault → FitsFault present roots fault
 cause_fits present answers roots Failed told end = tt
-cause_fits present answers roots TooMany told end = many_files present answers roots told end
-cause_fits present answers roots TooManyEntries told end = many_entries present answers roots told end
-cause_fits present answers roots (RootGone path) told end = gone_root present answers roots path told end
+cause_fits present answers roots TooMany told end = many_files present told end
+cause_fits present answers roots TooManyEntries told end = many_entries present told end
+cause_fits present answers roots (RootGone path) told end = gone_root present told end
 cause_fits present answers roots OutOfMemory told end = tt
 
 -- a fault of a tree that is told and still
-pub fault_fits : (before now : Option (List Heard)) (StillTold : Type 0) (present : List NameFacts) (roots : List (List ℕ)) (result : Result Walk WalkFault) → Walks before now StillTold present roots result → StillTold → (fault : WalkFault) → result ≡ Err fault → FitsFault present roots fault
-fault_fits before now StillTold present roots result w still fault e =
-    cause_fits present w.answers roots fault (w.told still) (subst (λ (r : Result Walk WalkFault). IsEnd w.answers roots r) e w.ends)
+pub fault_fits : {told : Bool} {before after : ShownTree} {roots : List (List ℕ)} (result : Result Walk WalkFault) → Walks told before after roots result → IsTrue told → before.Still → IfErr result (FitsFault before.present roots)
+fault_fits (Ok walk) w t s = tt
+fault_fits {told} {before} {after} {roots} (Err fault) w t s = cause_fits before.present w.more roots fault (w.tells t s) w.ends

@@ -88,8 +88,8 @@ within_child root folder name h =
     ]
 
 -- what follows a folder's front lies under the folder
-pub under_from_front : (folder path rest : List ℕ) → path ≡ front_under folder ++ rest → 1 ≤ length rest → lies_under folder path ≡ true
-under_from_front folder path rest e some =
+pub under_from_front : (folder : List ℕ) {path : List ℕ} (rest : List ℕ) → path ≡ front_under folder ++ rest → 1 ≤ length rest → lies_under folder path ≡ true
+under_from_front folder {path} rest e some =
     let begins = front_begins folder in
     let whole : length path ≡ length (front_under folder ++ rest) = ap length e in
     let one : length (front_under folder ++ rest) ≡ length (front_under folder) + length rest = length-append (front_under folder) rest in
@@ -106,27 +106,27 @@ names_of_pieces (p ∷ ps) h n =
     let slash = and_parts (has_no_slash p) (list_all has_no_slash ps) n in
     and_from _ _ (and_from _ _ stay.0 slash.0) (names_of_pieces ps stay.1 slash.1)
 
-stays_after : (tail rest : List ℕ) (path : List ℕ) → has_form path ≡ true → path ≡ front_under (SEPARATOR ∷ tail) ++ rest → bytes_eq path (SEPARATOR ∷ tail) ≡ false → list_all stays (pieces rest) ≡ true
-stays_after [] [] path form e other = absurd (false≢true (sym other ∙ (bytes_eq-Decides path (SEPARATOR ∷ [])).1 e))
-stays_after [] (b ∷ rest) path form e other =
+stays_after : (tail rest : List ℕ) {path : List ℕ} → has_form path ≡ true → path ≡ front_under (SEPARATOR ∷ tail) ++ rest → bytes_eq path (SEPARATOR ∷ tail) ≡ false → list_all stays (pieces rest) ≡ true
+stays_after [] [] {path} form e other = absurd (false≢true (sym other ∙ (bytes_eq-Decides path (SEPARATOR ∷ [])).1 e))
+stays_after [] (b ∷ rest) form e other =
     let whole : has_form (SEPARATOR ∷ (b ∷ rest)) ≡ true = subst (λ (t : List ℕ). has_form t ≡ true) e form in
     whole
-stays_after (c ∷ cs) rest path form e other =
+stays_after (c ∷ cs) rest {path} form e other =
     let front : front_under (SEPARATOR ∷ c ∷ cs) ≡ (SEPARATOR ∷ c ∷ cs) ++ SEPARATOR ∷ [] = front_of_longer (SEPARATOR ∷ c ∷ cs) (omega arith) in
     let whole : path ≡ (SEPARATOR ∷ c ∷ cs) ++ (SEPARATOR ∷ rest) = e ∙ ap (λ (f : List ℕ). f ++ rest) front ∙ append_assoc (SEPARATOR ∷ c ∷ cs) (SEPARATOR ∷ []) rest in
     let stay : list_all stays (pieces (c ∷ (cs ++ SEPARATOR ∷ rest))) ≡ true = subst (λ (t : List ℕ). has_form t ≡ true) whole form in
     (and_parts (list_all stays (pieces (c ∷ cs))) (list_all stays (pieces rest)) (sym (list_all-append stays (pieces (c ∷ cs)) (pieces rest)) ∙ sym (ap (list_all stays) (pieces-append (c ∷ cs) rest)) ∙ stay)).1
 
-names_after_form : (folder path rest : List ℕ) → has_form folder ≡ true → has_form path ≡ true → path ≡ front_under folder ++ rest → bytes_eq path folder ≡ false → list_all is_entry_name (pieces rest) ≡ true
-names_after_form [] path rest h form e other = absurd (false≢true h)
-names_after_form (b ∷ tail) path rest h form e other =
+names_after_form : (folder : List ℕ) {path : List ℕ} (rest : List ℕ) → has_form folder ≡ true → has_form path ≡ true → path ≡ front_under folder ++ rest → bytes_eq path folder ≡ false → list_all is_entry_name (pieces rest) ≡ true
+names_after_form [] rest h form e other = absurd (false≢true h)
+names_after_form (b ∷ tail) {path} rest h form e other =
     let slash : b ≡ SEPARATOR = eqb-true b SEPARATOR (and_parts (b == SEPARATOR) (is_plain_tail tail) h).0 in
     names_of_pieces (pieces rest)
-    (stays_after tail rest path form (subst (λ (z : ℕ). path ≡ front_under (z ∷ tail) ++ rest) slash e) (subst (λ (z : ℕ). bytes_eq path (z ∷ tail) ≡ false) slash other))
+    (stays_after tail rest form (subst (λ (z : ℕ). path ≡ front_under (z ∷ tail) ++ rest) slash e) (subst (λ (z : ℕ). bytes_eq path (z ∷ tail) ≡ false) slash other))
     (pieces_no_slash rest)
 
-pub names_after : (folder path rest : List ℕ) → IsCanonical folder → IsCanonical path → path ≡ front_under folder ++ rest → bytes_eq path folder ≡ false → list_all is_entry_name (pieces rest) ≡ true
-names_after folder path rest h k e other = names_after_form folder path rest (form_of_canon folder h) (form_of_canon path k) e other
+pub names_after : (folder : List ℕ) {path : List ℕ} (rest : List ℕ) → IsCanonical folder → IsCanonical path → path ≡ front_under folder ++ rest → bytes_eq path folder ≡ false → list_all is_entry_name (pieces rest) ≡ true
+names_after folder {path} rest h k e other = names_after_form folder rest (form_of_canon folder h) (form_of_canon path k) e other
 
 -- a path of an entry that isn't kept is too long
 pub too_long : (folder name : List ℕ) (limit : ℕ) → IsCanonical (child folder name) → ((length (child folder name) ≤ limit) → ⊥) → limit < length (child folder name)

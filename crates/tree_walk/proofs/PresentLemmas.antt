@@ -29,7 +29,10 @@ use Rattle.tree_trait.proofs.FolderLemmas.{front_of_child, name_long, starts_res
 use Rattle.tree_walk.specs.Answers.{is_look_answer, is_dir_answer, look_at, reading_of, first_look, first_reading, entries_of, entries_in}
 use Rattle.tree_walk.specs.Ends.{IsWhole}
 use Rattle.row_types.specs.Under.{is_within}
-use Rattle.tree_walk.specs.Files.{IsFileUnder, AreFilesUnder, IsTold}
+use Rattle.tree_trait.specs.Asks.{IsTold}
+use Rattle.tree_trait.specs.Found.{Versions}
+use Rattle.tree_trait.specs.Shown.{ShownTree, IsPresence}
+use Rattle.tree_walk.specs.Files.{IsFileUnder, AreFilesUnder}
 use Rattle.tree_walk.specs.Walked.{IsNamed, IsReached, root, entry, IsEntry, IsFolder, IsCandidate, IsWalked, IsFull}
 use Rattle.tree_walk.specs.declared.walked.Walk.{Walk}
 use Rattle.tree_walk.proofs.AnswerLemmas.{place_of_first, look_says, reading_says}
@@ -65,15 +68,15 @@ path_there names name c = (
 )
 
 -- the file at a path
-pub file_found : (names : List NameFacts) (path : List ℕ) (stamp : StampFacts) → stamp_at names path ≡ Some stamp → Contains names (record { path = path; stamp = stamp })
-file_found [] path stamp h = absurd (none-some stamp h)
-file_found (n ∷ names) path stamp h =
+pub file_found : (names : List NameFacts) (path : List ℕ) {stamp : StampFacts} → stamp_at names path ≡ Some stamp → Contains names (record { path = path; stamp = stamp })
+file_found [] path {stamp} h = absurd (none-some stamp h)
+file_found (n ∷ names) path {stamp} h =
     elim (bytes_eq n.path path) as (λ v. bytes_eq n.path path ≡ v → option_map (λ (m : NameFacts). m.stamp) (cond v (Some n) (find (λ m. bytes_eq m.path path) names)) ≡ Some stamp → Contains (n ∷ names) (record { path = path; stamp = stamp })) [
       | true ↦ λ e t.
           let same : n ≡ record { path = path; stamp = stamp } =
           ap (λ (p : List ℕ). record { path = p; stamp = n.stamp }) ((bytes_eq-Decides n.path path).0 e) ∙ ap (λ (s : StampFacts). record { path = path; stamp = s }) (same_Some n.stamp stamp t) in
           (0, omega arith, same)
-      | false ↦ λ e t. Contains-append_right (n ∷ []) names (record { path = path; stamp = stamp }) (file_found names path stamp t)
+      | false ↦ λ e t. Contains-append_right (n ∷ []) names (record { path = path; stamp = stamp }) (file_found names path t)
     ] refl h
 
 pub file_stamp : (names : List NameFacts) (name : NameFacts) → are_distinct (map (λ n. n.path) names) ≡ true → Contains names name → stamp_at names name.path ≡ Some name.stamp
@@ -94,37 +97,37 @@ file_stamp (n ∷ names) name distinct c =
     ]
 
 -- what the answers say of the tree
-told_look : (present : List NameFacts) (answers : List Heard) → All (IsTold present) answers → (path : List ℕ) (answer : StatAnswer) → first_look answers path ≡ Some answer → TellsStat present path answer × (is_look_answer answer ≡ true)
-told_look present answers told path answer h =
-    let at = place_of_first (look_at path) answers answer h in
-    let says = look_says path at.0 answer at.2 in
+told_look : (present : List NameFacts) (answers : List Heard) → All (IsTold present) answers → (path : List ℕ) {answer : StatAnswer} → first_look answers path ≡ Some answer → TellsStat present path answer × (is_look_answer answer ≡ true)
+told_look present answers told path {answer} h =
+    let at = place_of_first (look_at path) answers h in
+    let says = look_says path at.0 at.2 in
     (subst (IsTold present) says.0 (All-contains (IsTold present) answers at.0 told at.1), says.1)
 
-told_reading : (present : List NameFacts) (answers : List Heard) → All (IsTold present) answers → (path : List ℕ) (answer : DirFacts) → first_reading answers path ≡ Some answer → TellsDir present path answer × (is_dir_answer answer ≡ true)
-told_reading present answers told path answer h =
-    let at = place_of_first (reading_of path) answers answer h in
-    let says = reading_says path at.0 answer at.2 in
+told_reading : (present : List NameFacts) (answers : List Heard) → All (IsTold present) answers → (path : List ℕ) {answer : DirFacts} → first_reading answers path ≡ Some answer → TellsDir present path answer × (is_dir_answer answer ≡ true)
+told_reading present answers told path {answer} h =
+    let at = place_of_first (reading_of path) answers h in
+    let says = reading_says path at.0 at.2 in
     (subst (IsTold present) says.0 (All-contains (IsTold present) answers at.0 told at.1), says.1)
 
 -- a look at a file finds it
-look_finds : (present : List NameFacts) (path : List ℕ) (stamp : StampFacts) (answer : StatAnswer) → stamp_at present path ≡ Some stamp → TellsStat present path answer → is_look_answer answer ≡ true → answer ≡ File stamp
-look_finds present path stamp Folder at t ok = absurd (none-some stamp (sym t.no_file ∙ at))
-look_finds present path stamp (File found) at t ok = ap (λ (s : StampFacts). File s) (same_Some found stamp (sym t ∙ at))
-look_finds present path stamp Other at t ok = absurd t
-look_finds present path stamp Gone at t ok = absurd (none-some stamp (sym t.no_file ∙ at))
-look_finds present path stamp Failed at t ok = absurd (false≢true ok)
-look_finds present path stamp OutOfMemory at t ok = absurd (false≢true ok)
+look_finds : (present : List NameFacts) (path : List ℕ) {stamp : StampFacts} (answer : StatAnswer) → stamp_at present path ≡ Some stamp → TellsStat present path answer → is_look_answer answer ≡ true → answer ≡ File stamp
+look_finds present path {stamp} Folder at t ok = absurd (none-some stamp (sym t.no_file ∙ at))
+look_finds present path {stamp} (File found) at t ok = ap (λ (s : StampFacts). File s) (same_Some found stamp (sym t ∙ at))
+look_finds present path Other at t ok = absurd t
+look_finds present path {stamp} Gone at t ok = absurd (none-some stamp (sym t.no_file ∙ at))
+look_finds present path Failed at t ok = absurd (false≢true ok)
+look_finds present path OutOfMemory at t ok = absurd (false≢true ok)
 
 -- what lies under the reached paths lies under a root
-pub reached_within : (answers : List Heard) (roots : List (List ℕ)) (path : List ℕ) → IsReached answers roots path → list_any (λ r. is_within r path) roots ≡ true
-reached_within answers roots path (root p c) = any_from_Contains (λ r. is_within r path) roots path c (or_left (bytes_eq path path) (lies_under path path) ((bytes_eq-Decides path path).1 refl))
-reached_within answers roots path (entry folder p k r n) =
+pub reached_within : {answers : List Heard} {roots : List (List ℕ)} {path : List ℕ} → IsReached answers roots path → list_any (λ r. is_within r path) roots ≡ true
+reached_within {roots} {path} (root p c) = any_from_Contains (λ r. is_within r path) roots path c (or_left (bytes_eq path path) (lies_under path path) ((bytes_eq-Decides path path).1 refl))
+reached_within {answers} {roots} (entry folder p k r n) =
     subst (λ (q : List ℕ). list_any (λ z. is_within z q) roots ≡ true) (sym n.joined)
-    (any_more (λ z. is_within z folder) (λ z. is_within z (child folder n.name)) roots (λ z h. within_child z folder n.name h) (reached_within answers roots folder r))
+    (any_more (λ z. is_within z folder) (λ z. is_within z (child folder n.name)) roots (λ z h. within_child z folder n.name h) (reached_within r))
 
 candidate_within : (answers : List Heard) (roots : List (List ℕ)) (path : List ℕ) → IsCandidate answers roots path → list_any (λ r. is_within r path) roots ≡ true
-candidate_within answers roots path (inl r) = reached_within answers roots path (root path r)
-candidate_within answers roots path (inr e) = reached_within answers roots path (entry e.folder path kind.File e.reached e.named)
+candidate_within answers roots path (inl r) = reached_within {answers = answers} (root path r)
+candidate_within answers roots path (inr e) = reached_within (entry e.folder path kind.File e.reached e.named)
 
 -- a folder's entries are those that stand there
 entries_told : (present : List NameFacts) (folder : List ℕ) (answer : DirFacts) (e : EntryFacts) → TellsDir present folder answer → is_dir_answer answer ≡ true → is_folder present folder ≡ true → is_entry_name e.name ≡ true → is_there present folder e ≡ true → has_entry (entries_of (Some answer)) e ≡ true
@@ -137,7 +140,7 @@ named_told : (present : List NameFacts) (answers : List Heard) (folder : List �
 named_told present answers folder e told read some valid there =
     elim (first_reading answers folder) as (λ o. first_reading answers folder ≡ o → IsSome o → has_entry (entries_of o) e ≡ true) [
       | None ↦ λ h r. absurd (false≢true r)
-      | Some answer ↦ λ h r. let says = told_reading present answers told folder answer h in entries_told present folder answer e says.0 says.1 some valid there
+      | Some answer ↦ λ h r. let says = told_reading present answers told folder h in entries_told present folder answer e says.0 says.1 some valid there
     ] refl read
 
 -- from a folder down to a file, name by name
@@ -147,12 +150,12 @@ joined_some name (next ∷ more) h =
     let whole : length (name ++ (SEPARATOR ∷ join_with_byte SEPARATOR (next ∷ more))) ≡ length name + length (SEPARATOR ∷ join_with_byte SEPARATOR (next ∷ more)) = length-append name (SEPARATOR ∷ join_with_byte SEPARATOR (next ∷ more)) in
     omega (arith, whole, name_long name h)
 
-down : (present : List NameFacts) (answers : List Heard) (roots : List (List ℕ)) (file : NameFacts) → All (IsTold present) answers → IsFull answers roots → Contains present file → length file.path ≤ PATH_LIMIT
+down : (present : List NameFacts) {answers : List Heard} {roots : List (List ℕ)} (file : NameFacts) → All (IsTold present) answers → IsFull answers roots → Contains present file → length file.path ≤ PATH_LIMIT
     → (folder name : List ℕ) (more : List (List ℕ)) → list_all is_entry_name (name ∷ more) ≡ true → file.path ≡ front_under folder ++ join_with_byte SEPARATOR (name ∷ more) → IsReached answers roots folder → IsSome (first_reading answers folder)
     → IsEntry answers roots kind.File file.path
-down present answers roots file told full there short folder name [] valid e reached read =
+down present {answers} file told full there short folder name [] valid e reached read =
     let named : is_entry_name name ≡ true = (and_parts (is_entry_name name) true valid).0 in
-    let under : lies_under folder file.path ≡ true = under_from_front folder file.path name e (name_long name named) in
+    let under : lies_under folder file.path ≡ true = under_from_front folder name e (name_long name named) in
     let some : is_folder present folder ≡ true = any_from_Contains (λ n. lies_under folder n.path) present file there under in
     let stands : is_there present folder (record { name = name; kind = kind.File }) ≡ true =
     any_from_Contains (λ n. makes kind.File (child folder name) n.path) present file there ((bytes_eq-Decides file.path (child folder name)).1 e) in
@@ -161,15 +164,15 @@ down present answers roots file told full there short folder name [] valid e rea
       reached = reached;
       named = record { name = name; listed = named_told present answers folder (record { name = name; kind = kind.File }) told read some named stands; joined = e };
     }
-down present answers roots file told full there short folder name (next ∷ more) valid e reached read =
+down present {answers} {roots} file told full there short folder name (next ∷ more) valid e reached read =
     let parts = and_parts (is_entry_name name) (list_all is_entry_name (next ∷ more)) valid in
     let rest : List ℕ = join_with_byte SEPARATOR (next ∷ more) in
     let front : front_under (child folder name) ≡ child folder name ++ SEPARATOR ∷ [] = front_of_child folder name parts.0 in
     let below : file.path ≡ front_under (child folder name) ++ rest =
     e ∙ sym (append_assoc (front_under folder) name (SEPARATOR ∷ rest)) ∙ sym (append_assoc (child folder name) (SEPARATOR ∷ []) rest) ∙ ap (λ (f : List ℕ). f ++ rest) (sym front) in
     let next_valid : is_entry_name next ≡ true = (and_parts (is_entry_name next) (list_all is_entry_name more) parts.1).0 in
-    let under : lies_under (child folder name) file.path ≡ true = under_from_front (child folder name) file.path rest below (joined_some next more next_valid) in
-    let above : lies_under folder file.path ≡ true = under_from_front folder file.path (join_with_byte SEPARATOR (name ∷ next ∷ more)) e (joined_some name (next ∷ more) parts.0) in
+    let under : lies_under (child folder name) file.path ≡ true = under_from_front (child folder name) rest below (joined_some next more next_valid) in
+    let above : lies_under folder file.path ≡ true = under_from_front folder (join_with_byte SEPARATOR (name ∷ next ∷ more)) e (joined_some name (next ∷ more) parts.0) in
     let some : is_folder present folder ≡ true = any_from_Contains (λ n. lies_under folder n.path) present file there above in
     let stands : is_there present folder (record { name = name; kind = kind.Folder }) ≡ true =
     any_from_Contains (λ n. makes kind.Folder (child folder name) n.path) present file there under in
@@ -179,14 +182,14 @@ down present answers roots file told full there short folder name (next ∷ more
     let front_long : length (front_under (child folder name)) ≡ length (child folder name ++ SEPARATOR ∷ []) = ap length front in
     let front_parts : length (child folder name ++ SEPARATOR ∷ []) ≡ length (child folder name) + 1 = length-append (child folder name) (SEPARATOR ∷ []) in
     let child_short : length (child folder name) ≤ PATH_LIMIT = omega (arith, whole, split, front_long, front_parts, short) in
-    down present answers roots file told full there short (child folder name) next more parts.1 below
+    down present file told full there short (child folder name) next more parts.1 below
     (entry folder (child folder name) kind.Folder reached named)
     (full.folders (child folder name) (inr (record { folder = folder; reached = reached; named = named })) child_short)
 
 -- the pieces of what follows a folder
-by_pieces : (folder path rest : List ℕ) (P : Type 0) → path ≡ front_under folder ++ rest → list_all is_entry_name (pieces rest) ≡ true
+by_pieces : (folder : List ℕ) {path : List ℕ} (rest : List ℕ) (P : Type 0) → path ≡ front_under folder ++ rest → list_all is_entry_name (pieces rest) ≡ true
     → ((name : List ℕ) (more : List (List ℕ)) → list_all is_entry_name (name ∷ more) ≡ true → path ≡ front_under folder ++ join_with_byte SEPARATOR (name ∷ more) → P) → P
-by_pieces folder path rest P e valid f =
+by_pieces folder rest P e valid f =
     elim (pieces rest) as (λ ps. pieces rest ≡ ps → list_all is_entry_name ps ≡ true → P) [
       | [] ↦ λ h v. absurd (let all : length (pieces rest) ≡ _ = length-slice_split (λ b. b == SEPARATOR) rest in let none : length (pieces rest) ≡ 0 = ap length h in omega (arith, all, none))
       | name ∷ more ↦ λ h v. f name more v (e ∙ ap (λ (t : List ℕ). front_under folder ++ t) (sym (join_with_byte-slice_split SEPARATOR rest) ∙ ap (join_with_byte SEPARATOR) h))
@@ -197,7 +200,7 @@ root_is_folder : (present : List NameFacts) (path : List ℕ) (file : NameFacts)
 root_is_folder present path file Folder apart there under t ok = refl
 root_is_folder present path file (File stamp) apart there under t ok =
     let paths : List (List ℕ) = map (λ (n : NameFacts). n.path) present in
-    let here : Contains paths path = path_there present (record { path = path; stamp = stamp }) (file_found present path stamp t) in
+    let here : Contains paths path = path_there present (record { path = path; stamp = stamp }) (file_found present path t) in
     let none : list_any (lies_under path) paths ≡ false = not-true _ (all_at (λ folder. not (list_any (lies_under folder) paths)) paths path apart here) in
     absurd (false≢true (sym none ∙ any_from_Contains (lies_under path) paths file.path (path_there present file there) under))
 root_is_folder present path file Other apart there under t ok = absurd t
@@ -206,62 +209,62 @@ root_is_folder present path file Failed apart there under t ok = absurd (false�
 root_is_folder present path file OutOfMemory apart there under t ok = absurd (false≢true ok)
 
 -- each file under a root is reached
-candidate_from_under : (present : List NameFacts) (answers : List Heard) (roots : List (List ℕ)) (walk : Walk) (file : NameFacts) → IsWhole answers roots walk → All (IsTold present) answers → are_apart (map (λ n. n.path) present) ≡ true → Contains present file → IsCanonPath file.path
+candidate_from_under : (present : List NameFacts) {answers : List Heard} {roots : List (List ℕ)} {walk : Walk} (file : NameFacts) → IsWhole answers roots walk → All (IsTold present) answers → are_apart (map (λ n. n.path) present) ≡ true → Contains present file → IsCanonPath file.path
     → (r : List ℕ) → Contains roots r → is_within r file.path ≡ true → IsCandidate answers roots file.path
-candidate_from_under present answers roots walk file w told apart there kept r at within =
+candidate_from_under present {answers} {roots} file w told apart there kept r at within =
     elim (or_cases (bytes_eq file.path r) (lies_under r file.path) within) [
       | inl one ↦ inl (subst (Contains roots) (sym ((bytes_eq-Decides file.path r).0 one)) at)
       | inr under ↦ elim (first_look answers r) as (λ o. first_look answers r ≡ o → IsSome o → IsCandidate answers roots file.path) [
         | None ↦ λ e h. absurd (false≢true h)
         | Some answer ↦ λ e h.
-            let says = told_look present answers told r answer e in
+            let says = told_look present answers told r e in
             let folder : answer ≡ Folder = root_is_folder present r file answer apart there under says.0 says.1 in
-            let root_kept : IsCanonPath r = (look_was_due answers roots w.once.due r answer e).1 in
+            let root_kept : IsCanonPath r = (look_was_due answers roots w.once.due r e).1 in
             let is_folder_r : IsFolder answers roots r = inl (record { root = at; folder = e ∙ ap (λ (a : StatAnswer). Some a) folder }) in
             let rest : List ℕ = drop (length (front_under r)) file.path in
             let below : file.path ≡ front_under r ++ rest = starts_rest (front_under r) file.path (and_parts _ _ under).0 in
-            inr (by_pieces r file.path rest (IsEntry answers roots kind.File file.path) below
-            (names_after r file.path rest root_kept.canonical kept.canonical below (not-true _ (and_parts _ _ under).1))
-            (λ name more valid split. down present answers roots file told w.full there kept.short r name more valid split (root r at) (w.full.folders r is_folder_r root_kept.short)))
+            inr (by_pieces r rest (IsEntry answers roots kind.File file.path) below
+            (names_after r rest root_kept.canonical kept.canonical below (not-true _ (and_parts _ _ under).1))
+            (λ name more valid split. down present file told w.full there kept.short r name more valid split (root r at) (w.full.folders r is_folder_r root_kept.short)))
       ] refl (w.full.looked r at)
     ]
 
 -- what is listed is a file under a root
-pub walked_under : (present : List NameFacts) (answers : List Heard) (roots : List (List ℕ)) → All (IsTold present) answers → (name : NameFacts) → IsWalked answers roots name → IsFileUnder present roots name
-walked_under present answers roots told name walked = record {
-  there = file_found present name.path name.stamp (told_look present answers told name.path (File name.stamp) walked.file).0;
+pub walked_under : (present : List NameFacts) {answers : List Heard} {roots : List (List ℕ)} → All (IsTold present) answers → {name : NameFacts} → IsWalked answers roots name → IsFileUnder present roots name
+walked_under present {answers} {roots} told {name} walked = record {
+  there = file_found present name.path (told_look present answers told name.path walked.file).0;
   under = candidate_within answers roots name.path walked.candidate;
   short = walked.short;
 }
 
 -- the listing is the files under the roots
-pub files_are : (present : List NameFacts) (answers : List Heard) (roots : List (List ℕ)) (walk : Walk) → IsWhole answers roots walk → All (IsTold present) answers
-    → (0 < length roots → (are_distinct (map (λ n. n.path) present) ≡ true) × (are_apart (map (λ n. n.path) present) ≡ true) × All (λ n. is_canonical n.path ≡ true) present) → AreFilesUnder present roots walk.listing
-files_are present answers roots walk w told known = record {
+pub files_are : {version : Versions} {tree : ShownTree} {answers : List Heard} {roots : List (List ℕ)} {walk : Walk} → IsWhole answers roots walk → All (IsTold tree.present) answers
+    → tree.Still → (0 < length roots → IsPresence version tree) → AreFilesUnder tree.present roots walk.listing
+files_are {version} {tree} {answers} {roots} {walk} w told still known = record {
   by_path = w.listing.by_path;
-  all = λ name. (λ c. walked_under present answers roots told name ((w.listing.all name).0 c), λ u. (w.listing.all name).1 (under_is_walked name u));
+  all = λ name. (λ c. walked_under tree.present told ((w.listing.all name).0 c), λ u. (w.listing.all name).1 (under_is_walked u));
 }
   where
-    looked_as_file : (name : NameFacts) → are_distinct (map (λ n. n.path) present) ≡ true → Contains present name → IsSome (first_look answers name.path) → first_look answers name.path ≡ Some (File name.stamp)
+    looked_as_file : (name : NameFacts) → are_distinct (map (λ n. n.path) tree.present) ≡ true → Contains tree.present name → IsSome (first_look answers name.path) → first_look answers name.path ≡ Some (File name.stamp)
     looked_as_file name distinct there some =
         elim (first_look answers name.path) as (λ o. first_look answers name.path ≡ o → IsSome o → o ≡ Some (File name.stamp)) [
           | None ↦ λ e h. absurd (false≢true h)
-          | Some answer ↦ λ e h. let says = told_look present answers told name.path answer e in
-              ap (λ (a : StatAnswer). Some a) (look_finds present name.path name.stamp answer (file_stamp present name distinct there) says.0 says.1)
+          | Some answer ↦ λ e h. let says = told_look tree.present answers told name.path e in
+              ap (λ (a : StatAnswer). Some a) (look_finds tree.present name.path answer (file_stamp tree.present name distinct there) says.0 says.1)
         ] refl some
 
     looked_is : (name : NameFacts) → IsCandidate answers roots name.path → length name.path ≤ PATH_LIMIT → IsSome (first_look answers name.path)
     looked_is name (inl r) short = w.full.looked name.path r
     looked_is name (inr e) short = w.full.files name.path e short
 
-    under_is_walked : (name : NameFacts) → IsFileUnder present roots name → IsWalked answers roots name
-    under_is_walked name u =
+    under_is_walked : {name : NameFacts} → IsFileUnder tree.present roots name → IsWalked answers roots name
+    under_is_walked {name} u =
         let at = any_root (λ r. is_within r name.path) roots u.under in
         let some : 0 < length roots = let lt = at.1.1 in omega arith in
         let facts = known some in
         let kept : IsCanonPath name.path = record {
-          canonical = (bytes_eq-Decides (canon name.path) name.path).0 (All-contains (λ (n : NameFacts). is_canonical n.path ≡ true) present name facts.2 u.there);
+          canonical = (bytes_eq-Decides (canon name.path) name.path).0 (All-contains (λ (n : NameFacts). is_canonical n.path ≡ true) tree.present name facts.canonical u.there);
           short = u.short;
         } in
-        let candidate : IsCandidate answers roots name.path = candidate_from_under present answers roots walk name w told facts.1 u.there kept at.0 at.1 at.2 in
-        record { candidate = candidate; short = u.short; file = looked_as_file name facts.0 u.there (looked_is name candidate u.short) }
+        let candidate : IsCandidate answers roots name.path = candidate_from_under tree.present name w told (facts.apart still) u.there kept at.0 at.1 at.2 in
+        record { candidate = candidate; short = u.short; file = looked_as_file name facts.distinct u.there (looked_is name candidate u.short) }

@@ -1,5 +1,5 @@
 -- What is kept agrees with the answers after each step.
-use Rattle.std.proofs.Common.{◌≡◌, ℕ, ◌+◌, ◌-◌, ◌^◌, ◌<◌, ◌||◌, ◌⊎◌, inl, inr, min, Bool, true, false, not, cond, List, [], ◌∷◌, ◌++◌, length, Option, Some, None, is_some, IsSome, MatchBool, Contains, refl, sym, ◌∙◌, ap, subst, arith, add-zero, All}
+use Rattle.std.proofs.Common.{◌≡◌, ℕ, ◌+◌, ◌-◌, ◌^◌, ◌<◌, ◌||◌, ◌⊎◌, inl, inr, min, Bool, true, false, cond, List, [], ◌∷◌, ◌++◌, length, Option, Some, None, is_some, IsSome, MatchBool, Contains, refl, sym, ◌∙◌, ap, subst, arith, add-zero, All}
 use Rattle.std.specs.Prelude.{nat_lt, if◌then◌else◌, count_by}
 use Rattle.std.specs.Cmp.Lexicographic.{slice_cmp}
 use Rattle.std.specs.List.Sorted.{IsStrictlySortedBy}
@@ -21,7 +21,7 @@ use Rattle.tree_trait.specs.declared.entry.EntryKind.{EntryKind}
 use Rattle.tree_trait.specs.declared.entry.EntryKind.TheVariants as kind
 use Rattle.tree_trait.specs.declared.stat.StatAnswer.{StatAnswer}
 use Rattle.tree_trait.specs.declared.stat.StatAnswer.TheVariants.{Folder, File, Other, Gone, Failed, OutOfMemory}
-use Rattle.tree_walk.specs.Answers.{is_look_answer, is_dir_answer, first_look, first_reading, entries_of, entries_in, times_read, entry_count, entries_read, passed_over, all_passed_over, has_failed}
+use Rattle.tree_walk.specs.Answers.{is_look_answer, is_dir_answer, first_look, first_reading, entries_of, entries_in, times_read, entry_count, entries_read, passed_over, all_passed_over, is_answered}
 use Rattle.tree_walk.specs.Search.{SearchFacts, has, with_path, with_file, with_other, noted, with_folder, with_long, with_last, file_of, is_no_file, is_looked, IsMet, IsSettled, IsPending, IsSearch}
 use Rattle.tree_walk.specs.Walked.{IsReached, IsFolder, IsCandidate, IsDue}
 use Rattle.tree_walk.specs.declared.walked.TheConstants.{ENTRY_LIMIT}
@@ -101,13 +101,13 @@ sorted-with_file files path Failed h = h
 sorted-with_file files path OutOfMemory h = h
 
 -- a look that was due leaves all else as it was
-look_step : (answers : List Heard) (roots : List (List ℕ)) (search : SearchFacts) (folder : List ℕ) (rest : List EntryFacts) (path : List ℕ) (answer : StatAnswer) (files : List (List ℕ × StampFacts)) (others : List (List ℕ))
+look_step : {answers : List Heard} {roots : List (List ℕ)} {search : SearchFacts} {folder : List ℕ} {rest : List EntryFacts} {path : List ℕ} (answer : StatAnswer) (files : List (List ℕ × StampFacts)) (others : List (List ℕ))
     → IsSearch answers roots search folder rest → IsCandidate answers roots path → IsCanonPath path → is_look_answer answer ≡ true → (Contains roots path → answer ≡ Gone → ⊥)
     → ((p : List ℕ) → lookup (same p) files ≡ file_of (first_look (answers ++ stat path answer ∷ []) p))
     → ((p : List ℕ) → has others p ≡ is_no_file (first_look (answers ++ stat path answer ∷ []) p))
     → IsStrictlySortedBy (slice_cmp nat_cmp) (keys_of files)
     → IsSearch (answers ++ stat path answer ∷ []) roots (record search { files = files; others = others }) folder rest
-look_step answers roots search folder rest path answer files others s candidate kept ok there filed noted_others sorted =
+look_step {answers} {roots} {search} {folder} {rest} {path} answer files others s candidate kept ok there filed noted_others sorted =
     let more : List Heard = stat path answer ∷ [] in
     let read = sum_by_push entry_count answers (stat path answer) in
     let passed = sum_by_push passed_over answers (stat path answer) in
@@ -118,11 +118,11 @@ look_step answers roots search folder rest path answer files others s candidate 
       due = All-push (IsDue (answers ++ more) roots) answers (stat path answer) (All-weaker (IsDue answers roots) (IsDue (answers ++ more) roots) (due_more answers more roots) answers s.due) (candidate_more answers more roots path candidate, kept);
       folders = λ p h. (folder_more answers more roots p (s.folders p h).0, (s.folders p h).1);
       counts = λ p. ap (λ (n : ℕ). n + count_by (bytes_eq p) search.todo) (times_past_look answers path answer p) ∙ s.counts p;
-      long = λ p h. (reached_more answers more roots p (s.long p h).0, (s.long p h).1);
+      long = λ p h. (reached_more more (s.long p h).0, (s.long p h).1);
       apart = s.apart;
       left = ap (λ (n : ℕ). search.left + n) (read ∙ add-zero (entries_read answers)) ∙ s.left;
       skipped = s.skipped ∙ ap (λ (n : ℕ). min n (2 ^ 64 - 1)) (sym (passed ∙ add-zero (all_passed_over answers)));
-      answered = list_all-append (λ h. not (has_failed h)) answers more ∙ and_from _ _ s.answered (and_from _ true (ap (λ (b : Bool). not (not b)) ok) refl);
+      answered = list_all-append is_answered answers more ∙ and_from _ _ s.answered (and_from _ true ok refl);
       there = λ p r c. elim (Contains-push_cases answers (stat path answer) (stat p Gone) c) [
         | inl before ↦ s.there p r before
         | inr last ↦
@@ -136,24 +136,24 @@ look_step answers roots search folder rest path answer files others s candidate 
     }
 
 -- a look at a path that wasn't looked at
-pub note_step : (answers : List Heard) (roots : List (List ℕ)) (search : SearchFacts) (folder : List ℕ) (rest : List EntryFacts) (path : List ℕ) (answer : StatAnswer)
+pub note_step : {answers : List Heard} {roots : List (List ℕ)} {search : SearchFacts} {folder : List ℕ} {rest : List EntryFacts} {path : List ℕ} (answer : StatAnswer)
     → IsSearch answers roots search folder rest → IsCandidate answers roots path → IsCanonPath path → is_look_answer answer ≡ true → (Contains roots path → answer ≡ Gone → ⊥) → first_look answers path ≡ None
     → IsSearch (answers ++ stat path answer ∷ []) roots (noted search path answer) folder rest
-note_step answers roots search folder rest path answer s candidate kept ok there fresh =
+note_step {answers} {roots} {search} {folder} {rest} {path} answer s candidate kept ok there fresh =
     let before : (p : List ℕ) → same p path ≡ true → first_look answers p ≡ None = λ p e. subst (λ (z : List ℕ). first_look answers z ≡ None) (sym ((same-Decides p path).0 e)) fresh in
-    look_step answers roots search folder rest path answer (with_file search.files path answer) (with_other search.others path answer) s candidate kept ok there
+    look_step answer (with_file search.files path answer) (with_other search.others path answer) s candidate kept ok there
     (λ p. lookup-with_file search.files (first_look answers p) p path answer (s.files p) (before p) ∙ ap file_of (sym (after_look answers path answer ok fresh p)))
     (λ p. has-with_other search.others (first_look answers p) p path answer (s.others p) (before p) ∙ ap is_no_file (sym (after_look answers path answer ok fresh p)))
     (sorted-with_file search.files path answer s.ordered)
 
 -- a look at a path that was looked at before
-pub again_step : (answers : List Heard) (roots : List (List ℕ)) (search : SearchFacts) (folder : List ℕ) (rest : List EntryFacts) (path : List ℕ) (answer known : StatAnswer)
+pub again_step : {answers : List Heard} {roots : List (List ℕ)} {search : SearchFacts} {folder : List ℕ} {rest : List EntryFacts} {path : List ℕ} (answer : StatAnswer) {known : StatAnswer}
     → IsSearch answers roots search folder rest → IsCandidate answers roots path → IsCanonPath path → is_look_answer answer ≡ true → (Contains roots path → answer ≡ Gone → ⊥) → first_look answers path ≡ Some known
     → IsSearch (answers ++ stat path answer ∷ []) roots search folder rest
-again_step answers roots search folder rest path answer known s candidate kept ok there before =
-    look_step answers roots search folder rest path answer search.files search.others s candidate kept ok there
-    (λ p. s.files p ∙ ap file_of (sym (look_again answers path answer known before p)))
-    (λ p. s.others p ∙ ap is_no_file (sym (look_again answers path answer known before p)))
+again_step {answers} {roots} {search} {folder} {rest} {path} answer {known} s candidate kept ok there before =
+    look_step answer search.files search.others s candidate kept ok there
+    (λ p. s.files p ∙ ap file_of (sym (look_again answers path answer before p)))
+    (λ p. s.others p ∙ ap is_no_file (sym (look_again answers path answer before p)))
     s.ordered
 
 -- whether a path was looked at
@@ -166,8 +166,8 @@ is_some_file (Some Gone) = refl
 is_some_file (Some Failed) = refl
 is_some_file (Some OutOfMemory) = refl
 
-pub is_looked_is : (answers : List Heard) (roots : List (List ℕ)) (search : SearchFacts) (folder : List ℕ) (rest : List EntryFacts) (path : List ℕ) → IsSearch answers roots search folder rest → is_looked search path ≡ is_some (first_look answers path)
-is_looked_is answers roots search folder rest path s =
+pub is_looked_is : {answers : List Heard} {roots : List (List ℕ)} {search : SearchFacts} {folder : List ℕ} {rest : List EntryFacts} (path : List ℕ) → IsSearch answers roots search folder rest → is_looked search path ≡ is_some (first_look answers path)
+is_looked_is {answers} {search} path s =
     ap (λ (o : Option StampFacts). is_some o || has search.others path) (s.files path)
     ∙ ap (λ (b : Bool). is_some (file_of (first_look answers path)) || b) (s.others path)
     ∙ is_some_file (first_look answers path)
@@ -180,9 +180,9 @@ has_more : (paths : List (List ℕ)) (path p : List ℕ) → has paths p ≡ tru
 has_more paths path p h = has-with_path paths path p ∙ or_right (same p path) (has paths p) h
 
 -- a folder that wasn't known
-folder_new : (answers : List Heard) (roots : List (List ℕ)) (search : SearchFacts) (folder : List ℕ) (rest : List EntryFacts) (path : List ℕ) → IsSearch answers roots search folder rest → IsFolder answers roots path → IsCanonPath path → has search.folders path ≡ false
+folder_new : {answers : List Heard} {roots : List (List ℕ)} {search : SearchFacts} {folder : List ℕ} {rest : List EntryFacts} {path : List ℕ} → IsSearch answers roots search folder rest → IsFolder answers roots path → IsCanonPath path → has search.folders path ≡ false
     → IsSearch answers roots (record search { folders = with_path search.folders path; todo = search.todo ++ path ∷ [] }) folder rest
-folder_new answers roots search folder rest path s is_folder kept fresh = record {
+folder_new {answers} {roots} {search} {folder} {rest} {path} s is_folder kept fresh = record {
   files = s.files;
   others = s.others;
   ordered = s.ordered;
@@ -215,10 +215,10 @@ folder_new answers roots search folder rest path s is_folder kept fresh = record
 }
 
 -- a folder that is to be read
-pub folder_step : (answers : List Heard) (roots : List (List ℕ)) (search : SearchFacts) (folder : List ℕ) (rest : List EntryFacts) (path : List ℕ) → IsSearch answers roots search folder rest → IsFolder answers roots path → IsCanonPath path → IsSearch answers roots (with_folder search path) folder rest
-folder_step answers roots search folder rest path s is_folder kept =
+pub folder_step : {answers : List Heard} {roots : List (List ℕ)} {search : SearchFacts} {folder : List ℕ} {rest : List EntryFacts} {path : List ℕ} → IsSearch answers roots search folder rest → IsFolder answers roots path → IsCanonPath path → IsSearch answers roots (with_folder search path) folder rest
+folder_step {answers} {roots} {search} {folder} {rest} {path} s is_folder kept =
     elim (has search.folders path) as (λ v. has search.folders path ≡ v → IsSearch answers roots (if v then search else record search { folders = with_path search.folders path; todo = search.todo ++ path ∷ [] }) folder rest)
-    [ true ↦ λ e. s | false ↦ λ e. folder_new answers roots search folder rest path s is_folder kept e ] refl
+    [ true ↦ λ e. s | false ↦ λ e. folder_new s is_folder kept e ] refl
 
 -- it is known from then on
 pub folder_known : (search : SearchFacts) (path : List ℕ) → has (with_folder search path).folders path ≡ true
@@ -234,8 +234,8 @@ folder_stays search path p h =
     [ true ↦ h | false ↦ has_more search.folders path p h ]
 
 -- a path that is too long
-pub long_step : (answers : List Heard) (roots : List (List ℕ)) (search : SearchFacts) (folder : List ℕ) (rest : List EntryFacts) (path : List ℕ) → IsSearch answers roots search folder rest → IsReached answers roots path → PATH_LIMIT < length path → IsSearch answers roots (with_long search path) folder rest
-long_step answers roots search folder rest path s reached long = record {
+pub long_step : {answers : List Heard} {roots : List (List ℕ)} {search : SearchFacts} {folder : List ℕ} {rest : List EntryFacts} {path : List ℕ} → IsSearch answers roots search folder rest → IsReached answers roots path → PATH_LIMIT < length path → IsSearch answers roots (with_long search path) folder rest
+long_step {answers} {roots} {search} {folder} {rest} {path} s reached long = record {
   files = s.files;
   others = s.others;
   ordered = s.ordered;
@@ -276,10 +276,10 @@ entries_same a b h =
     ∙ ap (λ (k : EntryKind). record { name = a.name; kind = k }) (sym (kinds_same a.kind b.kind parts.1))
 
 -- the same search with other entries to see to
-pub with_pending : (answers : List Heard) (roots : List (List ℕ)) (search : SearchFacts) (folder to : List ℕ) (rest left : List EntryFacts) → IsSearch answers roots search folder rest
+pub with_pending : {answers : List Heard} {roots : List (List ℕ)} {search : SearchFacts} {folder : List ℕ} (to : List ℕ) {rest : List EntryFacts} (left : List EntryFacts) → IsSearch answers roots search folder rest
     → ((at : List ℕ) (entry : EntryFacts) → has_entry (entries_in answers at) entry ≡ true → IsSettled answers search (child at entry.name) entry.kind ⊎ IsPending to left at entry)
     → IsSearch answers roots search to left
-with_pending answers roots search folder to rest left s closed = record {
+with_pending to left s closed = record {
   files = s.files;
   others = s.others;
   ordered = s.ordered;
@@ -296,9 +296,9 @@ with_pending answers roots search folder to rest left s closed = record {
 }
 
 -- one of the entries was seen to
-pub entry_step : (answers : List Heard) (roots : List (List ℕ)) (search : SearchFacts) (folder : List ℕ) (first : EntryFacts) (rest : List EntryFacts) → IsSearch answers roots search folder (first ∷ rest) → IsSettled answers search (child folder first.name) first.kind → IsSearch answers roots search folder rest
-entry_step answers roots search folder first rest s settled =
-    with_pending answers roots search folder folder (first ∷ rest) rest s
+pub entry_step : {answers : List Heard} {roots : List (List ℕ)} {search : SearchFacts} {folder : List ℕ} (first : EntryFacts) (rest : List EntryFacts) → IsSearch answers roots search folder (first ∷ rest) → IsSettled answers search (child folder first.name) first.kind → IsSearch answers roots search folder rest
+entry_step {answers} {roots} {search} {folder} first rest s settled =
+    with_pending folder rest s
     (λ at entry h. elim (s.closed at entry h) [
       | inl done ↦ inl done
       | inr pending ↦ elim (or_cases (same_entry entry first) (has_entry rest entry) pending.among) [
@@ -316,8 +316,8 @@ pub record IsNextFolder (answers : List Heard) (roots : List (List ℕ)) (search
   pub kept : IsCanonPath path
   pub unread : first_reading answers path ≡ None
 
-pub next_folder : (answers : List Heard) (roots : List (List ℕ)) (search : SearchFacts) (path : List ℕ) → IsSearch answers roots (with_last search path) [] [] → IsNextFolder answers roots search path
-next_folder answers roots search path s =
+pub next_folder : {answers : List Heard} {roots : List (List ℕ)} (search : SearchFacts) (path : List ℕ) → IsSearch answers roots (with_last search path) [] [] → IsNextFolder answers roots search path
+next_folder {answers} {roots} search path s =
     let push : count_by (bytes_eq path) (search.todo ++ path ∷ []) ≡ count_by (bytes_eq path) search.todo + one_if (bytes_eq path path) = sum_by_push (λ (q : List ℕ). one_if (bytes_eq path q)) search.todo path in
     let one : one_if (bytes_eq path path) ≡ 1 = ap (λ (b : Bool). one_if b) ((bytes_eq-Decides path path).1 refl) in
     elim (has search.folders path) as (λ v. has search.folders path ≡ v → IsNextFolder answers roots search path) [
@@ -330,10 +330,10 @@ next_folder answers roots search path s =
     ] refl
 
 -- the reading of that folder is due
-pub read_due : (answers : List Heard) (roots : List (List ℕ)) (search : SearchFacts) (path : List ℕ) (answer : DirFacts) → IsSearch answers roots (with_last search path) [] [] → All (IsDue (answers ++ read_dir path answer ∷ []) roots) (answers ++ read_dir path answer ∷ [])
-read_due answers roots search path answer s =
+pub read_due : {answers : List Heard} {roots : List (List ℕ)} (search : SearchFacts) (path : List ℕ) (answer : DirFacts) → IsSearch answers roots (with_last search path) [] [] → All (IsDue (answers ++ read_dir path answer ∷ []) roots) (answers ++ read_dir path answer ∷ [])
+read_due {answers} {roots} search path answer s =
     let more : List Heard = read_dir path answer ∷ [] in
-    let next : IsNextFolder answers roots search path = next_folder answers roots search path s in
+    let next : IsNextFolder answers roots search path = next_folder search path s in
     All-push (IsDue (answers ++ more) roots) answers (read_dir path answer) (All-weaker (IsDue answers roots) (IsDue (answers ++ more) roots) (due_more answers more roots) answers s.due) (folder_more answers more roots path next.is_folder, next.kept)
 
 -- paths are compared either way
@@ -345,12 +345,12 @@ bytes_back a b =
     ] refl
 
 -- the reading of that folder
-pub read_step : (answers : List Heard) (roots : List (List ℕ)) (search : SearchFacts) (path : List ℕ) (answer : DirFacts) (left skipped : ℕ) → IsSearch answers roots (with_last search path) [] [] → is_dir_answer answer ≡ true
+pub read_step : {answers : List Heard} {roots : List (List ℕ)} (search : SearchFacts) (path : List ℕ) (answer : DirFacts) (left : ℕ) {skipped : ℕ} → IsSearch answers roots (with_last search path) [] [] → is_dir_answer answer ≡ true
     → left + length (entries_of (Some answer)) ≡ search.left → skipped ≡ min (search.skipped + passed_over (read_dir path answer)) (2 ^ 64 - 1)
     → IsSearch (answers ++ read_dir path answer ∷ []) roots (record search { left = left; skipped = skipped }) path (entries_of (Some answer))
-read_step answers roots search path answer left skipped s ok paid passed =
+read_step {answers} {roots} search path answer left {skipped} s ok paid passed =
     let more : List Heard = read_dir path answer ∷ [] in
-    let next : IsNextFolder answers roots search path = next_folder answers roots search path s in
+    let next : IsNextFolder answers roots search path = next_folder search path s in
     let read : entries_read (answers ++ more) ≡ entries_read answers + length (entries_of (Some answer)) = sum_by_push entry_count answers (read_dir path answer) in
     let over : all_passed_over (answers ++ more) ≡ all_passed_over answers + passed_over (read_dir path answer) = sum_by_push passed_over answers (read_dir path answer) in
     let was : search.left + entries_read answers ≡ ENTRY_LIMIT = s.left in
@@ -360,7 +360,7 @@ read_step answers roots search path answer left skipped s ok paid passed =
       files = λ p. s.files p ∙ ap file_of (sym (looks p));
       others = λ p. s.others p ∙ ap is_no_file (sym (looks p));
       ordered = s.ordered;
-      due = read_due answers roots search path answer s;
+      due = read_due search path answer s;
       folders = λ p h. (folder_more answers more roots p (s.folders p h).0, (s.folders p h).1);
       counts = λ p.
           let push : count_by (bytes_eq p) (search.todo ++ path ∷ []) ≡ count_by (bytes_eq p) search.todo + one_if (bytes_eq p path) = sum_by_push (λ (q : List ℕ). one_if (bytes_eq p q)) search.todo path in
@@ -368,11 +368,11 @@ read_step answers roots search path answer left skipped s ok paid passed =
           let turned : one_if (bytes_eq path p) ≡ one_if (bytes_eq p path) = ap (λ (b : Bool). one_if b) (bytes_back path p) in
           let all : times_read answers p + count_by (bytes_eq p) (search.todo ++ path ∷ []) ≡ one_if (has search.folders p) = s.counts p in
           omega (arith, push, times, turned, all);
-      long = λ p h. (reached_more answers more roots p (s.long p h).0, (s.long p h).1);
+      long = λ p h. (reached_more more (s.long p h).0, (s.long p h).1);
       apart = s.apart;
       left = omega (arith, read, was, paid);
       skipped = omega (arith, over, had, passed);
-      answered = list_all-append (λ h. not (has_failed h)) answers more ∙ and_from _ _ s.answered (and_from _ true (ap (λ (b : Bool). not (not b)) ok) refl);
+      answered = list_all-append is_answered answers more ∙ and_from _ _ s.answered (and_from _ true ok refl);
       there = λ p r c. elim (Contains-push_cases answers (read_dir path answer) (stat p Gone) c) [
         | inl before ↦ s.there p r before
         | inr last ↦ cc
@@ -390,7 +390,7 @@ read_step answers roots search path answer left skipped s ok paid passed =
     }
 
 -- its entries are those of the answer
-pub read_entries : (answers : List Heard) (roots : List (List ℕ)) (search : SearchFacts) (path : List ℕ) (answer : DirFacts) → IsSearch answers roots (with_last search path) [] [] → is_dir_answer answer ≡ true → entries_in (answers ++ read_dir path answer ∷ []) path ≡ entries_of (Some answer)
-read_entries answers roots search path answer s ok =
-    ap entries_of (after_reading answers path answer ok (next_folder answers roots search path s).unread path
+pub read_entries : {answers : List Heard} {roots : List (List ℕ)} (search : SearchFacts) (path : List ℕ) (answer : DirFacts) → IsSearch answers roots (with_last search path) [] [] → is_dir_answer answer ≡ true → entries_in (answers ++ read_dir path answer ∷ []) path ≡ entries_of (Some answer)
+read_entries {answers} {roots} search path answer s ok =
+    ap entries_of (after_reading answers path answer ok (next_folder search path s).unread path
     ∙ ap (λ (b : Bool). cond b (Some answer) (first_reading answers path)) ((same-Decides path path).1 refl))
