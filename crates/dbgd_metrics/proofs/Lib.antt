@@ -1,3 +1,5 @@
 pub mod Views
 pub mod Keeps
 pub mod Steps
+pub mod Loads
+pub mod Rows

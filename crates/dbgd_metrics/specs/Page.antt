@@ -18,13 +18,25 @@ route_text Section = codes "section"
 route_text Metrics = codes "metrics"
 route_text Other = codes "other"
 
+-- a label of a series
+abbrev pub label : List ℕ → List ℕ → List ℕ
+label name value = name ++ codes "=\"" ++ value ++ codes "\""
+
+-- the two labels of a series of requests
+abbrev pub labels : List ℕ → List ℕ → List ℕ
+labels route status = codes "{" ++ label (codes "route") route ++ codes "," ++ label (codes "status") status ++ codes "}"
+
 -- the name of the requests of a route with a status
 abbrev pub requests_name : RouteName → ℕ → List ℕ
-requests_name route status = codes "dbgd_requests_total{route=\"" ++ route_text route ++ codes "\",status=\"" ++ decimal status ++ codes "\"}"
+requests_name route status = codes "dbgd_requests_total" ++ labels (route_text route) (decimal status)
 
--- the line of a route and a status, which is left out where there was no such request
+-- a line that is left out where its number is 0
+abbrev pub line_unless_zero : List ℕ → ℕ → List ℕ
+line_unless_zero name number = if number == 0 then [] else line name number
+
+-- the line of a route and a status
 abbrev pub request_line : List ℕ → RouteName → ℕ → List ℕ
-request_line totals route status = if number_in totals (Requests route status) == 0 then [] else line (requests_name route status) (number_in totals (Requests route status))
+request_line totals route status = line_unless_zero (requests_name route status) (number_in totals (Requests route status))
 
 -- the lines of a route, by status
 abbrev pub route_lines : List ℕ → List ℕ → RouteName → List ℕ

@@ -2,7 +2,7 @@
 ghost use Rattle.std.specs.Prelude.{◌≡◌, ◌++◌, length, decimal, flat_map, IfOk, OnOk, codes};
 ghost use Rattle.std.specs.String.{string_bytes};
 ghost use Rattle.dbgd_metrics.specs.Numbers.{count_of_numbers, number_in, statuses};
-ghost use Rattle.dbgd_metrics.specs.Page.{line, metrics_text, request_line, requests_name, route_lines, route_text};
+ghost use Rattle.dbgd_metrics.specs.Page.{label, labels, line, line_unless_zero, metrics_text, request_line, route_lines, route_text};
 
 use crate::number::{Number, RouteName, STATUSES};
 use itoa::Buffer;
@@ -42,15 +42,51 @@ fn push_line(text: &mut String, name: &str, number: u128) -> Result<(), AllocErr
     text.push_str("\n")
 }
 
-// Adds the name of the requests of a route with a status.
-fn push_requests_name(text: &mut String, route: RouteName, status: u16) -> Result<(), AllocError>
-    ensures { OnOk result (string_bytes text.new ≡ string_bytes text.old ++ requests_name route status) }
+// Adds a label.
+fn push_label(text: &mut String, name: &str, value: &str) -> Result<(), AllocError>
+    ensures { OnOk result (string_bytes text.new ≡ string_bytes text.old ++ label name.now value.now) }
 {
-    text.push_str("dbgd_requests_total{route=\"")?;
-    text.push_str(route_text(route))?;
-    text.push_str("\",status=\"")?;
-    text.push_str(Buffer::new().format(status))?;
-    text.push_str("\"}")
+    text.push_str(name)?;
+    text.push_str("=\"")?;
+    text.push_str(value)?;
+    text.push_str("\"")
+}
+
+// Adds the labels of a route and a status.
+fn push_labels(text: &mut String, route: &str, status: &str) -> Result<(), AllocError>
+    ensures { OnOk result (string_bytes text.new ≡ string_bytes text.old ++ labels route.now status.now) }
+{
+    text.push_str("{")?;
+    push_label(text, "route", route)?;
+    text.push_str(",")?;
+    push_label(text, "status", status)?;
+    text.push_str("}")
+}
+
+// Adds a line with labels, unless its number is 0.
+fn push_series(
+    text: &mut String,
+    name: &str,
+    route: &str,
+    status: &str,
+    number: u128,
+) -> Result<(), AllocError>
+    ensures { OnOk result (string_bytes text.new ≡ string_bytes text.old ++ line_unless_zero (name.now ++ labels route.now status.now) number) }
+{
+    if number == 0 {
+        return Ok(());
+    }
+    text.push_str(name)?;
+    push_labels(text, route, status)?;
+    push_line(text, "", number)
+}
+
+// One of the totals.
+fn number_in(totals: &[u128], number: Number) -> u128
+    requires { length totals.now ≡ count_of_numbers }
+    ensures { result ≡ number_in totals.now number }
+{
+    totals[number.place() as usize]
 }
 
 // Adds the line of a route and a status, if there was such a request.
@@ -63,12 +99,10 @@ fn push_request(
     requires { length totals.now ≡ count_of_numbers }
     ensures { OnOk result (string_bytes text.new ≡ string_bytes text.old ++ request_line totals.now route status) }
 {
-    let requests = totals[Number::Requests { route, status }.place() as usize];
-    if requests == 0 {
-        return Ok(());
-    }
-    push_requests_name(text, route, status)?;
-    push_line(text, "", requests)
+    let requests = number_in(totals, Number::Requests { route, status });
+    let mut digits = Buffer::new();
+    let status = digits.format(status);
+    push_series(text, "dbgd_requests_total", route_text(route), status, requests)
 }
 
 // Adds the lines of a route with these statuses.
@@ -103,7 +137,7 @@ fn push_total(text: &mut String, totals: &[u128], name: &str, number: Number) ->
     requires { length totals.now ≡ count_of_numbers }
     ensures { OnOk result (string_bytes text.new ≡ string_bytes text.old ++ line name.now (number_in totals.now number)) }
 {
-    push_line(text, name, totals[number.place() as usize])
+    push_line(text, name, number_in(totals, number))
 }
 
 /// The page of these totals.

@@ -28,7 +28,7 @@ pub enum Drawn {
 }
 
 impl Model for Share {
-    ghost use Rattle.std.specs.Prelude.{◌≡◌, ◌+◌, ◌*◌, ◌<◌, ◌≤◌, [], None, IfSome};
+    ghost use Rattle.std.specs.Prelude.{◌≡◌, ◌+◌, ◌*◌, ◌<◌, ◌≤◌, [], false, MatchOption};
     ghost use Rattle.dbgd_metrics.specs.Numbers.{zeros};
     ghost use Rattle.dbgd_metrics.specs.Shares.{ShareFacts};
 
@@ -36,7 +36,7 @@ impl Model for Share {
 
     ghost view = { λ share. record { book = share.token.table_id; row = share.token.me.0.row; numbers = share.token.me.0.numbers; marked = share.marked; loads = share.token.me.0.loads } };
 
-    ghost invariant = { λ share. (share.token.me.1 ≡ []) × (share.row ≡ share.token.me.0.row) × IfSome share.row (λ row. (row < 65) × (54 + 53 * row ≤ share.token.table_id.words)) };
+    ghost invariant = { λ share. (share.token.me.1 ≡ []) × (share.row ≡ share.token.me.0.row) × MatchOption share.row ((share.token.me.0.numbers ≡ zeros) × (share.marked ≡ false)) (λ row. (row < 65) × (54 + 53 * row ≤ share.token.table_id.words)) };
 }
 
 impl Share {
