@@ -3,3 +3,4 @@ pub mod Keeps
 pub mod Steps
 pub mod Loads
 pub mod Rows
+pub mod Seats

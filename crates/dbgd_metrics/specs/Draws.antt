@@ -1,5 +1,5 @@
 -- How a share draws its row: it loads the number of drawn rows until it takes the next one, or finds that none is left.
-use Rattle.std.specs.Prelude.{◌≡◌, ℕ, ◌<◌, ◌≤◌, List, [], ◌∷◌, ◌++◌, Some, All}
+use Rattle.std.specs.Prelude.{◌≡◌, ℕ, ◌+◌, ◌*◌, ◌<◌, ◌≤◌, List, [], ◌∷◌, ◌++◌, Some, All}
 use Rattle.dbgd_metrics.specs.declared.view.Load.{Load}
 use Rattle.dbgd_metrics.specs.declared.share.Drawn.{Drawn}
 use Rattle.dbgd_metrics.specs.declared.share.Drawn.TheVariants.{Drawn as drawn, Full as full}
@@ -37,11 +37,12 @@ abbrev pub Draws : ℕ → ShareFacts → Drawn → Type 0
 Draws rows old (drawn new) = TakesRow rows old new
 Draws rows old (full new) = FindsNone rows old new
 
--- the same of the share's seat, where it gets a row
+-- the same of the share's seat, where it gets a row, which lies within the table
 pub record GetsRow (rows : ℕ) (old new : Token) (row : ℕ) : Type 0 where
   pub tries : List Load
   pub free : FindRoom rows tries
   pub below : row < rows
+  pub there : (row < 65) × (54 + 53 * row ≤ new.table_id.words)
   pub table : new.table_id ≡ old.table_id
   pub me : new.me ≡ (record old.me.0 { row = Some row; loads = old.me.0.loads ++ tries ++ finds row ∷ [] }, old.me.1)
 

@@ -3,6 +3,7 @@ pub mod Counts
 pub mod Shares
 pub mod Splits
 pub mod Rule
+pub mod Seats
 pub mod Draws
 pub mod Totals
 pub mod Columns

@@ -28,15 +28,14 @@ pub enum Drawn {
 }
 
 impl Model for Share {
-    ghost use Rattle.std.specs.Prelude.{◌≡◌, ◌+◌, ◌*◌, ◌<◌, ◌≤◌, [], false, MatchOption};
-    ghost use Rattle.dbgd_metrics.specs.Numbers.{zeros};
+    ghost use Rattle.dbgd_metrics.specs.Seats.{HasSeat, facts_of};
     ghost use Rattle.dbgd_metrics.specs.Shares.{ShareFacts};
 
     ghost Value = { ShareFacts };
 
-    ghost view = { λ share. record { book = share.token.table_id; row = share.token.me.0.row; numbers = share.token.me.0.numbers; marked = share.marked; loads = share.token.me.0.loads } };
+    ghost view = { λ share. facts_of share.token share.marked };
 
-    ghost invariant = { λ share. (share.token.me.1 ≡ []) × (share.row ≡ share.token.me.0.row) × MatchOption share.row ((share.token.me.0.numbers ≡ zeros) × (share.marked ≡ false)) (λ row. (row < 65) × (54 + 53 * row ≤ share.token.table_id.words)) };
+    ghost invariant = { λ share. HasSeat share.token share.row share.marked };
 }
 
 impl Share {
