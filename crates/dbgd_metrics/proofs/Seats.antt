@@ -1,13 +1,17 @@
 -- What a share shows and keeps once its seat made a step.
-use Rattle.std.proofs.Common.{◌≡◌, ℕ, ◌<◌, ◌+◌, ◌*◌, ◌≤◌, List, [], ◌∷◌, ◌++◌, refl, sym, ap, ◌∙◌, arith, Bool, true, false, Option, Some, None}
+use Rattle.std.proofs.Common.{◌≡◌, ℕ, ◌<◌, ◌+◌, ◌*◌, ◌≤◌, List, [], ◌∷◌, ◌++◌, refl, sym, ap, ◌∙◌, subst, arith, Bool, true, false, Option, Some, None}
 use Rattle.std.specs.Prelude.{IsSome}
-use Rattle.dbgd_metrics.proofs.Rows.{no_row}
+use Rattle.dbgd_metrics.proofs.Rows.{no_row, place_bound}
 use Rattle.dbgd_metrics.proofs.Views.{row_or_none}
 use Rattle.dbgd_metrics.specs.Draws.{GetsRow, TakesRow, SeesNone, FindsNone, finds}
 use Rattle.dbgd_metrics.specs.Rule.{Token, Looked}
 use Rattle.dbgd_metrics.specs.Seats.{facts_of, HasSeat}
 use Rattle.dbgd_metrics.specs.Shares.{ShareFacts}
-use Rattle.dbgd_metrics.specs.Numbers.{zeros}
+use Rattle.dbgd_metrics.specs.Columns.{AddUp}
+use Rattle.dbgd_metrics.specs.Numbers.{number_in, place_of, zeros}
+use Rattle.dbgd_metrics.specs.Page.{metrics_text}
+use Rattle.dbgd_metrics.specs.Totals.{IsPage, page_loads}
+use Rattle.dbgd_metrics.specs.declared.number.Number.{Number}
 use Rattle.dbgd_metrics.specs.declared.view.Known.{Known}
 use Rattle.dbgd_metrics.specs.declared.view.Load.{Load}
 
@@ -53,4 +57,20 @@ finds_none {rows} {share} old new marked sees shows = record {
   found = sees.found;
   all = sees.all;
   share = facts_after old new marked _ sees.table sees.me ∙ ap (λ (s : ShareFacts). record s { loads = s.loads ++ sees.tries ++ finds sees.found ∷ [] }) shows;
+}
+
+-- the page of the totals that were added up
+pub is_page : {rows : ℕ} {share : ShareFacts} {totals text : List ℕ} (old new : Token) (row : Option ℕ) (marked : Bool) → AddUp rows 53 old new totals → HasSeat old row marked → IsSome row → old.table_id.words ≡ 1 + 53 * rows
+    → facts_of old marked ≡ share → text ≡ metrics_text totals → IsPage rows share (facts_of new marked) text
+is_page {rows} {share} {totals} {text} old new None marked sums has there words shows lines = absurd (no_row there)
+is_page {rows} {share} {totals} {text} old new (Some row) marked sums has there words shows lines = record {
+  columns = sums.columns;
+  loads = record {
+    all = sums.all;
+    each = sums.each;
+    share = facts_after old new marked _ sums.looked.table sums.looked.me ∙ ap (λ (s : ShareFacts). record s { loads = s.loads ++ page_loads 0 sums.columns }) shows;
+  };
+  own = λ number. subst (λ (ts : List ℕ). number_in share.numbers number ≤ number_in ts number) sums.values
+      (subst (λ (s : ShareFacts). number_in s.numbers number ≤ number_in totals number) shows (sums.own row (place_of number) (sym has.1) (omega (arith, words, has.2.1)) (place_bound number)));
+  lines = lines ∙ ap metrics_text sums.values;
 }

@@ -51,6 +51,7 @@ impl Book {
         ensures page { IfOk result (λ text. IsPage self.now.rows share.old share.new (string_bytes text)) }
         ensures same { OnlyNotes share.old share.new }
     {
+        let _ = &self.table;
         let totals = self.totals(alloc, &mut share.token)?;
         page(alloc, totals.as_slice())
     }
