@@ -21,14 +21,14 @@ column_more : (place row : ℕ) (column : List ℕ) (n : ℕ) → column_loads p
 column_more place row [] n = ap (λ (r : ℕ). record { word = word_at r place; found = n } ∷ []) (omega arith)
 column_more place row (m ∷ column) n =
     ap (λ (loads : List Load). record { word = word_at row place; found = m } ∷ loads)
-        (column_more place (row + 1) column n ∙ ap (λ (r : ℕ). column_loads place (row + 1) column ++ record { word = word_at r place; found = n } ∷ []) (omega arith))
+    (column_more place (row + 1) column n ∙ ap (λ (r : ℕ). column_loads place (row + 1) column ++ record { word = word_at r place; found = n } ∷ []) (omega arith))
 
 -- one more column, of the next number
 page_more : (place : ℕ) (columns : List (List ℕ)) (column : List ℕ) → page_loads place (columns ++ column ∷ []) ≡ page_loads place columns ++ column_loads (place + length columns) 0 column
 page_more place [] column = append-nil (column_loads place 0 column) ∙ ap (λ (p : ℕ). column_loads p 0 column) (omega arith)
 page_more place (first ∷ columns) column =
     ap (λ (loads : List Load). column_loads place 0 first ++ loads)
-        (page_more (place + 1) columns column ∙ ap (λ (p : ℕ). page_loads (place + 1) columns ++ column_loads p 0 column) (omega arith))
+    (page_more (place + 1) columns column ∙ ap (λ (p : ℕ). page_loads (place + 1) columns ++ column_loads p 0 column) (omega arith))
     ∙ sym (append_assoc (column_loads place 0 first) (page_loads (place + 1) columns) (column_loads (place + length (first ∷ columns)) 0 column))
 
 -- loads after others

@@ -40,9 +40,13 @@ pub takes_next : (rows slots id d next : ℕ) (me : Me U Known) → me.0.row ≡
 takes_next rows slots id d next me off more is s k deep at fits =
     exchanged (get_or s.words 0 0) d next (λ (m : ℕ). (w : Known) × (a : Act U) × Valid s.homes me.1 a × KeepsBook rows (stepped s 0 m id me.1 w a)
     × drew (step slots 0 d next none) me (get_or s.words 0 0) (w, carried_after me.1 a))
-    (λ here. (record me.0 { row = Some d }, keeps, tt,
-    subst (λ (m : ℕ). KeepsBook rows record { words = set s.words 0 m; homes = s.homes; views = set s.views id (record me.0 { row = Some d }) }) (sym is) (keeps_draw id s d k at off here more),
-    ((λ e. ap (λ (n : ℕ). (record me.0 { row = Some n }, me.1)) (sym e)), (λ n. absurd (n here)))))
+    (λ here. (
+      record me.0 { row = Some d },
+      keeps,
+      tt,
+      subst (λ (m : ℕ). KeepsBook rows record { words = set s.words 0 m; homes = s.homes; views = set s.views id (record me.0 { row = Some d }) }) (sym is) (keeps_draw id s d k at off here more),
+      ((λ e. ap (λ (n : ℕ). (record me.0 { row = Some n }, me.1)) (sym e)), (λ n. absurd (n here))),
+    ))
     (λ other. (me.0, keeps, tt, same_word 0 s (keeps_look id s me.0 k at refl refl), ((λ e. absurd (other e)), (λ _. refl))))
 
 -- a number of the own row grows

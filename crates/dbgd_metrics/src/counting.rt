@@ -30,16 +30,12 @@ impl Book {
         ensures { share.new ≡ record share.old { numbers = grown share.old.numbers number k } }
     {
         let word = share.word(number);
-        self.table.shared.fetch_add::<Adds>(&mut share.token, word, k);
+        self.table
+            .shared
+            .fetch_add::<Adds>(&mut share.token, word, k);
     }
 
-    fn count_request(
-        &self,
-        share: &mut Share,
-        route: RouteName,
-        status: u16,
-        bytes: u64,
-    ) -> Counted
+    fn count_request(&self, share: &mut Share, route: RouteName, status: u16, bytes: u64) -> Counted
         requires book { share.old.book ≡ self.now.id }
         requires row { IsSome share.old.row }
         requires status { CanCount (Request route status bytes) }
@@ -84,8 +80,16 @@ impl Book {
         ensures { Counts what share.old share.new result }
     {
         match what {
-            Count::Request { route, status, bytes } => self.count_request(share, route, status, bytes),
-            Count::Pass { added, replaced, dropped } => self.count_pass(share, added, replaced, dropped),
+            Count::Request {
+                route,
+                status,
+                bytes,
+            } => self.count_request(share, route, status, bytes),
+            Count::Pass {
+                added,
+                replaced,
+                dropped,
+            } => self.count_pass(share, added, replaced, dropped),
         }
     }
 }

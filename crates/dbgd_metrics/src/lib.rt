@@ -9,6 +9,8 @@ mod number;
 mod page;
 mod plays;
 mod share;
+#[cfg(test)]
+mod tests;
 mod totals;
 mod view;
 

@@ -102,7 +102,13 @@ fn push_request(
     let requests = number_in(totals, Number::Requests { route, status });
     let mut digits = Buffer::new();
     let status = digits.format(status);
-    push_series(text, "dbgd_requests_total", route_text(route), status, requests)
+    push_series(
+        text,
+        "dbgd_requests_total",
+        route_text(route),
+        status,
+        requests,
+    )
 }
 
 // Adds the lines of a route with these statuses.
@@ -133,7 +139,12 @@ fn push_routes(text: &mut String, totals: &[u128], routes: &[RouteName]) -> Resu
 }
 
 // Adds the line of a number that isn't of requests.
-fn push_total(text: &mut String, totals: &[u128], name: &str, number: Number) -> Result<(), AllocError>
+fn push_total(
+    text: &mut String,
+    totals: &[u128],
+    name: &str,
+    number: Number,
+) -> Result<(), AllocError>
     requires { length totals.now ≡ count_of_numbers }
     ensures { OnOk result (string_bytes text.new ≡ string_bytes text.old ++ line name.now (number_in totals.now number)) }
 {
@@ -149,8 +160,18 @@ pub(crate) fn page(alloc: Global, totals: &[u128]) -> Result<String, AllocError>
     push_routes(&mut text, totals, &ROUTES)?;
     push_total(&mut text, totals, "dbgd_body_bytes_total", Number::Bytes)?;
     push_total(&mut text, totals, "dbgd_rows_added_total", Number::Added)?;
-    push_total(&mut text, totals, "dbgd_rows_replaced_total", Number::Replaced)?;
-    push_total(&mut text, totals, "dbgd_rows_dropped_total", Number::Dropped)?;
+    push_total(
+        &mut text,
+        totals,
+        "dbgd_rows_replaced_total",
+        Number::Replaced,
+    )?;
+    push_total(
+        &mut text,
+        totals,
+        "dbgd_rows_dropped_total",
+        Number::Dropped,
+    )?;
     push_total(&mut text, totals, "dbgd_passes_total", Number::Passes)?;
     Ok(text)
 }

@@ -12,6 +12,7 @@ pub struct Share {
 }
 
 /// What a split gives.
+#[derive(Drop)]
 pub enum ShareSplit {
     /// Two shares without a row.
     Two(Share, Share),
@@ -20,6 +21,7 @@ pub enum ShareSplit {
 }
 
 /// What a draw gives.
+#[derive(Drop)]
 pub enum Drawn {
     /// The share has a row.
     Drawn(Share),
@@ -65,6 +67,10 @@ impl Share {
 
 impl Drop for Share {
     fn drop(self) {
-        let Self { token: _, row: _, marked: _ } = self;
+        let Self {
+            token: _,
+            row: _,
+            marked: _,
+        } = self;
     }
 }
