@@ -77,7 +77,8 @@ impl Book {
         requires book { share.old.book ≡ self.now.id }
         requires row { IsSome share.old.row }
         requires status { CanCount what }
-        ensures { Counts what share.old share.new result }
+        ensures counts { Counts what share.old share.new result }
+        ensures same { (share.new.book ≡ share.old.book) × (share.new.row ≡ share.old.row) }
     {
         match what {
             Count::Request {
