@@ -1,0 +1,6 @@
+pub mod Views
+pub mod Keeps
+pub mod Steps
+pub mod Loads
+pub mod Rows
+pub mod Seats

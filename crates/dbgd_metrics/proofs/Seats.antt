@@ -1,0 +1,76 @@
+-- What a share shows and keeps once its seat made a step.
+use Rattle.std.proofs.Common.{◌≡◌, ℕ, ◌<◌, ◌+◌, ◌*◌, ◌≤◌, List, [], ◌∷◌, ◌++◌, refl, sym, ap, ◌∙◌, subst, arith, Bool, true, false, Option, Some, None}
+use Rattle.std.specs.Prelude.{IsSome}
+use Rattle.dbgd_metrics.proofs.Rows.{no_row, place_bound}
+use Rattle.dbgd_metrics.proofs.Views.{row_or_none}
+use Rattle.dbgd_metrics.specs.Draws.{GetsRow, TakesRow, SeesNone, FindsNone, finds}
+use Rattle.dbgd_metrics.specs.Rule.{Token, Looked}
+use Rattle.dbgd_metrics.specs.Seats.{facts_of, HasSeat}
+use Rattle.dbgd_metrics.specs.Shares.{ShareFacts}
+use Rattle.dbgd_metrics.specs.Columns.{AddUp}
+use Rattle.dbgd_metrics.specs.Numbers.{number_in, place_of, zeros}
+use Rattle.dbgd_metrics.specs.Page.{metrics_text}
+use Rattle.dbgd_metrics.specs.Totals.{IsPage, page_loads}
+use Rattle.dbgd_metrics.specs.declared.number.Number.{Number}
+use Rattle.dbgd_metrics.specs.declared.view.Known.{Known}
+use Rattle.dbgd_metrics.specs.declared.view.Load.{Load}
+
+-- what a share shows after a step on its seat
+pub facts_after : (old new : Token) (marked : Bool) (known : Known) → new.table_id ≡ old.table_id → new.me ≡ (known, old.me.1)
+    → facts_of new marked ≡ record (facts_of old marked) { row = known.row; numbers = known.numbers; loads = known.loads }
+facts_after old new marked known table me = λ k. record { book = table k; row = (me k).0.row; numbers = (me k).0.numbers; marked = marked; loads = (me k).0.loads }
+
+-- a seat that noted loads is still the share's
+pub still_seat : (old new : Token) (row : Option ℕ) (marked : Bool) → HasSeat old row marked → new.table_id ≡ old.table_id → new.me.1 ≡ old.me.1 → new.me.0.row ≡ old.me.0.row → new.me.0.numbers ≡ old.me.0.numbers
+    → HasSeat new row marked
+still_seat old new None marked has table slots row numbers = (slots ∙ has.0, has.1 ∙ sym row, (numbers ∙ has.2.0, has.2.1))
+still_seat old new (Some own) marked has table slots row numbers =
+    let words : new.table_id.words ≡ old.table_id.words = ap (λ id. id.words) table in (slots ∙ has.0, has.1 ∙ sym row, (has.2.0, omega (arith, words, has.2.1)))
+
+-- a seat with a row is still the share's where its numbers changed, marked or not
+pub still_rowed : (old new : Token) (row : Option ℕ) (marked later : Bool) → IsSome row → HasSeat old row marked → new.table_id ≡ old.table_id → new.me.1 ≡ old.me.1 → new.me.0.row ≡ old.me.0.row → HasSeat new row later
+still_rowed old new None marked later there has table slots row = absurd (no_row there)
+still_rowed old new (Some own) marked later there has table slots row =
+    let words : new.table_id.words ≡ old.table_id.words = ap (λ id. id.words) table in (slots ∙ has.0, has.1 ∙ sym row, (has.2.0, omega (arith, words, has.2.1)))
+
+-- a share without a row has counted nothing
+pub nothing_counted : (token : Token) (row : Option ℕ) (marked : Bool) → HasSeat token row marked → token.me.0.row ≡ None → (token.me.0.numbers ≡ zeros) × (marked ≡ false)
+nothing_counted token None marked has none = has.2
+nothing_counted token (Some own) marked has none = absurd (row_or_none (sym has.1) none)
+
+-- a share that drew its row
+pub takes_row : {rows row : ℕ} {share : ShareFacts} (old new : Token) (marked : Bool) → GetsRow rows old new row → facts_of old marked ≡ share → share.numbers ≡ zeros → TakesRow rows share (facts_of new marked)
+takes_row {rows} {row} {share} old new marked gets shows nothing = record {
+  tries = gets.tries;
+  free = gets.free;
+  row = row;
+  below = gets.below;
+  share = facts_after old new marked _ gets.table gets.me ∙ ap (λ (s : ShareFacts). record s { row = Some row; loads = s.loads ++ gets.tries ++ finds row ∷ [] }) shows;
+  nothing = ap (λ m. m.0.numbers) gets.me ∙ (ap (λ (s : ShareFacts). s.numbers) shows ∙ nothing);
+}
+
+-- a share that found no row left
+pub finds_none : {rows : ℕ} {share : ShareFacts} (old new : Token) (marked : Bool) → SeesNone rows old new → facts_of old marked ≡ share → FindsNone rows share (facts_of new marked)
+finds_none {rows} {share} old new marked sees shows = record {
+  tries = sees.tries;
+  free = sees.free;
+  found = sees.found;
+  all = sees.all;
+  share = facts_after old new marked _ sees.table sees.me ∙ ap (λ (s : ShareFacts). record s { loads = s.loads ++ sees.tries ++ finds sees.found ∷ [] }) shows;
+}
+
+-- the page of the totals that were added up
+pub is_page : {rows : ℕ} {share : ShareFacts} {totals text : List ℕ} (old new : Token) (row : Option ℕ) (marked : Bool) → AddUp rows 53 old new totals → HasSeat old row marked → IsSome row → old.table_id.words ≡ 1 + 53 * rows
+    → facts_of old marked ≡ share → text ≡ metrics_text totals → IsPage rows share (facts_of new marked) text
+is_page {rows} {share} {totals} {text} old new None marked sums has there words shows lines = absurd (no_row there)
+is_page {rows} {share} {totals} {text} old new (Some row) marked sums has there words shows lines = record {
+  columns = sums.columns;
+  loads = record {
+    all = sums.all;
+    each = sums.each;
+    share = facts_after old new marked _ sums.looked.table sums.looked.me ∙ ap (λ (s : ShareFacts). record s { loads = s.loads ++ page_loads 0 sums.columns }) shows;
+  };
+  own = λ number. subst (λ (ts : List ℕ). number_in share.numbers number ≤ number_in ts number) sums.values
+      (subst (λ (s : ShareFacts). number_in s.numbers number ≤ number_in totals number) shows (sums.own row (place_of number) (sym has.1) (omega (arith, words, has.2.1)) (place_bound number)));
+  lines = lines ∙ ap metrics_text sums.values;
+}

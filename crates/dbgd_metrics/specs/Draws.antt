@@ -1,0 +1,56 @@
+-- How a share draws its row: it loads the number of drawn rows until it takes the next one, or finds that none is left.
+use Rattle.std.specs.Prelude.{◌≡◌, ℕ, ◌+◌, ◌*◌, ◌<◌, ◌≤◌, List, [], ◌∷◌, ◌++◌, Some, All}
+use Rattle.dbgd_metrics.specs.declared.view.Load.{Load}
+use Rattle.dbgd_metrics.specs.declared.share.Drawn.{Drawn}
+use Rattle.dbgd_metrics.specs.declared.share.Drawn.TheVariants.{Drawn as drawn, Full as full}
+use Rattle.dbgd_metrics.specs.Numbers.{zeros}
+use Rattle.dbgd_metrics.specs.Rule.{Token}
+use Rattle.dbgd_metrics.specs.Shares.{ShareFacts}
+
+-- these loads of the number of drawn rows found some row left
+abbrev pub FindRoom : ℕ → List Load → Type 0
+FindRoom rows tries = All (λ (l : Load). (l.word ≡ 0) × (l.found < rows)) tries
+
+-- a load of the number of drawn rows, which found this
+abbrev pub finds : ℕ → Load
+finds n = record { word = 0; found = n }
+
+-- the last load found a row left, the first of those, which is now the share's; it has counted nothing
+pub record TakesRow (rows : ℕ) (old new : ShareFacts) : Type 0 where
+  pub tries : List Load
+  pub free : FindRoom rows tries
+  pub row : ℕ
+  pub below : row < rows
+  pub share : new ≡ record old { row = Some row; loads = old.loads ++ tries ++ finds row ∷ [] }
+  pub nothing : new.numbers ≡ zeros
+
+-- the last load found every row drawn, and the share stays without one
+pub record FindsNone (rows : ℕ) (old new : ShareFacts) : Type 0 where
+  pub tries : List Load
+  pub free : FindRoom rows tries
+  pub found : ℕ
+  pub all : rows ≤ found
+  pub share : new ≡ record old { loads = old.loads ++ tries ++ finds found ∷ [] }
+
+-- what a share without a row draws
+abbrev pub Draws : ℕ → ShareFacts → Drawn → Type 0
+Draws rows old (drawn new) = TakesRow rows old new
+Draws rows old (full new) = FindsNone rows old new
+
+-- the same of the share's seat, where it gets a row, which lies within the table
+pub record GetsRow (rows : ℕ) (old new : Token) (row : ℕ) : Type 0 where
+  pub tries : List Load
+  pub free : FindRoom rows tries
+  pub below : row < rows
+  pub there : (row < 65) × (54 + 53 * row ≤ new.table_id.words)
+  pub table : new.table_id ≡ old.table_id
+  pub me : new.me ≡ (record old.me.0 { row = Some row; loads = old.me.0.loads ++ tries ++ finds row ∷ [] }, old.me.1)
+
+-- the same of the share's seat, where it finds none
+pub record SeesNone (rows : ℕ) (old new : Token) : Type 0 where
+  pub tries : List Load
+  pub free : FindRoom rows tries
+  pub found : ℕ
+  pub all : rows ≤ found
+  pub table : new.table_id ≡ old.table_id
+  pub me : new.me ≡ (record old.me.0 { loads = old.me.0.loads ++ tries ++ finds found ∷ [] }, old.me.1)

@@ -1,0 +1,10 @@
+pub mod Numbers
+pub mod Counts
+pub mod Shares
+pub mod Splits
+pub mod Rule
+pub mod Seats
+pub mod Draws
+pub mod Totals
+pub mod Columns
+pub mod Page

@@ -1,0 +1,57 @@
+-- The numbers that are counted, by name, and where each stands in a row. This is the project's own order.
+use Rattle.std.specs.Prelude.{ℕ, ◌+◌, ◌*◌, ◌<◌, ◌==◌, List, [], ◌∷◌, length, slice_index, slice_set, replicate, if◌then◌else◌}
+use Rattle.dbgd_metrics.specs.declared.number.RouteName.{RouteName}
+use Rattle.dbgd_metrics.specs.declared.number.RouteName.TheVariants.{Debuginfo, Executable, Source, Section, Metrics, Other}
+use Rattle.dbgd_metrics.specs.declared.number.Number.{Number}
+use Rattle.dbgd_metrics.specs.declared.number.Number.TheVariants.{Requests, Bytes, Added, Replaced, Dropped, Passes}
+
+-- the routes, in the order of the page
+abbrev pub routes : List RouteName
+routes = Debuginfo ∷ Executable ∷ Source ∷ Section ∷ Metrics ∷ Other ∷ []
+
+-- the statuses of replies, in ascending order
+abbrev pub statuses : List ℕ
+statuses = 200 ∷ 400 ∷ 404 ∷ 405 ∷ 431 ∷ 502 ∷ 503 ∷ 507 ∷ []
+
+-- the first place of a number in a list, or the list's length
+abbrev pub place_in : List ℕ → ℕ → ℕ
+place_in [] n = 0
+place_in (x ∷ xs) n = if n == x then 0 else 1 + place_in xs n
+
+-- a status of a reply
+abbrev pub IsStatus : ℕ → Type 0
+IsStatus status = place_in statuses status < length statuses
+
+-- a route's place on the page
+abbrev pub route_place : RouteName → ℕ
+route_place Debuginfo = 0
+route_place Executable = 1
+route_place Source = 2
+route_place Section = 3
+route_place Metrics = 4
+route_place Other = 5
+
+-- a number's place in a row: first the requests by route and status, then the five others
+abbrev pub place_of : Number → ℕ
+place_of (Requests route status) = 8 * route_place route + place_in statuses status
+place_of Bytes = 48
+place_of Added = 49
+place_of Replaced = 50
+place_of Dropped = 51
+place_of Passes = 52
+
+-- how many numbers there are
+abbrev pub count_of_numbers : ℕ
+count_of_numbers = 53
+
+-- one of the numbers, by its name
+abbrev pub number_in : List ℕ → Number → ℕ
+number_in numbers number = slice_index numbers (place_of number)
+
+-- the numbers after one of them grew
+abbrev pub grown : List ℕ → Number → ℕ → List ℕ
+grown numbers number k = slice_set numbers (place_of number) (number_in numbers number + k)
+
+-- all numbers before anything was counted
+abbrev pub zeros : List ℕ
+zeros = replicate 53 0

@@ -1,0 +1,36 @@
+-- The totals of a page: what was loaded for them, and what they add up. This is the project's own rule.
+use Rattle.std.specs.Prelude.{◌≡◌, ℕ, ◌+◌, ◌≤◌, List, [], ◌∷◌, ◌++◌, map, length, All, sum}
+use Rattle.dbgd_metrics.specs.declared.number.Number.{Number}
+use Rattle.dbgd_metrics.specs.declared.view.Load.{Load}
+use Rattle.dbgd_metrics.specs.Numbers.{number_in, count_of_numbers}
+use Rattle.dbgd_metrics.specs.Page.{metrics_text}
+use Rattle.dbgd_metrics.specs.Rule.{word_at}
+use Rattle.dbgd_metrics.specs.Shares.{ShareFacts}
+
+-- the loads of the number at a place, in this row and those behind it, which found these
+abbrev pub column_loads : ℕ → ℕ → List ℕ → List Load
+column_loads place row [] = []
+column_loads place row (n ∷ column) = record { word = word_at row place; found = n } ∷ column_loads place (row + 1) column
+
+-- the loads of the number at this place, and then of those behind it, each in all rows
+abbrev pub page_loads : ℕ → List (List ℕ) → List Load
+page_loads place [] = []
+page_loads place (column ∷ columns) = column_loads place 0 column ++ page_loads (place + 1) columns
+
+-- every word of every row was loaded once, and found these numbers
+pub record Loads (rows : ℕ) (columns : List (List ℕ)) (old new : ShareFacts) : Type 0 where
+  pub all : length columns ≡ count_of_numbers
+  pub each : All (λ column. length column ≡ rows) columns
+  pub share : new ≡ record old { loads = old.loads ++ page_loads 0 columns }
+
+-- the page of the totals, each the sum of what its loads found, and none smaller than the share's own number
+pub record IsPage (rows : ℕ) (old new : ShareFacts) (text : List ℕ) : Type 0 where
+  pub columns : List (List ℕ)
+  pub loads : Loads rows columns old new
+  pub own : (number : Number) → number_in old.numbers number ≤ number_in (map sum columns) number
+  pub lines : text ≡ metrics_text (map sum columns)
+
+-- the share noted loads, and nothing else of it changed
+pub record OnlyNotes (old new : ShareFacts) : Type 0 where
+  pub more : List Load
+  pub share : new ≡ record old { loads = old.loads ++ more }
