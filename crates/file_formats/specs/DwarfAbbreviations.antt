@@ -4,6 +4,8 @@ use Rattle.std.specs.Prelude.{◌≡◌, ℕ, List, [], ◌∷◌, Bool, true, f
 use Rattle.std.specs.Option.{option_map, option_and_then}
 use Rattle.std.specs.Result.{result_ok}
 use Rattle.file_formats.specs.declared.dwarf_forms.TheConstants.{DW_FORM_IMPLICIT_CONST}
+use Rattle.file_formats.specs.declared.dwarf_units.FormSpec.{FormSpec}
+use Rattle.file_formats.specs.declared.dwarf_units.Pair.{Pair}
 use Rattle.file_formats.specs.DwarfReads.{Input, At, unsigned_at, signed_at, fixed_at}
 
 -- the place behind an abbreviation's tag, which begins at place p, and the byte on children
@@ -21,16 +23,6 @@ opened_by s code =
 -- the code of the abbreviation at place p and where its pairs begin, none where the table ends there or is cut
 unfoldable pub abbreviation_at : Input → ℕ → Option (At ℕ)
 abbreviation_at s p = option_and_then (λ code. opened_by s code) (result_ok (unsigned_at s p))
-
--- a form, and the constant that goes with the form implicit_const alone
-pub record FormSpec : Type 0 where
-  pub form : ℕ
-  pub constant : Option ℤ
-
--- a pair of an abbreviation
-pub record Pair : Type 0 where
-  pub attribute : ℕ
-  pub spec : FormSpec
 
 -- the constant that stands behind a form, where it is implicit_const
 abbrev pub spec_by : Input → At ℕ → Option (At FormSpec)

@@ -6,13 +6,15 @@ use Rattle.std.specs.Result.{result_ok}
 use Rattle.file_formats.specs.declared.encoding.Order.{Order}
 use Rattle.file_formats.specs.declared.dwarf_forms.Sense.TheVariants.{Place}
 use Rattle.file_formats.specs.declared.dwarf_units.TheConstants.{DWARF_VERSION, DW_UT_COMPILE, DW_UT_TYPE, DW_UT_PARTIAL, DW_UT_SKELETON, DW_UT_SPLIT_COMPILE, DW_UT_SPLIT_TYPE, DW_AT_STMT_LIST, DW_AT_COMP_DIR, DW_AT_STR_OFFSETS_BASE}
+use Rattle.file_formats.specs.declared.dwarf_units.UnitHead.{UnitHead}
+use Rattle.file_formats.specs.declared.dwarf_units.Pair.{Pair}
 use Rattle.file_formats.specs.Numbers.{bytes_at, number}
 use Rattle.file_formats.specs.DwarfReads.{Input, At, offset_size, unsigned_at}
 use Rattle.file_formats.specs.DwarfForms.{Raw, numbered, form_at}
 use Rattle.file_formats.specs.DwarfTexts.{Texts, FormValue, text_is, number_within, value_of}
 use Rattle.file_formats.specs.DwarfLengths.{Piece, piece_at}
 use Rattle.file_formats.specs.DwarfSequences.{Along}
-use Rattle.file_formats.specs.DwarfAbbreviations.{Pair, Pairs, IsFirst}
+use Rattle.file_formats.specs.DwarfAbbreviations.{Pairs, IsFirst}
 
 -- the units from place p on: the piece at each place where one stands, to the first place where none does
 pub data Units (order : Order) (b : List ℕ) : ℕ → List Piece → Type 0 where
@@ -30,12 +32,6 @@ pub record DebugSections : Type 0 where
   pub str_offsets : List ℕ
   pub order : Order
 
--- what a unit's header says, and the bytes behind it
-pub record UnitHead : Type 0 where
-  pub address_size : ℕ
-  pub debug_abbrev_offset : ℕ
-  pub entries : List ℕ
-
 -- how many bytes a unit's type adds to the header, none for a type that isn't known
 abbrev pub added_size : Bool → ℕ → Option ℕ
 added_size wide unit_type =
@@ -47,7 +43,7 @@ added_size wide unit_type =
 abbrev pub head_of_size : Piece → ℕ → ℕ → Option UnitHead
 head_of_size unit offset size =
     if nat_le size (length unit.bytes)
-    then Some (record { address_size = slice_index unit.bytes 3; debug_abbrev_offset = offset; entries = drop size unit.bytes })
+    then Some (record { address_size = slice_index unit.bytes 3; debug_abbrev_offset = offset; size = size })
     else None
 
 -- the header: version (2 bytes), unit_type (1), address_size (1), debug_abbrev_offset (4 or 8), and what the type adds
@@ -142,15 +138,31 @@ root_of s wide entry =
 abbrev pub unit_input : DebugSections → Bool → UnitHead → List ℕ → Input
 unit_input s wide head bytes = record { bytes = bytes; order = s.order; wide = wide; address_size = head.address_size }
 
--- the unit's first entry, with the header and the abbreviation that lead to it; none where the unit can't be read
+-- the bytes behind the unit's header
+abbrev pub entries_input : DebugSections → Piece → UnitHead → Input
+entries_input s unit head = unit_input s unit.wide head (drop head.size unit.bytes)
+
+-- the bytes from the unit's abbreviations on
+abbrev pub abbreviations_input : DebugSections → Piece → UnitHead → Input
+abbreviations_input s unit head = unit_input s unit.wide head (drop head.debug_abbrev_offset s.abbrevs)
+
+-- the entry at place at: its code, the first abbreviation of that code in the table at place p, and its values
+pub record IsEntryFrom (table info : Input) (p at : ℕ) (raw : RawEntry) : Type 0 where
+  pub code : At ℕ
+  pub begins : unsigned_at info at ≡ Ok code
+  pub not_null : (code.value == 0) ≡ false
+  pub pairs : ℕ
+  pub first : IsFirst table code.value p pairs
+  pub values : IsRaw table info pairs code.next raw
+
+-- the first entry of a unit with this header, and its texts
+pub record IsEntryWith (s : DebugSections) (unit : Piece) (head : UnitHead) (entry : RootEntry) : Type 0 where
+  pub raw : RawEntry
+  pub stands : IsEntryFrom (abbreviations_input s unit head) (entries_input s unit head) 0 0 raw
+  pub says : entry ≡ root_of s unit.wide raw
+
+-- the unit's first entry; none where the unit can't be read
 pub record IsRootEntry (s : DebugSections) (unit : Piece) (entry : RootEntry) : Type 0 where
   pub head : UnitHead
   pub header : unit_head s.order unit ≡ Some head
-  pub code : At ℕ
-  pub begins : unsigned_at (unit_input s unit.wide head head.entries) 0 ≡ Ok code
-  pub not_null : (code.value == 0) ≡ false
-  pub pairs : ℕ
-  pub first : IsFirst (unit_input s unit.wide head (drop head.debug_abbrev_offset s.abbrevs)) code.value 0 pairs
-  pub raw : RawEntry
-  pub values : IsRaw (unit_input s unit.wide head (drop head.debug_abbrev_offset s.abbrevs)) (unit_input s unit.wide head head.entries) pairs code.next raw
-  pub says : entry ≡ root_of s unit.wide raw
+  pub within : IsEntryWith s unit head entry

@@ -1,5 +1,5 @@
-//! The numbers of units and of their first entries, under the standard's names (DWARF 5, sections 7.2.2,
-//! 7.4, 7.5.1 and 7.5.4).
+//! The numbers of units and of their first entries, under the standard's names, and what their parts say
+//! (DWARF 5, sections 7.2.2, 7.4 and 7.5.1 to 7.5.4).
 
 /// The least first word that is no length of 32-bit format (section 7.2.2).
 pub const RESERVED_LENGTHS: u64 = 0xffff_fff0;
@@ -36,3 +36,32 @@ pub const DW_AT_COMP_DIR: u64 = 0x1b;
 
 /// The attribute that has the place of the unit's part of .debug_str_offsets.
 pub const DW_AT_STR_OFFSETS_BASE: u64 = 0x72;
+
+/// What a unit's header says.
+#[derive(Clone, Copy, Debug, PartialEq, Eq)]
+pub struct UnitHead {
+    /// The size of an address, in bytes.
+    pub address_size: u8,
+    /// Where the unit's abbreviations begin in .debug_abbrev, in bytes.
+    pub debug_abbrev_offset: u64,
+    /// The header's size, in bytes from the unit's first byte behind its length.
+    pub size: usize,
+}
+
+/// A form, as an abbreviation gives it.
+#[derive(Clone, Copy, Debug, PartialEq, Eq)]
+pub struct FormSpec {
+    /// The form's code.
+    pub form: u64,
+    /// The value, of the form implicit_const alone.
+    pub constant: Option<i64>,
+}
+
+/// A pair of an abbreviation.
+#[derive(Clone, Copy, Debug, PartialEq, Eq)]
+pub struct Pair {
+    /// The attribute's code.
+    pub attribute: u64,
+    /// How the attribute's value is read.
+    pub spec: FormSpec,
+}
