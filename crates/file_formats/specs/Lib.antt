@@ -5,3 +5,11 @@ pub mod Sections
 pub mod Table
 pub mod Notes
 pub mod Identity
+pub mod DwarfReads
+pub mod DwarfForms
+pub mod DwarfTexts
+pub mod DwarfCodes
+pub mod DwarfLengths
+pub mod DwarfSequences
+pub mod DwarfAbbreviations
+pub mod DwarfUnits

@@ -1,9 +1,13 @@
 //! The file formats that are read, as definitions: number encodings, ELF's header and section table,
-//! notes, and a file's identity. The code has only the enums and numbers that the definitions speak of;
-//! readers stand in the crates above. ELF gABI, chapter 4.
+//! notes, a file's identity, and DWARF 5's forms, units and line tables. The code has only the enums and
+//! numbers that the definitions speak of; readers stand in the crates above. ELF gABI, chapter 4; DWARF 5,
+//! sections 6.2 and 7.5.
 #![tactic(auto)]
 
 mod codes;
+pub mod dwarf_forms;
+pub mod dwarf_lines;
+pub mod dwarf_units;
 mod encoding;
 mod fault;
 mod fields;

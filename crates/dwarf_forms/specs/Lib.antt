@@ -1,0 +1,10 @@
+pub use Rattle.file_formats.specs.DwarfReads
+pub use Rattle.file_formats.specs.DwarfForms
+pub use Rattle.file_formats.specs.DwarfTexts
+pub use Rattle.file_formats.specs.DwarfCodes
+pub use Rattle.file_formats.specs.DwarfLengths
+pub use Rattle.file_formats.specs.DwarfSequences
+pub mod Faults
+pub mod FormAnswers
+pub mod TextAnswers
+pub mod Pieces

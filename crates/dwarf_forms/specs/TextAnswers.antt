@@ -1,0 +1,36 @@
+-- What callers see of the texts and of a value (this project's rule).
+use Rattle.std.specs.Prelude.{ℕ, Option, Ok, ℤ}
+use Rattle.std.specs.Option.{option_copied}
+use Rattle.file_formats.specs.DwarfReads.{Input, Read, ◌>>=◌}
+use Rattle.file_formats.specs.DwarfForms.{form_at}
+use Rattle.file_formats.specs.DwarfTexts.{Texts, FormValue, number_is, text_is, is_other, value_of}
+use Rattle.dwarf_forms.specs.declared.numbers.Format.{Format}
+use Rattle.dwarf_forms.specs.declared.strings.Strings.{Strings}
+use Rattle.dwarf_forms.specs.declared.value.Value.{Value}
+use Rattle.dwarf_forms.specs.declared.value.Value.TheVariants.{Number, Text, Other}
+
+-- what the texts are taken from
+abbrev pub texts_of : Strings → Texts
+texts_of s = record {
+  str = s.str.now;
+  line_str = s.line_str.now;
+  offsets = s.offsets.now;
+  base = s.base;
+  wide = s.wide;
+  order = s.order;
+}
+
+-- the format of values whose places are those of the texts
+abbrev pub format_with : Strings → ℕ → Format
+format_with s address_size = record { wide = s.wide; address_size = address_size }
+
+-- a value as a reader of attributes is told it
+abbrev pub value_facts : Value → FormValue
+value_facts (Number n) = number_is n
+value_facts (Text text) = text_is (option_copied text)
+value_facts Other = is_other
+
+-- the value of any form at the place, with its text
+abbrev pub value_at : Texts → Input → Option ℤ → ℕ → ℕ → Read FormValue
+value_at t s constant form p =
+    form_at s constant form p >>= λ raw. Ok (record { value = value_of t raw.value; next = raw.next })
