@@ -1,11 +1,14 @@
--- What an error of the system means (this project's rule; the errors are those of POSIX, XBD chapter 2.3, by std's
--- names), and what each call of the tree answers then.
+-- What an error of the system means (this project's rule; the errors are those of POSIX, XBD 2.3,
+-- by std's names), and what each call of the tree answers then.
 use Rattle.std.specs.Prelude.{ℕ, ℤ, Bool, true, false, [], Option, None, Some, if◌then◌else◌}
 use Rattle.std.specs.Ordering.{int_eq}
 use Rattle.std.specs.IoError.{error_kind, raw_os_error}
 use Rattle.std.specs.declared.io.Error.{Error}
 use Rattle.std.specs.declared.io.ErrorKind.{ErrorKind}
-use Rattle.std.specs.declared.io.ErrorKind.TheVariants.{NotFound, NotADirectory, PermissionDenied, FilesystemLoop, InvalidFilename, StaleNetworkFileHandle, OutOfMemory, InvalidInput}
+use Rattle.std.specs.declared.io.ErrorKind.TheVariants.{NotFound, NotADirectory, PermissionDenied}
+use Rattle.std.specs.declared.io.ErrorKind.TheVariants.{FilesystemLoop, InvalidFilename}
+use Rattle.std.specs.declared.io.ErrorKind.TheVariants.{StaleNetworkFileHandle}
+use Rattle.std.specs.declared.io.ErrorKind.TheVariants.{OutOfMemory, InvalidInput}
 use Rattle.row_types.specs.Faults.{raised}
 use Rattle.tree_trait.specs.Dir.{DirFacts, listed, no_dir, dir_failed, dir_no_memory}
 use Rattle.tree_trait.specs.Load.{LoadFacts, gone, failed, no_memory}
@@ -74,7 +77,7 @@ stat_of fault.Denied = stat.Gone
 stat_of fault.OutOfMemory = stat.OutOfMemory
 stat_of why = stat.Failed
 
--- the answer of the read of a folder: one that may not be read lists nothing and has passed one over
+-- the answer of the read of a folder: one that may not be read lists nothing, with one passed over
 abbrev pub dir_of : ReadFault → DirFacts
 dir_of fault.Gone = no_dir
 dir_of fault.OutOfReach = no_dir

@@ -1,5 +1,6 @@
 -- The read of a folder, entry by entry (this project's rule).
-use Rattle.std.specs.Prelude.{ℕ, Bool, true, false, List, [], ◌∷◌, ◌++◌, Result, Ok, Err, if◌then◌else◌}
+use Rattle.std.specs.Prelude.{ℕ, Bool, true, false, List, [], ◌∷◌, ◌++◌, if◌then◌else◌}
+use Rattle.std.specs.Prelude.{Result, Ok, Err}
 use Rattle.row_types.specs.Faults.{raised}
 use Rattle.tree_trait.specs.Entry.{EntryFacts, is_entry_name}
 use Rattle.tree_trait.specs.declared.entry.EntryKind.{EntryKind}
@@ -18,21 +19,24 @@ nothing_read = record { entries = []; skipped = 0; errors = 0 }
 
 -- one entry more was passed over
 abbrev pub passed_over : FolderFacts → FolderFacts
-passed_over read = record { entries = read.entries; skipped = raised read.skipped; errors = read.errors }
+passed_over read = record read { skipped = raised read.skipped }
 
 -- one entry more was passed over, for an error
 abbrev pub refused : FolderFacts → FolderFacts
-refused read = record { entries = read.entries; skipped = raised read.skipped; errors = raised read.errors }
+refused read = record read { skipped = raised read.skipped; errors = raised read.errors }
 
 -- one entry more is listed
 abbrev pub listed_too : FolderFacts → EntryFacts → FolderFacts
-listed_too read entry = record { entries = read.entries ++ entry ∷ []; skipped = read.skipped; errors = read.errors }
+listed_too read entry = record read { entries = read.entries ++ entry ∷ [] }
 
 -- one entry more; what can't be an entry's name is passed over
 abbrev pub with_entry : FolderFacts → List ℕ → EntryKind → FolderFacts
-with_entry read name kind = if is_entry_name name then listed_too read (record { name = name; kind = kind }) else passed_over read
+with_entry read name kind =
+    if is_entry_name name
+    then listed_too read (record { name = name; kind = kind })
+    else passed_over read
 
--- an entry of this name was looked at: one that is gone isn't there, and one that can't be reached is passed over
+-- an entry of this name was looked at: one that is gone isn't there, any other is passed over
 abbrev pub after_look : FolderFacts → List ℕ → Result EntryKind ReadFault → FolderFacts
 after_look read name (Ok kind) = with_entry read name kind
 after_look read name (Err fault.Gone) = read

@@ -1,5 +1,5 @@
--- The numbers of the program, pinned (this project's rule, but for those of the system): code and definitions share
--- the constants.
+-- The numbers of the program, pinned (this project's rule, but for those of the system): code and
+-- definitions share the constants.
 use Rattle.std.specs.Prelude.{◌≡◌, pos}
 use Rattle.dbgd.specs.declared.look.TheConstants.{READABLE}
 use Rattle.dbgd.specs.declared.read_fault.TheConstants.{NO_SUCH_PROCESS}
@@ -9,7 +9,7 @@ use Rattle.dbgd.specs.declared.tries.TheConstants.{TRIES}
 abbrev pub ArePinnedErrors : Type 0
 ArePinnedErrors = NO_SUCH_PROCESS ≡ pos 3
 
--- the bits of a mode by which owner, group and others may read (POSIX, XBD, sys/stat.h: S_IRUSR, S_IRGRP, S_IROTH)
+-- the bits by which owner, group and others may read (POSIX, sys/stat.h: S_IRUSR, S_IRGRP, S_IROTH)
 abbrev pub ArePinnedModes : Type 0
 ArePinnedModes = READABLE ≡ 0o444
 

@@ -1,6 +1,6 @@
 //! The entries of a folder of the system.
 
-ghost use Rattle.std.specs.Prelude.{◌≡◌, ◌≢◌, Err, Ok, IfOk, IfErr, OnOk, MatchBool};
+ghost use Rattle.std.specs.Prelude.{◌≡◌, ◌≢◌, ◌≤◌, Err, Ok, IfOk, IfErr, OnOk, MatchBool};
 ghost use Rattle.std.specs.IoError.{error_kind};
 ghost use Rattle.dbgd.specs.Errors.{fault_in_listing};
 ghost use Rattle.dbgd.specs.FolderRead.{nothing_read, passed_over, refused, with_entry};
@@ -16,7 +16,8 @@ use std::io::{self, ErrorKind};
 use std::marker::Model;
 use tree_trait::{Entry, EntryKind};
 
-/// What the read of a folder gave. Contracts see it as a record of the same.
+/// What the read of a folder gave. Each error passed an entry over. Contracts see it as a record of
+/// the same.
 #[derive(Drop)]
 pub struct FolderRead {
     /// The entries that could be looked at.
@@ -28,12 +29,15 @@ pub struct FolderRead {
 }
 
 impl Model for FolderRead {
+    ghost use Rattle.std.specs.Prelude.{◌≤◌};
     ghost use Rattle.dbgd.specs.FolderRead.{FolderFacts};
 
     ghost Value = { FolderFacts };
 
     ghost view = { λ r.
         record { entries = r.entries.items; skipped = r.skipped; errors = r.errors } };
+
+    ghost invariant = { λ r. r.errors ≤ r.skipped };
 }
 
 impl FolderRead {
@@ -59,8 +63,8 @@ impl FolderRead {
     fn refuse(&mut self)
         ensures { self.new ≡ refused self.old }
     {
+        self.skipped = self.skipped.saturating_add(1);
         self.errors.raise();
-        self.pass_over();
     }
 
     /// Adds an entry. What can't be an entry's name is passed over.
@@ -144,6 +148,8 @@ fn read_once<R: Files + AllocGlobal + Clone + Drop>(
 pub fn read_folder<R: Files + AllocGlobal + Clone + Drop>(
     files: &R,
     path: &str,
-) -> Result<FolderRead, ReadFault> {
+) -> Result<FolderRead, ReadFault>
+    ensures { IfOk result (λ read. read.errors ≤ read.skipped) }
+{
     settled(|| read_once(files, path))
 }
