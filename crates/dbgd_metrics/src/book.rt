@@ -2,7 +2,7 @@
 ghost use Rattle.std.specs.Prelude.{◌≡◌, ◌<◌, ◌≤◌, ◌*◌, ◌+◌, length, replicate, None, IfOk, MatchOption};
 ghost use Rattle.dbgd_metrics.specs.declared.book.TheConstants.{MOST_ROWS};
 ghost use Rattle.dbgd_metrics.specs.declared.number.TheConstants.{NUMBERS};
-ghost use Rattle.dbgd_metrics.specs.Numbers.{count_of_numbers};
+ghost use Rattle.dbgd_metrics.specs.Numbers.{count_of_numbers, most_rows};
 ghost use Rattle.dbgd_metrics.specs.Draws.{Draws, GetsRow, SeesNone};
 ghost use Rattle.dbgd_metrics.specs.Shares.{IsNew};
 ghost use Rattle.dbgd_metrics.specs.Splits.{Splits};
@@ -28,13 +28,15 @@ pub struct Book {
 
 impl Model for Book {
     ghost use Rattle.std.specs.Prelude.{◌≡◌, ◌+◌, ◌*◌, ◌≤◌};
+    ghost use Rattle.dbgd_metrics.specs.Numbers.{most_rows};
+    ghost use Rattle.dbgd_metrics.specs.Rule.{word_at};
     ghost use Rattle.dbgd_metrics.specs.Shares.{BookFacts};
 
     ghost Value = { BookFacts };
 
     ghost view = { λ book. record { id = book.table.shared.table_id; rows = book.rows } };
 
-    ghost invariant = { λ book. (book.table.shared.table_id.words ≡ 1 + 53 * book.rows) × (book.table.shared.key ≡ book.rows) × (book.rows ≤ 65) };
+    ghost invariant = { λ book. (book.table.shared.table_id.words ≡ word_at book.rows 0) × (book.table.shared.key ≡ book.rows) × (book.rows ≤ most_rows) };
 }
 
 impl Book {
@@ -43,7 +45,7 @@ impl Book {
         requires { (1 ≤ rows) × (rows ≤ MOST_ROWS) }
         ensures rows { IfOk result (λ made. made.0.rows ≡ rows) }
         ensures share { IfOk result (λ made. IsNew made.0.id made.1) }
-        ensures numbers { (NUMBERS ≡ count_of_numbers) × (MOST_ROWS ≡ 65) }
+        ensures numbers { (NUMBERS ≡ count_of_numbers) × (MOST_ROWS ≡ most_rows) }
     {
         let words = vec![in alloc; 0; (1 + NUMBERS * rows) as usize]?;
         let (table, token) = Table::of_words(alloc, words.as_slice(), &rows)?;
