@@ -36,7 +36,8 @@ impl Model for Book {
 
     ghost view = { λ book. record { id = book.table.shared.table_id; rows = book.rows } };
 
-    ghost invariant = { λ book. (book.table.shared.table_id.words ≡ word_at book.rows 0) × (book.table.shared.key ≡ book.rows) × (book.rows ≤ most_rows) };
+    ghost invariant = { λ book. (book.table.shared.table_id.words ≡ word_at book.rows 0)
+        × (book.table.shared.key ≡ book.rows) × (book.rows ≤ most_rows) };
 }
 
 impl Book {
@@ -58,12 +59,11 @@ impl Book {
     }
 
     /// Makes a second share of one without a row.
-    pub fn split(&self, share: Share) -> ShareSplit
+    pub fn split(&self, mut share: Share) -> ShareSplit
         requires book { share.book ≡ self.now.id }
         requires no_row { share.row ≡ None }
         ensures { Splits share result }
     {
-        let mut share = share;
         let token = self.table.shared.split_seat::<Blank>(&mut share.token);
         let other = Share {
             token,
@@ -74,12 +74,11 @@ impl Book {
     }
 
     /// Gives a share the next row that no other has, if there is one left.
-    pub fn draw<R: Wait>(&self, rt: &R, share: Share) -> Drawn
+    pub fn draw<R: Wait>(&self, rt: &R, mut share: Share) -> Drawn
         requires book { share.book ≡ self.now.id }
         requires no_row { share.row ≡ None }
         ensures { Draws self.now.rows share result }
     {
-        let mut share = share;
         match self.draw_row(rt, &mut share.token) {
             Some(row) => {
                 share.row = Some(row);
@@ -93,7 +92,8 @@ impl Book {
     fn draw_row<R: Wait>(&self, rt: &R, token: &mut Token) -> Option<u64>
         requires table { token.old.table_id ≡ self.now.id }
         requires no_row { token.old.me.0.row ≡ None }
-        ensures { MatchOption result (SeesNone self.now.rows token.old token.new) (GetsRow self.now.rows token.old token.new) }
+        ensures { MatchOption result (SeesNone self.now.rows token.old token.new)
+            (GetsRow self.now.rows token.old token.new) }
     {
         let shared = &self.table.shared;
         for _ in rt.forever() {

@@ -1,4 +1,4 @@
-use Rattle.std.proofs.Common.{◌≡◌, ℕ, ◌+◌, ◌*◌, List, ap, ◌∙◌, sym, subst, Result, Ok, Err}
+use Rattle.std.proofs.Common.{◌≡◌, ap, ◌∙◌, sym, subst, Result, Ok, Err}
 use Rattle.std.specs.Prelude.{IsSome, IfOk}
 use Rattle.dbgd_metrics.specs.Page.{metrics_text}
 use Rattle.dbgd_metrics.specs.Rule.{word_at}
