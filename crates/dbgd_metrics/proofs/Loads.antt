@@ -1,6 +1,6 @@
 -- What loads for the totals find and add up, one more at a time.
-use Rattle.std.proofs.Common.{◌≡◌, ◌≢◌, ℕ, ◌+◌, ◌*◌, ◌<◌, ◌≤◌, List, [], ◌∷◌, ◌++◌, length, map, get_or, refl, sym, ap, ◌∙◌, subst, arith, append_assoc, length-append, Some}
-use Rattle.std.specs.Prelude.{sum, All}
+use Rattle.std.proofs.Common.{◌≡◌, ◌≢◌, ℕ, ◌+◌, ◌<◌, List, [], ◌∷◌, ◌++◌, length, map, get_or, sym, ap, ◌∙◌, subst, arith, append_assoc, length-append}
+use Rattle.std.specs.Prelude.{sum}
 use Rattle.std.proofs.lemmas.List.{get_or_append_left, length-map}
 use Rattle.std.proofs.Math.Seq.{get_or-append_seam}
 use Rattle.std.proofs.lemmas.List.Sums.{sum_by-append}
@@ -13,7 +13,6 @@ use Rattle.atomic_table.specs.Table.{step}
 use Rattle.dbgd_metrics.specs.Columns.{AddsUp, AddUp}
 use Rattle.dbgd_metrics.specs.Rule.{Token, Looked, noted, noticed, word_at}
 use Rattle.dbgd_metrics.specs.Totals.{column_loads, page_loads}
-use Rattle.dbgd_metrics.specs.declared.view.Known.{Known}
 use Rattle.dbgd_metrics.specs.declared.view.Load.{Load}
 
 -- one more load, in the next row

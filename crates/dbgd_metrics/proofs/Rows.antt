@@ -1,5 +1,5 @@
 -- The row of a share, and the word of one of its numbers.
-use Rattle.std.proofs.Common.{◌≡◌, ℕ, zero, suc, ◌+◌, ◌-◌, ◌*◌, ◌<◌, ◌≤◌, List, [], ◌∷◌, length, Bool, true, false, refl, subst, arith, Option, Some, None, leb, ltb, eqb, if◌then◌else◌}
+use Rattle.std.proofs.Common.{◌≡◌, ℕ, suc, ◌+◌, ◌-◌, ◌<◌, ◌≤◌, List, [], ◌∷◌, length, Bool, true, false, refl, subst, arith, Option, Some, None, leb, ltb, eqb, if◌then◌else◌}
 use Rattle.std.specs.Prelude.{IsSome, IfSome, ◌^◌}
 use Rattle.std.proofs.lemmas.Bool.Decides.{nat_tests}
 use Rattle.dbgd_metrics.specs.Numbers.{place_in, place_of, route_place, statuses}

@@ -1,19 +1,17 @@
 -- What a share shows and keeps once its seat made a step.
-use Rattle.std.proofs.Common.{◌≡◌, ℕ, ◌<◌, ◌+◌, ◌*◌, ◌≤◌, List, [], ◌∷◌, ◌++◌, refl, sym, ap, ◌∙◌, subst, arith, Bool, true, false, Option, Some, None}
+use Rattle.std.proofs.Common.{◌≡◌, ℕ, ◌≤◌, List, [], ◌∷◌, ◌++◌, sym, ap, ◌∙◌, subst, arith, Bool, false, Option, Some, None}
 use Rattle.std.specs.Prelude.{IsSome}
 use Rattle.dbgd_metrics.proofs.Rows.{no_row, place_bound}
 use Rattle.dbgd_metrics.proofs.Views.{row_or_none}
 use Rattle.dbgd_metrics.specs.Draws.{GetsRow, TakesRow, SeesNone, FindsNone, finds}
-use Rattle.dbgd_metrics.specs.Rule.{Token, Looked}
+use Rattle.dbgd_metrics.specs.Rule.{Token, word_at}
 use Rattle.dbgd_metrics.specs.Seats.{facts_of, HasSeat}
 use Rattle.dbgd_metrics.specs.Shares.{ShareFacts}
 use Rattle.dbgd_metrics.specs.Columns.{AddUp}
 use Rattle.dbgd_metrics.specs.Numbers.{number_in, place_of, zeros}
 use Rattle.dbgd_metrics.specs.Page.{metrics_text}
 use Rattle.dbgd_metrics.specs.Totals.{IsPage, page_loads}
-use Rattle.dbgd_metrics.specs.declared.number.Number.{Number}
 use Rattle.dbgd_metrics.specs.declared.view.Known.{Known}
-use Rattle.dbgd_metrics.specs.declared.view.Load.{Load}
 
 -- what a share shows after a step on its seat
 pub facts_after : (old new : Token) (marked : Bool) (known : Known) → new.table_id ≡ old.table_id → new.me ≡ (known, old.me.1)
@@ -60,7 +58,7 @@ finds_none {rows} {share} old new marked sees shows = record {
 }
 
 -- the page of the totals that were added up
-pub is_page : {rows : ℕ} {share : ShareFacts} {totals text : List ℕ} (old new : Token) (row : Option ℕ) (marked : Bool) → AddUp rows 53 old new totals → HasSeat old row marked → IsSome row → old.table_id.words ≡ 1 + 53 * rows
+pub is_page : {rows : ℕ} {share : ShareFacts} {totals text : List ℕ} (old new : Token) (row : Option ℕ) (marked : Bool) → AddUp rows 53 old new totals → HasSeat old row marked → IsSome row → old.table_id.words ≡ word_at rows 0
     → facts_of old marked ≡ share → text ≡ metrics_text totals → IsPage rows share (facts_of new marked) text
 is_page {rows} {share} {totals} {text} old new None marked sums has there words shows lines = absurd (no_row there)
 is_page {rows} {share} {totals} {text} old new (Some row) marked sums has there words shows lines = record {

@@ -1,6 +1,5 @@
 -- What the seat notes while the totals are added up.
 use Rattle.std.specs.Prelude.{◌≡◌, ℕ, ◌<◌, ◌≤◌, List, length, slice_index, map, Some, All, sum}
-use Rattle.dbgd_metrics.specs.Numbers.{count_of_numbers}
 use Rattle.dbgd_metrics.specs.Rule.{Token, Looked}
 use Rattle.dbgd_metrics.specs.Totals.{column_loads, page_loads}
 

@@ -1,10 +1,10 @@
 -- How a share draws its row: it loads the number of drawn rows until it takes the next one, or finds that none is left.
-use Rattle.std.specs.Prelude.{◌≡◌, ℕ, ◌+◌, ◌*◌, ◌<◌, ◌≤◌, List, [], ◌∷◌, ◌++◌, Some, All}
+use Rattle.std.specs.Prelude.{◌≡◌, ℕ, ◌<◌, ◌≤◌, List, [], ◌∷◌, ◌++◌, Some, All}
 use Rattle.dbgd_metrics.specs.declared.view.Load.{Load}
 use Rattle.dbgd_metrics.specs.declared.share.Drawn.{Drawn}
 use Rattle.dbgd_metrics.specs.declared.share.Drawn.TheVariants.{Drawn as drawn, Full as full}
 use Rattle.dbgd_metrics.specs.Numbers.{zeros}
-use Rattle.dbgd_metrics.specs.Rule.{Token}
+use Rattle.dbgd_metrics.specs.Rule.{Token, IsInside}
 use Rattle.dbgd_metrics.specs.Shares.{ShareFacts}
 
 -- these loads of the number of drawn rows found some row left
@@ -42,7 +42,7 @@ pub record GetsRow (rows : ℕ) (old new : Token) (row : ℕ) : Type 0 where
   pub tries : List Load
   pub free : FindRoom rows tries
   pub below : row < rows
-  pub there : (row < 65) × (54 + 53 * row ≤ new.table_id.words)
+  pub there : IsInside row new.table_id.words
   pub table : new.table_id ≡ old.table_id
   pub me : new.me ≡ (record old.me.0 { row = Some row; loads = old.me.0.loads ++ tries ++ finds row ∷ [] }, old.me.1)
 

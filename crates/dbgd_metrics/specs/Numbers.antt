@@ -44,6 +44,10 @@ place_of Passes = 52
 abbrev pub count_of_numbers : ℕ
 count_of_numbers = 53
 
+-- the most rows of a table
+abbrev pub most_rows : ℕ
+most_rows = 65
+
 -- one of the numbers, by its name
 abbrev pub number_in : List ℕ → Number → ℕ
 number_in numbers number = slice_index numbers (place_of number)
@@ -54,4 +58,4 @@ grown numbers number k = slice_set numbers (place_of number) (number_in numbers 
 
 -- all numbers before anything was counted
 abbrev pub zeros : List ℕ
-zeros = replicate 53 0
+zeros = replicate count_of_numbers 0

@@ -1,5 +1,5 @@
 -- The rule of the counters' table, and what each kind of step on it tells. This is the project's own rule.
--- Word 0 is the number of rows that were drawn; behind it lie the rows, 53 words each.
+-- Word 0 is the number of rows that were drawn; behind it lie the rows, a word for each number.
 use Rattle.std.specs.Prelude.{◌≡◌, ◌≢◌, ℕ, ◌+◌, ◌*◌, ◌<◌, ◌≤◌, List, [], ◌∷◌, ◌++◌, length, slice_index, slice_set, Some, None}
 use mathlib.Core.Option.{some}
 use lib.ListN.{get_elem?}
@@ -7,11 +7,15 @@ use Rattle.atomic_table.specs.Table.{State, Me, Step}
 use Rattle.atomic_table.specs.declared.shared.Seat.{Seat}
 use Rattle.dbgd_metrics.specs.declared.view.Known.{Known}
 use Rattle.dbgd_metrics.specs.declared.view.Load.{Load}
-use Rattle.dbgd_metrics.specs.Numbers.{zeros}
+use Rattle.dbgd_metrics.specs.Numbers.{zeros, count_of_numbers, most_rows}
 
 -- the word of a number in a row
 abbrev pub word_at : ℕ → ℕ → ℕ
-word_at row place = 1 + 53 * row + place
+word_at row place = 1 + count_of_numbers * row + place
+
+-- the row lies within a table of so many words
+abbrev pub IsInside : ℕ → ℕ → Type 0
+IsInside row words = (row < most_rows) × (word_at (row + 1) 0 ≤ words)
 
 -- a seat without a row, that has counted and noted nothing
 abbrev pub blank : Known
@@ -19,15 +23,15 @@ blank = record { row = None; numbers = zeros; loads = [] }
 
 -- what the table keeps at every moment
 pub record KeepsBook {S : Type 0} (rows : ℕ) (state : State S Known) : Type 0 where
-  pub size : length state.words ≡ 1 + 53 * rows  -- one word, and 53 for each row
+  pub size : length state.words ≡ 1 + count_of_numbers * rows  -- one word, and one for each number of each row
   pub drawn : slice_index state.words 0 ≤ rows  -- no more rows were drawn than there are
   pub below : (id : ℕ) (known : Known) (row : ℕ) → get_elem? state.views id ≡ some known → known.row ≡ Some row → row < slice_index state.words 0  -- a seat's row was drawn
   pub owned : (row : ℕ) → row < slice_index state.words 0 → (id : ℕ) × (known : Known) × (get_elem? state.views id ≡ some known) × (known.row ≡ Some row)  -- each drawn row is a seat's
   pub alone : (i j : ℕ) (one other : Known) (row : ℕ) → get_elem? state.views i ≡ some one → get_elem? state.views j ≡ some other → one.row ≡ Some row → other.row ≡ Some row → i ≡ j  -- no two seats have one row
-  pub whole : (id : ℕ) (known : Known) → get_elem? state.views id ≡ some known → length known.numbers ≡ 53  -- a seat has 53 numbers
-  pub same : (id : ℕ) (known : Known) (row place : ℕ) → get_elem? state.views id ≡ some known → known.row ≡ Some row → place < 53 → slice_index state.words (word_at row place) ≡ slice_index known.numbers place  -- the words of its row are its numbers
+  pub whole : (id : ℕ) (known : Known) → get_elem? state.views id ≡ some known → length known.numbers ≡ count_of_numbers  -- a seat has all numbers
+  pub same : (id : ℕ) (known : Known) (row place : ℕ) → get_elem? state.views id ≡ some known → known.row ≡ Some row → place < count_of_numbers → slice_index state.words (word_at row place) ≡ slice_index known.numbers place  -- the words of its row are its numbers
   pub idle : (id : ℕ) (known : Known) → get_elem? state.views id ≡ some known → known.row ≡ None → known.numbers ≡ zeros  -- a seat without a row has counted nothing
-  pub rest : (word : ℕ) → 53 * slice_index state.words 0 < word → word ≤ 53 * rows → slice_index state.words word ≡ 0  -- rows that weren't drawn are zeros
+  pub rest : (word : ℕ) → count_of_numbers * slice_index state.words 0 < word → word ≤ count_of_numbers * rows → slice_index state.words word ≡ 0  -- rows that weren't drawn are zeros
 
 -- what a seat knows once it has noted more loads
 abbrev pub noted : Known → List Load → Known
@@ -36,7 +40,7 @@ noted known more = record known { loads = known.loads ++ more }
 module _ {S : Type 0} where
   -- where the word is one of the own row, it holds the own number
   abbrev pub TellsOwn : Step S → Me S Known → ℕ → Type 0
-  TellsOwn step before found = (row place : ℕ) → before.0.row ≡ Some row → place < 53 → step.word ≡ word_at row place → found ≡ slice_index before.0.numbers place
+  TellsOwn step before found = (row place : ℕ) → before.0.row ≡ Some row → place < count_of_numbers → step.word ≡ word_at row place → found ≡ slice_index before.0.numbers place
 
   -- a load, which changes nothing
   abbrev pub read : Step S → Me S Known → ℕ → Me S Known → Type 0
@@ -52,7 +56,7 @@ module _ {S : Type 0} where
 
   -- an addition to a word of the own row, by which that number of the seat grows
   abbrev pub added : Step S → Me S Known → ℕ → Me S Known → Type 0
-  added step before found after = (row place : ℕ) → before.0.row ≡ Some row → place < 53 → step.word ≡ word_at row place
+  added step before found after = (row place : ℕ) → before.0.row ≡ Some row → place < count_of_numbers → step.word ≡ word_at row place
       → after ≡ (record before.0 { numbers = slice_set before.0.numbers place (slice_index before.0.numbers place + step.first) }, before.1)
 
 -- a seat of the table

@@ -1,7 +1,7 @@
 -- What a share shows of its seat, and what it keeps of it.
-use Rattle.std.specs.Prelude.{◌≡◌, ℕ, ◌+◌, ◌*◌, ◌<◌, ◌≤◌, [], Bool, false, Option, MatchOption}
+use Rattle.std.specs.Prelude.{◌≡◌, ℕ, [], Bool, false, Option, MatchOption}
 use Rattle.dbgd_metrics.specs.Numbers.{zeros}
-use Rattle.dbgd_metrics.specs.Rule.{Token}
+use Rattle.dbgd_metrics.specs.Rule.{Token, IsInside}
 use Rattle.dbgd_metrics.specs.Shares.{ShareFacts}
 
 -- what contracts see of a share with this seat and this mark
@@ -12,4 +12,4 @@ facts_of token marked = record { book = token.table_id; row = token.me.0.row; nu
 abbrev pub HasSeat : Token → Option ℕ → Bool → Type 0
 HasSeat token row marked =
     (token.me.1 ≡ []) × (row ≡ token.me.0.row)
-    × MatchOption row ((token.me.0.numbers ≡ zeros) × (marked ≡ false)) (λ own. (own < 65) × (54 + 53 * own ≤ token.table_id.words))
+    × MatchOption row ((token.me.0.numbers ≡ zeros) × (marked ≡ false)) (λ own. IsInside own token.table_id.words)

@@ -2,7 +2,7 @@
 ghost use Rattle.std.specs.Prelude.{◌≡◌, ◌<◌, ◌≤◌, ◌*◌, ◌+◌, length, replicate, None, IfOk, MatchOption};
 ghost use Rattle.dbgd_metrics.specs.declared.book.TheConstants.{MOST_ROWS};
 ghost use Rattle.dbgd_metrics.specs.declared.number.TheConstants.{NUMBERS};
-ghost use Rattle.dbgd_metrics.specs.Numbers.{count_of_numbers};
+ghost use Rattle.dbgd_metrics.specs.Numbers.{count_of_numbers, most_rows};
 ghost use Rattle.dbgd_metrics.specs.Draws.{Draws, GetsRow, SeesNone};
 ghost use Rattle.dbgd_metrics.specs.Shares.{IsNew};
 ghost use Rattle.dbgd_metrics.specs.Splits.{Splits};
@@ -28,13 +28,16 @@ pub struct Book {
 
 impl Model for Book {
     ghost use Rattle.std.specs.Prelude.{◌≡◌, ◌+◌, ◌*◌, ◌≤◌};
+    ghost use Rattle.dbgd_metrics.specs.Numbers.{most_rows};
+    ghost use Rattle.dbgd_metrics.specs.Rule.{word_at};
     ghost use Rattle.dbgd_metrics.specs.Shares.{BookFacts};
 
     ghost Value = { BookFacts };
 
     ghost view = { λ book. record { id = book.table.shared.table_id; rows = book.rows } };
 
-    ghost invariant = { λ book. (book.table.shared.table_id.words ≡ 1 + 53 * book.rows) × (book.table.shared.key ≡ book.rows) × (book.rows ≤ 65) };
+    ghost invariant = { λ book. (book.table.shared.table_id.words ≡ word_at book.rows 0)
+        × (book.table.shared.key ≡ book.rows) × (book.rows ≤ most_rows) };
 }
 
 impl Book {
@@ -43,7 +46,7 @@ impl Book {
         requires { (1 ≤ rows) × (rows ≤ MOST_ROWS) }
         ensures rows { IfOk result (λ made. made.0.rows ≡ rows) }
         ensures share { IfOk result (λ made. IsNew made.0.id made.1) }
-        ensures numbers { (NUMBERS ≡ count_of_numbers) × (MOST_ROWS ≡ 65) }
+        ensures numbers { (NUMBERS ≡ count_of_numbers) × (MOST_ROWS ≡ most_rows) }
     {
         let words = vec![in alloc; 0; (1 + NUMBERS * rows) as usize]?;
         let (table, token) = Table::of_words(alloc, words.as_slice(), &rows)?;
@@ -56,12 +59,11 @@ impl Book {
     }
 
     /// Makes a second share of one without a row.
-    pub fn split(&self, share: Share) -> ShareSplit
+    pub fn split(&self, mut share: Share) -> ShareSplit
         requires book { share.book ≡ self.now.id }
         requires no_row { share.row ≡ None }
         ensures { Splits share result }
     {
-        let mut share = share;
         let token = self.table.shared.split_seat::<Blank>(&mut share.token);
         let other = Share {
             token,
@@ -72,12 +74,11 @@ impl Book {
     }
 
     /// Gives a share the next row that no other has, if there is one left.
-    pub fn draw<R: Wait>(&self, rt: &R, share: Share) -> Drawn
+    pub fn draw<R: Wait>(&self, rt: &R, mut share: Share) -> Drawn
         requires book { share.book ≡ self.now.id }
         requires no_row { share.row ≡ None }
         ensures { Draws self.now.rows share result }
     {
-        let mut share = share;
         match self.draw_row(rt, &mut share.token) {
             Some(row) => {
                 share.row = Some(row);
@@ -91,7 +92,8 @@ impl Book {
     fn draw_row<R: Wait>(&self, rt: &R, token: &mut Token) -> Option<u64>
         requires table { token.old.table_id ≡ self.now.id }
         requires no_row { token.old.me.0.row ≡ None }
-        ensures { MatchOption result (SeesNone self.now.rows token.old token.new) (GetsRow self.now.rows token.old token.new) }
+        ensures { MatchOption result (SeesNone self.now.rows token.old token.new)
+            (GetsRow self.now.rows token.old token.new) }
     {
         let shared = &self.table.shared;
         for _ in rt.forever() {

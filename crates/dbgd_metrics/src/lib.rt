@@ -1,5 +1,5 @@
-//! A table of counters that threads share, a row for each thread, and the text of the metrics page. It decides
-//! nothing about what is worth counting, and knows no reply and no index.
+//! A table of counters that threads share, a row for each thread, and the text of the metrics page.
+//! It decides nothing about what is worth counting, and knows no reply and no index.
 #![tactic(auto)]
 
 mod book;

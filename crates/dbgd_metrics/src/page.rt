@@ -44,7 +44,8 @@ fn push_line(text: &mut String, name: &str, number: u128) -> Result<(), AllocErr
 
 // Adds a label.
 fn push_label(text: &mut String, name: &str, value: &str) -> Result<(), AllocError>
-    ensures { OnOk result (string_bytes text.new ≡ string_bytes text.old ++ label name.now value.now) }
+    ensures { OnOk result (string_bytes text.new ≡
+        string_bytes text.old ++ label name.now value.now) }
 {
     text.push_str(name)?;
     text.push_str("=\"")?;
@@ -54,7 +55,8 @@ fn push_label(text: &mut String, name: &str, value: &str) -> Result<(), AllocErr
 
 // Adds the labels of a route and a status.
 fn push_labels(text: &mut String, route: &str, status: &str) -> Result<(), AllocError>
-    ensures { OnOk result (string_bytes text.new ≡ string_bytes text.old ++ labels route.now status.now) }
+    ensures { OnOk result (string_bytes text.new ≡
+        string_bytes text.old ++ labels route.now status.now) }
 {
     text.push_str("{")?;
     push_label(text, "route", route)?;
@@ -71,7 +73,8 @@ fn push_series(
     status: &str,
     number: u128,
 ) -> Result<(), AllocError>
-    ensures { OnOk result (string_bytes text.new ≡ string_bytes text.old ++ line_unless_zero (name.now ++ labels route.now status.now) number) }
+    ensures { OnOk result (string_bytes text.new ≡
+        string_bytes text.old ++ line_unless_zero (name.now ++ labels route.now status.now) number) }
 {
     if number == 0 {
         return Ok(());
@@ -97,7 +100,8 @@ fn push_request(
     status: u16,
 ) -> Result<(), AllocError>
     requires { length totals.now ≡ count_of_numbers }
-    ensures { OnOk result (string_bytes text.new ≡ string_bytes text.old ++ request_line totals.now route status) }
+    ensures { OnOk result (string_bytes text.new ≡
+        string_bytes text.old ++ request_line totals.now route status) }
 {
     let requests = number_in(totals, Number::Requests { route, status });
     let mut digits = Buffer::new();
@@ -119,7 +123,8 @@ fn push_route(
     codes: &[u16],
 ) -> Result<(), AllocError>
     requires { length totals.now ≡ count_of_numbers }
-    ensures { OnOk result (string_bytes text.new ≡ string_bytes text.old ++ route_lines totals.now codes.now route) }
+    ensures { OnOk result (string_bytes text.new ≡
+        string_bytes text.old ++ route_lines totals.now codes.now route) }
 {
     for status in codes {
         push_request(text, totals, route, *status)?;
@@ -130,7 +135,8 @@ fn push_route(
 // Adds the lines of these routes.
 fn push_routes(text: &mut String, totals: &[u128], routes: &[RouteName]) -> Result<(), AllocError>
     requires { length totals.now ≡ count_of_numbers }
-    ensures { OnOk result (string_bytes text.new ≡ string_bytes text.old ++ flat_map (route_lines totals.now statuses) routes.now) }
+    ensures { OnOk result (string_bytes text.new ≡
+        string_bytes text.old ++ flat_map (route_lines totals.now statuses) routes.now) }
 {
     for route in routes {
         push_route(text, totals, *route, &STATUSES)?;
@@ -146,7 +152,8 @@ fn push_total(
     number: Number,
 ) -> Result<(), AllocError>
     requires { length totals.now ≡ count_of_numbers }
-    ensures { OnOk result (string_bytes text.new ≡ string_bytes text.old ++ line name.now (number_in totals.now number)) }
+    ensures { OnOk result (string_bytes text.new ≡
+        string_bytes text.old ++ line name.now (number_in totals.now number)) }
 {
     push_line(text, name, number_in(totals, number))
 }

@@ -44,13 +44,12 @@ fn request(route: RouteName, status: u16, bytes: u64) -> Count
 }
 
 // Counts the same so many times.
-fn count_often(book: &Book, share: Share, what: Count, times: u64) -> Share
+fn count_often(book: &Book, mut share: Share, what: Count, times: u64) -> Share
     requires book { share.book ≡ book.now.id }
     requires row { IsSome share.row }
     requires status { CanCount what }
     ensures { (result.book ≡ book.now.id) × IsSome result.row }
 {
-    let mut share = share;
     for _ in 0..times {
         book.count(&mut share, what);
     }
@@ -105,11 +104,13 @@ fn count_by_four<R: Threads + Sync>(
     let (left, right) = join(
         rt,
         || -> (Share, Share)
-            requires { IsSync R.row × (first.book ≡ book.now.id) × IsSome first.row × (second.book ≡ book.now.id) × IsSome second.row × CanCount one }
+            requires { IsSync R.row × (first.book ≡ book.now.id) × IsSome first.row
+                × (second.book ≡ book.now.id) × IsSome second.row × CanCount one }
             ensures { (result.0.book ≡ book.entry.now.id) × IsSome result.0.row }
         { count_by_two(rt, book, first, second, one) },
         || -> (Share, Share)
-            requires { IsSync R.row × (third.book ≡ book.now.id) × IsSome third.row × (fourth.book ≡ book.now.id) × IsSome fourth.row × CanCount other }
+            requires { IsSync R.row × (third.book ≡ book.now.id) × IsSome third.row
+                × (fourth.book ≡ book.now.id) × IsSome fourth.row × CanCount other }
             ensures { (result.0.book ≡ book.entry.now.id) × IsSome result.0.row }
         { count_by_two(rt, book, third, fourth, other) },
     );
@@ -120,7 +121,8 @@ fn count_by_four<R: Threads + Sync>(
 fn drawn_pair<R: Wait>(rt: &R, book: &Book, share: Share) -> Option<(Share, Share)>
     requires book { share.book ≡ book.now.id }
     requires no_row { share.row ≡ None }
-    ensures { IfSome result (λ s. (s.0.book ≡ book.now.id) × IsSome s.0.row × (s.1.book ≡ book.now.id) × IsSome s.1.row) }
+    ensures { IfSome result (λ s. (s.0.book ≡ book.now.id) × IsSome s.0.row
+        × (s.1.book ≡ book.now.id) × IsSome s.1.row) }
 {
     let (first, second) = cut(book, share);
     let first = drawn(rt, book, first)?;
@@ -276,7 +278,7 @@ fn the_totals_are_what_four_threads_counted(rt: HostRuntime) -> Result<(), Fail>
     Ok(())
 }
 
-// The page of two shares whose bytes are at their end: twice 2^64 - 1, with nothing of what was refused.
+// The page of two shares whose bytes are at their end, twice 2^64 - 1.
 const AT_THE_END: &str = "dbgd_requests_total{route=\"other\",status=\"200\"} 2
 dbgd_requests_total{route=\"other\",status=\"405\"} 1
 dbgd_body_bytes_total 36893488147419103230

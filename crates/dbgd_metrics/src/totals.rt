@@ -33,7 +33,8 @@ impl Book {
     // The sum of each number over all rows.
     fn totals(&self, alloc: Global, token: &mut Token) -> Result<Vec<u128>, AllocError>
         requires { token.old.table_id ≡ self.now.id }
-        ensures totals { IfOk result (λ totals. AddUp self.now.rows count_of_numbers token.old token.new totals.items) }
+        ensures totals { IfOk result (λ totals.
+            AddUp self.now.rows count_of_numbers token.old token.new totals.items) }
         ensures same { (more : List Load) × Looked token.old token.new more }
     {
         let mut totals = Vec::new(alloc);
@@ -43,14 +44,15 @@ impl Book {
         Ok(totals)
     }
 
-    /// The page of the totals. Each word is loaded once, at a moment within this call; the numbers of other shares
-    /// may grow in between.
+    /// The page of the totals. Each word is loaded once, at a moment within this call; the numbers of
+    /// other shares may grow in between.
     pub fn text(&self, alloc: Global, share: &mut Share) -> Result<String, AllocError>
         requires book { share.old.book ≡ self.now.id }
         requires row { IsSome share.old.row }
         ensures page { IfOk result (λ text. IsPage self.now.rows share.old share.new (string_bytes text)) }
         ensures same { OnlyNotes share.old share.new }
     {
+        // The check knows how many words the table has only where the table is looked at.
         let _ = &self.table;
         let totals = self.totals(alloc, &mut share.token)?;
         page(alloc, totals.as_slice())

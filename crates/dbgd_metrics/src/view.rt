@@ -1,5 +1,5 @@
 //! The counters' table: what each seat knows, and the rule that each step keeps.
-//! Its first word is the number of rows that were drawn; behind it lie the rows, one after the other.
+//! Its first word is the number of rows that were drawn; behind it lie the rows in their order.
 use atomic_table::{Seat, Table, TableRule};
 use std::alloc::Global;
 use std::collections::LinkedList;

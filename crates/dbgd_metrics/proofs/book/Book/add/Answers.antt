@@ -1,8 +1,8 @@
-use Rattle.std.proofs.Common.{◌≡◌, rules, arith, ap, ◌∙◌, refl, sym, subst, get_or, ℕ, ◌<◌, ◌+◌}
+use Rattle.std.proofs.Common.{rules, ap, ◌∙◌, sym, subst, get_or, ℕ, ◌<◌, ◌+◌}
 use Rattle.std.specs.Prelude.{◌^◌, IsSome}
 use Rattle.dbgd_metrics.specs.Numbers.{place_of}
 use Rattle.dbgd_metrics.proofs.Rows.{own_row, place_bound, below_limit}
-use Rattle.dbgd_metrics.proofs.Seats.{still_rowed, facts_after}
+use Rattle.dbgd_metrics.proofs.Seats.{still_rowed}
 use Rattle.dbgd_metrics.proofs.Steps.{adds}
 use Rattle.dbgd_metrics.proofs.book.Book.add.Goals as goal
 

@@ -1,7 +1,6 @@
-use Rattle.std.proofs.Common.{◌≡◌, rules, arith, ap, ◌∙◌, sym, refl}
+use Rattle.std.proofs.Common.{ap, ◌∙◌, sym}
 use Rattle.dbgd_metrics.specs.Shares.{ShareFacts}
-use Rattle.dbgd_metrics.specs.Numbers.{zeros}
-use Rattle.dbgd_metrics.proofs.Seats.{facts_after, nothing_counted, takes_row, finds_none}
+use Rattle.dbgd_metrics.proofs.Seats.{nothing_counted, takes_row}
 use Rattle.dbgd_metrics.proofs.book.Book.draw.Goals as goal
 
 pub invariant_of-share : goal.invariant_of-share

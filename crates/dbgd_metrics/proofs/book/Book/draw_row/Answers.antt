@@ -1,4 +1,4 @@
-use Rattle.std.proofs.Common.{◌≡◌, rules, refl, ◌∙◌, ap, sym, arith, None}
+use Rattle.std.proofs.Common.{◌≡◌, rules, refl, ◌∙◌, ap, arith, None}
 use Rattle.dbgd_metrics.proofs.Steps.{notices, takes_next}
 use Rattle.dbgd_metrics.proofs.book.Book.draw_row.Goals as goal
 

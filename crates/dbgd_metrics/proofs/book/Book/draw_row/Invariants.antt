@@ -1,4 +1,4 @@
-use Rattle.std.proofs.Common.{◌≡◌, ◌++◌, List}
+use Rattle.std.proofs.Common.{List}
 use Rattle.dbgd_metrics.specs.declared.view.Load.{Load}
 use Rattle.dbgd_metrics.specs.Draws.{FindRoom}
 use Rattle.dbgd_metrics.specs.Rule.{Looked}

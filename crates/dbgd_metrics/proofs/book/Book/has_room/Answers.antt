@@ -1,4 +1,4 @@
-use Rattle.std.proofs.Common.{◌≡◌, rules, ap, ◌∙◌, sym, get_or, ◌+◌}
+use Rattle.std.proofs.Common.{◌≡◌, rules, ap, ◌∙◌, get_or, ◌+◌}
 use Rattle.std.specs.Prelude.{nat_lt, ◌^◌}
 use Rattle.dbgd_metrics.specs.Numbers.{place_of}
 use Rattle.dbgd_metrics.proofs.Rows.{own_row, place_bound, room_same}

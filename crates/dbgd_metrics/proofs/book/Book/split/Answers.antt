@@ -1,6 +1,5 @@
-use Rattle.std.proofs.Common.{◌≡◌, rules, ap, ◌∙◌, refl, false}
-use Rattle.dbgd_metrics.specs.Shares.{ShareFacts, IsNew}
-use Rattle.dbgd_metrics.specs.Numbers.{zeros}
+use Rattle.std.proofs.Common.{◌≡◌, rules, ap, ◌∙◌, refl}
+use Rattle.dbgd_metrics.specs.Shares.{ShareFacts}
 use Rattle.dbgd_metrics.specs.Seats.{facts_of}
 use Rattle.dbgd_metrics.proofs.Seats.{facts_after, nothing_counted}
 use Rattle.dbgd_metrics.proofs.Steps.{splits_off}

@@ -1,6 +1,7 @@
-use Rattle.std.proofs.Common.{◌≡◌, ℕ, ◌+◌, ◌*◌, List, ap, ◌∙◌, sym, subst, Result, Ok, Err}
+use Rattle.std.proofs.Common.{◌≡◌, ap, ◌∙◌, sym, subst, Result, Ok, Err}
 use Rattle.std.specs.Prelude.{IsSome, IfOk}
 use Rattle.dbgd_metrics.specs.Page.{metrics_text}
+use Rattle.dbgd_metrics.specs.Rule.{word_at}
 use Rattle.dbgd_metrics.specs.Shares.{BookFacts, ShareFacts}
 use Rattle.dbgd_metrics.proofs.Seats.{is_page}
 use Rattle.dbgd_metrics.proofs.book.Book.text.Goals as goal
@@ -14,7 +15,7 @@ pub returns-clause-page : goal.returns-clause-page
 returns-clause-page c =
     let shows = c.share.view_is in
     let is_row : IsSome c.share.inside.row = subst IsSome (ap (λ (s : ShareFacts). s.row) (sym shows) ∙ sym c.share.invariant.1) c.requires.row in
-    let words : c.share.inside.token.table_id.words ≡ 1 + 53 * c.args.self.now.rows =
-    ap (λ (s : ShareFacts). s.book.words) shows ∙ (ap (λ id. id.words) c.requires.book ∙ (ap (λ (b : BookFacts). b.id.words) (sym c.self.view_is) ∙ (c.self.invariant.0 ∙ ap (λ (b : BookFacts). 1 + 53 * b.rows) c.self.view_is))) in
+    let words : c.share.inside.token.table_id.words ≡ word_at c.args.self.now.rows 0 =
+    ap (λ (s : ShareFacts). s.book.words) shows ∙ (ap (λ id. id.words) c.requires.book ∙ (ap (λ (b : BookFacts). b.id.words) (sym c.self.view_is) ∙ (c.self.invariant.0 ∙ ap (λ (b : BookFacts). word_at b.rows 0) c.self.view_is))) in
     then_ok _ _ c.page.result (λ text lines. is_page c.share.inside.token c.totals.new.token c.share.inside.row c.share.inside.marked c.in_ok-totals.ensures.totals c.share.invariant is_row words shows
     (lines ∙ ap metrics_text c.as_slice.ensures.value)) c.page.ensures

@@ -1,4 +1,4 @@
-use Rattle.std.proofs.Common.{◌≡◌, ◌≤◌, ◌*◌}
+use Rattle.std.proofs.Common.{◌≤◌, ◌*◌}
 use Rattle.dbgd_metrics.specs.Columns.{AddsUp}
 use Rattle.dbgd_metrics.proofs.book.Book.total.Given as goal
 
