@@ -61,10 +61,8 @@ pub record HasDebug (b : List ℕ) (t : SectionTable) : Type 0 where
 -- what a fault of the table is called of a file
 abbrev pub why_of : ElfFault → Why
 why_of fault.NotElf = why.NotElf
-why_of fault.BadHead = why.BadElf
 why_of fault.NoSections = why.NoSections
-why_of fault.BadTable = why.BadElf
-why_of fault.BadNames = why.BadElf
+why_of _ = why.BadElf
 
 -- the flags say whether such sections are there
 pub record IsFlagged (b : List ℕ) (t : SectionTable) (i : Identity) : Type 0 where

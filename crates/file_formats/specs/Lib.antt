@@ -5,3 +5,4 @@ pub mod Sections
 pub mod Table
 pub mod Notes
 pub mod Identity
+pub mod Pinned

@@ -1,9 +1,9 @@
 -- Notes (ELF gABI, chapter 5, "Note Section"; the padding is this project's own rule for both classes, and
 -- no statement about every file that a tool writes).
-use Rattle.std.specs.Prelude.{◌≡◌, ℕ, ◌+◌, ◌-◌, ◌*◌, ◌/◌, ◌≤◌, List, Bool, true, ◌&&◌, nat_le, nat_eq, ◌==◌, ◌∷◌, [], ◌++◌, length, codes, if◌then◌else◌}
+use Rattle.std.specs.Prelude.{◌≡◌, ℕ, ◌+◌, ◌-◌, ◌*◌, ◌/◌, ◌≤◌, List, Bool, true, ◌&&◌, nat_le, nat_eq, ◌==◌, length, if◌then◌else◌}
 use Rattle.std.specs.Cmp.Lexicographic.{pointwise}
 use Rattle.file_formats.specs.declared.encoding.Order.{Order}
-use Rattle.file_formats.specs.declared.codes.TheConstants.{NT_GNU_BUILD_ID}
+use Rattle.file_formats.specs.declared.notes.TheConstants.{N_NAMESZ, N_DESCSZ, N_TYPE, N_WORD, NHDR_SIZE, NOTE_ALIGN, WIDE_NOTE_ALIGN, ELF_NOTE_GNU, NT_GNU_BUILD_ID, SHORTEST_BUILD_ID, LONGEST_BUILD_ID}
 use Rattle.file_formats.specs.Numbers.{bytes_at, number}
 
 -- the notes of a section: its bytes, their order and the alignment of each part
@@ -14,7 +14,7 @@ pub record Notes : Type 0 where
 
 -- the alignment of a note section's parts, from the section's own
 abbrev pub note_align : ℕ → ℕ
-note_align addralign = if addralign == 8 then 8 else 4
+note_align addralign = if addralign == WIDE_NOTE_ALIGN then WIDE_NOTE_ALIGN else NOTE_ALIGN
 
 -- the notes of a section with these bytes and of this alignment
 abbrev pub notes_in : List ℕ → Order → ℕ → Notes
@@ -24,29 +24,33 @@ notes_in bytes order addralign = record { bytes = bytes; order = order; align = 
 abbrev pub aligned : ℕ → ℕ → ℕ
 aligned n a = (n + (a - 1)) / a * a
 
+-- the number at a place of the header of the note at place p
+abbrev pub note_number : Notes → ℕ → ℕ → ℕ
+note_number s p at = number s.order (bytes_at s.bytes (p + at) N_WORD)
+
 -- the name's size, of the note at place p
 abbrev pub namesz : Notes → ℕ → ℕ
-namesz s p = number s.order (bytes_at s.bytes p 4)
+namesz s p = note_number s p N_NAMESZ
 
 -- the descriptor's size
 abbrev pub descsz : Notes → ℕ → ℕ
-descsz s p = number s.order (bytes_at s.bytes (p + 4) 4)
+descsz s p = note_number s p N_DESCSZ
 
 -- the note's type
 abbrev pub note_type : Notes → ℕ → ℕ
-note_type s p = number s.order (bytes_at s.bytes (p + 8) 4)
+note_type s p = note_number s p N_TYPE
 
 -- where the descriptor begins
 abbrev pub desc_place : Notes → ℕ → ℕ
-desc_place s p = p + aligned (12 + namesz s p) s.align
+desc_place s p = p + aligned (NHDR_SIZE + namesz s p) s.align
 
 -- where the next note begins
 abbrev pub next_place : Notes → ℕ → ℕ
-next_place s p = p + aligned (aligned (12 + namesz s p) s.align + descsz s p) s.align
+next_place s p = p + aligned (aligned (NHDR_SIZE + namesz s p) s.align + descsz s p) s.align
 
 -- the section holds the note at place p, whose padding it may lack
 pub record HoldsNote (s : Notes) (p : ℕ) : Type 0 where
-  pub head : p + 12 ≤ length s.bytes
+  pub head : p + NHDR_SIZE ≤ length s.bytes
   pub descriptor : desc_place s p + descsz s p ≤ length s.bytes
 
 -- the places of the section's notes: the least set that holds 0, and with each place the next one, where a note is there
@@ -54,15 +58,12 @@ pub data IsNotePlace (s : Notes) : ℕ → Type 0 where
   first_place : HoldsNote s 0 → IsNotePlace s 0
   place_after : (p : ℕ) → IsNotePlace s p → HoldsNote s (next_place s p) → IsNotePlace s (next_place s p)
 
--- GNU's owner name with its 0
-abbrev pub gnu_name : List ℕ
-gnu_name = codes "GNU" ++ 0 ∷ []
-
 -- the note at place p is a build-id of 2 to 64 bytes
 abbrev pub is_build_id : Notes → ℕ → Bool
 is_build_id s p =
-    (namesz s p == 4) && (note_type s p == NT_GNU_BUILD_ID) && nat_le 2 (descsz s p) && nat_le (descsz s p) 64
-    && pointwise nat_eq (bytes_at s.bytes (p + 12) 4) gnu_name
+    (namesz s p == length ELF_NOTE_GNU) && (note_type s p == NT_GNU_BUILD_ID)
+    && nat_le SHORTEST_BUILD_ID (descsz s p) && nat_le (descsz s p) LONGEST_BUILD_ID
+    && pointwise nat_eq (bytes_at s.bytes (p + NHDR_SIZE) (length ELF_NOTE_GNU)) ELF_NOTE_GNU
 
 -- the descriptor of the note at place p
 abbrev pub descriptor : Notes → ℕ → List ℕ
