@@ -25,9 +25,11 @@ id_at-unique {b} {t} {i} {x} p q =
     first_id-unique (subst P same p.first) q.first
 
 -- a file has one build-id
-pub build_id-unique : {b : List ℕ} {t : SectionTable} {x y : List ℕ} → IsBuildId b t x → IsBuildId b t y → x ≡ y
+pub build_id-unique : {b : List ℕ} {t : SectionTable} {x y : List ℕ}
+    → IsBuildId b t x → IsBuildId b t y → x ≡ y
 build_id-unique {b} {t} {x} p q =
-    let same : p.index ≡ q.index = omega (arith, p.least q.index _ q.here, q.least p.index _ p.here) in
+    let same : p.index ≡ q.index =
+    omega (arith, p.least q.index _ q.here, q.least p.index _ p.here) in
     let P : ℕ → Type 0 = λ i. HasIdAt b t i x in
     id_at-unique (subst P same p.here) q.here
 
@@ -68,7 +70,7 @@ has_none {b} {id = id} same has none =
 
 -- the identity of a file, or the first reason why it has none, is one
 one_answer : {b : List ℕ} {r s : Result Identity Why} → IsIdentity b r → IsIdentity b s → r ≡ s
-one_answer (refused f e) (refused g h) = let same : f ≡ g = cc in ap (λ fault. Err (why_of fault)) same
+one_answer (refused f e) (refused g h) = ap (λ fault. Err (why_of fault)) (cc)
 one_answer (refused f e) (core u h q) = cc
 one_answer (refused f e) (no_id u h q n) = cc
 one_answer (refused f e) (found u j h q y g) = cc
@@ -85,7 +87,8 @@ one_answer (found t i e p x f) (core u h q) = absurd (p (cc))
 one_answer (found t i e p x f) (no_id u h q n) = absurd (has_none (cc) x n)
 one_answer (found t i e p x f) (found u j h q y g) = ap (λ k. Ok k) (same_found (cc) x f y g)
 
-pub identity-unique : (b : List ℕ) (r s : Result Identity Why) → IsIdentity b r → IsIdentity b s → r ≡ s
+pub identity-unique : (b : List ℕ) (r s : Result Identity Why)
+    → IsIdentity b r → IsIdentity b s → r ≡ s
 identity-unique b r s p q = one_answer p q
 
 -- a fault of the table is no fault of size
@@ -95,7 +98,8 @@ why-small NoSections e = cc
 why-small _ e = cc
 
 -- no file is too large by its bytes
-pub identity-not_too_large : {b : List ℕ} {r : Result Identity Why} → IsIdentity b r → r ≡ Err TooLarge → ⊥
+pub identity-not_too_large : {b : List ℕ} {r : Result Identity Why}
+    → IsIdentity b r → r ≡ Err TooLarge → ⊥
 identity-not_too_large (refused f e) h = why-small f (cc)
 identity-not_too_large (core t e p) h = cc
 identity-not_too_large (no_id t e p n) h = cc
@@ -107,7 +111,8 @@ section_of-unique : {b : List ℕ} {t u : SectionTable} {name x y : List ℕ} �
 section_of-unique {b} {t} {u} {name} {x} same p q =
     let P : SectionTable → Type 0 = λ v. IsSectionOf b v name x in
     let r : IsSectionOf b u name x = subst P same p in
-    let index : r.index ≡ q.index = omega (arith, r.first q.index _ q.here, q.first r.index _ r.here) in
+    let index : r.index ≡ q.index =
+    omega (arith, r.first q.index _ q.here, q.first r.index _ r.here) in
     let Q : ℕ → Type 0 = λ i. HasSection b u name i x in
     let here : HasSection b u name q.index x = subst Q index r.here in
     cc (here.holds, q.here.holds)
@@ -122,7 +127,8 @@ no_section {b} {name = name} {x = x} same has none =
 -- what is answered for the section of a name is one
 pub section-unique : {b name : List ℕ} {r s : Option (List ℕ)}
     → IsSectionAnswer b name r → IsSectionAnswer b name s → r ≡ s
-section-unique (present t x e p) (present u y f q) = ap (λ bytes. Some bytes) (section_of-unique (cc) p q)
+section-unique (present t x e p) (present u y f q) =
+    ap (λ bytes. Some bytes) (section_of-unique (cc) p q)
 section-unique (present t x e p) (absent u f q) = absurd (no_section (cc) p q)
 section-unique (present t x e p) (no_table g f) = cc
 section-unique (absent t e p) (present u y f q) = absurd (no_section (cc) q p)

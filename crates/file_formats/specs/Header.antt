@@ -1,5 +1,5 @@
--- The ELF header (ELF gABI, chapter 4, "ELF Header" and "ELF Identification"): its fields by their places,
--- and the first two tests of a file.
+-- The ELF header (ELF gABI, chapter 4, "ELF Header" and "ELF Identification"): its fields by their
+-- places, and the first two tests of a file.
 use Rattle.std.specs.Prelude.{ℕ, ◌+◌, List, Option, Some, None, Result, Ok, Err, Bool, nat_eq, nat_lt, nat_le, ◌==◌, if◌then◌else◌, length, slice_index, ⊤}
 use Rattle.std.specs.List.{starts_with}
 use Rattle.file_formats.specs.declared.encoding.Order.{Order}
@@ -51,7 +51,8 @@ abbrev pub encoding_named : Option Class → Option Order → Option Encoding
 encoding_named (Some c) (Some o) = Some (record { class = c; order = o })
 encoding_named _ _ = None
 
--- what EI_CLASS, EI_DATA and EI_VERSION name, where all of e_ident is there and each names what is known
+-- what EI_CLASS, EI_DATA and EI_VERSION name, where all of e_ident is there and each names what is
+-- known
 unfoldable pub encoding_of : List ℕ → Option Encoding
 encoding_of b =
     if nat_lt (length b) EI_NIDENT then None
@@ -60,7 +61,6 @@ encoding_of b =
     else None)
 
 infixl 10 ◌>>=◌
-
 -- a test's fault where it doesn't hold, as one line of a list of tests
 abbrev pub ◌>>=◌ : {A B : Type 0} → Result A ElfFault → (A → Result B ElfFault) → Result B ElfFault
 (Ok x) >>= f = f x

@@ -1,4 +1,5 @@
--- The identity of a file: its build-id, and what it holds (this project's rule over ELF's section table and notes).
+-- The identity of a file: its build-id, and what it holds (this project's rule over ELF's section
+-- table and notes).
 use Rattle.std.specs.Prelude.{◌≡◌, ◌≢◌, ◌↔◌, ℕ, ◌≤◌, List, Option, Some, Result, Ok, Err, Bool, true, false, not, IsTrue, ◌&&◌, ◌==◌, nat_eq, codes}
 use Rattle.std.specs.Option.{option_map_or}
 use Rattle.std.specs.List.{starts_with}
@@ -50,7 +51,8 @@ pub record HasCode (b : List ℕ) (t : SectionTable) : Type 0 where
 
 -- the section is one of debug information, by its type and name
 abbrev pub is_debug : SectionHeader → Option (List ℕ) → Bool
-is_debug s name = not (is_bodiless s) && option_map_or (λ n. starts_with nat_eq n (codes ".debug_")) name false
+is_debug s name =
+    not (is_bodiless s) && option_map_or (λ n. starts_with nat_eq n (codes ".debug_")) name false
 
 -- some section is one of debug information
 pub record HasDebug (b : List ℕ) (t : SectionTable) : Type 0 where

@@ -1,6 +1,6 @@
--- The numbers of the formats, pinned: code and definitions share the constants, so each is stated here once more
--- (ELF gABI, chapter 4, "ELF Identification", "ELF Header", "Sections" and "Special Section Indexes", and chapter 5,
--- "Note Section"; GNU's build-id; DWARF 5, section 7.6).
+-- The numbers of the formats, pinned: code and definitions share the constants, so each is stated
+-- here once more (ELF gABI, chapter 4, "ELF Identification", "ELF Header", "Sections" and "Special
+-- Section Indexes", and chapter 5, "Note Section"; GNU's build-id; DWARF 5, section 7.6).
 use Rattle.std.specs.Prelude.{◌≡◌, ℕ, ◌∷◌, [], ◌++◌, codes}
 use Rattle.file_formats.specs.declared.ident.TheConstants.{ELFMAG, EI_CLASS, EI_DATA, EI_VERSION, EI_NIDENT, ELFCLASS32, ELFCLASS64, ELFDATA2LSB, ELFDATA2MSB, EV_CURRENT}
 use Rattle.file_formats.specs.declared.codes.TheConstants.{ET_CORE, SHT_NULL, SHT_PROGBITS, SHT_NOTE, SHT_NOBITS, SHF_ALLOC, SHF_COMPRESSED, SHN_UNDEF, SHN_XINDEX}
@@ -38,7 +38,7 @@ pub record ArePinnedEhdr : Type 0 where
   pub size32 : EHDR32_SIZE ≡ 52
   pub core : ET_CORE ≡ 4
 
--- a section header's fields and sizes, and the indexes that stand for no section and for section 0's link
+-- a section header's fields and sizes, and the indexes of no section and of section 0's link
 pub record ArePinnedShdr : Type 0 where
   pub sh_name : SH_NAME ≡ field 0 4 0 4
   pub sh_type : SH_TYPE ≡ field 4 4 4 4

@@ -1,5 +1,5 @@
--- The section table (ELF gABI, chapter 4, "Sections", with the extended counts of section 0): a file's
--- remaining tests, in their order, and its sections by index.
+-- The section table (ELF gABI, chapter 4, "Sections", with the extended counts of section 0): a
+-- file's remaining tests, in their order, and its sections by index.
 use Rattle.std.specs.Prelude.{◌≡◌, ℕ, ◌+◌, ◌*◌, ◌<◌, ◌≤◌, List, Option, Some, None, Result, Ok, Err, Bool, false, not, ◌&&◌, ◌||◌, is_some, nat_lt, nat_le, ◌==◌, if◌then◌else◌, length}
 use Rattle.std.specs.Option.{option_and_then}
 use Rattle.file_formats.specs.declared.fault.ElfFault.{ElfFault}
@@ -47,7 +47,8 @@ contents_at b t i = contents_of b (section_at b t i)
 
 -- no section has a name, or the names' section is there and has contents
 abbrev pub has_names : List ℕ → SectionTable → Bool
-has_names b t = (t.names == SHN_UNDEF) || (nat_lt t.names t.count && is_some (contents_at b t t.names))
+has_names b t =
+    (t.names == SHN_UNDEF) || (nat_lt t.names t.count && is_some (contents_at b t t.names))
 
 -- the remaining tests in their order, and the table that passes them
 unfoldable pub table_below : List ℕ → Head → Result SectionTable ElfFault
@@ -90,21 +91,24 @@ pub record IsFirstNamed (b : List ℕ) (t : SectionTable) (name : List ℕ) (i :
   pub first : (j : ℕ) → IsIndex t j → name_at b t j ≡ Some name → i ≤ j
 
 -- the section of index i has contents, under this name, that aren't compressed
-pub record HasSection (b : List ℕ) (t : SectionTable) (name : List ℕ) (i : ℕ) (bytes : List ℕ) : Type 0 where
+pub record HasSection (b : List ℕ) (t : SectionTable) (name : List ℕ) (i : ℕ) (bytes : List ℕ)
+    : Type 0 where
   pub index : IsIndex t i
   pub named : name_at b t i ≡ Some name
   pub holds : contents_at b t i ≡ Some bytes
   pub plain : has_flag (section_at b t i) SHF_COMPRESSED ≡ false
 
 -- the bytes of the section of a name: those of the first section that has it
-pub record IsSectionOf (b : List ℕ) (t : SectionTable) (name : List ℕ) (bytes : List ℕ) : Type 0 where
+pub record IsSectionOf (b : List ℕ) (t : SectionTable) (name bytes : List ℕ) : Type 0 where
   pub index : ℕ
   pub here : HasSection b t name index bytes
   pub first : (i : ℕ) (other : List ℕ) → HasSection b t name i other → index ≤ i
 
--- what is answered for the section of a name: its bytes, or none where there is none or no section table
+-- what is answered for the section of a name: its bytes, or none where there is none or no section
+-- table
 pub data IsSectionAnswer (b : List ℕ) (name : List ℕ) : Option (List ℕ) → Type 0 where
-  present : (t : SectionTable) → (bytes : List ℕ) → table_of b ≡ Ok t → IsSectionOf b t name bytes → IsSectionAnswer b name (Some bytes)
+  present : (t : SectionTable) → (bytes : List ℕ) → table_of b ≡ Ok t → IsSectionOf b t name bytes
+      → IsSectionAnswer b name (Some bytes)
   absent : (t : SectionTable) → table_of b ≡ Ok t
       → ((i : ℕ) (bytes : List ℕ) → HasSection b t name i bytes → ⊥) → IsSectionAnswer b name None
   no_table : (fault : ElfFault) → table_of b ≡ Err fault → IsSectionAnswer b name None

@@ -1,8 +1,8 @@
 //! The fields of ELF's headers, under the standard's names (ELF gABI, chapter 4, "ELF Header" and
 //! "Sections"): one table for both classes.
 
-/// A field of a header: where it begins and its size, in a 64-bit file and in a 32-bit file. Bytes, from
-/// the header's start.
+/// A field of a header: where it begins and its size, in a 64-bit file and in a 32-bit file. Bytes,
+/// from the header's start.
 #[derive(Clone, Copy, Debug, PartialEq, Eq)]
 pub struct Field {
     pub at64: usize,

@@ -1,7 +1,7 @@
-//! The file formats that are read, as definitions: number encodings, ELF's header and section table,
-//! notes, and a file's identity. The code has the enums, records and numbers that the definitions speak
-//! of, and what a number, a class or a header says by itself; readers stand in the crates above. ELF gABI,
-//! chapters 4 and 5; DWARF 5, section 7.6.
+//! The file formats that are read, as definitions: number encodings, ELF's header and section
+//! table, notes, and a file's identity. The code has the enums, records and numbers that the
+//! definitions speak of, and what a number, a class or a header says by itself; readers stand in
+//! the crates above. ELF gABI, chapters 4 and 5; DWARF 5, section 7.6.
 #![tactic(auto)]
 
 mod codes;
