@@ -2,7 +2,7 @@
 
 ghost use Rattle.std.specs.Prelude.{◌≡◌, ◌≢◌, ◌↔◌, ◌<◌, ℕ, List, Result, Err, IsTrue, IfNone, IfSome};
 ghost use Rattle.file_formats.specs.Identity.{HasCode, HasDebug, HasIdAt, Identity, IsBuildId, IsIdentity, is_code, is_debug, why_of};
-ghost use Rattle.file_formats.specs.Table.{IsIndex, name_of};
+ghost use Rattle.file_formats.specs.Table.{IsSectionIndex, given_name};
 
 use elf_file::{ElfFault, ElfFile, is_flagged, takes_no_bytes};
 use elf_notes::first_build_id;
@@ -22,7 +22,7 @@ fn reason(fault: ElfFault) -> Why
 
 /// The first build-id of the section of an index.
 fn id_at(file: &ElfFile<'_>, index: u64) -> Option<BuildId>
-    requires { IsIndex file.now.table index }
+    requires { IsSectionIndex file.now.table index }
     ensures found { IfSome result (λ id. HasIdAt file.now.bytes file.now.table index id) }
     ensures none { IfNone result ((id : List ℕ) → HasIdAt file.now.bytes file.now.table index id → ⊥) }
 {
@@ -57,7 +57,7 @@ fn holds_code(header: &SectionHeader) -> bool
 
 /// Whether a section is one of debug information.
 fn holds_debug(file: &ElfFile<'_>, header: &SectionHeader) -> bool
-    ensures { result ≡ is_debug header.now (name_of file.now.bytes file.now.table header.now) }
+    ensures { result ≡ is_debug header.now (given_name file.now.bytes file.now.table header.now) }
 {
     !takes_no_bytes(header) && file.has_name_with(header, b".debug_")
 }

@@ -2,14 +2,14 @@
 
 ghost use Rattle.std.specs.Prelude.{◌≡◌, ℕ, List, Option, IfNone, IfSome};
 ghost use Rattle.std.specs.Option.{option_copied};
-ghost use Rattle.file_formats.specs.Table.{HasSection, IsIndex, IsSectionAnswer, IsSectionOf};
+ghost use Rattle.file_formats.specs.Table.{HasSection, IsSectionIndex, IsSectionAnswer, IsSectionOf};
 
 use elf_file::{ElfFile, is_flagged};
 use file_formats::SHF_COMPRESSED;
 
 /// The bytes of the section of an index, where it has this name and is one that is handed out.
 fn section_at<'a>(file: &ElfFile<'a>, index: u64, name: &[u8]) -> Option<&'a [u8]>
-    requires { IsIndex file.now.table index }
+    requires { IsSectionIndex file.now.table index }
     ensures found { IfSome result (λ bytes. HasSection file.now.bytes file.now.table name.now index bytes.now) }
     ensures none { IfNone result ((bytes : List ℕ) → HasSection file.now.bytes file.now.table name.now index bytes → ⊥) }
 {

@@ -4,7 +4,7 @@ ghost use Rattle.std.specs.Prelude.{◌≡◌, ◌≢◌, ◌↔◌, ◌<◌, �
 ghost use Rattle.std.specs.Option.{option_copied, option_map_or};
 ghost use Rattle.std.specs.List.{starts_with};
 ghost use Rattle.file_formats.specs.Sections.{contents_of};
-ghost use Rattle.file_formats.specs.Table.{IsFirstNamed, IsIndex, has_names, name_at, name_of, section_at, table_of};
+ghost use Rattle.file_formats.specs.Table.{IsFirstNamed, IsSectionIndex, has_names, name_at, given_name, section_at, table_of};
 ghost use Rattle.elf_file.specs.Parsed.{IsInside};
 ghost use Rattle.elf_file.specs.Section.{IsSection};
 ghost use Rattle.elf_file.specs.Texts.{has_no_zero};
@@ -93,7 +93,7 @@ impl<'a> ElfFile<'a> {
     /// The index of the first section of a name, from 1 on.
     pub fn by_name(&self, name: &[u8]) -> Option<u64>
         ensures found { IfSome result (λ index. IsFirstNamed self.now.bytes self.now.table name.now index) }
-        ensures none { IfNone result ((i : ℕ) → IsIndex self.now.table i → name_at self.now.bytes self.now.table i ≢ Some name.now) }
+        ensures none { IfNone result ((i : ℕ) → IsSectionIndex self.now.table i → name_at self.now.bytes self.now.table i ≢ Some name.now) }
     {
         for index in 1..self.count() {
             if self.has_name(&self.header(index), name) {
@@ -121,7 +121,7 @@ impl<'a> ElfFile<'a> {
 
     /// The name that a section header gives.
     pub fn name(&self, header: &SectionHeader) -> Option<&'a [u8]>
-        ensures { option_copied result ≡ name_of self.now.bytes self.now.table header.now }
+        ensures { option_copied result ≡ given_name self.now.bytes self.now.table header.now }
     {
         match &self.names {
             Some(names) => names.text(header.sh_name),
@@ -131,7 +131,7 @@ impl<'a> ElfFile<'a> {
 
     /// Whether a section header gives this name.
     pub fn has_name(&self, header: &SectionHeader, name: &[u8]) -> bool
-        ensures { IsTrue result ↔ (name_of self.now.bytes self.now.table header.now ≡ Some name.now) }
+        ensures { IsTrue result ↔ (given_name self.now.bytes self.now.table header.now ≡ Some name.now) }
     {
         match &self.names {
             Some(names) => names.is(header.sh_name, name),
@@ -142,7 +142,7 @@ impl<'a> ElfFile<'a> {
     /// Whether a section header gives a name that begins with a prefix. The name's end is not sought.
     pub fn has_name_with(&self, header: &SectionHeader, prefix: &[u8]) -> bool
         requires { has_no_zero prefix.now ≡ true }
-        ensures { result ≡ option_map_or (λ name. starts_with nat_eq name prefix.now) (name_of self.now.bytes self.now.table header.now) false }
+        ensures { result ≡ option_map_or (λ name. starts_with nat_eq name prefix.now) (given_name self.now.bytes self.now.table header.now) false }
     {
         match &self.names {
             Some(names) => names.begins(header.sh_name, prefix),

@@ -2,7 +2,7 @@
 
 ghost use Rattle.std.specs.Prelude.{◌≡◌, ◌+◌, ◌≤◌, ◌<◌, ◌*◌, nat_le, true, IfOk, length};
 ghost use Rattle.file_formats.specs.Sections.{shdr_size};
-ghost use Rattle.file_formats.specs.Table.{count_of, has_names, has_section_zero, names_of, names_section, table_below};
+ghost use Rattle.file_formats.specs.Table.{count_of, has_names, has_section_zero, names_index, names_section, table_below};
 ghost use Rattle.elf_file.specs.Parsed.{IsInside};
 
 use crate::names::Names;
@@ -31,7 +31,7 @@ fn count(bytes: &[u8], head: &Head) -> u64
 /// The index of the names' section.
 fn names(bytes: &[u8], head: &Head) -> u64
     requires { head.now.e_shoff + shdr_size head.now.encoding.class ≤ length bytes.now }
-    ensures { result ≡ names_of bytes.now head.now }
+    ensures { result ≡ names_index bytes.now head.now }
 {
     if head.e_shstrndx as u64 == SHN_XINDEX {
         header_at(bytes, head.encoding, head.e_shoff as usize).sh_link as u64

@@ -24,8 +24,8 @@ abbrev pub count_of : List ℕ → Head → ℕ
 count_of b h = if h.e_shnum == 0 then (section_zero b h).sh_size else h.e_shnum
 
 -- the index of the names' section: e_shstrndx, or section 0's link where that is SHN_XINDEX
-abbrev pub names_of : List ℕ → Head → ℕ
-names_of b h = if h.e_shstrndx == SHN_XINDEX then (section_zero b h).sh_link else h.e_shstrndx
+abbrev pub names_index : List ℕ → Head → ℕ
+names_index b h = if h.e_shstrndx == SHN_XINDEX then (section_zero b h).sh_link else h.e_shstrndx
 
 -- the table that the header describes, where the file holds it
 abbrev pub described : List ℕ → Head → SectionTable
@@ -34,7 +34,7 @@ described b h = record {
   e_type = h.e_type;
   start = h.e_shoff;
   count = count_of b h;
-  names = names_of b h;
+  names = names_index b h;
 }
 
 -- the header of the section of index i, which is below the table's count
@@ -72,28 +72,28 @@ abbrev pub names_section : List ℕ → SectionTable → Option (List ℕ)
 names_section b t = if t.names == SHN_UNDEF then None else contents_at b t t.names
 
 -- the name that a section header gives, none where no section has a name or no 0 follows
-abbrev pub name_of : List ℕ → SectionTable → SectionHeader → Option (List ℕ)
-name_of b t s = option_and_then (λ names. text_at names s.sh_name) (names_section b t)
+abbrev pub given_name : List ℕ → SectionTable → SectionHeader → Option (List ℕ)
+given_name b t s = option_and_then (λ names. text_at names s.sh_name) (names_section b t)
 
 -- the name of the section of index i
 abbrev pub name_at : List ℕ → SectionTable → ℕ → Option (List ℕ)
-name_at b t i = name_of b t (section_at b t i)
+name_at b t i = given_name b t (section_at b t i)
 
 -- i is the index of a section of which a rule may speak: section 0 is none
-pub record IsIndex (t : SectionTable) (i : ℕ) : Type 0 where
+pub record IsSectionIndex (t : SectionTable) (i : ℕ) : Type 0 where
   pub below : i < t.count
   pub above : 1 ≤ i
 
 -- i is the index of the first section of this name
 pub record IsFirstNamed (b : List ℕ) (t : SectionTable) (name : List ℕ) (i : ℕ) : Type 0 where
-  pub index : IsIndex t i
+  pub index : IsSectionIndex t i
   pub named : name_at b t i ≡ Some name
-  pub first : (j : ℕ) → IsIndex t j → name_at b t j ≡ Some name → i ≤ j
+  pub first : (j : ℕ) → IsSectionIndex t j → name_at b t j ≡ Some name → i ≤ j
 
 -- the section of index i has contents, under this name, that aren't compressed
 pub record HasSection (b : List ℕ) (t : SectionTable) (name : List ℕ) (i : ℕ) (bytes : List ℕ)
     : Type 0 where
-  pub index : IsIndex t i
+  pub index : IsSectionIndex t i
   pub named : name_at b t i ≡ Some name
   pub holds : contents_at b t i ≡ Some bytes
   pub plain : has_flag (section_at b t i) SHF_COMPRESSED ≡ false

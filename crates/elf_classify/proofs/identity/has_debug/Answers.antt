@@ -1,6 +1,6 @@
 use Rattle.std.proofs.Common.{sym, ◌∙◌, ap}
 use Rattle.file_formats.specs.Identity.{is_debug}
-use Rattle.file_formats.specs.Table.{name_of}
+use Rattle.file_formats.specs.Table.{given_name}
 use Rattle.elf_file.proofs.SectionLemmas.{none_more, differ}
 use Rattle.elf_classify.proofs.identity.has_debug.Goals as goal
 
@@ -9,5 +9,5 @@ loop-index-preserved c =
     none_more _ _ c.loop-index.index c.loop-index.invariant
     (λ index debug. differ
     (sym c.if-holds_debug.false ∙ c.holds_debug.ensures
-    ∙ ap (λ s. is_debug s (name_of c.args.file.now.bytes c.args.file.now.table s)) c.header.ensures)
+    ∙ ap (λ s. is_debug s (given_name c.args.file.now.bytes c.args.file.now.table s)) c.header.ensures)
     debug)

@@ -1,0 +1,12 @@
+use Rattle.std.proofs.Common.{◌∙◌, sym}
+use Rattle.file_formats.specs.Leb128.{septets}
+use Rattle.byte_read.proofs.LebLemmas.{sum_more, turned_none}
+use Rattle.byte_read.proofs.leb.sum_of.Goals as goal
+
+pub loop-byte-init : goal.loop-byte-init
+loop-byte-init c = rw (turned_none c.args.is_negative) c.new-all.ensures
+
+pub loop-byte-preserved : goal.loop-byte-preserved
+loop-byte-preserved c =
+    sum_more c.args.is_negative c.args.bytes.now c.loop-byte.byte-index c.loop-byte-test.true c.loop-byte.invariant
+    (rw c.digit.ensures at c.add.ensures)
