@@ -10,7 +10,8 @@ use Rattle.byte_read.specs.Septets.{sum_with, flipped, digit_of, turned}
 higher : (y p : ℕ) → y * (p * 128) ≡ 128 * (y * p)
 higher y p = sym (mul_assoc y p 128) ∙ mul_comm (y * p) 128
 
-septets_push : (xs : List ℕ) (y : ℕ) → septets (xs ++ y ∷ []) ≡ septets xs + y % 128 * 128 ^ length xs
+septets_push : (xs : List ℕ) (y : ℕ)
+    → septets (xs ++ y ∷ []) ≡ septets xs + y % 128 * 128 ^ length xs
 unfolding septets
 septets_push [] y = grind arith
 septets_push (x ∷ xs) y =
@@ -23,7 +24,8 @@ length-turned false xs = refl
 length-turned true xs = length-map xs flipped
 
 turned_push : (negative : Bool) (xs : List ℕ) (y : ℕ)
-    → septets (turned negative (xs ++ y ∷ [])) ≡ septets (turned negative xs) + digit_of negative y * 128 ^ length xs
+    → septets (turned negative (xs ++ y ∷ []))
+    ≡ septets (turned negative xs) + digit_of negative y * 128 ^ length xs
 turned_push false xs y = septets_push xs y
 turned_push true xs y =
     let small : flipped y % 128 ≡ flipped y = omega arith in
@@ -77,14 +79,17 @@ signed_as negative n = if negative then negsuc n else pos n
 -- the number by the sign of its last byte
 pub signed_by : (negative : Bool) (bytes : List ℕ) (m : ℕ) → m < length bytes
     → (get_or bytes m 0 / 64 % 2 == 1) ≡ negative
-    → signed_septets (take (m + 1) bytes) m ≡ signed_as negative (septets (turned negative (take (m + 1) bytes)))
+    → signed_septets (take (m + 1) bytes) m
+    ≡ signed_as negative (septets (turned negative (take (m + 1) bytes)))
 signed_by negative bytes m within sign =
     let here : get_or (take (m + 1) bytes) m 0 ≡ get_or bytes m 0 =
     get_or-take (m + 1) bytes m 0 (omega arith) in
     rw (here, sign) (by_sign negative)
   where
     by_sign : (negative : Bool)
-        → (if negative then pos (septets (take (m + 1) bytes)) -ℤ pos (128 ^ (m + 1)) else pos (septets (take (m + 1) bytes)))
+        → (if negative
+        then pos (septets (take (m + 1) bytes)) -ℤ pos (128 ^ (m + 1))
+        else pos (septets (take (m + 1) bytes)))
         ≡ signed_as negative (septets (turned negative (take (m + 1) bytes)))
     by_sign false = refl
     by_sign true =

@@ -1,4 +1,5 @@
--- How an LEB128 number at the front of some bytes is summed up (DWARF 5, section 7.6, "Variable Length Data").
+-- How an LEB128 number at the front of some bytes is summed up (DWARF 5, section 7.6, "Variable
+-- Length Data").
 use Rattle.std.specs.Prelude.{◌≡◌, ℕ, ◌+◌, ◌-◌, ◌%◌, List, Option, Some, None, Result, Ok, Err, Bool, true, false, if◌then◌else◌, map, take}
 use Rattle.std.specs.Option.{option_map}
 use Rattle.file_formats.specs.Leb128.{continued, septets}
@@ -35,7 +36,9 @@ turned true bytes = map flipped bytes
 -- the number of m + 1 bytes at the front, none where its last byte isn't there
 abbrev pub leb_of : {N : Type 0} → (N → Bool) → (List ℕ → ℕ → N) → List ℕ → Option (Leb N)
 leb_of fits value bytes =
-    option_map (λ m. record { number = fitting fits (value (take (m + 1) bytes) m); size = m + 1 }) (continued bytes 0)
+    option_map
+    (λ m. record { number = fitting fits (value (take (m + 1) bytes) m); size = m + 1 })
+    (continued bytes 0)
 
 -- the unsigned number of the bytes
 abbrev pub unsigned : List ℕ → ℕ → ℕ

@@ -1,4 +1,5 @@
-//! Numbers and texts at places of a slice, for a reader that goes by places and not from left to right.
+//! Numbers and texts at places of a slice, for a reader that goes by places and not from left to
+//! right.
 
 ghost use Rattle.std.specs.Prelude.{◌≡◌, ◌+◌, ◌≤◌, length};
 ghost use Rattle.std.specs.Option.{option_copied};

@@ -10,4 +10,4 @@ mod table;
 
 pub use file::ElfFile;
 pub use file_formats::ElfFault;
-pub use section::{Section, is_flagged, takes_no_bytes};
+pub use section::Section;

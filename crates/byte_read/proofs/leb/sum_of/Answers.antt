@@ -8,5 +8,6 @@ loop-byte-init c = rw (turned_none c.args.is_negative) c.new-all.ensures
 
 pub loop-byte-preserved : goal.loop-byte-preserved
 loop-byte-preserved c =
-    sum_more c.args.is_negative c.args.bytes.now c.loop-byte.byte-index c.loop-byte-test.true c.loop-byte.invariant
-    (rw c.digit.ensures at c.add.ensures)
+    let adds = rw c.digit.ensures at c.add.ensures in
+    let bytes = c.args.bytes.now in
+    sum_more c.args.is_negative bytes _ c.loop-byte-test.true c.loop-byte.invariant adds

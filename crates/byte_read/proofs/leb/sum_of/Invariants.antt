@@ -5,4 +5,5 @@ use Rattle.byte_read.proofs.leb.sum_of.Given as goal
 
 abbrev pub invariant-loop-byte : goal.invariant-loop-byte
 invariant-loop-byte l =
-    l.all ≡ sum_with (septets (turned l.is_negative (take l.byte-index l.bytes))) (128 ^ l.byte-index)
+    l.all ≡ sum_with
+    (septets (turned l.is_negative (take l.byte-index l.bytes))) (128 ^ l.byte-index)
