@@ -21,8 +21,8 @@ pub enum CheckFault {
     OtherClass(Ident),
 }
 
-/// Bytes of a file that has the kept build-id and class. Contracts see it as a record of the class, the id's
-/// bytes and the file's bytes.
+/// Bytes of a file that has the kept build-id and class. Contracts see it as a record of the class,
+/// the id's bytes and the file's bytes.
 #[derive(Drop)]
 pub struct Certified {
     kind: Kind,
@@ -68,8 +68,8 @@ fn fault_of(kind: Kind, id: &BuildId, bytes: &[u8]) -> Option<CheckFault>
     None
 }
 
-/// Certifies that the bytes are a file of this class and build-id, or hands them back with the first reason
-/// why they aren't. It takes no memory.
+/// Certifies that the bytes are a file of this class and build-id, or hands them back with the
+/// first reason why they aren't. It takes no memory.
 pub fn certify(kind: Kind, id: &BuildId, bytes: Vec<u8>) -> Result<Certified, (CheckFault, Vec<u8>)>
     ensures ok { IfOk result (λ c. c ≡ record { kind = kind; id = id.now; bytes = bytes.items }) }
     ensures certified { IsOk result ↔ IsCertified kind id.now bytes.items }

@@ -47,7 +47,8 @@ fn section_in<'a>(bytes: &'a [u8], name: &[u8]) -> Option<&'a [u8]>
     }
 }
 
-/// The bytes of the first section that has this name, has contents and isn't compressed. It takes no memory.
+/// The bytes of the first section that has this name, has contents and isn't compressed. It takes
+/// no memory.
 pub fn section_of<'a>(bytes: &'a [u8], name: &[u8]) -> Option<&'a [u8]>
     ensures answer { IsSectionAnswer bytes.now name.now (option_copied result) }
     ensures only { (r : Option (List ℕ))

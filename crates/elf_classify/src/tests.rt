@@ -1,5 +1,5 @@
-//! That the definitions mean what the format's text says. The expected values are those of the sample
-//! files' description; `readelf -hSn` shows the same ids, types and flags.
+//! That the definitions mean what the format's text says. The expected values are those of the
+//! sample files' description; `readelf -hSn` shows the same ids, types and flags.
 
 use crate::{ident, section_of};
 use elf_file::ElfFile;
@@ -95,8 +95,8 @@ fn a_cut_header_is_bad_and_an_empty_file_is_no_elf(rt: HostRuntime) -> Result<()
     Ok(())
 }
 
-/// The sample of both classes has its section table at 168: the header of its notes stands at 232, that of its
-/// names' section at 424.
+/// The sample of both classes has its section table at 168: the header of its notes stands at 232,
+/// that of its names' section at 424.
 const WIDE: [Change; 15] = [
     Change {
         what: "another beginning",
@@ -190,8 +190,8 @@ const WIDE: [Change; 15] = [
     },
 ];
 
-/// The sample 32-bit big-endian file has its section table at 124: the header of its notes stands at 164, that
-/// of its names' section at 284.
+/// The sample 32-bit big-endian file has its section table at 124: the header of its notes stands
+/// at 164, that of its names' section at 284.
 const NARROW: [Change; 9] = [
     Change {
         what: "an unknown order",

@@ -122,7 +122,8 @@ text_other : (text : List ℕ) (k : ℕ) → list_any (λ x. x == 0) text ≡ fa
     → isnt_zero (get_or text k 0) ≡ true
 text_other text k none below =
     not_so (λ zero.
-    let found : list_any (λ x. x == 0) text ≡ true = list_any_at (λ x. x == 0) text k 0 below zero in
+    let found : list_any (λ x. x == 0) text ≡ true =
+    list_any_at (λ x. x == 0) text k 0 below zero in
     let both : false ≡ true = sym none ∙ found in cc)
 
 -- a text with no 0 that a 0 follows is the one before the first 0
@@ -176,7 +177,8 @@ pub text-is : (s : List ℕ) (p : ℕ) (text : List ℕ)
 text-is s p text = (
   first_if (drop p s) text,
   λ h.
-      let found = there (drop p s) text (nat_lt (zero_place (drop p s)) (length (drop p s))) refl h in
+      let found =
+      there (drop p s) text (nat_lt (zero_place (drop p s)) (length (drop p s))) refl h in
       let P : List ℕ → Type 0 = λ xs. is_text_first (drop p s) xs ≡ true in
       subst P found.1 (first_is (drop p s) found.0),
 )

@@ -1,5 +1,5 @@
-//! ELF files: the header and the section table, with sections by index and by name. ELF gABI, chapter 4.
-//! Segments, symbols and what a section means are left out.
+//! ELF files: the header and the section table, with sections by index and by name. ELF gABI,
+//! chapter 4. Segments, symbols and what a section means are left out.
 #![tactic(auto)]
 
 mod file;

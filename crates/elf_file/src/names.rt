@@ -14,8 +14,8 @@ use std::marker::Model;
 #[derive(Drop)]
 pub struct Names<'a> {
     bytes: &'a [u8],
-    /// How many bytes stand up to and with the last 0: no name begins behind them, so that whether a 0
-    /// follows a place is known without a search.
+    /// How many bytes stand up to and with the last 0: no name begins behind them, so that whether
+    /// a 0 follows a place is known without a search.
     end: usize,
 }
 

@@ -18,7 +18,8 @@ fn holds_section_zero(bytes: &[u8], head: &Head) -> bool
 
 /// The number of sections.
 fn count(bytes: &[u8], head: &Head) -> u64
-    requires { head.now.e_shnum ≡ 0 → head.now.e_shoff + shdr_size head.now.encoding.class ≤ length bytes.now }
+    requires { head.now.e_shnum ≡ 0
+        → head.now.e_shoff + shdr_size head.now.encoding.class ≤ length bytes.now }
     ensures { result ≡ count_of bytes.now head.now }
 {
     if head.e_shnum == 0 {

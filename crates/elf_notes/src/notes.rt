@@ -12,7 +12,8 @@ use file_formats::{
 };
 use std::marker::Model;
 
-/// The notes of a section. Contracts see them as its bytes, their order and the alignment of each part.
+/// The notes of a section. Contracts see them as its bytes, their order and the alignment of each
+/// part.
 #[derive(Drop)]
 struct Notes<'a> {
     bytes: &'a [u8],
@@ -73,8 +74,8 @@ impl<'a> Notes<'a> {
         ensures found { IfSome result (IsNote self.now at) }
         ensures none { IfNone result (HoldsNote self.now at → ⊥) }
     {
-        let after_header = at.checked_add(NHDR_SIZE)?;
-        if self.bytes.len() < after_header {
+        let size = self.bytes.len();
+        if size < at.checked_add(NHDR_SIZE)? {
             return None;
         }
         let name_size = u32_at(self.bytes, at + N_NAMESZ, self.order);
@@ -82,7 +83,7 @@ impl<'a> Notes<'a> {
         let kind = u32_at(self.bytes, at + N_TYPE, self.order);
         let descriptor = align_up(NHDR_SIZE + name_size as usize, self.align);
         let next = align_up(descriptor + descriptor_size as usize, self.align);
-        if self.bytes.len() < at + descriptor + descriptor_size as usize {
+        if size < at + descriptor + descriptor_size as usize {
             return None;
         }
         Some(Note {
@@ -106,7 +107,7 @@ impl<'a> Notes<'a> {
             && note.kind == NT_GNU_BUILD_ID
             && note.descriptor_size >= SHORTEST_BUILD_ID
             && note.descriptor_size <= LONGEST_BUILD_ID
-            && self.bytes[name..name + ELF_NOTE_GNU.len()] == ELF_NOTE_GNU
+            && self.bytes[name..name + ELF_NOTE_GNU.len()] == ELF_NOTE_GNU[..]
     }
 
     /// The descriptor of a note that the section holds.
@@ -138,7 +139,8 @@ impl<'a> Notes<'a> {
 
 /// The descriptor of the first build-id note of a section of this alignment.
 pub fn first_build_id(bytes: &[u8], order: Order, addralign: u64) -> Option<&[u8]>
-    ensures found { IfSome result (λ id. IsFirstBuildId (notes_in bytes.now order addralign) id.now) }
+    ensures found { IfSome result (λ id.
+        IsFirstBuildId (notes_in bytes.now order addralign) id.now) }
     ensures least { IfSome result (λ id. SHORTEST_BUILD_ID ≤ length id.now) }
     ensures most { IfSome result (λ id. length id.now ≤ LONGEST_BUILD_ID) }
     ensures none { IfNone result ((p : ℕ) → HasBuildId (notes_in bytes.now order addralign) p → ⊥) }

@@ -15,4 +15,5 @@ loop-index-preserved c =
 
 pub returns-clause-none : goal.returns-clause-none
 returns-clause-none c = λ i id h.
-    c.loop-index.invariant i (let inside = h.section.index.below in omega arith) h.section.index (id, h)
+    c.loop-index.invariant i
+    (let inside = h.section.index.below in omega arith) h.section.index (id, h)

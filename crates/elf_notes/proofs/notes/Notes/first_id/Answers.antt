@@ -23,4 +23,5 @@ loop-note-preserved c =
     (under_way-next c.loop-note.invariant c.in-Some.ensures.found.there other)
 
 pub returns-clause-none : goal.returns-clause-none
-returns-clause-none c = λ p h. reached-end (c.loop-note.invariant.ahead p h) c.in_default.ensures.none
+returns-clause-none c =
+    λ p h. reached-end (c.loop-note.invariant.ahead p h) c.in_default.ensures.none
