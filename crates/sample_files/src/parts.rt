@@ -76,7 +76,7 @@ impl<'a> Section<'a> {
     /// Where the section starts that comes behind a place.
     pub(crate) fn start(&self, place: usize) -> usize
         requires { place < 2 ^ 32 }
-        ensures value { result ≡ layout.aligned self.now.alignment place }
+        ensures value { result ≡ layout.first_fit self.now.alignment place }
         ensures bound { result ≤ place + self.now.alignment }
     {
         place + padding(self.alignment as usize, place)
