@@ -33,19 +33,19 @@ refused-not_certified {kind} (OtherClass j) h (i, is) =
     let both : false ≡ true = sym h.other ∙ ap (is_of_class kind) same ∙ is.of_class in cc
 
 -- one reason holds
-pub refusal-unique : {kind : Kind} {id b : List ℕ} (f g : CheckFault)
+pub refusal-unique : (kind : Kind) (id b : List ℕ) (f g : CheckFault)
     → RefusesBytes kind id b f → RefusesBytes kind id b g → f ≡ g
-refusal-unique {b = b} (Plain why) (Plain other) p q =
+refusal-unique kind id b (Plain why) (Plain other) p q =
     let same = identity-unique b (Err why) (Err other) p q in ap (λ w. Plain w) (cc)
-refusal-unique (Plain why) (OtherId seen) p q = absurd (never_both q.identity p)
-refusal-unique (Plain why) (OtherClass j) p q = absurd (never_both q.identity p)
-refusal-unique (OtherId seen) (Plain why) p q = absurd (never_both p.identity q)
-refusal-unique (OtherId seen) (OtherId other) p q =
+refusal-unique kind id b (Plain why) (OtherId seen) p q = absurd (never_both q.identity p)
+refusal-unique kind id b (Plain why) (OtherClass j) p q = absurd (never_both q.identity p)
+refusal-unique kind id b (OtherId seen) (Plain why) p q = absurd (never_both p.identity q)
+refusal-unique kind id b (OtherId seen) (OtherId other) p q =
     ap (λ i. OtherId i) (sym p.seen_id ∙ same_id p.identity q.identity ∙ q.seen_id)
-refusal-unique (OtherId seen) (OtherClass j) p q =
+refusal-unique kind id b (OtherId seen) (OtherClass j) p q =
     absurd (p.other (sym p.seen_id ∙ same_id p.identity q.identity ∙ q.same_id))
-refusal-unique (OtherClass i) (Plain why) p q = absurd (never_both p.identity q)
-refusal-unique (OtherClass i) (OtherId seen) p q =
+refusal-unique kind id b (OtherClass i) (Plain why) p q = absurd (never_both p.identity q)
+refusal-unique kind id b (OtherClass i) (OtherId seen) p q =
     absurd (q.other (sym q.seen_id ∙ same_id q.identity p.identity ∙ p.same_id))
-refusal-unique (OtherClass i) (OtherClass j) p q =
+refusal-unique kind id b (OtherClass i) (OtherClass j) p q =
     ap (λ k. OtherClass k) (same_identity p.identity q.identity)

@@ -114,7 +114,8 @@ impl Certified {
     /// The bytes of the first section that has this name, has contents and isn't compressed.
     pub fn section(&self, name: &[u8]) -> Option<&[u8]>
         ensures answer { IsSectionAnswer self.now.bytes name.now (option_copied result) }
-        ensures only { (r : Option (List ℕ)) → IsSectionAnswer self.now.bytes name.now r → option_copied result ≡ r }
+        ensures only { (r : Option (List ℕ))
+            → IsSectionAnswer self.now.bytes name.now r → option_copied result ≡ r }
     {
         section_of(&self.bytes, name)
     }

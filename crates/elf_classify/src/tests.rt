@@ -53,12 +53,16 @@ fn each_sample_has_its_identity(rt: HostRuntime) -> Result<(), Fail> {
 // ELF gABI, chapter 4, "Sections": SHT_NULL is 0, and "the header is inactive"; SHF_ALLOC is 2 and
 // SHF_EXECINSTR 4.
 #[test]
-fn sections_are_code_and_debug_information_by_type_and_flag(
-    rt: HostRuntime,
-) -> Result<(), Fail> {
+fn sections_are_code_and_debug_information_by_type_and_flag(rt: HostRuntime) -> Result<(), Fail> {
     let alloc = rt.alloc();
     let neither = (false, false);
-    has(&rt, "flag 2", code_of_flags(alloc, 2)?, &ID_C, (true, false))?;
+    has(
+        &rt,
+        "flag 2",
+        code_of_flags(alloc, 2)?,
+        &ID_C,
+        (true, false),
+    )?;
     has(&rt, "flag 4", code_of_flags(alloc, 4)?, &ID_C, neither)?;
     has(&rt, "type 0", null_debug(alloc)?, &ID_C, neither)
 }

@@ -33,7 +33,12 @@ const WIDE: [Change; 16] = [
     ("an unknown order", 5, &[0], Why::BadElf),
     ("an unknown version", 6, &[2], Why::BadElf),
     ("no section table", 40, &[0], Why::NoSections),
-    ("a table at the end of all places", 40, &[0xff; 8], Why::BadElf),
+    (
+        "a table at the end of all places",
+        40,
+        &[0xff; 8],
+        Why::BadElf,
+    ),
     ("entries of another size", 58, &[40], Why::BadElf),
     ("a table past the end", 60, &[6], Why::BadElf),
     ("no section of names", 62, &[5], Why::BadElf),

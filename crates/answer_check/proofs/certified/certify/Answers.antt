@@ -9,7 +9,7 @@ returns-in-Some-clause-certified c =
 pub returns-in-Some-clause-only : goal.returns-in-Some-clause-only
 returns-in-Some-clause-only c =
     let refused = rw c.deref.ensures.value at c.in-Some.ensures.fault in
-    λ fault h. refusal-unique c.in-Some.fault fault refused h
+    λ fault h. refusal-unique _ _ _ c.in-Some.fault fault refused h
 
 pub returns-in-None-clause-only : goal.returns-in-None-clause-only
 returns-in-None-clause-only c =
