@@ -36,10 +36,10 @@ module _ {E O : Type 0} where
       → HasSeen all (joined_view (Rests mine) (Rests theirs))
   joined_seen all mine theirs p q =
       let both = longer_begins mine.log theirs.log all.log p.log q.log in (
-    record { log = both.0; origin = p.origin },
-    record { log = both.1; origin = refl },
-    record { log = both.2; origin = sym p.origin ∙ q.origin },
-  )
+        record { log = both.0; origin = p.origin },
+        record { log = both.1; origin = refl },
+        record { log = both.2; origin = sym p.origin ∙ q.origin },
+      )
 
   -- each of the views fits to all that there is
   abbrev AllSeen : Known E O → List (View E O) → Type 0
@@ -184,8 +184,12 @@ module _ {S E O : Type 0} (log : S → List E) (origin : S → O) where
 
   -- nothing changes
   nothing : (s : St) (id : ℕ) (view : View E O) → Rule s → get_elem? s.views id ≡ some view
-      → Rule record { words = set s.words 0
-      (get_or s.words 0 0); homes = s.homes; views = set s.views id view }
+      → Rule record {
+        words = set s.words 0
+            (get_or s.words 0 0);
+        homes = s.homes;
+        views = set s.views id view;
+      }
   nothing s id view rule at = same_word s s.homes (set s.views id view)
       (subst (λ
       (vs : List (View E O)). Rule record { words = s.words; homes = s.homes; views = vs }) (sym
@@ -207,9 +211,9 @@ module _ {S E O : Type 0} (log : S → List E) (origin : S → O) where
         (λ j view h. absurd (some-ne-none view (sym h))) (goes_on_self (known_of log origin value));
   }
 
-  pub splits : (id : ℕ) (known : Known E O) (view : View E O) → view ≡ Rests known
+  pub splits : (id : ℕ) {known : Known E O} {view : View E O} → view ≡ Rests known
       → Splits Rule id view view view
-  splits id known view is s rule at =
+  splits id {view = view} is s rule at =
       let kept : Rule record { words = s.words; homes = s.homes; views = set s.views id view } =
       subst
       (λ (vs : List (View E O)). Rule record { words = s.words; homes = s.homes; views = vs })
@@ -220,9 +224,9 @@ module _ {S E O : Type 0} (log : S → List E) (origin : S → O) where
       (subst (λ (vs : List (View E O)). get_elem? vs id ≡ some view)
       (sym (set_again s.views id view at)) at))
 
-  pub joins : (id other : ℕ) (mine theirs : Known E O) (v w : View E O) → v ≡ Rests mine
+  pub joins : (id other : ℕ) {mine theirs : Known E O} {v w : View E O} → v ≡ Rests mine
       → w ≡ Rests theirs → Joins Rule id v other w (joined_view v w) Spent
-  joins id other mine theirs v w is is' s rule at apart at' =
+  joins id other {mine} {theirs} {v} {w} is is' s rule at apart at' =
       let both : View E O = joined_view v w in
       let there : get_elem? s.views other ≡ some w =
       sym (set_else s.views id other both apart) ∙ at' in
@@ -240,17 +244,17 @@ module _ {S E O : Type 0} (log : S → List E) (origin : S → O) where
   seen_in s (inr held) = (held.all, held.seen)
 
   -- after a join, a load tells that both tokens had seen beginnings of what is kept
-  pub settles : (slots id : ℕ) (me : Me (Option S) (View E O)) (known mine theirs : Known E O)
+  pub settles : (slots id : ℕ) (me : Me (Option S) (View E O)) {known mine theirs : Known E O}
       → me.0 ≡ Joined known mine theirs
       → Allows Rule slots id me 0 (λ n. n) (settled (step slots 0 0 0 none) me)
-  settles slots id me known mine theirs is s rule deep at fits =
+  settles slots id me {known} {mine} {theirs} is s rule deep at fits =
       let there = seen_in s rule in (
         Rests known,
         keeps,
         tt,
         same_word s s.homes (set s.views id (Rests known))
-        (quiet s id me.0 (Rests known) rule at (ap taken_at is) refl
-        (λ all seen. (subst (HasSeen all) is (seen id me.0 at)).0)),
+            (quiet s id me.0 (Rests known) rule at (ap taken_at is) refl
+            (λ all seen. (subst (HasSeen all) is (seen id me.0 at)).0)),
         λ known' mine' theirs' e.
             let same : known ≡ known' = joined_kept (sym is ∙ e) in
             let had : HasSeen there.0 (Joined known' mine' theirs') =
@@ -259,20 +263,24 @@ module _ {S E O : Type 0} (log : S → List E) (origin : S → O) where
       )
 
   -- what a join and the load after it make of two tokens that rest
-  pub joined_and_settled : (one other between after : Me (Option S) (View E O))
-      (mine theirs : Known E O) (slots found : ℕ) → one ≡ (Rests mine, []) → other ≡ (Rests theirs, [])
+  pub joined_and_settled : {one other between after : Me (Option S) (View E O)}
+      {mine theirs : Known E O} (slots found : ℕ)
+      → one ≡ (Rests mine, []) → other ≡ (Rests theirs, [])
       → between ≡ (joined_view one.0 other.0, one.1)
       → settled (step slots 0 0 0 none) between found after
       → (after ≡ (Rests (joined_known mine theirs), [])) × Continues mine (joined_known mine theirs)
       × Continues theirs (joined_known mine theirs)
-  joined_and_settled one other between after mine theirs slots found is is' join told =
+  joined_and_settled {between = between} {mine = mine} {theirs = theirs} slots found is is' join told =
       let both : between ≡ (Joined (joined_known mine theirs) mine theirs, []) =
       join ∙ λ k. (joined_view (is k).0 (is' k).0, (is k).1) in
       let said =
       told (joined_known mine theirs) mine theirs
-      (ap (λ (m : Me (Option S) (View E O)). m.0) both) in
-      (said.0 ∙ ap (λ (m : Me (Option S) (View E O)). (Rests (joined_known mine theirs), m.1)) both,
-      said.1, said.2)
+      (ap (λ (m : Me (Option S) (View E O)). m.0) both) in (
+        said.0
+            ∙ ap (λ (m : Me (Option S) (View E O)). (Rests (joined_known mine theirs), m.1)) both,
+        said.1,
+        said.2,
+      )
 
   -- a free lock is taken, with its value
   takes_it : (s : St) (free : IsFree log origin s) (slots id word new : ℕ) (known : Known E O)
@@ -299,8 +307,14 @@ module _ {S E O : Type 0} (log : S → List E) (origin : S → O) where
           alone = none_else s.views id (Holds all) free.nobody;
           seen = all_seen_set all s.views id (Holds all) free.seen (goes_on_self all);
         },
-        (λ _. (free.value, refl, λ known' e. subst (HasSeen all) e (free.seen id (Rests known) at)),
-        λ other. absurd (other here)),
+        (
+          λ _. (
+            free.value,
+            refl,
+            λ known' e. subst (HasSeen all) e (free.seen id (Rests known) at),
+          ),
+          λ other. absurd (other here),
+        ),
       )
 
   -- whatever the lock is, a token that rests takes it, or finds another word and nothing changes
@@ -316,15 +330,19 @@ module _ {S E O : Type 0} (log : S → List E) (origin : S → O) where
       (λ here. ⊎_elim
       (λ (free : IsFree log origin s). takes_it s free slots id word new known at next here)
       (λ (held : IsHeld s). absurd (odd s.words held.all.log word here held.word even)) rule)
-      (λ other.
-      (Rests known, keeps, tt, nothing s id (Rests known) rule at,
-      (λ here. absurd (other here), λ _. refl)))
+      (λ other. (
+        Rests known,
+        keeps,
+        tt,
+        nothing s id (Rests known) rule at,
+        (λ here. absurd (other here), λ _. refl),
+      ))
 
-  pub acquires : (slots id word new : ℕ) (me : Me (Option S) (View E O)) (known : Known E O)
+  pub acquires : (slots id word new : ℕ) {me : Me (Option S) (View E O)} {known : Known E O}
       → me ≡ (Rests known, []) → word % 2 ≡ 0 → new ≡ word + 1
       → Allows Rule slots id me 0
       (λ n. either (n == word) new n) (acquired log origin (step slots 0 word new none) me)
-  acquires slots id word new me known is even next =
+  acquires slots id word new {known = known} is even next =
       subst
       (λ (m : Me (Option S) (View E O)). Allows Rule slots id m 0 (λ n. either (n == word) new n)
       (acquired log origin (step slots 0 word new none) m)) (sym is)
@@ -380,19 +398,20 @@ module _ {S E O : Type 0} (log : S → List E) (origin : S → O) where
     gives,
     tt,
     inl (⊎_elim
-    (λ (free : IsFree log origin s). absurd (some-ne-none known (free.nobody id (Holds known) at)))
+        (λ (free : IsFree log origin s).
+        absurd (some-ne-none known (free.nobody id (Holds known) at)))
         (λ (held : IsHeld s). releases_held s held id new known value at on number) rule),
     λ value' e. let in_slot : Some value ≡ Some value' = ap slot_of e in let same : value
-    ≡ value' = cc in ap (λ (v : S). (Rests (known_of log origin v), [])) same,
+        ≡ value' = cc in ap (λ (v : S). (Rests (known_of log origin v), [])) same,
   )
 
   -- the holder gives the value back, and has then seen its log
-  pub releases : (slots id new : ℕ) (me : Me (Option S) (View E O)) (known : Known E O) (value : S)
+  pub releases : (slots id new : ℕ) {me : Me (Option S) (View E O)} {known : Known E O} {value : S}
       → me ≡ (Holds known, (0, Some value) ∷ []) → Continues known (known_of log origin value)
       → new ≡ 2 * length (log value)
       → Allows Rule slots id me 0
       (λ _. new) (λ _. released log origin (step slots 0 new 0 none) me new)
-  releases slots id new me known value is on number =
+  releases slots id new {known = known} {value = value} is on number =
       subst
       (λ (m : Me (Option S) (View E O)). Allows Rule slots id m 0 (λ _. new)
       (λ _. released log origin (step slots 0 new 0 none) m new)) (sym is)
@@ -400,8 +419,12 @@ module _ {S E O : Type 0} (log : S → List E) (origin : S → O) where
 
   ends_held : (s : St) (held : IsHeld s) (id : ℕ) (known : Known E O)
       → get_elem? s.views id ≡ some (Holds known)
-      → IsHeld {S = S} record { words = s.words; homes = set s.homes 0
-      (some None); views = set s.views id (Ends known) }
+      → IsHeld {S = S} record {
+        words = s.words;
+        homes = set s.homes 0
+            (some None);
+        views = set s.views id (Ends known);
+      }
   ends_held s held id known at =
       let is = holder_is s held id known at in record {
         holder = id;
@@ -428,17 +451,18 @@ module _ {S E O : Type 0} (log : S → List E) (origin : S → O) where
     gives,
     tt,
     ⊎_elim
-    (λ (free : IsFree log origin s). absurd (some-ne-none known (free.nobody id (Holds known) at)))
+        (λ (free : IsFree log origin s).
+        absurd (some-ne-none known (free.nobody id (Holds known) at)))
         (λ (held : IsHeld s). same_word s (set s.homes 0 (some None)) (set s.views id (Ends known))
         (inr (ends_held s held id known at))) rule,
     λ known' e. let same : known ≡ known' = cc in ap (λ (k : Known E O). (Ends k, [])) same,
   )
 
   -- the holder ends the lock, and gives the slot back empty
-  pub ends : (slots id : ℕ) (me : Me (Option S) (View E O)) (known : Known E O)
+  pub ends : (slots id : ℕ) {me : Me (Option S) (View E O)} {known : Known E O}
       → me ≡ (Holds known, (0, None) ∷ [])
       → Allows Rule slots id me 0 (λ n. n) (ended (step slots 0 0 0 none) me)
-  ends slots id me known is =
+  ends slots id {known = known} is =
       subst
       (λ (m : Me (Option S) (View E O)). Allows Rule slots id m 0 (λ n. n)
       (ended (step slots 0 0 0 none) m)) (sym is) (ends_holding slots id known)
@@ -456,9 +480,9 @@ module _ {S E O : Type 0} (log : S → List E) (origin : S → O) where
       ∙ ap (λ (v : View E O). some (slot_under S v)) same
 
   -- once the lock has ended, the slot is empty
-  pub empty_at_end : (words : List ℕ) (slots : List (Option S)) (id : ℕ) (view : View E O)
-  (known : Known E O) → view
-  ≡ Ends known → Final (Seen Rule id view) words slots → get_elem? slots 0 ≡ some None
-  empty_at_end words slots id view known is final =
+  pub empty_at_end : (words : List ℕ) (slots : List (Option S)) (id : ℕ) {view : View E O}
+      {known : Known E O} → view ≡ Ends known → Final (Seen Rule id view) words slots
+      → get_elem? slots 0 ≡ some None
+  empty_at_end words slots id {known = known} is final =
       final.4 0 None
       (slot_at_end final.0 id known final.1.0 (final.1.1 ∙ ap (λ (v : View E O). some v) is))

@@ -106,7 +106,8 @@ module _ {S E O : Type 0} where
   acquired log origin step before found after =
       (found ≡ step.first → (value : S)
       × (after ≡ (Holds (known_of log origin value), (0, Some value) ∷ before.1))
-      × ((known : Known E O) → before.0 ≡ Rests known → Continues known (known_of log origin value)))
+      × ((known : Known E O) → before.0 ≡ Rests known
+      → Continues known (known_of log origin value)))
       × (found ≢ step.first → after ≡ before)
 
   -- the token has seen the log of the value that it gave back

@@ -20,7 +20,11 @@ impl<S: Logged> Model for Held<S> {
     ghost use Rattle.index_lock.specs.declared.view.View.TheVariants.{Holds};
 
     ghost view = { λ held. let known = known_by S.blank_origin held.token.me.0 in record {
-        lock = held.token.table_id; value = held.value; seen = known.log; origin = known.origin } };
+      lock = held.token.table_id;
+      value = held.value;
+      seen = known.log;
+      origin = known.origin;
+    } };
 
     ghost invariant = { λ held.
         held.token.me ≡ (Holds (known_by S.blank_origin held.token.me.0), (0, None) ∷ []) };

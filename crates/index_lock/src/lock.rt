@@ -91,8 +91,8 @@ impl<S: Logged> TurnLock<S> {
         ensures lock { result.lock ≡ seat.lock }
         ensures begins { IsPrefix seat.seen (S.log result.value) }
         ensures origin { S.origin result.value ≡ seat.origin }
-        ensures at_enter {
-            (result.seen ≡ S.log result.value) × (result.origin ≡ S.origin result.value) }
+        ensures at_enter { (result.seen ≡ S.log result.value)
+            × (result.origin ≡ S.origin result.value) }
         ensures may_leave { IsPrefix result.seen (S.log result.value) }
     {
         let mut token = seat.into_token();

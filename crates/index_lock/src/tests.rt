@@ -167,9 +167,11 @@ fn numbers_behind_a_lock(alloc: Global) -> Result<(TurnLock<Numbers>, Seat<Numbe
     let numbers = Numbers {
         items: Vec::new(alloc),
     };
-    Ok(TurnLock::make(alloc, numbers)
-        .ok()
-        .ok_or("memory for the lock")?)
+    Ok(
+        TurnLock::make(alloc, numbers)
+            .ok()
+            .ok_or("memory for the lock")?,
+    )
 }
 
 #[test]

@@ -6,7 +6,8 @@ use Rattle.sample_files.specs.Samples.{both_classes, big_endian_debug, eight_ali
 
 pub length-samples : map length (
     both_classes ∷ big_endian_debug ∷ eight_aligned_notes ∷ narrow_eight_aligned_notes
-    ∷ extended_counts ∷ narrow_extended_counts ∷ dwarf_five ∷ executable ∷ debug_companion ∷ null_debug ∷ [])
+    ∷ extended_counts ∷ narrow_extended_counts ∷ dwarf_five ∷ executable ∷ debug_companion
+    ∷ null_debug ∷ [])
     ≡ 488 ∷ 324 ∷ 408 ∷ 296 ∷ 488 ∷ 324 ∷ 1016 ∷ 408 ∷ 584 ∷ 400 ∷ []
 unfolding spelled plain_layout
 length-samples = refl

@@ -117,7 +117,8 @@ bodies place (part ∷ rest) =
 -- sh_offset, sh_size; sh_link, sh_info; sh_addralign, sh_entsize
 abbrev pub entry_fields : ℕ → ℕ → Part → List Field
 entry_fields name offset part =
-    Word name ∷ Word part.sh_type ∷ Place part.flags ∷ Place 0 ∷ Place offset ∷ Place part.size ∷ Word 0 ∷ Word 0
+    Word name ∷ Word part.sh_type ∷ Place part.flags ∷ Place 0 ∷ Place offset ∷ Place part.size
+    ∷ Word 0 ∷ Word 0
     ∷ Place part.alignment ∷ Place 0 ∷ []
 
 -- section 0's size, of so many section headers

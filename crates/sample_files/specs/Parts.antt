@@ -15,8 +15,14 @@ pub record Part : Type 0 where
 -- a section with bytes in the file, which are its size
 abbrev pub section : List ℕ → ℕ → ℕ → ℕ → List ℕ → Part
 section name sh_type flags alignment contents =
-    record
-    { name = name; sh_type = sh_type; flags = flags; alignment = alignment; contents = contents; size = length contents }
+    record {
+      name = name;
+      sh_type = sh_type;
+      flags = flags;
+      alignment = alignment;
+      contents = contents;
+      size = length contents;
+    }
 
 -- a NOBITS section: a size, and no bytes in the file
 abbrev pub section_without_bytes : List ℕ → ℕ → ℕ → ℕ → Part
@@ -26,7 +32,6 @@ section_without_bytes name flags alignment size =
       sh_type = SHT_NOBITS;
       flags = flags;
       alignment = alignment;
-      contents =
-          [];
+      contents = [];
       size = size;
     }

@@ -117,8 +117,10 @@ fn first_fields(counts: Counts, count: u16) -> [Field; 10]
 #[tactic(auto, using(crate::proofs::LayoutLemmas::names_steps))]
 fn names_contents(alloc: Global, sections: &[Section<'_>]) -> Result<Vec<u8>, AllocError>
     ensures value { IfOk result (λ v. v.items ≡ layout.names_contents sections.now) }
-    ensures len { IfOk result (λ v. vec_len v ≡ 11 + length (flat_map layout.name_bytes sections.now)) }
-    ensures short { IfOk result (λ v. vec_len v ≤ 11 + layout.parts_room sections.now + length sections.now) }
+    ensures len { IfOk result (λ v.
+        vec_len v ≡ 11 + length (flat_map layout.name_bytes sections.now)) }
+    ensures short { IfOk result (λ v.
+        vec_len v ≤ 11 + layout.parts_room sections.now + length sections.now) }
 {
     let mut names = Vec::new(alloc);
     names.push(0)?;
@@ -165,7 +167,8 @@ fn push_entries(
 ) -> Result<(), AllocError>
     requires places { start + layout.parts_room sections.now < 2 ^ 32 }
     requires names { first_name + layout.parts_room sections.now < 2 ^ 32 }
-    ensures { OnOk result (out.new.items ≡ out.old.items ++ layout.entries shape.now start first_name sections.now) }
+    ensures { OnOk result (out.new.items
+        ≡ out.old.items ++ layout.entries shape.now start first_name sections.now) }
 {
     let mut place = start;
     let mut name = first_name;

@@ -112,9 +112,10 @@ fn the_debug_sections_are_a_unit_of_two_sources(rt: HostRuntime) -> Result<(), F
     assert_eq!(rt; &file[113..125], abbreviations.as_slice());
     let unit = b"\x12\0\0\0\x05\0\x01\x08\0\0\0\0\x01\0\x08\0\0\0\0\0\0\0";
     assert_eq!(rt; &file[125..147], unit.as_slice());
-    let parameters =
-        b"\x41\0\0\0\x05\0\x08\0\x39\0\0\0\x01\x01\x01\xfb\x0e\x0d\0\x01\x01\x01\x01\0\0\0\x01\0\0\x01";
-    assert_eq!(rt; &file[147..177], parameters.as_slice());
+    let parameters = b"\x41\0\0\0\x05\0\x08\0\x39\0\0\0\x01\x01\x01\xfb\x0e\x0d\0";
+    assert_eq!(rt; &file[147..166], parameters.as_slice());
+    let lengths = b"\x01\x01\x01\x01\0\0\0\x01\0\0\x01";
+    assert_eq!(rt; &file[166..177], lengths.as_slice());
     let directories = b"\x01\x01\x1f\x02\0\0\0\0\x02\0\0\0";
     assert_eq!(rt; &file[177..189], directories.as_slice());
     let files = b"\x03\x01\x1f\x02\x0b\x81\x40\x1f\x02\x06\0\0\0\0\0\0\0\0\x0d\0\0\0\x01\0\0\0\0";
