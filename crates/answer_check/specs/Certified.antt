@@ -11,15 +11,15 @@ pub record CertifiedFacts : Type 0 where
   pub bytes : List ℕ
 
 -- whether a file of this identity is of the class
-abbrev pub has_class : Kind → Identity → Bool
-has_class Executable i = i.exec
-has_class Debuginfo i = i.debug
+abbrev pub is_of_class : Kind → Identity → Bool
+is_of_class Executable i = i.exec
+is_of_class Debuginfo i = i.debug
 
 -- the file has an identity of this id and class
 pub record IsOf (kind : Kind) (id : List ℕ) (b : List ℕ) (i : Identity) : Type 0 where
   pub identity : IsIdentity b (Ok i)
   pub same_id : i.id ≡ id
-  pub of_class : has_class kind i ≡ true
+  pub of_class : is_of_class kind i ≡ true
 
 -- the bytes are a file of this id and class
 abbrev pub IsCertified : Kind → List ℕ → List ℕ → Type 0

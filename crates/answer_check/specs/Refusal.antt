@@ -4,7 +4,7 @@ use Rattle.file_formats.specs.Identity.{Identity, IsIdentity}
 use Rattle.row_types.specs.declared.identity.Kind.{Kind}
 use Rattle.answer_check.specs.declared.certified.CheckFault.{CheckFault}
 use Rattle.answer_check.specs.declared.certified.CheckFault.TheVariants.{Plain, OtherId, OtherClass}
-use Rattle.answer_check.specs.Certified.{has_class}
+use Rattle.answer_check.specs.Certified.{is_of_class}
 
 -- the file has an identity, of this other id
 pub record HasOtherId (id : List ℕ) (b : List ℕ) (seen : List ℕ) : Type 0 where
@@ -17,10 +17,10 @@ pub record HasOtherId (id : List ℕ) (b : List ℕ) (seen : List ℕ) : Type 0 
 pub record HasOtherClass (kind : Kind) (id : List ℕ) (b : List ℕ) (i : Identity) : Type 0 where
   pub identity : IsIdentity b (Ok i)
   pub same_id : i.id ≡ id
-  pub other : has_class kind i ≡ false
+  pub other : is_of_class kind i ≡ false
 
 -- the bytes are refused for this reason, the first that holds
-abbrev pub Refuses : Kind → List ℕ → List ℕ → CheckFault → Type 0
-Refuses kind id b (Plain why) = IsIdentity b (Err why)
-Refuses kind id b (OtherId seen) = HasOtherId id b seen
-Refuses kind id b (OtherClass i) = HasOtherClass kind id b i
+abbrev pub RefusesBytes : Kind → List ℕ → List ℕ → CheckFault → Type 0
+RefusesBytes kind id b (Plain why) = IsIdentity b (Err why)
+RefusesBytes kind id b (OtherId seen) = HasOtherId id b seen
+RefusesBytes kind id b (OtherClass i) = HasOtherClass kind id b i

@@ -3,8 +3,8 @@
 ghost use Rattle.std.specs.Prelude.{◌≡◌, ◌↔◌, List, Option, ℕ, IsOk, IsErrAnd, IfNone, IfSome, IfOk, IfErr};
 ghost use Rattle.std.specs.Option.{option_copied};
 ghost use Rattle.file_formats.specs.Table.{IsSectionAnswer};
-ghost use Rattle.answer_check.specs.Certified.{IsCertified, has_class};
-ghost use Rattle.answer_check.specs.Refusal.{Refuses};
+ghost use Rattle.answer_check.specs.Certified.{IsCertified, is_of_class};
+ghost use Rattle.answer_check.specs.Refusal.{RefusesBytes};
 
 use elf_classify::{ident, section_of};
 use row_types::{BuildId, Ident, Kind, Why};
@@ -21,8 +21,8 @@ pub enum CheckFault {
     OtherClass(Ident),
 }
 
-/// Bytes of a file that has the kept build-id and class. Contracts see it as a record of the class, the id's
-/// bytes and the file's bytes.
+/// Bytes of a file that has the kept build-id and class. Contracts see it as a record of the class,
+/// the id's bytes and the file's bytes.
 #[derive(Drop)]
 pub struct Certified {
     kind: Kind,
@@ -42,7 +42,7 @@ impl Model for Certified {
 
 /// Whether the file is of the class.
 fn is_of(kind: Kind, ident: &Ident) -> bool
-    ensures { result ≡ has_class kind ident.now }
+    ensures { result ≡ is_of_class kind ident.now }
 {
     match kind {
         Kind::Executable => ident.exec,
@@ -52,7 +52,7 @@ fn is_of(kind: Kind, ident: &Ident) -> bool
 
 /// Why the bytes are not a file of this id and class, where they aren't.
 fn fault_of(kind: Kind, id: &BuildId, bytes: &[u8]) -> Option<CheckFault>
-    ensures fault { IfSome result (Refuses kind id.now bytes.now) }
+    ensures fault { IfSome result (RefusesBytes kind id.now bytes.now) }
     ensures none { IfNone result (IsCertified kind id.now bytes.now) }
 {
     let ident = match ident(bytes) {
@@ -68,13 +68,14 @@ fn fault_of(kind: Kind, id: &BuildId, bytes: &[u8]) -> Option<CheckFault>
     None
 }
 
-/// Certifies that the bytes are a file of this class and build-id, or hands them back with the first reason
-/// why they aren't. It takes no memory.
+/// Certifies that the bytes are a file of this class and build-id, or hands them back with the
+/// first reason why they aren't. It takes no memory.
 pub fn certify(kind: Kind, id: &BuildId, bytes: Vec<u8>) -> Result<Certified, (CheckFault, Vec<u8>)>
     ensures ok { IfOk result (λ c. c ≡ record { kind = kind; id = id.now; bytes = bytes.items }) }
     ensures certified { IsOk result ↔ IsCertified kind id.now bytes.items }
-    ensures refused { IfErr result (λ e. Refuses kind id.now bytes.items e.0) }
-    ensures only { (fault : CheckFault) → Refuses kind id.now bytes.items fault → IsErrAnd result (λ e. e.0 ≡ fault) }
+    ensures refused { IfErr result (λ e. RefusesBytes kind id.now bytes.items e.0) }
+    ensures only { (fault : CheckFault) → RefusesBytes kind id.now bytes.items fault
+        → IsErrAnd result (λ e. e.0 ≡ fault) }
     ensures same { IfErr result (λ e. e.1 ≡ bytes) }
 {
     match fault_of(kind, id, &bytes) {
@@ -113,7 +114,8 @@ impl Certified {
     /// The bytes of the first section that has this name, has contents and isn't compressed.
     pub fn section(&self, name: &[u8]) -> Option<&[u8]>
         ensures answer { IsSectionAnswer self.now.bytes name.now (option_copied result) }
-        ensures only { (r : Option (List ℕ)) → IsSectionAnswer self.now.bytes name.now r → option_copied result ≡ r }
+        ensures only { (r : Option (List ℕ))
+            → IsSectionAnswer self.now.bytes name.now r → option_copied result ≡ r }
     {
         section_of(&self.bytes, name)
     }

@@ -1,5 +1,5 @@
-//! Bytes that are known to be a file of a build-id and a class. Where they come from, and whether there are
-//! more of them, is left to the caller.
+//! Bytes that are known to be a file of a build-id and a class. Where they come from, and whether
+//! there are more of them, is left to the caller.
 #![tactic(auto)]
 
 mod certified;

@@ -1,5 +1,4 @@
 pub mod NumberLemmas
 pub mod PlaceLemmas
 pub mod LebLemmas
-pub mod SumLemmas
 pub mod TextLemmas

@@ -14,7 +14,8 @@ byte_worth_is (suc i) b = refl
 higher : (y p : ℕ) → y * (p * 256) ≡ 256 * (y * p)
 higher y p = sym (mul_assoc y p 256) ∙ mul_comm (y * p) 256
 
-shifted : (sum worth high y p more : ℕ) → sum ≡ high * (p * 256) → worth ≡ y * p → more ≡ 256 * high + y → sum + worth ≡ more * p
+shifted : (sum worth high y p more : ℕ) → sum ≡ high * (p * 256) → worth ≡ y * p
+    → more ≡ 256 * high + y → sum + worth ≡ more * p
 shifted sum worth high y p more e f g =
     let up = higher high p in
     let joined = mul_assoc 256 high p in
@@ -47,13 +48,16 @@ module _ (bytes : List ℕ) (k : ℕ) (within : k < length bytes) where
   length_first = length-take-le k bytes (omega arith)
 
   little_more : little (take (suc k) bytes) ≡ little (take k bytes) + get_or bytes k 0 * 256 ^ k
-  little_more = ap little first_more ∙ little_push (take k bytes) (get_or bytes k 0) ∙ ap (λ n. little (take k bytes) + get_or bytes k 0 * 256 ^ n) length_first
+  little_more =
+      ap little first_more ∙ little_push (take k bytes) (get_or bytes k 0)
+      ∙ ap (λ n. little (take k bytes) + get_or bytes k 0 * 256 ^ n) length_first
 
   big_more : big (take (suc k) bytes) ≡ 256 * big (take k bytes) + get_or bytes k 0
   big_more = ap big first_more ∙ big_push (take k bytes) (get_or bytes k 0)
 
 -- the number of the first k + 1 bytes as a sum of what they are worth
-le_sum : (bytes : List ℕ) (k : ℕ) → k < length bytes → sum_through (λ i. byte_worth i (get_or bytes i 0)) k ≡ little (take (suc k) bytes)
+le_sum : (bytes : List ℕ) (k : ℕ) → k < length bytes
+    → sum_through (λ i. byte_worth i (get_or bytes i 0)) k ≡ little (take (suc k) bytes)
 unfolding little
 le_sum bytes zero h = sym (little_more bytes 0 h ∙ grind arith)
 le_sum bytes (suc k) h =
@@ -61,27 +65,38 @@ le_sum bytes (suc k) h =
     let more = little_more bytes (suc k) h in
     omega arith
 
-be_sum : (bytes : List ℕ) (top k j : ℕ) → k + j ≡ top → k < length bytes → sum_through (λ i. byte_worth (top - i) (get_or bytes i 0)) k ≡ big (take (suc k) bytes) * 256 ^ j
+be_sum : (bytes : List ℕ) (top k j : ℕ) → k + j ≡ top → k < length bytes
+    → sum_through (λ i. byte_worth (top - i) (get_or bytes i 0)) k
+    ≡ big (take (suc k) bytes) * 256 ^ j
 unfolding big
 be_sum bytes top zero j e h =
     let here : top - 0 ≡ j = omega arith in
-    rw here (byte_worth_is j (get_or bytes 0 0) ∙ ap (λ n. n * 256 ^ j) (sym (big_more bytes 0 h ∙ grind arith)))
+    rw here
+    (byte_worth_is j (get_or bytes 0 0)
+    ∙ ap (λ n. n * 256 ^ j) (sym (big_more bytes 0 h ∙ grind arith)))
 be_sum bytes top (suc k) j e h =
     let here : top - suc k ≡ j = omega arith in
     let before = be_sum bytes top k (suc j) (omega arith) (omega arith) in
-    rw here (shifted _ _ (big (take (suc k) bytes)) (get_or bytes (suc k) 0) (256 ^ j) _ (before ∙ ap (λ n. big (take (suc k) bytes) * n) (pow-suc 256 j)) (byte_worth_is j (get_or bytes (suc k) 0)) (big_more bytes (suc k) h))
+    rw here
+    (shifted _ _ (big (take (suc k) bytes)) (get_or bytes (suc k) 0) (256 ^ j) _
+    (before ∙ ap (λ n. big (take (suc k) bytes) * n) (pow-suc 256 j))
+    (byte_worth_is j (get_or bytes (suc k) 0)) (big_more bytes (suc k) h))
 
 -- std's calls on a whole number's bytes give the number that the bytes spell
-module _ (w : Width) (bytes : List ℕ) (long : length bytes ≡ byte_len w) (some : 0 < byte_len w) where
+module _
+    (w : Width) (bytes : List ℕ) (long : length bytes ≡ byte_len w) (some : 0 < byte_len w) where
   pub le_number : from_le_bytes w bytes ≡ number Little bytes
   le_number =
-      let all : take (suc (byte_len w - 1)) bytes ≡ bytes = take_all (suc (byte_len w - 1)) bytes (omega arith) in
+      let all : take (suc (byte_len w - 1)) bytes ≡ bytes =
+      take_all (suc (byte_len w - 1)) bytes (omega arith) in
       le_sum bytes (byte_len w - 1) (omega arith) ∙ ap little all
 
   pub be_number : from_be_bytes w bytes ≡ number Big bytes
   be_number =
-      let all : take (suc (byte_len w - 1)) bytes ≡ bytes = take_all (suc (byte_len w - 1)) bytes (omega arith) in
-      be_sum bytes (byte_len w - 1) (byte_len w - 1) 0 (omega arith) (omega arith) ∙ rw all (grind arith)
+      let all : take (suc (byte_len w - 1)) bytes ≡ bytes =
+      take_all (suc (byte_len w - 1)) bytes (omega arith) in
+      be_sum bytes (byte_len w - 1) (byte_len w - 1) 0 (omega arith) (omega arith)
+      ∙ rw all (grind arith)
 
 -- a byte of 0 in the highest place changes nothing
 pub little_zero : (xs : List ℕ) → little (xs ++ 0 ∷ []) ≡ little xs

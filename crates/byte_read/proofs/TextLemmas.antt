@@ -5,7 +5,8 @@ use Rattle.std.proofs.lemmas.Bool.{lt-ltb, le-ltb, ne_eqb, eq-eqb}
 use Rattle.std.specs.List.{position, position_or_len}
 use Rattle.memchr.specs.Find.{IsFirstByte, is_byte}
 
-pub first_is_position : (byte : ℕ) (bytes : List ℕ) (found : Option ℕ) → IsFirstByte (is_byte byte) bytes found → found ≡ position (λ x. eqb x byte) bytes
+pub first_is_position : (byte : ℕ) (bytes : List ℕ) (found : Option ℕ)
+    → IsFirstByte (is_byte byte) bytes found → found ≡ position (λ x. eqb x byte) bytes
 first_is_position byte bytes None nowhere =
     let first : position_or_len (λ x. eqb x byte) bytes ≡ length bytes =
     position_or_len_is (λ x. eqb x byte) bytes (length bytes) 0 (omega arith)

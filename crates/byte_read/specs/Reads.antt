@@ -1,5 +1,5 @@
--- What a cursor's calls give, and when they refuse: one word for each family (number encodings of the ELF gABI,
--- chapter 4, "Data Representation"; LEB128 of DWARF 5, section 7.6).
+-- What a cursor's calls give, and when they refuse: one word for each family (number encodings of
+-- the ELF gABI, chapter 4, "Data Representation"; LEB128 of DWARF 5, section 7.6).
 use Rattle.std.specs.Prelude.{◌≡◌, ℕ, ◌+◌, ◌<◌, ◌≤◌, ◌^◌, ◌==◌, List, Option, Some, None, Result, Bool, nat_lt, if◌then◌else◌, length, ℤ, pos, negsuc, MatchResult}
 use Rattle.std.specs.Option.{option_map}
 use Rattle.std.specs.List.{position}
@@ -20,7 +20,8 @@ abbrev pub number_here : View → ℕ → ℕ
 number_here v n = number v.order (bytes_here v n)
 
 -- n bytes are there: the value made of them, and the cursor behind them
-pub record Gives {A : Type 0} (value_here : View → ℕ → A) (n : ℕ) (old new : View) (answer : A) : Type 0 where
+pub record Gives {A : Type 0} (value_here : View → ℕ → A) (n : ℕ) (old new : View) (answer : A)
+    : Type 0 where
   pub there : old.place + n ≤ length old.bytes
   pub value : answer ≡ value_here old n
   pub place : new ≡ passed old n
@@ -37,7 +38,8 @@ Reads n old new result = MatchResult result (Gives number_here n old new) (Falls
 
 -- a taking of n bytes gives them, or falls short
 abbrev pub Takes : ℕ → View → View → Result (Bor (List ℕ)) Fault → Type 0
-Takes n old new result = MatchResult result (λ bytes. Gives bytes_here n old new bytes.now) (FallsShort n old new)
+Takes n old new result =
+    MatchResult result (λ bytes. Gives bytes_here n old new bytes.now) (FallsShort n old new)
 
 -- the cursor behind the LEB128 number at its place, none where the number's last byte isn't there
 abbrev pub behind_leb : View → Option View
@@ -58,17 +60,20 @@ leb_fault fits None place = Some (Short place)
 leb_fault fits (Some number) place = if fits number then None else Some (Wide place)
 
 -- the value is there, and the cursor is behind it
-pub record GivesWhole {A : Type 0} (here : Option A) (behind : Option View) (new : View) (answer : A) : Type 0 where
+pub record GivesWhole {A : Type 0}
+    (here : Option A) (behind : Option View) (new : View) (answer : A) : Type 0 where
   pub value : here ≡ Some answer
   pub place : behind ≡ Some new
 
 -- the number has this fault, and the cursor is as it was
-pub record FailsLeb {N : Type 0} (fits : N → Bool) (number : Option N) (old new : View) (fault : Fault) : Type 0 where
+pub record FailsLeb {N : Type 0}
+    (fits : N → Bool) (number : Option N) (old new : View) (fault : Fault) : Type 0 where
   pub cause : leb_fault fits number old.place ≡ Some fault
   pub stays : new ≡ old
 
 -- a read of an LEB128 number gives it, or has its fault
-abbrev pub ReadsLeb : {N : Type 0} → (N → Bool) → (List ℕ → ℕ → Option N) → View → View → Result N Fault → Type 0
+abbrev pub ReadsLeb : {N : Type 0} → (N → Bool) → (List ℕ → ℕ → Option N) → View → View
+    → Result N Fault → Type 0
 ReadsLeb fits number_at old new result =
     let number = number_at old.bytes old.place in
     MatchResult result (GivesWhole number (behind_leb old) new) (FailsLeb fits number old new)
@@ -86,4 +91,6 @@ pub record LacksEnd (old new : View) (fault : Fault) : Type 0 where
 -- a read of a text gives the bytes before the next 0 and passes it, or finds no 0
 abbrev pub ReadsText : View → View → Result (Bor (List ℕ)) Fault → Type 0
 ReadsText old new result =
-    MatchResult result (λ text. GivesWhole (text_at old.bytes old.place) (behind_text old) new text.now) (LacksEnd old new)
+    MatchResult result
+    (λ text. GivesWhole (text_at old.bytes old.place) (behind_text old) new text.now)
+    (LacksEnd old new)

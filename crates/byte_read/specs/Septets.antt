@@ -1,7 +1,9 @@
--- How an LEB128 number at the front of some bytes is summed up (DWARF 5, section 7.6, "Variable Length Data").
-use Rattle.std.specs.Prelude.{◌≡◌, ℕ, ◌+◌, ◌-◌, ◌%◌, List, Option, Some, None, Result, Ok, Err, Bool, if◌then◌else◌, take}
+-- How an LEB128 number at the front of some bytes is summed up (DWARF 5, section 7.6, "Variable
+-- Length Data").
+use Rattle.std.specs.Prelude.{◌≡◌, ℕ, ◌+◌, ◌-◌, ◌%◌, List, Option, Some, None, Result, Ok, Err, Bool, true, false, if◌then◌else◌, map, take}
 use Rattle.std.specs.Option.{option_map}
 use Rattle.file_formats.specs.Leb128.{continued, septets}
+use Rattle.file_formats.specs.declared.leb.TheConstants.{SEPTET_VALUES}
 use Rattle.byte_read.specs.declared.fault.Fault.{Fault}
 use Rattle.byte_read.specs.declared.fault.Fault.TheVariants.{Short, Wide}
 use Rattle.byte_read.specs.declared.leb.Leb.{Leb}
@@ -19,12 +21,24 @@ sum_with sum worth = record { sum = fitting fits_u64 sum; worth = fitting fits_u
 
 -- the low seven bits, each turned over
 abbrev pub flipped : ℕ → ℕ
-flipped byte = 127 - byte % 128
+flipped byte = SEPTET_VALUES - 1 - byte % SEPTET_VALUES
+
+-- what a byte adds, by whether the number is negative
+abbrev pub digit_of : Bool → ℕ → ℕ
+digit_of false byte = byte % SEPTET_VALUES
+digit_of true byte = flipped byte
+
+-- the bytes whose septets are summed, by whether the number is negative
+abbrev pub turned : Bool → List ℕ → List ℕ
+turned false bytes = bytes
+turned true bytes = map flipped bytes
 
 -- the number of m + 1 bytes at the front, none where its last byte isn't there
 abbrev pub leb_of : {N : Type 0} → (N → Bool) → (List ℕ → ℕ → N) → List ℕ → Option (Leb N)
 leb_of fits value bytes =
-    option_map (λ m. record { number = fitting fits (value (take (m + 1) bytes) m); size = m + 1 }) (continued bytes 0)
+    option_map
+    (λ m. record { number = fitting fits (value (take (m + 1) bytes) m); size = m + 1 })
+    (continued bytes 0)
 
 -- the unsigned number of the bytes
 abbrev pub unsigned : List ℕ → ℕ → ℕ

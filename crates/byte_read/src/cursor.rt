@@ -139,7 +139,9 @@ impl<'a> Cursor<'a> {
 
     /// Passes the next N bytes, and gives them.
     fn chunk<const N: usize>(&mut self) -> Result<[u8; N], Fault>
-        ensures { MatchResult result (Gives bytes_here N self.old self.new) (FallsShort N self.old self.new) }
+        ensures { MatchResult result
+            (Gives bytes_here N self.old self.new)
+            (FallsShort N self.old self.new) }
     {
         match self.rest().first_chunk::<N>() {
             Some(bytes) => {

@@ -1,9 +1,11 @@
 //! LEB128 numbers of any length at the front of some bytes.
 
-ghost use Rattle.std.specs.Prelude.{◌≡◌, ◌+◌, ◌*◌, ◌≤◌, ℕ, length, nat_lt, if◌then◌else◌, pos, negsuc, IfSome};
-ghost use Rattle.file_formats.specs.Leb128.{signed_septets};
+ghost use Rattle.std.specs.Prelude.{◌≡◌, ◌+◌, ◌*◌, ◌<◌, ◌≤◌, ℕ, length, if◌then◌else◌, pos, negsuc, IfSome};
+ghost use Rattle.file_formats.specs.Leb128.{continued, septets, signed_septets};
 ghost use Rattle.byte_read.specs.Reads.{fits_u64, fits_i64};
-ghost use Rattle.byte_read.specs.Septets.{fitting, sum_with, leb_of, unsigned};
+ghost use Rattle.byte_read.specs.Septets.{digit_of, fitting, leb_of, sum_with, turned, unsigned};
+
+use file_formats::{SEPTET_SIGN, SEPTET_VALUES, septet};
 
 /// A number whose last byte is there.
 #[derive(Drop)]
@@ -14,7 +16,7 @@ pub(crate) struct Leb<N> {
     pub(crate) size: usize,
 }
 
-/// A sum of septets, each worth 128 times the one before.
+/// A sum of septets, each worth SEPTET_VALUES times the one before.
 #[derive(Clone, Copy)]
 struct Septets {
     /// The sum, None where 64 bits don't hold it.
@@ -35,10 +37,10 @@ impl Septets {
 
     fn add(&mut self, septet: u8)
         ensures { (sum worth : ℕ) → self.old ≡ sum_with sum worth
-            → self.new ≡ sum_with (sum + septet * worth) (worth * 128) }
+            → self.new ≡ sum_with (sum + septet * worth) (worth * SEPTET_VALUES) }
     {
         self.sum = with_septet(self.sum, septet, self.worth);
-        self.worth = times_128(self.worth);
+        self.worth = next_worth(self.worth);
     }
 }
 
@@ -53,22 +55,49 @@ fn with_septet(sum: Option<u64>, septet: u8, worth: Option<u64>) -> Option<u64>
     u64::try_from(u128::from(sum?) + part).ok()
 }
 
-fn times_128(worth: Option<u64>) -> Option<u64>
-    ensures { (n : ℕ) → worth ≡ fitting fits_u64 n → result ≡ fitting fits_u64 (n * 128) }
+fn next_worth(worth: Option<u64>) -> Option<u64>
+    ensures { (n : ℕ) → worth ≡ fitting fits_u64 n → result ≡ fitting fits_u64 (n * SEPTET_VALUES) }
 {
-    worth?.checked_mul(128)
+    worth?.checked_mul(u64::from(SEPTET_VALUES))
 }
 
-/// The number of these septets, by the last byte's sign; `flipped` is the sum of the septets turned over.
-fn signed(sum: Option<u64>, flipped: Option<u64>, last: u8) -> Option<i64>
-    ensures { (m n : ℕ) → sum ≡ fitting fits_u64 m → flipped ≡ fitting fits_u64 n
-        → result ≡ fitting fits_i64 (if nat_lt last 64 then pos m else negsuc n) }
+/// What a byte of a number adds: its septet, which a negative number has turned over.
+fn digit(byte: u8, is_negative: bool) -> u8
+    ensures { result ≡ digit_of is_negative byte }
 {
-    if last < 64 {
-        i64::try_from(sum?).ok()
+    if is_negative {
+        SEPTET_VALUES - 1 - septet(byte)
     } else {
-        Some(-1 - i64::try_from(flipped?).ok()?)
+        septet(byte)
     }
+}
+
+/// The sum of the septets of all these bytes.
+fn sum_of(bytes: &[u8], is_negative: bool) -> Option<u64>
+    ensures { result ≡ fitting fits_u64 (septets (turned is_negative bytes.now)) }
+{
+    let mut all = Septets::new();
+    for byte in bytes {
+        all.add(digit(*byte, is_negative));
+    }
+    all.sum
+}
+
+/// The number of this sum, by its sign.
+fn with_sign(sum: Option<u64>, is_negative: bool) -> Option<i64>
+    ensures { (n : ℕ) → sum ≡ fitting fits_u64 n
+        → result ≡ fitting fits_i64 (if is_negative then negsuc n else pos n) }
+{
+    let sum = i64::try_from(sum?).ok()?;
+    Some(if is_negative { -1 - sum } else { sum })
+}
+
+/// The index of the last byte of the number at the front.
+fn last_byte(bytes: &[u8]) -> Option<usize>
+    ensures value { result ≡ continued bytes.now 0 }
+    ensures within { IfSome result (λ last. last < length bytes.now) }
+{
+    bytes.iter().position(|byte| *byte < SEPTET_VALUES)
 }
 
 /// The unsigned number at the front of the bytes.
@@ -76,17 +105,11 @@ pub(crate) fn uleb_of(bytes: &[u8]) -> Option<Leb<u64>>
     ensures value { result ≡ leb_of fits_u64 unsigned bytes.now }
     ensures within { IfSome result (λ leb. leb.size ≤ length bytes.now) }
 {
-    let mut all = Septets::new();
-    for (i, byte) in bytes.iter().enumerate() {
-        all.add(byte % 128);
-        if *byte < 128 {
-            return Some(Leb {
-                number: all.sum,
-                size: i + 1,
-            });
-        }
-    }
-    None
+    let last = last_byte(bytes)?;
+    Some(Leb {
+        number: sum_of(&bytes[..last + 1], false),
+        size: last + 1,
+    })
 }
 
 /// The signed number at the front of the bytes.
@@ -94,17 +117,10 @@ pub(crate) fn sleb_of(bytes: &[u8]) -> Option<Leb<i64>>
     ensures value { result ≡ leb_of fits_i64 signed_septets bytes.now }
     ensures within { IfSome result (λ leb. leb.size ≤ length bytes.now) }
 {
-    let mut all = Septets::new();
-    let mut flipped = Septets::new();
-    for (i, byte) in bytes.iter().enumerate() {
-        all.add(byte % 128);
-        flipped.add(127 - byte % 128);
-        if *byte < 128 {
-            return Some(Leb {
-                number: signed(all.sum, flipped.sum, *byte),
-                size: i + 1,
-            });
-        }
-    }
-    None
+    let last = last_byte(bytes)?;
+    let is_negative = bytes[last] / SEPTET_SIGN % 2 == 1;
+    Some(Leb {
+        number: with_sign(sum_of(&bytes[..last + 1], is_negative), is_negative),
+        size: last + 1,
+    })
 }

@@ -1,18 +1,24 @@
-//! Numbers at places of a slice, for a reader that goes by places and not from left to right.
+//! Numbers and texts at places of a slice, for a reader that goes by places and not from left to
+//! right.
 
-ghost use Rattle.std.specs.Prelude.{◌≡◌, ◌+◌, ◌≤◌, drop, length};
-ghost use Rattle.byte_read.specs.View.{at_start};
+ghost use Rattle.std.specs.Prelude.{◌≡◌, ◌+◌, ◌≤◌, length};
+ghost use Rattle.std.specs.Option.{option_copied};
 ghost use Rattle.file_formats.specs.Numbers.{bytes_at, number};
+ghost use Rattle.file_formats.specs.Sections as sections;
 
-use crate::cursor::Cursor;
+use crate::numbers::{u16_of, u32_of, u64_of};
+use crate::text::text_size;
 use file_formats::Order;
 
-/// A cursor at a place.
-fn cursor_at(bytes: &[u8], at: usize, order: Order) -> Cursor<'_>
-    requires { at ≤ length bytes.now }
-    ensures { result ≡ at_start (drop at bytes.now) order }
+/// The N bytes from a place on.
+fn chunk_at<const N: usize>(bytes: &[u8], at: usize) -> [u8; N]
+    requires { at + N ≤ length bytes.now }
+    ensures { result ≡ bytes_at bytes.now at N }
 {
-    Cursor::new(&bytes[at..], order)
+    match bytes[at..].first_chunk::<N>() {
+        Some(chunk) => *chunk,
+        None => unreachable!(),
+    }
 }
 
 /// The two bytes from place `at` on, as a number.
@@ -20,10 +26,7 @@ pub fn u16_at(bytes: &[u8], at: usize, order: Order) -> u16
     requires { at + 2 ≤ length bytes.now }
     ensures { result ≡ number order (bytes_at bytes.now at 2) }
 {
-    match cursor_at(bytes, at, order).read_u16() {
-        Ok(number) => number,
-        Err(_) => unreachable!(),
-    }
+    u16_of(chunk_at(bytes, at), order)
 }
 
 /// The four bytes from place `at` on, as a number.
@@ -31,10 +34,7 @@ pub fn u32_at(bytes: &[u8], at: usize, order: Order) -> u32
     requires { at + 4 ≤ length bytes.now }
     ensures { result ≡ number order (bytes_at bytes.now at 4) }
 {
-    match cursor_at(bytes, at, order).read_u32() {
-        Ok(number) => number,
-        Err(_) => unreachable!(),
-    }
+    u32_of(chunk_at(bytes, at), order)
 }
 
 /// The eight bytes from place `at` on, as a number.
@@ -42,8 +42,13 @@ pub fn u64_at(bytes: &[u8], at: usize, order: Order) -> u64
     requires { at + 8 ≤ length bytes.now }
     ensures { result ≡ number order (bytes_at bytes.now at 8) }
 {
-    match cursor_at(bytes, at, order).read_u64() {
-        Ok(number) => number,
-        Err(_) => unreachable!(),
-    }
+    u64_of(chunk_at(bytes, at), order)
+}
+
+/// The bytes from place `at` to the next 0.
+pub fn text_at(bytes: &[u8], at: usize) -> Option<&[u8]>
+    ensures { option_copied result ≡ sections.text_at bytes.now at }
+{
+    let rest = bytes.get(at..)?;
+    Some(&rest[..text_size(rest)?])
 }

@@ -6,9 +6,10 @@ use Rattle.std.specs.Option.{option_copied}
 use Rattle.file_formats.specs.declared.header.SectionTable.{SectionTable}
 use Rattle.file_formats.specs.Table.{table_of, HasSection, IsSectionOf, IsSectionAnswer, present, absent}
 
-pub answer-of_table : (b : List ℕ) (t : SectionTable) (name : List ℕ) (r : Option (Bor (List ℕ))) → table_of b ≡ Ok t
+pub answer-of_table : {b : List ℕ} {t : SectionTable} {name : List ℕ} (r : Option (Bor (List ℕ)))
+    → table_of b ≡ Ok t
     → IfSome r (λ bytes. IsSectionOf b t name bytes.now)
     → IfNone r ((i : ℕ) (bytes : List ℕ) → HasSection b t name i bytes → ⊥)
     → IsSectionAnswer b name (option_copied r)
-answer-of_table b t name None there found none = absent t there none
-answer-of_table b t name (Some bytes) there found none = present t bytes.now there found
+answer-of_table {t = t} None there found none = absent t there none
+answer-of_table {t = t} (Some bytes) there found none = present t bytes.now there found

@@ -2,9 +2,9 @@
 
 ghost use Rattle.std.specs.Prelude.{◌≡◌, ◌≢◌, ◌↔◌, ◌<◌, ℕ, List, Result, Err, IsTrue, IfNone, IfSome};
 ghost use Rattle.file_formats.specs.Identity.{HasCode, HasDebug, HasIdAt, Identity, IsBuildId, IsIdentity, is_code, is_debug, why_of};
-ghost use Rattle.file_formats.specs.Table.{IsIndex, name_of};
+ghost use Rattle.file_formats.specs.Table.{IsSectionIndex, given_name};
 
-use elf_file::{ElfFault, ElfFile, is_flagged, takes_no_bytes};
+use elf_file::{ElfFault, ElfFile};
 use elf_notes::first_build_id;
 use file_formats::{ET_CORE, SHF_ALLOC, SHF_COMPRESSED, SHT_NOTE, SHT_PROGBITS, SectionHeader};
 use row_types::{BuildId, Ident, Why};
@@ -22,12 +22,13 @@ fn reason(fault: ElfFault) -> Why
 
 /// The first build-id of the section of an index.
 fn id_at(file: &ElfFile<'_>, index: u64) -> Option<BuildId>
-    requires { IsIndex file.now.table index }
+    requires { IsSectionIndex file.now.table index }
     ensures found { IfSome result (λ id. HasIdAt file.now.bytes file.now.table index id) }
-    ensures none { IfNone result ((id : List ℕ) → HasIdAt file.now.bytes file.now.table index id → ⊥) }
+    ensures none { IfNone result
+        ((id : List ℕ) → HasIdAt file.now.bytes file.now.table index id → ⊥) }
 {
     let header = file.header(index);
-    if header.sh_type != SHT_NOTE || is_flagged(&header, SHF_COMPRESSED) {
+    if header.sh_type != SHT_NOTE || header.is_flagged(SHF_COMPRESSED) {
         return None;
     }
     let contents = file.contents(&header)?;
@@ -38,7 +39,8 @@ fn id_at(file: &ElfFile<'_>, index: u64) -> Option<BuildId>
 /// The build-id of the first section that has one.
 fn build_id(file: &ElfFile<'_>) -> Option<BuildId>
     ensures found { IfSome result (λ id. IsBuildId file.now.bytes file.now.table id) }
-    ensures none { IfNone result ((i : ℕ) (id : List ℕ) → HasIdAt file.now.bytes file.now.table i id → ⊥) }
+    ensures none { IfNone result
+        ((i : ℕ) (id : List ℕ) → HasIdAt file.now.bytes file.now.table i id → ⊥) }
 {
     for index in 1..file.count() {
         if let Some(id) = id_at(file, index) {
@@ -52,14 +54,15 @@ fn build_id(file: &ElfFile<'_>) -> Option<BuildId>
 fn holds_code(header: &SectionHeader) -> bool
     ensures { result ≡ is_code header.now }
 {
-    header.sh_type == SHT_PROGBITS && is_flagged(header, SHF_ALLOC)
+    header.sh_type == SHT_PROGBITS && header.is_flagged(SHF_ALLOC)
 }
 
 /// Whether a section is one of debug information.
 fn holds_debug(file: &ElfFile<'_>, header: &SectionHeader) -> bool
-    ensures { result ≡ is_debug header.now (name_of file.now.bytes file.now.table header.now) }
+    ensures { result ≡ is_debug
+        header.now (given_name file.now.bytes file.now.table header.now) }
 {
-    !takes_no_bytes(header) && file.has_name_with(header, b".debug_")
+    !header.takes_no_bytes() && file.has_name_with(header, b".debug_")
 }
 
 /// Whether some section is code.

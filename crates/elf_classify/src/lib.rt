@@ -1,5 +1,6 @@
-//! What a file is and which section of it is asked for: a file's identity, and the bytes of the section
-//! of a name. ELF gABI, chapter 4, and this project's rules over it. Debug information is not read here.
+//! What a file is and which section of it is asked for: a file's identity, and the bytes of the
+//! section of a name. ELF gABI, chapter 4, and this project's rules over it. Debug information is
+//! not read here.
 #![tactic(auto)]
 
 mod identity;

@@ -1,3 +1,2 @@
 pub mod SectionLemmas
 pub mod TextLemmas
-pub mod ZeroLemmas

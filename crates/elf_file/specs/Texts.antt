@@ -19,4 +19,5 @@ is_zero_at bytes k = nat_lt k (length bytes) && (slice_index bytes k == 0)
 -- the bytes begin with the text, which has no 0, and a 0 that ends it
 abbrev pub is_text_first : List ℕ → List ℕ → Bool
 is_text_first bytes text =
-    starts_with nat_eq bytes text && is_zero_at bytes (length text) && not (list_any (λ x. x == 0) text)
+    starts_with nat_eq bytes text && is_zero_at bytes (length text)
+    && not (list_any (λ x. x == 0) text)

@@ -4,7 +4,7 @@ ghost use Rattle.std.specs.Prelude.{◌≡◌, ◌≢◌, ◌↔◌, ◌<◌, �
 ghost use Rattle.std.specs.Option.{option_copied, option_map_or};
 ghost use Rattle.std.specs.List.{starts_with};
 ghost use Rattle.file_formats.specs.Sections.{contents_of};
-ghost use Rattle.file_formats.specs.Table.{IsFirstNamed, IsIndex, has_names, name_at, name_of, section_at, table_of};
+ghost use Rattle.file_formats.specs.Table.{IsFirstNamed, IsSectionIndex, has_names, name_at, given_name, section_at, table_of};
 ghost use Rattle.elf_file.specs.Parsed.{IsInside};
 ghost use Rattle.elf_file.specs.Section.{IsSection};
 ghost use Rattle.elf_file.specs.Texts.{has_no_zero};
@@ -37,7 +37,8 @@ impl<'a> Model for ElfFile<'a> {
 impl<'a> ElfFile<'a> {
     /// Reads the header and finds the section table and the names.
     pub fn parse(bytes: &'a [u8]) -> Result<ElfFile<'a>, ElfFault>
-        ensures ok { IfOk result (λ file. (file.bytes ≡ bytes.now) × (table_of bytes.now ≡ Ok file.table)) }
+        ensures ok { IfOk result (λ file.
+            (file.bytes ≡ bytes.now) × (table_of bytes.now ≡ Ok file.table)) }
         ensures err { IfErr result (λ fault. table_of bytes.now ≡ Err fault) }
     {
         let table = table_in(bytes)?;
@@ -73,7 +74,7 @@ impl<'a> ElfFile<'a> {
     /// The section of an index.
     pub fn section(&self, index: u64) -> Option<Section<'a>>
         ensures none { IsNone result ↔ (self.now.table.count ≤ index) }
-        ensures some { IfSome result (λ section. IsSection self.now.bytes self.now.table index section) }
+        ensures some { IfSome result (IsSection self.now.bytes self.now.table index) }
     {
         if index >= self.count() {
             return None;
@@ -92,8 +93,9 @@ impl<'a> ElfFile<'a> {
 
     /// The index of the first section of a name, from 1 on.
     pub fn by_name(&self, name: &[u8]) -> Option<u64>
-        ensures found { IfSome result (λ index. IsFirstNamed self.now.bytes self.now.table name.now index) }
-        ensures none { IfNone result ((i : ℕ) → IsIndex self.now.table i → name_at self.now.bytes self.now.table i ≢ Some name.now) }
+        ensures found { IfSome result (IsFirstNamed self.now.bytes self.now.table name.now) }
+        ensures none { IfNone result ((i : ℕ) → IsSectionIndex self.now.table i
+            → name_at self.now.bytes self.now.table i ≢ Some name.now) }
     {
         for index in 1..self.count() {
             if self.has_name(&self.header(index), name) {
@@ -121,7 +123,7 @@ impl<'a> ElfFile<'a> {
 
     /// The name that a section header gives.
     pub fn name(&self, header: &SectionHeader) -> Option<&'a [u8]>
-        ensures { option_copied result ≡ name_of self.now.bytes self.now.table header.now }
+        ensures { option_copied result ≡ given_name self.now.bytes self.now.table header.now }
     {
         match &self.names {
             Some(names) => names.text(header.sh_name),
@@ -131,7 +133,8 @@ impl<'a> ElfFile<'a> {
 
     /// Whether a section header gives this name.
     pub fn has_name(&self, header: &SectionHeader, name: &[u8]) -> bool
-        ensures { IsTrue result ↔ (name_of self.now.bytes self.now.table header.now ≡ Some name.now) }
+        ensures { IsTrue result
+            ↔ (given_name self.now.bytes self.now.table header.now ≡ Some name.now) }
     {
         match &self.names {
             Some(names) => names.is(header.sh_name, name),
@@ -139,10 +142,13 @@ impl<'a> ElfFile<'a> {
         }
     }
 
-    /// Whether a section header gives a name that begins with a prefix. The name's end is not sought.
+    /// Whether a section header gives a name that begins with a prefix. The name's end is not
+    /// sought.
     pub fn has_name_with(&self, header: &SectionHeader, prefix: &[u8]) -> bool
         requires { has_no_zero prefix.now ≡ true }
-        ensures { result ≡ option_map_or (λ name. starts_with nat_eq name prefix.now) (name_of self.now.bytes self.now.table header.now) false }
+        ensures { result ≡ option_map_or
+            (λ name. starts_with nat_eq name prefix.now)
+            (given_name self.now.bytes self.now.table header.now) false }
     {
         match &self.names {
             Some(names) => names.begins(header.sh_name, prefix),

@@ -1,5 +1,5 @@
-//! ELF files: the header and the section table, with sections by index and by name. ELF gABI, chapter 4.
-//! Segments, symbols and what a section means are left out.
+//! ELF files: the header and the section table, with sections by index and by name. ELF gABI,
+//! chapter 4. Segments, symbols and what a section means are left out.
 #![tactic(auto)]
 
 mod file;
@@ -10,4 +10,4 @@ mod table;
 
 pub use file::ElfFile;
 pub use file_formats::ElfFault;
-pub use section::{Section, is_flagged, takes_no_bytes};
+pub use section::Section;

@@ -1,20 +1,21 @@
 //! The bytes that sections' names lie in.
 
-ghost use Rattle.std.specs.Prelude.{◌≡◌, ◌↔◌, ◌==◌, true, false, Some, nat_eq, IsTrue};
+ghost use Rattle.std.specs.Prelude.{◌≡◌, ◌↔◌, true, false, Some, nat_eq, IsTrue};
 ghost use Rattle.std.specs.Option.{option_copied, option_map_or};
-ghost use Rattle.std.specs.List.{position, starts_with};
-ghost use Rattle.file_formats.specs.Sections.{text_at};
+ghost use Rattle.std.specs.List.{starts_with};
+ghost use Rattle.file_formats.specs.Sections as sections;
 ghost use Rattle.elf_file.specs.Texts.{IsTextsEnd, has_no_zero, is_text_first, is_zero_at};
 
-use memchr::{memchr, memrchr};
+use byte_read::text_at;
+use memchr::memrchr;
 use std::marker::Model;
 
 /// The bytes of the section that holds the names. Contracts see it as these bytes.
 #[derive(Drop)]
 pub struct Names<'a> {
     bytes: &'a [u8],
-    /// How many bytes stand up to and with the last 0: no name begins behind them, so that whether a 0
-    /// follows a place is known without a search.
+    /// How many bytes stand up to and with the last 0: no name begins behind them, so that whether
+    /// a 0 follows a place is known without a search.
     end: usize,
 }
 
@@ -42,24 +43,23 @@ impl<'a> Names<'a> {
 
     /// The bytes from a place to the next 0.
     pub fn text(&self, at: u32) -> Option<&'a [u8]>
-        ensures { option_copied result ≡ text_at self.now at }
+        ensures { option_copied result ≡ sections.text_at self.now at }
     {
-        let rest = self.bytes.get(at as usize..)?;
-        let len = zero_in(rest)?;
-        Some(&rest[..len])
+        text_at(self.bytes, at as usize)
     }
 
     /// Whether a 0 follows a place, and the text up to it begins with a prefix.
     pub fn begins(&self, at: u32, prefix: &[u8]) -> bool
         requires { has_no_zero prefix.now ≡ true }
-        ensures { result ≡ option_map_or (λ text. starts_with nat_eq text prefix.now) (text_at self.now at) false }
+        ensures { result ≡ option_map_or
+            (λ text. starts_with nat_eq text prefix.now) (sections.text_at self.now at) false }
     {
         (at as usize) < self.end && self.bytes[at as usize..].starts_with(prefix)
     }
 
     /// Whether the bytes from a place to the next 0 are this text.
     pub fn is(&self, at: u32, text: &[u8]) -> bool
-        ensures { IsTrue result ↔ (text_at self.now at ≡ Some text.now) }
+        ensures { IsTrue result ↔ (sections.text_at self.now at ≡ Some text.now) }
     {
         (at as usize) < self.end && begins_with_text(&self.bytes[at as usize..], text)
     }
@@ -77,13 +77,6 @@ fn has_zero_at(bytes: &[u8], at: usize) -> bool
     ensures { result ≡ is_zero_at bytes.now at }
 {
     at < bytes.len() && bytes[at] == 0
-}
-
-/// The place of the first 0.
-fn zero_in(bytes: &[u8]) -> Option<usize>
-    ensures { result ≡ position (λ x. x == 0) bytes.now }
-{
-    memchr(0, bytes)
 }
 
 /// How many bytes stand up to and with the last 0.

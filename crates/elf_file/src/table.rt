@@ -2,23 +2,24 @@
 
 ghost use Rattle.std.specs.Prelude.{◌≡◌, ◌+◌, ◌≤◌, ◌<◌, ◌*◌, nat_le, true, IfOk, length};
 ghost use Rattle.file_formats.specs.Sections.{shdr_size};
-ghost use Rattle.file_formats.specs.Table.{count_of, has_names, has_section_zero, names_of, names_section, table_below};
+ghost use Rattle.file_formats.specs.Table.{count_of, has_names, has_section_zero, names_index, names_section, table_below};
 ghost use Rattle.elf_file.specs.Parsed.{IsInside};
 
 use crate::names::Names;
-use crate::section::{contents, header_at, header_size};
+use crate::section::{contents, header_at};
 use file_formats::{ElfFault, Head, SHN_UNDEF, SHN_XINDEX, SectionTable};
 
 /// Whether section 0's header is wholly in the file.
 fn holds_section_zero(bytes: &[u8], head: &Head) -> bool
     ensures { result ≡ has_section_zero bytes.now head.now }
 {
-    head.e_shoff as u128 + header_size(head.encoding.class) as u128 <= bytes.len() as u128
+    head.e_shoff as u128 + head.encoding.class.shdr_size() as u128 <= bytes.len() as u128
 }
 
 /// The number of sections.
 fn count(bytes: &[u8], head: &Head) -> u64
-    requires { head.now.e_shnum ≡ 0 → head.now.e_shoff + shdr_size head.now.encoding.class ≤ length bytes.now }
+    requires { head.now.e_shnum ≡ 0
+        → head.now.e_shoff + shdr_size head.now.encoding.class ≤ length bytes.now }
     ensures { result ≡ count_of bytes.now head.now }
 {
     if head.e_shnum == 0 {
@@ -31,7 +32,7 @@ fn count(bytes: &[u8], head: &Head) -> u64
 /// The index of the names' section.
 fn names(bytes: &[u8], head: &Head) -> u64
     requires { head.now.e_shoff + shdr_size head.now.encoding.class ≤ length bytes.now }
-    ensures { result ≡ names_of bytes.now head.now }
+    ensures { result ≡ names_index bytes.now head.now }
 {
     if head.e_shstrndx as u64 == SHN_XINDEX {
         header_at(bytes, head.encoding, head.e_shoff as usize).sh_link as u64
@@ -57,7 +58,7 @@ pub fn table(bytes: &[u8], head: &Head) -> Result<SectionTable, ElfFault>
     if head.e_shoff == 0 {
         return Err(ElfFault::NoSections);
     }
-    if head.e_shentsize as u64 != header_size(head.encoding.class) {
+    if head.e_shentsize as u64 != head.encoding.class.shdr_size() {
         return Err(ElfFault::BadTable);
     }
     if head.e_shnum == 0 && !holds_section_zero(bytes, head) {
@@ -91,7 +92,7 @@ pub fn entry_place(bytes: &[u8], table: &SectionTable, index: u64) -> usize
     ensures place { result ≡ table.now.start + index * shdr_size table.now.encoding.class }
     ensures fits { result + shdr_size table.now.encoding.class ≤ length bytes.now }
 {
-    (table.start + index * header_size(table.encoding.class)) as usize
+    (table.start + index * table.encoding.class.shdr_size()) as usize
 }
 
 /// Whether no section has a name, or the names' section is there and has contents.

@@ -1,5 +1,6 @@
 -- What is read of a note.
 use Rattle.std.specs.Prelude.{◌≡◌, ℕ, ◌+◌, ◌≤◌, ◌<◌}
+use Rattle.file_formats.specs.declared.notes.TheConstants.{NHDR_SIZE}
 use Rattle.elf_notes.specs.declared.notes.Note.{Note}
 use Rattle.file_formats.specs.Notes.{Notes, namesz, descsz, note_type, desc_place, next_place, HoldsNote}
 
@@ -11,5 +12,5 @@ pub record IsNote (s : Notes) (p : ℕ) (note : Note) : Type 0 where
   pub descriptor : note.descriptor ≡ desc_place s p
   pub descriptor_size : note.descriptor_size ≡ descsz s p
   pub next : note.next ≡ next_place s p
-  pub name_end : p + 12 + note.name_size ≤ note.descriptor
+  pub name_end : p + NHDR_SIZE + note.name_size ≤ note.descriptor
   pub later : p < note.next

@@ -1,4 +1,5 @@
--- The identity of a file: its build-id, and what it holds (this project's rule over ELF's section table and notes).
+-- The identity of a file: its build-id, and what it holds (this project's rule over ELF's section
+-- table and notes).
 use Rattle.std.specs.Prelude.{◌≡◌, ◌≢◌, ◌↔◌, ℕ, ◌≤◌, List, Option, Some, Result, Ok, Err, Bool, true, false, not, IsTrue, ◌&&◌, ◌==◌, nat_eq, codes}
 use Rattle.std.specs.Option.{option_map_or}
 use Rattle.std.specs.List.{starts_with}
@@ -10,7 +11,7 @@ use Rattle.file_formats.specs.declared.codes.TheConstants.{ET_CORE, SHT_NOTE, SH
 use Rattle.file_formats.specs.declared.header.SectionHeader.{SectionHeader}
 use Rattle.file_formats.specs.declared.header.SectionTable.{SectionTable}
 use Rattle.file_formats.specs.Sections.{is_bodiless, has_flag}
-use Rattle.file_formats.specs.Table.{table_of, section_at, contents_at, name_at, IsIndex}
+use Rattle.file_formats.specs.Table.{table_of, section_at, contents_at, name_at, IsSectionIndex}
 use Rattle.file_formats.specs.Notes.{notes_in, IsFirstBuildId}
 
 -- a file's build-id, whether it holds code to run, and whether it holds debug information
@@ -21,7 +22,7 @@ pub record Identity : Type 0 where
 
 -- the section of index i is one in which a build-id is looked for, and these are its bytes
 pub record HoldsNotes (b : List ℕ) (t : SectionTable) (i : ℕ) (bytes : List ℕ) : Type 0 where
-  pub index : IsIndex t i
+  pub index : IsSectionIndex t i
   pub kind : (section_at b t i).sh_type ≡ SHT_NOTE
   pub plain : has_flag (section_at b t i) SHF_COMPRESSED ≡ false
   pub holds : contents_at b t i ≡ Some bytes
@@ -45,26 +46,25 @@ is_code s = (s.sh_type == SHT_PROGBITS) && has_flag s SHF_ALLOC
 -- some section is code
 pub record HasCode (b : List ℕ) (t : SectionTable) : Type 0 where
   pub index : ℕ
-  pub there : IsIndex t index
+  pub there : IsSectionIndex t index
   pub code : is_code (section_at b t index) ≡ true
 
 -- the section is one of debug information, by its type and name
 abbrev pub is_debug : SectionHeader → Option (List ℕ) → Bool
-is_debug s name = not (is_bodiless s) && option_map_or (λ n. starts_with nat_eq n (codes ".debug_")) name false
+is_debug s name =
+    not (is_bodiless s) && option_map_or (λ n. starts_with nat_eq n (codes ".debug_")) name false
 
 -- some section is one of debug information
 pub record HasDebug (b : List ℕ) (t : SectionTable) : Type 0 where
   pub index : ℕ
-  pub there : IsIndex t index
+  pub there : IsSectionIndex t index
   pub debug : is_debug (section_at b t index) (name_at b t index) ≡ true
 
 -- what a fault of the table is called of a file
 abbrev pub why_of : ElfFault → Why
 why_of fault.NotElf = why.NotElf
-why_of fault.BadHead = why.BadElf
 why_of fault.NoSections = why.NoSections
-why_of fault.BadTable = why.BadElf
-why_of fault.BadNames = why.BadElf
+why_of _ = why.BadElf
 
 -- the flags say whether such sections are there
 pub record IsFlagged (b : List ℕ) (t : SectionTable) (i : Identity) : Type 0 where

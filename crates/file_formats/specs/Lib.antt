@@ -5,6 +5,7 @@ pub mod Sections
 pub mod Table
 pub mod Notes
 pub mod Identity
+pub mod Pinned
 pub mod DwarfReads
 pub mod DwarfForms
 pub mod DwarfTexts

@@ -1,5 +1,5 @@
--- The section table (ELF gABI, chapter 4, "Sections", with the extended counts of section 0): a file's
--- remaining tests, in their order, and its sections by index.
+-- The section table (ELF gABI, chapter 4, "Sections", with the extended counts of section 0): a
+-- file's remaining tests, in their order, and its sections by index.
 use Rattle.std.specs.Prelude.{◌≡◌, ℕ, ◌+◌, ◌*◌, ◌<◌, ◌≤◌, List, Option, Some, None, Result, Ok, Err, Bool, false, not, ◌&&◌, ◌||◌, is_some, nat_lt, nat_le, ◌==◌, if◌then◌else◌, length}
 use Rattle.std.specs.Option.{option_and_then}
 use Rattle.file_formats.specs.declared.fault.ElfFault.{ElfFault}
@@ -24,8 +24,8 @@ abbrev pub count_of : List ℕ → Head → ℕ
 count_of b h = if h.e_shnum == 0 then (section_zero b h).sh_size else h.e_shnum
 
 -- the index of the names' section: e_shstrndx, or section 0's link where that is SHN_XINDEX
-abbrev pub names_of : List ℕ → Head → ℕ
-names_of b h = if h.e_shstrndx == SHN_XINDEX then (section_zero b h).sh_link else h.e_shstrndx
+abbrev pub names_index : List ℕ → Head → ℕ
+names_index b h = if h.e_shstrndx == SHN_XINDEX then (section_zero b h).sh_link else h.e_shstrndx
 
 -- the table that the header describes, where the file holds it
 abbrev pub described : List ℕ → Head → SectionTable
@@ -34,7 +34,7 @@ described b h = record {
   e_type = h.e_type;
   start = h.e_shoff;
   count = count_of b h;
-  names = names_of b h;
+  names = names_index b h;
 }
 
 -- the header of the section of index i, which is below the table's count
@@ -47,7 +47,8 @@ contents_at b t i = contents_of b (section_at b t i)
 
 -- no section has a name, or the names' section is there and has contents
 abbrev pub has_names : List ℕ → SectionTable → Bool
-has_names b t = (t.names == SHN_UNDEF) || (nat_lt t.names t.count && is_some (contents_at b t t.names))
+has_names b t =
+    (t.names == SHN_UNDEF) || (nat_lt t.names t.count && is_some (contents_at b t t.names))
 
 -- the remaining tests in their order, and the table that passes them
 unfoldable pub table_below : List ℕ → Head → Result SectionTable ElfFault
@@ -71,40 +72,43 @@ abbrev pub names_section : List ℕ → SectionTable → Option (List ℕ)
 names_section b t = if t.names == SHN_UNDEF then None else contents_at b t t.names
 
 -- the name that a section header gives, none where no section has a name or no 0 follows
-abbrev pub name_of : List ℕ → SectionTable → SectionHeader → Option (List ℕ)
-name_of b t s = option_and_then (λ names. text_at names s.sh_name) (names_section b t)
+abbrev pub given_name : List ℕ → SectionTable → SectionHeader → Option (List ℕ)
+given_name b t s = option_and_then (λ names. text_at names s.sh_name) (names_section b t)
 
 -- the name of the section of index i
 abbrev pub name_at : List ℕ → SectionTable → ℕ → Option (List ℕ)
-name_at b t i = name_of b t (section_at b t i)
+name_at b t i = given_name b t (section_at b t i)
 
 -- i is the index of a section of which a rule may speak: section 0 is none
-pub record IsIndex (t : SectionTable) (i : ℕ) : Type 0 where
+pub record IsSectionIndex (t : SectionTable) (i : ℕ) : Type 0 where
   pub below : i < t.count
   pub above : 1 ≤ i
 
 -- i is the index of the first section of this name
 pub record IsFirstNamed (b : List ℕ) (t : SectionTable) (name : List ℕ) (i : ℕ) : Type 0 where
-  pub index : IsIndex t i
+  pub index : IsSectionIndex t i
   pub named : name_at b t i ≡ Some name
-  pub first : (j : ℕ) → IsIndex t j → name_at b t j ≡ Some name → i ≤ j
+  pub first : (j : ℕ) → IsSectionIndex t j → name_at b t j ≡ Some name → i ≤ j
 
 -- the section of index i has contents, under this name, that aren't compressed
-pub record HasSection (b : List ℕ) (t : SectionTable) (name : List ℕ) (i : ℕ) (bytes : List ℕ) : Type 0 where
-  pub index : IsIndex t i
+pub record HasSection (b : List ℕ) (t : SectionTable) (name : List ℕ) (i : ℕ) (bytes : List ℕ)
+    : Type 0 where
+  pub index : IsSectionIndex t i
   pub named : name_at b t i ≡ Some name
   pub holds : contents_at b t i ≡ Some bytes
   pub plain : has_flag (section_at b t i) SHF_COMPRESSED ≡ false
 
 -- the bytes of the section of a name: those of the first section that has it
-pub record IsSectionOf (b : List ℕ) (t : SectionTable) (name : List ℕ) (bytes : List ℕ) : Type 0 where
+pub record IsSectionOf (b : List ℕ) (t : SectionTable) (name bytes : List ℕ) : Type 0 where
   pub index : ℕ
   pub here : HasSection b t name index bytes
   pub first : (i : ℕ) (other : List ℕ) → HasSection b t name i other → index ≤ i
 
--- what is answered for the section of a name: its bytes, or none where there is none or no section table
+-- what is answered for the section of a name: its bytes, or none where there is none or no section
+-- table
 pub data IsSectionAnswer (b : List ℕ) (name : List ℕ) : Option (List ℕ) → Type 0 where
-  present : (t : SectionTable) → (bytes : List ℕ) → table_of b ≡ Ok t → IsSectionOf b t name bytes → IsSectionAnswer b name (Some bytes)
+  present : (t : SectionTable) → (bytes : List ℕ) → table_of b ≡ Ok t → IsSectionOf b t name bytes
+      → IsSectionAnswer b name (Some bytes)
   absent : (t : SectionTable) → table_of b ≡ Ok t
       → ((i : ℕ) (bytes : List ℕ) → HasSection b t name i bytes → ⊥) → IsSectionAnswer b name None
   no_table : (fault : ElfFault) → table_of b ≡ Err fault → IsSectionAnswer b name None

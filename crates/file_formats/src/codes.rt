@@ -1,19 +1,4 @@
-//! The numbers of the ELF gABI that a rule names, under the standard's names.
-
-/// Byte 4 of a file with 32-bit places and sizes.
-pub const ELFCLASS32: u8 = 1;
-
-/// Byte 4 of a file with 64-bit places and sizes.
-pub const ELFCLASS64: u8 = 2;
-
-/// Byte 5 of a file whose numbers begin with their least significant byte.
-pub const ELFDATA2LSB: u8 = 1;
-
-/// Byte 5 of a file whose numbers begin with their most significant byte.
-pub const ELFDATA2MSB: u8 = 2;
-
-/// Byte 6, the version of the header.
-pub const EV_CURRENT: u8 = 1;
+//! The numbers of ELF's headers that a rule names, under the standard's names.
 
 /// The file type (e_type) of a memory image of a process.
 pub const ET_CORE: u16 = 4;
@@ -41,6 +26,3 @@ pub const SHN_UNDEF: u64 = 0;
 
 /// The index of the names' section (e_shstrndx) that sends to section 0's link.
 pub const SHN_XINDEX: u64 = 0xffff;
-
-/// The type of GNU's build-id note.
-pub const NT_GNU_BUILD_ID: u32 = 3;

@@ -1,5 +1,6 @@
 //! What a file's headers say, as plain data.
 
+use crate::codes::{SHT_NOBITS, SHT_NULL};
 use crate::encoding::{Class, Order};
 
 /// A file's class and byte order.
@@ -56,4 +57,26 @@ pub struct SectionHeader {
     pub sh_link: u32,
     /// The section's alignment, in bytes.
     pub sh_addralign: u64,
+}
+
+impl SectionHeader {
+    ghost use Rattle.std.specs.Prelude.{◌≡◌};
+    ghost use Rattle.file_formats.specs.Sections.{has_flag, is_bodiless};
+    ghost use Rattle.file_formats.specs.Pinned.{ArePinnedFlags, ArePinnedTypes};
+
+    /// Whether the header describes no section, or one that takes no bytes in the file.
+    pub fn takes_no_bytes(&self) -> bool
+        ensures value { result ≡ is_bodiless self.now }
+        ensures numbers { ArePinnedTypes }
+    {
+        self.sh_type == SHT_NULL || self.sh_type == SHT_NOBITS
+    }
+
+    /// Whether the flag is set, as SHF_ALLOC.
+    pub fn is_flagged(&self, flag: u64) -> bool
+        ensures value { result ≡ has_flag self.now flag }
+        ensures numbers { ArePinnedFlags }
+    {
+        self.sh_flags & flag != 0
+    }
 }

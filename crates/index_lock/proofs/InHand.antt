@@ -9,13 +9,17 @@ in_hand other (x ∷ xs) = x.1
 
 module _ {T V : Type 0} where
   -- the only slot is the first
-  pub one_slot : (me : Me T V) (view : V) (x : T) → me ≡ (view, (0, x) ∷ []) → me.1 ≡ (0, x) ∷ rest me.1
-  one_slot me view x is = ap (λ (m : Me T V). m.1) is ∙ ap (λ (m : Me T V). (0, x) ∷ rest m.1) (sym is)
+  pub one_slot : {me : Me T V} {view : V} {x : T} → me ≡ (view, (0, x) ∷ [])
+      → me.1 ≡ (0, x) ∷ rest me.1
+  one_slot {x = x} is =
+      ap (λ (m : Me T V). m.1) is ∙ ap (λ (m : Me T V). (0, x) ∷ rest m.1) (sym is)
 
   -- the exchange leaves what was put in
-  pub put_in : (me after : Me T V) (view : V) (x y : T) → me ≡ (view, (0, x) ∷ []) → after ≡ (me.0, (0, y) ∷ rest me.1) → after ≡ (view, (0, y) ∷ [])
-  put_in me after view x y is e = e ∙ ap (λ (m : Me T V). (m.0, (0, y) ∷ rest m.1)) is
+  pub put_in : {me after : Me T V} {view : V} {x y : T} → me ≡ (view, (0, x) ∷ [])
+      → after ≡ (me.0, (0, y) ∷ rest me.1) → after ≡ (view, (0, y) ∷ [])
+  put_in {y = y} is e = e ∙ ap (λ (m : Me T V). (m.0, (0, y) ∷ rest m.1)) is
 
   -- the exchange gives what was there
-  pub taken_out : (me : Me T V) (view : V) (x y : T) → me ≡ (view, (0, x) ∷ []) → me.1 ≡ (0, y) ∷ rest me.1 → y ≡ x
-  taken_out me view x y is e = ap (in_hand y) (sym e ∙ ap (λ (m : Me T V). m.1) is)
+  pub taken_out : {me : Me T V} {view : V} {x y : T} → me ≡ (view, (0, x) ∷ [])
+      → me.1 ≡ (0, y) ∷ rest me.1 → y ≡ x
+  taken_out {y = y} is e = ap (in_hand y) (sym e ∙ ap (λ (m : Me T V). m.1) is)

@@ -1,4 +1,5 @@
--- The rule of the lock's table, and what each kind of step on it tells. This is the project's own rule.
+-- The rule of the lock's table, and what each kind of step on it tells. This is the project's own
+-- rule.
 use Rattle.std.specs.Prelude.{◌≡◌, ◌≢◌, ◌⊎◌, ℕ, ◌+◌, ◌*◌, List, [], ◌∷◌, length, Option, Some, None}
 use mathlib.Core.List.{IsPrefix}
 use mathlib.Core.Option.{some, none}
@@ -12,7 +13,7 @@ use Rattle.index_lock.specs.declared.view.View.{View}
 use Rattle.index_lock.specs.declared.view.View.TheVariants.{Spent, Rests, Joined, Holds, Ends}
 
 -- the log begins with what was known, and the origin is the same
-pub record GoesOn {E O : Type 0} (before now : Known E O) : Type 0 where
+pub record Continues {E O : Type 0} (before now : Known E O) : Type 0 where
   pub log : IsPrefix before.log now.log
   pub origin : now.origin ≡ before.origin
 
@@ -24,18 +25,17 @@ module _ {E O : Type 0} where
   -- all that there is goes on from what a view knows; a spent view knows nothing
   abbrev pub HasSeen : Known E O → View E O → Type 0
   HasSeen all Spent = Unit {0}
-  HasSeen all (Rests known) = GoesOn known all
-  HasSeen all (Joined known mine theirs) = GoesOn known all × GoesOn mine known × GoesOn theirs known
-  HasSeen all (Holds known) = GoesOn known all
-  HasSeen all (Ends known) = GoesOn known all
+  HasSeen all (Rests known) = Continues known all
+  HasSeen all (Joined known mine theirs) =
+      Continues known all × Continues mine known × Continues theirs known
+  HasSeen all (Holds known) = Continues known all
+  HasSeen all (Ends known) = Continues known all
 
   -- what a view took the lock at, if it has it
   abbrev pub taken_at : View E O → maybe.Option (Known E O)
-  taken_at Spent = none
-  taken_at (Rests known) = none
-  taken_at (Joined known mine theirs) = none
   taken_at (Holds known) = some known
   taken_at (Ends known) = some known
+  taken_at _ = none
 
   -- what a view knows, with the given origin where it is spent
   abbrev pub known_by : O → View E O → Known E O
@@ -51,12 +51,19 @@ module _ {E O : Type 0} where
   slot_under S _ = none
 
 -- the lock is free
-pub record IsFree {S E O : Type 0} (log : S → List E) (origin : S → O) (state : State (Option S) (View E O)) : Type 0 where
+pub record IsFree {S E O : Type 0} (log : S → List E) (origin : S → O)
+    (state : State (Option S) (View E O)) : Type 0 where
   pub value : S
-  pub word : state.words ≡ 2 * length (log value) ∷ []  -- it is twice the number of changes
-  pub slot : state.homes ≡ some (Some value) ∷ []  -- the value is at home
-  pub nobody : (id : ℕ) (view : View E O) → get_elem? state.views id ≡ some view → taken_at view ≡ none  -- no token has the lock
-  pub seen : (id : ℕ) (view : View E O) → get_elem? state.views id ≡ some view → HasSeen (known_of log origin value) view  -- each has seen a beginning of the value's log
+  -- it is twice the number of changes
+  pub word : state.words ≡ 2 * length (log value) ∷ []
+  -- the value is at home
+  pub slot : state.homes ≡ some (Some value) ∷ []
+  -- no token has the lock
+  pub nobody : (id : ℕ) (view : View E O) → get_elem? state.views id ≡ some view
+      → taken_at view ≡ none
+  -- each has seen a beginning of the value's log
+  pub seen : (id : ℕ) (view : View E O) → get_elem? state.views id ≡ some view
+      → HasSeen (known_of log origin value) view
 
 -- the lock is held
 pub record IsHeld {S E O : Type 0} (state : State (Option S) (View E O)) : Type 0 where
@@ -64,14 +71,21 @@ pub record IsHeld {S E O : Type 0} (state : State (Option S) (View E O)) : Type 
   pub holding : View E O
   pub all : Known E O
   pub there : get_elem? state.views holder ≡ some holding
-  pub took : taken_at holding ≡ some all  -- the holder keeps the log at which it took the lock
-  pub word : state.words ≡ (2 * length all.log + 1) ∷ []  -- it is one more than twice the number of changes of that log
-  pub slot : state.homes ≡ slot_under S holding ∷ []  -- the value isn't at home
-  pub alone : (id : ℕ) (view : View E O) → get_elem? state.views id ≡ some view → taken_at view ≢ none → id ≡ holder  -- no other token has the lock
-  pub seen : (id : ℕ) (view : View E O) → get_elem? state.views id ≡ some view → HasSeen all view  -- each has seen a beginning of that log
+  -- the holder keeps the log at which it took the lock
+  pub took : taken_at holding ≡ some all
+  -- it is one more than twice the number of changes of that log
+  pub word : state.words ≡ (2 * length all.log + 1) ∷ []
+  -- the value isn't at home
+  pub slot : state.homes ≡ slot_under S holding ∷ []
+  -- no other token has the lock
+  pub alone : (id : ℕ) (view : View E O) → get_elem? state.views id ≡ some view
+      → taken_at view ≢ none → id ≡ holder
+  -- each has seen a beginning of that log
+  pub seen : (id : ℕ) (view : View E O) → get_elem? state.views id ≡ some view → HasSeen all view
 
 -- at every moment the lock is free or held
-abbrev pub KeepsLock : {S E O : Type 0} → (S → List E) → (S → O) → State (Option S) (View E O) → Type 0
+abbrev pub KeepsLock : {S E O : Type 0} → (S → List E) → (S → O) → State (Option S) (View E O)
+    → Type 0
 KeepsLock log origin state = IsFree log origin state ⊎ IsHeld state
 
 module _ {E O : Type 0} where
@@ -85,23 +99,36 @@ module _ {E O : Type 0} where
   joined_view view _ = view
 
 module _ {S E O : Type 0} where
-  -- the token took the lock, and has the value in its slot, whose log begins with what it had seen; or the word was another and nothing changed
-  abbrev pub acquired : (S → List E) → (S → O) → Step (Option S) → Me (Option S) (View E O) → ℕ → Me (Option S) (View E O) → Type 0
+  -- the token took the lock, and has the value in its slot, whose log begins with what it had seen;
+  -- or the word was another and nothing changed
+  abbrev pub acquired : (S → List E) → (S → O) → Step (Option S) → Me (Option S) (View E O) → ℕ
+      → Me (Option S) (View E O) → Type 0
   acquired log origin step before found after =
-      (found ≡ step.first → (value : S) × (after ≡ (Holds (known_of log origin value), (0, Some value) ∷ before.1)) × ((known : Known E O) → before.0 ≡ Rests known → GoesOn known (known_of log origin value)))
+      (found ≡ step.first → (value : S)
+      × (after ≡ (Holds (known_of log origin value), (0, Some value) ∷ before.1))
+      × ((known : Known E O) → before.0 ≡ Rests known
+      → Continues known (known_of log origin value)))
       × (found ≢ step.first → after ≡ before)
 
   -- the token has seen the log of the value that it gave back
-  abbrev pub released : (S → List E) → (S → O) → Step (Option S) → Me (Option S) (View E O) → ℕ → Me (Option S) (View E O) → Type 0
-  released log origin step before found after = (value : S) → before.1 ≡ (0, Some value) ∷ [] → after ≡ (Rests (known_of log origin value), [])
+  abbrev pub released : (S → List E) → (S → O) → Step (Option S) → Me (Option S) (View E O) → ℕ
+      → Me (Option S) (View E O) → Type 0
+  released log origin step before found after =
+      (value : S) → before.1 ≡ (0, Some value) ∷ []
+      → after ≡ (Rests (known_of log origin value), [])
 
   -- both tokens of the join had seen beginnings of what is kept
-  abbrev pub settled : Step (Option S) → Me (Option S) (View E O) → ℕ → Me (Option S) (View E O) → Type 0
-  settled step before found after = (known mine theirs : Known E O) → before.0 ≡ Joined known mine theirs → (after ≡ (Rests known, before.1)) × GoesOn mine known × GoesOn theirs known
+  abbrev pub settled : Step (Option S) → Me (Option S) (View E O) → ℕ → Me (Option S) (View E O)
+      → Type 0
+  settled step before found after =
+      (known mine theirs : Known E O) → before.0 ≡ Joined known mine theirs
+      → (after ≡ (Rests known, before.1)) × Continues mine known × Continues theirs known
 
   -- the slot went back for good
-  abbrev pub ended : Step (Option S) → Me (Option S) (View E O) → ℕ → Me (Option S) (View E O) → Type 0
-  ended step before found after = (known : Known E O) → before.0 ≡ Holds known → after ≡ (Ends known, [])
+  abbrev pub ended : Step (Option S) → Me (Option S) (View E O) → ℕ → Me (Option S) (View E O)
+      → Type 0
+  ended step before found after =
+      (known : Known E O) → before.0 ≡ Holds known → after ≡ (Ends known, [])
 
 -- a token at the table, over slots of this type
 abbrev pub Token : (S E O : Type 0) → Type 0
@@ -120,14 +147,18 @@ pub record IsTokenOf {S E O : Type 0} (seat : SeatFacts E O) (token : Token S E 
   pub lock : token.table_id ≡ seat.lock
   pub me : token.me ≡ (Rests (known_to seat), [])
 
--- the token has the lock, with this in its slot, and took it where the value had this log and this origin
-pub record IsTokenUnder {S E O : Type 0} (held : HeldFacts S E O) (slot : Option S) (token : Token S E O) : Type 0 where
+-- the token has the lock, with this in its slot, and took it where the value had this log and this
+-- origin
+pub record IsTokenUnder {S E O : Type 0} (held : HeldFacts S E O) (slot : Option S)
+    (token : Token S E O) : Type 0 where
   pub lock : token.table_id ≡ held.lock
   pub me : token.me ≡ (Holds (known_under held), (0, slot) ∷ [])
 
 -- a token that rested has taken the lock, and the value is in its slot
-pub record Takes {S E O : Type 0} (log : S → List E) (origin : S → O) (before after : Token S E O) : Type 0 where
+pub record TakesLock {S E O : Type 0} (log : S → List E) (origin : S → O)
+    (before after : Token S E O) : Type 0 where
   pub value : S
   pub table : after.table_id ≡ before.table_id
   pub me : after.me ≡ (Holds (known_of log origin value), (0, Some value) ∷ [])
-  pub seen : (known : Known E O) → before.me ≡ (Rests known, []) → GoesOn known (known_of log origin value)
+  pub seen : (known : Known E O) → before.me ≡ (Rests known, [])
+      → Continues known (known_of log origin value)

@@ -3,8 +3,8 @@ use crate::logged::Logged;
 use crate::view::Token;
 use std::marker::Model;
 
-/// The lock's value, for as long as it is held. Contracts see the lock, the value, and the log and the origin that the
-/// value had at `enter`. It can't be let go: `leave` takes it, or `into_value`.
+/// The lock's value, for as long as it is held. Contracts see the lock, the value, and the log and
+/// the origin that the value had at `enter`. It can't be let go: `leave` takes it, or `into_value`.
 pub struct Held<S: Logged> {
     value: S,
     token: Token<S>,
@@ -19,9 +19,15 @@ impl<S: Logged> Model for Held<S> {
     ghost use Rattle.index_lock.specs.Rule.{known_by};
     ghost use Rattle.index_lock.specs.declared.view.View.TheVariants.{Holds};
 
-    ghost view = { λ held. let known = known_by S.blank_origin held.token.me.0 in record { lock = held.token.table_id; value = held.value; seen = known.log; origin = known.origin } };
+    ghost view = { λ held. let known = known_by S.blank_origin held.token.me.0 in record {
+      lock = held.token.table_id;
+      value = held.value;
+      seen = known.log;
+      origin = known.origin;
+    } };
 
-    ghost invariant = { λ held. held.token.me ≡ (Holds (known_by S.blank_origin held.token.me.0), (0, None) ∷ []) };
+    ghost invariant = { λ held.
+        held.token.me ≡ (Holds (known_by S.blank_origin held.token.me.0), (0, None) ∷ []) };
 }
 
 impl<S: Logged> Held<S> {
@@ -54,9 +60,12 @@ impl<S: Logged> Held<S> {
         &self.value
     }
 
-    /// Lends the value to be changed. Whatever is done to it, `leave` asks that its log goes on from that at `enter`.
+    /// Lends the value to be changed. Whatever is done to it, `leave` asks that its log goes on
+    /// from that at `enter`.
     pub fn value_mut(&mut self) -> &mut S
-        ensures* writes_back { sem 𝓛 (Lends (held_row S.row S.Entry.row S.Origin.row ⟦<S as Logged>⟧) S.row self.entry result (λ w. record self.entry.now { value = w })) }
+        ensures* writes_back { sem 𝓛 (Lends
+            (held_row S.row S.Entry.row S.Origin.row ⟦<S as Logged>⟧)
+            S.row self.entry result (λ w. record self.entry.now { value = w })) }
         ensures value { result.now ≡ self.old.value }
     {
         &mut self.value

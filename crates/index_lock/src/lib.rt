@@ -1,5 +1,6 @@
-//! A lock over one value that has a log, and the tokens by which threads take it. Every token sees the log only grow:
-//! what one thread put into the value stands in each later view of any thread. It knows nothing of what the value is.
+//! A lock over one value that has a log, and the tokens by which threads take it. Every token sees
+//! the log only grow: what one thread put into the value stands in each later view of any thread.
+//! It knows nothing of what the value is.
 #![tactic(auto)]
 
 mod held;

@@ -3,7 +3,7 @@ ghost use Rattle.std.specs.Prelude.{◌≡◌, [], ◌∷◌, IfOk, IfErr, Some}
 ghost use mathlib.Core.List.{IsPrefix};
 ghost use Rattle.index_lock.specs.declared.view.Known.{Known};
 ghost use Rattle.index_lock.specs.declared.view.View.TheVariants.{Rests};
-ghost use Rattle.index_lock.specs.Rule.{Takes};
+ghost use Rattle.index_lock.specs.Rule.{TakesLock};
 ghost use Rattle.index_lock.specs.Splits.{Splits};
 ghost use Rattle.index_lock.specs.Tokens.{longer};
 
@@ -32,7 +32,8 @@ impl<S: Logged> Model for TurnLock<S> {
 
     ghost view = { λ lock. lock.table.shared.table_id };
 
-    ghost invariant = { λ lock. (lock.table.shared.table_id.words ≡ 1) × (lock.table.shared.table_id.slots ≡ 1) };
+    ghost invariant = { λ lock.
+        (lock.table.shared.table_id.words ≡ 1) × (lock.table.shared.table_id.slots ≡ 1) };
 }
 
 // The value that is alone in a row.
@@ -68,7 +69,8 @@ impl<S: Logged> TurnLock<S> {
     /// Puts the value behind a lock of its own, with a first token.
     pub fn make(alloc: Global, state: S) -> Result<(TurnLock<S>, Seat<S>), S>
         ensures lock { IfOk result (λ made. made.1.lock ≡ made.0) }
-        ensures seen { IfOk result (λ made. (made.1.seen ≡ S.log state) × (made.1.origin ≡ S.origin state)) }
+        ensures seen { IfOk result (λ made.
+            (made.1.seen ≡ S.log state) × (made.1.origin ≡ S.origin state)) }
         ensures memory { IfErr result (λ back. back ≡ state) }
     {
         let word = 2 * state.count();
@@ -89,7 +91,8 @@ impl<S: Logged> TurnLock<S> {
         ensures lock { result.lock ≡ seat.lock }
         ensures begins { IsPrefix seat.seen (S.log result.value) }
         ensures origin { S.origin result.value ≡ seat.origin }
-        ensures at_enter { (result.seen ≡ S.log result.value) × (result.origin ≡ S.origin result.value) }
+        ensures at_enter { (result.seen ≡ S.log result.value)
+            × (result.origin ≡ S.origin result.value) }
         ensures may_leave { IsPrefix result.seen (S.log result.value) }
     {
         let mut token = seat.into_token();
@@ -104,7 +107,7 @@ impl<S: Logged> TurnLock<S> {
     fn acquire<R: Wait>(&self, rt: &R, token: &mut Token<S>)
         requires lock { token.old.table_id ≡ self.now }
         requires rests { (known : Known S.Entry S.Origin) × (token.old.me ≡ (Rests known, [])) }
-        ensures { Takes S.log S.origin token.old token.new }
+        ensures { TakesLock S.log S.origin token.old token.new }
     {
         let shared = &self.table.shared;
         for _ in rt.forever() {

@@ -1,7 +1,8 @@
-ghost use Rattle.std.specs.Prelude.{◌≡◌, ℕ, ◌<◌, ◌≤◌, ◌++◌, List, [], ◌∷◌, IsTrue, vec_len};
+ghost use Rattle.std.specs.Prelude.{◌≡◌, ℕ, ◌<◌, ◌≤◌, ◌++◌, List, [], ◌∷◌, IfOk, IsTrue, vec_len};
 ghost use mathlib.Core.List.{IsPrefix};
 
 use crate::{Logged, Seat, Split, TurnLock};
+use std::alloc::Global;
 use std::sync::Wait;
 use std::test::Fail;
 use std::thread::{Threads, join};
@@ -34,7 +35,9 @@ impl Numbers {
 
     // Whether there was room.
     fn push(&mut self, number: u64) -> bool
-        ensures { MatchBool result (self.new.items.items ≡ self.old.items.items ++ number ∷ []) (self.new.items.items ≡ self.old.items.items) }
+        ensures { MatchBool result
+            (self.new.items.items ≡ self.old.items.items ++ number ∷ [])
+            (self.new.items.items ≡ self.old.items.items) }
     {
         self.items.len() < 100_000 && self.items.push(number).is_ok()
     }
@@ -50,7 +53,8 @@ fn put<R: Wait>(
     requires { seat.lock ≡ lock.now }
     ensures lock { result.0.lock ≡ seat.lock }
     ensures seen { IsPrefix seat.seen result.0.seen }
-    ensures put { IsTrue result.1 → ((earlier : List ℕ) × (result.0.seen ≡ earlier ++ number ∷ [])) }
+    ensures put { IsTrue result.1
+        → ((earlier : List ℕ) × (result.0.seen ≡ earlier ++ number ∷ [])) }
 {
     let mut held = lock.enter(rt, seat);
     let done = held.value_mut().push(number);
@@ -114,7 +118,7 @@ fn put_by_two<R: Threads + Wait + Sync>(
     lock.join(first, second)
 }
 
-// Takes the lock of any value, and leaves it as it was.
+// TakesLock the lock of any value, and leaves it as it was.
 fn pass<S: Logged, R: Wait>(rt: &R, lock: &TurnLock<S>, seat: Seat<S>) -> Seat<S>
     requires { seat.lock ≡ lock.now }
     ensures lock { result.lock ≡ lock.now }
@@ -156,15 +160,23 @@ fn cut(lock: &TurnLock<Numbers>, seat: Seat<Numbers>) -> (Seat<Numbers>, Seat<Nu
     }
 }
 
+// No numbers behind a lock, and its token.
+fn numbers_behind_a_lock(alloc: Global) -> Result<(TurnLock<Numbers>, Seat<Numbers>), Fail>
+    ensures { IfOk result (λ made. made.1.lock ≡ made.0) }
+{
+    let numbers = Numbers {
+        items: Vec::new(alloc),
+    };
+    Ok(
+        TurnLock::make(alloc, numbers)
+            .ok()
+            .ok_or("memory for the lock")?,
+    )
+}
+
 #[test]
 fn numbers_pass_from_token_to_token(rt: HostRuntime) -> Result<(), Fail> {
-    let made = TurnLock::make(
-        rt.alloc(),
-        Numbers {
-            items: Vec::new(rt.alloc()),
-        },
-    );
-    let (lock, seat) = made.ok().ok_or("memory for the lock")?;
+    let (lock, seat) = numbers_behind_a_lock(rt.alloc())?;
     let (first, second) = cut(&lock, seat);
     let (first, done) = put(&rt, &lock, first, 5);
     assert!(rt; done);
@@ -181,13 +193,7 @@ fn numbers_pass_from_token_to_token(rt: HostRuntime) -> Result<(), Fail> {
 
 #[test]
 fn two_threads_put_each_number_once_and_in_order(rt: HostRuntime) -> Result<(), Fail> {
-    let made = TurnLock::make(
-        rt.alloc(),
-        Numbers {
-            items: Vec::new(rt.alloc()),
-        },
-    );
-    let (lock, seat) = made.ok().ok_or("memory for the lock")?;
+    let (lock, seat) = numbers_behind_a_lock(rt.alloc())?;
     let (first, second) = cut(&lock, seat);
     let seat = put_by_two(&rt, &lock, first, second, 0);
     let held = lock.enter(&rt, seat);
@@ -200,13 +206,7 @@ fn two_threads_put_each_number_once_and_in_order(rt: HostRuntime) -> Result<(), 
 
 #[test]
 fn four_threads_put_each_number_once_and_in_order(rt: HostRuntime) -> Result<(), Fail> {
-    let made = TurnLock::make(
-        rt.alloc(),
-        Numbers {
-            items: Vec::new(rt.alloc()),
-        },
-    );
-    let (lock, seat) = made.ok().ok_or("memory for the lock")?;
+    let (lock, seat) = numbers_behind_a_lock(rt.alloc())?;
     let (left, right) = cut(&lock, seat);
     let (first, second) = cut(&lock, left);
     let (third, fourth) = cut(&lock, right);

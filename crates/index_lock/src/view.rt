@@ -1,5 +1,5 @@
-//! The lock's table: one word, one slot, and what each token knows.
-//! The word is twice the log's length, and one more while a token has the lock. The slot is at home while none has.
+//! The lock's table: one word, one slot, and what each token knows. The word is twice the log's
+//! length, and one more while a token has the lock. The slot is at home while none has.
 use crate::logged::Logged;
 use atomic_table::{Seat, Shared, Table, TableRule};
 use std::alloc::Global;
@@ -7,7 +7,8 @@ use std::collections::LinkedList;
 use std::marker::PhantomData;
 use std::snapshot::Snapshot;
 
-/// What is known of the value: its log, or a beginning of it, and its origin. No value of it is made.
+/// What is known of the value: its log, or a beginning of it, and its origin. No value of it is
+/// made.
 pub struct Known<E, O> {
     pub log: LinkedList<E>,
     pub origin: O,
@@ -27,6 +28,7 @@ pub enum View<E, O> {
     Ends(Known<E, O>),
 }
 
+/// The rule of the lock's table, which each step on it keeps. No value of it is made.
 pub struct LockRule<S> {
     value: PhantomData<S>,
 }
@@ -40,6 +42,7 @@ impl<S: Logged> TableRule<Option<S>, View<S::Entry, S::Origin>, Snapshot<S>> for
     ghost first = { λ key. Rests (known_of S.log S.origin key.value) };
 }
 
+/// The lock's table: a slot for the value, which is empty while the lock is held.
 pub type LockTable<S> = Table<
     Option<S>,
     View<<S as Logged>::Entry, <S as Logged>::Origin>,
@@ -48,4 +51,5 @@ pub type LockTable<S> = Table<
     Global,
 >;
 
+/// What a thread goes to the table with: its own view, and the slot that it has taken.
 pub type Token<S> = Seat<Option<S>, View<<S as Logged>::Entry, <S as Logged>::Origin>>;

@@ -11,9 +11,9 @@ use Rattle.sample_files.specs.declared.fields.Field.{Field}
 use Rattle.sample_files.specs.declared.fields.Field.TheVariants.{Half, Word, Place}
 
 -- a number in a field of a width, in a file's order
-unfoldable pub number : Order → Width → ℕ → List ℕ
-number Little w n = to_le_bytes w n
-number Big w n = to_be_bytes w n
+unfoldable pub spelled : Order → Width → ℕ → List ℕ
+spelled Little w n = to_le_bytes w n
+spelled Big w n = to_be_bytes w n
 
 -- the width of a class's places and sizes
 abbrev pub place_width : Class → Width
@@ -22,9 +22,9 @@ place_width Elf64 = w64
 
 -- a field: two bytes, four bytes, or as many as the class's places have
 abbrev pub field_bytes : Shape → Field → List ℕ
-field_bytes s (Half n) = number s.order w16 n
-field_bytes s (Word n) = number s.order w32 n
-field_bytes s (Place n) = number s.order (place_width s.class) n
+field_bytes s (Half n) = spelled s.order w16 n
+field_bytes s (Word n) = spelled s.order w32 n
+field_bytes s (Place n) = spelled s.order (place_width s.class) n
 
 -- fields, one behind the other
 abbrev pub fields_bytes : Shape → List Field → List ℕ

@@ -15,6 +15,9 @@ pub const EM_PPC: u16 = 20;
 /// The machine of AMD x86-64.
 pub const EM_X86_64: u16 = 62;
 
+/// The type of a section header that describes no section.
+pub const SHT_NULL: u32 = 0;
+
 /// The type of a section that the program gives its meaning to.
 pub const SHT_PROGBITS: u32 = 1;
 

@@ -1,22 +1,23 @@
-//! The debug sections of a file that is made of one compile unit with a line table (DWARF 5, sections
-//! 7.5, 6.2.4 and 7.26), as their bytes, but for .debug_str.
+//! The debug sections of a file that is made of one compile unit with a line table (DWARF 5,
+//! sections 7.5, 6.2.4 and 7.26), as their bytes, but for .debug_str.
 
-/// One abbreviation (section 7.5.3): code 1, DW_TAG_compile_unit without children; comp_dir by strx1,
-/// str_offsets_base and stmt_list by sec_offset. Code 0 ends the table.
+/// One abbreviation (section 7.5.3): code 1, DW_TAG_compile_unit without children; comp_dir by
+/// strx1, str_offsets_base and stmt_list by sec_offset. Code 0 ends the table.
 pub(crate) const DEBUG_ABBREV: [u8; 12] = [
     0x01, 0x11, 0x00, 0x1b, 0x25, 0x72, 0x17, 0x10, 0x17, 0x00, 0x00, 0x00,
 ];
 
-/// One unit (section 7.5.1): its length 18, version 5, DW_UT_compile, address size 8, its abbreviations
-/// at 0; then the entry of code 1: string 0, base 8, line table at 0.
+/// One unit (section 7.5.1): its length 18, version 5, DW_UT_compile, address size 8, its
+/// abbreviations at 0; then the entry of code 1: string 0, base 8, line table at 0.
 pub(crate) const DEBUG_INFO: [u8; 22] = [
     0x12, 0x00, 0x00, 0x00, 0x05, 0x00, 0x01, 0x08, 0x00, 0x00, 0x00, 0x00, 0x01, 0x00, 0x08, 0x00,
     0x00, 0x00, 0x00, 0x00, 0x00, 0x00,
 ];
 
-/// One line table (section 6.2.4): its length 65, version 5, address size 8, no segment selector, header
-/// length 57, the line parameters and twelve opcode lengths; directories by line_strp, two of them; files
-/// by line_strp, a directory index as udata and an unknown content type 0x2001 as data1, two of them.
+/// One line table (section 6.2.4): its length 65, version 5, address size 8, no segment selector,
+/// header length 57, the line parameters and twelve opcode lengths; directories by line_strp, two
+/// of them; files by line_strp, a directory index as udata and an unknown content type 0x2001 as
+/// data1, two of them.
 pub(crate) const DEBUG_LINE: [u8; 69] = [
     0x41, 0x00, 0x00, 0x00, 0x05, 0x00, 0x08, 0x00, 0x39, 0x00, 0x00, 0x00, 0x01, 0x01, 0x01, 0xfb,
     0x0e, 0x0d, 0x00, 0x01, 0x01, 0x01, 0x01, 0x00, 0x00, 0x00, 0x01, 0x00, 0x00, 0x01, 0x01, 0x01,

@@ -2,7 +2,7 @@
 
 ghost use Rattle.std.specs.Prelude.{◌≡◌, ◌++◌, OnOk, replicate};
 ghost use Rattle.std.specs.Int.{w16, w32, w64};
-ghost use Rattle.sample_files.specs.Fields.{number, field_bytes, fields_bytes};
+ghost use Rattle.sample_files.specs.Fields.{spelled, field_bytes, fields_bytes};
 
 use crate::shape::{Class, Order, Shape};
 use std::alloc::AllocError;
@@ -29,9 +29,9 @@ pub(crate) fn push_zeros(out: &mut Vec<u8>, count: usize) -> Result<(), AllocErr
 }
 
 /// Pushes a number of two bytes.
-#[tactic(auto, unfolding(crate::specs::Fields::number))]
+#[tactic(auto, unfolding(crate::specs::Fields::spelled))]
 pub(crate) fn push_half(out: &mut Vec<u8>, order: Order, value: u16) -> Result<(), AllocError>
-    ensures { OnOk result (out.new.items ≡ out.old.items ++ number order w16 value) }
+    ensures { OnOk result (out.new.items ≡ out.old.items ++ spelled order w16 value) }
 {
     match order {
         Order::Little => out.extend_from_slice(&value.to_le_bytes()),
@@ -40,9 +40,9 @@ pub(crate) fn push_half(out: &mut Vec<u8>, order: Order, value: u16) -> Result<(
 }
 
 /// Pushes a number of four bytes.
-#[tactic(auto, unfolding(crate::specs::Fields::number))]
+#[tactic(auto, unfolding(crate::specs::Fields::spelled))]
 pub(crate) fn push_word(out: &mut Vec<u8>, order: Order, value: u32) -> Result<(), AllocError>
-    ensures { OnOk result (out.new.items ≡ out.old.items ++ number order w32 value) }
+    ensures { OnOk result (out.new.items ≡ out.old.items ++ spelled order w32 value) }
 {
     match order {
         Order::Little => out.extend_from_slice(&value.to_le_bytes()),
@@ -51,9 +51,9 @@ pub(crate) fn push_word(out: &mut Vec<u8>, order: Order, value: u32) -> Result<(
 }
 
 /// Pushes a number of eight bytes.
-#[tactic(auto, unfolding(crate::specs::Fields::number))]
+#[tactic(auto, unfolding(crate::specs::Fields::spelled))]
 fn push_wide(out: &mut Vec<u8>, order: Order, value: u64) -> Result<(), AllocError>
-    ensures { OnOk result (out.new.items ≡ out.old.items ++ number order w64 value) }
+    ensures { OnOk result (out.new.items ≡ out.old.items ++ spelled order w64 value) }
 {
     match order {
         Order::Little => out.extend_from_slice(&value.to_le_bytes()),

@@ -8,44 +8,8 @@ ghost use Rattle.sample_files.specs.Layout.{IsSmall};
 use crate::codes::{EV_CURRENT, SHN_XINDEX, SHT_STRTAB};
 use crate::fields::{Field, push_fields, push_zeros};
 use crate::parts::{Section, padding};
-use crate::shape::{Class, Counts, Order, Shape};
+use crate::shape::{Counts, Order, Shape};
 use std::alloc::{AllocError, Global};
-
-fn header_size(class: Class) -> u16
-    ensures { result ≡ layout.header_size class }
-{
-    match class {
-        Class::Elf32 => 52,
-        Class::Elf64 => 64,
-    }
-}
-
-fn entry_size(class: Class) -> u16
-    ensures { result ≡ layout.entry_size class }
-{
-    match class {
-        Class::Elf32 => 40,
-        Class::Elf64 => 64,
-    }
-}
-
-fn table_alignment(class: Class) -> usize
-    ensures { result ≡ layout.table_alignment class }
-{
-    match class {
-        Class::Elf32 => 4,
-        Class::Elf64 => 8,
-    }
-}
-
-fn class_byte(class: Class) -> u8
-    ensures { result ≡ layout.class_byte class }
-{
-    match class {
-        Class::Elf32 => 1,
-        Class::Elf64 => 2,
-    }
-}
 
 fn order_byte(order: Order) -> u8
     ensures { result ≡ layout.order_byte order }
@@ -81,7 +45,7 @@ fn push_header(out: &mut Vec<u8>, shape: &Shape, table: u32, count: u16) -> Resu
     ensures { OnOk result (out.new.items ≡ out.old.items ++ layout.header shape.now table count) }
 {
     out.extend_from_slice(b"\x7fELF")?;
-    out.push(class_byte(shape.class))?;
+    out.push(shape.class.numbers().byte)?;
     out.push(order_byte(shape.order))?;
     out.push(EV_CURRENT)?;
     push_zeros(out, 9)?;
@@ -93,6 +57,7 @@ fn header_fields(shape: &Shape, table: u32, count: u16) -> [Field; 13]
     requires { 0 < count }
     ensures { result ≡ layout.header_fields shape.now table count }
 {
+    let numbers = shape.class.numbers();
     [
         Field::Half(shape.e_type),
         Field::Half(shape.e_machine),
@@ -101,10 +66,10 @@ fn header_fields(shape: &Shape, table: u32, count: u16) -> [Field; 13]
         Field::Place(0),
         Field::Place(table),
         Field::Word(0),
-        Field::Half(header_size(shape.class)),
+        Field::Half(numbers.header),
         Field::Half(0),
         Field::Half(0),
-        Field::Half(entry_size(shape.class)),
+        Field::Half(numbers.entry),
         Field::Half(stated_count(shape.counts, count)),
         Field::Half(stated_names(shape.counts, count)),
     ]
@@ -150,10 +115,12 @@ fn first_fields(counts: Counts, count: u16) -> [Field; 10]
 
 /// The names' section: a 0, then each section's name with a 0, its own last.
 #[tactic(auto, using(crate::proofs::LayoutLemmas::names_steps))]
-fn names_of(alloc: Global, sections: &[Section<'_>]) -> Result<Vec<u8>, AllocError>
-    ensures value { IfOk result (λ v. v.items ≡ layout.names_of sections.now) }
-    ensures len { IfOk result (λ v. vec_len v ≡ 11 + length (flat_map layout.name_bytes sections.now)) }
-    ensures short { IfOk result (λ v. vec_len v ≤ 11 + layout.parts_room sections.now + length sections.now) }
+fn names_contents(alloc: Global, sections: &[Section<'_>]) -> Result<Vec<u8>, AllocError>
+    ensures value { IfOk result (λ v. v.items ≡ layout.names_contents sections.now) }
+    ensures len { IfOk result (λ v.
+        vec_len v ≡ 11 + length (flat_map layout.name_bytes sections.now)) }
+    ensures short { IfOk result (λ v.
+        vec_len v ≤ 11 + layout.parts_room sections.now + length sections.now) }
 {
     let mut names = Vec::new(alloc);
     names.push(0)?;
@@ -200,7 +167,8 @@ fn push_entries(
 ) -> Result<(), AllocError>
     requires places { start + layout.parts_room sections.now < 2 ^ 32 }
     requires names { first_name + layout.parts_room sections.now < 2 ^ 32 }
-    ensures { OnOk result (out.new.items ≡ out.old.items ++ layout.entries shape.now start first_name sections.now) }
+    ensures { OnOk result (out.new.items
+        ≡ out.old.items ++ layout.entries shape.now start first_name sections.now) }
 {
     let mut place = start;
     let mut name = first_name;
@@ -213,8 +181,8 @@ fn push_entries(
     Ok(())
 }
 
-/// A file of the plain layout: the header, each section at the first place that its alignment allows, the
-/// section of the names, the section table. All that isn't stated is 0.
+/// A file of the plain layout: the header, each section at the first place that its alignment
+/// allows, the section of the names, the section table. All that isn't stated is 0.
 pub fn plain_layout(
     alloc: Global,
     shape: &Shape,
@@ -223,12 +191,13 @@ pub fn plain_layout(
     requires { IsSmall sections.now }
     ensures { IfOk result (λ v. v.items ≡ layout.plain_layout shape.now sections.now) }
 {
-    let names = names_of(alloc, sections)?;
+    let names = names_contents(alloc, sections)?;
     let last = [Section::new(".shstrtab", SHT_STRTAB, 0, 1, &names)];
-    let start = header_size(shape.class) as usize;
+    let numbers = shape.class.numbers();
+    let start = numbers.header as usize;
     let middle = parts_end(start, sections);
     let end = parts_end(middle, &last);
-    let gap = padding(table_alignment(shape.class), end);
+    let gap = padding(numbers.table_alignment, end);
     let count = sections.len() as u16 + 2;
     let mut out = Vec::new(alloc);
     push_header(&mut out, shape, (end + gap) as u32, count)?;

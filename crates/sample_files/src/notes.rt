@@ -18,7 +18,8 @@ pub(crate) fn push_gnu_note(
     descriptor: &[u8],
 ) -> Result<(), AllocError>
     requires { length descriptor.now < 2 ^ 32 }
-    ensures value { OnOk result (out.new.items ≡ out.old.items ++ notes.gnu_note order kind descriptor.now) }
+    ensures value { OnOk result (out.new.items
+        ≡ out.old.items ++ notes.gnu_note order kind descriptor.now) }
 {
     push_word(out, order, 4)?;
     push_word(out, order, descriptor.len() as u32)?;
@@ -37,7 +38,8 @@ pub(crate) fn push_padded_note(
 ) -> Result<(), AllocError>
     requires fits { length descriptor.now < 2 ^ 32 }
     requires aligned { 0 < alignment }
-    ensures { OnOk result (out.new.items ≡ out.old.items ++ notes.padded alignment (notes.gnu_note order kind descriptor.now)) }
+    ensures { OnOk result (out.new.items ≡ out.old.items
+        ++ notes.zero_padded alignment (notes.gnu_note order kind descriptor.now)) }
 {
     let start = out.len();
     push_gnu_note(out, order, kind, descriptor)?;
@@ -64,8 +66,10 @@ pub(crate) fn padded_notes(
     ids: &[&[u8]],
 ) -> Result<Vec<u8>, AllocError>
     requires { sum_by (λ id. length id.now) ids.now < 2 ^ 32 }
-    ensures value { IfOk result (λ v. v.items ≡ flat_map (λ id. notes.padded 4 (notes.note order id.now)) ids.now) }
-    ensures short { IfOk result (λ v. vec_len v ≤ 20 * length ids.now + sum_by (λ id. length id.now) ids.now) }
+    ensures value { IfOk result (λ v. v.items
+        ≡ flat_map (λ id. notes.zero_padded 4 (notes.note order id.now)) ids.now) }
+    ensures short { IfOk result (λ v.
+        vec_len v ≤ 20 * length ids.now + sum_by (λ id. length id.now) ids.now) }
 {
     let mut bytes = Vec::new(alloc);
     for id in ids {

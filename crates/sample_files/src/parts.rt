@@ -27,7 +27,14 @@ impl<'a> Model for Section<'a> {
 
     ghost Value = { Part };
 
-    ghost view = { λ s. record { name = s.name.now; sh_type = s.sh_type; flags = s.flags; alignment = s.alignment; contents = s.contents.now; size = s.size } };
+    ghost view = { λ s. record {
+      name = s.name.now;
+      sh_type = s.sh_type;
+      flags = s.flags;
+      alignment = s.alignment;
+      contents = s.contents.now;
+      size = s.size;
+    } };
 
     ghost invariant = { λ s. 0 < s.alignment };
 }
@@ -76,7 +83,7 @@ impl<'a> Section<'a> {
     /// Where the section starts that comes behind a place.
     pub(crate) fn start(&self, place: usize) -> usize
         requires { place < 2 ^ 32 }
-        ensures value { result ≡ layout.aligned self.now.alignment place }
+        ensures value { result ≡ layout.first_fit self.now.alignment place }
         ensures bound { result ≤ place + self.now.alignment }
     {
         place + padding(self.alignment as usize, place)
@@ -111,7 +118,8 @@ impl<'a> Section<'a> {
 
     /// Pushes zeros from a place up to the section's start, then its bytes.
     pub(crate) fn push_body(&self, out: &mut Vec<u8>, place: usize) -> Result<(), AllocError>
-        ensures { OnOk result (out.new.items ≡ out.old.items ++ replicate (layout.padding self.now.alignment place) 0 ++ self.now.contents) }
+        ensures { OnOk result (out.new.items ≡ out.old.items
+            ++ replicate (layout.padding self.now.alignment place) 0 ++ self.now.contents) }
     {
         push_zeros(out, padding(self.alignment as usize, place))?;
         out.extend_from_slice(self.contents)

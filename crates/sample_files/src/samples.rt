@@ -6,7 +6,7 @@ ghost use Rattle.sample_files.specs.Samples as samples;
 
 use crate::codes::{
     EM_PPC, EM_X86_64, ET_DYN, ET_EXEC, NT_GNU_BUILD_ID, NT_GNU_PROPERTY_TYPE_0, SHF_ALLOC,
-    SHF_COMPRESSED, SHF_EXECINSTR, SHT_NOTE, SHT_PROGBITS,
+    SHF_COMPRESSED, SHF_EXECINSTR, SHT_NOTE, SHT_NULL, SHT_PROGBITS,
 };
 use crate::debug_bytes::{DEBUG_ABBREV, DEBUG_INFO, DEBUG_LINE, DEBUG_LINE_STR, DEBUG_STR_OFFSETS};
 use crate::layout::plain_layout;
@@ -48,15 +48,15 @@ fn shared_object(counts: Counts) -> Shape
     }
 }
 
-fn big_program() -> Shape
-    ensures { result ≡ samples.big_program }
+fn big_program(counts: Counts) -> Shape
+    ensures { result ≡ samples.big_program counts }
 {
     Shape {
         class: Class::Elf32,
         order: Order::Big,
         e_type: ET_EXEC,
         e_machine: EM_PPC,
-        counts: Counts::Plain,
+        counts,
     }
 }
 
@@ -77,16 +77,17 @@ fn notes_at(alignment: u32, notes: &[u8]) -> Section<'_>
     Section::new(".note", SHT_NOTE, SHF_ALLOC, alignment, notes)
 }
 
+/// Code with these flags.
+fn flagged<'a>(flags: u32) -> Section<'a>
+    ensures { result ≡ samples.flagged_part flags }
+{
+    Section::new(".text", SHT_PROGBITS, flags, 16, &[0xc3])
+}
+
 fn text<'a>() -> Section<'a>
     ensures { result ≡ samples.text_part }
 {
-    Section::new(
-        ".text",
-        SHT_PROGBITS,
-        SHF_ALLOC + SHF_EXECINSTR,
-        16,
-        &[0xc3],
-    )
+    flagged(SHF_ALLOC + SHF_EXECINSTR)
 }
 
 fn bare_text<'a>(alignment: u32, size: u32) -> Section<'a>
@@ -109,6 +110,13 @@ fn empty_info<'a>() -> Section<'a>
     debug(".debug_info", &[])
 }
 
+/// A section of type NULL with a byte, under a debug section's name.
+fn null_section<'a>() -> Section<'a>
+    ensures { result ≡ samples.null_part }
+{
+    Section::new(".debug_x", SHT_NULL, 0, 1, &[1])
+}
+
 fn both_classes_counted(alloc: Global, counts: Counts) -> Result<Vec<u8>, AllocError>
     ensures { IfOk result (λ v. v.items ≡ samples.both_classes_counted counts) }
 {
@@ -127,51 +135,55 @@ pub fn both_classes(alloc: Global) -> Result<Vec<u8>, AllocError>
     both_classes_counted(alloc, Counts::Plain)
 }
 
-/// The sample 32-bit big-endian debug file: a program's debug information without its code.
-pub fn big_endian_debug(alloc: Global) -> Result<Vec<u8>, AllocError>
-    ensures { IfOk result (λ v. v.items ≡ samples.big_endian_debug) }
+fn big_endian_debug_counted(alloc: Global, counts: Counts) -> Result<Vec<u8>, AllocError>
+    ensures { IfOk result (λ v. v.items ≡ samples.big_endian_debug_counted counts) }
 {
     let id = note(alloc, Order::Big, &ID_BIG)?;
     plain_layout(
         alloc,
-        &big_program(),
+        &big_program(counts),
         &[build_id(&id), bare_text(4, 64), empty_info()],
     )
 }
 
+/// The sample 32-bit big-endian debug file: a program's debug information without its code.
+pub fn big_endian_debug(alloc: Global) -> Result<Vec<u8>, AllocError>
+    ensures { IfOk result (λ v. v.items ≡ samples.big_endian_debug) }
+{
+    big_endian_debug_counted(alloc, Counts::Plain)
+}
+
 #[tactic(auto, using(crate::proofs::NoteLemmas::wide_steps))]
-fn wide_notes(alloc: Global) -> Result<Vec<u8>, AllocError>
-    ensures value { IfOk result (λ v. v.items ≡ samples.wide_notes) }
+fn wide_notes(alloc: Global, order: Order) -> Result<Vec<u8>, AllocError>
+    ensures value { IfOk result (λ v. v.items ≡ samples.wide_notes order) }
     ensures len { IfOk result (λ v. vec_len v ≡ 51) }
 {
     let mut notes = Vec::new(alloc);
-    push_padded_note(
-        &mut notes,
-        Order::Little,
-        NT_GNU_PROPERTY_TYPE_0,
-        &[0; 12],
-        8,
-    )?;
-    push_gnu_note(
-        &mut notes,
-        Order::Little,
-        NT_GNU_BUILD_ID,
-        &[0xab, 0xcd, 0xef],
-    )?;
+    push_padded_note(&mut notes, order, NT_GNU_PROPERTY_TYPE_0, &[0; 12], 8)?;
+    push_gnu_note(&mut notes, order, NT_GNU_BUILD_ID, &[0xab, 0xcd, 0xef])?;
     Ok(notes)
 }
 
-/// The sample with 8-aligned notes: the note before the build-id's has padding that an alignment of 4
-/// wouldn't ask, and the last has none.
+fn eight_aligned_under(alloc: Global, shape: &Shape) -> Result<Vec<u8>, AllocError>
+    ensures { IfOk result (λ v. v.items ≡ samples.eight_aligned_under shape.now) }
+{
+    let notes = wide_notes(alloc, shape.order)?;
+    plain_layout(alloc, shape, &[notes_at(8, &notes), text()])
+}
+
+/// The sample with 8-aligned notes: the note before the build-id's has padding that an alignment of
+/// 4 wouldn't ask, and the last has none.
 pub fn eight_aligned_notes(alloc: Global) -> Result<Vec<u8>, AllocError>
     ensures { IfOk result (λ v. v.items ≡ samples.eight_aligned_notes) }
 {
-    let notes = wide_notes(alloc)?;
-    plain_layout(
-        alloc,
-        &shared_object(Counts::Plain),
-        &[notes_at(8, &notes), text()],
-    )
+    eight_aligned_under(alloc, &shared_object(Counts::Plain))
+}
+
+/// The same sections in a 32-bit big-endian file.
+pub fn narrow_eight_aligned_notes(alloc: Global) -> Result<Vec<u8>, AllocError>
+    ensures { IfOk result (λ v. v.items ≡ samples.narrow_eight_aligned_notes) }
+{
+    eight_aligned_under(alloc, &big_program(Counts::Plain))
 }
 
 /// The sample with extended counts: the sample of both classes, whose header sends to section 0.
@@ -179,6 +191,37 @@ pub fn extended_counts(alloc: Global) -> Result<Vec<u8>, AllocError>
     ensures { IfOk result (λ v. v.items ≡ samples.extended_counts) }
 {
     both_classes_counted(alloc, Counts::Extended)
+}
+
+/// The sample 32-bit big-endian debug file, whose header sends to section 0.
+pub fn narrow_extended_counts(alloc: Global) -> Result<Vec<u8>, AllocError>
+    ensures { IfOk result (λ v. v.items ≡ samples.narrow_extended_counts) }
+{
+    big_endian_debug_counted(alloc, Counts::Extended)
+}
+
+/// The sample with code of chosen flags, and no debug information.
+pub fn code_of_flags(alloc: Global, flags: u32) -> Result<Vec<u8>, AllocError>
+    ensures { IfOk result (λ v. v.items ≡ samples.code_of_flags flags) }
+{
+    let id = note(alloc, Order::Little, &ID_C)?;
+    plain_layout(
+        alloc,
+        &shared_object(Counts::Plain),
+        &[build_id(&id), flagged(flags)],
+    )
+}
+
+/// The sample with bytes under a debug section's name, in a section of type NULL.
+pub fn null_debug(alloc: Global) -> Result<Vec<u8>, AllocError>
+    ensures { IfOk result (λ v. v.items ≡ samples.null_debug) }
+{
+    let id = note(alloc, Order::Little, &ID_C)?;
+    plain_layout(
+        alloc,
+        &shared_object(Counts::Plain),
+        &[build_id(&id), null_section()],
+    )
 }
 
 /// The sample with chosen ids: code, and a build-id note for each id in order.

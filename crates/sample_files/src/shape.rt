@@ -18,6 +18,43 @@ pub enum Class {
     Elf64,
 }
 
+/// What a class has for numbers.
+#[derive(Clone, Copy, Debug, PartialEq, Eq)]
+pub(crate) struct ClassNumbers {
+    /// Byte 4 of the file.
+    pub(crate) byte: u8,
+    /// The header's size, in bytes.
+    pub(crate) header: u16,
+    /// The size of a section header, in bytes.
+    pub(crate) entry: u16,
+    /// The alignment of the section table, in bytes.
+    pub(crate) table_alignment: usize,
+}
+
+impl Class {
+    ghost use Rattle.std.specs.Prelude.{◌≡◌};
+    ghost use Rattle.sample_files.specs.Layout.{numbers_of};
+
+    pub(crate) fn numbers(self) -> ClassNumbers
+        ensures { result ≡ numbers_of self }
+    {
+        match self {
+            Class::Elf32 => ClassNumbers {
+                byte: 1,
+                header: 52,
+                entry: 40,
+                table_alignment: 4,
+            },
+            Class::Elf64 => ClassNumbers {
+                byte: 2,
+                header: 64,
+                entry: 64,
+                table_alignment: 8,
+            },
+        }
+    }
+}
+
 /// Where a file says how many section headers it has, and which section holds the names.
 #[derive(Clone, Copy, Debug, PartialEq, Eq)]
 pub enum Counts {

@@ -11,10 +11,22 @@ fn each_sample_has_its_length(rt: HostRuntime) -> Result<(), Fail> {
         "32-bit big-endian debug file"
     );
     assert_eq!(rt; eight_aligned_notes(alloc)?.len(), 408, "8-aligned notes");
+    assert_eq!(rt;
+        narrow_eight_aligned_notes(alloc)?.len(),
+        296,
+        "32-bit 8-aligned notes"
+    );
     assert_eq!(rt; extended_counts(alloc)?.len(), 488, "extended counts");
+    assert_eq!(rt;
+        narrow_extended_counts(alloc)?.len(),
+        324,
+        "32-bit extended counts"
+    );
     assert_eq!(rt; dwarf_five(alloc)?.len(), 1016, "DWARF 5");
     assert_eq!(rt; executable(alloc)?.len(), 408, "executable");
     assert_eq!(rt; debug_companion(alloc)?.len(), 584, "debug companion");
+    assert_eq!(rt; null_debug(alloc)?.len(), 400, "debug bytes of type NULL");
+    assert_eq!(rt; code_of_flags(alloc, 2)?.len(), 408, "code of flags");
     Ok(())
 }
 
@@ -82,6 +94,11 @@ fn extended_counts_stand_in_section_zero(rt: HostRuntime) -> Result<(), Fail> {
         &file[200..212],
         [5, 0, 0, 0, 0, 0, 0, 0, 4, 0, 0, 0].as_slice()
     );
+    // The table begins at 124: section 0's size at 144, its link at 148.
+    let narrow = narrow_extended_counts(rt.alloc())?;
+    assert_eq!(rt; narrow.len(), 324);
+    assert_eq!(rt; &narrow[48..52], [0, 0, 0xff, 0xff].as_slice());
+    assert_eq!(rt; &narrow[144..152], [0, 0, 0, 5, 0, 0, 0, 4].as_slice());
     Ok(())
 }
 
@@ -95,9 +112,10 @@ fn the_debug_sections_are_a_unit_of_two_sources(rt: HostRuntime) -> Result<(), F
     assert_eq!(rt; &file[113..125], abbreviations.as_slice());
     let unit = b"\x12\0\0\0\x05\0\x01\x08\0\0\0\0\x01\0\x08\0\0\0\0\0\0\0";
     assert_eq!(rt; &file[125..147], unit.as_slice());
-    let parameters =
-        b"\x41\0\0\0\x05\0\x08\0\x39\0\0\0\x01\x01\x01\xfb\x0e\x0d\0\x01\x01\x01\x01\0\0\0\x01\0\0\x01";
-    assert_eq!(rt; &file[147..177], parameters.as_slice());
+    let parameters = b"\x41\0\0\0\x05\0\x08\0\x39\0\0\0\x01\x01\x01\xfb\x0e\x0d\0";
+    assert_eq!(rt; &file[147..166], parameters.as_slice());
+    let lengths = b"\x01\x01\x01\x01\0\0\0\x01\0\0\x01";
+    assert_eq!(rt; &file[166..177], lengths.as_slice());
     let directories = b"\x01\x01\x1f\x02\0\0\0\0\x02\0\0\0";
     assert_eq!(rt; &file[177..189], directories.as_slice());
     let files = b"\x03\x01\x1f\x02\x0b\x81\x40\x1f\x02\x06\0\0\0\0\0\0\0\0\x0d\0\0\0\x01\0\0\0\0";

@@ -4,7 +4,10 @@ use Rattle.byte_read.proofs.NumberLemmas.{le_number, be_number}
 use Rattle.byte_read.proofs.numbers.u16_of.Goals as goal
 
 pub returns-in-Little : goal.returns-in-Little
-returns-in-Little c = rw c.in-Little.is (c.from_le_bytes.ensures ∙ le_number w16 c.args.bytes (search rules) (lit< tt))
+returns-in-Little c =
+    rw c.in-Little.is
+    (c.from_le_bytes.ensures ∙ le_number w16 c.args.bytes (search rules) (lit< tt))
 
 pub returns-in-Big : goal.returns-in-Big
-returns-in-Big c = rw c.in-Big.is (c.from_be_bytes.ensures ∙ be_number w16 c.args.bytes (search rules) (lit< tt))
+returns-in-Big c =
+    rw c.in-Big.is (c.from_be_bytes.ensures ∙ be_number w16 c.args.bytes (search rules) (lit< tt))

@@ -9,7 +9,8 @@ returns-in-Little c =
     let xs = c.args.bytes in
     let listed = get_or xs 0 0 ∷ get_or xs 1 0 ∷ get_or xs 2 0 ∷ [] in
     rw c.in-Little.is (
-    c.from_le_bytes.ensures ∙ le_number w32 (get_or xs 0 0 ∷ get_or xs 1 0 ∷ get_or xs 2 0 ∷ 0 ∷ []) refl (lit< tt)
+    c.from_le_bytes.ensures
+    ∙ le_number w32 (get_or xs 0 0 ∷ get_or xs 1 0 ∷ get_or xs 2 0 ∷ 0 ∷ []) refl (lit< tt)
     ∙ little_zero listed ∙ ap little (sym (three xs (search rules)))
     )
 

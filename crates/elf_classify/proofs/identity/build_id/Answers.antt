@@ -6,13 +6,14 @@ pub returns-in-Some-clause-found : goal.returns-in-Some-clause-found
 returns-in-Some-clause-found c = record {
   index = c.loop-index.index;
   here = c.in-Some.ensures.found;
-  least = λ i other h. none_before _ _ c.loop-index.index i c.loop-index.invariant h.section.index (other, h);
+  least = λ i other h. none_before c.loop-index.invariant h.section.index (other, h);
 }
 
 pub loop-index-preserved : goal.loop-index-preserved
 loop-index-preserved c =
-    none_more _ _ c.loop-index.index c.loop-index.invariant (λ index h. c.in_default.ensures.none h.0 h.1)
+    none_more c.loop-index.invariant (λ index h. c.in_default.ensures.none h.0 h.1)
 
 pub returns-clause-none : goal.returns-clause-none
 returns-clause-none c = λ i id h.
-    c.loop-index.invariant i (let inside = h.section.index.below in omega arith) h.section.index (id, h)
+    c.loop-index.invariant i
+    (let inside = h.section.index.below in omega arith) h.section.index (id, h)

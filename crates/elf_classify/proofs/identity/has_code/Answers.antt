@@ -5,5 +5,5 @@ use Rattle.elf_classify.proofs.identity.has_code.Goals as goal
 
 pub loop-index-preserved : goal.loop-index-preserved
 loop-index-preserved c =
-    none_more _ _ c.loop-index.index c.loop-index.invariant
-    (λ index code. differ (sym c.if-holds_code.false ∙ c.holds_code.ensures ∙ ap is_code c.header.ensures) code)
+    let so = c.holds_code.ensures ∙ ap is_code c.header.ensures in
+    none_more c.loop-index.invariant (λ index code. differ (sym c.if-holds_code.false ∙ so) code)

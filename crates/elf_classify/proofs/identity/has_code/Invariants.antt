@@ -5,4 +5,5 @@ use Rattle.elf_file.proofs.SectionLemmas.{NoneBelow}
 use Rattle.elf_classify.proofs.identity.has_code.Given as goal
 
 abbrev pub invariant-loop-index : goal.invariant-loop-index
-invariant-loop-index l = NoneBelow l.file.table (λ i. is_code (section_at l.file.bytes l.file.table i) ≡ true) l.index
+invariant-loop-index l =
+    NoneBelow l.file.table (λ i. is_code (section_at l.file.bytes l.file.table i) ≡ true) l.index

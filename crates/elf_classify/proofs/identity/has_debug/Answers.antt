@@ -1,13 +1,12 @@
 use Rattle.std.proofs.Common.{sym, ◌∙◌, ap}
 use Rattle.file_formats.specs.Identity.{is_debug}
-use Rattle.file_formats.specs.Table.{name_of}
+use Rattle.file_formats.specs.Table.{given_name}
 use Rattle.elf_file.proofs.SectionLemmas.{none_more, differ}
 use Rattle.elf_classify.proofs.identity.has_debug.Goals as goal
 
 pub loop-index-preserved : goal.loop-index-preserved
 loop-index-preserved c =
-    none_more _ _ c.loop-index.index c.loop-index.invariant
-    (λ index debug. differ
-    (sym c.if-holds_debug.false ∙ c.holds_debug.ensures
-    ∙ ap (λ s. is_debug s (name_of c.args.file.now.bytes c.args.file.now.table s)) c.header.ensures)
-    debug)
+    let file = c.args.file.now in
+    let so = c.holds_debug.ensures
+    ∙ ap (λ s. is_debug s (given_name file.bytes file.table s)) c.header.ensures in
+    none_more c.loop-index.invariant (λ index debug. differ (sym c.if-holds_debug.false ∙ so) debug)

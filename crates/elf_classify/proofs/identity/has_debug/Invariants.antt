@@ -6,4 +6,6 @@ use Rattle.elf_classify.proofs.identity.has_debug.Given as goal
 
 abbrev pub invariant-loop-index : goal.invariant-loop-index
 invariant-loop-index l =
-    NoneBelow l.file.table (λ i. is_debug (section_at l.file.bytes l.file.table i) (name_at l.file.bytes l.file.table i) ≡ true) l.index
+    NoneBelow l.file.table
+    (λ i. is_debug (section_at l.file.bytes l.file.table i) (name_at l.file.bytes l.file.table i)
+    ≡ true) l.index

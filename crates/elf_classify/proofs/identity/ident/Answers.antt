@@ -5,4 +5,4 @@ pub returns-clause-only : goal.returns-clause-only
 returns-clause-only c = λ r is. identity-unique _ _ r c.identity.ensures is
 
 pub returns-clause-not_too_large : goal.returns-clause-not_too_large
-returns-clause-not_too_large c = identity-not_too_large _ _ c.identity.ensures
+returns-clause-not_too_large c = identity-not_too_large c.identity.ensures

@@ -13,11 +13,13 @@ pub returns-in_default : goal.returns-in_default
 returns-in_default c =
     let there = rw (← c.in-Ok.ensures.ok.0) at c.in-Ok.ensures.ok.1 in
     rw (← c.in-Ok.ensures.ok.0)
-    (no_id c.in-Ok.file.table there (λ is. c.if-kind-eq-ET_CORE.false (c.kind.ensures ∙ is)) c.in_default.ensures.none)
+    (no_id c.in-Ok.file.table there
+    (λ is. c.if-kind-eq-ET_CORE.false (c.kind.ensures ∙ is)) c.in_default.ensures.none)
 
 pub returns : goal.returns
 returns c =
     let there = rw (← c.in-Ok.ensures.ok.0) at c.in-Ok.ensures.ok.1 in
     rw (← c.in-Ok.ensures.ok.0)
-    (found c.in-Ok.file.table _ there (λ is. c.if-kind-eq-ET_CORE.false (c.kind.ensures ∙ is)) c.in-Some.ensures.found
+    (found c.in-Ok.file.table _ there
+    (λ is. c.if-kind-eq-ET_CORE.false (c.kind.ensures ∙ is)) c.in-Some.ensures.found
     (record { exec = c.has_code.ensures; debug = c.has_debug.ensures }))

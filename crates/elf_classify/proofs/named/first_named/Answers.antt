@@ -6,12 +6,12 @@ pub returns-in-Some-clause-found : goal.returns-in-Some-clause-found
 returns-in-Some-clause-found c = record {
   index = c.loop-index.index;
   here = c.in-Some.ensures.found;
-  first = λ i other h. none_before _ _ c.loop-index.index i c.loop-index.invariant h.index (other, h);
+  first = λ i other h. none_before c.loop-index.invariant h.index (other, h);
 }
 
 pub loop-index-preserved : goal.loop-index-preserved
 loop-index-preserved c =
-    none_more _ _ c.loop-index.index c.loop-index.invariant (λ index h. c.in_default.ensures.none h.0 h.1)
+    none_more c.loop-index.invariant (λ index h. c.in_default.ensures.none h.0 h.1)
 
 pub returns-clause-none : goal.returns-clause-none
 returns-clause-none c = λ i bytes h.

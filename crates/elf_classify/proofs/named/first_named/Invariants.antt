@@ -5,4 +5,5 @@ use Rattle.elf_classify.proofs.named.first_named.Given as goal
 
 abbrev pub invariant-loop-index : goal.invariant-loop-index
 invariant-loop-index l =
-    NoneBelow l.file.table (λ i. (bytes : List ℕ) × HasSection l.file.bytes l.file.table l.name i bytes) l.index
+    NoneBelow l.file.table
+    (λ i. (bytes : List ℕ) × HasSection l.file.bytes l.file.table l.name i bytes) l.index

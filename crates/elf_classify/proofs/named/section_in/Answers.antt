@@ -6,7 +6,8 @@ pub returns-in-Ok : goal.returns-in-Ok
 returns-in-Ok c =
     let there = rw (← c.in-Ok.ensures.ok.0) at c.in-Ok.ensures.ok.1 in
     rw (← c.in-Ok.ensures.ok.0)
-    (answer-of_table c.in-Ok.file.bytes c.in-Ok.file.table c.args.name.now c.first_named.result there c.first_named.ensures.found c.first_named.ensures.none)
+    (answer-of_table c.first_named.result there
+    c.first_named.ensures.found c.first_named.ensures.none)
 
 pub returns-in-Err : goal.returns-in-Err
 returns-in-Err c = no_table c.in-Err.field-0 c.in-Err.ensures.err

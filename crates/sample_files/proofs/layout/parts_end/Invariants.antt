@@ -5,4 +5,5 @@ use Rattle.sample_files.proofs.layout.parts_end.Given as goal
 abbrev pub invariant-loop-section : goal.invariant-loop-section
 invariant-loop-section l =
     (parts_end l.place (drop l.section-index l.sections) ≡ parts_end l.initial.place l.sections)
-    × (l.place + parts_room (drop l.section-index l.sections) ≤ l.initial.place + parts_room l.sections)
+    × (l.place + parts_room
+    (drop l.section-index l.sections) ≤ l.initial.place + parts_room l.sections)

@@ -6,5 +6,7 @@ abbrev pub invariant-loop-section : goal.invariant-loop-section
 invariant-loop-section l =
     (l.out.items ++ entries l.shape l.place l.name (drop l.section-index l.sections)
     ≡ l.initial.out.items ++ entries l.shape l.initial.place l.initial.name l.sections)
-    × (l.place + parts_room (drop l.section-index l.sections) ≤ l.initial.place + parts_room l.sections)
-    × (l.name + parts_room (drop l.section-index l.sections) ≤ l.initial.name + parts_room l.sections)
+    × (l.place + parts_room
+    (drop l.section-index l.sections) ≤ l.initial.place + parts_room l.sections)
+    × (l.name + parts_room
+    (drop l.section-index l.sections) ≤ l.initial.name + parts_room l.sections)

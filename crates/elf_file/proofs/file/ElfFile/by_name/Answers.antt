@@ -4,5 +4,6 @@ use Rattle.elf_file.proofs.file.ElfFile.by_name.Goals as goal
 
 pub loop-index-preserved : goal.loop-index-preserved
 loop-index-preserved c =
-    none_more _ _ c.loop-index.index c.loop-index.invariant
-    (λ index named. differ (sym c.if-has_name.false) (c.has_name.ensures.1 (rw c.header.ensures named)))
+    none_more c.loop-index.invariant
+    (λ index named. differ (sym c.if-has_name.false)
+    (c.has_name.ensures.1 (rw c.header.ensures named)))

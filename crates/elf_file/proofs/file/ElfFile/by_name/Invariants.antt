@@ -4,4 +4,5 @@ use Rattle.elf_file.proofs.SectionLemmas.{NoneBelow}
 use Rattle.elf_file.proofs.file.ElfFile.by_name.Given as goal
 
 abbrev pub invariant-loop-index : goal.invariant-loop-index
-invariant-loop-index l = NoneBelow l.self.table (λ i. name_at l.self.bytes l.self.table i ≡ Some l.name) l.index
+invariant-loop-index l =
+    NoneBelow l.self.table (λ i. name_at l.self.bytes l.self.table i ≡ Some l.name) l.index

@@ -8,10 +8,9 @@ pub returns-then-at-self : goal.returns-then-at-self
 returns-then-at-self c =
     let value = rw (take_rest c.self.inside.bytes.now c.args.at) at c.starts_with.ensures.value in
     rw (← c.self.view_is)
-    (value ∙ text-begins c.self.inside.bytes.now c.self.inside.end c.args.at c.args.prefix.now c.self.invariant c.requires c.if-at-self.true)
+    (value ∙ text-begins c.args.prefix.now c.self.invariant c.requires c.if-at-self.true)
 
 pub returns-else-at-self : goal.returns-else-at-self
 returns-else-at-self c =
     rw (← c.self.view_is)
-    (rw (no_text c.self.inside.bytes.now c.self.inside.end c.args.at c.self.invariant c.if-at-self.false)
-    (le-ltb c.args.at c.self.inside.end c.if-at-self.false))
+    (rw (no_text c.self.invariant c.if-at-self.false) (le-ltb _ _ c.if-at-self.false))
