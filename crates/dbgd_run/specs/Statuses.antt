@@ -1,5 +1,5 @@
 -- The program's exit statuses (this project's rule).
-use Rattle.std.specs.Prelude.{ℕ}
+use Rattle.std.specs.Prelude.{◌≡◌, ℕ}
 use Rattle.dbgd_run.specs.declared.status.Status.{Status}
 use Rattle.dbgd_run.specs.declared.status.Status.TheVariants.{Done, Fault, Usage, Absent, Altered, Limit, OutOfMemory, BadRow, NotBuilt}
 
@@ -14,3 +14,7 @@ code_of Limit = 5
 code_of OutOfMemory = 6
 code_of BadRow = 7
 code_of NotBuilt = 8
+
+-- no two statuses have one number
+abbrev pub AreApart : Type 0
+AreApart = (status other : Status) → code_of status ≡ code_of other → status ≡ other

@@ -2,7 +2,7 @@
 
 ghost use Rattle.std.specs.Prelude.{◌≡◌, ◌++◌, ◌≤◌, decimal, replicate, IfOk, OnOk};
 ghost use Rattle.std.specs.String.{string_bytes};
-ghost use Rattle.dbgd_run.specs.Texts.{altered_line, line, nine_digits, seen_text, stamp_text, summary_line};
+ghost use Rattle.dbgd_run.specs.Texts.{altered_text, nine_digits, seen_text, stamp_text, summary_line};
 
 use crate::summary::Summary;
 use itoa::Buffer;
@@ -65,7 +65,7 @@ fn seen_text(alloc: Global, seen: &Seen) -> Result<String, AllocError>
 
 /// The line of a file that was another by the time that it was read, but for its line feed.
 pub fn altered_text(alloc: Global, name: &Name, seen: &Seen) -> Result<String, AllocError>
-    ensures { IfOk result (λ text. line (string_bytes text) ≡ altered_line name.now seen.now) }
+    ensures { IfOk result (λ text. string_bytes text ≡ altered_text name.now seen.now) }
 {
     let mut text = String::from_str(alloc, "dbgd: altered ")?;
     text.push_str(name.path.text())?;

@@ -1,9 +1,10 @@
 -- Pieces that are written in a row.
-use Rattle.std.proofs.Common.{◌≡◌, ℕ, ◌<◌, ◌≤◌, ◌+◌, List, ◌++◌, length, take, drop, arith, refl, sym, ◌∙◌, ap, Option, Some, None}
+use Rattle.std.proofs.Common.{◌≡◌, ℕ, ◌<◌, ◌≤◌, ◌+◌, List, [], ◌++◌, length, take, drop, arith, refl, sym, ◌∙◌, ap, Option, Some, None}
 use Rattle.std.specs.Prelude.{is_some}
 use Rattle.std.specs.Option.{option_map}
 use Rattle.std.proofs.Common.{append_assoc, length-append, length-drop}
 use Rattle.std.proofs.Math.Seq.{take-add, take-append-add}
+use Rattle.std.proofs.lemmas.List.{append-nil}
 use Rattle.row_types.specs.Faults.{Rose}
 use Rattle.http_wire.specs.Sink.{Appends, GetsAll, GetsPart, Writes}
 use Rattle.http_wire.specs.Stream.{LeavesReading, ShownStream}
@@ -53,3 +54,11 @@ gets_more {before} {between} {after} bytes at n had writes = (
   rw (take-add at n bytes)
       (gets_both had.1 (record { appends = writes.appends; later = writes.cause.later; reading = writes.reading })),
 )
+
+-- nothing is written of no bytes
+pub gets_none : (shown : ShownStream) → GetsAll [] shown shown
+gets_none shown = record { appends = λ told. nothing shown.written; later = omega arith; reading = record { left = refl; read_faults = refl } }
+  where
+    nothing : (written : Option (List ℕ)) → written ≡ option_map (λ w. w ++ []) written
+    nothing None = refl
+    nothing (Some bytes) = ap Some (sym (append-nil bytes))
