@@ -1,16 +1,12 @@
--- What holds of a keeper in memory after a change.
-use Rattle.std.proofs.Common.{◌≡◌, ◌≤◌, ℕ, Bool, true, false, cond, List, sym, ap, subst, arith}
+-- What a change leaves is true.
+use Rattle.std.proofs.Common.{◌≡◌, ℕ, Bool, true, false, cond, List, sym, ap, subst}
 use Rattle.std.specs.Prelude.{All, IfSome}
-use Rattle.row_types.specs.Faults.{HasCause, Rose}
 use Rattle.row_types.specs.Row.{RowFacts}
 use Rattle.row_codec.proofs.OneSpelling.{one_row}
-use Rattle.index_keeper.specs.MemKeeper.{KeeperFacts, after_change}
 use Rattle.index_keeper.specs.Plan.{is_made_next}
 use Rattle.index_keeper.specs.Shelf.{ShelfFacts, after_tearing}
 use Rattle.index_keeper.specs.Tables.{KeptFacts, EditFacts, edited, put_of}
 use Rattle.index_keeper.specs.TrueRows.{IsTrueKept, IsTrueValue, SpellsTrueRow}
-use Rattle.index_keeper.specs.declared.answer.KeepAnswer.{KeepAnswer}
-use Rattle.index_keeper.specs.declared.answer.KeepAnswer.TheVariants.{Done, Failed, OutOfMemory}
 use Rattle.index_keeper.proofs.CutLemmas.{edited_all}
 
 -- the bytes of a true row spell no other row
@@ -38,15 +34,3 @@ pub true_torn : (true_row : RowFacts → Type 0) (old new : ShelfFacts) (edit : 
 true_torn true_row old new edit h own e =
     subst (All (IsTrueKept true_row)) (sym (ap (λ (s : ShelfFacts). s.tables) e))
     (one_of (IsTrueKept true_row) (is_made_next old.plan) (edited old.tables edit) old.tables (edited_all (IsTrueValue true_row) old.tables edit h own) h)
-
--- a change fails only where the count of faults rises
-rose_after : (keeper : KeeperFacts) (edit : EditFacts) (answer : KeepAnswer) → answer ≡ Failed → Rose keeper.faults (after_change keeper edit answer).faults
-rose_after keeper edit Done e = cc
-rose_after keeper edit Failed e = omega arith
-rose_after keeper edit OutOfMemory e = cc
-
-pub change_cause : (old new : KeeperFacts) (edit : EditFacts) (answer : KeepAnswer) → old.faults ≤ new.faults → new ≡ after_change old edit answer → HasCause old.faults new.faults (answer ≡ Failed)
-change_cause old new edit answer later e = record {
-  later = later;
-  rose = λ failed. subst (λ (n : ℕ). Rose old.faults n) (sym (ap (λ (k : KeeperFacts). k.faults) e)) (rose_after old edit answer failed);
-}

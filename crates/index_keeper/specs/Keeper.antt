@@ -1,39 +1,77 @@
 -- Keepers (this project's rule): the tables as they are, and those that a crash now may leave. A crash within a
 -- call is a call that fails, after which the keeper is given back and the store is opened again.
-use Rattle.std.specs.Prelude.{◌≡◌, ◌⊎◌, ◌↔◌, List, [], ◌∷◌, ◌++◌, Option, option_map}
-use Rattle.index_keeper.specs.Tables.{KeptFacts, EditFacts, edited}
-use Rattle.index_keeper.specs.declared.answer.KeepAnswer.{KeepAnswer}
-use Rattle.index_keeper.specs.declared.answer.KeepAnswer.TheVariants.{Done, Failed, OutOfMemory}
+use Rattle.std.specs.Prelude.{◌≡◌, ◌⊎◌, ◌↔◌, ℕ, Bool, List, [], ◌∷◌, ◌++◌, Option, option_map, All, IsTrue}
+use Rattle.row_types.specs.Faults.{HasCause}
+use Rattle.row_types.specs.Row.{RowFacts}
+use Rattle.index_keeper.specs.Answers.{Asked, for_rows, for_change, has_failed, wants_memory}
+use Rattle.index_keeper.specs.Tables.{AscendsByPath, KeptFacts, EditFacts, edited}
+use Rattle.index_keeper.specs.TrueRows.{IsTrueKept}
+use Rattle.index_keeper.specs.declared.answer.KeepAnswer.TheVariants.{Done, Failed}
+use Rattle.index_keeper.specs.declared.answer.KeptAnswer.TheVariants.{All as AllRows}
+
+-- what a keeper shows at a moment: the tables, and those that a crash now may leave; the changes of the store that
+-- were answered Done, in order, those before its opening among them; how often a call failed; the opening's number
+pub record ShownKeeper : Type 1 where
+  pub tables : List KeptFacts
+  pub images : List KeptFacts → Type 0
+  pub made : Option (List EditFacts)
+  pub faults : ℕ
+  pub epoch : ℕ
 
 -- a crash now leaves the tables as they are
-pub record IsOnlyImage (images : List KeptFacts → Type 0) (tables : List KeptFacts) : Type 0 where
-  pub left : images tables
-  pub only : (image : List KeptFacts) → images image → image ≡ tables
+pub record IsSettled (shown : ShownKeeper) : Type 0 where
+  pub left : shown.images shown.tables
+  pub only : (image : List KeptFacts) → shown.images image → image ≡ shown.tables
 
 -- the tables have the change, and a crash now leaves them as they are
-pub record IsMade (edit : EditFacts) (old new : List KeptFacts) (images : List KeptFacts → Type 0) : Type 0 where
-  pub tables : new ≡ edited old edit
-  pub image : IsOnlyImage images new
+pub record IsMade (edit : EditFacts) (before after : ShownKeeper) : Type 0 where
+  pub changed : after.tables ≡ edited before.tables edit
+  pub settled : IsSettled after
 
 -- the tables are those before the change or those after it, and so is what a crash now may leave
-pub record IsTorn (edit : EditFacts) (old new : List KeptFacts) (images : List KeptFacts → Type 0) : Type 0 where
-  pub now : images new
-  pub before : images old
-  pub each : (image : List KeptFacts) → images image → (image ≡ old) ⊎ (image ≡ edited old edit)
+pub record IsTorn (edit : EditFacts) (before after : ShownKeeper) : Type 0 where
+  pub now : after.images after.tables
+  pub without : after.images before.tables
+  pub each : (image : List KeptFacts) → after.images image → (image ≡ before.tables) ⊎ (image ≡ edited before.tables edit)
 
 -- the tables are as they were, and so is what a crash may leave
-pub record IsUntouched (old new : List KeptFacts) (before now : List KeptFacts → Type 0) : Type 0 where
-  pub tables : new ≡ old
-  pub images : (image : List KeptFacts) → now image ↔ before image
+pub record IsUntouched (before after : ShownKeeper) : Type 0 where
+  pub same : after.tables ≡ before.tables
+  pub left : (image : List KeptFacts) → after.images image ↔ before.images image
 
--- what a change does to the tables, by its answer
-abbrev pub TellsChange : EditFacts → List KeptFacts → List KeptFacts → (List KeptFacts → Type 0) → (List KeptFacts → Type 0) → KeepAnswer → Type 0
-TellsChange edit old new before now Done = IsMade edit old new now
-TellsChange edit old new before now Failed = IsTorn edit old new now
-TellsChange edit old new before now OutOfMemory = IsUntouched old new before now
+-- the rows are the tables, which are as they were
+pub record AreTables (rows : List KeptFacts) (before after : ShownKeeper) : Type 0 where
+  pub whole : rows ≡ after.tables
+  pub stays : IsUntouched before after
 
--- the changes that were answered Done, after one more was answered
-abbrev pub made_after : Option (List EditFacts) → EditFacts → KeepAnswer → Option (List EditFacts)
-made_after made edit Done = option_map (λ edits. edits ++ edit ∷ []) made
-made_after made edit Failed = made
-made_after made edit OutOfMemory = made
+-- what the answer says of the tables, where they are told
+abbrev pub TellsTables : ShownKeeper → ShownKeeper → Asked → Type 0
+TellsTables before after (for_rows (AllRows rows)) = AreTables rows.items before after
+TellsTables before after (for_change edit Done) = IsMade edit before after
+TellsTables before after (for_change edit Failed) = IsTorn edit before after
+TellsTables before after _ = IsUntouched before after
+
+-- the changes that were answered Done, after one more answer
+abbrev pub made_after : Option (List EditFacts) → Asked → Option (List EditFacts)
+made_after made (for_change edit Done) = option_map (λ edits. edits ++ edit ∷ []) made
+made_after made _ = made
+
+-- a keeper was asked, and answered: a fault only where its count rose; want of memory counts none
+pub record Asks (told : Bool) (before after : ShownKeeper) (asked : Asked) : Type 0 where
+  pub tells : IsTrue told → TellsTables before after asked
+  pub grows : after.made ≡ made_after before.made asked
+  pub cause : HasCause before.faults after.faults (IsTrue (has_failed asked))
+  pub memory : IsTrue (wants_memory asked) → after.faults ≡ before.faults
+  pub number : after.epoch ≡ before.epoch
+
+-- nothing came of it, whether the keeper was asked or not
+pub record IsLeftAlone (told : Bool) (before after : ShownKeeper) : Type 0 where
+  pub tells : IsTrue told → IsUntouched before after
+  pub stays : after.made ≡ before.made
+  pub faultless : after.faults ≡ before.faults
+  pub number : after.epoch ≡ before.epoch
+
+-- rows that a keeper may give, told or not: strictly by path, and those that spell a row of the edition a true one
+pub record AreKept (true_row : RowFacts → Type 0) (rows : List KeptFacts) : Type 0 where
+  pub ascend : AscendsByPath rows
+  pub holds : All (IsTrueKept true_row) rows

@@ -6,6 +6,7 @@ pub mod Places
 pub mod TrueRows
 pub mod Answers
 pub mod Keeper
+pub mod Store
 pub mod Plan
 pub mod Shelf
 pub mod MemKeeper

@@ -1,12 +1,13 @@
 -- The keeper in memory (this project's rule): it fails by its plan, and else does what it answers.
-use Rattle.std.specs.Prelude.{◌≡◌, ◌⊎◌, ◌↔◌, ℕ, Bool, true, false, if◌then◌else◌, List, Option, Some, None, MatchOption, MatchBool}
+use Rattle.std.specs.Prelude.{◌≡◌, ◌⊎◌, ◌↔◌, ℕ, Bool, List, Option, Some, None, MatchOption, MatchBool}
 use Rattle.row_types.specs.Faults.{raised}
-use Rattle.index_keeper.specs.Answers.{rows_failed, rows_no_memory}
+use Rattle.index_keeper.specs.Answers.{Asked, for_change, for_rows, has_failed, wants_memory}
+use Rattle.index_keeper.specs.Keeper.{ShownKeeper}
+use Rattle.index_keeper.specs.Plan.{call_fails}
 use Rattle.index_keeper.specs.Shelf.{ShelfFacts, after_asking, after_making, after_tearing, doubt_of}
 use Rattle.index_keeper.specs.Tables.{KeptFacts, EditFacts, edited}
-use Rattle.index_keeper.specs.declared.answer.KeepAnswer.{KeepAnswer}
-use Rattle.index_keeper.specs.declared.answer.KeepAnswer.TheVariants.{Done, Failed, OutOfMemory}
-use Rattle.index_keeper.specs.declared.answer.KeptAnswer.{KeptAnswer}
+use Rattle.index_keeper.specs.declared.answer.KeepAnswer.TheVariants.{Done, Failed}
+use Rattle.index_keeper.specs.declared.answer.KeptAnswer.TheVariants.{All as AllRows, Failed as RowsFailed}
 
 -- what is kept; after a change that failed, the change that leads to the other tables that a crash may leave; the
 -- count of faults; the number of the opening
@@ -24,28 +25,42 @@ opened shelf epoch = record { shelf = shelf; doubt = None; faults = 0; epoch = e
 abbrev pub IsImage : KeeperFacts → List KeptFacts → Type 0
 IsImage keeper image = MatchOption keeper.doubt (image ≡ keeper.shelf.tables) (λ doubt. (image ≡ keeper.shelf.tables) ⊎ (image ≡ edited keeper.shelf.tables doubt))
 
--- a crash now may leave the tables before the change and those after it, and no others
-abbrev pub AreTornImages : KeeperFacts → KeeperFacts → EditFacts → Type 0
-AreTornImages old new edit = (image : List KeptFacts) → IsImage new image ↔ ((image ≡ old.shelf.tables) ⊎ (image ≡ edited old.shelf.tables edit))
+-- what the keeper shows: all of it
+abbrev pub shown_of : KeeperFacts → ShownKeeper
+shown_of keeper = record {
+  tables = keeper.shelf.tables;
+  images = IsImage keeper;
+  made = Some keeper.shelf.made;
+  faults = keeper.faults;
+  epoch = keeper.epoch;
+}
 
--- the keeper after a change, by its answer
-abbrev pub after_change : KeeperFacts → EditFacts → KeepAnswer → KeeperFacts
-after_change keeper edit Done = record keeper { shelf = after_making keeper.shelf edit; doubt = None }
-after_change keeper edit Failed = record keeper { shelf = after_tearing keeper.shelf edit; doubt = Some (doubt_of keeper.shelf edit); faults = raised keeper.faults }
-after_change keeper edit OutOfMemory = keeper
+-- the keeper after it was asked, by the answer
+abbrev pub after_asked : KeeperFacts → Asked → KeeperFacts
+after_asked keeper (for_rows (AllRows rows)) = record keeper { shelf = after_asking keeper.shelf }
+after_asked keeper (for_rows RowsFailed) = record keeper { shelf = after_asking keeper.shelf; faults = raised keeper.faults }
+after_asked keeper (for_change edit Done) = record keeper { shelf = after_making keeper.shelf edit; doubt = None }
+after_asked keeper (for_change edit Failed) = record keeper { shelf = after_tearing keeper.shelf edit; doubt = Some (doubt_of keeper.shelf edit); faults = raised keeper.faults }
+after_asked keeper _ = keeper
 
--- the keeper after its rows were asked, by the answer
-abbrev pub after_rows : KeeperFacts → KeptAnswer → KeeperFacts
-after_rows keeper answer =
-    if rows_no_memory answer then keeper
-    else record keeper { shelf = after_asking keeper.shelf; faults = if rows_failed answer then raised keeper.faults else keeper.faults }
+-- the rows that are given are all that are kept; after a change that failed a crash may leave the tables before it
+-- and those after it, and no others
+abbrev pub TellsAll : KeeperFacts → KeeperFacts → Asked → Type 0
+TellsAll before after (for_rows (AllRows rows)) = rows.items ≡ before.shelf.tables
+TellsAll before after (for_change edit Failed) =
+    (image : List KeptFacts) → IsImage after image ↔ ((image ≡ before.shelf.tables) ⊎ (image ≡ edited before.shelf.tables edit))
+TellsAll before after _ = Unit {0}
 
--- a change fails exactly where the plan says so, want of memory apart
-abbrev pub FailsWhere : Bool → KeepAnswer → Type 0
-FailsWhere planned Done = planned ≡ false
-FailsWhere planned Failed = planned ≡ true
-FailsWhere planned OutOfMemory = Unit {0}
+-- it fails exactly where that is planned, want of memory apart
+abbrev pub FailsWhere : Bool → Asked → Type 0
+FailsWhere planned asked = MatchBool (wants_memory asked) (Unit {0}) (has_failed asked ≡ planned)
 
--- the rows can't be read exactly where the plan says so, want of memory apart
-abbrev pub RowsFailWhere : Bool → KeptAnswer → Type 0
-RowsFailWhere planned answer = MatchBool (rows_no_memory answer) (Unit {0}) (rows_failed answer ≡ planned)
+-- the keeper was asked, and answered: it fails where that is planned, and all that comes of the answer
+pub record Does (planned : Bool) (before after : KeeperFacts) (asked : Asked) : Type 0 where
+  pub fails : FailsWhere planned asked
+  pub state : after ≡ after_asked before asked
+  pub tells : TellsAll before after asked
+
+-- the same, where its plan says what is planned
+abbrev pub GoesByPlan : KeeperFacts → KeeperFacts → Asked → Type 0
+GoesByPlan before after asked = Does (call_fails before.shelf.plan) before after asked

@@ -1,12 +1,10 @@
 //! A keeper in memory.
 
-ghost use Rattle.std.specs.Prelude.{◌≡◌, ◌≤◌, true, false, Some, All, IfSome, IsTrue};
-ghost use Rattle.row_types.specs.Faults.{HasCause};
-ghost use Rattle.index_keeper.specs.Answers.{rows_in, rows_failed, rows_no_memory};
-ghost use Rattle.index_keeper.specs.Keeper.{IsUntouched, TellsChange, made_after};
-ghost use Rattle.index_keeper.specs.MemKeeper.{IsImage, AreTornImages, after_change, after_rows, opened, FailsWhere, RowsFailWhere};
-ghost use Rattle.index_keeper.specs.Plan.{call_fails};
-ghost use Rattle.index_keeper.specs.Tables.{AscendsByPath, put_of, removal_of};
+ghost use Rattle.std.specs.Prelude.{◌≡◌, ◌≤◌, true, false, All, IfSome};
+ghost use Rattle.index_keeper.specs.Answers.{for_change, for_rows, rows_in};
+ghost use Rattle.index_keeper.specs.Keeper.{AreKept, Asks};
+ghost use Rattle.index_keeper.specs.MemKeeper.{Does, GoesByPlan, opened, shown_of};
+ghost use Rattle.index_keeper.specs.Tables.{put_of, removal_of};
 ghost use Rattle.index_keeper.specs.TrueRows.{IsTrueKept, IsTrueValue, SpellsTrueRow};
 
 use crate::answer::{KeepAnswer, KeptAnswer};
@@ -80,10 +78,8 @@ impl<W: Truth> MemKeeper<W> {
     /// Makes a change, or fails, as the plan says.
     fn change(&mut self, alloc: Global, edit: Edit) -> KeepAnswer
         requires { IfSome edit.bytes (IsTrueValue W.true_row) }
-        ensures fails { FailsWhere (call_fails self.old.shelf.plan) result }
-        ensures after { self.new ≡ after_change self.old edit result }
+        ensures plan { GoesByPlan self.old self.new (for_change edit result) }
         ensures later { self.old.faults ≤ self.new.faults }
-        ensures images { result ≡ KeepAnswer.Failed → AreTornImages self.old self.new edit }
     {
         if self.shelf.plan.call_fails() {
             self.fail(alloc, edit)
@@ -95,8 +91,7 @@ impl<W: Truth> MemKeeper<W> {
     /// Makes a change.
     fn make(&mut self, alloc: Global, edit: Edit) -> KeepAnswer
         requires { IfSome edit.bytes (IsTrueValue W.true_row) }
-        ensures made { FailsWhere false result }
-        ensures after { self.new ≡ after_change self.old edit result }
+        ensures plan { Does false self.old self.new (for_change edit result) }
         ensures later { self.old.faults ≤ self.new.faults }
     {
         match self.shelf.make(alloc, edit) {
@@ -111,10 +106,8 @@ impl<W: Truth> MemKeeper<W> {
     /// Fails at a change.
     fn fail(&mut self, alloc: Global, edit: Edit) -> KeepAnswer
         requires { IfSome edit.bytes (IsTrueValue W.true_row) }
-        ensures fails { FailsWhere true result }
-        ensures after { self.new ≡ after_change self.old edit result }
+        ensures plan { Does true self.old self.new (for_change edit result) }
         ensures later { self.old.faults ≤ self.new.faults }
-        ensures images { result ≡ KeepAnswer.Failed → AreTornImages self.old self.new edit }
     {
         match self.shelf.tear(alloc, edit) {
             Ok(doubt) => {
@@ -128,32 +121,17 @@ impl<W: Truth> MemKeeper<W> {
 }
 
 impl<W: Truth + Send> Keeper<W> for MemKeeper<W> {
-    ghost use Rattle.std.specs.Prelude.{true, Some};
-    ghost use Rattle.index_keeper.specs.MemKeeper.{IsImage};
+    ghost use Rattle.std.specs.Prelude.{true};
+    ghost use Rattle.index_keeper.specs.MemKeeper.{shown_of};
 
     ghost told = { true };
 
-    ghost tables = { λ k. k.shelf.tables };
-
-    ghost images = { IsImage };
-
-    ghost made = { λ k. Some k.shelf.made };
-
-    ghost faults = { λ k. k.faults };
-
-    ghost epoch = { λ k. k.epoch };
+    ghost shows = { shown_of };
 
     fn rows(&mut self, alloc: Global) -> KeptAnswer
-        ensures told { IfSome (rows_in result) (λ rows. rows ≡ self.new.shelf.tables) }
-        ensures ascend { IfSome (rows_in result) AscendsByPath }
-        ensures holds { IfSome (rows_in result) (All (IsTrueKept W.true_row)) }
-        ensures stays { IsUntouched self.old.shelf.tables self.new.shelf.tables (IsImage self.old) (IsImage self.new) }
-        ensures made { self.new.shelf.made ≡ self.old.shelf.made }
-        ensures cause { HasCause self.old.faults self.new.faults (IsTrue (rows_failed result)) }
-        ensures memory { IsTrue (rows_no_memory result) → self.new ≡ self.old }
-        ensures epoch { self.new.epoch ≡ self.old.epoch }
-        ensures fails { RowsFailWhere (call_fails self.old.shelf.plan) result }
-        ensures after { self.new ≡ after_rows self.old result }
+        ensures asks { Asks true (shown_of self.old) (shown_of self.new) (for_rows result) }
+        ensures rows { IfSome (rows_in result) (AreKept W.true_row) }
+        ensures plan { GoesByPlan self.old self.new (for_rows result) }
     {
         if self.shelf.plan.call_fails() {
             self.shelf.plan.count_call();
@@ -171,14 +149,8 @@ impl<W: Truth + Send> Keeper<W> for MemKeeper<W> {
 
     fn put(&mut self, alloc: Global, path: &str, bytes: &[u8]) -> KeepAnswer
         requires { SpellsTrueRow W.true_row path.now bytes.now }
-        ensures told { TellsChange (put_of path.now bytes.now) self.old.shelf.tables self.new.shelf.tables (IsImage self.old) (IsImage self.new) result }
-        ensures made { Some self.new.shelf.made ≡ made_after (Some self.old.shelf.made) (put_of path.now bytes.now) result }
-        ensures cause { HasCause self.old.faults self.new.faults (result ≡ KeepAnswer.Failed) }
-        ensures memory { result ≡ KeepAnswer.OutOfMemory → self.new ≡ self.old }
-        ensures epoch { self.new.epoch ≡ self.old.epoch }
-        ensures fails { FailsWhere (call_fails self.old.shelf.plan) result }
-        ensures after { self.new ≡ after_change self.old (put_of path.now bytes.now) result }
-        ensures images { result ≡ KeepAnswer.Failed → AreTornImages self.old self.new (put_of path.now bytes.now) }
+        ensures asks { Asks true (shown_of self.old) (shown_of self.new) (for_change (put_of path.now bytes.now) result) }
+        ensures plan { GoesByPlan self.old self.new (for_change (put_of path.now bytes.now) result) }
     {
         match Edit::put(alloc, path, bytes) {
             Ok(edit) => self.change(alloc, edit),
@@ -187,14 +159,8 @@ impl<W: Truth + Send> Keeper<W> for MemKeeper<W> {
     }
 
     fn remove(&mut self, alloc: Global, path: &str) -> KeepAnswer
-        ensures told { TellsChange (removal_of path.now) self.old.shelf.tables self.new.shelf.tables (IsImage self.old) (IsImage self.new) result }
-        ensures made { Some self.new.shelf.made ≡ made_after (Some self.old.shelf.made) (removal_of path.now) result }
-        ensures cause { HasCause self.old.faults self.new.faults (result ≡ KeepAnswer.Failed) }
-        ensures memory { result ≡ KeepAnswer.OutOfMemory → self.new ≡ self.old }
-        ensures epoch { self.new.epoch ≡ self.old.epoch }
-        ensures fails { FailsWhere (call_fails self.old.shelf.plan) result }
-        ensures after { self.new ≡ after_change self.old (removal_of path.now) result }
-        ensures images { result ≡ KeepAnswer.Failed → AreTornImages self.old self.new (removal_of path.now) }
+        ensures asks { Asks true (shown_of self.old) (shown_of self.new) (for_change (removal_of path.now) result) }
+        ensures plan { GoesByPlan self.old self.new (for_change (removal_of path.now) result) }
     {
         match Edit::removal(alloc, path) {
             Ok(edit) => self.change(alloc, edit),
