@@ -27,6 +27,10 @@ pub record Scene : Type 1 where
 abbrev pub scene : ShownTree → ShownStore → Streams → Scene
 scene hand store streams = record { hand = hand; store = store; streams = streams }
 
+-- the hand tells the files that are there, and they never change
+abbrev pub TellsStill : Bool → ShownTree → Type 0
+TellsStill told hand = IsTrue told × hand.Still
+
 -- a hand wasn't asked
 pub record LeavesHand (before after : ShownTree) : Type 0 where
   pub present : after.present ≡ before.present

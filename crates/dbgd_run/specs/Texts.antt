@@ -42,7 +42,8 @@ plain_line why = line (codes "plain " ++ why_word why)
 -- how the words of each command read
 abbrev pub usage_text : List ℕ
 usage_text =
-    codes "usage: dbgd ident FILE, sources FILE, section FILE NAME, query -d DB ID, scan -d DB DIR, serve -d DB DIR, trial SEED FILES WORKERS"
+    codes "usage: dbgd ident FILE, sources FILE, section FILE NAME, query -d DB ID, "
+    ++ codes "scan -d DB DIR, serve -d DB DIR, trial SEED FILES WORKERS"
 
 -- a number in nine digits
 abbrev pub nine_digits : ℕ → List ℕ
@@ -66,6 +67,7 @@ altered_text name seen =
 -- the line of a scan
 abbrev pub summary_line : Summary → List ℕ
 summary_line s =
-    line (codes "scan: " ++ decimal s.files ++ codes " files, " ++ decimal s.added ++ codes " added, " ++ decimal s.replaced
-    ++ codes " replaced, " ++ decimal s.dropped ++ codes " dropped, " ++ decimal s.kept ++ codes " kept, " ++ decimal s.executables
-    ++ codes " executables, " ++ decimal s.debuginfo ++ codes " debuginfo")
+    line (codes "scan: " ++ decimal s.files ++ codes " files, " ++ decimal s.added ++ codes " added, "
+    ++ decimal s.replaced ++ codes " replaced, " ++ decimal s.dropped ++ codes " dropped, "
+    ++ decimal s.kept ++ codes " kept, " ++ decimal s.executables ++ codes " executables, "
+    ++ decimal s.debuginfo ++ codes " debuginfo")

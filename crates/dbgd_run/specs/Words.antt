@@ -16,16 +16,13 @@ pub data Line : Type 0 where
 
 -- the words of `ident`: one file
 abbrev pub ident_line : List (List ℕ) → Line
-ident_line [] = unreadable
 ident_line (path ∷ []) = asks_ident path
-ident_line (path ∷ other ∷ rest) = unreadable
+ident_line _ = unreadable
 
 -- the words of `section`: one file and a name
 abbrev pub section_line : List (List ℕ) → Line
-section_line [] = unreadable
-section_line (path ∷ []) = unreadable
 section_line (path ∷ name ∷ []) = asks_section path name
-section_line (path ∷ name ∷ other ∷ rest) = unreadable
+section_line _ = unreadable
 
 -- whether a word names a folder that can be scanned: a path in its canonical form, and no longer than the longest one
 -- that is kept. A word that begins with `-` isn't one.
