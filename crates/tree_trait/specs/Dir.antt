@@ -25,20 +25,6 @@ dir_facts Gone = no_dir
 dir_facts Failed = dir_failed
 dir_facts OutOfMemory = dir_no_memory
 
--- the read failed
-abbrev pub is_dir_failed : DirFacts → Bool
-is_dir_failed (listed entries skipped) = false
-is_dir_failed no_dir = false
-is_dir_failed dir_failed = true
-is_dir_failed dir_no_memory = false
-
--- memory was refused
-abbrev pub is_dir_no_memory : DirFacts → Bool
-is_dir_no_memory (listed entries skipped) = false
-is_dir_no_memory no_dir = false
-is_dir_no_memory dir_failed = false
-is_dir_no_memory dir_no_memory = true
-
 -- the path of a folder's entry; the root adds no second slash
 abbrev pub child : List ℕ → List ℕ → List ℕ
 child folder name = front_under folder ++ name
@@ -47,7 +33,7 @@ child folder name = front_under folder ++ name
 abbrev pub makes : EntryKind → List ℕ → List ℕ → Bool
 makes kind.Folder path file = lies_under path file
 makes kind.File path file = bytes_eq file path
-makes kind.Other path file = false
+makes _ path file = false
 
 -- whether an entry stands in a folder
 abbrev pub is_there : List NameFacts → List ℕ → EntryFacts → Bool
@@ -75,5 +61,4 @@ pub record IsListed (present : List NameFacts) (folder : List ℕ) (entries : Li
 abbrev pub TellsDir : List NameFacts → List ℕ → DirFacts → Type 0
 TellsDir present folder (listed entries skipped) = IsListed present folder entries skipped
 TellsDir present folder no_dir = is_folder present folder ≡ false
-TellsDir present folder dir_failed = Unit {0}
-TellsDir present folder dir_no_memory = Unit {0}
+TellsDir present folder _ = Unit {0}

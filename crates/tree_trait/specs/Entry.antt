@@ -23,14 +23,9 @@ is_entry_name name = stays name && has_no_slash name
 -- whether two kinds are the same
 abbrev pub same_kind : EntryKind → EntryKind → Bool
 same_kind Folder Folder = true
-same_kind Folder File = false
-same_kind Folder Other = false
-same_kind File Folder = false
 same_kind File File = true
-same_kind File Other = false
-same_kind Other Folder = false
-same_kind Other File = false
 same_kind Other Other = true
+same_kind _ _ = false
 
 -- whether two entries are the same
 abbrev pub same_entry : EntryFacts → EntryFacts → Bool

@@ -1,10 +1,10 @@
 -- What a tree was asked and answered (this project's rule): a list of the questions with their answers, in
 -- order. An answer for want of memory isn't listed.
-use Rattle.std.specs.Prelude.{ℕ, List, [], ◌∷◌, ◌++◌, Option, option_map, if◌then◌else◌}
-use Rattle.tree_trait.specs.Dir.{DirFacts, is_dir_no_memory}
-use Rattle.tree_trait.specs.Load.{LoadFacts, is_no_memory}
-use Rattle.tree_trait.specs.Stat.{is_stat_no_memory}
+use Rattle.std.specs.Prelude.{ℕ, Bool, true, false, List, [], ◌∷◌, ◌++◌, Option, option_map, if◌then◌else◌}
+use Rattle.tree_trait.specs.Dir.{DirFacts, dir_failed, dir_no_memory}
+use Rattle.tree_trait.specs.Load.{LoadFacts, failed, no_memory}
 use Rattle.tree_trait.specs.declared.stat.StatAnswer.{StatAnswer}
+use Rattle.tree_trait.specs.declared.stat.StatAnswer.TheVariants.{Failed, OutOfMemory}
 
 -- a question with its answer
 pub data Heard : Type 0 where
@@ -12,18 +12,24 @@ pub data Heard : Type 0 where
   stat : (path : List ℕ) (answer : StatAnswer) → Heard
   read_dir : (path : List ℕ) (answer : DirFacts) → Heard
 
--- the list with one more entry, where it is told
-abbrev pub with_entry : Option (List Heard) → Heard → Option (List Heard)
-with_entry told entry = option_map (λ entries. entries ++ entry ∷ []) told
+-- whether the call failed
+abbrev pub has_failed : Heard → Bool
+has_failed (load path limit failed) = true
+has_failed (stat path Failed) = true
+has_failed (read_dir path dir_failed) = true
+has_failed _ = false
 
--- the list after a load
-abbrev pub after_load : Option (List Heard) → List ℕ → ℕ → LoadFacts → Option (List Heard)
-after_load told path limit answer = if is_no_memory answer then told else with_entry told (load path limit answer)
+-- whether memory was refused
+abbrev pub wants_memory : Heard → Bool
+wants_memory (load path limit no_memory) = true
+wants_memory (stat path OutOfMemory) = true
+wants_memory (read_dir path dir_no_memory) = true
+wants_memory _ = false
 
--- the list after a look at a path
-abbrev pub after_stat : Option (List Heard) → List ℕ → StatAnswer → Option (List Heard)
-after_stat told path answer = if is_stat_no_memory answer then told else with_entry told (stat path answer)
+-- the list with more answers, where it is told
+abbrev pub with_answers : Option (List Heard) → List Heard → Option (List Heard)
+with_answers told answers = option_map (λ entries. entries ++ answers) told
 
--- the list after a folder was read
-abbrev pub after_read_dir : Option (List Heard) → List ℕ → DirFacts → Option (List Heard)
-after_read_dir told path answer = if is_dir_no_memory answer then told else with_entry told (read_dir path answer)
+-- the list after a call
+abbrev pub after_asked : Option (List Heard) → Heard → Option (List Heard)
+after_asked told asked = if wants_memory asked then told else with_answers told (asked ∷ [])

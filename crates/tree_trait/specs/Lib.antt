@@ -1,6 +1,7 @@
 pub use Rattle.row_types.specs.Faults
 pub use Rattle.row_types.specs.Name
 pub use Rattle.row_types.specs.Stamp
+pub mod Asks
 pub mod Dir
 pub mod Entry
 pub mod Folder
@@ -12,5 +13,6 @@ pub mod MemTree
 pub mod Pieces
 pub mod Present
 pub mod Script
+pub mod Shown
 pub mod Stat
 pub mod TwoWorld

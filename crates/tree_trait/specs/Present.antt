@@ -1,21 +1,30 @@
 -- The files that a tree has (this project's rule): a list of names, each path once.
-use Rattle.std.specs.Prelude.{◌≡◌, ℕ, ◌<◌, ◌&&◌, ◌⊎◌, Bool, true, not, if◌then◌else◌, List, [], ◌∷◌, ◌++◌, map, All, Option, Some, option_map, IsTrue, nat_eq}
-use Rattle.std.specs.List.{find, list_any, list_all, starts_with}
+use Rattle.std.specs.Borrow.{Bor}
+use Rattle.std.specs.Prelude.{◌≡◌, ℕ, ◌<◌, ◌&&◌, ◌⊎◌, Bool, true, not, List, [], ◌∷◌, map}
+use Rattle.std.specs.Prelude.{Option, Some, None, MatchOption}
+use Rattle.std.specs.List.{list_any, list_all}
 use Rattle.std.specs.Str.{bytes_eq}
-use Rattle.row_types.specs.Canon.{is_canonical}
-use Rattle.row_types.specs.Stamp.{StampFacts}
-use Rattle.row_types.specs.Name.{NameFacts}
-use Rattle.row_types.specs.declared.limits.TheConstants.{SEPARATOR, FILE_LIMIT}
+use Rattle.row_types.specs.Name.{NameFacts, stamp_at}
+use Rattle.row_types.specs.Under.{lies_under}
+use Rattle.row_types.specs.declared.limits.TheConstants.{FILE_LIMIT}
+use Rattle.tree_trait.specs.Found.{FoundFacts, Versions, name_of}
 
 -- the file is the one at this path
 pub record IsAt (names : List NameFacts) (path : List ℕ) (file : NameFacts) : Type 0 where
   pub there : stamp_at names path ≡ Some file.stamp
   pub asked : file.path ≡ path
 
+-- the file that is found at the path, if there is one
+abbrev pub IsFileAt : List FoundFacts → List ℕ → Option (Bor FoundFacts) → Type 0
+IsFileAt files path result =
+    let names = map name_of files in
+    MatchOption result (stamp_at names path ≡ None) (λ file. IsAt names path (name_of file.now))
+
 -- whether no path stands twice
 abbrev pub are_distinct : List (List ℕ) → Bool
 are_distinct [] = true
-are_distinct (path ∷ rest) = not (list_any (λ other. bytes_eq other path) rest) && are_distinct rest
+are_distinct (path ∷ rest) =
+    not (list_any (λ other. bytes_eq other path) rest) && are_distinct rest
 
 -- whether some file lies under a path, which makes it a folder
 abbrev pub is_folder : List NameFacts → List ℕ → Bool
@@ -26,17 +35,6 @@ abbrev pub are_apart : List (List ℕ) → Bool
 are_apart paths = list_all (λ folder. not (list_any (lies_under folder) paths)) paths
 
 -- some content is a version of the name, or the file is larger than a file that is read
-abbrev pub IsKnown : (List ℕ → StampFacts → List ℕ → Type 0) → NameFacts → Type 0
-IsKnown version name = ((bytes : List ℕ) × version name.path name.stamp bytes) ⊎ (FILE_LIMIT < name.stamp.size)
-
--- what holds of the files that a told tree has; Still says that they never change
-pub record IsPresence (version : List ℕ → StampFacts → List ℕ → Type 0) (Still : Type 0) (names : List NameFacts) : Type 0 where
-  pub known : All (IsKnown version) names
-  pub canonical : All (λ name. IsTrue (is_canonical name.path)) names
-  pub distinct : IsTrue (are_distinct (map (λ name. name.path) names))
-  pub apart : Still → IsTrue (are_apart (map (λ name. name.path) names))
-
--- the files stay as they are, from here on too
-pub record StaysStill (Still : Type 0) (before now : List NameFacts) : Type 0 where
-  pub still : Still
-  pub same : now ≡ before
+abbrev pub IsKnown : Versions → NameFacts → Type 0
+IsKnown version name =
+    ((bytes : List ℕ) × version name.path name.stamp bytes) ⊎ (FILE_LIMIT < name.stamp.size)

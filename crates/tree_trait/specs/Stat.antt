@@ -1,28 +1,9 @@
 -- What is answered of a path (this project's rule).
-use Rattle.std.specs.Prelude.{◌≡◌, ℕ, Bool, true, false, List, Some, None}
-use Rattle.row_types.specs.Name.{NameFacts}
-use Rattle.row_types.specs.Name.{stamp_at}
+use Rattle.std.specs.Prelude.{◌≡◌, ℕ, true, false, List, Some, None}
+use Rattle.row_types.specs.Name.{NameFacts, stamp_at}
 use Rattle.tree_trait.specs.Present.{is_folder}
 use Rattle.tree_trait.specs.declared.stat.StatAnswer.{StatAnswer}
-use Rattle.tree_trait.specs.declared.stat.StatAnswer.TheVariants.{Folder, File, Other, Gone, Failed, OutOfMemory}
-
--- the look failed
-abbrev pub is_stat_failed : StatAnswer → Bool
-is_stat_failed Folder = false
-is_stat_failed (File stamp) = false
-is_stat_failed Other = false
-is_stat_failed Gone = false
-is_stat_failed Failed = true
-is_stat_failed OutOfMemory = false
-
--- memory was refused
-abbrev pub is_stat_no_memory : StatAnswer → Bool
-is_stat_no_memory Folder = false
-is_stat_no_memory (File stamp) = false
-is_stat_no_memory Other = false
-is_stat_no_memory Gone = false
-is_stat_no_memory Failed = false
-is_stat_no_memory OutOfMemory = true
+use Rattle.tree_trait.specs.declared.stat.StatAnswer.TheVariants.{Folder, File, Other, Gone}
 
 -- a folder stands at the path, and no file
 pub record IsFolderAt (present : List NameFacts) (path : List ℕ) : Type 0 where
@@ -40,5 +21,4 @@ TellsStat present path Folder = IsFolderAt present path
 TellsStat present path (File stamp) = stamp_at present path ≡ Some stamp
 TellsStat present path Other = ⊥
 TellsStat present path Gone = IsNothingAt present path
-TellsStat present path Failed = Unit {0}
-TellsStat present path OutOfMemory = Unit {0}
+TellsStat present path _ = Unit {0}

@@ -1,7 +1,7 @@
 //! What a tree answers.
 
 ghost use Rattle.std.specs.Prelude.{◌≡◌, IfOk};
-ghost use Rattle.tree_trait.specs.Load.{load_facts, is_failed, is_no_memory};
+ghost use Rattle.tree_trait.specs.Load.{load_facts};
 
 use crate::found::Found;
 use row_types::{Stamp, Truth};
@@ -26,20 +26,6 @@ pub enum LoadAnswer<W: Truth> {
 }
 
 impl<W: Truth> LoadAnswer<W> {
-    /// Whether reading failed.
-    pub fn is_failed(&self) -> bool
-        ensures { result ≡ is_failed (load_facts self.now) }
-    {
-        matches!(self, LoadAnswer::Failed)
-    }
-
-    /// Whether memory was refused.
-    pub fn is_no_memory(&self) -> bool
-        ensures { result ≡ is_no_memory (load_facts self.now) }
-    {
-        matches!(self, LoadAnswer::OutOfMemory)
-    }
-
     /// A copy.
     pub fn copy(&self, alloc: Global) -> Result<LoadAnswer<W>, AllocError>
         ensures { IfOk result (λ answer. load_facts answer ≡ load_facts self.now) }

@@ -1,7 +1,7 @@
 //! What a tree answers of a folder.
 
 ghost use Rattle.std.specs.Prelude.{◌≡◌, IfOk};
-ghost use Rattle.tree_trait.specs.Dir.{dir_facts, is_dir_failed, is_dir_no_memory};
+ghost use Rattle.tree_trait.specs.Dir.{dir_facts};
 
 use crate::entry::Entry;
 use std::alloc::{AllocError, Global};
@@ -25,20 +25,6 @@ pub enum DirAnswer {
 }
 
 impl DirAnswer {
-    /// Whether reading failed.
-    pub fn is_failed(&self) -> bool
-        ensures { result ≡ is_dir_failed (dir_facts self.now) }
-    {
-        matches!(self, DirAnswer::Failed)
-    }
-
-    /// Whether memory was refused.
-    pub fn is_no_memory(&self) -> bool
-        ensures { result ≡ is_dir_no_memory (dir_facts self.now) }
-    {
-        matches!(self, DirAnswer::OutOfMemory)
-    }
-
     /// A copy.
     pub fn copy(&self, alloc: Global) -> Result<DirAnswer, AllocError>
         ensures { IfOk result (λ answer. dir_facts answer ≡ dir_facts self.now) }

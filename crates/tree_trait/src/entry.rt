@@ -19,8 +19,8 @@ pub enum EntryKind {
     Other,
 }
 
-/// An entry of a folder. Its name isn't empty, isn't `.` or `..`, and has no slash. Contracts see it as a
-/// record of its name's bytes and its kind.
+/// An entry of a folder. Its name isn't empty, isn't `.` or `..`, and has no slash. Contracts see
+/// it as a record of its name's bytes and its kind.
 #[derive(Debug, Drop)]
 pub struct Entry {
     /// The last piece of its path.
@@ -45,7 +45,8 @@ impl Entry {
     /// The entry of this name, or the name back. No memory is taken.
     pub fn check(name: String, kind: EntryKind) -> Result<Entry, String>
         ensures ok { IsOk result ↔ IsTrue (is_entry_name (string_bytes name)) }
-        ensures value { IfOk result (λ entry. entry ≡ record { name = string_bytes name; kind = kind }) }
+        ensures value { IfOk result (λ entry.
+            entry ≡ record { name = string_bytes name; kind = kind }) }
         ensures back { IfErr result (λ given. given ≡ name) }
     {
         if is_entry_name(name.as_str()) {

@@ -1,11 +1,12 @@
 //! The entries of a folder, from the paths of all files.
 
-ghost use Rattle.std.specs.Prelude.{◌≡◌, ◌≢◌, ◌∷◌, ◌++◌, [], List, ℕ, Some, None, option_map, map, IfOk, OnOk, MatchOption};
+ghost use Rattle.std.specs.Prelude.{◌≡◌, ◌∷◌, ◌++◌, [], option_map, map, IfOk, OnOk};
 ghost use Rattle.std.specs.List.{list_any};
 ghost use Rattle.row_types.specs.declared.limits.TheConstants.{SEPARATOR};
 ghost use Rattle.tree_trait.specs.Dir.{IsListing};
 ghost use Rattle.tree_trait.specs.Entry.{has_entry};
-ghost use Rattle.tree_trait.specs.Folder.{first_piece, piece_under, with_piece, with_pieces};
+ghost use Rattle.tree_trait.specs.Folder.{IsRest, first_piece, piece_under};
+ghost use Rattle.tree_trait.specs.Folder.{with_piece, with_pieces};
 ghost use Rattle.tree_trait.specs.Found.{name_of};
 ghost use Rattle.tree_trait.specs.Pieces.{piece_facts};
 ghost use Rattle.row_types.specs.Under.{front_under, lies_under};
@@ -48,7 +49,7 @@ fn lies_under(folder: &str, path: &str) -> bool
 
 /// What of a path follows a folder and the slash behind it.
 fn rest_under<'a>(folder: &str, path: &'a str) -> Option<&'a str>
-    ensures { MatchOption result ((rest : List ℕ) → path.now ≢ front_under folder.now ++ rest) (λ rest. path.now ≡ front_under folder.now ++ rest.now) }
+    ensures { IsRest (front_under folder.now) path.now result }
 {
     match path.strip_prefix(parent(folder)) {
         Some(rest) => rest.strip_prefix('/'),
@@ -80,7 +81,8 @@ fn collected<W: Truth>(
     files: &[Found<W>],
     folder: &str,
 ) -> Result<Vec<Entry>, AllocError>
-    ensures { IfOk result (λ entries. entries.items ≡ with_pieces folder.now [] (map name_of files.now)) }
+    ensures { IfOk result (λ entries.
+        entries.items ≡ with_pieces folder.now [] (map name_of files.now)) }
 {
     let mut entries = Vec::new(alloc);
     for file in files {
@@ -96,7 +98,8 @@ fn add_piece(
     alloc: Global,
     piece: Option<Piece<'_>>,
 ) -> Result<(), AllocError>
-    ensures { OnOk result (entries.new.items ≡ with_piece entries.old.items (option_map piece_facts piece.entry)) }
+    ensures { OnOk result (entries.new.items
+        ≡ with_piece entries.old.items (option_map piece_facts piece.entry)) }
 {
     if let Some(piece) = piece {
         if is_entry_name(piece.name) && !has_piece(entries.as_slice(), piece) {

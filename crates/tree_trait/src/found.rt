@@ -2,14 +2,14 @@
 
 ghost use Rattle.std.specs.Prelude.{◌≡◌, vec_len, IfOk};
 ghost use Rattle.std.specs.String.{string_bytes};
-ghost use Rattle.tree_trait.specs.Found.{IsFound};
+ghost use Rattle.tree_trait.specs.Found.{IsFound, found_facts};
 
 use row_types::{Stamp, Truth};
 use std::alloc::{AllocError, Global};
 use std::marker::{Model, PhantomData};
 
-/// A file's path, stamp and bytes, which are a version of the world `W`, and as many as the stamp says.
-/// Contracts see it as a record of the three.
+/// A file's path, stamp and bytes, which are a version of the world `W`, and as many as the stamp
+/// says. Contracts see it as a record of the three.
 #[derive(Drop)]
 pub struct Found<W: Truth> {
     /// The path that was asked.
@@ -23,13 +23,14 @@ pub struct Found<W: Truth> {
 
 impl<W: Truth> Model for Found<W> {
     ghost use Rattle.std.specs.String.{string_bytes};
-    ghost use Rattle.tree_trait.specs.Found.{FoundFacts, IsFound};
+    ghost use Rattle.tree_trait.specs.Found.{FoundFacts, IsFound, found_facts};
 
     ghost Value = { FoundFacts };
 
-    ghost view = { λ f. record { path = string_bytes f.path; stamp = f.stamp; bytes = f.bytes.items } };
+    ghost view = { λ f. found_facts (string_bytes f.path) f.stamp f.bytes.items };
 
-    ghost invariant = { λ f. IsFound W.version (record { path = string_bytes f.path; stamp = f.stamp; bytes = f.bytes.items }) };
+    ghost invariant = { λ f.
+        IsFound W.version (found_facts (string_bytes f.path) f.stamp f.bytes.items) };
 }
 
 impl<W: Truth> Found<W> {
@@ -37,7 +38,7 @@ impl<W: Truth> Found<W> {
     pub fn new(path: String, stamp: Stamp, bytes: Vec<u8>) -> Found<W>
         requires known { W.version (string_bytes path) stamp bytes.items }
         requires sized { stamp.size ≡ vec_len bytes }
-        ensures { result ≡ record { path = string_bytes path; stamp = stamp; bytes = bytes.items } }
+        ensures { result ≡ found_facts (string_bytes path) stamp bytes.items }
     {
         Found {
             path,

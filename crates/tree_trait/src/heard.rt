@@ -1,11 +1,10 @@
 //! What a tree in memory was asked.
 
-ghost use Rattle.std.specs.Prelude.{◌≡◌, false, IfSome, OnSome};
-ghost use Rattle.tree_trait.specs.Dir.{dir_facts, is_dir_no_memory};
-ghost use Rattle.tree_trait.specs.Heard.{load, stat, read_dir};
-ghost use Rattle.tree_trait.specs.HeardCalls.{heard_facts};
-ghost use Rattle.tree_trait.specs.Load.{load_facts, is_no_memory};
-ghost use Rattle.tree_trait.specs.Stat.{is_stat_no_memory};
+ghost use Rattle.std.specs.Prelude.{◌≡◌, IfSome};
+ghost use Rattle.tree_trait.specs.Dir.{dir_facts};
+ghost use Rattle.tree_trait.specs.Heard.{load, stat, read_dir, has_failed};
+ghost use Rattle.tree_trait.specs.HeardCalls.{heard_facts, IsListedAs};
+ghost use Rattle.tree_trait.specs.Load.{load_facts};
 
 use crate::answer::LoadAnswer;
 use crate::dir::DirAnswer;
@@ -41,6 +40,27 @@ pub enum HeardCall<W: Truth> {
     },
 }
 
+impl<W: Truth> HeardCall<W> {
+    /// Whether the call failed.
+    pub fn has_failed(&self) -> bool
+        ensures { result ≡ has_failed (heard_facts self.now) }
+    {
+        matches!(
+            self,
+            HeardCall::Load {
+                answer: LoadAnswer::Failed,
+                ..
+            } | HeardCall::Stat {
+                answer: StatAnswer::Failed,
+                ..
+            } | HeardCall::ReadDir {
+                answer: DirAnswer::Failed,
+                ..
+            }
+        )
+    }
+}
+
 /// The load of a file as it is listed, which it isn't if memory was refused.
 pub fn heard_load<W: Truth>(
     alloc: Global,
@@ -48,10 +68,10 @@ pub fn heard_load<W: Truth>(
     limit: u64,
     answer: &LoadAnswer<W>,
 ) -> Option<HeardCall<W>>
-    ensures value { IfSome result (λ call. heard_facts call ≡ load path.now limit (load_facts answer.now)) }
-    ensures answered { OnSome result (is_no_memory (load_facts answer.now) ≡ false) }
+    ensures { IfSome result (λ call.
+        IsListedAs (load path.now limit (load_facts answer.now)) (heard_facts call)) }
 {
-    if answer.is_no_memory() {
+    if matches!(answer, LoadAnswer::OutOfMemory) {
         return None;
     }
     Some(HeardCall::Load {
@@ -62,16 +82,15 @@ pub fn heard_load<W: Truth>(
 }
 
 /// A look at a path as it is listed, which it isn't if memory was refused.
-pub fn heard_stat<W: Truth>(alloc: Global, path: &str, answer: StatAnswer) -> Option<HeardCall<W>>
-    ensures value { IfSome result (λ call. heard_facts call ≡ stat path.now answer) }
-    ensures answered { OnSome result (is_stat_no_memory answer ≡ false) }
+pub fn heard_stat<W: Truth>(alloc: Global, path: &str, answer: &StatAnswer) -> Option<HeardCall<W>>
+    ensures { IfSome result (λ call. IsListedAs (stat path.now answer.now) (heard_facts call)) }
 {
-    if answer.is_no_memory() {
+    if matches!(answer, StatAnswer::OutOfMemory) {
         return None;
     }
     Some(HeardCall::Stat {
         path: String::from_str(alloc, path).ok()?,
-        answer,
+        answer: *answer,
     })
 }
 
@@ -81,10 +100,10 @@ pub fn heard_read_dir<W: Truth>(
     path: &str,
     answer: &DirAnswer,
 ) -> Option<HeardCall<W>>
-    ensures value { IfSome result (λ call. heard_facts call ≡ read_dir path.now (dir_facts answer.now)) }
-    ensures answered { OnSome result (is_dir_no_memory (dir_facts answer.now) ≡ false) }
+    ensures { IfSome result (λ call.
+        IsListedAs (read_dir path.now (dir_facts answer.now)) (heard_facts call)) }
 {
-    if answer.is_no_memory() {
+    if matches!(answer, DirAnswer::OutOfMemory) {
         return None;
     }
     Some(HeardCall::ReadDir {

@@ -1,5 +1,5 @@
-//! The tree of files that a scan reads: the trait that stands for it, what it answers, and a form in
-//! memory that answers by a script. The real tree stands in the program.
+//! The tree of files that a scan reads: the trait that stands for it, what it answers, and a form
+//! in memory that answers by a script. The real tree stands in the program.
 #![tactic(auto)]
 
 mod answer;

@@ -1,17 +1,16 @@
 //! What is answered of the files of a stage.
 
-ghost use Rattle.std.specs.Prelude.{◌≡◌, ◌<◌, ◌≤◌, [], map, length, slice_index_or, None, MatchOption};
+ghost use Rattle.std.specs.Prelude.{◌≡◌, ◌<◌, ◌≤◌, [], map, length, slice_index_or};
 ghost use Rattle.std.specs.List.{find};
 ghost use Rattle.std.specs.Option.{option_copied};
 ghost use Rattle.std.specs.Str.{bytes_eq};
-ghost use Rattle.tree_trait.specs.Dir.{dir_facts, TellsDir};
+ghost use Rattle.tree_trait.specs.Dir.{dir_facts};
 ghost use Rattle.tree_trait.specs.Found.{name_of};
-ghost use Rattle.tree_trait.specs.Load.{load_facts, FitsLoad, TellsLoad};
-ghost use Rattle.tree_trait.specs.MemTree.{FailsWhere, StatFailsWhere, DirFailsWhere};
-ghost use Rattle.row_types.specs.Name.{stamp_at};
-ghost use Rattle.tree_trait.specs.Present.{IsAt};
+ghost use Rattle.tree_trait.specs.Heard.{load, stat, read_dir};
+ghost use Rattle.tree_trait.specs.Load.{load_facts};
+ghost use Rattle.tree_trait.specs.MemTree.{IsStageAnswer};
+ghost use Rattle.tree_trait.specs.Present.{IsFileAt};
 ghost use Rattle.tree_trait.specs.Script.{is_listed, stage_for};
-ghost use Rattle.tree_trait.specs.Stat.{TellsStat};
 
 use crate::answer::LoadAnswer;
 use crate::dir::DirAnswer;
@@ -58,9 +57,8 @@ pub fn load_in<W: Truth>(
     path: &str,
     limit: u64,
 ) -> LoadAnswer<W>
-    ensures asked { FitsLoad W.version path.now limit (load_facts result) }
-    ensures told { TellsLoad (map name_of files.now) path.now (load_facts result) }
-    ensures fails { FailsWhere bad (load_facts result) }
+    ensures { IsStageAnswer W.version bad (map name_of files.now)
+        (load path.now limit (load_facts result)) }
 {
     if bad {
         return LoadAnswer::Failed;
@@ -77,8 +75,7 @@ pub fn load_in<W: Truth>(
 
 /// What a look at a path answers, among the files of a stage.
 pub fn stat_in<W: Truth>(bad: bool, files: &[Found<W>], path: &str) -> StatAnswer
-    ensures told { TellsStat (map name_of files.now) path.now result }
-    ensures fails { StatFailsWhere bad result }
+    ensures { IsStageAnswer W.version bad (map name_of files.now) (stat path.now result) }
 {
     if bad {
         return StatAnswer::Failed;
@@ -92,8 +89,8 @@ pub fn stat_in<W: Truth>(bad: bool, files: &[Found<W>], path: &str) -> StatAnswe
 
 /// What the reading of a folder answers, among the files of a stage.
 pub fn dir_in<W: Truth>(alloc: Global, bad: bool, files: &[Found<W>], path: &str) -> DirAnswer
-    ensures told { TellsDir (map name_of files.now) path.now (dir_facts result) }
-    ensures fails { DirFailsWhere bad (dir_facts result) }
+    ensures { IsStageAnswer W.version bad (map name_of files.now)
+        (read_dir path.now (dir_facts result)) }
 {
     if bad {
         return DirAnswer::Failed;
@@ -112,7 +109,7 @@ pub fn dir_in<W: Truth>(alloc: Global, bad: bool, files: &[Found<W>], path: &str
 
 /// The file at a path.
 fn file_at<'a, W: Truth>(files: &'a [Found<W>], path: &str) -> Option<&'a Found<W>>
-    ensures { MatchOption result (stamp_at (map name_of files.now) path.now ≡ None) (λ file. IsAt (map name_of files.now) path.now (name_of file.now)) }
+    ensures { IsFileAt files.now path.now result }
 {
     first_at(files, path)
 }

@@ -2,7 +2,8 @@
 
 use row_types::Truth;
 
-/// The world in which `/w/a` is `x` at one time and `yy` at another, and no other file has a content.
+/// The world in which `/w/a` is `x` at one time and `yy` at another, and no other file has a
+/// content.
 #[derive(Clone, Copy, Debug)]
 pub struct TwoWorld;
 

@@ -3,7 +3,7 @@ use Rattle.std.proofs.Common.{All, List, subst}
 use Rattle.std.proofs.lemmas.List.{take_all}
 use Rattle.std.proofs.lemmas.List.Elements.{All-more}
 use Rattle.tree_trait.specs.Found.{FoundFacts, IsFound}
-use Rattle.tree_trait.proofs.mem_tree.know_stages.Goals as goal
+use Rattle.tree_trait.proofs.script.know_stages.Goals as goal
 
 pub loop-stage-preserved : goal.loop-stage-preserved
 loop-stage-preserved g c =
