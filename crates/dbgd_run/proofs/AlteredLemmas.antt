@@ -1,10 +1,12 @@
 -- A scan that ends at a file that was another.
-use Rattle.std.proofs.Common.{◌≡◌, ℕ, Bool, true, false, List, [], ◌∷◌, ◌++◌, refl, sym, subst, Option, Some, None, arith, append_assoc}
+use Rattle.std.proofs.Common.{◌≡◌, ℕ, Bool, true, false, List, [], ◌∷◌, ◌++◌, refl, sym, subst}
+use Rattle.std.proofs.Common.{Option, Some, None, arith, append_assoc}
 use Rattle.std.specs.Prelude.{◌&&◌, if◌then◌else◌}
 use Rattle.std.specs.List.{All, Contains}
 use Rattle.std.specs.Option.{option_or}
 use Rattle.std.specs.Str.{bytes_eq}
-use Rattle.std.proofs.lemmas.List.Elements.{All-head, All-tail, All-contains, Contains-append_right, Contains-push}
+use Rattle.std.proofs.lemmas.List.Elements.{All-head, All-tail, All-contains, Contains-append_right}
+use Rattle.std.proofs.lemmas.List.Elements.{Contains-push}
 use Rattle.std.proofs.lemmas.Slice.Eq.{bytes_eq-Decides}
 use Rattle.row_types.specs.Name.{NameFacts, stamp_at}
 use Rattle.row_types.specs.Row.{RowFacts}
@@ -19,7 +21,8 @@ use Rattle.tree_trait.specs.declared.stat.StatAnswer.TheVariants.{File}
 use Rattle.tree_walk.specs.Answers.{first_look, is_look_answer}
 use Rattle.tree_walk.specs.Walked.{IsWalked}
 use Rattle.dbgd_run.specs.Causes.{HeardOther}
-use Rattle.dbgd_run.specs.Scan.{EndsAltered, FileRead, FindsOther, ReadsFiles, load_of, loads_read, names_read}
+use Rattle.dbgd_run.specs.Scan.{EndsAltered, FileRead, FindsOther, ReadsFiles, load_of, loads_read}
+use Rattle.dbgd_run.specs.Scan.{names_read}
 use Rattle.dbgd_run.specs.Scene.{Setting, TellsStill}
 use Rattle.dbgd_run.proofs.ScanLists.{all_front}
 

@@ -1,5 +1,6 @@
 -- What a status says, by what a run does.
-use Rattle.std.proofs.Common.{◌≡◌, sym, ◌∙◌, refl, subst, inl, inr, ◌⊎◌, ℕ, List, [], Option, Some, None, IsTrue, Result, Ok, Err}
+use Rattle.std.proofs.Common.{◌≡◌, sym, ◌∙◌, refl, subst, inl, inr, ◌⊎◌, ℕ, List, [], Option, Some}
+use Rattle.std.proofs.Common.{None, IsTrue, Result, Ok, Err}
 use Rattle.row_types.specs.Faults.{Rose}
 use Rattle.row_types.specs.declared.limits.TheConstants.{FILE_LIMIT}
 use Rattle.file_formats.specs.Identity.{Identity}
@@ -8,7 +9,8 @@ use Rattle.http_wire.specs.Sink.{GetsAll}
 use Rattle.tree_trait.specs.Heard.{has_failed, load}
 use Rattle.tree_trait.specs.Load.{LoadFacts, loaded, too_large, gone, failed, no_memory}
 use Rattle.tree_walk.specs.declared.fault.WalkFault.TheVariants as stop
-use Rattle.dbgd_run.specs.Causes.{FileStatus, HasStatus, IfScan, IsComplete, IsTurnedAway, IsUnhindered, ScanEnds, ScanStatus}
+use Rattle.dbgd_run.specs.Causes.{FileStatus, HasStatus, IfScan, IsComplete, IsTurnedAway}
+use Rattle.dbgd_run.specs.Causes.{IsUnhindered, ScanEnds, ScanStatus}
 use Rattle.dbgd_run.specs.Endings.{Ends, Saying, Streams}
 use Rattle.dbgd_run.specs.Ident.{SaysFile, SaysIdent}
 use Rattle.dbgd_run.specs.Runs.{Runs}
@@ -18,7 +20,9 @@ use Rattle.dbgd_run.specs.Scene.{Scene, Setting}
 use Rattle.dbgd_run.specs.Section.{SaysNamed, SaysSection}
 use Rattle.dbgd_run.specs.Words.{Line, asks_ident, asks_section, asks_scan, unbuilt, unreadable}
 use Rattle.dbgd_run.specs.declared.scan_end.ScanEnd.{ScanEnd}
-use Rattle.dbgd_run.specs.declared.scan_end.ScanEnd.TheVariants.{Unopened, Filled, Unlisted, Unread, Altered, Unkept, Full, OutOfMemory, Whole}
+use Rattle.dbgd_run.specs.declared.scan_end.ScanEnd.TheVariants.{Unopened, Filled, Unlisted, Unread}
+use Rattle.dbgd_run.specs.declared.scan_end.ScanEnd.TheVariants.{Altered, Unkept, Full, OutOfMemory}
+use Rattle.dbgd_run.specs.declared.scan_end.ScanEnd.TheVariants.{Whole}
 use Rattle.dbgd_run.specs.declared.status.Status.{Status}
 use Rattle.dbgd_run.specs.declared.status.Status.TheVariants as status
 use Rattle.dbgd_run.specs.declared.summary.Summary.{Summary}

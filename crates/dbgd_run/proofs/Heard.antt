@@ -1,5 +1,6 @@
 -- What a hand heard, piece after piece.
-use Rattle.std.proofs.Common.{◌≡◌, false, List, [], ◌∷◌, ◌++◌, refl, sym, ◌∙◌, ap, Option, Some, None, append_assoc}
+use Rattle.std.proofs.Common.{◌≡◌, false, List, [], ◌∷◌, ◌++◌, refl, sym, ◌∙◌, ap, Option, Some}
+use Rattle.std.proofs.Common.{None, append_assoc}
 use Rattle.std.specs.Prelude.{if◌then◌else◌}
 use Rattle.std.proofs.lemmas.List.{append-nil}
 use Rattle.tree_trait.specs.Heard.{Heard, after_asked, wants_memory, with_answers}

@@ -29,3 +29,5 @@ found_is_true version name found reading path stamp small known reads = record {
   where
     at_name : version found.path found.stamp found.bytes → version name.path name.stamp found.bytes
     at_name h = subst (λ (s : StampFacts). version name.path s found.bytes) stamp (subst (λ (p : List ℕ). version p found.stamp found.bytes) path h)
+
+pub ruleset rows_read = (found_is_true, reads_within)

@@ -7,7 +7,8 @@ use Rattle.tree_trait.specs.Heard.{Heard}
 use Rattle.tree_walk.specs.declared.fault.WalkFault.{WalkFault}
 use Rattle.dbgd_run.specs.Scan.{EndsOpen, FileRead}
 use Rattle.dbgd_run.specs.declared.scan_end.ScanEnd.{ScanEnd}
-use Rattle.dbgd_run.specs.declared.scan_end.ScanEnd.TheVariants.{Unlisted, Unread, Altered, Unkept, OutOfMemory, Whole}
+use Rattle.dbgd_run.specs.declared.scan_end.ScanEnd.TheVariants.{Unlisted, Unread, Altered, Unkept}
+use Rattle.dbgd_run.specs.declared.scan_end.ScanEnd.TheVariants.{OutOfMemory, Whole}
 
 -- an end stays one where more is said of what was read and kept
 pub ends_open : (world : Rules) {W V : WalkFault → Type 0} {R Q : List FileRead → List NameFacts → List Heard → Type 0}

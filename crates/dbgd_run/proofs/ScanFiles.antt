@@ -1,5 +1,7 @@
 -- The files of a listing, one after the other.
-use Rattle.std.proofs.Common.{◌≡◌, ℕ, ◌<◌, ◌≤◌, Bool, false, List, [], ◌∷◌, ◌++◌, length, refl, sym, ◌∙◌, ap, subst, Option, Some, None, IsTrue, arith, inl, inr, length-append}
+use Rattle.std.proofs.Common.{◌≡◌, ℕ, ◌<◌, ◌≤◌, Bool, false, List, [], ◌∷◌, ◌++◌, length, refl, sym}
+use Rattle.std.proofs.Common.{◌∙◌, ap, subst, Option, Some, None, IsTrue, arith, inl, inr}
+use Rattle.std.proofs.Common.{length-append}
 use Rattle.std.specs.Prelude.{IfSome, option_map}
 use Rattle.std.specs.List.{All}
 use Rattle.std.proofs.lemmas.List.{length-map}
@@ -22,13 +24,18 @@ use Rattle.tree_trait.specs.Found.{Versions}
 use Rattle.tree_trait.specs.Heard.{after_asked, wants_memory}
 use Rattle.tree_trait.specs.Load.{LoadFacts, loaded, too_large, gone}
 use Rattle.tree_trait.specs.Shown.{ShownTree, StaysStill}
-use Rattle.dbgd_run.specs.Scan.{FileRead, FindsOther, IsFileRead, Reads, load_of, names_read, rows_read}
-use Rattle.dbgd_run.specs.ScanSteps.{DoesNext, EndsListed, HasRead, IsBegun, IsPassOver, KeepsFiles, LoadsFiles}
+use Rattle.dbgd_run.specs.Scan.{FileRead, FindsOther, IsFileRead, Reads, load_of, names_read}
+use Rattle.dbgd_run.specs.Scan.{rows_read}
+use Rattle.dbgd_run.specs.ScanSteps.{DoesNext, EndsListed, HasRead, IsBegun, IsPassOver, KeepsFiles}
+use Rattle.dbgd_run.specs.ScanSteps.{LoadsFiles}
 use Rattle.dbgd_run.specs.declared.scan_end.ScanEnd.{ScanEnd}
-use Rattle.dbgd_run.specs.declared.scan_end.ScanEnd.TheVariants.{Unread, Altered, Unkept, Full, OutOfMemory}
-use Rattle.dbgd_run.proofs.ScanLemmas.{loads_last, loads_none, loads_read_more, loads_unheard, reads_heard, reads_named, rows_before, rows_more}
+use Rattle.dbgd_run.specs.declared.scan_end.ScanEnd.TheVariants.{Unread, Altered, Unkept, Full}
+use Rattle.dbgd_run.specs.declared.scan_end.ScanEnd.TheVariants.{OutOfMemory}
+use Rattle.dbgd_run.proofs.ScanLemmas.{loads_last, loads_none, loads_read_more, loads_unheard}
+use Rattle.dbgd_run.proofs.ScanLemmas.{reads_heard, reads_named, rows_before, rows_more}
 use Rattle.dbgd_run.proofs.ScanLists.{pairs_after, pairs_before, put_last}
-use Rattle.dbgd_run.proofs.ScanState.{TakesFirst, keeps_more, keeps_none, keeps_pass, keeps_wanting, leaves_pass, takes_first, tears_last}
+use Rattle.dbgd_run.proofs.ScanState.{TakesFirst, keeps_more, keeps_none, keeps_pass, keeps_wanting}
+use Rattle.dbgd_run.proofs.ScanState.{leaves_pass, takes_first, tears_last}
 
 -- nothing was read yet
 pub starts : {K : Type 0} {told : Bool} {version : Versions} {shows : K → ShownKeeper} {listing : List NameFacts}
@@ -151,8 +158,16 @@ has_room {listing = listing} {new = new} {name = name} {files = files} {left = l
     let few : length listing ≤ LISTING_LIMIT = out.listed.few in
     let logged : length new.log ≡ length (rows_read files) = out.keeps.log in
     let split : length listing ≡ length (names_read files ++ name ∷ left) = ap length out.loads.listed in
-    omega (arith, few, full, logged, split, length-append (names_read files) (name ∷ left),
-    length-map files (λ (f : FileRead). f.row), length-map files (λ (f : FileRead). f.name))
+    omega (
+      arith,
+      few,
+      full,
+      logged,
+      split,
+      length-append (names_read files) (name ∷ left),
+      length-map files (λ (f : FileRead). f.row),
+      length-map files (λ (f : FileRead). f.name),
+    )
 
 -- the scan stops at the file
 pub stops : {K : Type 0} (world : Rules) {tells told : Bool} {shows : K → ShownKeeper} {listing : List NameFacts}
@@ -258,5 +273,12 @@ smaller {listing = listing} {was = was} {new = new} {name = name} answer {files 
     = fewer_left (reads_on answer does.row goes.out asks does.reads does.next).pass in
     let whole : length listing ≡ length (names_read files ++ left) = ap length had.loads.listed in
     let split : length listing ≡ length (names_read files ++ name ∷ goes.left) = ap length goes.out.loads.listed in
-    omega (arith, first, second, whole, split, length-append (names_read files) left,
-    length-append (names_read files) (name ∷ goes.left))
+    omega (
+      arith,
+      first,
+      second,
+      whole,
+      split,
+      length-append (names_read files) left,
+      length-append (names_read files) (name ∷ goes.left),
+    )

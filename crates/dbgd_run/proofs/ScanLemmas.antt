@@ -1,5 +1,6 @@
 -- Files that were read, one after the other.
-use Rattle.std.proofs.Common.{◌≡◌, ℕ, Bool, false, List, [], ◌∷◌, ◌++◌, refl, sym, ◌∙◌, ap, subst, append_assoc}
+use Rattle.std.proofs.Common.{◌≡◌, ℕ, Bool, false, List, [], ◌∷◌, ◌++◌, refl, sym, ◌∙◌, ap, subst}
+use Rattle.std.proofs.Common.{append_assoc}
 use Rattle.std.specs.List.{All}
 use Rattle.std.proofs.lemmas.List.{append-nil, map-append}
 use Rattle.std.proofs.lemmas.List.Elements.{All-nil, All-cons, All-head, All-tail, All-push}
@@ -11,7 +12,8 @@ use Rattle.tree_trait.specs.Found.{Versions}
 use Rattle.tree_trait.specs.Heard.{Heard, wants_memory, with_answers}
 use Rattle.tree_trait.specs.Load.{LoadFacts, loaded, too_large}
 use Rattle.tree_trait.specs.Shown.{ShownTree, StaysStill}
-use Rattle.dbgd_run.specs.Scan.{FileRead, IsFileRead, Reads, load_of, loads_read, names_read, rows_read}
+use Rattle.dbgd_run.specs.Scan.{FileRead, IsFileRead, Reads, load_of, loads_read, names_read}
+use Rattle.dbgd_run.specs.Scan.{rows_read}
 use Rattle.dbgd_run.specs.ScanSteps.{LoadsFiles}
 use Rattle.dbgd_run.proofs.Heard.{hears_asked, hears_both, hears_nothing}
 

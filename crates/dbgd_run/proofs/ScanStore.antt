@@ -1,5 +1,6 @@
 -- The store of a scan.
-use Rattle.std.proofs.Common.{◌≡◌, ℕ, ◌≤◌, Bool, List, [], ◌++◌, sym, ◌∙◌, ap, subst, inr, IsTrue, arith, append_assoc}
+use Rattle.std.proofs.Common.{◌≡◌, ℕ, ◌≤◌, Bool, List, [], ◌++◌, sym, ◌∙◌, ap, subst, inr, IsTrue}
+use Rattle.std.proofs.Common.{arith, append_assoc}
 use Rattle.std.specs.Prelude.{All, Ok}
 use Rattle.std.proofs.lemmas.List.Elements.{All-append}
 use Rattle.row_types.specs.Faults.{Rose, summed}
@@ -7,7 +8,7 @@ use Rattle.row_types.specs.Name.{NameFacts}
 use Rattle.row_types.specs.Row.{RowFacts}
 use Rattle.index_keeper.specs.Answers.{for_rows}
 use Rattle.index_keeper.specs.Keeper.{Asks, ShownKeeper}
-use Rattle.index_keeper.specs.Store.{HasAll, ShownStore, TakesBack}
+use Rattle.index_keeper.specs.Store.{HasAll, ShownStore, TakesBack, with_path}
 use Rattle.index_keeper.specs.declared.answer.KeptAnswer.{KeptAnswer}
 use Rattle.index_keeper.specs.declared.answer.KeptAnswer.TheVariants as kept
 use Rattle.index_state.specs.Invariant.{IndexInvariant}
@@ -21,11 +22,13 @@ use Rattle.tree_walk.specs.Ends.{Walks}
 use Rattle.tree_walk.specs.Files.{AreFilesUnder}
 use Rattle.tree_walk.specs.declared.walked.Walk.{Walk}
 use Rattle.dbgd_run.specs.Kept.{HasKept, HasTorn, with_puts}
-use Rattle.dbgd_run.specs.Scan.{EndsBy, EndsInWalk, EndsOpen, EndsOver, ReadsFiles, loads_read}
+use Rattle.dbgd_run.specs.Scan.{EndsBy, EndsInWalk, EndsOpen, EndsOver, OpensBy, ReadsFiles}
+use Rattle.dbgd_run.specs.Scan.{loads_read}
 use Rattle.dbgd_run.specs.ScanSteps.{EndsListed, EndsUnlisted, IsNew, KeepsFiles, TearsFiles}
 use Rattle.dbgd_run.specs.Scene.{Setting, TellsStill}
 use Rattle.dbgd_run.specs.declared.scan_end.ScanEnd.{ScanEnd}
-use Rattle.dbgd_run.specs.declared.scan_end.ScanEnd.TheVariants.{Unopened, Filled, Full, OutOfMemory}
+use Rattle.dbgd_run.specs.declared.scan_end.ScanEnd.TheVariants.{Unopened, Filled, Full}
+use Rattle.dbgd_run.specs.declared.scan_end.ScanEnd.TheVariants.{OutOfMemory}
 use Rattle.dbgd_run.proofs.Heard.{hears_both}
 use Rattle.dbgd_run.proofs.ScanEnds.{ends_open}
 use Rattle.dbgd_run.proofs.ScanState.{keeps_none, tables_stand}
@@ -142,3 +145,9 @@ ends_opened s {shows = shows} before after {old = old} end lent ends =
 -- a fault of a keeper is one of its store once it is given back
 pub rose_given : {old mid new keeper given : ℕ} → old ≤ mid → keeper ≡ 0 → Rose keeper given → new ≡ summed mid given → Rose old new
 rose_given later none rose sum = omega arith
+
+-- the store was opened by the path
+pub opens_once : {path : List ℕ} {old new : ShownStore} (end : ScanEnd) → new.paths ≡ with_path path old.paths
+    → OpensBy path old new end
+opens_once OutOfMemory h = inr h
+opens_once _ h = h

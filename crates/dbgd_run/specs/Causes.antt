@@ -18,13 +18,15 @@ use Rattle.dbgd_run.specs.Texts.{summary_line}
 use Rattle.dbgd_run.specs.Words.{Line, asks_ident, asks_section, asks_scan, unbuilt, unreadable}
 use Rattle.dbgd_run.specs.declared.scan_end.ScanEnd.TheVariants.{Whole}
 use Rattle.dbgd_run.specs.declared.status.Status.{Status}
-use Rattle.dbgd_run.specs.declared.status.Status.TheVariants.{Done, Fault, Usage, Absent, Altered, Limit, OutOfMemory, NotBuilt}
+use Rattle.dbgd_run.specs.declared.status.Status.TheVariants.{Done, Fault, Usage, Absent, Altered}
+use Rattle.dbgd_run.specs.declared.status.Status.TheVariants.{Limit, OutOfMemory, NotBuilt}
 use Rattle.dbgd_run.specs.declared.summary.Summary.{Summary}
 
 -- the hand's count of faults rose, or that of the standard output
 abbrev pub HandOrOutRose : Scene → Scene → Type 0
 HandOrOutRose before after =
-    Rose before.hand.faults after.hand.faults ⊎ Rose before.streams.out.write_faults after.streams.out.write_faults
+    Rose before.hand.faults after.hand.faults
+    ⊎ Rose before.streams.out.write_faults after.streams.out.write_faults
 
 -- of a command on one file: no file is altered or meets a limit, no value is no row, and nothing isn't built
 abbrev pub FileStatus : Scene → Scene → Status → Type 0
@@ -55,13 +57,15 @@ pub record HeardGone (s : Setting) (roots : List (List ℕ)) (before after : Sho
   pub still : TellsStill s.tells_files before → HasRootGone before.present roots
 
 -- the hand heard a walk, then loads, and last that a listed file was another; files that never change are none
-pub record HeardOther (s : Setting) (roots : List (List ℕ)) (before after : ShownTree) : Type 0 where
+pub record HeardOther (s : Setting) (roots : List (List ℕ))
+    (before after : ShownTree) : Type 0 where
   pub walked : List Heard
   pub loads : List Heard
   pub name : NameFacts
   pub answer : LoadFacts
   pub met : Seen
-  pub heard : after.heard ≡ with_answers before.heard (walked ++ (loads ++ load_of name answer ∷ []))
+  pub heard :
+      after.heard ≡ with_answers before.heard (walked ++ (loads ++ load_of name answer ∷ []))
   pub listed : IsWalked walked roots name
   pub finds : FindsOther name answer met
   pub still : ¬ TellsStill s.tells_files before
@@ -73,7 +77,8 @@ pub record HeardMany (s : Setting) (roots : List (List ℕ)) (before after : Sho
   pub heard : after.heard ≡ with_answers before.heard answers
   pub many : IsTooMany answers roots ⊎ IsTooManyEntries answers roots
   pub still :
-      TellsStill s.tells_files before → HasManyFiles before.present roots ⊎ HasManyEntries before.present roots
+      TellsStill s.tells_files before
+      → HasManyFiles before.present roots ⊎ HasManyEntries before.present roots
 
 -- of a scan: the words were read, no value is no row, and it isn't built only into a store that holds something
 abbrev pub ScanStatus : Setting → List (List ℕ) → Scene → Scene → Status → Type 0
@@ -122,8 +127,10 @@ IsComplete OutOfMemory = Unit {0}
 IsComplete _ = ⊥
 
 -- a store that holds something is turned away; and a scan that nothing stands against is done, or wants memory
-pub record ScanEnds (s : Setting) (roots : List (List ℕ)) (before after : Scene) (status : Status) : Type 0 where
-  pub filled : IsTrue s.tells_tables → before.store.tables ≢ [] → IsTurnedAway before.store after.store status
+pub record ScanEnds (s : Setting) (roots : List (List ℕ)) (before after : Scene)
+    (status : Status) : Type 0 where
+  pub filled :
+      IsTrue s.tells_tables → before.store.tables ≢ [] → IsTurnedAway before.store after.store status
   pub complete : IsUnhindered s roots before after → IsComplete status
 
 -- the same of a line of words, if it asks for a scan

@@ -4,7 +4,8 @@ use Rattle.http_wire.specs.Sink.{GetsAll, GetsPart}
 use Rattle.http_wire.specs.Stream.{ShownStream}
 use Rattle.dbgd_run.specs.Texts.{line}
 use Rattle.dbgd_run.specs.declared.status.Status.{Status}
-use Rattle.dbgd_run.specs.declared.status.Status.TheVariants.{Fault, Absent, Limit, OutOfMemory, NotBuilt}
+use Rattle.dbgd_run.specs.declared.status.Status.TheVariants.{Fault, Absent, Limit, OutOfMemory}
+use Rattle.dbgd_run.specs.declared.status.Status.TheVariants.{NotBuilt}
 
 -- what is to be written on the standard output and on the standard error, and the status
 pub record Saying : Type 0 where

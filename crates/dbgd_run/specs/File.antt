@@ -11,8 +11,9 @@ use Rattle.dbgd_run.specs.Endings.{Streams}
 use Rattle.dbgd_run.specs.declared.status.Status.{Status}
 
 -- the hand was asked once for the file, up to the largest size that is read, and what is said follows from its answer
-pub record RunsOn (Says : LoadFacts → Streams → Streams → Status → Type 0) (told : Bool) (version : Versions) (path : List ℕ)
-    (before after : ShownTree) (old new : Streams) (status : Status) : Type 0 where
+pub record RunsOn (Says : LoadFacts → Streams → Streams → Status → Type 0) (told : Bool)
+    (version : Versions) (path : List ℕ) (before after : ShownTree) (old new : Streams)
+    (status : Status) : Type 0 where
   pub answer : LoadFacts
   pub asks : Asks told version before after (load path FILE_LIMIT answer)
   pub said : Says answer old new status

@@ -26,8 +26,10 @@ pub record HasKept (told : Bool) (before after : ShownStore) (rows : List RowFac
   pub made : after.made ≡ with_puts before.made rows
 
 -- the store had nothing, these rows were kept, and then this one or not
-pub record HasTorn (told : Bool) (before after : ShownStore) (rows : List RowFacts) (row : RowFacts) : Type 0 where
+pub record HasTorn (told : Bool) (before after : ShownStore) (rows : List RowFacts)
+    (row : RowFacts) : Type 0 where
   pub empty : IsTrue told → before.tables ≡ []
   pub tables :
-      IsTrue told → (after.tables ≡ tables_of rows) ⊎ (after.tables ≡ edited (tables_of rows) (put_row row))
+      IsTrue told
+      → (after.tables ≡ tables_of rows) ⊎ (after.tables ≡ edited (tables_of rows) (put_row row))
   pub made : after.made ≡ with_puts before.made rows

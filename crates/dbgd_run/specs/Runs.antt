@@ -32,11 +32,11 @@ pub record SaysAlone (saying : Saying) (before after : Scene) (status : Status) 
 -- what a line of words does with the first hand, the store and the two sinks, and how it ends
 abbrev pub Runs : Setting → Line → Scene → Scene → Status → Type 0
 Runs s (asks_ident path) before after status =
-    LeavesStore (RunsOn (SaysIdent path) s.tells_files s.world.version path before.hand after.hand
-    before.streams after.streams status) before.store after.store
+    LeavesStore (RunsOn (SaysIdent path) s.tells_files s.world.version path
+    before.hand after.hand before.streams after.streams status) before.store after.store
 Runs s (asks_section path name) before after status =
-    LeavesStore (RunsOn (SaysSection path name) s.tells_files s.world.version path before.hand after.hand
-    before.streams after.streams status) before.store after.store
+    LeavesStore (RunsOn (SaysSection path name) s.tells_files s.world.version path
+    before.hand after.hand before.streams after.streams status) before.store after.store
 Runs s (asks_scan path roots) before after status = RunsScan s path roots before after status
 Runs s unbuilt before after status = SaysAlone not_built_saying before after status
 Runs s unreadable before after status = SaysAlone usage_saying before after status

@@ -1,7 +1,8 @@
 -- The command `scan` (this project's rule): the store is opened, the folders are walked, and the listed files are read
 -- and their rows kept, in path order, up to the first that isn't as it was listed. The store holds what was kept,
 -- however the scan ended.
-use Rattle.std.specs.Prelude.{◌≡◌, ◌≢◌, ◌⊎◌, ℕ, ◌≤◌, true, List, [], ◌∷◌, ◌++◌, map, length, All, IsTrue, Err}
+use Rattle.std.specs.Prelude.{◌≡◌, ◌≢◌, ◌⊎◌, ℕ, ◌≤◌, true, List, [], ◌∷◌, ◌++◌, map, length, All}
+use Rattle.std.specs.Prelude.{IsTrue, Err}
 use Rattle.row_types.specs.Faults.{HasCause, Rose}
 use Rattle.row_types.specs.Name.{NameFacts}
 use Rattle.row_types.specs.Row.{RowFacts, too_large_row}
@@ -28,7 +29,9 @@ use Rattle.dbgd_run.specs.Read.{IsRowOf}
 use Rattle.dbgd_run.specs.ScanSaid.{SaysEnd, is_hand_fault, is_open, is_store_fault}
 use Rattle.dbgd_run.specs.Scene.{LeavesHand, Scene, Setting, TellsStill}
 use Rattle.dbgd_run.specs.declared.scan_end.ScanEnd.{ScanEnd}
-use Rattle.dbgd_run.specs.declared.scan_end.ScanEnd.TheVariants.{Unopened, Filled, Unlisted, Unread, Altered, Unkept, OutOfMemory, Whole}
+use Rattle.dbgd_run.specs.declared.scan_end.ScanEnd.TheVariants.{Unopened, Filled, Unlisted, Unread}
+use Rattle.dbgd_run.specs.declared.scan_end.ScanEnd.TheVariants.{Altered, Unkept, OutOfMemory}
+use Rattle.dbgd_run.specs.declared.scan_end.ScanEnd.TheVariants.{Whole}
 use Rattle.dbgd_run.specs.declared.status.Status.{Status}
 use Rattle.dbgd_run.specs.declared.summary.Summary.{Summary}
 
@@ -82,14 +85,17 @@ pub record ReadsFiles (s : Setting) (roots : List (List ℕ)) (before after : Sh
   pub listed : walk.listing ≡ names_read files ++ left
   pub read : All (IsFileRead s.world.version) files
   pub heard : after.heard ≡ with_answers before.heard (walked ++ (loads_read files ++ last))
-  pub told : TellsStill s.tells_files before → All (IsTold before.present) (walked ++ (loads_read files ++ last))
+  pub told :
+      TellsStill s.tells_files before
+      → All (IsTold before.present) (walked ++ (loads_read files ++ last))
   pub under : TellsStill s.tells_files before → AreFilesUnder before.present roots walk.listing
 
 -- the ends of a scan whose walk was whole. Read says which files were read, which names are left, and what was heard
 -- last; Kept, which rows the store has kept
 
 -- the load of the next file failed
-pub record EndsUnread (Read : List FileRead → List NameFacts → List Heard → Type 0) (Kept : List RowFacts → Type 0) : Type 0 where
+pub record EndsUnread (Read : List FileRead → List NameFacts → List Heard → Type 0)
+    (Kept : List RowFacts → Type 0) : Type 0 where
   pub files : List FileRead
   pub name : NameFacts
   pub left : List NameFacts
@@ -97,8 +103,8 @@ pub record EndsUnread (Read : List FileRead → List NameFacts → List Heard �
   pub keeps : Kept (rows_read files)
 
 -- the next file was another by the time that it was loaded
-pub record EndsAltered (Read : List FileRead → List NameFacts → List Heard → Type 0) (Kept : List RowFacts → Type 0)
-    (name : NameFacts) (met : Seen) : Type 0 where
+pub record EndsAltered (Read : List FileRead → List NameFacts → List Heard → Type 0)
+    (Kept : List RowFacts → Type 0) (name : NameFacts) (met : Seen) : Type 0 where
   pub files : List FileRead
   pub answer : LoadFacts
   pub left : List NameFacts
@@ -107,7 +113,8 @@ pub record EndsAltered (Read : List FileRead → List NameFacts → List Heard �
   pub keeps : Kept (rows_read files)
 
 -- the next file was read, and the store failed to keep its row
-pub record EndsUnkept (version : Versions) (Read : List FileRead → List NameFacts → List Heard → Type 0)
+pub record EndsUnkept (version : Versions)
+    (Read : List FileRead → List NameFacts → List Heard → Type 0)
     (Torn : List RowFacts → RowFacts → Type 0) : Type 0 where
   pub files : List FileRead
   pub last : FileRead
@@ -117,7 +124,8 @@ pub record EndsUnkept (version : Versions) (Read : List FileRead → List NameFa
   pub tears : Torn (rows_read files) last.row
 
 -- memory was refused before the next file was loaded, or for the row of the file that was read last
-pub record EndsWanting (version : Versions) (Read : List FileRead → List NameFacts → List Heard → Type 0)
+pub record EndsWanting (version : Versions)
+    (Read : List FileRead → List NameFacts → List Heard → Type 0)
     (Kept : List RowFacts → Type 0) : Type 0 where
   pub files : List FileRead
   pub last : List FileRead
@@ -141,7 +149,8 @@ pub record EndsScanned (world : Rules) (Read : List FileRead → List NameFacts 
 
 -- how the scan of an open store came to its end; Walk says it of a walk that ended with a fault. A log that was empty has
 -- room for a whole listing
-abbrev pub EndsOpen : Rules → (WalkFault → Type 0) → (List FileRead → List NameFacts → List Heard → Type 0)
+abbrev pub EndsOpen : Rules → (WalkFault → Type 0)
+    → (List FileRead → List NameFacts → List Heard → Type 0)
     → (List RowFacts → Type 0) → (List RowFacts → RowFacts → Type 0) → ScanEnd → Type 0
 EndsOpen world Walk Read Kept Torn (Unlisted fault) = Walk fault
 EndsOpen world Walk Read Kept Torn Unread = EndsUnread Read Kept
@@ -152,8 +161,8 @@ EndsOpen world Walk Read Kept Torn (Whole summary) = EndsScanned world Read Kept
 EndsOpen world Walk Read Kept Torn _ = ⊥
 
 -- the walk ended with a fault, which files that never change explain, and nothing was kept
-pub record EndsInWalk (s : Setting) (roots : List (List ℕ)) (before after : ShownTree) (old new : ShownStore)
-    (fault : WalkFault) : Type 0 where
+pub record EndsInWalk (s : Setting) (roots : List (List ℕ)) (before after : ShownTree)
+    (old new : ShownStore) (fault : WalkFault) : Type 0 where
   pub walks : Walks s.tells_files before after roots (Err fault)
   pub fits : TellsStill s.tells_files before → FitsFault before.present roots fault
   pub keeps : HasKept s.tells_tables old new []
@@ -169,13 +178,15 @@ pub record EndsFilled (s : Setting) (before after : ShownTree) (old new : ShownS
   pub filled : IsTrue s.tells_tables → old.tables ≢ []
 
 -- how the scan of an open store came to its end, and what it left
-abbrev pub EndsOver : Setting → List (List ℕ) → ShownTree → ShownTree → ShownStore → ShownStore → ScanEnd → Type 0
+abbrev pub EndsOver : Setting → List (List ℕ) → ShownTree → ShownTree → ShownStore → ShownStore
+    → ScanEnd → Type 0
 EndsOver s roots before after old new end =
     EndsOpen s.world (EndsInWalk s roots before after old new) (ReadsFiles s roots before after)
     (HasKept s.tells_tables old new) (HasTorn s.tells_tables old new) end
 
 -- how the scan came to its end, and what it left
-abbrev pub EndsBy : Setting → List (List ℕ) → ShownTree → ShownTree → ShownStore → ShownStore → ScanEnd → Type 0
+abbrev pub EndsBy : Setting → List (List ℕ) → ShownTree → ShownTree → ShownStore → ShownStore
+    → ScanEnd → Type 0
 EndsBy s roots before after old new Unopened = EndsEarly s before after old new
 EndsBy s roots before after old new Filled = EndsFilled s before after old new
 EndsBy s roots before after old new OutOfMemory =
@@ -188,8 +199,8 @@ OpensBy path old new OutOfMemory = (new.paths ≡ old.paths) ⊎ (new.paths ≡ 
 OpensBy path old new _ = new.paths ≡ with_path path old.paths
 
 -- the scan came to this end, by then the store was opened, and a call failed only where a count rose
-pub record Scans (s : Setting) (path : List ℕ) (roots : List (List ℕ)) (before after : ShownTree) (old new : ShownStore)
-    (end : ScanEnd) : Type 0 where
+pub record Scans (s : Setting) (path : List ℕ) (roots : List (List ℕ))
+    (before after : ShownTree) (old new : ShownStore) (end : ScanEnd) : Type 0 where
   pub ends : EndsBy s roots before after old new end
   pub hand : HasCause before.faults after.faults (IsTrue (is_hand_fault end))
   pub store : HasCause old.faults new.faults (IsTrue (is_store_fault end))
@@ -198,7 +209,8 @@ pub record Scans (s : Setting) (path : List ℕ) (roots : List (List ℕ)) (befo
   pub opens : OpensBy path old new end
 
 -- the scan came to an end, and it was said
-pub record RunsScan (s : Setting) (path : List ℕ) (roots : List (List ℕ)) (before after : Scene) (status : Status) : Type 0 where
+pub record RunsScan (s : Setting) (path : List ℕ) (roots : List (List ℕ))
+    (before after : Scene) (status : Status) : Type 0 where
   pub end : ScanEnd
   pub scans : Scans s path roots before.hand after.hand before.store after.store end
   pub said : SaysEnd end before.streams after.streams status

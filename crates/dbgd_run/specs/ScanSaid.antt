@@ -2,10 +2,14 @@
 use Rattle.std.specs.Prelude.{◌⊎◌, Bool, true, false, codes}
 use Rattle.tree_walk.specs.declared.fault.WalkFault.{WalkFault}
 use Rattle.tree_walk.specs.declared.fault.WalkFault.TheVariants as stop
-use Rattle.dbgd_run.specs.Endings.{Ends, EndsWhole, Saying, Streams, WantsMemory, error_saying, fault_saying, gone_saying, limit_saying, no_memory_saying, not_built_saying, out_saying}
+use Rattle.dbgd_run.specs.Endings.{Ends, EndsWhole, Saying, Streams, WantsMemory, error_saying}
+use Rattle.dbgd_run.specs.Endings.{fault_saying, gone_saying, limit_saying, no_memory_saying}
+use Rattle.dbgd_run.specs.Endings.{not_built_saying, out_saying}
 use Rattle.dbgd_run.specs.Texts.{altered_text, summary_line}
 use Rattle.dbgd_run.specs.declared.scan_end.ScanEnd.{ScanEnd}
-use Rattle.dbgd_run.specs.declared.scan_end.ScanEnd.TheVariants.{Unopened, Filled, Unlisted, Unread, Altered, Unkept, Full, OutOfMemory, Whole}
+use Rattle.dbgd_run.specs.declared.scan_end.ScanEnd.TheVariants.{Unopened, Filled, Unlisted, Unread}
+use Rattle.dbgd_run.specs.declared.scan_end.ScanEnd.TheVariants.{Altered, Unkept, Full, OutOfMemory}
+use Rattle.dbgd_run.specs.declared.scan_end.ScanEnd.TheVariants.{Whole}
 use Rattle.dbgd_run.specs.declared.status.Status.{Status}
 use Rattle.dbgd_run.specs.declared.status.Status.TheVariants as status
 
@@ -49,6 +53,8 @@ scan_saying (Whole summary) = out_saying (summary_line summary) status.Done
 
 -- the end was said; or, where its line is made, want of memory
 abbrev pub SaysEnd : ScanEnd → Streams → Streams → Status → Type 0
-SaysEnd (Altered name met) old new end = EndsWhole (scan_saying (Altered name met)) old new end ⊎ WantsMemory old new end
-SaysEnd (Whole summary) old new end = Ends (scan_saying (Whole summary)) old new end ⊎ WantsMemory old new end
+SaysEnd (Altered name met) old new end =
+    EndsWhole (scan_saying (Altered name met)) old new end ⊎ WantsMemory old new end
+SaysEnd (Whole summary) old new end =
+    Ends (scan_saying (Whole summary)) old new end ⊎ WantsMemory old new end
 SaysEnd how old new end = EndsWhole (scan_saying how) old new end

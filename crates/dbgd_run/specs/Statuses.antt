@@ -1,7 +1,8 @@
 -- The program's exit statuses (this project's rule).
 use Rattle.std.specs.Prelude.{◌≡◌, ℕ}
 use Rattle.dbgd_run.specs.declared.status.Status.{Status}
-use Rattle.dbgd_run.specs.declared.status.Status.TheVariants.{Done, Fault, Usage, Absent, Altered, Limit, OutOfMemory, BadRow, NotBuilt}
+use Rattle.dbgd_run.specs.declared.status.Status.TheVariants.{Done, Fault, Usage, Absent, Altered}
+use Rattle.dbgd_run.specs.declared.status.Status.TheVariants.{Limit, OutOfMemory, BadRow, NotBuilt}
 
 -- the number with which the program ends
 abbrev pub code_of : Status → ℕ

@@ -1,10 +1,12 @@
 -- The program's texts (this project's rule).
-use Rattle.std.specs.Prelude.{ℕ, ◌-◌, List, [], ◌∷◌, ◌++◌, Bool, true, false, codes, length, replicate, decimal}
+use Rattle.std.specs.Prelude.{ℕ, ◌-◌, List, [], ◌∷◌, ◌++◌, Bool, true, false, codes, length}
+use Rattle.std.specs.Prelude.{replicate, decimal}
 use Rattle.std.specs.Fmt.{signed_decimal}
 use Rattle.hex.specs.Hex.{encode_lower}
 use Rattle.file_formats.specs.Identity.{Identity}
 use Rattle.file_formats.specs.declared.fault.Why.{Why}
-use Rattle.file_formats.specs.declared.fault.Why.TheVariants.{NotElf, BadElf, NoSections, Core, NoBuildId, TooLarge}
+use Rattle.file_formats.specs.declared.fault.Why.TheVariants.{NotElf, BadElf, NoSections, Core}
+use Rattle.file_formats.specs.declared.fault.Why.TheVariants.{NoBuildId, TooLarge}
 use Rattle.row_types.specs.Name.{NameFacts}
 use Rattle.row_types.specs.Stamp.{StampFacts}
 use Rattle.scan_queue.specs.declared.miss.Seen.{Seen}
@@ -51,7 +53,9 @@ nine_digits n = replicate (9 - length (decimal n)) 48 ++ decimal n
 
 -- a stamp: size, seconds, and nanoseconds in nine digits
 abbrev pub stamp_text : StampFacts → List ℕ
-stamp_text stamp = decimal stamp.size ++ codes ":" ++ signed_decimal stamp.secs ++ codes ":" ++ nine_digits stamp.nanos
+stamp_text stamp =
+    decimal stamp.size ++ codes ":" ++ signed_decimal stamp.secs ++ codes ":"
+    ++ nine_digits stamp.nanos
 
 -- what stood at a path: a file by its stamp
 abbrev pub seen_text : Seen → List ℕ
@@ -62,7 +66,8 @@ seen_text Other = codes "other"
 -- a listed file was another by the time that it was read
 abbrev pub altered_text : NameFacts → Seen → List ℕ
 altered_text name seen =
-    codes "dbgd: altered " ++ name.path ++ codes " listed " ++ stamp_text name.stamp ++ codes " seen " ++ seen_text seen
+    codes "dbgd: altered " ++ name.path ++ codes " listed " ++ stamp_text name.stamp
+    ++ codes " seen " ++ seen_text seen
 
 -- the line of a scan
 abbrev pub summary_line : Summary → List ℕ

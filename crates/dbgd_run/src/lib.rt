@@ -1,5 +1,5 @@
-//! The commands of `dbgd`: what each reads, writes and ends with, over objects of the outside that are
-//! handed in. Real files and streams stand in the program's own crate.
+//! The commands of `dbgd`: what each reads, writes and ends with, over objects of the outside that
+//! are handed in. Real files and streams stand in the program's own crate.
 #![tactic(auto)]
 
 mod elf_truth;

@@ -93,7 +93,8 @@ pub fn run_local<W: ElfTruth, T: Tree<W>, S: Store<W>, O: Sink>(
     requires { 0 < vec_len outside.old.hands }
     ensures some { IsSome result }
     ensures run { (d : T) → IfSome result (IsRun
-        (setting (rules W.version W.true_row W.told) T.told S.K.told) (line_of (map string_bytes words.now))
+        (setting (rules W.version W.true_row W.told) T.told S.K.told)
+        (line_of (map string_bytes words.now))
         (scene (T.shows (slice_index_or outside.old.hands.items 0 d)) (S.shows outside.old.store)
         (streams O.shows outside.old.out outside.old.err))
         (scene (T.shows (slice_index_or outside.new.hands.items 0 d)) (S.shows outside.new.store)
@@ -113,7 +114,8 @@ pub fn run<W: ElfTruth, T: Tree<W>, S: Store<W>, O: Sink>(
 ) -> u8
     requires { 0 < vec_len outside.old.hands }
     ensures run { (d : T) → IsRun
-        (setting (rules W.version W.true_row W.told) T.told S.K.told) (line_of (map string_bytes words.now))
+        (setting (rules W.version W.true_row W.told) T.told S.K.told)
+        (line_of (map string_bytes words.now))
         (scene (T.shows (slice_index_or outside.old.hands.items 0 d)) (S.shows outside.old.store)
         (streams O.shows outside.old.out outside.old.err))
         (scene (T.shows (slice_index_or outside.new.hands.items 0 d)) (S.shows outside.new.store)

@@ -1,6 +1,6 @@
 //! A scan of what a walk listed.
 
-ghost use Rattle.std.specs.Prelude.{◌≡◌, [], Some, IsTrue};
+ghost use Rattle.std.specs.Prelude.{◌≡◌, [], false, Some, IsTrue};
 ghost use Rattle.row_types.specs.Faults.{HasCause};
 ghost use Rattle.row_types.specs.Rules.{rules};
 ghost use Rattle.tree_trait.specs.Asks.{Asks};
@@ -11,7 +11,8 @@ ghost use Rattle.index_state.specs.State.{pass_of};
 ghost use Rattle.index_state.specs.Step.{IsAwaited};
 ghost use Rattle.dbgd_run.specs.Scan.{load_of};
 ghost use Rattle.dbgd_run.specs.ScanSaid.{is_hand_fault, is_store_fault};
-ghost use Rattle.dbgd_run.specs.ScanSteps.{DoesNext, EndsListed, FilesEnd, IsBegun, IsNew, KeepsNext};
+ghost use Rattle.dbgd_run.specs.ScanSteps.{DoesNext, EndsListed, FilesEnd, IsBegun, IsNew};
+ghost use Rattle.dbgd_run.specs.ScanSteps.{KeepsNext};
 
 use crate::elf_truth::ElfTruth;
 use crate::listed::load_row;
@@ -37,7 +38,8 @@ fn keep_row<W: ElfTruth, K: Keeper<W>>(
     row: TrueRow<W>,
     state: &mut State<W, K>,
 ) -> Option<ScanEnd>
-    requires { IsAwaited row.name state.old }
+    requires awaited { IsAwaited row.name state.old }
+    requires sound { state.old.broken ≡ false }
     ensures { KeepsNext K.told K.shows row state.old state.new result }
 {
     match state.publish(alloc, row) {
@@ -56,7 +58,8 @@ fn read_file<W: ElfTruth, T: Tree<W>, K: Keeper<W>>(
     state: &mut State<W, K>,
     hand: &mut T,
 ) -> Option<ScanEnd>
-    requires { IsAwaited name state.old }
+    requires awaited { IsAwaited name state.old }
+    requires sound { state.old.broken ≡ false }
     ensures next { (answer : LoadFacts)
         × Asks T.told W.version (T.shows hand.old) (T.shows hand.new) (load_of name answer)
         × DoesNext K.told K.shows name answer state.old state.new result }
@@ -75,7 +78,8 @@ fn read_files<W: ElfTruth, T: Tree<W>, K: Keeper<W>>(
 ) -> Option<ScanEnd>
     requires { IsBegun (pass_of state.old.pass).listing state.old }
     ensures ends { FilesEnd (rules W.version W.true_row W.told) T.told K.told K.shows
-        (pass_of state.old.pass).listing (T.shows hand.old) (T.shows hand.new) state.old state.new result }
+        (pass_of state.old.pass).listing (T.shows hand.old) (T.shows hand.new)
+        state.old state.new result }
     ensures hand { HasCause (T.shows hand.old).faults (T.shows hand.new).faults
         (result ≡ Some ScanEnd.Unread) }
     ensures keeper { HasCause (K.shows state.old.keeper).faults (K.shows state.new.keeper).faults
@@ -100,7 +104,8 @@ fn read_pass<W: ElfTruth, T: Tree<W>, K: Keeper<W>>(
     requires begun { IsBegun (pass_of state.old.pass).listing state.old }
     requires planned { plan.now ≡ plan_of (pass_of state.old.pass).listing [] }
     ensures ends { EndsListed (rules W.version W.true_row W.told) T.told K.told K.shows
-        (pass_of state.old.pass).listing (T.shows hand.old) (T.shows hand.new) state.old state.new result }
+        (pass_of state.old.pass).listing (T.shows hand.old) (T.shows hand.new)
+        state.old state.new result }
     ensures hand { HasCause (T.shows hand.old).faults (T.shows hand.new).faults
         (IsTrue (is_hand_fault result)) }
     ensures keeper { HasCause (K.shows state.old.keeper).faults (K.shows state.new.keeper).faults

@@ -37,7 +37,8 @@ fn scan_roots<W: ElfTruth, T: Tree<W>, K: Keeper<W>>(
         (EndsUnlisted T.told roots.items (T.shows hand.old) (T.shows hand.new) state.old state.new)
         (ReadsFiles (setting (rules W.version W.true_row W.told) T.told K.told) roots.items
         (T.shows hand.old) (T.shows hand.new))
-        (KeepsFiles K.shows state.old state.new) (TearsFiles K.told K.shows state.old state.new) result }
+        (KeepsFiles K.shows state.old state.new)
+        (TearsFiles K.told K.shows state.old state.new) result }
     ensures hand { HasCause (T.shows hand.old).faults (T.shows hand.new).faults
         (IsTrue (is_hand_fault result)) }
     ensures keeper { HasCause (K.shows state.old.keeper).faults (K.shows state.new.keeper).faults
@@ -117,7 +118,8 @@ pub fn run_scan<W: ElfTruth, T: Tree<W>, S: Store<W>, O: Sink>(
     out: &mut O,
     err: &mut O,
 ) -> Status
-    ensures { RunsScan (setting (rules W.version W.true_row W.told) T.told S.K.told) path.now roots.now
+    ensures { RunsScan (setting (rules W.version W.true_row W.told) T.told S.K.told)
+        path.now roots.now
         (scene (T.shows hand.old) (S.shows store.old) (streams O.shows out.old err.old))
         (scene (T.shows hand.new) (S.shows store.new) (streams O.shows out.new err.new)) result }
 {

@@ -11,7 +11,7 @@ use crate::status::Status;
 use http_wire::{Sink, WriteFault, write_all};
 
 /// Writes two pieces, one after the other.
-#[tactic(auto, using(http_wire::proofs::Pieces::gets_both, http_wire::proofs::Pieces::gets_then_part))]
+#[tactic(auto, using(http_wire::proofs::Pieces::in_a_row))]
 fn write_both<S: Sink>(sink: &mut S, first: &[u8], second: &[u8]) -> Result<(), WriteFault>
     ensures { MatchResult result
         (λ _. GetsAll (first.now ++ second.now) (S.shows sink.old) (S.shows sink.new))
@@ -22,7 +22,7 @@ fn write_both<S: Sink>(sink: &mut S, first: &[u8], second: &[u8]) -> Result<(), 
 }
 
 /// Writes a line of two pieces.
-#[tactic(auto, using(http_wire::proofs::Pieces::gets_both, http_wire::proofs::Pieces::gets_then_part))]
+#[tactic(auto, using(http_wire::proofs::Pieces::in_a_row))]
 fn write_line<S: Sink>(sink: &mut S, text: &str, object: &str) -> Result<(), WriteFault>
     ensures { MatchResult result
         (λ _. GetsAll (line (text.now ++ object.now)) (S.shows sink.old) (S.shows sink.new))
@@ -40,7 +40,7 @@ fn tell<S: Sink>(sink: &mut S, text: &str, object: &str)
 }
 
 /// Says bytes on the standard output; where it fails, that is said on the standard error.
-#[tactic(auto, using(http_wire::proofs::Pieces::gets_none))]
+#[tactic(auto, using(http_wire::proofs::Pieces::in_a_row))]
 pub fn say<O: Sink>(bytes: &[u8], status: Status, out: &mut O, err: &mut O) -> Status
     ensures { Ends (out_saying bytes.now status)
         (streams O.shows out.old err.old) (streams O.shows out.new err.new) result }
@@ -55,7 +55,7 @@ pub fn say<O: Sink>(bytes: &[u8], status: Status, out: &mut O, err: &mut O) -> S
 }
 
 /// Says a line on the standard error: a text and what it speaks of.
-#[tactic(auto, using(http_wire::proofs::Pieces::gets_none))]
+#[tactic(auto, using(http_wire::proofs::Pieces::in_a_row))]
 pub fn say_error<O: Sink>(
     text: &str,
     object: &str,

@@ -1,15 +1,13 @@
 -- Pieces that are written in a row.
-use Rattle.std.proofs.Common.{◌≡◌, ℕ, ◌<◌, ◌≤◌, ◌+◌, List, [], ◌++◌, length, take, drop, arith, refl, sym, ◌∙◌, ap, Option, Some, None}
+use Rattle.std.proofs.Common.{◌≡◌, ℕ, ◌≤◌, ◌+◌, List, [], ◌++◌, length, take, drop, arith, refl, sym, ◌∙◌, ap, Option, Some, None}
 use Rattle.std.specs.Prelude.{is_some}
 use Rattle.std.specs.Option.{option_map}
 use Rattle.std.proofs.Common.{append_assoc, length-append, length-drop}
 use Rattle.std.proofs.Math.Seq.{take-add, take-append-add}
 use Rattle.std.proofs.lemmas.List.{append-nil}
-use Rattle.row_types.specs.Faults.{Rose}
 use Rattle.http_wire.specs.Sink.{Appends, GetsAll, GetsPart, Writes}
 use Rattle.http_wire.specs.Stream.{LeavesReading, ShownStream}
-use Rattle.http_wire.specs.declared.sink.WriteAnswer.{WriteAnswer}
-use Rattle.http_wire.specs.declared.sink.WriteAnswer.TheVariants.{Took, Failed}
+use Rattle.http_wire.specs.declared.sink.WriteAnswer.TheVariants.{Took}
 
 -- two pieces in a row
 appends-append : (old mid new : Option (List ℕ)) (a b : List ℕ) → Appends old a mid → Appends mid b new → Appends old (a ++ b) new
@@ -62,3 +60,5 @@ gets_none shown = record { appends = λ told. nothing shown.written; later = ome
     nothing : (written : Option (List ℕ)) → written ≡ option_map (λ w. w ++ []) written
     nothing None = refl
     nothing (Some bytes) = ap Some (sym (append-nil bytes))
+
+pub ruleset in_a_row = (gets_both, gets_then_part, gets_none)

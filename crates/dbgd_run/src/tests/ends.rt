@@ -15,8 +15,16 @@ fn says(rt: &impl Abort, alloc: Global, end: &ScanEnd, line: &str, status: u8) -
     let mut out = MemSink::new(alloc, Vec::new(alloc));
     let mut err = MemSink::new(alloc, Vec::new(alloc));
     let said = say_end(alloc, end, &mut out, &mut err).code();
-    assert_eq!(rt; out.written().ok_or("told")?, b"".as_slice(), "out of {line:?}");
-    assert_eq!(rt; err.written().ok_or("told")?, line.as_bytes(), "err of {line:?}");
+    assert_eq!(rt;
+        out.written().ok_or("told")?,
+        b"".as_slice(),
+        "out of {line:?}"
+    );
+    assert_eq!(rt;
+        err.written().ok_or("told")?,
+        line.as_bytes(),
+        "err of {line:?}"
+    );
     assert_eq!(rt; said, status, "status of {line:?}");
     Ok(())
 }
@@ -25,7 +33,10 @@ fn says(rt: &impl Abort, alloc: Global, end: &ScanEnd, line: &str, status: u8) -
 fn each_limit_has_its_line(rt: HostRuntime) -> Result<(), Fail> {
     for (end, line) in [
         (ScanEnd::Unlisted(WalkFault::TooMany), "dbgd: limit files\n"),
-        (ScanEnd::Unlisted(WalkFault::TooManyEntries), "dbgd: limit entries\n"),
+        (
+            ScanEnd::Unlisted(WalkFault::TooManyEntries),
+            "dbgd: limit entries\n",
+        ),
         (ScanEnd::Full, "dbgd: limit changes\n"),
     ] {
         says(&rt, rt.alloc(), &end, line, 5)?;
@@ -42,8 +53,14 @@ const LARGEST: Stamp = Stamp {
 
 /// What stood in the place of a file, and how it is said.
 const SEEN: [(Seen, &str); 3] = [
-    (Seen::Gone, "dbgd: altered /srv/a listed 0:-2:999999999 seen gone\n"),
-    (Seen::Other, "dbgd: altered /srv/a listed 0:-2:999999999 seen other\n"),
+    (
+        Seen::Gone,
+        "dbgd: altered /srv/a listed 0:-2:999999999 seen gone\n",
+    ),
+    (
+        Seen::Other,
+        "dbgd: altered /srv/a listed 0:-2:999999999 seen other\n",
+    ),
     (
         Seen::File(LARGEST),
         "dbgd: altered /srv/a listed 0:-2:999999999 seen 18446744073709551615:0:000000007\n",

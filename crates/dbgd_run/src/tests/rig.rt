@@ -57,7 +57,8 @@ impl Stream for Narrow {
 
 impl Sink for Narrow {
     fn write(&mut self, bytes: &[u8]) -> WriteAnswer {
-        self.sink.write(&bytes[..bytes.len().min(self.width.max(1))])
+        self.sink
+            .write(&bytes[..bytes.len().min(self.width.max(1))])
     }
 }
 

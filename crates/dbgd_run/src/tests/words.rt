@@ -61,7 +61,13 @@ fn each_says(
             err,
             status,
         };
-        run_all(rt, alloc, one_file(alloc, File::Empty, &[])?, &SOUND, &[case])?;
+        run_all(
+            rt,
+            alloc,
+            one_file(alloc, File::Empty, &[])?,
+            &SOUND,
+            &[case],
+        )?;
     }
     Ok(())
 }
