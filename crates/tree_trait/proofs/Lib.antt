@@ -1,3 +1,4 @@
 pub mod FolderLemmas
+pub mod HandLemmas
 pub mod NameLemmas
 pub mod TreeLemmas

@@ -1,5 +1,5 @@
 -- The first answers, with one more answer.
-use Rattle.std.proofs.Common.{◌≡◌, ℕ, ◌+◌, ◌<◌, ◌&&◌, Bool, true, false, not, cond, List, [], ◌∷◌, ◌++◌, Option, Some, None, is_some, IsSome, Contains, refl, sym, ◌∙◌, ap, subst, arith, add-zero}
+use Rattle.std.proofs.Common.{◌≡◌, ℕ, ◌+◌, ◌<◌, ◌&&◌, Bool, true, false, cond, List, [], ◌∷◌, ◌++◌, Option, Some, None, is_some, IsSome, Contains, refl, sym, ◌∙◌, ap, subst, arith, add-zero}
 use Rattle.std.specs.Prelude.{if◌then◌else◌}
 use Rattle.std.specs.List.{list_all}
 use Rattle.std.specs.Option.{option_or}
@@ -13,7 +13,7 @@ use Rattle.tree_trait.specs.Dir.{DirFacts}
 use Rattle.tree_trait.specs.Entry.{EntryFacts, has_entry}
 use Rattle.tree_trait.specs.Heard.{Heard, load, stat, read_dir}
 use Rattle.tree_trait.specs.declared.stat.StatAnswer.{StatAnswer}
-use Rattle.tree_walk.specs.Answers.{is_look_answer, is_dir_answer, look_at, reading_of, first_some, first_look, first_reading, entries_of, entries_in, reads, times_read, has_failed}
+use Rattle.tree_walk.specs.Answers.{is_look_answer, is_dir_answer, look_at, reading_of, first_some, first_look, first_reading, entries_of, entries_in, reads, times_read, is_answered}
 use Rattle.tree_walk.proofs.SetLemmas.{same, same-Decides}
 
 -- one, where a test passes
@@ -135,26 +135,21 @@ unread (x ∷ answers) p h =
       | false ↦ λ e z. ap (λ (o : Option DirFacts). option_or o (first_reading answers p)) (no_reading p x e) ∙ unread answers p (omega (arith, z))
     ] refl (sym (sum_by-cons (λ (y : Heard). one_if (reads p y)) x answers) ∙ h)
 
--- a folder that was asked has one, where no call failed
-undone : (b : Bool) → not (not b) ≡ true → b ≡ true
-undone true h = refl
-undone false h = h
-
-reading_there : (p : List ℕ) (h : Heard) → reads p h ≡ true → not (has_failed h) ≡ true → IsSome (reading_of p h)
-reading_there p (load asked limit answer) e ok = absurd (false≢true e)
-reading_there p (stat asked answer) e ok = absurd (false≢true e)
+-- a folder that was asked has one, where each call was answered
+reading_there : (p : List ℕ) (h : Heard) → reads p h ≡ true → is_answered h ≡ true → IsSome (reading_of p h)
 reading_there p (read_dir asked answer) e ok =
-    ap (λ (b : Bool). is_some (if b then Some answer else None)) (and_from (bytes_eq asked p) (is_dir_answer answer) e (undone (is_dir_answer answer) ok))
+    ap (λ (b : Bool). is_some (if b then Some answer else None)) (and_from (bytes_eq asked p) (is_dir_answer answer) e ok)
+reading_there p _ e ok = absurd (false≢true e)
 
-pub was_read : (answers : List Heard) (p : List ℕ) → list_all (λ h. not (has_failed h)) answers ≡ true → 0 < times_read answers p → IsSome (first_reading answers p)
+pub was_read : (answers : List Heard) (p : List ℕ) → list_all is_answered answers ≡ true → 0 < times_read answers p → IsSome (first_reading answers p)
 was_read [] p h some = absurd (omega (arith, some))
 was_read (x ∷ answers) p h some =
     elim (reads p x) as (λ v. reads p x ≡ v → IsSome (first_reading (x ∷ answers) p)) [
-      | true ↦ λ e. some_or (reading_of p x) (first_reading answers p) (reading_there p x e (and_parts (not (has_failed x)) _ h).0)
+      | true ↦ λ e. some_or (reading_of p x) (first_reading answers p) (reading_there p x e (and_parts (is_answered x) _ h).0)
       | false ↦ λ e.
           let all : times_read (x ∷ answers) p ≡ one_if (reads p x) + times_read answers p = sum_by-cons (λ (y : Heard). one_if (reads p y)) x answers in
           let none : one_if (reads p x) ≡ 0 = ap (λ (b : Bool). one_if b) e in
-          or_some (reading_of p x) (first_reading answers p) (was_read answers p (and_parts (not (has_failed x)) _ h).1 (omega (arith, some, all, none)))
+          or_some (reading_of p x) (first_reading answers p) (was_read answers p (and_parts (is_answered x) _ h).1 (omega (arith, some, all, none)))
     ] refl
 
 -- what a look that was answered says, it was answered at that path

@@ -17,8 +17,8 @@ use Rattle.tree_trait.specs.declared.entry.EntryKind.TheVariants as kind
 use Rattle.tree_trait.specs.declared.stat.StatAnswer.{StatAnswer}
 use Rattle.tree_trait.specs.declared.stat.StatAnswer.TheVariants.{Folder, File, Other, Gone, Failed, OutOfMemory}
 use Rattle.tree_walk.specs.Answers.{first_look, entries_in, times_read, entries_read, all_passed_over}
-use Rattle.tree_walk.specs.Ends.{HasRoom, IsWhole, IsTooMany, StopsAtLast}
-use Rattle.tree_walk.specs.Search.{SearchFacts, has, names_of, file_of, IsMet, IsSettled, IsSearch, IsUnderway}
+use Rattle.tree_walk.specs.Ends.{IsWithinLimits, IsWhole, IsTooMany, StopsAtLast}
+use Rattle.tree_walk.specs.Search.{SearchFacts, has, found_names, file_of, IsMet, IsSettled, IsSearch, IsUnderway}
 use Rattle.tree_walk.specs.Walked.{IsReached, root, entry, IsEntry, IsFolder, IsWalked, IsWalkListing}
 use Rattle.tree_walk.specs.declared.walked.Walk.{Walk}
 use Rattle.tree_walk.specs.declared.walked.TheConstants.{ENTRY_LIMIT}
@@ -36,25 +36,25 @@ file_back (Some Gone) stamp h = absurd (none-some stamp h)
 file_back (Some Failed) stamp h = absurd (none-some stamp h)
 file_back (Some OutOfMemory) stamp h = absurd (none-some stamp h)
 
-walked_from_file : (answers : List Heard) (roots : List (List ℕ)) (search : SearchFacts) (folder : List ℕ) (rest : List EntryFacts) → IsSearch answers roots search folder rest → (name : NameFacts) → Contains (names_of search.files) name → IsWalked answers roots name
+walked_from_file : (answers : List Heard) (roots : List (List ℕ)) (search : SearchFacts) (folder : List ℕ) (rest : List EntryFacts) → IsSearch answers roots search folder rest → (name : NameFacts) → Contains (found_names search.files) name → IsWalked answers roots name
 walked_from_file answers roots search folder rest s name c =
     let file : first_look answers name.path ≡ Some (File name.stamp) = file_back (first_look answers name.path) name.stamp (sym (s.files name.path) ∙ lookup_from_name search.files name s.ordered c) in
     let due = look_was_due answers roots s.due name.path (File name.stamp) file in
     record { candidate = due.0; short = due.1.short; file = file }
 
 -- the files are the walk listing
-pub listing_is : (answers : List Heard) (roots : List (List ℕ)) (search : SearchFacts) (folder : List ℕ) (rest : List EntryFacts) → IsSearch answers roots search folder rest → IsWalkListing answers roots (names_of search.files)
+pub listing_is : (answers : List Heard) (roots : List (List ℕ)) (search : SearchFacts) (folder : List ℕ) (rest : List EntryFacts) → IsSearch answers roots search folder rest → IsWalkListing answers roots (found_names search.files)
 listing_is answers roots search folder rest s = record {
   by_path = by_path_from_sorted search.files s.ordered;
   all = λ name. (walked_from_file answers roots search folder rest s name, λ w. name_from_lookup search.files name (s.files name.path ∙ ap file_of w.file));
 }
 
 -- the limits are kept
-pub room_is : (answers : List Heard) (roots : List (List ℕ)) (search : SearchFacts) (folder : List ℕ) (rest : List EntryFacts) → IsSearch answers roots search folder rest → length search.files ≤ LISTING_LIMIT → HasRoom answers roots
+pub room_is : (answers : List Heard) (roots : List (List ℕ)) (search : SearchFacts) (folder : List ℕ) (rest : List EntryFacts) → IsSearch answers roots search folder rest → length search.files ≤ LISTING_LIMIT → IsWithinLimits answers roots
 room_is answers roots search folder rest s few =
     let was : search.left + entries_read answers ≡ ENTRY_LIMIT = s.left in
     record {
-      names = names_of search.files;
+      names = found_names search.files;
       listing = listing_is answers roots search folder rest s;
       few = subst (λ (n : ℕ). n ≤ LISTING_LIMIT) (sym (length_names search.files)) few;
       entries = omega (arith, was);
@@ -65,7 +65,7 @@ room_is answers roots search folder rest s few =
 pub too_many_is : (answers : List Heard) (roots : List (List ℕ)) (search : SearchFacts) (folder : List ℕ) (rest : List EntryFacts) → StopsAtLast answers roots (λ last. Unit {0}) → IsSearch answers roots search folder rest → LISTING_LIMIT < length search.files → IsTooMany answers roots
 too_many_is answers roots search folder rest last s many = record {
   last = last;
-  names = names_of search.files;
+  names = found_names search.files;
   listing = listing_is answers roots search folder rest s;
   many = subst (λ (n : ℕ). LISTING_LIMIT < n) (sym (length_names search.files)) many;
 }
@@ -111,7 +111,7 @@ never_of answers roots search u path lt =
     ] refl
 
 -- with nothing left to read the walk is whole
-pub whole_is : (answers : List Heard) (roots : List (List ℕ)) (search : SearchFacts) (walk : Walk) → IsUnderway answers roots search [] [] → search.todo ≡ [] → walk.listing ≡ names_of search.files → walk.skipped ≡ summed search.skipped (length search.long) → IsWhole answers roots walk
+pub whole_is : (answers : List Heard) (roots : List (List ℕ)) (search : SearchFacts) (walk : Walk) → IsUnderway answers roots search [] [] → search.todo ≡ [] → walk.listing ≡ found_names search.files → walk.skipped ≡ summed search.skipped (length search.long) → IsWhole answers roots walk
 whole_is answers roots search walk u empty found over =
     let s = u.search_is in
     let had : search.skipped ≡ min (all_passed_over answers) (2 ^ 64 - 1) = s.skipped in

@@ -1,5 +1,5 @@
 -- What the faults of a walk say of the files that are there.
-use Rattle.std.proofs.Common.{◌≡◌, ℕ, ◌+◌, ◌≤◌, ◌<◌, inl, inr, Bool, true, false, not, List, [], ◌∷◌, ◌++◌, length, map, Option, Result, Err, All, Contains, refl, sym, ap, subst, arith}
+use Rattle.std.proofs.Common.{◌≡◌, ℕ, ◌+◌, ◌≤◌, ◌<◌, inl, inr, Bool, true, false, not, List, [], ◌∷◌, ◌++◌, length, map, Result, Ok, Err, IfErr, IsTrue, All, Contains, refl, sym, ap, subst, arith}
 use Rattle.std.specs.Prelude.{sum_by, count_by}
 use Rattle.std.specs.List.{list_any}
 use Rattle.std.specs.Str.{bytes_eq}
@@ -8,13 +8,15 @@ use Rattle.std.proofs.lemmas.List.Elements.{All-contains, All-cons, All-head, Al
 use Rattle.std.proofs.lemmas.List.Sums.{sum_by_push, sum_by-cons}
 use Rattle.std.proofs.lemmas.Slice.Eq.{bytes_eq-Decides}
 use Rattle.row_types.specs.Name.{NameFacts}
+use Rattle.tree_trait.specs.Asks.{IsTold}
 use Rattle.tree_trait.specs.Dir.{DirFacts, listed, no_dir, dir_failed, dir_no_memory}
 use Rattle.tree_trait.specs.Heard.{Heard, load, stat, read_dir}
 use Rattle.tree_trait.specs.Present.{are_distinct}
+use Rattle.tree_trait.specs.Shown.{ShownTree}
 use Rattle.tree_trait.specs.declared.stat.StatAnswer.TheVariants.{Gone}
 use Rattle.tree_walk.specs.Answers.{entry_count, entries_read, reads, times_read, looks}
-use Rattle.tree_walk.specs.Ends.{IsCause, IsEnd, IsRootGone, IsTooMany, IsTooManyEntries, Walks}
-use Rattle.tree_walk.specs.Files.{FolderFacts, FitsFault, HasManyEntries, HasManyFiles, IsFileUnder, IsFolderUnder, IsTold}
+use Rattle.tree_walk.specs.Ends.{IsCause, IsRootGone, IsTooMany, IsTooManyEntries, Walks}
+use Rattle.tree_walk.specs.Files.{FolderFacts, FitsFault, HasManyEntries, HasManyFiles, IsFileUnder, IsFolderUnder}
 use Rattle.tree_walk.specs.Search.{SearchFacts, has, with_last, IsSearch}
 use Rattle.tree_walk.specs.Walked.{AsksDue, IsDue}
 use Rattle.tree_walk.specs.declared.fault.WalkFault.{WalkFault}
@@ -185,6 +187,6 @@ cause_fits present answers roots (RootGone path) told end = gone_root present an
 cause_fits present answers roots OutOfMemory told end = tt
 
 -- a fault of a tree that is told and still
-pub fault_fits : (before now : Option (List Heard)) (StillTold : Type 0) (present : List NameFacts) (roots : List (List ℕ)) (result : Result Walk WalkFault) → Walks before now StillTold present roots result → StillTold → (fault : WalkFault) → result ≡ Err fault → FitsFault present roots fault
-fault_fits before now StillTold present roots result w still fault e =
-    cause_fits present w.answers roots fault (w.told still) (subst (λ (r : Result Walk WalkFault). IsEnd w.answers roots r) e w.ends)
+pub fault_fits : {told : Bool} {before after : ShownTree} {roots : List (List ℕ)} (result : Result Walk WalkFault) → Walks told before after roots result → IsTrue told → before.Still → IfErr result (FitsFault before.present roots)
+fault_fits (Ok walk) w t s = tt
+fault_fits {told} {before} {after} {roots} (Err fault) w t s = cause_fits before.present w.more roots fault (w.tells t s) w.ends

@@ -29,7 +29,10 @@ use Rattle.tree_trait.proofs.FolderLemmas.{front_of_child, name_long, starts_res
 use Rattle.tree_walk.specs.Answers.{is_look_answer, is_dir_answer, look_at, reading_of, first_look, first_reading, entries_of, entries_in}
 use Rattle.tree_walk.specs.Ends.{IsWhole}
 use Rattle.row_types.specs.Under.{is_within}
-use Rattle.tree_walk.specs.Files.{IsFileUnder, AreFilesUnder, IsTold}
+use Rattle.tree_trait.specs.Asks.{IsTold}
+use Rattle.tree_trait.specs.Found.{Versions}
+use Rattle.tree_trait.specs.Shown.{ShownTree, IsPresence}
+use Rattle.tree_walk.specs.Files.{IsFileUnder, AreFilesUnder}
 use Rattle.tree_walk.specs.Walked.{IsNamed, IsReached, root, entry, IsEntry, IsFolder, IsCandidate, IsWalked, IsFull}
 use Rattle.tree_walk.specs.declared.walked.Walk.{Walk}
 use Rattle.tree_walk.proofs.AnswerLemmas.{place_of_first, look_says, reading_says}
@@ -235,33 +238,33 @@ walked_under present answers roots told name walked = record {
 }
 
 -- the listing is the files under the roots
-pub files_are : (present : List NameFacts) (answers : List Heard) (roots : List (List ℕ)) (walk : Walk) → IsWhole answers roots walk → All (IsTold present) answers
-    → (0 < length roots → (are_distinct (map (λ n. n.path) present) ≡ true) × (are_apart (map (λ n. n.path) present) ≡ true) × All (λ n. is_canonical n.path ≡ true) present) → AreFilesUnder present roots walk.listing
-files_are present answers roots walk w told known = record {
+pub files_are : {version : Versions} {tree : ShownTree} {answers : List Heard} {roots : List (List ℕ)} {walk : Walk} → IsWhole answers roots walk → All (IsTold tree.present) answers
+    → tree.Still → (0 < length roots → IsPresence version tree) → AreFilesUnder tree.present roots walk.listing
+files_are {version} {tree} {answers} {roots} {walk} w told still known = record {
   by_path = w.listing.by_path;
-  all = λ name. (λ c. walked_under present answers roots told name ((w.listing.all name).0 c), λ u. (w.listing.all name).1 (under_is_walked name u));
+  all = λ name. (λ c. walked_under tree.present answers roots told name ((w.listing.all name).0 c), λ u. (w.listing.all name).1 (under_is_walked name u));
 }
   where
-    looked_as_file : (name : NameFacts) → are_distinct (map (λ n. n.path) present) ≡ true → Contains present name → IsSome (first_look answers name.path) → first_look answers name.path ≡ Some (File name.stamp)
+    looked_as_file : (name : NameFacts) → are_distinct (map (λ n. n.path) tree.present) ≡ true → Contains tree.present name → IsSome (first_look answers name.path) → first_look answers name.path ≡ Some (File name.stamp)
     looked_as_file name distinct there some =
         elim (first_look answers name.path) as (λ o. first_look answers name.path ≡ o → IsSome o → o ≡ Some (File name.stamp)) [
           | None ↦ λ e h. absurd (false≢true h)
-          | Some answer ↦ λ e h. let says = told_look present answers told name.path answer e in
-              ap (λ (a : StatAnswer). Some a) (look_finds present name.path name.stamp answer (file_stamp present name distinct there) says.0 says.1)
+          | Some answer ↦ λ e h. let says = told_look tree.present answers told name.path answer e in
+              ap (λ (a : StatAnswer). Some a) (look_finds tree.present name.path name.stamp answer (file_stamp tree.present name distinct there) says.0 says.1)
         ] refl some
 
     looked_is : (name : NameFacts) → IsCandidate answers roots name.path → length name.path ≤ PATH_LIMIT → IsSome (first_look answers name.path)
     looked_is name (inl r) short = w.full.looked name.path r
     looked_is name (inr e) short = w.full.files name.path e short
 
-    under_is_walked : (name : NameFacts) → IsFileUnder present roots name → IsWalked answers roots name
+    under_is_walked : (name : NameFacts) → IsFileUnder tree.present roots name → IsWalked answers roots name
     under_is_walked name u =
         let at = any_root (λ r. is_within r name.path) roots u.under in
         let some : 0 < length roots = let lt = at.1.1 in omega arith in
         let facts = known some in
         let kept : IsCanonPath name.path = record {
-          canonical = (bytes_eq-Decides (canon name.path) name.path).0 (All-contains (λ (n : NameFacts). is_canonical n.path ≡ true) present name facts.2 u.there);
+          canonical = (bytes_eq-Decides (canon name.path) name.path).0 (All-contains (λ (n : NameFacts). is_canonical n.path ≡ true) tree.present name facts.canonical u.there);
           short = u.short;
         } in
-        let candidate : IsCandidate answers roots name.path = candidate_from_under present answers roots walk name w told facts.1 u.there kept at.0 at.1 at.2 in
-        record { candidate = candidate; short = u.short; file = looked_as_file name facts.0 u.there (looked_is name candidate u.short) }
+        let candidate : IsCandidate answers roots name.path = candidate_from_under tree.present answers roots walk name w told (facts.apart still) u.there kept at.0 at.1 at.2 in
+        record { candidate = candidate; short = u.short; file = looked_as_file name facts.distinct u.there (looked_is name candidate u.short) }

@@ -11,11 +11,11 @@ use Rattle.scan_queue.specs.declared.listing.TheConstants.{LISTING_LIMIT}
 use Rattle.tree_trait.specs.Heard.{Heard, stat}
 use Rattle.tree_trait.specs.declared.stat.StatAnswer.{StatAnswer}
 use Rattle.tree_trait.specs.declared.stat.StatAnswer.TheVariants.{Folder, File, Other, Gone, Failed, OutOfMemory}
-use Rattle.tree_walk.specs.Answers.{is_look_answer, first_look, is_there}
-use Rattle.tree_walk.specs.Ends.{HasRoom, IsRootGone, IsTooMany, IsCause}
+use Rattle.tree_walk.specs.Answers.{is_look_answer, first_look, is_found}
+use Rattle.tree_walk.specs.Ends.{IsWithinLimits, IsRootGone, IsTooMany, IsCause}
 use Rattle.tree_walk.specs.Search.{SearchFacts, has, is_looked, noted, with_root, with_new_root, IsSearch, AreLooked, IsBeginning, IsAddFault}
 use Rattle.tree_walk.specs.declared.fault.WalkFault.{WalkFault}
-use Rattle.tree_walk.specs.declared.fault.WalkFault.TheVariants.{Failed as WalkFailed, TooMany, TooManyEntries, RootGone, OutOfMemory as WalkMemory}
+use Rattle.tree_walk.specs.declared.fault.WalkFault.TheVariants.{TooMany, OutOfMemory as WalkMemory}
 use Rattle.tree_walk.proofs.EndLemmas.{room_is, too_many_is}
 use Rattle.tree_walk.proofs.LastLemmas.{looks_next, root_among, root_last}
 use Rattle.tree_walk.proofs.AnswerLemmas.{look_stays, looked_stays, after_look, look_again}
@@ -23,7 +23,7 @@ use Rattle.tree_walk.proofs.SetLemmas.{same, same-Decides}
 use Rattle.tree_walk.proofs.StepLemmas.{note_step, again_step, is_looked_is, folder_step, folder_known, folder_stays}
 
 -- something is there where the look was answered and didn't say otherwise
-there_from_answer : (answer : StatAnswer) → is_look_answer answer ≡ true → (answer ≡ Gone → ⊥) → is_there answer ≡ true
+there_from_answer : (answer : StatAnswer) → is_look_answer answer ≡ true → (answer ≡ Gone → ⊥) → is_found answer ≡ true
 there_from_answer Folder ok there = refl
 there_from_answer (File stamp) ok there = refl
 there_from_answer Other ok there = refl
@@ -115,7 +115,7 @@ beginning_step answers roots seen search path answer b r kept ok there few =
       looked = step.looked;
       given = b.given ++ answer ∷ [];
       each = length_push b.given answer ∙ ap (λ (n : ℕ). n + 1) e ∙ sym (length_push seen path);
-      there = list_all-append is_there b.given (answer ∷ []) ∙ and_from _ _ b.there (and_from _ true (there_from_answer answer ok there) refl);
+      there = list_all-append is_found b.given (answer ∷ []) ∙ and_from _ _ b.there (and_from _ true (there_from_answer answer ok there) refl);
       first = ap (λ (h : List Heard). h ++ stat path answer ∷ []) b.first ∙ sym (looks_next seen [] b.given path answer b.each);
     }
 
@@ -128,7 +128,7 @@ root_gone answers more roots seen after search path b split heard = record {
   split = split;
   each = b.each;
   there = b.there;
-  room = subst (λ (h : List Heard). HasRoom h roots) b.first (room_is answers roots search [] [] b.search_is b.few);
+  room = subst (λ (h : List Heard). IsWithinLimits h roots) b.first (room_is answers roots search [] [] b.search_is b.few);
   heard = ap (λ (m : List Heard). answers ++ m) heard ∙ ap (λ (h : List Heard). h ++ stat path Gone ∷ []) b.first;
 }
 
@@ -142,11 +142,9 @@ beginning_after answers more roots seen after search path answer split heard b k
 pub root_fault : (answers more : List Heard) (roots seen after : List (List ℕ)) (search : SearchFacts) (path : List ℕ) (answer : StatAnswer) (fault : WalkFault)
     → roots ≡ seen ++ path ∷ after → more ≡ stat path answer ∷ [] → IsBeginning answers roots seen search → IsCanonPath path → is_look_answer answer ≡ true → (answer ≡ Gone → ⊥) → IsAddFault (with_new_root search path answer) fault
     → IsCause (answers ++ more) roots fault
-root_fault answers more roots seen after search path answer WalkFailed split heard b kept ok there bad = absurd bad
 root_fault answers more roots seen after search path answer TooMany split heard b kept ok there bad =
     let step = root_step answers roots seen search path answer b.search_is b.looked (root_among roots seen after path split) kept ok there in
     subst (λ (m : List Heard). IsTooMany (answers ++ m) roots) (sym heard)
     (too_many_is (answers ++ stat path answer ∷ []) roots (with_new_root search path answer) [] [] (root_last answers roots seen after search path answer (λ last. Unit {0}) b split kept tt) step.search_is bad)
-root_fault answers more roots seen after search path answer TooManyEntries split heard b kept ok there bad = absurd bad
-root_fault answers more roots seen after search path answer (RootGone gone) split heard b kept ok there bad = absurd bad
 root_fault answers more roots seen after search path answer WalkMemory split heard b kept ok there bad = tt
+root_fault answers more roots seen after search path answer _ split heard b kept ok there bad = absurd bad

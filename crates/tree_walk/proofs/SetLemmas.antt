@@ -20,7 +20,7 @@ use Rattle.row_types.specs.Name.{NameFacts}
 use Rattle.row_types.specs.Stamp.{StampFacts}
 use Rattle.scan_queue.specs.Names.{IsByPath}
 use Rattle.tree_trait.specs.Present.{are_distinct}
-use Rattle.tree_walk.specs.Search.{has, with_path, names_of}
+use Rattle.tree_walk.specs.Search.{has, with_path, found_names}
 
 -- a text that is put into a set puts its bytes into the set of the bytes
 pub bytes_of_added : {X : Type 0} (f : X → List ℕ) (xs : List X) (x : X) → map f (insert_key (λ a b. slice_cmp nat_cmp (f a) (f b)) xs x) ≡ with_path (map f xs) (f x)
@@ -144,13 +144,13 @@ abbrev name_from : List ℕ × StampFacts → NameFacts
 name_from file = record { path = file.0; stamp = file.1 }
 
 -- a name is among those of the files where its path's file has its stamp
-pub name_from_lookup : (files : List (List ℕ × StampFacts)) (name : NameFacts) → lookup (same name.path) files ≡ Some name.stamp → Contains (names_of files) name
+pub name_from_lookup : (files : List (List ℕ × StampFacts)) (name : NameFacts) → lookup (same name.path) files ≡ Some name.stamp → Contains (found_names files) name
 name_from_lookup files name h =
     let at : Contains files (name.path, name.stamp) = Contains-from_lookup {eq = eq_by_cmp (slice_cmp nat_cmp)} (λ x y. (same-Decides x y).0) name.path name.stamp files h in
-    let within : at.0 < length (names_of files) = subst (λ (n : ℕ). at.0 < n) (sym (length-map files name_from)) at.1 in
+    let within : at.0 < length (found_names files) = subst (λ (n : ℕ). at.0 < n) (sym (length-map files name_from)) at.1 in
     (at.0, within, get_or-map name_from files at.0 (name.path, name.stamp) name at.1 ∙ ap name_from at.2)
 
-pub lookup_from_name : (files : List (List ℕ × StampFacts)) (name : NameFacts) → IsStrictlySortedBy (slice_cmp nat_cmp) (keys_of files) → Contains (names_of files) name → lookup (same name.path) files ≡ Some name.stamp
+pub lookup_from_name : (files : List (List ℕ × StampFacts)) (name : NameFacts) → IsStrictlySortedBy (slice_cmp nat_cmp) (keys_of files) → Contains (found_names files) name → lookup (same name.path) files ≡ Some name.stamp
 lookup_from_name files name sorted h =
     let within : h.0 < length files = subst (λ (n : ℕ). h.0 < n) (length-map files name_from) h.1 in
     let there : get_or files h.0 (name.path, name.stamp) ≡ (name.path, name.stamp) =
@@ -158,20 +158,20 @@ lookup_from_name files name sorted h =
     lookup-from_Contains {eq = eq_by_cmp (slice_cmp nat_cmp)} same_equiv name.path name.stamp files (IsDistinct-from_sorted (slice_cmp nat_cmp) (keys_of files) sorted) (h.0, within, there)
 
 -- as many names as files
-pub length_names : (files : List (List ℕ × StampFacts)) → length (names_of files) ≡ length files
+pub length_names : (files : List (List ℕ × StampFacts)) → length (found_names files) ≡ length files
 length_names files = length-map files name_from
 
 -- files in order have names by path
-pub by_path_from_sorted : (files : List (List ℕ × StampFacts)) → IsStrictlySortedBy (slice_cmp nat_cmp) (keys_of files) → IsByPath (names_of files)
+pub by_path_from_sorted : (files : List (List ℕ × StampFacts)) → IsStrictlySortedBy (slice_cmp nat_cmp) (keys_of files) → IsByPath (found_names files)
 by_path_from_sorted files sorted i j d lt within =
     let inside : j < length files = subst (λ (n : ℕ). j < n) (length-map files name_from) within in
     let first : i < length files = omega arith in
     let less : IsBefore (get_or (keys_of files) i d.path) (get_or (keys_of files) j d.path) =
     Less-from_sorted (slice_cmp nat_cmp) (keys_of files) i j d.path sorted lt (subst (λ (n : ℕ). j < n) (sym (length-map files (λ e. e.0))) inside) in
-    subst (λ (p : List ℕ). IsBefore p (get_or (names_of files) j d).path) (path_at i d first)
+    subst (λ (p : List ℕ). IsBefore p (get_or (found_names files) j d).path) (path_at i d first)
     (subst (λ (p : List ℕ). IsBefore (get_or (keys_of files) i d.path) p) (path_at j d inside) less)
   where
-    path_at : (k : ℕ) (d : NameFacts) → k < length files → get_or (keys_of files) k d.path ≡ (get_or (names_of files) k d).path
+    path_at : (k : ℕ) (d : NameFacts) → k < length files → get_or (keys_of files) k d.path ≡ (get_or (found_names files) k d).path
     path_at k d h = get_or-map (λ (e : List ℕ × StampFacts). e.0) files k (d.path, d.stamp) d.path h ∙ ap (λ (n : NameFacts). n.path) (sym (get_or-map name_from files k (d.path, d.stamp) d h))
 
 -- no later path is an earlier one

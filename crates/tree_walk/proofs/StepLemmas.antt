@@ -1,5 +1,5 @@
 -- What is kept agrees with the answers after each step.
-use Rattle.std.proofs.Common.{◌≡◌, ℕ, ◌+◌, ◌-◌, ◌^◌, ◌<◌, ◌||◌, ◌⊎◌, inl, inr, min, Bool, true, false, not, cond, List, [], ◌∷◌, ◌++◌, length, Option, Some, None, is_some, IsSome, MatchBool, Contains, refl, sym, ◌∙◌, ap, subst, arith, add-zero, All}
+use Rattle.std.proofs.Common.{◌≡◌, ℕ, ◌+◌, ◌-◌, ◌^◌, ◌<◌, ◌||◌, ◌⊎◌, inl, inr, min, Bool, true, false, cond, List, [], ◌∷◌, ◌++◌, length, Option, Some, None, is_some, IsSome, MatchBool, Contains, refl, sym, ◌∙◌, ap, subst, arith, add-zero, All}
 use Rattle.std.specs.Prelude.{nat_lt, if◌then◌else◌, count_by}
 use Rattle.std.specs.Cmp.Lexicographic.{slice_cmp}
 use Rattle.std.specs.List.Sorted.{IsStrictlySortedBy}
@@ -21,7 +21,7 @@ use Rattle.tree_trait.specs.declared.entry.EntryKind.{EntryKind}
 use Rattle.tree_trait.specs.declared.entry.EntryKind.TheVariants as kind
 use Rattle.tree_trait.specs.declared.stat.StatAnswer.{StatAnswer}
 use Rattle.tree_trait.specs.declared.stat.StatAnswer.TheVariants.{Folder, File, Other, Gone, Failed, OutOfMemory}
-use Rattle.tree_walk.specs.Answers.{is_look_answer, is_dir_answer, first_look, first_reading, entries_of, entries_in, times_read, entry_count, entries_read, passed_over, all_passed_over, has_failed}
+use Rattle.tree_walk.specs.Answers.{is_look_answer, is_dir_answer, first_look, first_reading, entries_of, entries_in, times_read, entry_count, entries_read, passed_over, all_passed_over, is_answered}
 use Rattle.tree_walk.specs.Search.{SearchFacts, has, with_path, with_file, with_other, noted, with_folder, with_long, with_last, file_of, is_no_file, is_looked, IsMet, IsSettled, IsPending, IsSearch}
 use Rattle.tree_walk.specs.Walked.{IsReached, IsFolder, IsCandidate, IsDue}
 use Rattle.tree_walk.specs.declared.walked.TheConstants.{ENTRY_LIMIT}
@@ -122,7 +122,7 @@ look_step answers roots search folder rest path answer files others s candidate 
       apart = s.apart;
       left = ap (λ (n : ℕ). search.left + n) (read ∙ add-zero (entries_read answers)) ∙ s.left;
       skipped = s.skipped ∙ ap (λ (n : ℕ). min n (2 ^ 64 - 1)) (sym (passed ∙ add-zero (all_passed_over answers)));
-      answered = list_all-append (λ h. not (has_failed h)) answers more ∙ and_from _ _ s.answered (and_from _ true (ap (λ (b : Bool). not (not b)) ok) refl);
+      answered = list_all-append is_answered answers more ∙ and_from _ _ s.answered (and_from _ true ok refl);
       there = λ p r c. elim (Contains-push_cases answers (stat path answer) (stat p Gone) c) [
         | inl before ↦ s.there p r before
         | inr last ↦
@@ -372,7 +372,7 @@ read_step answers roots search path answer left skipped s ok paid passed =
       apart = s.apart;
       left = omega (arith, read, was, paid);
       skipped = omega (arith, over, had, passed);
-      answered = list_all-append (λ h. not (has_failed h)) answers more ∙ and_from _ _ s.answered (and_from _ true (ap (λ (b : Bool). not (not b)) ok) refl);
+      answered = list_all-append is_answered answers more ∙ and_from _ _ s.answered (and_from _ true ok refl);
       there = λ p r c. elim (Contains-push_cases answers (read_dir path answer) (stat p Gone) c) [
         | inl before ↦ s.there p r before
         | inr last ↦ cc

@@ -1,51 +1,32 @@
 -- How a walk ends.
-use Rattle.std.proofs.Common.{◌≡◌, ℕ, ◌<◌, true, List, [], length, map, Option, Result, Ok, Err, IfOk, IfErr, All, sym, ◌∙◌, ap, subst}
-use Rattle.std.specs.Result.{IsErrAnd}
-use Rattle.std.proofs.lemmas.Result.{err_from_is_err_and}
+use Rattle.std.proofs.Common.{◌≡◌, ℕ, ◌<◌, Bool, List, [], length, Result, Ok, Err, IfOk, IfErr, IsTrue, MatchResult, All, sym, subst}
 use Rattle.row_types.specs.Faults.{summed}
-use Rattle.row_types.specs.Canon.{is_canonical}
 use Rattle.row_types.specs.Name.{NameFacts}
+use Rattle.tree_trait.specs.Asks.{IsTold}
+use Rattle.tree_trait.specs.Found.{Versions}
 use Rattle.tree_trait.specs.Heard.{Heard}
-use Rattle.tree_trait.specs.Present.{are_distinct, are_apart}
-use Rattle.tree_walk.specs.Ends.{IsCause, IsEnd, Walks}
+use Rattle.tree_trait.specs.Shown.{ShownTree, HandsOn, StaysStill}
+use Rattle.tree_walk.specs.Ends.{IsCause, IsWhole, Walks}
 use Rattle.tree_walk.specs.Files.{AreFilesUnder}
-use Rattle.tree_walk.specs.Search.{SearchFacts, names_of, Goes, IsUnderway}
+use Rattle.tree_walk.specs.Search.{SearchFacts, found_names, IsUnderway}
 use Rattle.tree_walk.specs.declared.fault.WalkFault.{WalkFault}
 use Rattle.tree_walk.specs.declared.fault.WalkFault.TheVariants.{OutOfMemory}
 use Rattle.tree_walk.specs.declared.walked.Walk.{Walk}
 use Rattle.tree_walk.proofs.EndLemmas.{whole_is}
 use Rattle.tree_walk.proofs.PresentLemmas.{files_are}
 
-end_of : (answers : List Heard) (roots : List (List ℕ)) (search : SearchFacts) (result : Result Walk WalkFault) → IsUnderway answers roots search [] [] → search.todo ≡ [] → IfOk result (λ walk. walk.listing ≡ names_of search.files) → IfOk result (λ walk. walk.skipped ≡ summed search.skipped (length search.long)) → IfErr result (λ fault. fault ≡ OutOfMemory) → IsEnd answers roots result
-end_of answers roots search (Ok walk) u empty listing skipped memory = whole_is answers roots search walk u empty listing skipped
-end_of answers roots search (Err fault) u empty listing skipped memory = subst (IsCause answers roots) (sym memory) tt
-
 -- with all folders read
-pub walks_ended : (before now : Option (List Heard)) (StillTold : Type 0) (present : List NameFacts) (roots : List (List ℕ)) (search : SearchFacts) (Bad : List Heard → WalkFault → Type 0) (result : Result Walk WalkFault)
-    → Goes before now StillTold present (λ more s. IsUnderway more roots s [] []) Bad (Ok search) → search.todo ≡ [] → IfOk result (λ walk. walk.listing ≡ names_of search.files) → IfOk result (λ walk. walk.skipped ≡ summed search.skipped (length search.long)) → IfErr result (λ fault. fault ≡ OutOfMemory)
-    → Walks before now StillTold present roots result
-walks_ended before now StillTold present roots search Bad result h empty listing skipped memory = record {
-  answers = h.more;
-  heard = h.heard;
-  told = h.told;
-  ends = end_of h.more roots search result h.ends empty listing skipped memory;
-}
-
--- with a fault that is passed up
-pub walks_up : {U : Type 0} (before now : Option (List Heard)) (StillTold : Type 0) (present : List NameFacts) (roots : List (List ℕ)) (Good : List Heard → U → Type 0) (result : Result Walk WalkFault) (fault : WalkFault)
-    → IsErrAnd result (λ y. y ≡ fault) → Goes before now StillTold present Good (λ more f. IsCause more roots f) (Err fault) → Walks before now StillTold present roots result
-walks_up before now StillTold present roots Good result fault up h =
-    let p = err_from_is_err_and result up in
-    let same : result ≡ Err fault = p.1 ∙ ap (λ (y : WalkFault). Err y) p.2 in
-    record {
-      answers = h.more;
-      heard = h.heard;
-      told = h.told;
-      ends = subst (λ (r : Result Walk WalkFault). IsEnd h.more roots r) (sym same) h.ends;
-    }
+pub walk_ended : {answers : List Heard} {roots : List (List ℕ)} {search : SearchFacts} (result : Result Walk WalkFault) → IsUnderway answers roots search [] [] → search.todo ≡ []
+    → IfOk result (λ walk. walk.listing ≡ found_names search.files) → IfOk result (λ walk. walk.skipped ≡ summed search.skipped (length search.long)) → IfErr result (λ fault. fault ≡ OutOfMemory)
+    → MatchResult result (IsWhole answers roots) (IsCause answers roots)
+walk_ended {answers} {roots} {search} (Ok walk) u empty listing skipped memory = whole_is answers roots search walk u empty listing skipped
+walk_ended {answers} {roots} (Err fault) u empty listing skipped memory = subst (IsCause answers roots) (sym memory) tt
 
 -- the listing of a tree that is told and still
-pub files_of : (before now : Option (List Heard)) (StillTold : Type 0) (present : List NameFacts) (roots : List (List ℕ)) (result : Result Walk WalkFault) → Walks before now StillTold present roots result → StillTold
-    → (0 < length roots → (are_distinct (map (λ n. n.path) present) ≡ true) × (are_apart (map (λ n. n.path) present) ≡ true) × All (λ n. is_canonical n.path ≡ true) present) → IfOk result (λ walk. AreFilesUnder present roots walk.listing)
-files_of before now StillTold present roots (Ok walk) w still known = files_are present w.answers roots walk w.ends (w.told still) known
-files_of before now StillTold present roots (Err fault) w still known = tt
+pub files_of : {told : Bool} {version : Versions} {before after : ShownTree} {roots : List (List ℕ)} {Fails : Type 0} (result : Result Walk WalkFault) → Walks told before after roots result → HandsOn told version before after (0 < length roots) Fails
+    → IsTrue told → before.Still → IfOk result (λ walk. AreFilesUnder before.present roots walk.listing)
+files_of (Err fault) w hands t s = tt
+files_of {told} {version} {before} {after} {roots} (Ok walk) w hands t s =
+    let stays : StaysStill before after = hands.still s in
+    subst (λ (names : List NameFacts). AreFilesUnder names roots walk.listing) stays.same
+    (files_are {version = version} {tree = after} w.ends (subst (λ (names : List NameFacts). All (IsTold names) w.more) (sym stays.same) (w.tells t s)) stays.still (hands.known t))

@@ -1,13 +1,15 @@
 -- How a walk ends (this project's rule): at its first fault, or with everything asked.
-use Rattle.std.specs.Prelude.{◌≡◌, ◌⊎◌, ℕ, ◌≤◌, ◌<◌, true, List, [], ◌∷◌, ◌++◌, length, All, Contains, Option, Result, Ok, Err}
+use Rattle.std.specs.Prelude.{◌≡◌, ◌⊎◌, ℕ, ◌≤◌, ◌<◌, Bool, true, List, [], ◌∷◌, ◌++◌, length, All, Contains}
+use Rattle.std.specs.Prelude.{IsTrue, Result, MatchResult}
 use Rattle.std.specs.List.{list_all}
 use Rattle.row_types.specs.Name.{NameFacts}
 use Rattle.scan_queue.specs.declared.listing.TheConstants.{LISTING_LIMIT}
-use Rattle.tree_trait.specs.Heard.{Heard, stat}
+use Rattle.tree_trait.specs.Asks.{IsTold}
+use Rattle.tree_trait.specs.Heard.{Heard, stat, has_failed, with_answers}
+use Rattle.tree_trait.specs.Shown.{ShownTree}
 use Rattle.tree_trait.specs.declared.stat.StatAnswer.{StatAnswer}
 use Rattle.tree_trait.specs.declared.stat.StatAnswer.TheVariants.{Gone}
-use Rattle.tree_walk.specs.Answers.{entries_read, has_failed, with_answers, looks, is_there}
-use Rattle.tree_walk.specs.Files.{IsTold}
+use Rattle.tree_walk.specs.Answers.{entries_read, looks, is_found}
 use Rattle.tree_walk.specs.Walked.{IsFull, IsWalkListing, AsksDue, AsksOnce, IsSkipped}
 use Rattle.tree_walk.specs.declared.fault.WalkFault.{WalkFault}
 use Rattle.tree_walk.specs.declared.fault.WalkFault.TheVariants.{Failed, TooMany, TooManyEntries, RootGone, OutOfMemory}
@@ -15,7 +17,7 @@ use Rattle.tree_walk.specs.declared.walked.Walk.{Walk}
 use Rattle.tree_walk.specs.declared.walked.TheConstants.{ENTRY_LIMIT}
 
 -- no limit is passed, and no look at a root said that nothing is there
-pub record HasRoom (answers : List Heard) (roots : List (List ℕ)) : Type 0 where
+pub record IsWithinLimits (answers : List Heard) (roots : List (List ℕ)) : Type 0 where
   pub names : List NameFacts
   pub listing : IsWalkListing answers roots names
   pub few : length names ≤ LISTING_LIMIT
@@ -27,7 +29,7 @@ pub record BeginsWithRoots (answers : List Heard) (roots : List (List ℕ)) : Ty
   pub given : List StatAnswer
   pub rest : List Heard
   pub each : length given ≡ length roots
-  pub there : list_all is_there given ≡ true
+  pub there : list_all is_found given ≡ true
   pub first : answers ≡ looks roots given ++ rest
 
 -- the walk was whole: everything due was asked, each folder once, and this is what it found
@@ -35,7 +37,7 @@ pub record IsWhole (answers : List Heard) (roots : List (List ℕ)) (walk : Walk
   pub first : BeginsWithRoots answers roots
   pub full : IsFull answers roots
   pub once : AsksOnce answers roots
-  pub room : HasRoom answers roots
+  pub room : IsWithinLimits answers roots
   pub listing : IsWalkListing answers roots walk.listing
   pub skipped : IsSkipped answers roots walk.skipped
 
@@ -51,7 +53,7 @@ pub record StopsAtLast (answers : List Heard) (roots : List (List ℕ)) (Stops :
   pub earlier : List Heard
   pub last : Heard
   pub split : answers ≡ earlier ++ last ∷ []
-  pub room : HasRoom earlier roots
+  pub room : IsWithinLimits earlier roots
   pub stops : Stops last
 
 -- the last answer made more files than a listing has
@@ -73,8 +75,8 @@ pub record IsRootGone (answers : List Heard) (roots : List (List ℕ)) (path : L
   pub given : List StatAnswer
   pub split : roots ≡ before ++ path ∷ after
   pub each : length given ≡ length before
-  pub there : list_all is_there given ≡ true
-  pub room : HasRoom (looks before given) roots
+  pub there : list_all is_found given ≡ true
+  pub room : IsWithinLimits (looks before given) roots
   pub heard : answers ≡ looks before given ++ stat path Gone ∷ []
 
 -- the answers by which a walk ends with a fault; want of memory may end it at any
@@ -85,15 +87,16 @@ IsCause answers roots TooManyEntries = IsTooManyEntries answers roots
 IsCause answers roots (RootGone path) = IsRootGone answers roots path
 IsCause answers roots OutOfMemory = Unit {0}
 
--- the answers by which a walk ends so
-abbrev pub IsEnd : List Heard → List (List ℕ) → Result Walk WalkFault → Type 0
-IsEnd answers roots (Ok walk) = IsWhole answers roots walk
-IsEnd answers roots (Err fault) = IsCause answers roots fault
+-- some more answers were heard, which the list that the tree tells grew by; they are those of the files that are there,
+-- where the tree is told and still; and by them, behind those that were heard before, a call ended so
+pub record Goes {V : Type 0} (told : Bool) (before after : ShownTree) (answers : List Heard)
+    (Good : List Heard → V → Type 0) (Bad : List Heard → WalkFault → Type 0) (result : Result V WalkFault) : Type 0 where
+  pub more : List Heard
+  pub heard : after.heard ≡ with_answers before.heard more
+  pub tells : IsTrue told → before.Still → All (IsTold before.present) more
+  pub ends : MatchResult result (Good (answers ++ more)) (Bad (answers ++ more))
 
--- the walk heard some answers, which the list that the tree tells grew by; they are those of the files that are
--- there, where the tree is told and still; and by them the walk ended so
-pub record Walks (before now : Option (List Heard)) (StillTold : Type 0) (present : List NameFacts) (roots : List (List ℕ)) (result : Result Walk WalkFault) : Type 0 where
-  pub answers : List Heard
-  pub heard : now ≡ with_answers before answers
-  pub told : StillTold → All (IsTold present) answers
-  pub ends : IsEnd answers roots result
+-- the walk ended by the answers that it heard
+abbrev pub Walks : Bool → ShownTree → ShownTree → List (List ℕ) → Result Walk WalkFault → Type 0
+Walks told before after roots result =
+    Goes told before after [] (λ answers walk. IsWhole answers roots walk) (λ answers fault. IsCause answers roots fault) result

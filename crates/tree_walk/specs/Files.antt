@@ -1,20 +1,17 @@
 -- The files under the roots, by what a tree has (this project's rule).
-use Rattle.std.specs.Prelude.{◌≡◌, ℕ, ◌≤◌, ◌<◌, ◌||◌, ◌↔◌, Bool, true, List, All, Contains, length, map, sum_by}
+use Rattle.std.specs.Prelude.{◌≡◌, ℕ, ◌≤◌, ◌<◌, ◌↔◌, true, List, All, Contains, length, map, sum_by}
 use Rattle.std.specs.List.{list_any}
-use Rattle.std.specs.Str.{bytes_eq}
 use Rattle.row_types.specs.Name.{NameFacts}
+use Rattle.row_types.specs.Under.{is_within}
 use Rattle.row_types.specs.declared.limits.TheConstants.{PATH_LIMIT}
 use Rattle.scan_queue.specs.Names.{IsByPath}
 use Rattle.scan_queue.specs.declared.listing.TheConstants.{LISTING_LIMIT}
-use Rattle.tree_trait.specs.Dir.{IsListing, TellsDir}
+use Rattle.tree_trait.specs.Dir.{IsListing}
 use Rattle.tree_trait.specs.Entry.{EntryFacts}
-use Rattle.tree_trait.specs.Heard.{Heard, load, stat, read_dir}
-use Rattle.tree_trait.specs.Load.{TellsLoad}
-use Rattle.row_types.specs.Under.{lies_under}
 use Rattle.tree_trait.specs.Present.{are_distinct}
-use Rattle.tree_trait.specs.Stat.{IsNothingAt, TellsStat}
+use Rattle.tree_trait.specs.Stat.{IsNothingAt}
 use Rattle.tree_walk.specs.declared.fault.WalkFault.{WalkFault}
-use Rattle.tree_walk.specs.declared.fault.WalkFault.TheVariants.{Failed, TooMany, TooManyEntries, RootGone, OutOfMemory}
+use Rattle.tree_walk.specs.declared.fault.WalkFault.TheVariants.{TooMany, TooManyEntries, RootGone}
 use Rattle.tree_walk.specs.declared.walked.TheConstants.{ENTRY_LIMIT}
 
 -- the file is there, under a root, and its path is no longer than a path that is kept
@@ -27,12 +24,6 @@ pub record IsFileUnder (present : List NameFacts) (roots : List (List ℕ)) (nam
 pub record AreFilesUnder (present : List NameFacts) (roots : List (List ℕ)) (names : List NameFacts) : Type 0 where
   pub by_path : IsByPath names
   pub all : (name : NameFacts) → Contains names name ↔ IsFileUnder present roots name
-
--- the answer is that of the files that are there
-abbrev pub IsTold : List NameFacts → Heard → Type 0
-IsTold present (load path limit answer) = TellsLoad present path answer
-IsTold present (stat path answer) = TellsStat present path answer
-IsTold present (read_dir path answer) = TellsDir present path answer
 
 -- a folder and its entries
 pub record FolderFacts : Type 0 where
@@ -61,8 +52,7 @@ pub record HasManyEntries (present : List NameFacts) (roots : List (List ℕ)) :
 
 -- whether a walk of the files that are there may end with the fault; a failed call and want of memory say nothing of them
 abbrev pub FitsFault : List NameFacts → List (List ℕ) → WalkFault → Type 0
-FitsFault present roots Failed = Unit {0}
 FitsFault present roots TooMany = HasManyFiles present roots
 FitsFault present roots TooManyEntries = HasManyEntries present roots
 FitsFault present roots (RootGone path) = Contains roots path × IsNothingAt present path
-FitsFault present roots OutOfMemory = Unit {0}
+FitsFault present roots _ = Unit {0}

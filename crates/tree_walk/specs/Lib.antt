@@ -1,10 +1,13 @@
 pub use Rattle.row_types.specs.Canon
 pub use Rattle.row_types.specs.Faults
 pub use Rattle.row_types.specs.Name
+pub use Rattle.row_types.specs.Under
 pub use Rattle.scan_queue.specs.Names
+pub use Rattle.tree_trait.specs.Asks
 pub use Rattle.tree_trait.specs.Dir
 pub use Rattle.tree_trait.specs.Heard
 pub use Rattle.tree_trait.specs.Present
+pub use Rattle.tree_trait.specs.Shown
 pub use Rattle.tree_trait.specs.Stat
 pub mod Answers
 pub mod Ends

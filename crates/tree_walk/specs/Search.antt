@@ -1,5 +1,5 @@
 -- What a walk keeps while it goes on (this crate's bookkeeping, which no public clause cites).
-use Rattle.std.specs.Prelude.{◌≡◌, ℕ, ◌+◌, ◌-◌, ◌^◌, ◌≤◌, ◌<◌, ◌⊎◌, ◌||◌, min, nat_lt, Bool, true, false, not, if◌then◌else◌, List, [], ◌∷◌, ◌++◌, length, map, count_by, All, Contains, Option, Some, None, is_some, IsSome, Result, MatchResult, MatchBool}
+use Rattle.std.specs.Prelude.{◌≡◌, ℕ, ◌+◌, ◌-◌, ◌^◌, ◌≤◌, ◌<◌, ◌⊎◌, ◌||◌, min, nat_lt, Bool, true, false, if◌then◌else◌, List, [], ◌∷◌, ◌++◌, length, map, count_by, All, Contains, Option, Some, None, is_some, IsSome, MatchBool, MatchResult, Result}
 use Rattle.std.specs.BTreeMap.{is_at, insert_entry}
 use Rattle.std.specs.BTreeSet.{insert_key}
 use Rattle.std.specs.List.{list_any, list_all}
@@ -19,13 +19,13 @@ use Rattle.tree_trait.specs.Heard.{Heard, stat, read_dir}
 use Rattle.tree_trait.specs.declared.entry.EntryKind.{EntryKind}
 use Rattle.tree_trait.specs.declared.entry.EntryKind.TheVariants as kind
 use Rattle.tree_trait.specs.declared.stat.StatAnswer.{StatAnswer}
-use Rattle.tree_trait.specs.declared.stat.StatAnswer.TheVariants.{Folder, File, Other, Gone, Failed, OutOfMemory}
-use Rattle.tree_walk.specs.Answers.{is_dir_answer, first_look, entries_of, entries_in, passed_over, times_read, entries_read, all_passed_over, has_failed, with_answers, looks, is_there}
+use Rattle.tree_trait.specs.declared.stat.StatAnswer.TheVariants.{Folder, File, Gone}
+use Rattle.tree_walk.specs.Answers.{is_answered, is_dir_answer, is_look_answer, first_look, entries_of, entries_in, passed_over}
+use Rattle.tree_walk.specs.Answers.{times_read, entries_read, all_passed_over, looks, is_found}
 use Rattle.tree_walk.specs.Ends.{BeginsWithRoots}
-use Rattle.tree_walk.specs.Files.{IsTold}
 use Rattle.tree_walk.specs.Walked.{IsReached, IsFolder, IsDue}
 use Rattle.tree_walk.specs.declared.fault.WalkFault.{WalkFault}
-use Rattle.tree_walk.specs.declared.fault.WalkFault.TheVariants.{Failed as FaultFailed, TooMany, TooManyEntries, RootGone, OutOfMemory as FaultMemory}
+use Rattle.tree_walk.specs.declared.fault.WalkFault.TheVariants.{Failed as FaultFailed, TooMany, OutOfMemory as FaultMemory}
 use Rattle.tree_walk.specs.declared.walked.TheConstants.{ENTRY_LIMIT}
 
 -- the files that were found, by path; the other paths that were looked at; the folders, and those of them that
@@ -57,21 +57,13 @@ is_looked search path = is_some (lookup (is_at (slice_cmp nat_cmp path)) search.
 
 -- the files, with what was found at a path that wasn't looked at yet, if it is a file
 abbrev pub with_file : List (List ℕ × StampFacts) → List ℕ → StatAnswer → List (List ℕ × StampFacts)
-with_file files path Folder = files
 with_file files path (File stamp) = insert_entry (slice_cmp nat_cmp) files path stamp
-with_file files path Other = files
-with_file files path Gone = files
-with_file files path Failed = files
-with_file files path OutOfMemory = files
+with_file files path _ = files
 
 -- the other paths, with what was found, if it is no file
 abbrev pub with_other : List (List ℕ) → List ℕ → StatAnswer → List (List ℕ)
-with_other others path Folder = with_path others path
 with_other others path (File stamp) = others
-with_other others path Other = with_path others path
-with_other others path Gone = with_path others path
-with_other others path Failed = with_path others path
-with_other others path OutOfMemory = with_path others path
+with_other others path _ = with_path others path
 
 -- what was found at a path that wasn't looked at yet
 abbrev pub noted : SearchFacts → List ℕ → StatAnswer → SearchFacts
@@ -86,21 +78,22 @@ abbrev pub with_long : SearchFacts → List ℕ → SearchFacts
 with_long search path = record search { long = with_path search.long path }
 
 -- the names of the files
-abbrev pub names_of : List (List ℕ × StampFacts) → List NameFacts
-names_of files = map (λ file. record { path = file.0; stamp = file.1 }) files
+abbrev pub found_names : List (List ℕ × StampFacts) → List NameFacts
+found_names files = map (λ file. record { path = file.0; stamp = file.1 }) files
 
 -- what was found at a root, unless it was looked at before; a folder is to be read
 abbrev pub with_root : SearchFacts → List ℕ → StatAnswer → SearchFacts
 with_root search path Folder = with_folder (noted search path Folder) path
-with_root search path (File stamp) = noted search path (File stamp)
-with_root search path Other = noted search path Other
-with_root search path Gone = noted search path Gone
-with_root search path Failed = noted search path Failed
-with_root search path OutOfMemory = noted search path OutOfMemory
+with_root search path answer = noted search path answer
 
 -- the same, unless the path was looked at before
 abbrev pub with_new_root : SearchFacts → List ℕ → StatAnswer → SearchFacts
 with_new_root search path answer = if is_looked search path then search else with_root search path answer
+
+-- one look was heard and answered
+pub record IsLook (path : List ℕ) (more : List Heard) (answer : StatAnswer) : Type 0 where
+  pub heard : more ≡ stat path answer ∷ []
+  pub answered : is_look_answer answer ≡ true
 
 -- one reading was heard and answered, and these are its entries and how many were passed over
 pub record IsRead (folder : List ℕ) (more : List Heard) (entries : List EntryFacts) (skipped : ℕ) : Type 0 where
@@ -117,11 +110,13 @@ pub record IsAdded (next now : SearchFacts) : Type 0 where
 
 -- it would have more files than a listing, or memory was refused
 abbrev pub IsAddFault : SearchFacts → WalkFault → Type 0
-IsAddFault next FaultFailed = ⊥
 IsAddFault next TooMany = LISTING_LIMIT < length next.files
-IsAddFault next TooManyEntries = ⊥
-IsAddFault next (RootGone path) = ⊥
 IsAddFault next FaultMemory = Unit {0}
+IsAddFault next _ = ⊥
+
+-- the search becomes the next one, if that has no more files than a listing
+abbrev pub Adds : {V : Type 0} → SearchFacts → SearchFacts → Result V WalkFault → Type 0
+Adds next now result = MatchResult result (λ _. IsAdded next now) (IsAddFault next)
 
 -- so many entries were read, and so many passed over
 abbrev pub paid : SearchFacts → ℕ → ℕ → SearchFacts
@@ -133,23 +128,14 @@ with_last search folder = record search { todo = search.todo ++ folder ∷ [] }
 
 -- the stamp of a file that was found
 abbrev pub file_of : Option StatAnswer → Option StampFacts
-file_of None = None
-file_of (Some Folder) = None
 file_of (Some (File stamp)) = Some stamp
-file_of (Some Other) = None
-file_of (Some Gone) = None
-file_of (Some Failed) = None
-file_of (Some OutOfMemory) = None
+file_of _ = None
 
 -- whether something else than a file was found, or nothing
 abbrev pub is_no_file : Option StatAnswer → Bool
 is_no_file None = false
-is_no_file (Some Folder) = true
 is_no_file (Some (File stamp)) = false
-is_no_file (Some Other) = true
-is_no_file (Some Gone) = true
-is_no_file (Some Failed) = true
-is_no_file (Some OutOfMemory) = true
+is_no_file (Some _) = true
 
 -- an entry whose path is no longer than is kept is known as what it is
 abbrev pub IsMet : List Heard → SearchFacts → List ℕ → EntryKind → Type 0
@@ -178,7 +164,7 @@ pub record IsSearch (answers : List Heard) (roots : List (List ℕ)) (search : S
   pub apart : IsStrictlySortedBy (slice_cmp nat_cmp) search.long
   pub left : search.left + entries_read answers ≡ ENTRY_LIMIT
   pub skipped : search.skipped ≡ min (all_passed_over answers) (2 ^ 64 - 1)
-  pub answered : list_all (λ h. not (has_failed h)) answers ≡ true
+  pub answered : list_all is_answered answers ≡ true
   pub there : (path : List ℕ) → Contains roots path → Contains answers (stat path Gone) → ⊥
   pub closed : (at : List ℕ) (entry : EntryFacts) → has_entry (entries_in answers at) entry ≡ true → IsSettled answers search (child at entry.name) entry.kind ⊎ IsPending folder rest at entry
 
@@ -194,7 +180,7 @@ pub record IsBeginning (answers : List Heard) (roots seen : List (List ℕ)) (se
   pub looked : AreLooked answers roots seen search
   pub given : List StatAnswer
   pub each : length given ≡ length seen
-  pub there : list_all is_there given ≡ true
+  pub there : list_all is_found given ≡ true
   pub first : answers ≡ looks seen given
 
 -- all roots were looked at, and folders are being read
@@ -204,17 +190,26 @@ pub record IsUnderway (answers : List Heard) (roots : List (List ℕ)) (search :
   pub looked : AreLooked answers roots roots search
   pub first : BeginsWithRoots answers roots
 
--- some more answers were heard, by which a call ended so
-pub record Goes {V : Type 0} (before now : Option (List Heard)) (StillTold : Type 0) (present : List NameFacts) (Good : List Heard → V → Type 0) (Bad : List Heard → WalkFault → Type 0) (result : Result V WalkFault) : Type 0 where
-  pub more : List Heard
-  pub heard : now ≡ with_answers before more
-  pub told : StillTold → All (IsTold present) more
-  pub ends : MatchResult result (Good more) (Bad more)
+-- a folder was read, and each of its entries is still to be seen to
+pub record IsEntered (answers : List Heard) (roots : List (List ℕ)) (search : SearchFacts) (folder : List ℕ) (entries : List EntryFacts) : Type 0 where
+  pub underway : IsUnderway answers roots search folder entries
+  pub reached : IsReached answers roots folder
+  pub listed : entries_in answers folder ≡ entries
+
+-- an entry of a folder is to be seen to, and then the rest
+pub record IsNext (answers : List Heard) (roots : List (List ℕ)) (search : SearchFacts) (folder : List ℕ) (entry : EntryFacts) (rest : List EntryFacts) : Type 0 where
+  pub underway : IsUnderway answers roots search folder (entry ∷ rest)
+  pub reached : IsReached answers roots folder
+  pub listed : has_entry (entries_in answers folder) entry ≡ true
+
+-- its path is short enough to be kept
+pub record IsNextAt (answers : List Heard) (roots : List (List ℕ)) (search : SearchFacts) (folder : List ℕ) (entry : EntryFacts) (rest : List EntryFacts) (path : List ℕ) : Type 0 where
+  pub next : IsNext answers roots search folder entry rest
+  pub joined : path ≡ child folder entry.name
+  pub kept : IsCanonPath path
 
 -- this call failed, and no other was made; or memory was refused
 abbrev pub IsCallFault : Heard → List Heard → WalkFault → Type 0
 IsCallFault failed more FaultFailed = more ≡ failed ∷ []
-IsCallFault failed more TooMany = ⊥
-IsCallFault failed more TooManyEntries = ⊥
-IsCallFault failed more (RootGone path) = ⊥
 IsCallFault failed more FaultMemory = Unit {0}
+IsCallFault failed more _ = ⊥

@@ -1,13 +1,12 @@
 //! The questions of a walk, one at a time.
 
-ghost use Rattle.std.specs.Prelude.{◌≡◌, ◌∷◌, [], true, IsTrue};
+ghost use Rattle.std.specs.Prelude.{◌≡◌, []};
 ghost use Rattle.row_types.specs.Canon.{IsCanonPath};
-ghost use Rattle.row_types.specs.Faults.{HasCause};
 ghost use Rattle.tree_trait.specs.Dir.{dir_failed};
 ghost use Rattle.tree_trait.specs.Heard.{stat, read_dir};
-ghost use Rattle.tree_trait.specs.Present.{IsPresence, StaysStill};
-ghost use Rattle.tree_walk.specs.Answers.{is_look_answer};
-ghost use Rattle.tree_walk.specs.Search.{Goes, IsCallFault, IsRead};
+ghost use Rattle.tree_trait.specs.Shown.{HandsOn};
+ghost use Rattle.tree_walk.specs.Ends.{Goes};
+ghost use Rattle.tree_walk.specs.Search.{IsCallFault, IsLook, IsRead};
 
 use crate::fault::WalkFault;
 use row_types::{CanonPath, Truth};
@@ -20,12 +19,11 @@ pub fn look<W: Truth, T: Tree<W>>(
     hand: &mut T,
     path: &CanonPath,
 ) -> Result<StatAnswer, WalkFault>
-    ensures goes { Goes (T.heard hand.old) (T.heard hand.new) (IsTrue T.told × T.still hand.old) (T.present hand.old)
-        (λ more answer. (more ≡ stat path.now answer ∷ []) × (is_look_answer answer ≡ true)) (IsCallFault (stat path.now StatAnswer.Failed)) result }
+    ensures goes { Goes T.told (T.shows hand.old) (T.shows hand.new) [] (IsLook path.now)
+        (IsCallFault (stat path.now StatAnswer.Failed)) result }
     ensures kept { IsCanonPath path.now }
-    ensures cause { HasCause (T.faults hand.old) (T.faults hand.new) (result ≡ Err WalkFault.Failed) }
-    ensures known { IsTrue T.told → IsPresence W.version (T.still hand.new) (T.present hand.new) }
-    ensures still { T.still hand.old → StaysStill (T.still hand.new) (T.present hand.old) (T.present hand.new) }
+    ensures hands { HandsOn T.told W.version (T.shows hand.old) (T.shows hand.new) (Unit {0})
+        (result ≡ Err WalkFault.Failed) }
 {
     match hand.stat(alloc, path.text()) {
         StatAnswer::Failed => Err(WalkFault::Failed),
@@ -49,11 +47,11 @@ pub fn read<W: Truth, T: Tree<W>>(
     hand: &mut T,
     folder: &CanonPath,
 ) -> Result<Content, WalkFault>
-    ensures goes { Goes (T.heard hand.old) (T.heard hand.new) (IsTrue T.told × T.still hand.old) (T.present hand.old)
-        (λ more content. IsRead folder.now more content.entries.items content.skipped) (IsCallFault (read_dir folder.now dir_failed)) result }
-    ensures cause { HasCause (T.faults hand.old) (T.faults hand.new) (result ≡ Err WalkFault.Failed) }
-    ensures known { IsTrue T.told → IsPresence W.version (T.still hand.new) (T.present hand.new) }
-    ensures still { T.still hand.old → StaysStill (T.still hand.new) (T.present hand.old) (T.present hand.new) }
+    ensures goes { Goes T.told (T.shows hand.old) (T.shows hand.new) []
+        (λ more content. IsRead folder.now more content.entries.items content.skipped)
+        (IsCallFault (read_dir folder.now dir_failed)) result }
+    ensures hands { HandsOn T.told W.version (T.shows hand.old) (T.shows hand.new) (Unit {0})
+        (result ≡ Err WalkFault.Failed) }
 {
     match hand.read_dir(alloc, folder.text()) {
         DirAnswer::Listed { entries, skipped } => Ok(Content { entries, skipped }),

@@ -1,5 +1,5 @@
-//! A walk over a tree: which folders are read, which paths are looked at, and which files are listed. What is
-//! done with the listing stands in the crates above.
+//! A walk over a tree: which folders are read, which paths are looked at, and which files are
+//! listed. What is done with the listing stands in the crates above.
 #![tactic(auto)]
 
 mod ask;

@@ -1,6 +1,7 @@
 //! What a walk keeps while it goes on.
 
-ghost use Rattle.std.specs.Prelude.{◌≡◌, ◌≤◌, ◌<◌, ◌↔◌, [], map, length, IsTrue, OnOk, IfOk, IfErr, MatchOption, MatchResult};
+ghost use Rattle.std.specs.Prelude.{◌≡◌, ◌≤◌, ◌<◌, ◌↔◌, [], map, length, IsTrue};
+ghost use Rattle.std.specs.Prelude.{OnOk, IfOk, IfErr, MatchOption};
 ghost use Rattle.std.specs.Bool.{OnTrue};
 ghost use Rattle.std.specs.Cmp.Lexicographic.{slice_cmp};
 ghost use Rattle.std.specs.List.Sorted.{IsStrictlySortedBy};
@@ -8,7 +9,9 @@ ghost use Rattle.std.specs.Map.{keys_of};
 ghost use Rattle.std.specs.Ordering.{nat_cmp};
 ghost use Rattle.std.specs.String.{string_bytes};
 ghost use Rattle.row_types.specs.Faults.{summed};
-ghost use Rattle.tree_walk.specs.Search.{unasked, is_looked, noted, with_folder, with_long, with_new_root, with_last, with_path, paid, names_of, IsAdded, IsAddFault};
+ghost use Rattle.tree_walk.specs.Search.{Adds, found_names, is_looked, noted, paid, unasked};
+ghost use Rattle.tree_walk.specs.Search.{with_folder, with_last, with_long, with_new_root};
+ghost use Rattle.tree_walk.specs.Search.{with_path};
 
 use crate::fault::WalkFault;
 use crate::walked::{ENTRY_LIMIT, Walk};
@@ -19,7 +22,8 @@ use std::collections::{BTreeMap, BTreeSet};
 use std::marker::Model;
 use tree_trait::{Entry, StatAnswer};
 
-/// The paths that a walk met, and what it may still read. Contracts see it as a record of lists and numbers.
+/// The paths that a walk met, and what it may still read. Contracts see it as a record of lists and
+/// numbers.
 #[derive(Drop)]
 pub struct Search {
     files: BTreeMap<CanonPath, Stamp>,
@@ -38,7 +42,15 @@ impl Model for Search {
 
     ghost Value = { SearchFacts };
 
-    ghost view = { λ s. record { files = s.files.entries; others = s.others.keys; folders = s.folders.keys; todo = s.todo.items; long = map string_bytes s.long.keys; left = s.left; skipped = s.skipped } };
+    ghost view = { λ s. record {
+      files = s.files.entries;
+      others = s.others.keys;
+      folders = s.folders.keys;
+      todo = s.todo.items;
+      long = map string_bytes s.long.keys;
+      left = s.left;
+      skipped = s.skipped;
+    } };
 }
 
 impl Search {
@@ -66,7 +78,7 @@ impl Search {
 
     /// Notes what was found at a path, if there are no more files than a listing has.
     pub fn note_new(&mut self, path: CanonPath, answer: StatAnswer) -> Result<(), WalkFault>
-        ensures { MatchResult result (λ _. IsAdded (noted self.old path answer) self.new) (IsAddFault (noted self.old path answer)) }
+        ensures { Adds (noted self.old path answer) self.new result }
     {
         self.note(path, answer)?;
         if self.is_over() {
@@ -82,7 +94,7 @@ impl Search {
         root: &CanonPath,
         answer: StatAnswer,
     ) -> Result<(), WalkFault>
-        ensures { MatchResult result (λ _. IsAdded (with_new_root self.old root.now answer) self.new) (IsAddFault (with_new_root self.old root.now answer)) }
+        ensures { Adds (with_new_root self.old root.now answer) self.new result }
     {
         self.add_root(alloc, root, answer)?;
         if self.is_over() {
@@ -145,7 +157,8 @@ impl Search {
 
     /// Takes the folder that is to be read next.
     pub fn next_folder(&mut self) -> Option<CanonPath>
-        ensures { MatchOption result ((self.new ≡ self.old) × (self.old.todo ≡ [])) (λ folder. self.old ≡ with_last self.new folder) }
+        ensures { MatchOption result ((self.new ≡ self.old) × (self.old.todo ≡ []))
+            (λ folder. self.old ≡ with_last self.new folder) }
     {
         self.todo.pop()
     }
@@ -176,8 +189,9 @@ impl Search {
     pub fn finish(self, alloc: Global) -> Result<Walk, WalkFault>
         requires few { length self.files ≤ LISTING_LIMIT }
         requires ordered { IsStrictlySortedBy (slice_cmp nat_cmp) (keys_of self.files) }
-        ensures listing { IfOk result (λ walk. walk.listing ≡ names_of self.files) }
-        ensures skipped { IfOk result (λ walk. walk.skipped ≡ summed self.skipped (length self.long)) }
+        ensures listing { IfOk result (λ walk. walk.listing ≡ found_names self.files) }
+        ensures skipped { IfOk result (λ walk.
+            walk.skipped ≡ summed self.skipped (length self.long)) }
         ensures memory { IfErr result (λ fault. fault ≡ WalkFault.OutOfMemory) }
     {
         let Search {
@@ -198,7 +212,8 @@ impl Search {
 
 /// Adds a text to a set of texts.
 fn add_text(texts: &mut BTreeSet<String>, text: String) -> Result<(), AllocError>
-    ensures { OnOk result (map string_bytes texts.new.keys ≡ with_path (map string_bytes texts.old.keys) (string_bytes text)) }
+    ensures { OnOk result (map string_bytes texts.new.keys
+        ≡ with_path (map string_bytes texts.old.keys) (string_bytes text)) }
 {
     texts.insert(text)?;
     Ok(())
@@ -208,17 +223,17 @@ fn add_text(texts: &mut BTreeSet<String>, text: String) -> Result<(), AllocError
 fn listing_of(alloc: Global, files: BTreeMap<CanonPath, Stamp>) -> Result<Listing, AllocError>
     requires few { length files.entries ≤ LISTING_LIMIT }
     requires ordered { IsStrictlySortedBy (slice_cmp nat_cmp) (keys_of files.entries) }
-    ensures { IfOk result (λ listing. listing ≡ names_of files.entries) }
+    ensures { IfOk result (λ listing. listing ≡ found_names files.entries) }
 {
-    match Listing::new(names_of(alloc, files)?) {
+    match Listing::new(found_names(alloc, files)?) {
         Ok(listing) => Ok(listing),
         Err(_) => unreachable!(),
     }
 }
 
 /// The names of the files, by path.
-fn names_of(alloc: Global, files: BTreeMap<CanonPath, Stamp>) -> Result<Vec<Name>, AllocError>
-    ensures { IfOk result (λ names. names.items ≡ names_of files.entries) }
+fn found_names(alloc: Global, files: BTreeMap<CanonPath, Stamp>) -> Result<Vec<Name>, AllocError>
+    ensures { IfOk result (λ names. names.items ≡ found_names files.entries) }
 {
     files
         .into_iter()

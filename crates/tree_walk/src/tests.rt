@@ -211,13 +211,7 @@ impl Tree<OpenWorld> for LongNames {
 
     ghost told = { false };
 
-    ghost present = { λ _. [] };
-
-    ghost still = { λ _. ⊥ };
-
-    ghost heard = { λ _. None };
-
-    ghost faults = { λ _. 0 };
+    ghost shows = { λ _. record { present = []; Still = ⊥; heard = None; faults = 0 } };
 
     fn load(&mut self, _alloc: Global, _path: &str, _limit: u64) -> LoadAnswer<OpenWorld> {
         LoadAnswer::Gone

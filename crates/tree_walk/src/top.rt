@@ -1,20 +1,18 @@
 //! The walk.
 
-ghost use Rattle.std.specs.Prelude.{◌≡◌, ◌+◌, ◌≤◌, ◌<◌, ℕ, List, [], true, ◌∷◌, ◌++◌, length, IsTrue, OnOk, IfOk};
+ghost use Rattle.std.specs.Prelude.{◌≡◌, ◌+◌, ◌≤◌, ◌<◌, ℕ, List, [], true, ◌∷◌, ◌++◌, length};
+ghost use Rattle.std.specs.Prelude.{IsTrue, IfErr, IfOk, OnOk};
 ghost use Rattle.std.specs.String.{string_bytes};
 ghost use Rattle.row_types.specs.Canon.{IsCanonPath};
-ghost use Rattle.row_types.specs.Faults.{HasCause};
-ghost use Rattle.tree_trait.specs.Dir.{child};
-ghost use Rattle.tree_trait.specs.Entry.{EntryFacts, has_entry};
-ghost use Rattle.tree_trait.specs.Heard.{Heard};
 ghost use Rattle.row_types.specs.Under.{front_under};
-ghost use Rattle.tree_trait.specs.Present.{IsPresence, StaysStill};
-ghost use Rattle.tree_walk.specs.Answers.{entries_in};
-ghost use Rattle.tree_walk.specs.Ends.{Walks, IsCause};
+ghost use Rattle.tree_trait.specs.Dir.{child};
+ghost use Rattle.tree_trait.specs.Entry.{EntryFacts};
+ghost use Rattle.tree_trait.specs.Heard.{Heard};
+ghost use Rattle.tree_trait.specs.Shown.{HandsOn};
+ghost use Rattle.tree_walk.specs.Ends.{Goes, IsCause, Walks};
 ghost use Rattle.tree_walk.specs.Files.{AreFilesUnder, FitsFault};
-ghost use Rattle.tree_walk.specs.declared.fault.WalkFault.{WalkFault};
-ghost use Rattle.tree_walk.specs.Search.{Goes, IsBeginning, IsUnderway, with_last};
-ghost use Rattle.tree_walk.specs.Walked.{IsReached};
+ghost use Rattle.tree_walk.specs.Search.{IsBeginning, IsEntered, IsNext, IsNextAt, IsUnderway};
+ghost use Rattle.tree_walk.specs.Search.{with_last};
 
 use crate::ask::{look, read};
 use crate::fault::WalkFault;
@@ -24,21 +22,22 @@ use row_types::{CanonPath, SEPARATOR, Truth};
 use std::alloc::{AllocError, Global};
 use tree_trait::{Entry, EntryKind, StatAnswer, Tree};
 
-/// Lists the files under the roots. The roots are looked at first, in the order given; a root that is a file is
-/// listed itself. A folder that is gone is empty. The walk ends at its first fault.
+/// Lists the files under the roots. The roots are looked at first, in the order given; a root that
+/// is a file is listed itself. A folder that is gone is empty. The walk ends at its first fault.
 pub fn walk<W: Truth, T: Tree<W>>(
     alloc: Global,
     hand: &mut T,
     roots: &[CanonPath],
 ) -> Result<Walk, WalkFault>
-    ensures walk { Walks (T.heard hand.old) (T.heard hand.new) (IsTrue T.told × T.still hand.old) (T.present hand.old) roots.now result }
+    ensures walk { Walks T.told (T.shows hand.old) (T.shows hand.new) roots.now result }
 
     // Whether or not the answers are told at the end.
-    ensures files { IsTrue T.told → T.still hand.old → IfOk result (λ walk. AreFilesUnder (T.present hand.old) roots.now walk.listing) }
-    ensures refused { IsTrue T.told → T.still hand.old → (fault : WalkFault) → result ≡ Err fault → FitsFault (T.present hand.old) roots.now fault }
-    ensures cause { HasCause (T.faults hand.old) (T.faults hand.new) (result ≡ Err WalkFault.Failed) }
-    ensures known { IsTrue T.told → 0 < length roots.now → IsPresence W.version (T.still hand.new) (T.present hand.new) }
-    ensures still { T.still hand.old → StaysStill (T.still hand.new) (T.present hand.old) (T.present hand.new) }
+    ensures files { IsTrue T.told → (T.shows hand.old).Still
+        → IfOk result (λ walk. AreFilesUnder (T.shows hand.old).present roots.now walk.listing) }
+    ensures refused { IsTrue T.told → (T.shows hand.old).Still
+        → IfErr result (FitsFault (T.shows hand.old).present roots.now) }
+    ensures hands { HandsOn T.told W.version (T.shows hand.old) (T.shows hand.new)
+        (0 < length roots.now) (result ≡ Err WalkFault.Failed) }
 {
     let mut search = begin(alloc, hand, roots)?;
     while let Some(folder) = search.next_folder() {
@@ -53,11 +52,11 @@ fn begin<W: Truth, T: Tree<W>>(
     hand: &mut T,
     roots: &[CanonPath],
 ) -> Result<Search, WalkFault>
-    ensures goes { Goes (T.heard hand.old) (T.heard hand.new) (IsTrue T.told × T.still hand.old) (T.present hand.old)
-        (λ more search. IsUnderway more roots.now search [] []) (λ more fault. IsCause more roots.now fault) result }
-    ensures cause { HasCause (T.faults hand.old) (T.faults hand.new) (result ≡ Err WalkFault.Failed) }
-    ensures known { IsTrue T.told → 0 < length roots.now → IsPresence W.version (T.still hand.new) (T.present hand.new) }
-    ensures still { T.still hand.old → StaysStill (T.still hand.new) (T.present hand.old) (T.present hand.new) }
+    ensures goes { Goes T.told (T.shows hand.old) (T.shows hand.new) []
+        (λ heard search. IsUnderway heard roots.now search [] [])
+        (λ heard. IsCause heard roots.now) result }
+    ensures hands { HandsOn T.told W.version (T.shows hand.old) (T.shows hand.new)
+        (0 < length roots.now) (result ≡ Err WalkFault.Failed) }
 {
     let mut search = Search::new(alloc);
     for root in roots {
@@ -73,12 +72,13 @@ fn look_at_root<W: Truth, T: Tree<W>>(
     hand: &mut T,
     root: &CanonPath,
 ) -> Result<(), WalkFault>
-    ensures goes { (answers : List Heard) (roots seen after : List (List ℕ)) → roots ≡ seen ++ root.now ∷ after → IsBeginning answers roots seen search.old
-        → Goes (T.heard hand.old) (T.heard hand.new) (IsTrue T.told × T.still hand.old) (T.present hand.old)
-        (λ more _. IsBeginning (answers ++ more) roots (seen ++ root.now ∷ []) search.new) (λ more fault. IsCause (answers ++ more) roots fault) result }
-    ensures cause { HasCause (T.faults hand.old) (T.faults hand.new) (result ≡ Err WalkFault.Failed) }
-    ensures known { IsTrue T.told → IsPresence W.version (T.still hand.new) (T.present hand.new) }
-    ensures still { T.still hand.old → StaysStill (T.still hand.new) (T.present hand.old) (T.present hand.new) }
+    ensures goes { (answers : List Heard) (roots seen after : List (List ℕ))
+        → roots ≡ seen ++ root.now ∷ after → IsBeginning answers roots seen search.old
+        → Goes T.told (T.shows hand.old) (T.shows hand.new) answers
+        (λ heard _. IsBeginning heard roots (seen ++ root.now ∷ []) search.new)
+        (λ heard. IsCause heard roots) result }
+    ensures hands { HandsOn T.told W.version (T.shows hand.old) (T.shows hand.new) (Unit {0})
+        (result ≡ Err WalkFault.Failed) }
 {
     let answer = look(alloc, hand, root)?;
     match answer {
@@ -94,13 +94,14 @@ fn read_folder<W: Truth, T: Tree<W>>(
     hand: &mut T,
     folder: &CanonPath,
 ) -> Result<(), WalkFault>
-    ensures goes { (answers : List Heard) (roots : List (List ℕ)) → IsUnderway answers roots (with_last search.old folder.now) [] []
-        → Goes (T.heard hand.old) (T.heard hand.new) (IsTrue T.told × T.still hand.old) (T.present hand.old)
-        (λ more _. IsUnderway (answers ++ more) roots search.new [] []) (λ more fault. IsCause (answers ++ more) roots fault) result }
-    ensures ends { OnOk result (search.new.left + length search.new.todo ≤ search.old.left + length search.old.todo) }
-    ensures cause { HasCause (T.faults hand.old) (T.faults hand.new) (result ≡ Err WalkFault.Failed) }
-    ensures known { IsTrue T.told → IsPresence W.version (T.still hand.new) (T.present hand.new) }
-    ensures still { T.still hand.old → StaysStill (T.still hand.new) (T.present hand.old) (T.present hand.new) }
+    ensures goes { (answers : List Heard) (roots : List (List ℕ))
+        → IsUnderway answers roots (with_last search.old folder.now) [] []
+        → Goes T.told (T.shows hand.old) (T.shows hand.new) answers
+        (λ heard _. IsUnderway heard roots search.new [] []) (λ heard. IsCause heard roots) result }
+    ensures ends { OnOk result
+        (search.new.left + length search.new.todo ≤ search.old.left + length search.old.todo) }
+    ensures hands { HandsOn T.told W.version (T.shows hand.old) (T.shows hand.new) (Unit {0})
+        (result ≡ Err WalkFault.Failed) }
 {
     let entries = read_entries(alloc, search, hand, folder)?;
     enter_all(alloc, search, hand, folder, entries.as_slice())
@@ -114,14 +115,15 @@ fn enter_all<W: Truth, T: Tree<W>>(
     folder: &CanonPath,
     entries: &[Entry],
 ) -> Result<(), WalkFault>
-    ensures goes { (answers : List Heard) (roots : List (List ℕ)) → IsUnderway answers roots search.old folder.now entries.now
-        → IsReached answers roots folder.now → entries_in answers folder.now ≡ entries.now
-        → Goes (T.heard hand.old) (T.heard hand.new) (IsTrue T.told × T.still hand.old) (T.present hand.old)
-        (λ more _. IsUnderway (answers ++ more) roots search.new folder.now []) (λ more fault. IsCause (answers ++ more) roots fault) result }
-    ensures ends { OnOk result ((search.new.left ≡ search.old.left) × (length search.new.todo ≤ length search.old.todo + length entries.now)) }
-    ensures cause { HasCause (T.faults hand.old) (T.faults hand.new) (result ≡ Err WalkFault.Failed) }
-    ensures known { IsTrue T.told → IsPresence W.version (T.still hand.old) (T.present hand.old) → IsPresence W.version (T.still hand.new) (T.present hand.new) }
-    ensures still { T.still hand.old → StaysStill (T.still hand.new) (T.present hand.old) (T.present hand.new) }
+    ensures goes { (answers : List Heard) (roots : List (List ℕ))
+        → IsEntered answers roots search.old folder.now entries.now
+        → Goes T.told (T.shows hand.old) (T.shows hand.new) answers
+        (λ heard _. IsUnderway heard roots search.new folder.now [])
+        (λ heard. IsCause heard roots) result }
+    ensures ends { OnOk result ((search.new.left ≡ search.old.left)
+        × (length search.new.todo ≤ length search.old.todo + length entries.now)) }
+    ensures hands { HandsOn T.told W.version (T.shows hand.old) (T.shows hand.new) ⊥
+        (result ≡ Err WalkFault.Failed) }
 {
     for entry in entries {
         enter(alloc, search, hand, folder, entry)?;
@@ -136,14 +138,16 @@ fn read_entries<W: Truth, T: Tree<W>>(
     hand: &mut T,
     folder: &CanonPath,
 ) -> Result<Vec<Entry>, WalkFault>
-    ensures goes { (answers : List Heard) (roots : List (List ℕ)) → IsUnderway answers roots (with_last search.old folder.now) [] []
-        → Goes (T.heard hand.old) (T.heard hand.new) (IsTrue T.told × T.still hand.old) (T.present hand.old)
-        (λ more entries. IsUnderway (answers ++ more) roots search.new folder.now entries.items × IsReached (answers ++ more) roots folder.now × (entries_in (answers ++ more) folder.now ≡ entries.items))
-        (λ more fault. IsCause (answers ++ more) roots fault) result }
-    ensures ends { IfOk result (λ entries. (search.new.left + length entries.items ≡ search.old.left) × (search.new.todo ≡ search.old.todo)) }
-    ensures cause { HasCause (T.faults hand.old) (T.faults hand.new) (result ≡ Err WalkFault.Failed) }
-    ensures known { IsTrue T.told → IsPresence W.version (T.still hand.new) (T.present hand.new) }
-    ensures still { T.still hand.old → StaysStill (T.still hand.new) (T.present hand.old) (T.present hand.new) }
+    ensures goes { (answers : List Heard) (roots : List (List ℕ))
+        → IsUnderway answers roots (with_last search.old folder.now) [] []
+        → Goes T.told (T.shows hand.old) (T.shows hand.new) answers
+        (λ heard entries. IsEntered heard roots search.new folder.now entries.items)
+        (λ heard. IsCause heard roots) result }
+    ensures ends { IfOk result (λ entries.
+        (search.new.left + length entries.items ≡ search.old.left)
+        × (search.new.todo ≡ search.old.todo)) }
+    ensures hands { HandsOn T.told W.version (T.shows hand.old) (T.shows hand.new) (Unit {0})
+        (result ≡ Err WalkFault.Failed) }
 {
     let content = read(alloc, hand, folder)?;
     if search.pay(content.entries.as_slice(), content.skipped) {
@@ -161,14 +165,15 @@ fn enter<W: Truth, T: Tree<W>>(
     folder: &CanonPath,
     entry: &Entry,
 ) -> Result<(), WalkFault>
-    ensures goes { (answers : List Heard) (roots : List (List ℕ)) (rest : List EntryFacts) → IsUnderway answers roots search.old folder.now (entry.now ∷ rest)
-        → IsReached answers roots folder.now → has_entry (entries_in answers folder.now) entry.now ≡ true
-        → Goes (T.heard hand.old) (T.heard hand.new) (IsTrue T.told × T.still hand.old) (T.present hand.old)
-        (λ more _. IsUnderway (answers ++ more) roots search.new folder.now rest) (λ more fault. IsCause (answers ++ more) roots fault) result }
-    ensures ends { OnOk result ((search.new.left ≡ search.old.left) × (length search.new.todo ≤ length search.old.todo + 1)) }
-    ensures cause { HasCause (T.faults hand.old) (T.faults hand.new) (result ≡ Err WalkFault.Failed) }
-    ensures known { IsTrue T.told → IsPresence W.version (T.still hand.old) (T.present hand.old) → IsPresence W.version (T.still hand.new) (T.present hand.new) }
-    ensures still { T.still hand.old → StaysStill (T.still hand.new) (T.present hand.old) (T.present hand.new) }
+    ensures goes { (answers : List Heard) (roots : List (List ℕ)) (rest : List EntryFacts)
+        → IsNext answers roots search.old folder.now entry.now rest
+        → Goes T.told (T.shows hand.old) (T.shows hand.new) answers
+        (λ heard _. IsUnderway heard roots search.new folder.now rest)
+        (λ heard. IsCause heard roots) result }
+    ensures ends { OnOk result ((search.new.left ≡ search.old.left)
+        × (length search.new.todo ≤ length search.old.todo + 1)) }
+    ensures hands { HandsOn T.told W.version (T.shows hand.old) (T.shows hand.new) ⊥
+        (result ≡ Err WalkFault.Failed) }
 {
     let text = child(alloc, folder, entry.name())?;
     match CanonPath::check(text) {
@@ -185,15 +190,16 @@ fn enter_path<W: Truth, T: Tree<W>>(
     path: CanonPath,
     kind: EntryKind,
 ) -> Result<(), WalkFault>
-    ensures goes { (answers : List Heard) (roots : List (List ℕ)) (folder : List ℕ) (name : List ℕ) (rest : List EntryFacts) → path ≡ child folder name → IsCanonPath path
-        → IsUnderway answers roots search.old folder (record { name = name; kind = kind } ∷ rest)
-        → IsReached answers roots folder → has_entry (entries_in answers folder) (record { name = name; kind = kind }) ≡ true
-        → Goes (T.heard hand.old) (T.heard hand.new) (IsTrue T.told × T.still hand.old) (T.present hand.old)
-        (λ more _. IsUnderway (answers ++ more) roots search.new folder rest) (λ more fault. IsCause (answers ++ more) roots fault) result }
-    ensures ends { OnOk result ((search.new.left ≡ search.old.left) × (length search.new.todo ≤ length search.old.todo + 1)) }
-    ensures cause { HasCause (T.faults hand.old) (T.faults hand.new) (result ≡ Err WalkFault.Failed) }
-    ensures known { IsTrue T.told → IsPresence W.version (T.still hand.old) (T.present hand.old) → IsPresence W.version (T.still hand.new) (T.present hand.new) }
-    ensures still { T.still hand.old → StaysStill (T.still hand.new) (T.present hand.old) (T.present hand.new) }
+    ensures goes { (answers : List Heard) (roots : List (List ℕ)) (folder : List ℕ)
+        (entry : EntryFacts) (rest : List EntryFacts)
+        → entry.kind ≡ kind → IsNextAt answers roots search.old folder entry rest path
+        → Goes T.told (T.shows hand.old) (T.shows hand.new) answers
+        (λ heard _. IsUnderway heard roots search.new folder rest)
+        (λ heard. IsCause heard roots) result }
+    ensures ends { OnOk result ((search.new.left ≡ search.old.left)
+        × (length search.new.todo ≤ length search.old.todo + 1)) }
+    ensures hands { HandsOn T.told W.version (T.shows hand.old) (T.shows hand.new) ⊥
+        (result ≡ Err WalkFault.Failed) }
 {
     match kind {
         EntryKind::Folder => Ok(search.add_folder(alloc, &path)?),
@@ -209,15 +215,16 @@ fn look_at_file<W: Truth, T: Tree<W>>(
     hand: &mut T,
     path: CanonPath,
 ) -> Result<(), WalkFault>
-    ensures goes { (answers : List Heard) (roots : List (List ℕ)) (folder : List ℕ) (name : List ℕ) (rest : List EntryFacts) → path ≡ child folder name → IsCanonPath path
-        → IsUnderway answers roots search.old folder (record { name = name; kind = EntryKind.File } ∷ rest)
-        → IsReached answers roots folder → has_entry (entries_in answers folder) (record { name = name; kind = EntryKind.File }) ≡ true
-        → Goes (T.heard hand.old) (T.heard hand.new) (IsTrue T.told × T.still hand.old) (T.present hand.old)
-        (λ more _. IsUnderway (answers ++ more) roots search.new folder rest) (λ more fault. IsCause (answers ++ more) roots fault) result }
-    ensures ends { OnOk result ((search.new.left ≡ search.old.left) × (search.new.todo ≡ search.old.todo)) }
-    ensures cause { HasCause (T.faults hand.old) (T.faults hand.new) (result ≡ Err WalkFault.Failed) }
-    ensures known { IsTrue T.told → IsPresence W.version (T.still hand.old) (T.present hand.old) → IsPresence W.version (T.still hand.new) (T.present hand.new) }
-    ensures still { T.still hand.old → StaysStill (T.still hand.new) (T.present hand.old) (T.present hand.new) }
+    ensures goes { (answers : List Heard) (roots : List (List ℕ)) (folder : List ℕ)
+        (entry : EntryFacts) (rest : List EntryFacts)
+        → entry.kind ≡ EntryKind.File → IsNextAt answers roots search.old folder entry rest path
+        → Goes T.told (T.shows hand.old) (T.shows hand.new) answers
+        (λ heard _. IsUnderway heard roots search.new folder rest)
+        (λ heard. IsCause heard roots) result }
+    ensures ends { OnOk result ((search.new.left ≡ search.old.left)
+        × (search.new.todo ≡ search.old.todo)) }
+    ensures hands { HandsOn T.told W.version (T.shows hand.old) (T.shows hand.new) ⊥
+        (result ≡ Err WalkFault.Failed) }
 {
     if search.is_looked(&path) {
         return Ok(());

@@ -1,10 +1,10 @@
+-- The reading is answered and paid, or it lists too much, or it fails.
 use Rattle.std.proofs.Common.{◌≡◌, ◌<◌, ◌≤◌, inl, inr, true, List, ◌++◌, length, refl, sym, ◌∙◌, ap, subst}
 use Rattle.std.proofs.lemmas.Bool.{false≢true, cases_lt}
 use Rattle.tree_trait.specs.Dir.{dir_failed}
 use Rattle.tree_trait.specs.Entry.{EntryFacts}
-use Rattle.tree_trait.specs.Heard.{read_dir}
-use Rattle.tree_walk.specs.Answers.{has_failed}
-use Rattle.tree_walk.specs.Search.{SearchFacts, IsUnderway, paid}
+use Rattle.tree_trait.specs.Heard.{read_dir, has_failed}
+use Rattle.tree_walk.specs.Search.{SearchFacts, IsEntered, paid}
 use Rattle.tree_walk.proofs.LastLemmas.{read_last}
 use Rattle.tree_walk.proofs.FileLemmas.{read_into, read_over}
 use Rattle.tree_walk.proofs.GoesLemmas.{goes_on, goes_up, call_fault}
@@ -12,24 +12,24 @@ use Rattle.tree_walk.proofs.top.read_entries.Goals as goal
 
 pub returns-in_err-content-clause-goes : goal.returns-in_err-content-clause-goes
 returns-in_err-content-clause-goes g c = λ answers roots u.
-    goes_up _ _ _ _ _ _ _ _ c.from_residual.result c.in_err-content.field-0.0 c.from_residual.ensures.1 c.in_err-content.ensures.goes
-    (λ more h. call_fault answers more roots (read_dir c.args.folder.now dir_failed) c.in_err-content.field-0.0
+    goes_up c.from_residual.ensures.1 c.in_err-content.ensures.goes
+    (λ more h. call_fault answers more (read_dir c.args.folder.now dir_failed) c.in_err-content.field-0.0
     (read_last answers roots c.args.search.now c.args.folder.now dir_failed (λ last. has_failed last ≡ true) u refl) h)
 
 pub returns-then-pay-clause-goes : goal.returns-then-pay-clause-goes
 returns-then-pay-clause-goes g c = λ answers roots u.
-    goes_on _ _ _ _ _ _ _ _ _ _ c.in_ok-content.ensures.goes
+    goes_on c.in_ok-content.ensures.goes
     (λ more h.
     let items : List EntryFacts = c.in_ok-content.content.entries.items in
     let fits : length items ≤ c.args.search.now.left = subst (λ (es : List EntryFacts). length es ≤ c.args.search.now.left) c.as_slice.ensures.value (c.pay.ensures.room.0 c.if-pay.true) in
     let now : c.pay.new.self ≡ paid c.args.search.now (length items) c.in_ok-content.content.skipped =
     c.if-pay.ensures.value ∙ ap (λ (es : List EntryFacts). paid c.args.search.now (length es) c.in_ok-content.content.skipped) c.as_slice.ensures.value in
-    let into = read_into answers more roots c.args.search.now c.args.folder.now items c.in_ok-content.content.skipped u h fits in
-    (subst (λ (s : SearchFacts). IsUnderway (answers ++ more) roots s c.args.folder.now items) (sym now) into.walk, into.reached, into.listed))
+    subst (λ (s : SearchFacts). IsEntered (answers ++ more) roots s c.args.folder.now items) (sym now)
+    (read_into answers more roots c.args.search.now c.args.folder.now items c.in_ok-content.content.skipped u h fits))
 
 pub returns-else-pay-clause-goes : goal.returns-else-pay-clause-goes
 returns-else-pay-clause-goes g c = λ answers roots u.
-    goes_on _ _ _ _ _ _ _ _ _ _ c.in_ok-content.ensures.goes
+    goes_on c.in_ok-content.ensures.goes
     (λ more h.
     let items : List EntryFacts = c.in_ok-content.content.entries.items in
     let over : c.args.search.now.left < length items = elim (cases_lt c.args.search.now.left (length items)) [

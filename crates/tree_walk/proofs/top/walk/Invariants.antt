@@ -1,15 +1,14 @@
-use Rattle.std.proofs.Common.{◌+◌, ◌<◌, ◌≤◌, [], length, Ok, IsTrue}
-use Rattle.tree_trait.specs.Present.{IsPresence, StaysStill}
-use Rattle.tree_walk.specs.Ends.{IsCause}
-use Rattle.tree_walk.specs.Search.{Goes, IsUnderway}
+-- The walk is underway, and each folder is paid from what may still be read.
+use Rattle.std.proofs.Common.{◌+◌, ◌<◌, [], length, Ok}
+use Rattle.tree_trait.specs.Shown.{HandsOn}
+use Rattle.tree_walk.specs.Ends.{Goes, IsCause}
+use Rattle.tree_walk.specs.Search.{IsUnderway}
 use Rattle.tree_walk.proofs.top.walk.Given as goal
 
 abbrev pub invariant-loop-folder : goal.invariant-loop-folder
 invariant-loop-folder g l = record {
-  goes : Goes (g.T.Tree.heard l.fn.hand) (g.T.Tree.heard l.hand) (IsTrue g.T.Tree.told × g.T.Tree.still l.fn.hand) (g.T.Tree.present l.fn.hand) (λ more search. IsUnderway more l.fn.roots search [] []) (λ more fault. IsCause more l.fn.roots fault) (Ok l.search);
-  later : g.T.Tree.faults l.fn.hand ≤ g.T.Tree.faults l.hand;
-  known : IsTrue g.T.Tree.told → 0 < length l.fn.roots → IsPresence g.W.Truth.version (g.T.Tree.still l.hand) (g.T.Tree.present l.hand);
-  still : g.T.Tree.still l.fn.hand → StaysStill (g.T.Tree.still l.hand) (g.T.Tree.present l.fn.hand) (g.T.Tree.present l.hand);
+  goes : Goes g.T.Tree.told (g.T.Tree.shows l.fn.hand) (g.T.Tree.shows l.hand) [] (λ heard search. IsUnderway heard l.fn.roots search [] []) (λ heard. IsCause heard l.fn.roots) (Ok l.search);
+  hands : HandsOn g.T.Tree.told g.W.Truth.version (g.T.Tree.shows l.fn.hand) (g.T.Tree.shows l.hand) (0 < length l.fn.roots) ⊥;
 }
 
 abbrev pub decreases-loop-folder : goal.decreases-loop-folder
