@@ -1,9 +1,9 @@
 -- Keepers (this project's rule): the tables as they are, and those that a crash now may leave. A crash within a
 -- call is a call that fails, after which the keeper is given back and the store is opened again.
-use Rattle.std.specs.Prelude.{◌≡◌, ◌⊎◌, ◌↔◌, ℕ, Bool, List, [], ◌∷◌, ◌++◌, Option, option_map, All, IsTrue}
+use Rattle.std.specs.Prelude.{◌≡◌, ◌⊎◌, ◌↔◌, ℕ, Bool, false, List, [], ◌∷◌, ◌++◌, Option, option_map, All, IsTrue}
 use Rattle.row_types.specs.Faults.{HasCause}
 use Rattle.row_types.specs.Row.{RowFacts}
-use Rattle.index_keeper.specs.Answers.{Asked, for_rows, for_change, has_failed, wants_memory}
+use Rattle.index_keeper.specs.Answers.{Asked, for_rows, for_change, has_failed}
 use Rattle.index_keeper.specs.Tables.{AscendsByPath, KeptFacts, EditFacts, edited}
 use Rattle.index_keeper.specs.TrueRows.{IsTrueKept}
 use Rattle.index_keeper.specs.declared.answer.KeepAnswer.TheVariants.{Done, Failed}
@@ -56,12 +56,12 @@ abbrev pub made_after : Option (List EditFacts) → Asked → Option (List EditF
 made_after made (for_change edit Done) = option_map (λ edits. edits ++ edit ∷ []) made
 made_after made _ = made
 
--- a keeper was asked, and answered: a fault only where its count rose; want of memory counts none
+-- a keeper was asked, and answered: its count rises where it failed, and nowhere else
 pub record Asks (told : Bool) (before after : ShownKeeper) (asked : Asked) : Type 0 where
   pub tells : IsTrue told → TellsTables before after asked
   pub grows : after.made ≡ made_after before.made asked
   pub cause : HasCause before.faults after.faults (IsTrue (has_failed asked))
-  pub memory : IsTrue (wants_memory asked) → after.faults ≡ before.faults
+  pub faultless : has_failed asked ≡ false → after.faults ≡ before.faults
   pub number : after.epoch ≡ before.epoch
 
 -- nothing came of it, whether the keeper was asked or not

@@ -27,13 +27,13 @@ pub record HasAll (told : Bool) (before : ShownStore) (keeper : ShownKeeper) : T
   pub made : keeper.made ≡ before.made
   pub faultless : keeper.faults ≡ 0
 
--- the store was opened by the path, under a higher number, which is the keeper's
+-- the store was opened by the path, under a higher number, which is the keeper's; no fault was counted
 pub record IsOpened (told : Bool) (path : List ℕ) (before after : ShownStore) (keeper : ShownKeeper) : Type 0 where
   pub holds : HasAll told before keeper
   pub number : keeper.epoch ≡ after.epoch
   pub rises : Rose before.epoch after.epoch
   pub later : before.epoch ≤ after.epoch
-  pub faults : before.faults ≤ after.faults
+  pub faults : after.faults ≡ before.faults
   pub paths : after.paths ≡ with_path path before.paths
 
 -- the store failed to be opened by the path: its count rose, and it holds what it held

@@ -8,9 +8,9 @@ use Rattle.std.proofs.lemmas.Slice.Eq.{bytes_eq-Decides}
 use Rattle.row_types.specs.Name.{NameFacts}
 use Rattle.row_types.specs.Row.{RowFacts}
 use Rattle.row_types.specs.Ascends.{AscendsBy}
-use Rattle.index_rows.specs.Kept.{HasRoom, IsKept}
+use Rattle.index_rows.specs.Kept.{RoomFor, IsKept}
 use Rattle.index_rows.specs.Log.{put_of, drop_of, replay}
-use Rattle.index_rows.specs.Rows.{RowsFacts, path_of, names_of, row_at, IsReady, IsDropOf, IsIndex, with_row, without_row, after_put, after_drop, after_void, CanBeVoid, void_of}
+use Rattle.index_rows.specs.Rows.{RowsFacts, row_path, row_names, row_at, IsReady, IsDropOf, IsIndex, with_row, without_row, after_put, after_drop, after_void, CanBeVoid, void_of}
 use Rattle.index_rows.specs.declared.change.Change.{Change}
 use Rattle.index_rows.specs.declared.prepared.Prepared.{Prepared}
 use Rattle.index_rows.specs.declared.prepared.Prepared.TheVariants.{Nothing, Put, Drop}
@@ -28,8 +28,8 @@ pub index_after_put : (is_true : RowFacts → Type 0) (old : RowsFacts) (row : R
 index_after_put is_true old row h e one =
     let room : length old.log < LOG_LIMIT = subst (λ (p : Prepared). IsReady p old.rows old.log) e h.ready in
     record {
-      ascends = put_ascends path_of row old.rows h.ascends;
-      holds = put_holds is_true path_of row old.rows h.holds one;
+      ascends = put_ascends row_path row old.rows h.ascends;
+      holds = put_holds is_true row_path row old.rows h.holds one;
       replays = put_replays old.rows old.log row h.replays;
       bounded = omega (arith, length_push old.log (put_of row.name), room);
       ready = tt;
@@ -41,7 +41,7 @@ index_after_drop is_true old name h e =
     let ready : IsReady (Drop name) old.rows old.log = subst (λ (p : Prepared). IsReady p old.rows old.log) e h.ready in
     let room : length old.log < LOG_LIMIT = ready.0 in
     record {
-      ascends = without_ascends path_of name.path old.rows h.ascends;
+      ascends = without_ascends row_path name.path old.rows h.ascends;
       holds = All-filter _ is_true old.rows h.holds;
       replays = drop_replays old.rows old.log name h.ascends ready.1 h.replays;
       bounded = omega (arith, length_push old.log (drop_of name), room);
@@ -49,7 +49,7 @@ index_after_drop is_true old name h e =
     }
 
 -- the void change stands for the prepared one
-void_replays : (p : Prepared) (rows : List RowFacts) (log : List Change) → AscendsBy path_of rows → names_of rows ≡ replay log → IsReady p rows log → CanBeVoid p rows → replay (log ++ void_of p) ≡ replay log
+void_replays : (p : Prepared) (rows : List RowFacts) (log : List Change) → AscendsBy row_path rows → row_names rows ≡ replay log → IsReady p rows log → CanBeVoid p rows → replay (log ++ void_of p) ≡ replay log
 void_replays Nothing rows log ascends same ready can = absurd can
 void_replays (Put row) rows log ascends same ready can = void_drop rows log row.name ascends can same
 void_replays (Drop name) rows log ascends same ready can = void_put rows log name ascends ready.1 same
@@ -77,8 +77,8 @@ index_after_void is_true old h can = record {
 -- the name of what was found by its path has the path
 pub has_path : (path : List ℕ) (rows : List RowFacts) (row : RowFacts) (name : NameFacts) → row_at path rows ≡ Some row → name ≡ row.name → name.path ≡ path
 has_path path rows row name e same =
-    let found : IsFound (λ r. bytes_eq (path_of r) path) rows row = found_there (λ r. bytes_eq (path_of r) path) rows row e in
-    ap (λ (n : NameFacts). n.path) same ∙ (bytes_eq-Decides (path_of row) path).0 found.passes
+    let found : IsFound (λ r. bytes_eq (row_path r) path) rows row = found_there (λ r. bytes_eq (row_path r) path) rows row e in
+    ap (λ (n : NameFacts). n.path) same ∙ (bytes_eq-Decides (row_path row) path).0 found.passes
 
 -- an index's rows with a drop prepared
 pub index_with_drop : (is_true : RowFacts → Type 0) (old : RowsFacts) (path : List ℕ) (row : RowFacts) (name : NameFacts) → IsIndex is_true old → length old.log ≢ LOG_LIMIT → row_at path old.rows ≡ Some row → name ≡ row.name → IsIndex is_true (record old { prepared = Drop name })
@@ -105,7 +105,7 @@ index_same is_true now rows log prepared p q r h =
 pub at_rest : (is_true : RowFacts → Type 0) (facts : RowsFacts) (RowsRoom LogRoom : Type 0) → facts.prepared ≡ Nothing → IsIndex is_true facts → IsKept is_true facts RowsRoom LogRoom
 at_rest is_true facts RowsRoom LogRoom none h = record {
   index = h;
-  room = subst (λ (p : Prepared). HasRoom p RowsRoom LogRoom) (sym none) tt;
+  room = subst (λ (p : Prepared). RoomFor p RowsRoom LogRoom) (sym none) tt;
 }
 
 -- the fields after a put

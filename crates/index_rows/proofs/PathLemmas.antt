@@ -16,7 +16,7 @@ use Rattle.std.proofs.lemmas.List.Kept.{AllPairs-cons, AllPairs-filter}
 use Rattle.std.proofs.lemmas.List.Sorted.{searchable_from_sorted}
 use Rattle.row_types.specs.Ascends.{IsBefore, is_before, AscendsBy}
 use Rattle.row_types.proofs.AscendsLemmas.{before_differs, before_from_test}
-use Rattle.index_rows.specs.ByPath.{put_at, find_at, without}
+use Rattle.index_rows.specs.ByPath.{put_at, find_at, without_at}
 use Rattle.index_rows.specs.Places.{StandsAt, BelongsAt, IsPlace}
 use Rattle.index_rows.proofs.Lists.{filter_all, filter_none, filter_front, filter_back, filter_skips, filter_but, around, split_place, find_none, find_first, map_filter, all_pairs_append, IsFound, found_there}
 
@@ -140,7 +140,7 @@ put_over {X} path x xs place h =
         ∙ behind
 
 -- a removal where the path stands leaves the list without it
-pub removed : {X : Type 0} (path : X → List ℕ) (key : List ℕ) (xs : List X) (place : ℕ) (d : X) → StandsAt path key xs place → remove xs place ≡ without path key xs
+pub removed : {X : Type 0} (path : X → List ℕ) (key : List ℕ) (xs : List X) (place : ℕ) (d : X) → StandsAt path key xs place → remove xs place ≡ without_at path key xs
 removed {X} path key xs place d h =
     sym (ap (filter (λ x. not (bytes_eq (path x) key))) (split_place xs place d h.within)
     ∙ filter_but (λ x. not (bytes_eq (path x) key)) (take place xs) (get_or xs place d) (drop (suc place) xs)
@@ -192,7 +192,7 @@ put_ascends {X} path x xs ascends =
     behind = All-weaker (λ y. is_before (path x) (path y) ≡ true) (Before x) (λ y. before_from_test (path x) (path y)) back (filter_passes (λ y. is_before (path x) (path y)) xs)
 
 -- the others keep the order
-pub without_ascends : {X : Type 0} (path : X → List ℕ) (key : List ℕ) (xs : List X) → AscendsBy path xs → AscendsBy path (without path key xs)
+pub without_ascends : {X : Type 0} (path : X → List ℕ) (key : List ℕ) (xs : List X) → AscendsBy path xs → AscendsBy path (without_at path key xs)
 without_ascends path key xs ascends = AllPairs-filter (λ x y. IsBefore (path x) (path y)) (λ x. not (bytes_eq (path x) key)) xs ascends
 
 -- what holds of all and of x holds of all after a put

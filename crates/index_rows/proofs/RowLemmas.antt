@@ -17,7 +17,7 @@ use Rattle.row_types.proofs.PartLemmas.{names_same, stamps_same}
 use Rattle.row_types.specs.Ascends.{AscendsBy}
 use Rattle.index_rows.specs.ByPath.{put_at, find_at}
 use Rattle.index_rows.specs.Log.{put_of, drop_of, after_change, replay}
-use Rattle.index_rows.specs.Rows.{path_of, names_of, row_at, with_row, without_row, Stands}
+use Rattle.index_rows.specs.Rows.{row_path, row_names, row_at, with_row, without_row, Stands}
 use Rattle.index_rows.specs.declared.change.Change.{Change}
 use Rattle.index_rows.proofs.Lists.{filter_all, filter_same, map_filter}
 use Rattle.index_rows.proofs.PathLemmas.{map_put, put_again, stands_here, found_standing}
@@ -52,49 +52,49 @@ pub replay_more : (log : List Change) (change : Change) → replay (log ++ chang
 replay_more log change = fold_push after_change [] log change
 
 -- a put of a row is replayed by the put of its name
-pub put_replays : (rows : List RowFacts) (log : List Change) (row : RowFacts) → names_of rows ≡ replay log → names_of (with_row row rows) ≡ replay (log ++ put_of row.name ∷ [])
+pub put_replays : (rows : List RowFacts) (log : List Change) (row : RowFacts) → row_names rows ≡ replay log → row_names (with_row row rows) ≡ replay (log ++ put_of row.name ∷ [])
 put_replays rows log row same =
     map_put (λ (r : RowFacts). r.name) path_in row rows
     ∙ ap (put_at path_in row.name) same
     ∙ sym (replay_more log (put_of row.name))
 
 -- by a path of which a row of the name stands, the rows of the path are those of the name
-tests_agree : (rows : List RowFacts) (name : NameFacts) → AscendsBy path_of rows → Stands name rows → All (λ row. not (bytes_eq row.name.path name.path) ≡ is_other name row.name) rows
+tests_agree : (rows : List RowFacts) (name : NameFacts) → AscendsBy row_path rows → Stands name rows → All (λ row. not (bytes_eq row.name.path name.path) ≡ is_other name row.name) rows
 tests_agree rows name ascends stands = λ k d within.
-    ap not (elim (bytes_eq (path_of (get_or rows k d)) name.path) as (λ b. bytes_eq (path_of (get_or rows k d)) name.path ≡ b → b ≡ (b && same_stamp (get_or rows k d).name.stamp name.stamp))
+    ap not (elim (bytes_eq (row_path (get_or rows k d)) name.path) as (λ b. bytes_eq (row_path (get_or rows k d)) name.path ≡ b → b ≡ (b && same_stamp (get_or rows k d).name.stamp name.stamp))
     [ true ↦ λ e. sym (same_itself (get_or rows k d).name.stamp name.stamp (ap (λ (n : NameFacts). n.stamp) (here k d within e))) | false ↦ λ e. refl ] refl)
   where
-    here : (k : ℕ) (d : RowFacts) → k < length rows → bytes_eq (path_of (get_or rows k d)) name.path ≡ true → (get_or rows k d).name ≡ name
+    here : (k : ℕ) (d : RowFacts) → k < length rows → bytes_eq (row_path (get_or rows k d)) name.path ≡ true → (get_or rows k d).name ≡ name
     here k d within e =
-        let path_is : path_of (get_or rows k d) ≡ name.path = (bytes_eq-Decides (path_of (get_or rows k d)) name.path).0 e in
+        let path_is : row_path (get_or rows k d) ≡ name.path = (bytes_eq-Decides (row_path (get_or rows k d)) name.path).0 e in
         let found : row_at name.path rows ≡ Some (get_or rows k d) =
-        found_standing path_of name.path rows k d (stands_here path_of name.path rows k ascends within (λ z. ap path_of (get_or_default rows k z d within) ∙ path_is)) in
+        found_standing row_path name.path rows k d (stands_here row_path name.path rows k ascends within (λ z. ap row_path (get_or_default rows k z d within) ∙ path_is)) in
         let P : Option RowFacts → Type 0 = λ r. IsSomeAnd r (λ row. row.name ≡ name) in
         subst P found stands
 
 -- a drop of a row is replayed by the drop of its name
-pub drop_replays : (rows : List RowFacts) (log : List Change) (name : NameFacts) → AscendsBy path_of rows → Stands name rows → names_of rows ≡ replay log → names_of (without_row name.path rows) ≡ replay (log ++ drop_of name ∷ [])
+pub drop_replays : (rows : List RowFacts) (log : List Change) (name : NameFacts) → AscendsBy row_path rows → Stands name rows → row_names rows ≡ replay log → row_names (without_row name.path rows) ≡ replay (log ++ drop_of name ∷ [])
 drop_replays rows log name ascends stands same =
-    ap names_of (filter_same (λ row. not (bytes_eq row.name.path name.path)) (λ row. is_other name row.name) rows (tests_agree rows name ascends stands))
+    ap row_names (filter_same (λ row. not (bytes_eq row.name.path name.path)) (λ row. is_other name row.name) rows (tests_agree rows name ascends stands))
     ∙ map_filter (λ (r : RowFacts). r.name) (is_other name) rows
     ∙ ap (filter (is_other name)) same
     ∙ sym (replay_more log (drop_of name))
 
 -- a row's name stands
-stands_at : (rows : List RowFacts) (name : NameFacts) (k : ℕ) (d : RowFacts) → AscendsBy path_of rows → k < length rows → (get_or rows k d).name ≡ name → Stands name rows
+stands_at : (rows : List RowFacts) (name : NameFacts) (k : ℕ) (d : RowFacts) → AscendsBy row_path rows → k < length rows → (get_or rows k d).name ≡ name → Stands name rows
 stands_at rows name k d ascends within e =
-    let path_is : path_of (get_or rows k d) ≡ name.path = ap path_in e in
+    let path_is : row_path (get_or rows k d) ≡ name.path = ap path_in e in
     let found : row_at name.path rows ≡ Some (get_or rows k d) =
-    found_standing path_of name.path rows k d (stands_here path_of name.path rows k ascends within (λ z. ap path_of (get_or_default rows k z d within) ∙ path_is)) in
+    found_standing row_path name.path rows k d (stands_here row_path name.path rows k ascends within (λ z. ap row_path (get_or_default rows k z d within) ∙ path_is)) in
     let P : Option RowFacts → Type 0 = λ r. IsSomeAnd r (λ row. row.name ≡ name) in
     subst P (sym found) e
 
 -- a drop of a name that no row has changes nothing
-pub void_drop : (rows : List RowFacts) (log : List Change) (name : NameFacts) → AscendsBy path_of rows → (Stands name rows → ⊥) → names_of rows ≡ replay log → replay (log ++ drop_of name ∷ []) ≡ replay log
+pub void_drop : (rows : List RowFacts) (log : List Change) (name : NameFacts) → AscendsBy row_path rows → (Stands name rows → ⊥) → row_names rows ≡ replay log → replay (log ++ drop_of name ∷ []) ≡ replay log
 void_drop rows log name ascends absent same =
     replay_more log (drop_of name)
     ∙ ap (filter (is_other name)) (sym same)
-    ∙ filter_all (is_other name) (names_of rows) (All-map (λ n. is_other name n ≡ true) (λ (r : RowFacts). r.name) rows others)
+    ∙ filter_all (is_other name) (row_names rows) (All-map (λ n. is_other name n ≡ true) (λ (r : RowFacts). r.name) rows others)
     ∙ same
   where
     other_than : (n : NameFacts) → (n ≡ name → ⊥) → is_other name n ≡ true
@@ -104,17 +104,17 @@ void_drop rows log name ascends absent same =
     others = λ k d within. other_than (get_or rows k d).name (λ e. absent (stands_at rows name k d ascends within e))
 
 -- a put of a name that a row has changes nothing
-pub void_put : (rows : List RowFacts) (log : List Change) (name : NameFacts) → AscendsBy path_of rows → Stands name rows → names_of rows ≡ replay log → replay (log ++ put_of name ∷ []) ≡ replay log
+pub void_put : (rows : List RowFacts) (log : List Change) (name : NameFacts) → AscendsBy row_path rows → Stands name rows → row_names rows ≡ replay log → replay (log ++ put_of name ∷ []) ≡ replay log
 void_put rows log name ascends stands same =
     replay_more log (put_of name)
     ∙ ap (put_at path_in name) (sym same)
     ∙ again (row_at name.path rows) refl stands
     ∙ same
   where
-    again : (r : Option RowFacts) → row_at name.path rows ≡ r → IsSomeAnd r (λ row. row.name ≡ name) → put_at path_in name (names_of rows) ≡ names_of rows
+    again : (r : Option RowFacts) → row_at name.path rows ≡ r → IsSomeAnd r (λ row. row.name ≡ name) → put_at path_in name (row_names rows) ≡ row_names rows
     again None e h = absurd h
     again (Some row) e h =
-        let found : find_at path_of (path_of row) rows ≡ Some row = subst (λ (p : List ℕ). find_at path_of p rows ≡ Some row) (sym (ap path_in h)) e in
-        ap (λ (n : NameFacts). put_at path_in n (names_of rows)) (sym h)
+        let found : find_at row_path (row_path row) rows ≡ Some row = subst (λ (p : List ℕ). find_at row_path p rows ≡ Some row) (sym (ap path_in h)) e in
+        ap (λ (n : NameFacts). put_at path_in n (row_names rows)) (sym h)
         ∙ sym (map_put (λ (r : RowFacts). r.name) path_in row rows)
-        ∙ ap names_of (put_again path_of rows row ascends found)
+        ∙ ap row_names (put_again row_path rows row ascends found)

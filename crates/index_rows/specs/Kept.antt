@@ -5,12 +5,12 @@ use Rattle.index_rows.specs.declared.prepared.Prepared.{Prepared}
 use Rattle.index_rows.specs.declared.prepared.Prepared.TheVariants.{Nothing, Put, Drop}
 
 -- what has to have room for the change that is prepared
-abbrev pub HasRoom : Prepared → Type 0 → Type 0 → Type 0
-HasRoom Nothing RowsRoom LogRoom = Unit {0}
-HasRoom (Put row) RowsRoom LogRoom = RowsRoom × LogRoom
-HasRoom (Drop name) RowsRoom LogRoom = LogRoom
+abbrev pub RoomFor : Prepared → Type 0 → Type 0 → Type 0
+RoomFor Nothing RowsRoom LogRoom = Unit {0}
+RoomFor (Put row) RowsRoom LogRoom = RowsRoom × LogRoom
+RoomFor (Drop name) RowsRoom LogRoom = LogRoom
 
 -- the lists are an index's, and have room
 pub record IsKept (is_true : RowFacts → Type 0) (facts : RowsFacts) (RowsRoom LogRoom : Type 0) : Type 0 where
   pub index : IsIndex is_true facts
-  pub room : HasRoom facts.prepared RowsRoom LogRoom
+  pub room : RoomFor facts.prepared RowsRoom LogRoom

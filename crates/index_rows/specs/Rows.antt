@@ -3,7 +3,7 @@ use Rattle.std.specs.Prelude.{◌≡◌, ℕ, ◌≤◌, ◌<◌, List, [], ◌�
 use Rattle.row_types.specs.Name.{NameFacts}
 use Rattle.row_types.specs.Row.{RowFacts}
 use Rattle.row_types.specs.Ascends.{AscendsBy}
-use Rattle.index_rows.specs.ByPath.{put_at, find_at, without}
+use Rattle.index_rows.specs.ByPath.{put_at, find_at, without_at}
 use Rattle.index_rows.specs.Log.{put_of, drop_of, replay}
 use Rattle.index_rows.specs.declared.change.Change.{Change}
 use Rattle.index_rows.specs.declared.prepared.Prepared.{Prepared}
@@ -17,24 +17,24 @@ pub record RowsFacts : Type 0 where
   pub prepared : Prepared
 
 -- a row's path
-abbrev pub path_of : RowFacts → List ℕ
-path_of row = row.name.path
+abbrev pub row_path : RowFacts → List ℕ
+row_path row = row.name.path
 
 -- the names of the rows
-abbrev pub names_of : List RowFacts → List NameFacts
-names_of rows = map (λ row. row.name) rows
+abbrev pub row_names : List RowFacts → List NameFacts
+row_names rows = map (λ row. row.name) rows
 
 -- the row of the path, if there is one
 abbrev pub row_at : List ℕ → List RowFacts → Option RowFacts
-row_at path rows = find_at path_of path rows
+row_at path rows = find_at row_path path rows
 
 -- the rows with the row in place of its path's
 abbrev pub with_row : RowFacts → List RowFacts → List RowFacts
-with_row row rows = put_at path_of row rows
+with_row row rows = put_at row_path row rows
 
 -- the rows without the path's
 abbrev pub without_row : List ℕ → List RowFacts → List RowFacts
-without_row path rows = without path_of path rows
+without_row path rows = without_at row_path path rows
 
 -- a row of the name stands
 abbrev pub Stands : NameFacts → List RowFacts → Type 0
@@ -48,9 +48,9 @@ IsReady (Drop name) rows log = (length log < LOG_LIMIT) × Stands name rows
 
 -- what always holds of an index's rows
 pub record IsIndex (is_true : RowFacts → Type 0) (index : RowsFacts) : Type 0 where
-  pub ascends : AscendsBy path_of index.rows
+  pub ascends : AscendsBy row_path index.rows
   pub holds : All is_true index.rows
-  pub replays : names_of index.rows ≡ replay index.log
+  pub replays : row_names index.rows ≡ replay index.log
   pub bounded : length index.log ≤ LOG_LIMIT
   pub ready : IsReady index.prepared index.rows index.log
 

@@ -5,7 +5,7 @@ ghost use Rattle.std.specs.Option.{option_copied};
 ghost use Rattle.std.specs.Vec.{vec_capacity};
 ghost use Rattle.row_types.specs.Ascends.{AscendsBy};
 ghost use Rattle.index_rows.specs.Places.{IsPlace};
-ghost use Rattle.index_rows.specs.Rows.{names_of, path_of, row_at, with_row, without_row};
+ghost use Rattle.index_rows.specs.Rows.{row_names, row_path, row_at, with_row, without_row};
 
 use crate::change::Change;
 use row_types::{CanonPath, Name, Row};
@@ -13,15 +13,15 @@ use std::alloc::{AllocError, Global};
 
 /// The place of the path's row, or else the place at which it would stand. The search halves the list.
 pub(crate) fn place_of(rows: &[Row], path: &CanonPath) -> Result<usize, usize>
-    requires { AscendsBy path_of rows.now }
-    ensures { IsPlace path_of path.now rows.now result }
+    requires { AscendsBy row_path rows.now }
+    ensures { IsPlace row_path path.now rows.now result }
 {
     rows.binary_search_by(|row| row.name.path.cmp(path))
 }
 
 /// The path's row.
 pub(crate) fn row_at<'a>(rows: &'a [Row], path: &CanonPath) -> Option<&'a Row>
-    requires { AscendsBy path_of rows.now }
+    requires { AscendsBy row_path rows.now }
     ensures value { option_copied result ≡ row_at path.now rows.now }
     ensures path { IfSome result (λ row. row.now.name.path ≡ path.now) }
 {
@@ -32,8 +32,8 @@ pub(crate) fn row_at<'a>(rows: &'a [Row], path: &CanonPath) -> Option<&'a Row>
 }
 
 /// A copy of each row's name.
-pub(crate) fn names_of(alloc: Global, rows: &[Row]) -> Result<Vec<Name>, AllocError>
-    ensures { IfOk result (λ names. names.items ≡ names_of rows.now) }
+pub(crate) fn row_names(alloc: Global, rows: &[Row]) -> Result<Vec<Name>, AllocError>
+    ensures { IfOk result (λ names. names.items ≡ row_names rows.now) }
 {
     let mut names = Vec::new(alloc);
     for row in rows {
@@ -44,7 +44,7 @@ pub(crate) fn names_of(alloc: Global, rows: &[Row]) -> Result<Vec<Name>, AllocEr
 
 /// Puts the row in place of its path's.
 pub(crate) fn put_row(rows: &mut Vec<Row>, row: Row)
-    requires ascends { AscendsBy path_of rows.old.items }
+    requires ascends { AscendsBy row_path rows.old.items }
     requires room { vec_len rows.old < vec_capacity rows.old }
     ensures { rows.new.items ≡ with_row row rows.old.items }
 {
@@ -59,7 +59,7 @@ pub(crate) fn put_row(rows: &mut Vec<Row>, row: Row)
 
 /// Drops the path's row.
 pub(crate) fn drop_row(rows: &mut Vec<Row>, path: &CanonPath)
-    requires ascends { AscendsBy path_of rows.old.items }
+    requires ascends { AscendsBy row_path rows.old.items }
     requires there { IsSome (row_at path.now rows.old.items) }
     ensures { rows.new.items ≡ without_row path.now rows.old.items }
 {

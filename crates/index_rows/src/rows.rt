@@ -5,7 +5,7 @@ ghost use Rattle.std.specs.List.{list_any};
 ghost use Rattle.std.specs.Option.{option_copied};
 ghost use Rattle.index_rows.specs.Classes.{has_class, has_id, lists_source};
 ghost use Rattle.index_rows.specs.Log.{replay};
-ghost use Rattle.index_rows.specs.Rows.{after_drop, after_put, after_void, CanBeVoid, IsDropOf, IsIndex, names_of, nothing_yet, row_at};
+ghost use Rattle.index_rows.specs.Rows.{after_drop, after_put, after_void, CanBeVoid, IsDropOf, IsIndex, row_names, nothing_yet, row_at};
 ghost use Rattle.index_rows.specs.declared.prepared.Prepared.{Prepared};
 ghost use Rattle.index_rows.specs.declared.fault.RowsFault.{RowsFault};
 
@@ -109,10 +109,10 @@ impl<W: Truth> Rows<W> {
 
     /// A copy of each row's name.
     pub fn names(&self, alloc: Global) -> Result<Vec<Name>, AllocError>
-        ensures value { IfOk result (λ names. names.items ≡ names_of self.now.rows) }
+        ensures value { IfOk result (λ names. names.items ≡ row_names self.now.rows) }
         ensures holds { IsIndex W.true_row self.now }
     {
-        places::names_of(alloc, self.rows.as_slice())
+        places::row_names(alloc, self.rows.as_slice())
     }
 
     /// Whether some row with the id lists the source.

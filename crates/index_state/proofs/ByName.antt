@@ -15,7 +15,7 @@ use Rattle.row_types.specs.Row.{RowFacts}
 use Rattle.row_types.specs.Stamp.{StampFacts, same_stamp}
 use Rattle.row_types.specs.declared.reading.Reading.TheVariants.{Plain}
 use Rattle.file_formats.specs.declared.fault.Why.TheVariants.{TooLarge}
-use Rattle.index_rows.specs.Rows.{Stands, names_of, path_of, row_at}
+use Rattle.index_rows.specs.Rows.{Stands, row_names, row_path, row_at}
 use Rattle.row_types.specs.Name.{stamp_at}
 use Rattle.scan_queue.specs.Names.{IsByPath, is_in}
 use Rattle.scan_queue.proofs.NameTests.{path_differs, same_name-Decides, same_stamp-Decides}
@@ -27,19 +27,19 @@ row_with : NameFacts → RowFacts
 row_with name = record { name = name; edition = 0; reading = Plain TooLarge }
 
 -- the names of rows by path are by path
-pub names_by_path : (rows : List RowFacts) → AscendsBy path_of rows → IsByPath (names_of rows)
+pub names_by_path : (rows : List RowFacts) → AscendsBy row_path rows → IsByPath (row_names rows)
 unfolding row_with
 names_by_path rows ascends = λ i j d lt within.
     let inside : j < length rows = omega (arith, within, length-map rows (λ (r : RowFacts). r.name)) in
-    subst (λ (n : NameFacts). IsBefore (slice_index_or (names_of rows) i d).path n.path) (sym (get_or-map (λ (r : RowFacts). r.name) rows j (row_with d) d inside))
+    subst (λ (n : NameFacts). IsBefore (slice_index_or (row_names rows) i d).path n.path) (sym (get_or-map (λ (r : RowFacts). r.name) rows j (row_with d) d inside))
     (subst (λ (n : NameFacts). IsBefore n.path (slice_index_or rows j (row_with d)).name.path) (sym (get_or-map (λ (r : RowFacts). r.name) rows i (row_with d) d (omega arith)))
     (ascends i j (row_with d) lt inside))
 
 -- the stamp of the path's row
-pub stamp_of_row : (path : List ℕ) (rows : List RowFacts) → stamp_at (names_of rows) path ≡ option_map (λ row. row.name.stamp) (row_at path rows)
+pub stamp_of_row : (path : List ℕ) (rows : List RowFacts) → stamp_at (row_names rows) path ≡ option_map (λ row. row.name.stamp) (row_at path rows)
 stamp_of_row path [] = refl
 stamp_of_row path (row ∷ rows) =
-    elim (bytes_eq row.name.path path) as (λ b. option_map (λ (n : NameFacts). n.stamp) (cond b (Some row.name) (find (λ (n : NameFacts). bytes_eq n.path path) (names_of rows))) ≡ option_map (λ (r : RowFacts). r.name.stamp) (cond b (Some row) (row_at path rows)))
+    elim (bytes_eq row.name.path path) as (λ b. option_map (λ (n : NameFacts). n.stamp) (cond b (Some row.name) (find (λ (n : NameFacts). bytes_eq n.path path) (row_names rows))) ≡ option_map (λ (r : RowFacts). r.name.stamp) (cond b (Some row) (row_at path rows)))
     [ true ↦ refl | false ↦ stamp_of_row path rows ]
 
 or_none : (b c : Bool) → c ≡ false → b ≡ (b || c)
@@ -81,10 +81,10 @@ none_later n name names by_path path =
     (head_pairs (λ (a b : NameFacts). IsBefore a.path b.path) n names by_path))
 
 -- a name that the rows have is that of its path's row
-pub row_of_name : (name : NameFacts) (rows : List RowFacts) → IsByPath (names_of rows) → is_in (names_of rows) name ≡ true → HasRow name rows
+pub row_of_name : (name : NameFacts) (rows : List RowFacts) → IsByPath (row_names rows) → is_in (row_names rows) name ≡ true → HasRow name rows
 row_of_name name [] by_path h = absurd (true≢false (sym h))
 row_of_name name (row ∷ rows) by_path h =
-    elim (same_name name row.name) as (λ b. same_name name row.name ≡ b → (b || is_in (names_of rows) name) ≡ true → HasRow name (row ∷ rows)) [
+    elim (same_name name row.name) as (λ b. same_name name row.name ≡ b → (b || is_in (row_names rows) name) ≡ true → HasRow name (row ∷ rows)) [
       | true ↦ λ e _.
           let same : name ≡ row.name = (same_name-Decides name row.name).0 e in
           record {
@@ -93,9 +93,9 @@ row_of_name name (row ∷ rows) by_path h =
             found = ap (λ b. cond b (Some row) (row_at name.path rows)) ((bytes_eq-Decides row.name.path name.path).1 (ap (λ (n : NameFacts). n.path) (sym same)));
           }
       | false ↦ λ e later.
-          let rest : HasRow name rows = row_of_name name rows (tail_pairs (λ (a b : NameFacts). IsBefore a.path b.path) row.name (names_of rows) by_path) later in
+          let rest : HasRow name rows = row_of_name name rows (tail_pairs (λ (a b : NameFacts). IsBefore a.path b.path) row.name (row_names rows) by_path) later in
           let differs : bytes_eq row.name.path name.path ≡ false = false_from_ne_true (bytes_eq row.name.path name.path)
-          (λ same. true≢false (sym later ∙ none_later row.name name (names_of rows) by_path (sym ((bytes_eq-Decides row.name.path name.path).0 same)))) in
+          (λ same. true≢false (sym later ∙ none_later row.name name (row_names rows) by_path (sym ((bytes_eq-Decides row.name.path name.path).0 same)))) in
           record {
             row = rest.row;
             named = rest.named;
@@ -104,10 +104,10 @@ row_of_name name (row ∷ rows) by_path h =
     ] refl h
 
 -- a row that stands has its name there
-pub stands_is_in : (name : NameFacts) (rows : List RowFacts) → Stands name rows → is_in (names_of rows) name ≡ true
+pub stands_is_in : (name : NameFacts) (rows : List RowFacts) → Stands name rows → is_in (row_names rows) name ≡ true
 stands_is_in name [] h = absurd h
 stands_is_in name (row ∷ rows) h =
-    elim (bytes_eq row.name.path name.path) as (λ b. IsSomeAnd (cond b (Some row) (row_at name.path rows)) (λ r. r.name ≡ name) → (same_name name row.name || is_in (names_of rows) name) ≡ true) [
+    elim (bytes_eq row.name.path name.path) as (λ b. IsSomeAnd (cond b (Some row) (row_at name.path rows)) (λ r. r.name ≡ name) → (same_name name row.name || is_in (row_names rows) name) ≡ true) [
       | true ↦ λ same. or_left _ _ ((same_name-Decides name row.name).1 (sym same))
       | false ↦ λ later. or_right _ _ (stands_is_in name rows later)
     ] h

@@ -4,7 +4,7 @@ use Rattle.std.specs.Prelude.{IsSome, is_some}
 use Rattle.std.proofs.lemmas.Bool.{true≢false}
 use Rattle.row_types.specs.Name.{NameFacts}
 use Rattle.row_types.specs.Stamp.{StampFacts}
-use Rattle.index_rows.specs.Rows.{names_of}
+use Rattle.index_rows.specs.Rows.{row_names}
 use Rattle.row_types.specs.Name.{stamp_at}
 use Rattle.scan_queue.specs.Names.{IsByPath, is_in}
 use Rattle.index_state.specs.Plan.{has_stamp}
@@ -27,19 +27,18 @@ found_unlisted state name listed b sound by_path e says is = record {
 }
 
 -- it is listed, and has a row
-pub found_known : {K : Type 0} (state : StateFacts K) (name : NameFacts) (listed stood : Option StampFacts) (a b : Bool) → state.broken ≡ false → IsByPath (pass_of state.pass).listing → listed ≡ stamp_at (pass_of state.pass).listing name.path → a ≡ has_stamp listed name.stamp → a ≡ true → IsByPath (names_of state.rows) → stood ≡ stamp_at (names_of state.rows) name.path → b ≡ has_stamp stood name.stamp → b ≡ true → IsKnown name state
+pub found_known : {K : Type 0} (state : StateFacts K) (name : NameFacts) (listed stood : Option StampFacts) (a b : Bool) → state.broken ≡ false → IsByPath (pass_of state.pass).listing → listed ≡ stamp_at (pass_of state.pass).listing name.path → a ≡ has_stamp listed name.stamp → a ≡ true → IsByPath (row_names state.rows) → stood ≡ stamp_at (row_names state.rows) name.path → b ≡ has_stamp stood name.stamp → b ≡ true → IsKnown name state
 found_known state name listed stood a b sound by_path e says is rows_by_path f tells so = record {
   sound = sound;
   listed = is_in_by name (pass_of state.pass).listing listed a by_path e says ∙ is;
-  stands = is_in_by name (names_of state.rows) stood b rows_by_path f tells ∙ so;
+  stands = is_in_by name (row_names state.rows) stood b rows_by_path f tells ∙ so;
 }
 
 -- it is listed, and has no row
-pub found_awaited : {K : Type 0} (state : StateFacts K) (name : NameFacts) (listed stood : Option StampFacts) (a b : Bool) → state.broken ≡ false → IsByPath (pass_of state.pass).listing → listed ≡ stamp_at (pass_of state.pass).listing name.path → a ≡ has_stamp listed name.stamp → a ≡ true → IsByPath (names_of state.rows) → stood ≡ stamp_at (names_of state.rows) name.path → b ≡ has_stamp stood name.stamp → b ≡ false → IsAwaited name state
-found_awaited state name listed stood a b sound by_path e says is rows_by_path f tells so = record {
-  sound = sound;
+pub found_awaited : {K : Type 0} (state : StateFacts K) (name : NameFacts) (listed stood : Option StampFacts) (a b : Bool) → IsByPath (pass_of state.pass).listing → listed ≡ stamp_at (pass_of state.pass).listing name.path → a ≡ has_stamp listed name.stamp → a ≡ true → IsByPath (row_names state.rows) → stood ≡ stamp_at (row_names state.rows) name.path → b ≡ has_stamp stood name.stamp → b ≡ false → IsAwaited name state
+found_awaited state name listed stood a b by_path e says is rows_by_path f tells so = record {
   listed = is_in_by name (pass_of state.pass).listing listed a by_path e says ∙ is;
-  absent = is_in_by name (names_of state.rows) stood b rows_by_path f tells ∙ so;
+  absent = is_in_by name (row_names state.rows) stood b rows_by_path f tells ∙ so;
 }
 
 none_of : (o : Option StampFacts) → is_some o ≡ false → o ≡ None
@@ -51,15 +50,17 @@ some_of (Some s) e = refl
 some_of None e = absurd (true≢false (sym e))
 
 -- its path has no row
-pub found_new : {K : Type 0} (state : StateFacts K) (name : NameFacts) (stood : Option StampFacts) (b : Bool) → IsAwaited name state → stood ≡ stamp_at (names_of state.rows) name.path → is_some stood ≡ not b → b ≡ true → IsNew name state
-found_new state name stood b awaited e says is = record {
+pub found_new : {K : Type 0} (state : StateFacts K) (name : NameFacts) (stood : Option StampFacts) (b : Bool) → state.broken ≡ false → IsAwaited name state → stood ≡ stamp_at (row_names state.rows) name.path → is_some stood ≡ not b → b ≡ true → IsNew name state
+found_new state name stood b sound awaited e says is = record {
+  sound = sound;
   awaited = awaited;
   fresh = sym e ∙ none_of stood (says ∙ ap not is);
 }
 
 -- its path has one
-pub found_changed : {K : Type 0} (state : StateFacts K) (name : NameFacts) (stood : Option StampFacts) (b : Bool) → IsAwaited name state → stood ≡ stamp_at (names_of state.rows) name.path → is_some stood ≡ not b → b ≡ false → IsChanged name state
-found_changed state name stood b awaited e says is = record {
+pub found_changed : {K : Type 0} (state : StateFacts K) (name : NameFacts) (stood : Option StampFacts) (b : Bool) → state.broken ≡ false → IsAwaited name state → stood ≡ stamp_at (row_names state.rows) name.path → is_some stood ≡ not b → b ≡ false → IsChanged name state
+found_changed state name stood b sound awaited e says is = record {
+  sound = sound;
   awaited = awaited;
   stood = subst IsSome e (some_of stood (says ∙ ap not is));
 }

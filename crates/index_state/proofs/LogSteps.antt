@@ -74,12 +74,11 @@ tells_more true_row log (Some first) (Some edits) change edit h one = record {
   parts = ap (λ (l : List EditFacts). l ++ edit ∷ []) h.parts ∙ append_assoc first h.since (edit ∷ []);
   each = made_more true_row log h.since change edit h.each one;
 }
-tells_more true_row log None (Some edits) change edit h one = absurd h
-tells_more true_row log (Some first) None change edit h one = absurd h
+tells_more true_row log _ _ change edit h one = absurd h
 
 -- the log goes on, and so does what the store made
-pub origin_more : (true_row : RowFacts → Type 0) (origin : Origin) (made : Option (List EditFacts)) (log : List Change) (change : Change) (edit : EditFacts) → HasOrigin true_row origin made log → IsMadeBy true_row change.put change.name edit → HasOrigin true_row origin (option_map (λ edits. edits ++ edit ∷ []) made) (log ++ change ∷ [])
-origin_more true_row origin made log change edit h one = record {
+pub origin_more : {true_row : RowFacts → Type 0} {origin : Origin} {made : Option (List EditFacts)} {log : List Change} (change : Change) (edit : EditFacts) → HasOrigin true_row origin made log → IsMadeBy true_row change.put change.name edit → HasOrigin true_row origin (option_map (λ edits. edits ++ edit ∷ []) made) (log ++ change ∷ [])
+origin_more {true_row} {origin} {made} change edit h one = record {
   first = h.first;
   since = h.since ++ change ∷ [];
   parts = ap (λ (l : List Change). l ++ change ∷ []) h.parts ∙ append_assoc h.first h.since (change ∷ []);
@@ -101,13 +100,13 @@ front_stays edits edit now before e within =
     ap (λ (n : ℕ). take n (edits ++ edit ∷ [])) same ∙ take-append-le (length edits - before) edits (edit ∷ []) fits
 
 -- what the store had made by the opening stays
-pub first_stays : (true_row : RowFacts → Type 0) (origin : Origin) (made : Option (List EditFacts)) (log : List Change) (change : Change) (edit : EditFacts) (puts : ℕ) → origin.puts ≡ puts → HasOrigin true_row origin made log → made_first (length (log ++ change ∷ []) - puts) (option_map (λ edits. edits ++ edit ∷ []) made) ≡ made_first (length log - puts) made
-first_stays true_row origin None log change edit puts e h = refl
-first_stays true_row origin (Some edits) log change edit puts e h =
+pub first_stays : {true_row : RowFacts → Type 0} {origin : Origin} {log : List Change} (made : Option (List EditFacts)) (change : Change) (edit : EditFacts) → HasOrigin true_row origin made log → made_first (length (log ++ change ∷ []) - origin.puts) (option_map (λ edits. edits ++ edit ∷ []) made) ≡ made_first (length log - origin.puts) made
+first_stays None change edit h = refl
+first_stays {true_row} {origin} {log} (Some edits) change edit h =
     let long = ap (λ (l : List Change). length l) h.parts in
-    let count : length h.first ≡ puts = h.count ∙ e in
+    let count : length h.first ≡ origin.puts = h.count in
     let bound = tells_bound true_row h.since origin.made edits h.told in
     let whole = length-append h.first h.since in
-    let now : length (log ++ change ∷ []) - puts ≡ (length log - puts) + 1 = omega (arith, length_push log change, long, whole, count) in
-    let within : length log - puts ≤ length edits = omega (arith, long, whole, count, bound) in
-    ap (λ (l : List EditFacts). Some l) (front_stays edits edit (length (log ++ change ∷ []) - puts) (length log - puts) now within)
+    let now : length (log ++ change ∷ []) - origin.puts ≡ (length log - origin.puts) + 1 = omega (arith, length_push log change, long, whole, count) in
+    let within : length log - origin.puts ≤ length edits = omega (arith, long, whole, count, bound) in
+    ap (λ (l : List EditFacts). Some l) (front_stays edits edit (length (log ++ change ∷ []) - origin.puts) (length log - origin.puts) now within)

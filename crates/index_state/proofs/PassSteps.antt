@@ -8,12 +8,12 @@ use Rattle.std.proofs.lemmas.Slice.Eq.{bytes_eq-Decides}
 use Rattle.row_types.specs.Name.{NameFacts, same_name}
 use Rattle.row_types.specs.Row.{RowFacts}
 use Rattle.index_rows.specs.ByPath.{put_at}
-use Rattle.index_rows.specs.Rows.{names_of, with_row}
+use Rattle.index_rows.specs.Rows.{row_names, with_row}
 use Rattle.index_rows.proofs.Lists.{map_filter}
 use Rattle.index_rows.proofs.PathLemmas.{map_put}
 use Rattle.index_rows.proofs.RowLemmas.{path_in}
 use Rattle.scan_queue.specs.Names.{IsByPath, is_in, not_in, without}
-use Rattle.scan_queue.specs.Pass.{Adds, IsPass, PassFacts, Takes, begun, left, misses_without, missed_names}
+use Rattle.scan_queue.specs.Pass.{Adds, IsPass, PassFacts, TakesName, begun, left, misses_without, missed_names}
 use Rattle.scan_queue.specs.declared.miss.Miss.{Miss}
 use Rattle.scan_queue.proofs.NameTests.{same_name-Decides}
 use Rattle.index_state.specs.Invariant.{ListedAccounted, RowsAccounted, to_look_for, to_read}
@@ -75,7 +75,7 @@ three_as : (a b c d e f : Bool) → a ≡ d → b ≡ e → c ≡ f → ((a || b
 three_as a b c d e f p q r = cc
 
 -- a name that is taken is still to be read
-take_same_read : (n name : NameFacts) (from into : PassFacts) → Takes from into name → is_in (to_read into) n ≡ is_in (to_read from) n
+take_same_read : (n name : NameFacts) (from into : PassFacts) → TakesName from into name → is_in (to_read into) n ≡ is_in (to_read from) n
 take_same_read n name from into takes =
     in_three into.todo into.out (missed_names into.missed) n
     ∙ three_as (is_in into.todo n) (is_in into.out n) (is_in (missed_names into.missed) n) (is_in into.todo n) (same_name n name || is_in from.out n) (is_in (missed_names from.missed) n)
@@ -85,14 +85,14 @@ take_same_read n name from into takes =
     ∙ sym (in_three from.todo from.out (missed_names from.missed) n)
 
 -- a name that is taken is listed
-pub taken_is_listed : (name : NameFacts) (from into : PassFacts) → Takes from into name → IsPass from → is_in into.listing name ≡ true
-taken_is_listed name from into takes place =
+pub taken_is_listed : {name : NameFacts} {from into : PassFacts} → TakesName from into name → IsPass from → is_in into.listing name ≡ true
+taken_is_listed {name} {from} {into} takes place =
     ap (λ (p : PassFacts). is_in p.listing name) takes.same
     ∙ All-head (λ (n : NameFacts). is_in from.listing n ≡ true) name into.todo
     (subst (λ (l : List NameFacts). All (λ n. is_in from.listing n ≡ true) l) takes.first place.listed)
 
 -- and stands among the names that are out
-taken_is_out : (name : NameFacts) (from into : PassFacts) → Takes from into name → is_in (to_read into) name ≡ true
+taken_is_out : (name : NameFacts) (from into : PassFacts) → TakesName from into name → is_in (to_read into) name ≡ true
 taken_is_out name from into takes =
     in_three into.todo into.out (missed_names into.missed) name
     ∙ or_left (is_in into.todo name || is_in into.out name) (is_in (missed_names into.missed) name)
@@ -100,16 +100,16 @@ taken_is_out name from into takes =
     (in_added name name from.out into.out takes.out ∙ or_left (same_name name name) (is_in from.out name) (same_name_self name)))
 
 -- so no row has it
-pub taken_is_absent : (rows : List RowFacts) (name : NameFacts) (from into : PassFacts) → Takes from into name → IsPass from → ListedAccounted rows into → is_in (names_of rows) name ≡ false
-taken_is_absent rows name from into takes place listed =
-    listed name (taken_is_listed name from into takes place) ∙ ap not (taken_is_out name from into takes)
+pub taken_is_absent : (rows : List RowFacts) {name : NameFacts} {from into : PassFacts} → TakesName from into name → IsPass from → ListedAccounted rows into → is_in (row_names rows) name ≡ false
+taken_is_absent rows {name} {from} {into} takes place listed =
+    listed name (taken_is_listed takes place) ∙ ap not (taken_is_out name from into takes)
 
 grown : (g o m s : Bool) → ((g || o) || m) ≡ true → ((g || (s || o)) || m) ≡ true
 grown true o m s h = refl
 grown false o m true h = refl
 grown false o m false h = h
 
-take_more_look : (n name : NameFacts) (from into : PassFacts) → Takes from into name → is_in (to_look_for from) n ≡ true → is_in (to_look_for into) n ≡ true
+take_more_look : (n name : NameFacts) (from into : PassFacts) → TakesName from into name → is_in (to_look_for from) n ≡ true → is_in (to_look_for into) n ≡ true
 take_more_look n name from into takes h =
     in_three into.groom into.out (missed_names into.missed) n
     ∙ three_as (is_in into.groom n) (is_in into.out n) (is_in (missed_names into.missed) n) (is_in from.groom n) (same_name n name || is_in from.out n) (is_in (missed_names from.missed) n)
@@ -122,12 +122,12 @@ either_grows true a b f h = refl
 either_grows false a b f h = f h
 
 -- after a name was taken
-pub taken_listed : (rows : List RowFacts) (name : NameFacts) (from into : PassFacts) → Takes from into name → ListedAccounted rows from → ListedAccounted rows into
-taken_listed rows name from into takes h = λ n listed.
+pub taken_listed : (rows : List RowFacts) {name : NameFacts} {from into : PassFacts} → TakesName from into name → ListedAccounted rows from → ListedAccounted rows into
+taken_listed rows {name} {from} {into} takes h = λ n listed.
     h n (ap (λ (p : PassFacts). is_in p.listing n) (sym takes.same) ∙ listed) ∙ ap not (sym (take_same_read n name from into takes))
 
-pub taken_rows : (rows : List RowFacts) (name : NameFacts) (from into : PassFacts) → Takes from into name → RowsAccounted rows from → RowsAccounted rows into
-taken_rows rows name from into takes h = λ n stands.
+pub taken_rows : (rows : List RowFacts) {name : NameFacts} {from into : PassFacts} → TakesName from into name → RowsAccounted rows from → RowsAccounted rows into
+taken_rows rows {name} {from} {into} takes h = λ n stands.
     ap (λ (p : PassFacts). is_in p.listing n || is_in (to_look_for into) n) takes.same
     ∙ either_grows (is_in from.listing n) (is_in (to_look_for from) n) (is_in (to_look_for into) n) (take_more_look n name from into takes) (h n stands)
 
@@ -141,26 +141,26 @@ not_twice true false e = refl
 not_twice false c e = absurd (true≢false (sym e))
 
 -- as a pass begins
-pub begun_listed : (rows : List RowFacts) (listing : List NameFacts) → ListedAccounted rows (begun listing (names_of rows))
+pub begun_listed : (rows : List RowFacts) (listing : List NameFacts) → ListedAccounted rows (begun listing (row_names rows))
 begun_listed rows listing = λ n listed.
-    not_twice (is_in listing n) (is_in (names_of rows) n) listed
-    ∙ ap not (sym (in_three (not_in (names_of rows) listing) [] [] n ∙ nothing_more (is_in (not_in (names_of rows) listing) n) ∙ in_filter (λ m. not (is_in (names_of rows) m)) n listing))
+    not_twice (is_in listing n) (is_in (row_names rows) n) listed
+    ∙ ap not (sym (in_three (not_in (row_names rows) listing) [] [] n ∙ nothing_more (is_in (not_in (row_names rows) listing) n) ∙ in_filter (λ m. not (is_in (row_names rows) m)) n listing))
 
 either_is : (l r : Bool) → r ≡ true → (l || (r && not l)) ≡ true
 either_is true r e = refl
 either_is false true e = refl
 either_is false false e = absurd (true≢false (sym e))
 
-pub begun_rows : (rows : List RowFacts) (listing : List NameFacts) → RowsAccounted rows (begun listing (names_of rows))
+pub begun_rows : (rows : List RowFacts) (listing : List NameFacts) → RowsAccounted rows (begun listing (row_names rows))
 begun_rows rows listing = λ n stands.
-    ap (λ b. is_in listing n || b) (in_three (not_in listing (names_of rows)) [] [] n ∙ nothing_more (is_in (not_in listing (names_of rows)) n) ∙ in_filter (λ m. not (is_in listing m)) n (names_of rows))
-    ∙ either_is (is_in listing n) (is_in (names_of rows) n) stands
+    ap (λ b. is_in listing n || b) (in_three (not_in listing (row_names rows)) [] [] n ∙ nothing_more (is_in (not_in listing (row_names rows)) n) ∙ in_filter (λ m. not (is_in listing m)) n (row_names rows))
+    ∙ either_is (is_in listing n) (is_in (row_names rows) n) stands
 
 -- after a listed name that has a row left
-pub known_listed : (rows : List RowFacts) (name : NameFacts) (pass : PassFacts) → is_in (names_of rows) name ≡ true → ListedAccounted rows pass → ListedAccounted rows (left name pass)
+pub known_listed : (rows : List RowFacts) (name : NameFacts) (pass : PassFacts) → is_in (row_names rows) name ≡ true → ListedAccounted rows pass → ListedAccounted rows (left name pass)
 known_listed rows name pass stands h = λ n listed.
-    elim (same_name n name) as (λ b. same_name n name ≡ b → is_in (names_of rows) n ≡ not (is_in (to_read (left name pass)) n)) [
-      | true ↦ λ e. subst (λ (x : NameFacts). is_in (names_of rows) x ≡ not (is_in (to_read (left name pass)) x)) (sym ((same_name-Decides n name).0 e)) (stands ∙ ap not (sym (gone_from_read name pass)))
+    elim (same_name n name) as (λ b. same_name n name ≡ b → is_in (row_names rows) n ≡ not (is_in (to_read (left name pass)) n)) [
+      | true ↦ λ e. subst (λ (x : NameFacts). is_in (row_names rows) x ≡ not (is_in (to_read (left name pass)) x)) (sym ((same_name-Decides n name).0 e)) (stands ∙ ap not (sym (gone_from_read name pass)))
       | false ↦ λ e. h n listed ∙ ap not (sym (others_to_read name n pass e))
     ] refl
 
@@ -172,31 +172,31 @@ known_rows rows name pass listed h = λ n stands.
     ] refl
 
 -- the names of the rows with one put
-pub names_with : (row : RowFacts) (rows : List RowFacts) → names_of (with_row row rows) ≡ put_at path_in row.name (names_of rows)
+pub names_with : (row : RowFacts) (rows : List RowFacts) → row_names (with_row row rows) ≡ put_at path_in row.name (row_names rows)
 names_with row rows = map_put (λ (r : RowFacts). r.name) path_in row rows
 
 -- after a listed name's row was put and the name left
 pub put_listed : (rows : List RowFacts) (row : RowFacts) (pass : PassFacts) → IsByPath pass.listing → is_in pass.listing row.name ≡ true → ListedAccounted rows pass → ListedAccounted (with_row row rows) (left row.name pass)
 put_listed rows row pass by_path own h = λ n listed.
     ap (λ (l : List NameFacts). is_in l n) (names_with row rows)
-    ∙ elim (same_name n row.name) as (λ b. same_name n row.name ≡ b → is_in (put_at path_in row.name (names_of rows)) n ≡ not (is_in (to_read (left row.name pass)) n)) [
-      | true ↦ λ e. subst (λ (x : NameFacts). is_in (put_at path_in row.name (names_of rows)) x ≡ not (is_in (to_read (left row.name pass)) x)) (sym ((same_name-Decides n row.name).0 e))
-          (in_put_self row.name (names_of rows) ∙ ap not (sym (gone_from_read row.name pass)))
+    ∙ elim (same_name n row.name) as (λ b. same_name n row.name ≡ b → is_in (put_at path_in row.name (row_names rows)) n ≡ not (is_in (to_read (left row.name pass)) n)) [
+      | true ↦ λ e. subst (λ (x : NameFacts). is_in (put_at path_in row.name (row_names rows)) x ≡ not (is_in (to_read (left row.name pass)) x)) (sym ((same_name-Decides n row.name).0 e))
+          (in_put_self row.name (row_names rows) ∙ ap not (sym (gone_from_read row.name pass)))
       | false ↦ λ e.
           let apart : bytes_eq n.path row.name.path ≡ false = false_from_ne_true (bytes_eq n.path row.name.path)
           (λ same. true≢false (sym (one_of_path n row.name pass.listing by_path listed own same) ∙ e)) in
-          in_put_other row.name n (names_of rows) apart ∙ h n listed ∙ ap not (sym (others_to_read row.name n pass e))
+          in_put_other row.name n (row_names rows) apart ∙ h n listed ∙ ap not (sym (others_to_read row.name n pass e))
     ] refl
 
 pub put_rows : (rows : List RowFacts) (row : RowFacts) (pass : PassFacts) → is_in pass.listing row.name ≡ true → RowsAccounted rows pass → RowsAccounted (with_row row rows) (left row.name pass)
 put_rows rows row pass own h = λ n stands.
-    let put : is_in (put_at path_in row.name (names_of rows)) n ≡ true = ap (λ (l : List NameFacts). is_in l n) (sym (names_with row rows)) ∙ stands in
+    let put : is_in (put_at path_in row.name (row_names rows)) n ≡ true = ap (λ (l : List NameFacts). is_in l n) (sym (names_with row rows)) ∙ stands in
     elim (same_name n row.name) as (λ b. same_name n row.name ≡ b → (is_in pass.listing n || is_in (to_look_for (left row.name pass)) n) ≡ true) [
       | true ↦ λ e. or_left _ _ (ap (is_in pass.listing) ((same_name-Decides n row.name).0 e) ∙ own)
       | false ↦ λ e. elim (bytes_eq n.path row.name.path) as (λ b. bytes_eq n.path row.name.path ≡ b → (is_in pass.listing n || is_in (to_look_for (left row.name pass)) n) ≡ true) [
-        | true ↦ λ same. absurd (true≢false (sym put ∙ in_put_stale row.name n (names_of rows) ((bytes_eq-Decides n.path row.name.path).0 same) e))
+        | true ↦ λ same. absurd (true≢false (sym put ∙ in_put_stale row.name n (row_names rows) ((bytes_eq-Decides n.path row.name.path).0 same) e))
         | false ↦ λ apart.
             ap (λ b. is_in pass.listing n || b) (others_to_look_for row.name n pass e)
-            ∙ h n (sym (in_put_other row.name n (names_of rows) apart) ∙ put)
+            ∙ h n (sym (in_put_other row.name n (row_names rows) apart) ∙ put)
       ] refl
     ] refl

@@ -2,7 +2,7 @@
 use Rattle.std.proofs.Common.{◌≡◌, ◌<◌, false, length, sym, ◌∙◌, ap, subst}
 use Rattle.std.proofs.lemmas.Bool.{true≢false}
 use Rattle.row_types.specs.Row.{RowFacts}
-use Rattle.index_rows.specs.Rows.{CanBeVoid, IsIndex, IsReady, RowsFacts, names_of}
+use Rattle.index_rows.specs.Rows.{CanBeVoid, IsIndex, IsReady, RowsFacts, row_names}
 use Rattle.index_rows.specs.declared.prepared.Prepared.{Prepared}
 use Rattle.index_rows.specs.declared.prepared.Prepared.TheVariants.{Put}
 use Rattle.index_rows.specs.declared.rows.TheConstants.{LOG_LIMIT}
@@ -18,7 +18,7 @@ pub prepared_again : (old : RowsFacts) (row : RowFacts) → old.prepared ≡ Put
 prepared_again old row e = ap (λ (p : Prepared). record old { prepared = p }) e
 
 -- the put of a name that no row has can be listed as void
-pub can_void : (old : RowsFacts) (row : RowFacts) → old.prepared ≡ Put row → is_in (names_of old.rows) row.name ≡ false → CanBeVoid old.prepared old.rows
+pub can_void : (old : RowsFacts) (row : RowFacts) → old.prepared ≡ Put row → is_in (row_names old.rows) row.name ≡ false → CanBeVoid old.prepared old.rows
 can_void old row e absent =
     let free : CanBeVoid (Put row) old.rows = λ stands. true≢false (sym (stands_is_in row.name old.rows stands) ∙ absent) in
     subst (λ (p : Prepared). CanBeVoid p old.rows) (sym e) free

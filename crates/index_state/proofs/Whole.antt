@@ -11,7 +11,7 @@ use Rattle.std.proofs.lemmas.List.Folds.{list_any_at}
 use Rattle.row_types.specs.Ascends.{IsBefore}
 use Rattle.row_types.specs.Name.{NameFacts, same_name}
 use Rattle.row_types.specs.Row.{RowFacts}
-use Rattle.index_rows.specs.Rows.{names_of, path_of, row_at}
+use Rattle.index_rows.specs.Rows.{row_names, row_path, row_at}
 use Rattle.index_rows.proofs.Lists.{IsFound, found_there}
 use Rattle.scan_queue.specs.Names.{IsByPath, is_in}
 use Rattle.scan_queue.specs.Pass.{IsPass, PassFacts, missed_names}
@@ -20,12 +20,12 @@ use Rattle.scan_queue.proofs.NameTests.{not_before_itself, same_name-Decides}
 use Rattle.scan_queue.proofs.Picks.{head_pairs, tail_pairs}
 use Rattle.index_state.specs.Complete.{CompletePass, LeavesNone, standing_of}
 use Rattle.index_state.specs.Invariant.{IndexInvariant, ListedAccounted, RowsAccounted, to_look_for, to_read}
-use Rattle.index_state.specs.Keeping.{Meanings}
-use Rattle.index_state.specs.Kept.{Agrees}
+use Rattle.index_keeper.specs.Keeper.{ShownKeeper}
 use Rattle.index_state.specs.State.{StateFacts, pass_of}
 use Rattle.index_state.specs.declared.answer.Standing.{Standing}
 use Rattle.index_state.proofs.ByName.{HasRow, all_in, names_by_path, none_later, row_of_name}
 use Rattle.index_state.proofs.Members.{same_name_self}
+use Rattle.index_state.proofs.StoreSteps.{in_store}
 
 -- a later name's path stands after the first's
 after_first : (x n : NameFacts) (xs : List NameFacts) → IsByPath (x ∷ xs) → is_in xs n ≡ true → IsBefore x.path n.path
@@ -89,27 +89,27 @@ nothing_look_for pass a b c =
     ∙ ap (λ (l : List Miss). [] ++ [] ++ missed_names l) c
 
 -- then the rows' names are the listing
-whole_names : (rows : List RowFacts) (pass : PassFacts) → IsByPath (names_of rows) → IsByPath pass.listing → ListedAccounted rows pass → RowsAccounted rows pass → to_read pass ≡ [] → to_look_for pass ≡ [] → names_of rows ≡ pass.listing
+whole_names : (rows : List RowFacts) (pass : PassFacts) → IsByPath (row_names rows) → IsByPath pass.listing → ListedAccounted rows pass → RowsAccounted rows pass → to_read pass ≡ [] → to_look_for pass ≡ [] → row_names rows ≡ pass.listing
 whole_names rows pass p q listed looked none_read none_look =
-    same_names (names_of rows) pass.listing p q
-    (λ n. agree (is_in pass.listing n) (is_in (names_of rows) n)
+    same_names (row_names rows) pass.listing p q
+    (λ n. agree (is_in pass.listing n) (is_in (row_names rows) n)
     (λ h. listed n h ∙ ap (λ (l : List NameFacts). not (is_in l n)) none_read)
     (λ h. or_nothing (is_in pass.listing n) (ap (λ (l : List NameFacts). is_in pass.listing n || is_in l n) (sym none_look) ∙ looked n h)))
 
 -- each row's name is one of the names
-rows_in : (rows : List RowFacts) → All (λ row. is_in (names_of rows) row.name ≡ true) rows
+rows_in : (rows : List RowFacts) → All (λ row. is_in (row_names rows) row.name ≡ true) rows
 rows_in rows = λ k d within.
     let name : NameFacts = (slice_index_or rows k d).name in
-    list_any_at (same_name name) (names_of rows) k d.name (omega (arith, within, length-map rows (λ (r : RowFacts). r.name)))
+    list_any_at (same_name name) (row_names rows) k d.name (omega (arith, within, length-map rows (λ (r : RowFacts). r.name)))
     (ap (same_name name) (get_or-map (λ (r : RowFacts). r.name) rows k d) ∙ same_name_self name)
 
 true_at : (true_row : RowFacts → Type 0) (rows : List RowFacts) (path : List ℕ) (row : RowFacts) → All true_row rows → row_at path rows ≡ Some row → true_row row
 true_at true_row rows path row all e =
-    let found : IsFound (λ r. bytes_eq (path_of r) path) rows row = found_there (λ r. bytes_eq (path_of r) path) rows row e in
+    let found : IsFound (λ r. bytes_eq (row_path r) path) rows row = found_there (λ r. bytes_eq (row_path r) path) rows row e in
     subst true_row found.there (all found.place row found.within)
 
 -- in a world in which a name has at most one true row, true rows of these names are the scan
-scanned : (true_row : RowFacts → Type 0) (listing : List NameFacts) (rows : List RowFacts) → ((a b : RowFacts) → a.name ≡ b.name → true_row a → true_row b → a ≡ b) → All true_row rows → IsByPath (names_of rows) → names_of rows ≡ listing → (row : RowFacts) → true_row row → is_in listing row.name ≡ true → row_at row.name.path rows ≡ Some row
+scanned : (true_row : RowFacts → Type 0) (listing : List NameFacts) (rows : List RowFacts) → ((a b : RowFacts) → a.name ≡ b.name → true_row a → true_row b → a ≡ b) → All true_row rows → IsByPath (row_names rows) → row_names rows ≡ listing → (row : RowFacts) → true_row row → is_in listing row.name ≡ true → row_at row.name.path rows ≡ Some row
 scanned true_row listing rows one holds by_path same row true_one listed =
     let has : HasRow row.name rows = row_of_name row.name rows by_path (ap (λ (l : List NameFacts). is_in l row.name) same ∙ listed) in
     has.found ∙ ap (λ (r : RowFacts). Some r) (one has.row row has.named (true_at true_row rows row.name.path has.row holds has.found) true_one)
@@ -118,25 +118,22 @@ nil_of_length : {X : Type 0} (xs : List X) → length xs ≡ 0 → xs ≡ []
 nil_of_length [] e = refl
 nil_of_length (x ∷ xs) e = absurd (omega arith)
 
-in_store : {K : Type 0} (true_row : RowFacts → Type 0) (m : Meanings K) (state : StateFacts K) → IndexInvariant true_row m state → IsTrue m.told → (b : Bool) → state.broken ≡ b → b ≡ false → Agrees true_row b state.rows (m.tables state.keeper) (m.images state.keeper)
-in_store true_row m state h told b e _ = subst (λ (c : Bool). Agrees true_row c state.rows (m.tables state.keeper) (m.images state.keeper)) e (h.store_agrees_with_rows.tables told)
-
-complete : {K : Type 0} (world_told : Bool) (true_row : RowFacts → Type 0) (m : Meanings K) (state : StateFacts K) (pass : PassFacts) → (world_told ≡ true → (a b : RowFacts) → a.name ≡ b.name → true_row a → true_row b → a ≡ b) → IndexInvariant true_row m state → state.pass ≡ Some pass → pass.todo ≡ [] → pass.out ≡ [] → pass.groom ≡ [] → pass.missed ≡ [] → CompletePass world_told true_row m pass.listing state
-complete world_told true_row m state pass one h is todo out groom missed =
-    let by_path : IsByPath (names_of state.rows) = names_by_path state.rows h.rows_sorted_and_true.ascend in
+complete : {K : Type 0} (world_told : Bool) (true_row : RowFacts → Type 0) (told : Bool) (shows : K → ShownKeeper) (state : StateFacts K) (pass : PassFacts) → (world_told ≡ true → (a b : RowFacts) → a.name ≡ b.name → true_row a → true_row b → a ≡ b) → IndexInvariant true_row told shows state → state.pass ≡ Some pass → pass.todo ≡ [] → pass.out ≡ [] → pass.groom ≡ [] → pass.missed ≡ [] → CompletePass world_told true_row told shows pass.listing state
+complete world_told true_row told shows state pass one h is todo out groom missed =
+    let by_path : IsByPath (row_names state.rows) = names_by_path state.rows h.rows_sorted_and_true.ascend in
     let place = subst (λ (o : Option PassFacts). IfSome o (λ p. IsByPath p.listing)) is (listing_by_path state.pass h.each_name_in_one_place) in
     let listed : ListedAccounted state.rows pass = subst (λ (o : Option PassFacts). IfSome o (ListedAccounted state.rows)) is h.listed_names_accounted_for in
     let looked : RowsAccounted state.rows pass = subst (λ (o : Option PassFacts). IfSome o (RowsAccounted state.rows)) is h.rows_accounted_for in
-    let names : names_of state.rows ≡ pass.listing = whole_names state.rows pass by_path place listed looked (nothing_read pass todo out missed) (nothing_look_for pass groom out missed) in
+    let names : row_names state.rows ≡ pass.listing = whole_names state.rows pass by_path place listed looked (nothing_read pass todo out missed) (nothing_look_for pass groom out missed) in
     record {
       names = names;
-      scan = λ told. record {
+      scan = λ is_told. record {
         ascend = h.rows_sorted_and_true.ascend;
         holds = h.rows_sorted_and_true.holds;
         listed = subst (λ (l : List NameFacts). All (λ row. is_in l row.name ≡ true) state.rows) names (rows_in state.rows);
-        each = scanned true_row pass.listing state.rows (one told) h.rows_sorted_and_true.holds by_path names;
+        each = scanned true_row pass.listing state.rows (one is_told) h.rows_sorted_and_true.holds by_path names;
       };
-      kept = λ told sound. (in_store true_row m state h told false sound refl).same;
+      kept = λ tells sound. (in_store h sound tells).same;
     }
   where
     listing_by_path : (p : Option PassFacts) → IfSome p IsPass → IfSome p (λ q. IsByPath q.listing)
@@ -144,16 +141,16 @@ complete world_told true_row m state pass one h is todo out groom missed =
     listing_by_path (Some q) i = i.listing.by_path
 
 -- where a standing leaves none, the index is complete
-pub whole : {K : Type 0} (world_told : Bool) (true_row : RowFacts → Type 0) (m : Meanings K) (state : StateFacts K) (standing : Standing) → (world_told ≡ true → (a b : RowFacts) → a.name ≡ b.name → true_row a → true_row b → a ≡ b) → IndexInvariant true_row m state → standing ≡ standing_of state → IfSome state.pass (λ pass. LeavesNone standing → CompletePass world_told true_row m pass.listing state)
-whole world_told true_row m state standing one h says = each state.pass refl
+pub whole : {K : Type 0} (world_told : Bool) (true_row : RowFacts → Type 0) (told : Bool) (shows : K → ShownKeeper) (state : StateFacts K) (standing : Standing) → (world_told ≡ true → (a b : RowFacts) → a.name ≡ b.name → true_row a → true_row b → a ≡ b) → IndexInvariant true_row told shows state → standing ≡ standing_of state → IfSome state.pass (λ pass. LeavesNone standing → CompletePass world_told true_row told shows pass.listing state)
+whole world_told true_row told shows state standing one h says = each state.pass refl
   where
     none_of : (pass : PassFacts) → state.pass ≡ Some pass → (n : ℕ) (f : PassFacts → ℕ) → n ≡ f (pass_of state.pass) → n ≡ 0 → f pass ≡ 0
     none_of pass is n f e zero_is = ap (λ (o : Option PassFacts). f (pass_of o)) (sym is) ∙ sym e ∙ zero_is
 
-    each : (p : Option PassFacts) → state.pass ≡ p → IfSome p (λ pass. LeavesNone standing → CompletePass world_told true_row m pass.listing state)
+    each : (p : Option PassFacts) → state.pass ≡ p → IfSome p (λ pass. LeavesNone standing → CompletePass world_told true_row told shows pass.listing state)
     each None is = tt
     each (Some pass) is = λ none.
-        complete world_told true_row m state pass one h is
+        complete world_told true_row told shows state pass one h is
         (nil_of_length pass.todo (none_of pass is standing.todo (λ (q : PassFacts). length q.todo) (ap (λ (s : Standing). s.todo) says) none.todo))
         (nil_of_length pass.out (none_of pass is standing.out (λ (q : PassFacts). length q.out) (ap (λ (s : Standing). s.out) says) none.out))
         (nil_of_length pass.groom (none_of pass is standing.groom (λ (q : PassFacts). length q.groom) (ap (λ (s : Standing). s.groom) says) none.groom))

@@ -4,27 +4,27 @@ use Rattle.std.specs.Prelude.{◌≡◌, ℕ, Bool, true, false, List, [], ◌�
 use Rattle.row_types.specs.Name.{NameFacts}
 use Rattle.row_types.specs.Row.{RowFacts}
 use Rattle.row_types.specs.Ascends.{AscendsBy}
-use Rattle.index_rows.specs.Rows.{names_of, path_of, row_at}
+use Rattle.index_rows.specs.Rows.{row_names, row_path, row_at}
 use Rattle.scan_queue.specs.Names.{is_in}
 use Rattle.scan_queue.specs.Pass.{PassFacts}
-use Rattle.index_state.specs.Keeping.{Meanings}
+use Rattle.index_keeper.specs.Keeper.{ShownKeeper}
 use Rattle.index_state.specs.Kept.{tables_of}
 use Rattle.index_state.specs.State.{StateFacts, pass_of}
 use Rattle.index_state.specs.declared.answer.Standing.{Standing}
 
 -- the sequential scan of a listing: by path, the true rows whose names are listed, and no others
 pub record IsScan (true_row : RowFacts → Type 0) (listing : List NameFacts) (rows : List RowFacts) : Type 0 where
-  pub ascend : AscendsBy path_of rows
+  pub ascend : AscendsBy row_path rows
   pub holds : All true_row rows
   pub listed : All (λ row. is_in listing row.name ≡ true) rows
   pub each : (row : RowFacts) → true_row row → is_in listing row.name ≡ true → row_at row.name.path rows ≡ Some row
 
 -- the rows' names are the listing; in a told world the rows are the scan of it; a keeper that tells has the tables
 -- of the rows, where the index isn't broken
-pub record CompletePass {K : Type 0} (world_told : Bool) (true_row : RowFacts → Type 0) (m : Meanings K) (listing : List NameFacts) (state : StateFacts K) : Type 0 where
-  pub names : names_of state.rows ≡ listing
+pub record CompletePass {K : Type 0} (world_told : Bool) (true_row : RowFacts → Type 0) (told : Bool) (shows : K → ShownKeeper) (listing : List NameFacts) (state : StateFacts K) : Type 0 where
+  pub names : row_names state.rows ≡ listing
   pub scan : world_told ≡ true → IsScan true_row listing state.rows
-  pub kept : IsTrue m.told → state.broken ≡ false → m.tables state.keeper ≡ tables_of state.rows
+  pub kept : IsTrue told → state.broken ≡ false → (shows state.keeper).tables ≡ tables_of state.rows
 
 -- how many names stand in each list of the pass, how many changes and rows there are, and whether it is broken
 abbrev pub standing_of : {K : Type 0} → StateFacts K → Standing

@@ -6,26 +6,26 @@ use Rattle.row_types.specs.declared.limits.TheConstants.{EDITION}
 use Rattle.row_types.specs.Ascends.{AscendsBy}
 use Rattle.row_codec.specs.Spelled.{IsSpelled}
 use Rattle.index_rows.specs.Log.{replay}
-use Rattle.index_rows.specs.Rows.{names_of, path_of}
+use Rattle.index_rows.specs.Rows.{row_names, row_path}
 use Rattle.index_rows.specs.declared.change.Change.{Change}
 use Rattle.index_rows.specs.declared.rows.TheConstants.{LOG_LIMIT}
 use Rattle.scan_queue.specs.Names.{is_in}
 use Rattle.scan_queue.specs.Pass.{IsPass, PassFacts, missed_names}
+use Rattle.index_keeper.specs.Keeper.{ShownKeeper}
 use Rattle.index_state.specs.Changes.{HasOrigin, VoidWhere}
-use Rattle.index_state.specs.Keeping.{Meanings}
 use Rattle.index_state.specs.Kept.{Agrees}
 use Rattle.index_state.specs.State.{StateFacts, lasting}
 
 -- the rows stand strictly by path, are of the edition, true, and have row bytes
 pub record AreTrueRows (true_row : RowFacts → Type 0) (rows : List RowFacts) : Type 0 where
-  pub ascend : AscendsBy path_of rows
+  pub ascend : AscendsBy row_path rows
   pub edition : All (λ row. row.edition ≡ EDITION) rows
   pub holds : All true_row rows
   pub spelled : All IsSpelled rows
 
 -- the rows' names are those that the log leaves, which is no longer than its limit
 pub record Replays (log : List Change) (rows : List RowFacts) : Type 0 where
-  pub names : names_of rows ≡ replay log
+  pub names : row_names rows ≡ replay log
   pub bounded : length log ≤ LOG_LIMIT
 
 -- the log ends in a void change exactly where the index is broken, and then the keeper has counted a fault
@@ -34,10 +34,10 @@ pub record IsBrokenByFault (broken : Bool) (log : List Change) (faults : ℕ) : 
   pub counted : IsTrue broken → 0 < faults
 
 -- a keeper that tells has the rows, its number is that of the opening, and the log is what the store made
-pub record AgreesWithStore {K : Type 0} (true_row : RowFacts → Type 0) (m : Meanings K) (state : StateFacts K) : Type 0 where
-  pub tables : IsTrue m.told → Agrees true_row state.broken state.rows (m.tables state.keeper) (m.images state.keeper)
-  pub number : m.epoch state.keeper ≡ state.origin.epoch
-  pub since : HasOrigin true_row state.origin (m.made state.keeper) (lasting state.broken state.log)
+pub record AgreesWithStore {K : Type 0} (true_row : RowFacts → Type 0) (told : Bool) (shown : ShownKeeper) (state : StateFacts K) : Type 0 where
+  pub tables : IsTrue told → Agrees true_row state.broken state.log state.rows shown
+  pub number : shown.epoch ≡ state.origin.epoch
+  pub since : HasOrigin true_row state.origin shown.made (lasting state.broken state.log)
 
 -- the names that are to be read, that were handed out or that were missed
 abbrev pub to_read : PassFacts → List NameFacts
@@ -49,23 +49,22 @@ to_look_for pass = pass.groom ++ pass.out ++ missed_names pass.missed
 
 -- a listed name is a row's name exactly where it is no longer to be read
 abbrev pub ListedAccounted : List RowFacts → PassFacts → Type 0
-ListedAccounted rows pass = (name : NameFacts) → is_in pass.listing name ≡ true → is_in (names_of rows) name ≡ not (is_in (to_read pass) name)
+ListedAccounted rows pass = (name : NameFacts) → is_in pass.listing name ≡ true → is_in (row_names rows) name ≡ not (is_in (to_read pass) name)
 
 -- each row's name is listed, or is still to be looked for
 abbrev pub RowsAccounted : List RowFacts → PassFacts → Type 0
-RowsAccounted rows pass = (name : NameFacts) → is_in (names_of rows) name ≡ true → (is_in pass.listing name || is_in (to_look_for pass) name) ≡ true
+RowsAccounted rows pass = (name : NameFacts) → is_in (row_names rows) name ≡ true → (is_in pass.listing name || is_in (to_look_for pass) name) ≡ true
 
 -- what holds of an index at every moment
-pub record IndexInvariant {K : Type 0} (true_row : RowFacts → Type 0) (m : Meanings K) (state : StateFacts K) : Type 0 where
+pub record IndexInvariant {K : Type 0} (true_row : RowFacts → Type 0) (told : Bool) (shows : K → ShownKeeper) (state : StateFacts K) : Type 0 where
   -- by path, no path twice; each of the edition, true in the world, and with row bytes
   pub rows_sorted_and_true : AreTrueRows true_row state.rows
   -- the changes of the log, made from nothing in order, leave the rows' names; the log keeps its limit
   pub rows_replay_the_log : Replays state.log state.rows
   -- a sound index has no void change at all; a broken one has that one alone, and the keeper has counted a fault
-  pub broken_means_a_void_last_change : IsBrokenByFault state.broken state.log (m.faults state.keeper)
-  -- under each row's path the tables of a keeper that tells have its row bytes, and nothing else, but for the one put
-  -- or removal that a broken index leaves in doubt; the keeper's number and its changes are those since the opening
-  pub store_agrees_with_rows : AgreesWithStore true_row m state
+  pub broken_means_a_void_last_change : IsBrokenByFault state.broken state.log (shows state.keeper).faults
+  -- a keeper that tells has the tables of the rows, but for the change that the void one of a broken index stands for
+  pub store_agrees_with_rows : AgreesWithStore true_row told (shows state.keeper) state
   -- a name is in one list of the pass at most: to be read, out, to be looked for or missed
   pub each_name_in_one_place : IfSome state.pass IsPass
   -- of a listed name there is a row, or it is still to be read, out or missed, and never both

@@ -11,6 +11,7 @@ pub use Rattle.index_rows.specs.Log
 pub use Rattle.index_rows.specs.Rows
 pub use Rattle.scan_queue.specs.Names
 pub use Rattle.scan_queue.specs.Pass
+pub use Rattle.index_keeper.specs.Answers
 pub use Rattle.index_keeper.specs.Keeper
 pub use Rattle.index_keeper.specs.Tables
 pub mod Changes

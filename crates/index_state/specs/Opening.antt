@@ -1,48 +1,50 @@
 -- How an index is opened on a keeper (this project's rule). A store that gives values isn't read yet.
-use Rattle.std.specs.Prelude.{◌≡◌, ◌≢◌, ◌≤◌, [], false, None, IsTrue}
-use Rattle.row_types.specs.Faults.{Rose}
-use Rattle.index_keeper.specs.Keeper.{IsOnlyImage, IsUntouched}
-use Rattle.index_state.specs.Keeping.{Meanings}
+use Rattle.std.specs.Prelude.{◌≡◌, ◌≢◌, [], Bool, false, None, IsTrue}
+use Rattle.index_keeper.specs.Answers.{for_rows}
+use Rattle.index_keeper.specs.Keeper.{Asks, IsSettled, ShownKeeper}
+use Rattle.index_keeper.specs.declared.answer.KeptAnswer.{KeptAnswer}
+use Rattle.index_keeper.specs.declared.answer.KeptAnswer.TheVariants.{All, Failed, OutOfMemory as NoMemory}
 use Rattle.index_state.specs.State.{StateFacts}
 use Rattle.index_state.specs.declared.answer.OpenFault.{OpenFault}
 use Rattle.index_state.specs.declared.answer.OpenFault.TheVariants.{KeeperFault, NotBuilt, OutOfMemory}
 
--- where the keeper tells, a crash now leaves its tables as they are
-abbrev pub IsSettled : {K : Type 0} → Meanings K → K → Type 0
-IsSettled m keeper = IsTrue m.told → IsOnlyImage (m.images keeper) (m.tables keeper)
-
--- the keeper was asked for its rows, and has the same ones
-pub record IsRead {K : Type 0} (m : Meanings K) (old new : K) : Type 0 where
-  pub tells : IsTrue m.told → IsUntouched (m.tables old) (m.tables new) (m.images old) (m.images new)
-  pub stays : m.made new ≡ m.made old
-  pub later : m.faults old ≤ m.faults new
-  pub number : m.epoch new ≡ m.epoch old
+-- an index can be opened on the keeper: where it tells, a crash now leaves its tables as they are
+abbrev pub CanOpen : Bool → ShownKeeper → Type 0
+CanOpen told shown = IsTrue told → IsSettled shown
 
 -- the index without rows
-abbrev pub opened_on : {K : Type 0} → Meanings K → K → StateFacts K
-opened_on m keeper = record {
+abbrev pub opened_on : {K : Type 0} → (K → ShownKeeper) → K → StateFacts K
+opened_on shows keeper = record {
   rows = [];
   log = [];
   keeper = keeper;
   pass = None;
   roots = [];
   broken = false;
-  origin = record { epoch = m.epoch keeper; puts = 0; made = m.made keeper };
+  origin = record { epoch = (shows keeper).epoch; puts = 0; made = (shows keeper).made };
 }
 
--- the store gave no value, and the index on it is empty
-pub record Opens {K : Type 0} (m : Meanings K) (keeper : K) (state : StateFacts K) : Type 0 where
-  pub empty : IsTrue m.told → m.tables keeper ≡ []
-  pub read : IsRead m keeper state.keeper
-  pub value : state ≡ opened_on m state.keeper
+-- the keeper gave its rows, and there are none
+abbrev pub GivesNothing : KeptAnswer → Type 0
+GivesNothing (All rows) = rows.items ≡ []
+GivesNothing _ = ⊥
 
--- why it could not be opened
-abbrev pub HasReason : {K : Type 0} → Meanings K → K → OpenFault → K → Type 0
-HasReason m keeper KeeperFault given = Rose (m.faults keeper) (m.faults given)
-HasReason m keeper NotBuilt given = IsTrue m.told → m.tables keeper ≢ []
-HasReason m keeper OutOfMemory given = m.faults given ≡ m.faults keeper
+-- the keeper gave no value as it was asked for its rows, and the index on it is empty
+pub record Opens {K : Type 0} (told : Bool) (shows : K → ShownKeeper) (keeper : K) (state : StateFacts K) : Type 0 where
+  pub answer : KeptAnswer
+  pub asked : Asks told (shows keeper) (shows state.keeper) (for_rows answer)
+  pub empty : GivesNothing answer
+  pub value : state ≡ opened_on shows state.keeper
 
--- the keeper came back, as it was read
-pub record Refuses {K : Type 0} (m : Meanings K) (keeper : K) (fault : OpenFault) (given : K) : Type 0 where
-  pub read : IsRead m keeper given
-  pub cause : HasReason m keeper fault given
+-- why it isn't opened, by what the keeper answered as it was asked for its rows
+abbrev pub HasReason : OpenFault → KeptAnswer → Type 0
+HasReason KeeperFault Failed = Unit {0}
+HasReason NotBuilt (All rows) = rows.items ≢ []
+HasReason OutOfMemory NoMemory = Unit {0}
+HasReason _ _ = ⊥
+
+-- the keeper was asked for its rows, once, and comes back
+pub record Refuses {K : Type 0} (told : Bool) (shows : K → ShownKeeper) (keeper : K) (fault : OpenFault) (given : K) : Type 0 where
+  pub answer : KeptAnswer
+  pub asked : Asks told (shows keeper) (shows given) (for_rows answer)
+  pub cause : HasReason fault answer

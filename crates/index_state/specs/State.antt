@@ -3,10 +3,11 @@
 use Rattle.std.specs.Prelude.{ℕ, ◌-◌, Bool, true, false, List, [], length, take, Option, Some, None}
 use Rattle.std.specs.Option.{option_map}
 use Rattle.row_types.specs.Row.{RowFacts}
-use Rattle.index_rows.specs.Rows.{RowsFacts}
 use Rattle.index_rows.specs.declared.change.Change.{Change}
 use Rattle.scan_queue.specs.Pass.{PassFacts}
+use Rattle.index_keeper.specs.Keeper.{ShownKeeper}
 use Rattle.index_keeper.specs.Tables.{EditFacts}
+use Rattle.index_state.specs.declared.state.State.TheInside.{Inside}
 
 -- what the opening left: the number of the keeper's opening, how many puts the log began with, and the changes of
 -- the store by then, where the keeper tells them
@@ -44,18 +45,18 @@ lasting true log = take (length log - 1) log
 abbrev pub made_first : ℕ → Option (List EditFacts) → Option (List EditFacts)
 made_first since made = option_map (λ edits. take (length edits - since) edits) made
 
--- the state that is made of these parts
-abbrev pub state_of : {K : Type 0} → (K → Option (List EditFacts)) → RowsFacts → K → Option PassFacts → List (List ℕ) → Bool → ℕ → ℕ → StateFacts K
-state_of made rows keeper pass roots broken epoch puts = record {
-  rows = rows.rows;
-  log = rows.log;
-  keeper = keeper;
-  pass = pass;
-  roots = roots;
-  broken = broken;
+-- the state that is made of these fields
+abbrev pub state_of : {W K : Type 0} → (K → ShownKeeper) → Inside W K → StateFacts K
+state_of shows s = record {
+  rows = s.rows.rows;
+  log = s.rows.log;
+  keeper = s.keeper;
+  pass = s.pass;
+  roots = s.roots.items;
+  broken = s.broken;
   origin = record {
-    epoch = epoch;
-    puts = puts;
-    made = made_first (length (lasting broken rows.log) - puts) (made keeper);
+    epoch = s.epoch;
+    puts = s.first_puts;
+    made = made_first (length (lasting s.broken s.rows.log) - s.first_puts) (shows s.keeper).made;
   };
 }

@@ -1,6 +1,6 @@
 -- The index step (this project's rule): what can happen to an index while it is held, and what comes of it. What a
 -- case doesn't name stays.
-use Rattle.std.specs.Prelude.{◌≡◌, ℕ, ◌<◌, true, false, List, [], ◌∷◌, ◌++◌, length, map, filter, Option, Some, None, IsSome}
+use Rattle.std.specs.Prelude.{◌≡◌, ℕ, ◌<◌, Bool, true, false, List, [], ◌∷◌, ◌++◌, length, map, filter, Option, Some, None, IsSome}
 use Rattle.std.specs.Option.{option_map}
 use Rattle.row_types.specs.Name.{NameFacts}
 use Rattle.row_types.specs.Row.{RowFacts}
@@ -8,13 +8,14 @@ use Rattle.row_types.specs.Stamp.{StampFacts}
 use Rattle.row_types.specs.declared.identity.Kind.{Kind}
 use Rattle.index_rows.specs.Classes.{has_class}
 use Rattle.index_rows.specs.Log.{drop_of, put_of}
-use Rattle.index_rows.specs.Rows.{names_of, path_of, with_row}
+use Rattle.index_rows.specs.Rows.{row_names, row_path, with_row}
 use Rattle.index_rows.specs.declared.rows.TheConstants.{LOG_LIMIT}
 use Rattle.row_types.specs.Name.{stamp_at}
 use Rattle.scan_queue.specs.Names.{is_in}
-use Rattle.scan_queue.specs.Pass.{PassFacts, Takes, begun, left}
+use Rattle.scan_queue.specs.Pass.{PassFacts, TakesName, begun, left}
+use Rattle.index_keeper.specs.Keeper.{IsLeftAlone, ShownKeeper}
 use Rattle.index_keeper.specs.declared.answer.KeepAnswer.TheVariants.{Done, Failed}
-use Rattle.index_state.specs.Keeping.{IsLeftAlone, IsPut, Meanings}
+use Rattle.index_state.specs.Keeping.{IsPut}
 use Rattle.index_state.specs.Plan.{plan_of}
 use Rattle.index_state.specs.State.{StateFacts, pass_of}
 use Rattle.index_state.specs.declared.answer.Plan.{Plan}
@@ -46,8 +47,8 @@ pub record Stays {K : Type 0} (Why : Type 0) (old new : StateFacts K) : Type 0 w
 -- a pass begins, in place of an earlier one, and this is what it has to do
 pub record BeginsPass {K : Type 0} (listing : List NameFacts) (roots : List (List ℕ)) (plan : Plan) (old new : StateFacts K) : Type 0 where
   pub sound : old.broken ≡ false
-  pub planned : plan ≡ plan_of listing (names_of old.rows)
-  pub after : new ≡ record old { pass = Some (begun listing (names_of old.rows)); roots = roots }
+  pub planned : plan ≡ plan_of listing (row_names old.rows)
+  pub after : new ≡ record old { pass = Some (begun listing (row_names old.rows)); roots = roots }
 
 -- a pass begins, or not
 abbrev pub Begins : {K : Type 0} → List NameFacts → List (List ℕ) → StateFacts K → Begun → StateFacts K → Type 0
@@ -66,7 +67,7 @@ pub record HandsOut (name : NameFacts) (old new : Option PassFacts) : Type 0 whe
   pub into : PassFacts
   pub was : old ≡ Some from
   pub is : new ≡ Some into
-  pub step : Takes from into name
+  pub step : TakesName from into name
 
 -- what becomes of a pass, if one was begun, as the next name is asked for
 abbrev pub TakesFrom : Option PassFacts → Option NameFacts → Option PassFacts → Type 0
@@ -88,21 +89,22 @@ pub record IsUnlisted {K : Type 0} (name : NameFacts) (listed : Option StampFact
 pub record IsKnown {K : Type 0} (name : NameFacts) (old : StateFacts K) : Type 0 where
   pub sound : old.broken ≡ false
   pub listed : is_in (pass_of old.pass).listing name ≡ true
-  pub stands : is_in (names_of old.rows) name ≡ true
+  pub stands : is_in (row_names old.rows) name ≡ true
 
--- the name is listed, and has no row yet
+-- the name is listed, and has no row yet, broken as the index may be
 pub record IsAwaited {K : Type 0} (name : NameFacts) (old : StateFacts K) : Type 0 where
-  pub sound : old.broken ≡ false
   pub listed : is_in (pass_of old.pass).listing name ≡ true
-  pub absent : is_in (names_of old.rows) name ≡ false
+  pub absent : is_in (row_names old.rows) name ≡ false
 
 -- the name is awaited, but the log has no room
 pub record IsShut {K : Type 0} (name : NameFacts) (old : StateFacts K) : Type 0 where
+  pub sound : old.broken ≡ false
   pub awaited : IsAwaited name old
   pub full : length old.log ≡ LOG_LIMIT
 
 -- the name is awaited, and the log has room
-pub record HasRoom {K : Type 0} (name : NameFacts) (old : StateFacts K) : Type 0 where
+pub record IsOpen {K : Type 0} (name : NameFacts) (old : StateFacts K) : Type 0 where
+  pub sound : old.broken ≡ false
   pub awaited : IsAwaited name old
   pub room : length old.log < LOG_LIMIT
 
@@ -112,53 +114,66 @@ pub record Leaves {K : Type 0} (name : NameFacts) (old new : StateFacts K) : Typ
   pub after : new ≡ record old { pass = option_map (left name) old.pass }
 
 -- memory was refused; what contracts know of the keeper stays too
-pub record FindsNoMemory {K : Type 0} (m : Meanings K) (row : RowFacts) (old new : StateFacts K) : Type 0 where
-  pub can : HasRoom row.name old
-  pub keeper : IsLeftAlone m old.keeper new.keeper
+pub record FindsNoMemory {K : Type 0} (told : Bool) (shows : K → ShownKeeper) (row : RowFacts) (old new : StateFacts K) : Type 0 where
+  pub can : IsOpen row.name old
+  pub keeper : IsLeftAlone told (shows old.keeper) (shows new.keeper)
   pub same : new ≡ record old { keeper = new.keeper }
 
--- the keeper failed to put the row: a void drop is listed, and the index is broken
-pub record Breaks {K : Type 0} (m : Meanings K) (row : RowFacts) (old new : StateFacts K) : Type 0 where
-  pub can : HasRoom row.name old
-  pub keeper : IsPut m row old.keeper new.keeper Failed
-  pub after : new ≡ record old { log = old.log ++ drop_of row.name ∷ []; broken = true; keeper = new.keeper }
+-- once the keeper failed to put the row: a void drop is listed, and the index is broken
+abbrev pub after_fault : {K : Type 0} → RowFacts → K → StateFacts K → StateFacts K
+after_fault row keeper old = record old { log = old.log ++ drop_of row.name ∷ []; broken = true; keeper = keeper }
 
--- the keeper has the row, the row stands, its put is listed, and its name leaves the pass
-pub record Stores {K : Type 0} (m : Meanings K) (row : RowFacts) (old new : StateFacts K) : Type 0 where
-  pub can : HasRoom row.name old
-  pub keeper : IsPut m row old.keeper new.keeper Done
-  pub after : new ≡ record old { rows = with_row row old.rows; log = old.log ++ put_of row.name ∷ []; pass = option_map (left row.name) old.pass; keeper = new.keeper }
+-- the keeper failed to put the row
+pub record Breaks {K : Type 0} (told : Bool) (shows : K → ShownKeeper) (row : RowFacts) (old new : StateFacts K) : Type 0 where
+  pub can : IsOpen row.name old
+  pub keeper : IsPut told row (shows old.keeper) (shows new.keeper) Failed
+  pub after : new ≡ after_fault row new.keeper old
+
+-- once the keeper has the row: the row stands, its put is listed, and its name leaves the pass
+abbrev pub after_stored : {K : Type 0} → RowFacts → K → StateFacts K → StateFacts K
+after_stored row keeper old = record old {
+  rows = with_row row old.rows;
+  log = old.log ++ put_of row.name ∷ [];
+  pass = option_map (left row.name) old.pass;
+  keeper = keeper;
+}
+
+-- the keeper has the row
+pub record Stores {K : Type 0} (told : Bool) (shows : K → ShownKeeper) (row : RowFacts) (old new : StateFacts K) : Type 0 where
+  pub can : IsOpen row.name old
+  pub keeper : IsPut told row (shows old.keeper) (shows new.keeper) Done
+  pub after : new ≡ after_stored row new.keeper old
 
 -- the row stands, and its path had none
-pub record Adds {K : Type 0} (m : Meanings K) (row : RowFacts) (old new : StateFacts K) : Type 0 where
-  pub stored : Stores m row old new
-  pub fresh : stamp_at (names_of old.rows) row.name.path ≡ None
+pub record Adds {K : Type 0} (told : Bool) (shows : K → ShownKeeper) (row : RowFacts) (old new : StateFacts K) : Type 0 where
+  pub stored : Stores told shows row old new
+  pub fresh : stamp_at (row_names old.rows) row.name.path ≡ None
 
 -- the row stands in place of its path's
-pub record Replaces {K : Type 0} (m : Meanings K) (row : RowFacts) (old new : StateFacts K) : Type 0 where
-  pub stored : Stores m row old new
-  pub stood : IsSome (stamp_at (names_of old.rows) row.name.path)
+pub record Replaces {K : Type 0} (told : Bool) (shows : K → ShownKeeper) (row : RowFacts) (old new : StateFacts K) : Type 0 where
+  pub stored : Stores told shows row old new
+  pub stood : IsSome (stamp_at (row_names old.rows) row.name.path)
 
 -- a row is published, or not
-abbrev pub Publishes : {K : Type 0} → Meanings K → RowFacts → StateFacts K → Published → StateFacts K → Type 0
-Publishes m row old Broken new = Stays (old.broken ≡ true) old new
-Publishes m row old (NotListed listed) new = Stays (IsUnlisted row.name listed old) old new
-Publishes m row old Already new = Leaves row.name old new
-Publishes m row old LogFull new = Stays (IsShut row.name old) old new
-Publishes m row old OutOfMemory new = FindsNoMemory m row old new
-Publishes m row old KeeperFault new = Breaks m row old new
-Publishes m row old Added new = Adds m row old new
-Publishes m row old Replaced new = Replaces m row old new
+abbrev pub Publishes : {K : Type 0} → Bool → (K → ShownKeeper) → RowFacts → StateFacts K → Published → StateFacts K → Type 0
+Publishes told shows row old Broken new = Stays (old.broken ≡ true) old new
+Publishes told shows row old (NotListed listed) new = Stays (IsUnlisted row.name listed old) old new
+Publishes told shows row old Already new = Leaves row.name old new
+Publishes told shows row old LogFull new = Stays (IsShut row.name old) old new
+Publishes told shows row old OutOfMemory new = FindsNoMemory told shows row old new
+Publishes told shows row old KeeperFault new = Breaks told shows row old new
+Publishes told shows row old Added new = Adds told shows row old new
+Publishes told shows row old Replaced new = Replaces told shows row old new
 
 -- the files are looked up: the paths of the rows with the id whose files are of the kind, in path order
 pub record LooksUp {K : Type 0} (id : List ℕ) (kind : Kind) (old : StateFacts K) (paths : List (List ℕ)) (new : StateFacts K) : Type 0 where
-  pub found : paths ≡ map path_of (filter (λ row. has_class id kind row.reading) old.rows)
+  pub found : paths ≡ map row_path (filter (λ row. has_class id kind row.reading) old.rows)
   pub same : new ≡ old
 
 -- the event happened, this was answered, and the first state became the second
-abbrev pub IndexStep : {K : Type 0} → Meanings K → StateFacts K → Event → Answer → StateFacts K → Type 0
-IndexStep m old (begins listing roots) (to_begin answer) new = Begins listing roots old answer new
-IndexStep m old takes (to_take answer) new = TakesNext old answer new
-IndexStep m old (publishes row) (to_publish answer) new = Publishes m row old answer new
-IndexStep m old (looks id kind) (to_look paths) new = LooksUp id kind old paths new
-IndexStep m old _ _ new = ⊥
+abbrev pub IndexStep : {K : Type 0} → Bool → (K → ShownKeeper) → StateFacts K → Event → Answer → StateFacts K → Type 0
+IndexStep told shows old (begins listing roots) (to_begin answer) new = Begins listing roots old answer new
+IndexStep told shows old takes (to_take answer) new = TakesNext old answer new
+IndexStep told shows old (publishes row) (to_publish answer) new = Publishes told shows row old answer new
+IndexStep told shows old (looks id kind) (to_look paths) new = LooksUp id kind old paths new
+IndexStep told shows old _ _ new = ⊥

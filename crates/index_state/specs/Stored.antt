@@ -1,14 +1,15 @@
 -- How a row is published (this project's rule): what is found of its name first, and what came of having it kept.
-use Rattle.std.specs.Prelude.{◌≡◌, ◌<◌, true, [], ◌∷◌, ◌++◌, length, None, IsSome}
+use Rattle.std.specs.Prelude.{◌≡◌, ◌<◌, Bool, true, false, [], ◌∷◌, ◌++◌, length, None, IsSome}
 use Rattle.row_types.specs.Name.{NameFacts}
 use Rattle.row_types.specs.Row.{RowFacts}
 use Rattle.index_rows.specs.Log.{drop_of}
-use Rattle.index_rows.specs.Rows.{RowsFacts, names_of}
+use Rattle.index_rows.specs.Rows.{RowsFacts, row_names}
 use Rattle.index_rows.specs.declared.prepared.Prepared.TheVariants.{Put}
 use Rattle.index_rows.specs.declared.rows.TheConstants.{LOG_LIMIT}
 use Rattle.row_types.specs.Name.{stamp_at}
+use Rattle.index_keeper.specs.Keeper.{IsLeftAlone, ShownKeeper}
 use Rattle.index_keeper.specs.declared.answer.KeepAnswer.TheVariants.{Done as KeepDone, Failed as KeepFailed}
-use Rattle.index_state.specs.Keeping.{IsLeftAlone, IsPut, Meanings}
+use Rattle.index_state.specs.Keeping.{IsPut}
 use Rattle.index_state.specs.State.{StateFacts}
 use Rattle.index_state.specs.Step.{IsAwaited, IsKnown, IsUnlisted}
 use Rattle.index_state.specs.declared.answer.Published.{Published}
@@ -18,15 +19,17 @@ use Rattle.index_state.specs.declared.publish.Finding.TheVariants.{Broken, NotLi
 use Rattle.index_state.specs.declared.stored.Stored.{Stored}
 use Rattle.index_state.specs.declared.stored.Stored.TheVariants.{Done, LogFull, OutOfMemory, Failed}
 
--- the name is awaited, and its path has no row
+-- the name is awaited in a sound index, and its path has no row
 pub record IsNew {K : Type 0} (name : NameFacts) (state : StateFacts K) : Type 0 where
+  pub sound : state.broken ≡ false
   pub awaited : IsAwaited name state
-  pub fresh : stamp_at (names_of state.rows) name.path ≡ None
+  pub fresh : stamp_at (row_names state.rows) name.path ≡ None
 
--- the name is awaited, and its path has a row
+-- the name is awaited in a sound index, and its path has a row
 pub record IsChanged {K : Type 0} (name : NameFacts) (state : StateFacts K) : Type 0 where
+  pub sound : state.broken ≡ false
   pub awaited : IsAwaited name state
-  pub stood : IsSome (stamp_at (names_of state.rows) name.path)
+  pub stood : IsSome (stamp_at (row_names state.rows) name.path)
 
 -- what is found of a name
 abbrev pub Finds : {K : Type 0} → NameFacts → StateFacts K → Finding → Type 0
@@ -49,28 +52,28 @@ pub record IsFull {K : Type 0} (old : RowsFacts) (keeper : K) (new : RowsFacts) 
   pub kept : after ≡ keeper
 
 -- memory was refused, and rows and log stay
-pub record IsRefused {K : Type 0} (m : Meanings K) (old : RowsFacts) (keeper : K) (new : RowsFacts) (after : K) : Type 0 where
+pub record IsRefused (told : Bool) (old : RowsFacts) (before : ShownKeeper) (new : RowsFacts) (after : ShownKeeper) : Type 0 where
   pub room : length old.log < LOG_LIMIT
   pub rows : new.rows ≡ old.rows
   pub log : new.log ≡ old.log
-  pub kept : IsLeftAlone m keeper after
+  pub kept : IsLeftAlone told before after
 
 -- the keeper has the row, and the rows have room for it
-pub record IsStored {K : Type 0} (m : Meanings K) (row : RowFacts) (old : RowsFacts) (keeper : K) (new : RowsFacts) (after : K) : Type 0 where
+pub record IsStored (told : Bool) (row : RowFacts) (old : RowsFacts) (before : ShownKeeper) (new : RowsFacts) (after : ShownKeeper) : Type 0 where
   pub room : length old.log < LOG_LIMIT
   pub rows : new ≡ record old { prepared = Put row }
-  pub kept : IsPut m row keeper after KeepDone
+  pub kept : IsPut told row before after KeepDone
 
 -- the keeper failed, and a void drop is listed
-pub record IsMarked {K : Type 0} (m : Meanings K) (row : RowFacts) (old : RowsFacts) (keeper : K) (new : RowsFacts) (after : K) : Type 0 where
+pub record IsMarked (told : Bool) (row : RowFacts) (old : RowsFacts) (before : ShownKeeper) (new : RowsFacts) (after : ShownKeeper) : Type 0 where
   pub room : length old.log < LOG_LIMIT
   pub rows : new.rows ≡ old.rows
   pub log : new.log ≡ old.log ++ drop_of row.name ∷ []
-  pub kept : IsPut m row keeper after KeepFailed
+  pub kept : IsPut told row before after KeepFailed
 
 -- what came of having a row kept
-abbrev pub StoresRow : {K : Type 0} → Meanings K → RowFacts → RowsFacts → K → Stored → RowsFacts → K → Type 0
-StoresRow m row old keeper LogFull new after = IsFull old keeper new after
-StoresRow m row old keeper OutOfMemory new after = IsRefused m old keeper new after
-StoresRow m row old keeper Done new after = IsStored m row old keeper new after
-StoresRow m row old keeper Failed new after = IsMarked m row old keeper new after
+abbrev pub StoresRow : {K : Type 0} → Bool → (K → ShownKeeper) → RowFacts → RowsFacts → K → Stored → RowsFacts → K → Type 0
+StoresRow told shows row old keeper LogFull new after = IsFull old keeper new after
+StoresRow told shows row old keeper OutOfMemory new after = IsRefused told old (shows keeper) new (shows after)
+StoresRow told shows row old keeper Done new after = IsStored told row old (shows keeper) new (shows after)
+StoresRow told shows row old keeper Failed new after = IsMarked told row old (shows keeper) new (shows after)

@@ -1,9 +1,8 @@
 //! Beginning a pass, and handing out its names.
 
-ghost use Rattle.std.specs.Prelude.{◌≡◌, false, IfOk, IfSome};
-ghost use Rattle.index_rows.specs.Rows.{names_of};
+ghost use Rattle.std.specs.Prelude.{◌≡◌, IfOk, IfSome};
+ghost use Rattle.index_rows.specs.Rows.{row_names};
 ghost use Rattle.scan_queue.specs.Pass.{IsPass, begun};
-ghost use Rattle.index_state.specs.Keeping.{meanings};
 ghost use Rattle.index_state.specs.Plan.{plan_of};
 ghost use Rattle.index_state.specs.Step.{IndexStep, IsAwaited, begins, takes, to_begin, to_take};
 
@@ -20,7 +19,9 @@ use std::alloc::{AllocError, Global};
 impl<W: Truth, K: Keeper<W>> State<W, K> {
     /// Begins a pass over what a walk of the roots listed. An earlier pass is given up.
     pub fn begin(&mut self, alloc: Global, listing: Listing, roots: Vec<CanonPath>) -> Begun
-        ensures step { IndexStep (meanings K.told K.tables K.images K.made K.faults K.epoch) self.old (begins listing roots.items) (to_begin result) self.new }
+        ensures step {
+            IndexStep K.told K.shows self.old (begins listing roots.items) (to_begin result) self.new
+        }
     {
         if self.broken {
             return Begun::Broken;
@@ -37,8 +38,8 @@ impl<W: Truth, K: Keeper<W>> State<W, K> {
 
     /// Hands out the first name that is to be read.
     pub fn take(&mut self) -> Option<Name>
-        ensures step { IndexStep (meanings K.told K.tables K.images K.made K.faults K.epoch) self.old takes (to_take result) self.new }
-        ensures awaited { IfSome result (λ name. self.new.broken ≡ false → IsAwaited name self.new) }
+        ensures step { IndexStep K.told K.shows self.old takes (to_take result) self.new }
+        ensures awaited { IfSome result (λ name. IsAwaited name self.new) }
     {
         take_name(&mut self.pass)
     }
@@ -50,8 +51,8 @@ fn pass_over<W: Truth>(
     rows: &Rows<W>,
     listing: Listing,
 ) -> Result<(Pass, Plan), AllocError>
-    ensures pass { IfOk result (λ it. it.0 ≡ begun listing (names_of rows.now.rows)) }
-    ensures plan { IfOk result (λ it. it.1 ≡ plan_of listing (names_of rows.now.rows)) }
+    ensures pass { IfOk result (λ it. it.0 ≡ begun listing (row_names rows.now.rows)) }
+    ensures plan { IfOk result (λ it. it.1 ≡ plan_of listing (row_names rows.now.rows)) }
     ensures keeps { IfOk result (λ it. IsPass it.0) }
 {
     let names = rows.names(alloc)?;

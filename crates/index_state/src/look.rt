@@ -4,10 +4,9 @@ ghost use Rattle.std.specs.Prelude.{◌≡◌, filter, map, IfSome};
 ghost use Rattle.std.specs.List.{list_any};
 ghost use Rattle.std.specs.Option.{option_copied};
 ghost use Rattle.index_rows.specs.Classes.{has_class, has_id, lists_source};
-ghost use Rattle.index_rows.specs.Rows.{path_of, row_at};
+ghost use Rattle.index_rows.specs.Rows.{row_path, row_at};
 ghost use Rattle.index_state.specs.Complete.{CompletePass, LeavesNone, standing_of};
 ghost use Rattle.index_state.specs.Invariant.{IndexInvariant};
-ghost use Rattle.index_state.specs.Keeping.{meanings};
 ghost use Rattle.index_state.specs.Step.{IndexStep, looks, to_look};
 
 use crate::answer::Standing;
@@ -21,7 +20,7 @@ impl<W: Truth, K: Keeper<W>> State<W, K> {
     /// The rows with the id whose files are of the kind.
     pub fn with_class(&self, id: &BuildId, kind: Kind) -> RowIter<'_>
         ensures value { result ≡ filter (λ row. has_class id.now kind row.reading) self.now.rows }
-        ensures step { IndexStep (meanings K.told K.tables K.images K.made K.faults K.epoch) self.now (looks id.now kind) (to_look (map path_of result)) self.now }
+        ensures step { IndexStep K.told K.shows self.now (looks id.now kind) (to_look (map row_path result)) self.now }
     {
         self.rows.with_class(id, kind)
     }
@@ -36,7 +35,7 @@ impl<W: Truth, K: Keeper<W>> State<W, K> {
     /// All rows.
     pub fn rows(&self) -> RowIter<'_>
         ensures value { result ≡ self.now.rows }
-        ensures holds { IndexInvariant W.true_row (meanings K.told K.tables K.images K.made K.faults K.epoch) self.now }
+        ensures holds { IndexInvariant W.true_row K.told K.shows self.now }
     {
         self.rows.rows()
     }
@@ -60,7 +59,7 @@ impl<W: Truth, K: Keeper<W>> State<W, K> {
     /// listing.
     pub fn standing(&self) -> Standing
         ensures value { result ≡ standing_of self.now }
-        ensures whole { IfSome self.now.pass (λ pass. LeavesNone result → CompletePass W.told W.true_row (meanings K.told K.tables K.images K.made K.faults K.epoch) pass.listing self.now) }
+        ensures whole { IfSome self.now.pass (λ pass. LeavesNone result → CompletePass W.told W.true_row K.told K.shows pass.listing self.now) }
     {
         self.counted()
     }
@@ -68,7 +67,7 @@ impl<W: Truth, K: Keeper<W>> State<W, K> {
     /// The numbers of names, changes and rows.
     fn counted(&self) -> Standing
         ensures value { result ≡ standing_of self.now }
-        ensures holds { IndexInvariant W.true_row (meanings K.told K.tables K.images K.made K.faults K.epoch) self.now }
+        ensures holds { IndexInvariant W.true_row K.told K.shows self.now }
     {
         let [todo, out, groom, missed] = counts(&self.pass);
         Standing {
@@ -85,7 +84,7 @@ impl<W: Truth, K: Keeper<W>> State<W, K> {
     /// The keeper. What else the index holds is let go.
     pub fn into_keeper(self) -> K
         ensures value { result ≡ self.keeper }
-        ensures holds { IndexInvariant W.true_row (meanings K.told K.tables K.images K.made K.faults K.epoch) self }
+        ensures holds { IndexInvariant W.true_row K.told K.shows self }
     {
         let State {
             rows: _,

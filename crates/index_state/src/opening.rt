@@ -1,8 +1,7 @@
 //! Opening an index on the keeper of a store.
 
 ghost use Rattle.std.specs.Prelude.{◌≡◌, [], IfOk, IfErr, IsTrue};
-ghost use Rattle.index_state.specs.Keeping.{meanings};
-ghost use Rattle.index_state.specs.Opening.{IsSettled, Opens, Refuses, opened_on};
+ghost use Rattle.index_state.specs.Opening.{CanOpen, Opens, Refuses, opened_on};
 
 use crate::answer::OpenFault;
 use crate::state::State;
@@ -16,9 +15,9 @@ pub fn open_state<W: Truth, K: Keeper<W>>(
     alloc: Global,
     keeper: K,
 ) -> Result<State<W, K>, (OpenFault, K)>
-    requires { IsSettled (meanings K.told K.tables K.images K.made K.faults K.epoch) keeper }
-    ensures ok { IfOk result (λ state. Opens (meanings K.told K.tables K.images K.made K.faults K.epoch) keeper state) }
-    ensures err { IfErr result (λ refusal. Refuses (meanings K.told K.tables K.images K.made K.faults K.epoch) keeper refusal.0 refusal.1) }
+    requires { CanOpen K.told (K.shows keeper) }
+    ensures ok { IfOk result (λ state. Opens K.told K.shows keeper state) }
+    ensures err { IfErr result (λ refusal. Refuses K.told K.shows keeper refusal.0 refusal.1) }
 {
     let mut keeper = keeper;
     match keeper.rows(alloc) {
@@ -36,9 +35,9 @@ pub fn open_state<W: Truth, K: Keeper<W>>(
 
 /// The index without rows.
 fn empty_state<W: Truth, K: Keeper<W>>(alloc: Global, keeper: K) -> State<W, K>
-    requires settled { IsSettled (meanings K.told K.tables K.images K.made K.faults K.epoch) keeper }
-    requires empty { IsTrue K.told → K.tables keeper ≡ [] }
-    ensures { result ≡ opened_on (meanings K.told K.tables K.images K.made K.faults K.epoch) keeper }
+    requires settled { CanOpen K.told (K.shows keeper) }
+    requires empty { IsTrue K.told → (K.shows keeper).tables ≡ [] }
+    ensures { result ≡ opened_on K.shows keeper }
 {
     let epoch = keeper.epoch();
     State {

@@ -1,7 +1,7 @@
 //! What a pass has to do.
 
 ghost use Rattle.std.specs.Prelude.{◌≡◌, count_by, is_none};
-ghost use Rattle.index_rows.specs.Rows.{names_of};
+ghost use Rattle.index_rows.specs.Rows.{row_names};
 ghost use Rattle.row_types.specs.Name.{stamp_at};
 ghost use Rattle.scan_queue.specs.Names.{IsByPath, is_in};
 ghost use Rattle.index_state.specs.Plan.{has_stamp, is_other, plan_of};
@@ -13,8 +13,8 @@ use scan_queue::Listing;
 
 /// What a pass over the listing has to do, where these are the names of the rows.
 pub(crate) fn plan_for<W: Truth>(listing: &Listing, rows: &Rows<W>, names: &[Name]) -> Plan
-    requires { names.now ≡ names_of rows.now.rows }
-    ensures { result ≡ plan_of listing.now (names_of rows.now.rows) }
+    requires { names.now ≡ row_names rows.now.rows }
+    ensures { result ≡ plan_of listing.now (row_names rows.now.rows) }
 {
     Plan {
         files: listing.len(),
@@ -27,7 +27,7 @@ pub(crate) fn plan_for<W: Truth>(listing: &Listing, rows: &Rows<W>, names: &[Nam
 
 /// How many paths have no row.
 fn count_added<W: Truth>(listing: &Listing, rows: &Rows<W>) -> u64
-    ensures { result ≡ count_by (λ name. is_none (stamp_at (names_of rows.now.rows) name.path)) listing.now }
+    ensures { result ≡ count_by (λ name. is_none (stamp_at (row_names rows.now.rows) name.path)) listing.now }
 {
     listing
         .names()
@@ -38,7 +38,7 @@ fn count_added<W: Truth>(listing: &Listing, rows: &Rows<W>) -> u64
 
 /// How many paths have a row of another stamp.
 fn count_replaced<W: Truth>(listing: &Listing, rows: &Rows<W>) -> u64
-    ensures { result ≡ count_by (λ name. is_other (stamp_at (names_of rows.now.rows) name.path) name.stamp) listing.now }
+    ensures { result ≡ count_by (λ name. is_other (stamp_at (row_names rows.now.rows) name.path) name.stamp) listing.now }
 {
     listing
         .names()
@@ -49,7 +49,7 @@ fn count_replaced<W: Truth>(listing: &Listing, rows: &Rows<W>) -> u64
 
 /// How many names have a row.
 fn count_kept<W: Truth>(listing: &Listing, rows: &Rows<W>) -> u64
-    ensures { result ≡ count_by (λ name. is_in (names_of rows.now.rows) name) listing.now }
+    ensures { result ≡ count_by (λ name. is_in (row_names rows.now.rows) name) listing.now }
 {
     listing
         .names()
@@ -70,8 +70,8 @@ fn count_unlisted(names: &[Name], listing: &Listing) -> u64
 
 /// The stamp of the path's row.
 pub(crate) fn row_stamp<W: Truth>(rows: &Rows<W>, path: &CanonPath) -> Option<Stamp>
-    ensures value { result ≡ stamp_at (names_of rows.now.rows) path.now }
-    ensures by_path { IsByPath (names_of rows.now.rows) }
+    ensures value { result ≡ stamp_at (row_names rows.now.rows) path.now }
+    ensures by_path { IsByPath (row_names rows.now.rows) }
 {
     match rows.get(path) {
         Some(row) => Some(row.name.stamp),
@@ -81,7 +81,7 @@ pub(crate) fn row_stamp<W: Truth>(rows: &Rows<W>, path: &CanonPath) -> Option<St
 
 /// Whether a row of the name stands.
 pub(crate) fn is_kept<W: Truth>(rows: &Rows<W>, name: &Name) -> bool
-    ensures { result ≡ is_in (names_of rows.now.rows) name.now }
+    ensures { result ≡ is_in (row_names rows.now.rows) name.now }
 {
     has_stamp(&row_stamp(rows, &name.path), name.stamp)
 }

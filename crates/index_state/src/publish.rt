@@ -1,7 +1,6 @@
 //! Publishing what a file was found to be.
 
 ghost use Rattle.std.specs.Prelude.{◌≡◌};
-ghost use Rattle.index_state.specs.Keeping.{meanings};
 ghost use Rattle.index_state.specs.Step.{IndexStep, IsKnown, Leaves, Publishes, publishes, to_publish};
 ghost use Rattle.index_state.specs.Stored.{Finds, SaysKept};
 ghost use Rattle.index_state.specs.declared.answer.Published.{Published};
@@ -36,7 +35,7 @@ pub(crate) enum Finding {
 impl<W: Truth, K: Keeper<W>> State<W, K> {
     /// Keeps a row whose name is listed, in the store and then in the index.
     pub fn publish(&mut self, alloc: Global, row: TrueRow<W>) -> Published
-        ensures step { IndexStep (meanings K.told K.tables K.images K.made K.faults K.epoch) self.old (publishes row) (to_publish result) self.new }
+        ensures step { IndexStep K.told K.shows self.old (publishes row) (to_publish result) self.new }
     {
         match self.find(&row.row().name) {
             Finding::Broken => Published::Broken,
@@ -68,7 +67,7 @@ impl<W: Truth, K: Keeper<W>> State<W, K> {
         }
     }
 
-    /// Takes the name of a row that stands off the pass.
+    /// TakesName the name of a row that stands off the pass.
     fn pass_by(&mut self, name: &Name) -> Published
         requires { IsKnown name.now self.old }
         ensures said { result ≡ Published.Already }
@@ -81,7 +80,7 @@ impl<W: Truth, K: Keeper<W>> State<W, K> {
     /// Keeps a row that is awaited, and says so.
     fn keep(&mut self, alloc: Global, row: TrueRow<W>, said: Published) -> Published
         requires { SaysKept row.name self.old said }
-        ensures step { Publishes (meanings K.told K.tables K.images K.made K.faults K.epoch) row self.old result self.new }
+        ensures step { Publishes K.told K.shows row self.old result self.new }
     {
         match store_row(alloc, &mut self.rows, &mut self.keeper, &row) {
             Stored::Done => {

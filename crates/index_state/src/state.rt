@@ -28,13 +28,11 @@ pub struct State<W: Truth, K: Keeper<W>> {
 
 impl<W: Truth, K: Keeper<W>> Model for State<W, K> {
     ghost use Rattle.index_state.specs.Invariant.{IndexInvariant};
-    ghost use Rattle.index_state.specs.Keeping.{meanings};
     ghost use Rattle.index_state.specs.State.{StateFacts, state_of};
 
     ghost Value = { StateFacts K };
 
-    ghost view = { λ s. state_of K.made s.rows s.keeper s.pass s.roots.items s.broken s.epoch s.first_puts };
+    ghost view = { state_of K.shows };
 
-    ghost invariant = { λ s. IndexInvariant W.true_row (meanings K.told K.tables K.images K.made K.faults K.epoch)
-        (state_of K.made s.rows s.keeper s.pass s.roots.items s.broken s.epoch s.first_puts) };
+    ghost invariant = { λ s. IndexInvariant W.true_row K.told K.shows (state_of K.shows s) };
 }

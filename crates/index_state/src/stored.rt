@@ -1,9 +1,9 @@
 //! Having a row kept by the store.
 
 ghost use Rattle.std.specs.Prelude.{◌≡◌, false};
-ghost use Rattle.index_rows.specs.Rows.{IsIndex, names_of};
+ghost use Rattle.index_rows.specs.Rows.{IsIndex, row_names};
 ghost use Rattle.scan_queue.specs.Names.{is_in};
-ghost use Rattle.index_state.specs.Keeping.{KeepsRow, meanings};
+ghost use Rattle.index_state.specs.Keeping.{KeepsRow};
 ghost use Rattle.index_rows.specs.declared.prepared.Prepared.{Prepared};
 ghost use Rattle.index_state.specs.Stored.{StoresRow};
 
@@ -33,8 +33,10 @@ pub(crate) fn store_row<W: Truth, K: Keeper<W>>(
     keeper: &mut K,
     row: &TrueRow<W>,
 ) -> Stored
-    requires { is_in (names_of rows.old.rows) row.now.name ≡ false }
-    ensures value { StoresRow (meanings K.told K.tables K.images K.made K.faults K.epoch) row.now rows.old keeper.old result rows.new keeper.new }
+    requires { is_in (row_names rows.old.rows) row.now.name ≡ false }
+    ensures value {
+        StoresRow K.told K.shows row.now rows.old keeper.old result rows.new keeper.new
+    }
     ensures holds { IsIndex W.true_row rows.new }
     ensures truth { W.true_row row.now }
 {
@@ -53,11 +55,13 @@ fn keep_reserved<W: Truth, K: Keeper<W>>(
     keeper: &mut K,
     row: &Row,
 ) -> Stored
-    requires absent { is_in (names_of rows.old.rows) row.now.name ≡ false }
+    requires absent { is_in (row_names rows.old.rows) row.now.name ≡ false }
     requires reserved { rows.old.prepared ≡ Prepared.Put row.now }
     requires index { IsIndex W.true_row rows.old }
     requires truth { W.true_row row.now }
-    ensures value { StoresRow (meanings K.told K.tables K.images K.made K.faults K.epoch) row.now rows.old keeper.old result rows.new keeper.new }
+    ensures value {
+        StoresRow K.told K.shows row.now rows.old keeper.old result rows.new keeper.new
+    }
     ensures holds { IsIndex W.true_row rows.new }
 {
     match keep_spelled(alloc, keeper, row) {
@@ -73,7 +77,7 @@ fn keep_reserved<W: Truth, K: Keeper<W>>(
 /// Spells the row, and has the bytes kept under its path.
 fn keep_spelled<W: Truth, K: Keeper<W>>(alloc: Global, keeper: &mut K, row: &Row) -> KeepAnswer
     requires { W.true_row row.now }
-    ensures { KeepsRow (meanings K.told K.tables K.images K.made K.faults K.epoch) row.now keeper.old keeper.new result }
+    ensures { KeepsRow K.told row.now (K.shows keeper.old) (K.shows keeper.new) result }
 {
     match write_row(alloc, row) {
         Ok(bytes) => keeper.put(alloc, row.name.path.text(), bytes.as_slice()),

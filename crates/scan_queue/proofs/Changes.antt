@@ -6,7 +6,7 @@ use Rattle.std.proofs.lemmas.Bool.{and_parts, false≢true}
 use Rattle.std.proofs.lemmas.List.{get_or-map, map-set, set-get_or}
 use Rattle.std.proofs.lemmas.List.Elements.{All-set, All-weaker}
 use Rattle.row_types.specs.Name.{NameFacts}
-use Rattle.scan_queue.specs.Pass.{IsWhole, Takes}
+use Rattle.scan_queue.specs.Pass.{IsWhole, TakesName}
 use Rattle.scan_queue.specs.Slots.{AreOrdered, AreSlots, HasCopy, IsLaidOut, IsMark, IsSlot, Key, KeyPrecedes, at_groom, at_missed, at_out, at_todo, facts_of, groom_of, is_done, is_groom, is_missed, is_out, is_todo, key_of, miss_of, out_of, todo_of}
 use Rattle.scan_queue.specs.declared.miss.Miss.{Miss}
 use Rattle.scan_queue.specs.declared.slot.Place.{Place}
@@ -97,7 +97,7 @@ pub laid_out_marked : (listing : List NameFacts) (slots : List Slot) (mark : ℕ
 laid_out_marked listing slots mark filled next passed laid = record { names = laid.names; kept = laid.kept; passed = passed }
 
 -- the first that is to be read is handed out
-pub taken : (listing : List NameFacts) (slots : List Slot) (filled : Bool) (i : ℕ) (d : Slot) → i < length slots → IsMark i slots → (slice_index_or slots i d).place ≡ Todo → Takes (facts_of listing slots filled) (facts_of listing (slice_set slots i (out_slot (slice_index_or slots i d))) false) (slice_index_or slots i d).name
+pub taken : (listing : List NameFacts) (slots : List Slot) (filled : Bool) (i : ℕ) (d : Slot) → i < length slots → IsMark i slots → (slice_index_or slots i d).place ≡ Todo → TakesName (facts_of listing slots filled) (facts_of listing (slice_set slots i (out_slot (slice_index_or slots i d))) false) (slice_index_or slots i d).name
 taken listing slots filled i d within mark todo =
     let x = slice_index_or slots i d in
     let y = out_slot x in

@@ -8,7 +8,7 @@ use Rattle.std.proofs.lemmas.List.Elements.{filter-append, recursion_from_All}
 use Rattle.std.proofs.lemmas.List.Folds.{list_any-append}
 use Rattle.row_types.specs.Name.{NameFacts, same_name}
 use Rattle.scan_queue.specs.Names.{is_in, without}
-use Rattle.scan_queue.specs.Pass.{left, missed_names, misses_without, names_of}
+use Rattle.scan_queue.specs.Pass.{left, missed_names, misses_without, names_left}
 use Rattle.scan_queue.specs.Slots.{AreSlots, HasNameAt, IsNotHeld, at_groom, at_missed, at_out, at_todo, facts_of, groom_of, is_done, miss_of, out_of, todo_of}
 use Rattle.scan_queue.specs.declared.miss.Miss.{Miss}
 use Rattle.scan_queue.specs.declared.slot.Place.{Place}
@@ -111,7 +111,7 @@ in_four name t o g missed =
     ∙ ap (λ (b : Bool). (is_in t name || is_in o name || is_in g name) || b) (any_names name missed)
 
 -- a name of which no slot is held is in none of the lists
-pub not_held : (name : NameFacts) (listing : List NameFacts) (slots : List Slot) (filled : Bool) → All (IsNotHeld name) slots → is_in (names_of (facts_of listing slots filled)) name ≡ false
+pub not_held : (name : NameFacts) (listing : List NameFacts) (slots : List Slot) (filled : Bool) → All (IsNotHeld name) slots → is_in (names_left (facts_of listing slots filled)) name ≡ false
 not_held name listing slots filled h =
     let each = recursion_from_All (IsNotHeld name) slots h in
     in_four name (filter_map todo_of slots) (filter_map out_of slots) (filter_map groom_of slots) (filter_map miss_of slots)
@@ -205,7 +205,7 @@ held_somewhere name slots at d (Missed cause) there e held =
 held_somewhere name slots at d Done there e held = cc
 
 -- a name whose slot isn't done is in one of the lists
-pub held : (name : NameFacts) (listing : List NameFacts) (slots : List Slot) (filled : Bool) (at : ℕ) (d : Slot) → HasNameAt name slots at → is_done (slice_index_or slots at d).place ≡ false → is_in (names_of (facts_of listing slots filled)) name ≡ true
+pub held : (name : NameFacts) (listing : List NameFacts) (slots : List Slot) (filled : Bool) (at : ℕ) (d : Slot) → HasNameAt name slots at → is_done (slice_index_or slots at d).place ≡ false → is_in (names_left (facts_of listing slots filled)) name ≡ true
 held name listing slots filled at d there open_place =
     in_four name (filter_map todo_of slots) (filter_map out_of slots) (filter_map groom_of slots) (filter_map miss_of slots)
     ∙ held_somewhere name slots at d (slice_index_or slots at d).place there refl open_place

@@ -9,7 +9,7 @@ use Rattle.std.proofs.lemmas.List.Sums.{sum_by-append, sum_by-cons}
 use Rattle.row_types.specs.Ascends.{IsBefore}
 use Rattle.row_types.specs.Name.{NameFacts, same_name}
 use Rattle.scan_queue.specs.Names.{is_in}
-use Rattle.scan_queue.specs.Pass.{PassFacts, InOrder, IsPass, Precedes, missed_names, names_of}
+use Rattle.scan_queue.specs.Pass.{PassFacts, InOrder, IsPass, Precedes, missed_names, names_left}
 use Rattle.scan_queue.specs.Slots.{AreSlots, IsLaidOut, IsSlot, KeyPrecedes, PlaceFits, at_groom, at_missed, at_out, at_todo, facts_of, groom_of, key_of, miss_of, out_of, todo_of}
 use Rattle.scan_queue.specs.declared.miss.Cause.TheVariants.{ReadFault}
 use Rattle.scan_queue.specs.declared.miss.Miss.{Miss}
@@ -128,7 +128,7 @@ times_names name (m ∷ missed) =
     ∙ ap (λ (k : ℕ). cond (same_name name m.name) 1 0 + k) (times_names name missed)
     ∙ sym (sum_by-cons (λ (n : Miss). cond (same_name name n.name) 1 0) m missed)
 
-once : (name : NameFacts) (listing : List NameFacts) (slots : List Slot) (filled : Bool) → AreSlots listing slots filled → times name (names_of (facts_of listing slots filled)) ≤ 1
+once : (name : NameFacts) (listing : List NameFacts) (slots : List Slot) (filled : Bool) → AreSlots listing slots filled → times name (names_left (facts_of listing slots filled)) ≤ 1
 once name listing slots filled kept =
     let f : NameFacts → ℕ = λ m. cond (same_name name m) 1 0 in
     let t = filter_map todo_of slots in

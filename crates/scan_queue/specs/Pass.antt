@@ -21,8 +21,8 @@ abbrev pub missed_names : List Miss → List NameFacts
 missed_names missed = map (λ m. m.name) missed
 
 -- the names of the four lists together
-abbrev pub names_of : PassFacts → List NameFacts
-names_of pass = pass.todo ++ pass.out ++ pass.groom ++ missed_names pass.missed
+abbrev pub names_left : PassFacts → List NameFacts
+names_left pass = pass.todo ++ pass.out ++ pass.groom ++ missed_names pass.missed
 
 -- the first name comes first: its path does, or it is the listed one of two with one path
 abbrev pub Precedes : List NameFacts → NameFacts → NameFacts → Type 0
@@ -35,7 +35,7 @@ InOrder listing names = AllPairs (Precedes listing) names
 -- what is true of each pass
 pub record IsPass (pass : PassFacts) : Type 0 where
   pub listing : IsListing pass.listing
-  pub once : (name : NameFacts) → count_by (same_name name) (names_of pass) ≤ 1
+  pub once : (name : NameFacts) → count_by (same_name name) (names_left pass) ≤ 1
   pub listed : AllPass (is_in pass.listing) pass.todo
   pub unlisted : AllPass (λ name. not (is_in pass.listing name)) pass.groom
   pub todo : InOrder pass.listing pass.todo
@@ -63,7 +63,7 @@ pub record Adds {X : Type 0} (x : X) (before after : List X) : Type 0 where
   pub new : after ≡ front ++ x ∷ back
 
 -- the first name of todo is handed out, without its copy from then on
-pub record Takes (old new : PassFacts) (name : NameFacts) : Type 0 where
+pub record TakesName (old new : PassFacts) (name : NameFacts) : Type 0 where
   pub first : old.todo ≡ name ∷ new.todo
   pub out : Adds name old.out new.out
   pub same : new ≡ record old { todo = new.todo; out = new.out; filled = false }

@@ -2,7 +2,7 @@
 
 ghost use Rattle.std.specs.Prelude.{◌≡◌, ◌↔◌, [], ◌∷◌, false, length, IsTrue, IfOk, IfErr, MatchOption};
 ghost use Rattle.scan_queue.specs.Names.{IsByPath, is_in};
-ghost use Rattle.scan_queue.specs.Pass.{IsPass, IsWhole, Takes, TakesNone, begun, left, names_of};
+ghost use Rattle.scan_queue.specs.Pass.{IsPass, IsWhole, TakesName, TakesNone, begun, left, names_left};
 
 use crate::begin::first_slots;
 use crate::listing::Listing;
@@ -62,7 +62,7 @@ impl Pass {
 
     /// Hands out the first name that is to be read.
     pub fn take(&mut self) -> Option<Name>
-        ensures step { MatchOption result (TakesNone self.old.todo self.old self.new) (Takes self.old self.new) }
+        ensures step { MatchOption result (TakesNone self.old.todo self.old self.new) (TakesName self.old self.new) }
         ensures keeps { IsPass self.new }
     {
         let at = next_todo(self.slots.as_slice(), self.mark);
@@ -74,9 +74,9 @@ impl Pass {
         Some(self.slots[at].take_out())
     }
 
-    /// Takes a name off the pass, and says whether it stood in one of the four lists.
+    /// TakesName a name off the pass, and says whether it stood in one of the four lists.
     pub fn done(&mut self, name: &Name) -> bool
-        ensures found { result ≡ is_in (names_of self.old) name.now }
+        ensures found { result ≡ is_in (names_left self.old) name.now }
         ensures after { self.new ≡ left name.now self.old }
         ensures same { result ≡ false → self.new ≡ self.old }
         ensures keeps { IsPass self.new }

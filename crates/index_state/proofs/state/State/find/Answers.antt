@@ -24,8 +24,8 @@ pub returns-then-is_none : goal.returns-then-is_none
 returns-then-is_none g c =
     let P : StateFacts g.row.K.Denot → Type 0 = IsNew c.args.name.now in
     subst P c.self.view_is
-    (found_new _ c.args.name.now c.row_stamp-stood.result c.is_none.result
-    (found_awaited _ c.args.name.now c.listed_stamp-listed.result c.row_stamp-stood.result c.has_stamp.result c.has_stamp-2.result c.if-self.false
+    (found_new _ c.args.name.now c.row_stamp-stood.result c.is_none.result c.if-self.false
+    (found_awaited _ c.args.name.now c.listed_stamp-listed.result c.row_stamp-stood.result c.has_stamp.result c.has_stamp-2.result
     c.listed_stamp-listed.ensures.by_path c.listed_stamp-listed.ensures.value c.has_stamp.ensures c.if-not-has_stamp.false
     c.row_stamp-stood.ensures.by_path c.row_stamp-stood.ensures.value c.has_stamp-2.ensures c.if-has_stamp.false)
     c.row_stamp-stood.ensures.value c.is_none.ensures c.if-is_none.true)
@@ -34,8 +34,8 @@ pub returns-else-is_none : goal.returns-else-is_none
 returns-else-is_none g c =
     let P : StateFacts g.row.K.Denot → Type 0 = IsChanged c.args.name.now in
     subst P c.self.view_is
-    (found_changed _ c.args.name.now c.row_stamp-stood.result c.is_none.result
-    (found_awaited _ c.args.name.now c.listed_stamp-listed.result c.row_stamp-stood.result c.has_stamp.result c.has_stamp-2.result c.if-self.false
+    (found_changed _ c.args.name.now c.row_stamp-stood.result c.is_none.result c.if-self.false
+    (found_awaited _ c.args.name.now c.listed_stamp-listed.result c.row_stamp-stood.result c.has_stamp.result c.has_stamp-2.result
     c.listed_stamp-listed.ensures.by_path c.listed_stamp-listed.ensures.value c.has_stamp.ensures c.if-not-has_stamp.false
     c.row_stamp-stood.ensures.by_path c.row_stamp-stood.ensures.value c.has_stamp-2.ensures c.if-has_stamp.false)
     c.row_stamp-stood.ensures.value c.is_none.ensures c.if-is_none.false)

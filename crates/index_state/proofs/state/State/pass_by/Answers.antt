@@ -8,4 +8,4 @@ use Rattle.index_state.proofs.state.State.pass_by.Goals as goal
 pub invariant_of-self : goal.invariant_of-self
 invariant_of-self g c =
     let P : StateFacts g.row.K.Denot → Type 0 = IsKnown c.args.name.now in
-    leave_keeps _ _ _ c.args.name.now c.leave.new.pass c.self.invariant (subst P (sym c.self.view_is) c.requires) c.leave.ensures.after c.leave.ensures.keeps
+    leave_keeps c.self.invariant (subst P (sym c.self.view_is) c.requires) c.leave.ensures.after c.leave.ensures.keeps

@@ -2,7 +2,7 @@
 use Rattle.std.proofs.Common.{◌≡◌, true, false, List, All, refl, sym, ◌∙◌, ap, subst, slice_index_or, slice_set}
 use Rattle.row_types.specs.Name.{same_name}
 use Rattle.scan_queue.specs.Names.{is_in}
-use Rattle.scan_queue.specs.Pass.{IsPass, PassFacts, left, names_of}
+use Rattle.scan_queue.specs.Pass.{IsPass, PassFacts, left, names_left}
 use Rattle.scan_queue.specs.Slots.{HasNameAt, IsLaidOut, IsNotHeld, facts_of, is_done}
 use Rattle.scan_queue.specs.declared.slot.Slot.{Slot}
 use Rattle.scan_queue.proofs.Changes.{done_slot, laid_out_done}
@@ -15,7 +15,7 @@ returns-in_default-clause-found c =
     let before = c.self.inside in
     let name = c.args.name.now in
     let none : All (IsNotHeld name) before.slots.items = no_slot_not_held name before.slots.items (subst (λ (xs : List Slot). All (λ (s : Slot). same_name name s.name ≡ false) xs) c.as_slice.ensures.value c.in_default.ensures) in
-    subst (λ (p : PassFacts). false ≡ is_in (names_of p) name) c.self.view_is (sym (not_held name before.listing before.slots.items before.filled none))
+    subst (λ (p : PassFacts). false ≡ is_in (names_left p) name) c.self.view_is (sym (not_held name before.listing before.slots.items before.filled none))
 
 pub returns-in_default-clause-after : goal.returns-in_default-clause-after
 returns-in_default-clause-after c =
@@ -34,7 +34,7 @@ returns-then-is_done-clause-found c =
     let name = c.args.name.now in
     let there : HasNameAt name before.slots.items c.in-Some.at = subst (λ (xs : List Slot). HasNameAt name xs c.in-Some.at) c.as_slice.ensures.value c.in-Some.ensures in
     let gone : is_done (slice_index_or before.slots.items c.in-Some.at c.index.result.now).place ≡ true = ap (λ (s : Slot). is_done s.place) (sym c.index.ensures) ∙ sym c.is_done.ensures ∙ c.if-is_done.true in
-    subst (λ (p : PassFacts). false ≡ is_in (names_of p) name) c.self.view_is
+    subst (λ (p : PassFacts). false ≡ is_in (names_left p) name) c.self.view_is
     (sym (not_held name before.listing before.slots.items before.filled (done_not_held name before.listing before.slots.items before.filled c.in-Some.at c.index.result.now c.self.invariant.kept there gone)))
 
 pub returns-then-is_done-clause-after : goal.returns-then-is_done-clause-after
@@ -63,7 +63,7 @@ returns-clause-found c =
     let name = c.args.name.now in
     let there : HasNameAt name before.slots.items c.in-Some.at = subst (λ (xs : List Slot). HasNameAt name xs c.in-Some.at) c.as_slice.ensures.value c.in-Some.ensures in
     let stands : is_done (slice_index_or before.slots.items c.in-Some.at c.index.result.now).place ≡ false = ap (λ (s : Slot). is_done s.place) (sym c.index.ensures) ∙ sym c.is_done.ensures ∙ c.if-is_done.false in
-    subst (λ (p : PassFacts). true ≡ is_in (names_of p) name) c.self.view_is
+    subst (λ (p : PassFacts). true ≡ is_in (names_left p) name) c.self.view_is
     (sym (held name before.listing before.slots.items before.filled c.in-Some.at c.index.result.now there stands))
 
 pub returns-clause-after : goal.returns-clause-after
