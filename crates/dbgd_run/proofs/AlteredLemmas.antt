@@ -1,6 +1,6 @@
 -- A scan that ends at a file that was another.
 use Rattle.std.proofs.Common.{◌≡◌, ℕ, Bool, true, false, List, [], ◌∷◌, ◌++◌, refl, sym, subst}
-use Rattle.std.proofs.Common.{Option, Some, None, arith, append_assoc}
+use Rattle.std.proofs.Common.{Some, None, arith, append_assoc}
 use Rattle.std.specs.Prelude.{◌&&◌, if◌then◌else◌}
 use Rattle.std.specs.List.{All, Contains}
 use Rattle.std.specs.Option.{option_or}
@@ -13,7 +13,7 @@ use Rattle.row_types.specs.Row.{RowFacts}
 use Rattle.scan_queue.specs.declared.miss.Seen.{Seen}
 use Rattle.tree_trait.specs.Asks.{IsTold}
 use Rattle.tree_trait.specs.Heard.{Heard, stat}
-use Rattle.tree_trait.specs.Load.{LoadFacts, loaded, too_large, TellsLoad}
+use Rattle.tree_trait.specs.Load.{LoadFacts, loaded, too_large, gone, TellsLoad}
 use Rattle.tree_trait.specs.Shown.{ShownTree}
 use Rattle.tree_trait.specs.Stat.{TellsStat}
 use Rattle.tree_trait.specs.declared.stat.StatAnswer.{StatAnswer}
@@ -39,12 +39,12 @@ some_one : {a b : StatAnswer} → Some a ≡ Some b → a ≡ b
 some_one e = cc
 
 -- the first look of told answers at a path is told
-first_told : {present : List NameFacts} (path : List ℕ) (answers : List Heard) (answer : StatAnswer)
+first_told : (present : List NameFacts) (path : List ℕ) (answers : List Heard) (answer : StatAnswer)
     → All (IsTold present) answers → first_look answers path ≡ Some answer → TellsStat present path answer
-first_told path [] answer told e = absurd (cc)
-first_told {present} path (stat asked given ∷ rest) answer told e =
+first_told present path [] answer told e = absurd (cc)
+first_told present path (stat asked given ∷ rest) answer told e =
     look_told (All-head (IsTold present) (stat asked given) rest told)
-    (λ h. first_told path rest answer (All-tail (IsTold present) (stat asked given) rest told) h)
+    (λ h. first_told present path rest answer (All-tail (IsTold present) (stat asked given) rest told) h)
     (bytes_eq asked path) refl (is_look_answer given) e
   where
     look_told : TellsStat present asked given → (first_look rest path ≡ Some answer → TellsStat present path answer)
@@ -56,15 +56,16 @@ first_told {present} path (stat asked given ∷ rest) answer told e =
         (subst (λ (p : List ℕ). TellsStat present p given) ((bytes_eq-Decides asked path).0 is) here)
     look_told here later true is false e = later e
     look_told here later false is answered e = later e
-first_told {present} path (asked ∷ rest) answer told e =
-    first_told path rest answer (All-tail (IsTold present) asked rest told) e
+first_told present path (asked ∷ rest) answer told e =
+    first_told present path rest answer (All-tail (IsTold present) asked rest told) e
 
 -- a load of the files that are there shows no other file
 none_other : (present : List NameFacts) (name : NameFacts) (answer : LoadFacts) (met : Seen)
     → stamp_at present name.path ≡ Some name.stamp → TellsLoad present name.path answer → FindsOther name answer met → ⊥
 none_other present name (loaded found) met there tells finds = finds.0 (cc)
 none_other present name (too_large stamp) met there tells finds = finds.0 (cc)
-none_other present name _ met there tells finds = absurd (cc)
+none_other present name gone met there tells finds = absurd (cc)
+none_other present name _ met there tells finds = finds
 
 -- where the files are told and never change, no listed file is another
 pub never_other : {s : Setting} {roots : List (List ℕ)} {before after : ShownTree} {Kept : List RowFacts → Type 0}
@@ -75,7 +76,7 @@ never_other {before = before} {name = name} {met = met} still ends =
     let told : All (IsTold before.present) ((reads.walked ++ loads_read ends.files) ++ load_of name ends.answer ∷ [])
     = subst (λ xs. All (IsTold before.present) xs) (sym (append_assoc reads.walked (loads_read ends.files) (load_of name ends.answer ∷ []))) (reads.told still) in
     none_other before.present name ends.answer met
-    (first_told name.path reads.walked (File name.stamp) (all_front (IsTold before.present) reads.walked (loads_read ends.files ++ load_of name ends.answer ∷ []) (reads.told still)) (listed_next reads).file)
+    (first_told before.present name.path reads.walked (File name.stamp) (all_front (IsTold before.present) reads.walked (loads_read ends.files ++ load_of name ends.answer ∷ []) (reads.told still)) (listed_next reads).file)
     (All-contains (IsTold before.present) _ (load_of name ends.answer) told
     (Contains-push (reads.walked ++ loads_read ends.files) (load_of name ends.answer)))
     ends.finds

@@ -1,5 +1,5 @@
 -- What a status says, by what a run does.
-use Rattle.std.proofs.Common.{◌≡◌, sym, ◌∙◌, refl, subst, inl, inr, ◌⊎◌, ℕ, List, [], Option, Some}
+use Rattle.std.proofs.Common.{◌≡◌, sym, refl, subst, inl, inr, ℕ, List, [], Option, Some}
 use Rattle.std.proofs.Common.{None, IsTrue, Result, Ok, Err}
 use Rattle.row_types.specs.Faults.{Rose}
 use Rattle.row_types.specs.declared.limits.TheConstants.{FILE_LIMIT}
@@ -10,11 +10,11 @@ use Rattle.tree_trait.specs.Heard.{has_failed, load}
 use Rattle.tree_trait.specs.Load.{LoadFacts, loaded, too_large, gone, failed, no_memory}
 use Rattle.tree_walk.specs.declared.fault.WalkFault.TheVariants as stop
 use Rattle.dbgd_run.specs.Causes.{FileStatus, HasStatus, IfScan, IsComplete, IsTurnedAway}
-use Rattle.dbgd_run.specs.Causes.{IsUnhindered, ScanEnds, ScanStatus}
+use Rattle.dbgd_run.specs.Causes.{IsUnhindered, ScanStatus}
 use Rattle.dbgd_run.specs.Endings.{Ends, Saying, Streams}
 use Rattle.dbgd_run.specs.Ident.{SaysFile, SaysIdent}
 use Rattle.dbgd_run.specs.Runs.{Runs}
-use Rattle.dbgd_run.specs.Scan.{EndsBy, RunsScan, Scans}
+use Rattle.dbgd_run.specs.Scan.{EndsBy, Scans}
 use Rattle.dbgd_run.specs.ScanSaid.{SaysEnd, scan_saying}
 use Rattle.dbgd_run.specs.Scene.{Scene, Setting}
 use Rattle.dbgd_run.specs.Section.{SaysNamed, SaysSection}
@@ -39,35 +39,35 @@ file_ends : (before after : Scene) {saying : Saying} {end : Status} → FileStat
     → Ends saying before.streams after.streams end → FileStatus before after end
 file_ends before after {saying} said ends = by_ends (FileStatus before after) saying said (λ rose. inr rose) ends
 
-file_status : (before after : Scene) (r : Result Identity Why) {end : Status} → SaysFile r before.streams after.streams end
+file_status : (before after : Scene) (r : Result Identity Why) (end : Status) → SaysFile r before.streams after.streams end
     → FileStatus before after end
-file_status before after (Ok i) (inl ends) = file_ends before after tt ends
-file_status before after (Ok i) (inr wants) = subst (FileStatus before after) (sym wants.ends) tt
-file_status before after (Err why) ends = file_ends before after tt ends
+file_status before after (Ok i) end (inl ends) = file_ends before after tt ends
+file_status before after (Ok i) end (inr wants) = subst (FileStatus before after) (sym wants.ends) tt
+file_status before after (Err why) end ends = file_ends before after tt ends
 
-ident_status : (before after : Scene) (path : List ℕ) (answer : LoadFacts) {end : Status}
+ident_status : (before after : Scene) (path : List ℕ) (answer : LoadFacts) (end : Status)
     → (IsTrue (has_failed (load path FILE_LIMIT answer)) → Rose before.hand.faults after.hand.faults)
     → SaysIdent path answer before.streams after.streams end → FileStatus before after end
-ident_status before after path (loaded found) hand said = file_status before after said.0 said.2
-ident_status before after path (too_large stamp) hand said = file_ends before after tt said
-ident_status before after path gone hand said = subst (FileStatus before after) (sym said.ends) tt
-ident_status before after path failed hand said = subst (FileStatus before after) (sym said.ends) (inl (hand refl))
-ident_status before after path no_memory hand said = subst (FileStatus before after) (sym said.ends) tt
+ident_status before after path (loaded found) end hand said = file_status before after said.0 end said.2
+ident_status before after path (too_large stamp) end hand said = file_ends before after tt said
+ident_status before after path gone end hand said = subst (FileStatus before after) (sym said.ends) tt
+ident_status before after path failed end hand said = subst (FileStatus before after) (sym said.ends) (inl (hand refl))
+ident_status before after path no_memory end hand said = subst (FileStatus before after) (sym said.ends) tt
 
-named_status : (before after : Scene) (r : Result Identity Why) (section : Option (List ℕ)) {end : Status}
+named_status : (before after : Scene) (r : Result Identity Why) (section : Option (List ℕ)) (end : Status)
     → SaysNamed r section before.streams after.streams end → FileStatus before after end
-named_status before after (Ok i) (Some bytes) ends = file_ends before after tt ends
-named_status before after (Ok i) None said = subst (FileStatus before after) (sym said.ends) tt
-named_status before after (Err why) section said = subst (FileStatus before after) (sym said.ends) tt
+named_status before after (Ok i) (Some bytes) end ends = file_ends before after tt ends
+named_status before after (Ok i) None end said = subst (FileStatus before after) (sym said.ends) tt
+named_status before after (Err why) section end said = subst (FileStatus before after) (sym said.ends) tt
 
-section_status : (before after : Scene) (path name : List ℕ) (answer : LoadFacts) {end : Status}
+section_status : (before after : Scene) (path name : List ℕ) (answer : LoadFacts) (end : Status)
     → (IsTrue (has_failed (load path FILE_LIMIT answer)) → Rose before.hand.faults after.hand.faults)
     → SaysSection path name answer before.streams after.streams end → FileStatus before after end
-section_status before after path name (loaded found) hand said = named_status before after said.0 said.1 said.4
-section_status before after path name (too_large stamp) hand said = subst (FileStatus before after) (sym said.ends) tt
-section_status before after path name gone hand said = subst (FileStatus before after) (sym said.ends) tt
-section_status before after path name failed hand said = subst (FileStatus before after) (sym said.ends) (inl (hand refl))
-section_status before after path name no_memory hand said = subst (FileStatus before after) (sym said.ends) tt
+section_status before after path name (loaded found) end hand said = named_status before after said.0 said.1 end said.4
+section_status before after path name (too_large stamp) end hand said = subst (FileStatus before after) (sym said.ends) tt
+section_status before after path name gone end hand said = subst (FileStatus before after) (sym said.ends) tt
+section_status before after path name failed end hand said = subst (FileStatus before after) (sym said.ends) (inl (hand refl))
+section_status before after path name no_memory end hand said = subst (FileStatus before after) (sym said.ends) tt
 
 -- what the status of a scan's end says
 end_status : (s : Setting) {path : List ℕ} {roots : List (List ℕ)} (before after : Scene) (end : ScanEnd)
@@ -105,16 +105,16 @@ end_status s before after OutOfMemory scans said = tt
 end_status s before after (Whole summary) scans said = record { summary = summary; ends = scans.ends; line = said }
 
 -- what the end's status says is said, or that memory was wanted, or that the standard output failed
-by_end : (P : Status → Type 0) (how : ScanEnd) {old new : Streams} {end : Status}
+by_end : (P : Status → Type 0) (how : ScanEnd) (old new : Streams) (end : Status)
     → (GetsAll (scan_saying how).out old.out new.out → P (scan_saying how).status) → P status.OutOfMemory
     → ((summary : Summary) → how ≡ Whole summary → Rose old.out.write_faults new.out.write_faults → P status.Fault)
     → SaysEnd how old new end → P end
-by_end P (Altered name met) said wants out (inl whole) = subst P (sym whole.ends) (said whole.out)
-by_end P (Altered name met) said wants out (inr short) = subst P (sym short.ends) wants
-by_end P (Whole summary) said wants out (inl (inl whole)) = subst P (sym whole.ends) (said whole.out)
-by_end P (Whole summary) said wants out (inl (inr cut)) = subst P (sym cut.ends) (out summary refl cut.out.rose)
-by_end P (Whole summary) said wants out (inr short) = subst P (sym short.ends) wants
-by_end P how said wants out whole = subst P (sym whole.ends) (said whole.out)
+by_end P (Altered name met) old new end said wants out (inl whole) = subst P (sym whole.ends) (said whole.out)
+by_end P (Altered name met) old new end said wants out (inr short) = subst P (sym short.ends) wants
+by_end P (Whole summary) old new end said wants out (inl (inl whole)) = subst P (sym whole.ends) (said whole.out)
+by_end P (Whole summary) old new end said wants out (inl (inr cut)) = subst P (sym cut.ends) (out summary refl cut.out.rose)
+by_end P (Whole summary) old new end said wants out (inr short) = subst P (sym short.ends) wants
+by_end P how old new end said wants out whole = subst P (sym whole.ends) (said whole.out)
 
 -- a store that holds something is turned away
 turned_away : (s : Setting) {path : List ℕ} {roots : List (List ℕ)} (before after : Scene) (end : ScanEnd)
@@ -155,11 +155,11 @@ complete s before after (Whole summary) free scans = tt
 pub has_status : (s : Setting) (line : Line) (before after : Scene) (end : Status) → Runs s line before after end
     → HasStatus s line before after end
 has_status s (asks_ident path) before after end run =
-    ident_status before after path run.does.answer (λ f. run.does.asks.hands.cause.rose f) run.does.said
+    ident_status before after path run.does.answer end (λ f. run.does.asks.hands.cause.rose f) run.does.said
 has_status s (asks_section path name) before after end run =
-    section_status before after path name run.does.answer (λ f. run.does.asks.hands.cause.rose f) run.does.said
+    section_status before after path name run.does.answer end (λ f. run.does.asks.hands.cause.rose f) run.does.said
 has_status s (asks_scan path roots) before after end run =
-    by_end (ScanStatus s roots before after) run.end (end_status s before after run.end run.scans) tt
+    by_end (ScanStatus s roots before after) run.end before.streams after.streams end (end_status s before after run.end run.scans) tt
     (λ summary whole rose. inr (inr rose)) run.said
 has_status s unbuilt before after end run = run.says.ends
 has_status s unreadable before after end run = run.says.ends
@@ -169,12 +169,12 @@ pub if_scan : (s : Setting) (line : Line) (before after : Scene) (end : Status) 
     → IfScan s line before after end
 if_scan s (asks_scan path roots) before after end run = record {
   filled = λ tells some.
-      by_end (IsTurnedAway before.store after.store) run.end (λ _. turned_away s before after run.end tells some run.scans) tt
+      by_end (IsTurnedAway before.store after.store) run.end before.streams after.streams end (λ _. turned_away s before after run.end tells some run.scans) tt
       (λ summary whole _.
       absurd (some ((subst (λ (how : ScanEnd). EndsBy s roots before.hand after.hand before.store after.store how) whole run.scans.ends).keeps.empty tells)))
       run.said;
   complete = λ free.
-      by_end IsComplete run.end (λ _. complete s before after run.end free run.scans) tt
+      by_end IsComplete run.end before.streams after.streams end (λ _. complete s before after run.end free run.scans) tt
       (λ summary whole rose. absurd (free.faultless (inr rose))) run.said;
 }
 if_scan s _ before after end run = tt

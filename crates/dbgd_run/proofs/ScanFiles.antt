@@ -1,6 +1,6 @@
 -- The files of a listing, one after the other.
-use Rattle.std.proofs.Common.{◌≡◌, ℕ, ◌<◌, ◌≤◌, Bool, false, List, [], ◌∷◌, ◌++◌, length, refl, sym}
-use Rattle.std.proofs.Common.{◌∙◌, ap, subst, Option, Some, None, IsTrue, arith, inl, inr}
+use Rattle.std.proofs.Common.{◌≡◌, ◌<◌, ◌≤◌, Bool, false, List, [], ◌∷◌, ◌++◌, length, refl, sym}
+use Rattle.std.proofs.Common.{◌∙◌, ap, subst, Option, Some, None, arith, inl, inr}
 use Rattle.std.proofs.Common.{length-append}
 use Rattle.std.specs.Prelude.{IfSome, option_map}
 use Rattle.std.specs.List.{All}
@@ -21,7 +21,7 @@ use Rattle.index_state.specs.State.{StateFacts, pass_of}
 use Rattle.index_state.specs.Step.{Stores, TakesNext}
 use Rattle.tree_trait.specs.Asks.{Asks}
 use Rattle.tree_trait.specs.Found.{Versions}
-use Rattle.tree_trait.specs.Heard.{after_asked, wants_memory}
+use Rattle.tree_trait.specs.Heard.{Heard, after_asked, wants_memory}
 use Rattle.tree_trait.specs.Load.{LoadFacts, loaded, too_large, gone}
 use Rattle.tree_trait.specs.Shown.{ShownTree, StaysStill}
 use Rattle.dbgd_run.specs.Scan.{FileRead, FindsOther, IsFileRead, Reads, load_of, names_read}
@@ -83,7 +83,8 @@ pub goes_out : {K : Type 0} {true_row : RowFacts → Type 0} {tells told : Bool}
     {files : List FileRead} {left : List NameFacts} → IndexInvariant true_row tells shows new
     → HasRead told version shows listing before after old mid files left → TakesNext mid (Some name) new
     → GoesOut told version shows listing before after old new name files
-goes_out {told = told} {version = version} {shows = shows} {before = before} {after = after} {old = old} {listing = listing} {new = new} {name = name} {files = files} {left = left} holds had takes =
+goes_out {told = told} {version = version} {shows = shows} {listing = listing} {before = before}
+    {after = after} {old = old} {new = new} {name = name} {files = files} {left = left} holds had takes =
     let first : TakesFirst listing left name new.pass = takes_first had.pass takes.taken in
     let whole : IsListing listing = pass_listing holds first.pass in
     let split : listing ≡ names_read files ++ name ∷ first.left = had.loads.listed ∙ ap (λ xs. names_read files ++ xs) first.first in
@@ -110,8 +111,8 @@ abbrev pub file_of : NameFacts → LoadFacts → RowFacts → FileRead
 file_of name answer row = record { name = name; answer = answer; row = row }
 
 -- the files are the same from the first hand to the last
-stays_on : {told : Bool} {version : Versions} {before between after : ShownTree} {name : NameFacts} {answer : LoadFacts}
-    → (before.Still → StaysStill before between) → Asks told version between after (load_of name answer)
+stays_on : {told : Bool} {version : Versions} {before between after : ShownTree} {asked : Heard}
+    → (before.Still → StaysStill before between) → Asks told version between after asked
     → before.Still → StaysStill before after
 stays_on first asks still =
     let one = first still in
@@ -171,12 +172,12 @@ has_room {listing = listing} {new = new} {name = name} {files = files} {left = l
 
 -- the scan stops at the file
 pub stops : {K : Type 0} (world : Rules) {tells told : Bool} {shows : K → ShownKeeper} {listing : List NameFacts}
-    {before between after : ShownTree} {old mid new : StateFacts K} {name : NameFacts} (answer : LoadFacts)
-    {files : List FileRead} {left : List NameFacts} (end : ScanEnd) → IndexInvariant world.true_row tells shows mid
+    {before between after : ShownTree} {old mid : StateFacts K} (new : StateFacts K) {name : NameFacts}
+    (answer : LoadFacts) {files : List FileRead} {left : List NameFacts} (end : ScanEnd) → IndexInvariant world.true_row tells shows mid
     → IsOut told world.version shows listing before between old mid name files left
     → Asks told world.version between after (load_of name answer) → DoesNext tells shows name answer mid new (Some end)
     → EndsListed world told tells shows listing before after old new end
-stops world {told = told} {shows = shows} {listing = listing} {before = before} {after = after} {old = old} {name = name} answer {files = files} {left = left} Unread holds out asks does = record {
+stops world {told = told} {shows = shows} {listing = listing} {before = before} {after = after} {old = old} new {name = name} answer {files = files} {left = left} Unread holds out asks does = record {
   files = files;
   name = name;
   left = left;
@@ -185,7 +186,7 @@ stops world {told = told} {shows = shows} {listing = listing} {before = before} 
       (loads_last out.still (ap (λ a. wants_memory (load_of name a)) does.why) out.loads asks);
   keeps = subst (λ (s : StateFacts _). KeepsFiles shows old s (rows_read files)) (sym does.same) out.keeps;
 }
-stops world {told = told} {shows = shows} {listing = listing} {before = before} {after = after} {old = old} {name = name} answer {files = files} {left = left} (Altered listed met) holds out asks does = record {
+stops world {told = told} {shows = shows} {listing = listing} {before = before} {after = after} {old = old} new {name = name} answer {files = files} {left = left} (Altered listed met) holds out asks does = record {
   files = files;
   answer = answer;
   left = left;
@@ -195,7 +196,7 @@ stops world {told = told} {shows = shows} {listing = listing} {before = before} 
   finds = subst (λ (n : NameFacts). FindsOther n answer met) (sym does.why.0) does.why.1;
   keeps = subst (λ (s : StateFacts _). KeepsFiles shows old s (rows_read files)) (sym does.same) out.keeps;
 }
-stops world {name = name} answer {files = files} {left = left} Unkept holds out asks does = record {
+stops world new {name = name} answer {files = files} {left = left} Unkept holds out asks does = record {
   files = files;
   last = file_of name answer does.row;
   left = left;
@@ -203,8 +204,8 @@ stops world {name = name} answer {files = files} {left = left} Unkept holds out 
   read = record { asked = asks.fits; read = does.reads };
   tears = tears_last holds out.keeps does.next;
 }
-stops world answer Full holds out asks does = absurd (has_room out does.next.why.full)
-stops world {shows = shows} {between = between} {old = old} {name = name} answer {files = files} {left = left} OutOfMemory holds out asks (inl does) = record {
+stops world new answer Full holds out asks does = absurd (has_room out does.next.why.full)
+stops world {shows = shows} {between = between} {old = old} new {name = name} answer {files = files} {left = left} OutOfMemory holds out asks (inl does) = record {
   files = files;
   last = [];
   left = name ∷ left;
@@ -213,7 +214,7 @@ stops world {shows = shows} {between = between} {old = old} {name = name} answer
   read = All-nil (IsFileRead world.version);
   keeps = subst (λ (s : StateFacts _). KeepsFiles shows old s (rows_read files)) (sym does.same) out.keeps;
 }
-stops world {name = name} answer {files = files} {left = left} OutOfMemory holds out asks (inr does) = record {
+stops world new {name = name} answer {files = files} {left = left} OutOfMemory holds out asks (inr does) = record {
   files = files;
   last = file_of name answer does.row ∷ [];
   left = left;
@@ -224,7 +225,7 @@ stops world {name = name} answer {files = files} {left = left} OutOfMemory holds
       (record { asked = asks.fits; read = does.reads }) (All-nil (IsFileRead world.version));
   keeps = keeps_wanting out.keeps does.next;
 }
-stops world answer _ holds out asks does = absurd does
+stops world new answer _ holds out asks does = absurd does
 
 -- the next file was read and its row kept: so far one file more was read
 pub goes_on : {K : Type 0} {true_row : RowFacts → Type 0} {tells told : Bool} {version : Versions} {shows : K → ShownKeeper}
@@ -239,13 +240,13 @@ goes_on {name = name} answer {files = files} holds had takes asks does =
 
 -- the next file ends the scan
 pub ends_there : {K : Type 0} (world : Rules) {tells told : Bool} {shows : K → ShownKeeper} {listing : List NameFacts}
-    {before between after : ShownTree} {old was mid new : StateFacts K} {name : NameFacts} (answer : LoadFacts)
-    {files : List FileRead} {left : List NameFacts} (end : ScanEnd) → IndexInvariant world.true_row tells shows mid
+    {before between after : ShownTree} {old was mid : StateFacts K} (new : StateFacts K) {name : NameFacts}
+    (answer : LoadFacts) {files : List FileRead} {left : List NameFacts} (end : ScanEnd) → IndexInvariant world.true_row tells shows mid
     → HasRead told world.version shows listing before between old was files left → TakesNext was (Some name) mid
     → Asks told world.version between after (load_of name answer) → DoesNext tells shows name answer mid new (Some end)
     → EndsListed world told tells shows listing before after old new end
-ends_there world answer end holds had takes asks does =
-    stops world answer end holds (goes_out holds had takes).out asks does
+ends_there world new answer end holds had takes asks does =
+    stops world new answer end holds (goes_out holds had takes).out asks does
 
 -- the index isn't broken while files are read
 pub stays_sound : {K : Type 0} {told : Bool} {version : Versions} {shows : K → ShownKeeper} {listing : List NameFacts}

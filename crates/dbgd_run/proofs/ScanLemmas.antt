@@ -84,7 +84,7 @@ loads_last {before = before} {between = between} {after = after} {files = files}
   heard =
       hears_both before.heard between.heard after.heard (loads_read files) (load_of name answer ∷ [])
       (had.heard ∙ ap (λ xs. with_answers before.heard xs) (append-nil (loads_read files)))
-      (hears_asked (load_of name answer) said asks.listed);
+      (hears_asked between.heard (load_of name answer) said asks.listed);
   tells = λ t.
       let still = stays t.1 in
       All-push (IsTold before.present) (loads_read files) (load_of name answer)

@@ -1,5 +1,5 @@
 -- A pass over a listing.
-use Rattle.std.proofs.Common.{◌≡◌, ℕ, Bool, List, [], refl, sym, ◌∙◌, ap, subst, Option, arith}
+use Rattle.std.proofs.Common.{◌≡◌, ℕ, Bool, List, [], sym, ◌∙◌, ap, subst, Option, arith}
 use Rattle.std.proofs.lemmas.List.Elements.{All-nil}
 use Rattle.row_types.specs.Name.{NameFacts}
 use Rattle.row_types.specs.Row.{RowFacts}
@@ -51,12 +51,12 @@ module _ {K : Type 0} {listing : List NameFacts} {roots : List (List ℕ)} {plan
       ∙ ap (λ (xs : List NameFacts). plan_of xs []) (sym (listing_after fresh begins))
 
 -- the end of a pass is that of the scan of its listing
-pub ends_begun : {K : Type 0} (world : Rules) {told tells : Bool} {shows : K → ShownKeeper} {listing : List NameFacts}
+pub ends_begun : {K : Type 0} (world : Rules) (told tells : Bool) (shows : K → ShownKeeper) {listing : List NameFacts}
     {roots : List (List ℕ)} {plan : Plan} (before after : ShownTree) {old mid : StateFacts K} (new : StateFacts K) (end : ScanEnd)
     → IsNew old → BeginsPass listing roots plan old mid
     → EndsListed world told tells shows (pass_of mid.pass).listing before after mid new end
     → EndsListed world told tells shows listing before after old new end
-ends_begun world {told} {tells} {shows} before after new end fresh begins ends =
+ends_begun world told tells shows before after new end fresh begins ends =
     let kept = ap (λ (s : StateFacts _). (shows s.keeper).made) begins.after in
     ends_open world (λ fault none. none)
     (λ files left last loads.
@@ -70,10 +70,10 @@ ends_begun world {told} {tells} {shows} before after new end fresh begins ends =
     (λ rows row tears. record { images = tears.images; made = tears.made ∙ ap (λ made. with_puts made rows) kept }) end ends
 
 -- memory was refused for the pass
-pub ends_unbegun : {K : Type 0} (world : Rules) {told tells : Bool} {shows : K → ShownKeeper} {listing : List NameFacts}
+pub ends_unbegun : {K : Type 0} (world : Rules) {told : Bool} (tells : Bool) {shows : K → ShownKeeper} {listing : List NameFacts}
     {hand : ShownTree} {old new : StateFacts K} → IsNew old → new ≡ old
     → EndsListed world told tells shows listing hand hand old new OutOfMemory
-ends_unbegun world {shows = shows} {listing = listing} {old = old} fresh same = record {
+ends_unbegun world tells {shows = shows} {listing = listing} {old = old} fresh same = record {
   files = [];
   last = [];
   left = listing;

@@ -16,10 +16,11 @@ use Rattle.index_rows.proofs.Lists.{filter_true}
 use Rattle.index_rows.specs.Log.{put_of}
 use Rattle.index_rows.specs.Rows.{row_names, with_row}
 use Rattle.index_state.specs.Invariant.{IndexInvariant}
+use Rattle.index_state.specs.Keeping.{put_row}
 use Rattle.index_state.specs.Kept.{Agrees, IsInStore, tables_of}
 use Rattle.index_state.specs.State.{StateFacts}
 use Rattle.index_state.specs.Step.{Breaks, FindsNoMemory, HandsOut, Stores}
-use Rattle.dbgd_run.specs.Kept.{put_row, with_puts}
+use Rattle.dbgd_run.specs.Kept.{with_puts}
 use Rattle.dbgd_run.specs.ScanSteps.{IsNew, IsPassOver, KeepsFiles, TearsFiles}
 use Rattle.dbgd_run.proofs.ScanLists.{without_itself, without_none}
 

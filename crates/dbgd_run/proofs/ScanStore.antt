@@ -1,6 +1,6 @@
 -- The store of a scan.
-use Rattle.std.proofs.Common.{◌≡◌, ℕ, ◌≤◌, Bool, List, [], ◌++◌, sym, ◌∙◌, ap, subst, inr, IsTrue}
-use Rattle.std.proofs.Common.{arith, append_assoc}
+use Rattle.std.proofs.Common.{◌≡◌, ℕ, Bool, List, [], ◌++◌, sym, ◌∙◌, ap, subst, inr, IsTrue}
+use Rattle.std.proofs.Common.{arith}
 use Rattle.std.specs.Prelude.{All, Ok}
 use Rattle.std.proofs.lemmas.List.Elements.{All-append}
 use Rattle.row_types.specs.Faults.{Rose, summed}
@@ -16,32 +16,31 @@ use Rattle.index_state.specs.Kept.{tables_of}
 use Rattle.index_state.specs.Opening.{GivesNothing, Opens}
 use Rattle.index_state.specs.State.{StateFacts}
 use Rattle.tree_trait.specs.Asks.{IsTold}
-use Rattle.tree_trait.specs.Heard.{Heard}
 use Rattle.tree_trait.specs.Shown.{ShownTree, StaysStill}
 use Rattle.tree_walk.specs.Ends.{Walks}
 use Rattle.tree_walk.specs.Files.{AreFilesUnder}
 use Rattle.tree_walk.specs.declared.walked.Walk.{Walk}
 use Rattle.dbgd_run.specs.Kept.{HasKept, HasTorn, with_puts}
-use Rattle.dbgd_run.specs.Scan.{EndsBy, EndsInWalk, EndsOpen, EndsOver, OpensBy, ReadsFiles}
+use Rattle.dbgd_run.specs.Scan.{EndsBy, EndsOpen, EndsOver, OpensBy, ReadsFiles}
 use Rattle.dbgd_run.specs.Scan.{loads_read}
 use Rattle.dbgd_run.specs.ScanSteps.{EndsListed, EndsUnlisted, IsNew, KeepsFiles, TearsFiles}
 use Rattle.dbgd_run.specs.Scene.{Setting, TellsStill}
 use Rattle.dbgd_run.specs.declared.scan_end.ScanEnd.{ScanEnd}
-use Rattle.dbgd_run.specs.declared.scan_end.ScanEnd.TheVariants.{Unopened, Filled, Full}
+use Rattle.dbgd_run.specs.declared.scan_end.ScanEnd.TheVariants.{Unopened, Filled}
 use Rattle.dbgd_run.specs.declared.scan_end.ScanEnd.TheVariants.{OutOfMemory}
 use Rattle.dbgd_run.proofs.Heard.{hears_both}
 use Rattle.dbgd_run.proofs.ScanEnds.{ends_open}
 use Rattle.dbgd_run.proofs.ScanState.{keeps_none, tables_stand}
 
 -- what was loaded after a whole walk
-pub walked : {K : Type 0} (s : Setting) {shows : K → ShownKeeper} {roots : List (List ℕ)} (before between after : ShownTree)
+pub walked : {K : Type 0} (s : Setting) (shows : K → ShownKeeper) {roots : List (List ℕ)} (before between after : ShownTree)
     (old new : StateFacts K) {walk : Walk} (end : ScanEnd) → Walks s.tells_files before between roots (Ok walk)
     → (before.Still → StaysStill before between)
     → (TellsStill s.tells_files before → AreFilesUnder before.present roots walk.listing)
     → EndsListed s.world s.tells_files s.tells_tables shows walk.listing between after old new end
     → EndsOpen s.world (EndsUnlisted s.tells_files roots before after old new) (ReadsFiles s roots before after)
     (KeepsFiles shows old new) (TearsFiles s.tells_tables shows old new) end
-walked s {roots = roots} before between after old new {walk = walk} end walks still under ends =
+walked s shows {roots = roots} before between after old new {walk = walk} end walks still under ends =
     ends_open s.world (λ fault none. absurd none)
     (λ files left last loads. record {
       walk = walk;
@@ -77,12 +76,12 @@ gave_none tells before after (kept.All rows) asks none told =
 gave_none tells before after _ asks none told = absurd none
 
 -- what is said of an open store is said of the scan
-over_by : {s : Setting} {roots : List (List ℕ)} {before after : ShownTree} {old new : ShownStore} (end : ScanEnd)
+over_by : (s : Setting) (roots : List (List ℕ)) (before after : ShownTree) (old new : ShownStore) (end : ScanEnd)
     → EndsOver s roots before after old new end → EndsBy s roots before after old new end
-over_by Unopened h = absurd h
-over_by Filled h = absurd h
-over_by OutOfMemory h = inr h
-over_by _ h = h
+over_by s roots before after old new Unopened h = absurd h
+over_by s roots before after old new Filled h = absurd h
+over_by s roots before after old new OutOfMemory h = inr h
+over_by s roots before after old new _ h = h
 
 -- what an index was opened on and left, and the stores before and after it
 pub record IsLent {K : Type 0} (s : Setting) (shows : K → ShownKeeper) (from into : ShownStore) (keeper : K)
@@ -125,13 +124,13 @@ torn_store {into = into} {rows = rows} lent tears = record {
 }
 
 -- the end of a scan over an index that was opened on a keeper
-pub ends_opened : {K : Type 0} (s : Setting) {shows : K → ShownKeeper} {roots : List (List ℕ)} (before after : ShownTree)
+pub ends_opened : {K : Type 0} (s : Setting) {shows : K → ShownKeeper} (roots : List (List ℕ)) (before after : ShownTree)
     {from into : ShownStore} {keeper : K} {old new : StateFacts K} (end : ScanEnd) → IsLent s shows from into keeper old new
     → EndsOpen s.world (EndsUnlisted s.tells_files roots before after old new) (ReadsFiles s roots before after)
     (KeepsFiles shows old new) (TearsFiles s.tells_tables shows old new) end
     → EndsBy s roots before after from into end
-ends_opened s {shows = shows} before after {old = old} end lent ends =
-    over_by end
+ends_opened s {shows = shows} roots before after {from = from} {into = into} {old = old} end lent ends =
+    over_by s roots before after from into end
     (ends_open s.world
     (λ fault unlisted. record {
       walks = unlisted.walks;
@@ -143,11 +142,11 @@ ends_opened s {shows = shows} before after {old = old} end lent ends =
     (λ files names last reads. reads) (λ rows keeps. kept_store lent keeps) (λ rows row tears. torn_store lent tears) end ends)
 
 -- a fault of a keeper is one of its store once it is given back
-pub rose_given : {old mid new keeper given : ℕ} → old ≤ mid → keeper ≡ 0 → Rose keeper given → new ≡ summed mid given → Rose old new
-rose_given later none rose sum = omega arith
+pub rose_given : {old mid new keeper given : ℕ} → mid ≡ old → keeper ≡ 0 → Rose keeper given → new ≡ summed mid given → Rose old new
+rose_given same none rose sum = omega arith
 
 -- the store was opened by the path
-pub opens_once : {path : List ℕ} {old new : ShownStore} (end : ScanEnd) → new.paths ≡ with_path path old.paths
+pub opens_once : (path : List ℕ) (old new : ShownStore) (end : ScanEnd) → new.paths ≡ with_path path old.paths
     → OpensBy path old new end
-opens_once OutOfMemory h = inr h
-opens_once _ h = h
+opens_once path old new OutOfMemory h = inr h
+opens_once path old new _ h = h

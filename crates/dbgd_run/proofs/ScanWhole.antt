@@ -1,5 +1,5 @@
 -- A scan that was whole.
-use Rattle.std.proofs.Common.{◌≡◌, ℕ, Bool, true, List, [], ◌∷◌, length, refl, ◌∙◌, ap, subst}
+use Rattle.std.proofs.Common.{◌≡◌, Bool, true, List, [], ◌∷◌, length, refl, ◌∙◌, ap, subst}
 use Rattle.std.proofs.Common.{Option}
 use Rattle.std.specs.Prelude.{IfSome}
 use Rattle.std.specs.List.{All}

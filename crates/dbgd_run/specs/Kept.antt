@@ -1,14 +1,10 @@
 -- What a scan leaves in the store (this project's rule).
 use Rattle.std.specs.Prelude.{◌≡◌, ◌⊎◌, Bool, List, [], ◌++◌, map, IsTrue, Option, option_map}
 use Rattle.row_types.specs.Row.{RowFacts}
-use Rattle.row_codec.specs.RowBytes.{row_bytes}
 use Rattle.index_keeper.specs.Store.{ShownStore}
-use Rattle.index_keeper.specs.Tables.{EditFacts, edited, put_of}
+use Rattle.index_keeper.specs.Tables.{EditFacts, edited}
+use Rattle.index_state.specs.Keeping.{put_row}
 use Rattle.index_state.specs.Kept.{tables_of}
-
--- the change that keeps a row
-abbrev pub put_row : RowFacts → EditFacts
-put_row row = put_of row.name.path (row_bytes row)
 
 -- the changes of a store, with those that keep the rows
 abbrev pub with_puts : Option (List EditFacts) → List RowFacts → Option (List EditFacts)

@@ -11,7 +11,7 @@ use Rattle.row_types.specs.declared.limits.TheConstants.{FILE_LIMIT}
 use Rattle.scan_queue.specs.declared.miss.Seen.{Seen}
 use Rattle.scan_queue.specs.declared.miss.Seen.TheVariants as seen
 use Rattle.index_keeper.specs.Store.{ShownStore, with_path}
-use Rattle.index_rows.specs.Rows.{names_of}
+use Rattle.index_rows.specs.Rows.{row_names}
 use Rattle.index_state.specs.Complete.{IsScan}
 use Rattle.index_state.specs.Plan.{plan_of}
 use Rattle.tree_trait.specs.Asks.{IsTold}
@@ -142,7 +142,7 @@ pub record EndsScanned (world : Rules) (Read : List FileRead → List NameFacts 
   pub files : List FileRead
   pub reads : Read files [] []
   pub keeps : Kept (rows_read files)
-  pub names : names_of (rows_read files) ≡ names_read files
+  pub names : row_names (rows_read files) ≡ names_read files
   pub holds : All world.true_row (rows_read files)
   pub scan : world.told ≡ true → IsScan world.true_row (names_read files) (rows_read files)
   pub numbers : summary ≡ summary_of (plan_of (names_read files) []) (rows_read files)

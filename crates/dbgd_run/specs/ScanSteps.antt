@@ -7,6 +7,7 @@ use Rattle.row_types.specs.Rules.{Rules}
 use Rattle.scan_queue.specs.Pass.{PassFacts}
 use Rattle.index_keeper.specs.Keeper.{ShownKeeper}
 use Rattle.index_keeper.specs.Tables.{KeptFacts, edited}
+use Rattle.index_state.specs.Keeping.{put_row}
 use Rattle.index_state.specs.Kept.{tables_of}
 use Rattle.index_state.specs.State.{StateFacts}
 use Rattle.index_state.specs.Step.{Breaks, FindsNoMemory, IsShut, Stays, Stores}
@@ -18,7 +19,7 @@ use Rattle.tree_trait.specs.Shown.{ShownTree, StaysStill}
 use Rattle.tree_walk.specs.Ends.{Walks}
 use Rattle.tree_walk.specs.Files.{FitsFault}
 use Rattle.tree_walk.specs.declared.fault.WalkFault.{WalkFault}
-use Rattle.dbgd_run.specs.Kept.{put_row, with_puts}
+use Rattle.dbgd_run.specs.Kept.{with_puts}
 use Rattle.dbgd_run.specs.Scan.{EndsOpen, FileRead, FindsOther, IsFileRead, Reads, loads_read}
 use Rattle.dbgd_run.specs.Scan.{names_read, rows_read}
 use Rattle.dbgd_run.specs.Scene.{TellsStill}

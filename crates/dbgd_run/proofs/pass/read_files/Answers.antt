@@ -8,12 +8,12 @@ pub loop-name-init : goal.loop-name-init
 loop-name-init g c = ([], (pass_of c.args.state.now.pass).listing, starts c.requires)
 
 pub read_file-requires-clause-sound : goal.read_file-requires-clause-sound
-read_file-requires-clause-sound g c = stays_sound c.loop-name.invariant.2 c.in-Some.ensures.step
+read_file-requires-clause-sound g c = λ κs within. stays_sound c.loop-name.invariant.2 c.in-Some.ensures.step
 
 pub returns-in-Some-read_file-clause-ends : goal.returns-in-Some-read_file-clause-ends
 returns-in-Some-read_file-clause-ends g c =
     let next = c.in-Some-read_file.ensures.next in
-    ends_there (rules g.W.Truth.version g.W.Truth.true_row g.W.Truth.told) next.0 _ c.show_index.ensures
+    ends_there (rules g.W.Truth.version g.W.Truth.true_row g.W.Truth.told) _ next.0 _ c.show_index.ensures
     c.loop-name.invariant.2 c.in-Some.ensures.step next.1 next.2
 
 pub loop-name-smaller : goal.loop-name-smaller

@@ -10,9 +10,10 @@ read_pass-requires-clause-planned g c = λ κs within. plan_after {K = g.row.K.D
 
 pub returns-in-Begun-clause-ends : goal.returns-in-Begun-clause-ends
 returns-in-Begun-clause-ends g c =
-    ends_begun (rules g.W.Truth.version g.W.Truth.true_row g.W.Truth.told) _ _ _ _ c.requires c.in-Begun.ensures.step
+    ends_begun (rules g.W.Truth.version g.W.Truth.true_row g.W.Truth.told) g.T.Tree.told g.K.Keeper.told
+    g.K.Keeper.shows _ _ _ _ c.requires c.in-Begun.ensures.step
     c.read_pass.ensures.ends
 
 pub returns-in-OutOfMemory-clause-ends : goal.returns-in-OutOfMemory-clause-ends
 returns-in-OutOfMemory-clause-ends g c =
-    ends_unbegun (rules g.W.Truth.version g.W.Truth.true_row g.W.Truth.told) c.requires c.in-OutOfMemory.ensures.step.same
+    ends_unbegun (rules g.W.Truth.version g.W.Truth.true_row g.W.Truth.told) g.K.Keeper.told c.requires c.in-OutOfMemory.ensures.step.same

@@ -10,7 +10,7 @@ use Rattle.dbgd_run.proofs.scan.scan_roots.Goals as goal
 pub returns-in-Ok-clause-ends : goal.returns-in-Ok-clause-ends
 returns-in-Ok-clause-ends g c =
     walked {K = g.row.K.Denot}
-    (setting (rules g.W.Truth.version g.W.Truth.true_row g.W.Truth.told) g.T.Tree.told g.K.Keeper.told)
+    (setting (rules g.W.Truth.version g.W.Truth.true_row g.W.Truth.told) g.T.Tree.told g.K.Keeper.told) g.K.Keeper.shows
     (g.T.Tree.shows c.args.hand.now) (g.T.Tree.shows c.walk.new.hand) _ _ _ _
     (subst (λ (xs : List (List ℕ)). Walks g.T.Tree.told (g.T.Tree.shows c.args.hand.now) (g.T.Tree.shows c.walk.new.hand) xs
     (Ok c.in-Ok.field-0)) c.as_slice.ensures.value c.in-Ok.ensures.walk)
