@@ -45,13 +45,13 @@ impl RealSink {
     }
 }
 
-impl Sink for RealSink {
+impl dbgd_run::Stream for RealSink {
     ghost use Rattle.std.specs.Prelude.{None};
 
-    ghost written = { λ _. None };
+    ghost shows = { λ s. record { left = None; read_faults = 0; written = None; write_faults = s.faults } };
+}
 
-    ghost write_faults = { λ s. s.faults };
-
+impl Sink for RealSink {
     fn write(&mut self, bytes: &[u8]) -> WriteAnswer {
         match self.pass_on(bytes) {
             Ok(n) if n > 0 => WriteAnswer::Took(n),

@@ -1,177 +1,180 @@
--- When a status comes, by what a run does.
-use Rattle.std.proofs.Common.{◌≡◌, sym, ◌∙◌, refl, subst, ◌≢◌, inl, inr, ◌⊎◌, ℕ, List, [], length, ap, IsTrue, Option, Some, None, Result, Ok, Err, arith}
+-- What a status says, by what a run does.
+use Rattle.std.proofs.Common.{◌≡◌, sym, refl, subst, inl, inr, ℕ, List, [], Option, Some}
+use Rattle.std.proofs.Common.{None, IsTrue, Result, Ok, Err}
 use Rattle.row_types.specs.Faults.{Rose}
+use Rattle.row_types.specs.declared.limits.TheConstants.{FILE_LIMIT}
 use Rattle.file_formats.specs.Identity.{Identity}
 use Rattle.file_formats.specs.declared.fault.Why.{Why}
-use Rattle.tree_trait.specs.Load.{LoadFacts, loaded, too_large, gone, failed, no_memory, is_failed}
-use Rattle.dbgd_run.specs.Causes.{HasCauses}
-use Rattle.dbgd_run.specs.Endings.{Saying, Streams, Ends, EndsOrWants}
-use Rattle.dbgd_run.specs.Ident.{SaysIdent, file_saying}
-use Rattle.dbgd_run.specs.Load.{Hand}
-use Rattle.tree_walk.specs.declared.fault.WalkFault.{WalkFault}
+use Rattle.http_wire.specs.Sink.{GetsAll}
+use Rattle.tree_trait.specs.Heard.{has_failed, load}
+use Rattle.tree_trait.specs.Load.{LoadFacts, loaded, too_large, gone, failed, no_memory}
 use Rattle.tree_walk.specs.declared.fault.WalkFault.TheVariants as stop
-use Rattle.dbgd_run.specs.Scan.{EndsBy}
-use Rattle.dbgd_run.specs.ScanSaid.{is_hand_fault, is_store_fault, scan_saying, walk_saying}
-use Rattle.dbgd_run.specs.Section.{SaysSection, section_saying}
+use Rattle.dbgd_run.specs.Causes.{FileStatus, HasStatus, IfScan, IsComplete, IsTurnedAway}
+use Rattle.dbgd_run.specs.Causes.{IsUnhindered, ScanStatus}
+use Rattle.dbgd_run.specs.Endings.{Ends, Saying, Streams}
+use Rattle.dbgd_run.specs.Ident.{SaysFile, SaysIdent}
 use Rattle.dbgd_run.specs.Runs.{Runs}
-use Rattle.dbgd_run.specs.Setting.{Setting}
-use Rattle.dbgd_run.specs.Statuses.{code_of}
-use Rattle.dbgd_run.specs.Store.{Stock}
-use Rattle.dbgd_run.specs.declared.scan_end.ScanEnd.{ScanEnd}
-use Rattle.dbgd_run.specs.declared.scan_end.ScanEnd.TheVariants.{Unopened, Filled, Unlisted, Unread, Altered, Unkept, Full, OutOfMemory, Whole}
+use Rattle.dbgd_run.specs.Scan.{EndsBy, Scans}
+use Rattle.dbgd_run.specs.ScanSaid.{SaysEnd, scan_saying}
+use Rattle.dbgd_run.specs.Scene.{Scene, Setting}
+use Rattle.dbgd_run.specs.Section.{SaysNamed, SaysSection}
 use Rattle.dbgd_run.specs.Words.{Line, asks_ident, asks_section, asks_scan, unbuilt, unreadable}
+use Rattle.dbgd_run.specs.declared.scan_end.ScanEnd.{ScanEnd}
+use Rattle.dbgd_run.specs.declared.scan_end.ScanEnd.TheVariants.{Unopened, Filled, Unlisted, Unread}
+use Rattle.dbgd_run.specs.declared.scan_end.ScanEnd.TheVariants.{Altered, Unkept, Full, OutOfMemory}
+use Rattle.dbgd_run.specs.declared.scan_end.ScanEnd.TheVariants.{Whole}
+use Rattle.dbgd_run.specs.declared.status.Status.{Status}
+use Rattle.dbgd_run.specs.declared.status.Status.TheVariants as status
+use Rattle.dbgd_run.specs.declared.summary.Summary.{Summary}
+use Rattle.dbgd_run.proofs.AlteredLemmas.{heard_other, never_other}
 
--- a status is that of a fault only for the reason R, and never that of the usage or of a value that is no row; it is that of
--- what isn't built yet only for the reason N
-record IsCaused (R N : Type 0) (code : ℕ) : Type 0 where
-  fault : code ≡ 1 → R
-  usage : code ≡ 2 → ⊥
-  bad_row : code ≡ 7 → ⊥
-  not_built : code ≡ 8 → N
+-- what the saying's status says is said, or that the standard output failed
+by_ends : (P : Status → Type 0) (saying : Saying) {old new : Streams} {end : Status} → P saying.status
+    → (Rose old.out.write_faults new.out.write_faults → P status.Fault) → Ends saying old new end → P end
+by_ends P saying said out (inl whole) = subst P (sym whole.ends) said
+by_ends P saying said out (inr cut) = subst P (sym cut.ends) (out cut.out.rose)
 
--- the saying's status is caused, and so is a fault of the standard output
-caused-ends : (R N : Type 0) (saying : Saying) (old new : Streams) (code : ℕ) → IsCaused R N (code_of saying.status)
-    → (Rose old.out_faults new.out_faults → R) → Ends saying old new code → IsCaused R N code
-caused-ends R N saying old new code said out (inl whole) = record {
-  fault = λ e. said.fault (sym whole.ends ∙ e);
-  usage = λ e. said.usage (sym whole.ends ∙ e);
-  bad_row = λ e. said.bad_row (sym whole.ends ∙ e);
-  not_built = λ e. said.not_built (sym whole.ends ∙ e);
+-- a command on one file, by what its load answered
+file_ends : (before after : Scene) {saying : Saying} {end : Status} → FileStatus before after saying.status
+    → Ends saying before.streams after.streams end → FileStatus before after end
+file_ends before after {saying} said ends = by_ends (FileStatus before after) saying said (λ rose. inr rose) ends
+
+file_status : (before after : Scene) (r : Result Identity Why) (end : Status) → SaysFile r before.streams after.streams end
+    → FileStatus before after end
+file_status before after (Ok i) end (inl ends) = file_ends before after tt ends
+file_status before after (Ok i) end (inr wants) = subst (FileStatus before after) (sym wants.ends) tt
+file_status before after (Err why) end ends = file_ends before after tt ends
+
+ident_status : (before after : Scene) (path : List ℕ) (answer : LoadFacts) (end : Status)
+    → (IsTrue (has_failed (load path FILE_LIMIT answer)) → Rose before.hand.faults after.hand.faults)
+    → SaysIdent path answer before.streams after.streams end → FileStatus before after end
+ident_status before after path (loaded found) end hand said = file_status before after said.0 end said.2
+ident_status before after path (too_large stamp) end hand said = file_ends before after tt said
+ident_status before after path gone end hand said = subst (FileStatus before after) (sym said.ends) tt
+ident_status before after path failed end hand said = subst (FileStatus before after) (sym said.ends) (inl (hand refl))
+ident_status before after path no_memory end hand said = subst (FileStatus before after) (sym said.ends) tt
+
+named_status : (before after : Scene) (r : Result Identity Why) (section : Option (List ℕ)) (end : Status)
+    → SaysNamed r section before.streams after.streams end → FileStatus before after end
+named_status before after (Ok i) (Some bytes) end ends = file_ends before after tt ends
+named_status before after (Ok i) None end said = subst (FileStatus before after) (sym said.ends) tt
+named_status before after (Err why) section end said = subst (FileStatus before after) (sym said.ends) tt
+
+section_status : (before after : Scene) (path name : List ℕ) (answer : LoadFacts) (end : Status)
+    → (IsTrue (has_failed (load path FILE_LIMIT answer)) → Rose before.hand.faults after.hand.faults)
+    → SaysSection path name answer before.streams after.streams end → FileStatus before after end
+section_status before after path name (loaded found) end hand said = named_status before after said.0 said.1 end said.4
+section_status before after path name (too_large stamp) end hand said = subst (FileStatus before after) (sym said.ends) tt
+section_status before after path name gone end hand said = subst (FileStatus before after) (sym said.ends) tt
+section_status before after path name failed end hand said = subst (FileStatus before after) (sym said.ends) (inl (hand refl))
+section_status before after path name no_memory end hand said = subst (FileStatus before after) (sym said.ends) tt
+
+-- what the status of a scan's end says
+end_status : (s : Setting) {path : List ℕ} {roots : List (List ℕ)} (before after : Scene) (end : ScanEnd)
+    → Scans s path roots before.hand after.hand before.store after.store end
+    → GetsAll (scan_saying end).out before.streams.out after.streams.out
+    → ScanStatus s roots before after (scan_saying end).status
+end_status s before after Unopened scans said = inl (scans.store.rose refl)
+end_status s before after Filled scans said = scans.ends.filled
+end_status s before after (Unlisted stop.Failed) scans said = inr (inl (scans.hand.rose refl))
+end_status s before after (Unlisted stop.TooMany) scans said = record {
+  answers = scans.ends.walks.more;
+  heard = scans.ends.walks.heard;
+  many = inl scans.ends.walks.ends;
+  still = λ still. inl (scans.ends.fits still);
 }
-caused-ends R N saying old new code said out (inr cut) = record {
-  fault = λ e. out cut.out_rose;
-  usage = λ e. let one = cut.ends in absurd (omega arith);
-  bad_row = λ e. let one = cut.ends in absurd (omega arith);
-  not_built = λ e. let one = cut.ends in absurd (omega arith);
+end_status s before after (Unlisted stop.TooManyEntries) scans said = record {
+  answers = scans.ends.walks.more;
+  heard = scans.ends.walks.heard;
+  many = inr scans.ends.walks.ends;
+  still = λ still. inr (scans.ends.fits still);
 }
+end_status s before after (Unlisted (stop.RootGone path)) scans said = record {
+  answers = scans.ends.walks.more;
+  path = path;
+  heard = scans.ends.walks.heard;
+  gone = scans.ends.walks.ends;
+  still = λ still. let fits = scans.ends.fits still in record { path = path; root = fits.0; nothing = fits.1 };
+}
+end_status s before after (Unlisted stop.OutOfMemory) scans said = tt
+end_status s before after Unread scans said = inr (inl (scans.hand.rose refl))
+end_status s before after (Altered name met) scans said = heard_other scans.ends
+end_status s before after Unkept scans said = inl (scans.store.rose refl)
+end_status s before after Full scans said = absurd scans.ends
+end_status s before after OutOfMemory scans said = tt
+end_status s before after (Whole summary) scans said = record { summary = summary; ends = scans.ends; line = said }
 
--- the same where memory may be wanted
-caused-wants : (R N : Type 0) (saying : Saying) (old new : Streams) (code : ℕ) → IsCaused R N (code_of saying.status)
-    → (Rose old.out_faults new.out_faults → R) → EndsOrWants saying old new code → IsCaused R N code
-caused-wants R N saying old new code said out (inl ends) = caused-ends R N saying old new code said out ends
-caused-wants R N saying old new code said out (inr unsaid) =
-    let six = unsaid.ends in
-    record { fault = λ e. absurd (omega arith); usage = λ e. absurd (omega arith); bad_row = λ e. absurd (omega arith); not_built = λ e. absurd (omega arith) }
+-- what the end's status says is said, or that memory was wanted, or that the standard output failed
+by_end : (P : Status → Type 0) (how : ScanEnd) (old new : Streams) (end : Status)
+    → (GetsAll (scan_saying how).out old.out new.out → P (scan_saying how).status) → P status.OutOfMemory
+    → ((summary : Summary) → how ≡ Whole summary → Rose old.out.write_faults new.out.write_faults → P status.Fault)
+    → SaysEnd how old new end → P end
+by_end P (Altered name met) old new end said wants out (inl whole) = subst P (sym whole.ends) (said whole.out)
+by_end P (Altered name met) old new end said wants out (inr short) = subst P (sym short.ends) wants
+by_end P (Whole summary) old new end said wants out (inl (inl whole)) = subst P (sym whole.ends) (said whole.out)
+by_end P (Whole summary) old new end said wants out (inl (inr cut)) = subst P (sym cut.ends) (out summary refl cut.out.rose)
+by_end P (Whole summary) old new end said wants out (inr short) = subst P (sym short.ends) wants
+by_end P how old new end said wants out whole = subst P (sym whole.ends) (said whole.out)
 
--- a status that is none of the four
-caused-met : (R N : Type 0) (code : ℕ) → (code ≡ 1 → ⊥) → (code ≡ 2 → ⊥) → (code ≡ 7 → ⊥) → (code ≡ 8 → ⊥) → IsCaused R N code
-caused-met R N code one two seven eight = record { fault = λ e. absurd (one e); usage = two; bad_row = seven; not_built = λ e. absurd (eight e) }
+-- a store that holds something is turned away
+turned_away : (s : Setting) {path : List ℕ} {roots : List (List ℕ)} (before after : Scene) (end : ScanEnd)
+    → IsTrue s.tells_tables → ¬ (before.store.tables ≡ [])
+    → Scans s path roots before.hand after.hand before.store after.store end
+    → IsTurnedAway before.store after.store (scan_saying end).status
+turned_away s before after Unopened tells some scans = scans.store.rose refl
+turned_away s before after Filled tells some scans = tt
+turned_away s before after (Unlisted fault) tells some scans = absurd (some (scans.ends.keeps.empty tells))
+turned_away s before after Unread tells some scans = absurd (some (scans.ends.keeps.empty tells))
+turned_away s before after (Altered name met) tells some scans = absurd (some (scans.ends.keeps.empty tells))
+turned_away s before after Unkept tells some scans = absurd (some (scans.ends.tears.empty tells))
+turned_away s before after Full tells some scans = absurd scans.ends
+turned_away s before after OutOfMemory tells some scans = tt
+turned_away s before after (Whole summary) tells some scans = absurd (some (scans.ends.keeps.empty tells))
 
--- what is said of a file that was read is none of them
-caused-file : (R N : Type 0) (r : Result Identity Why) → IsCaused R N (code_of (file_saying r).status)
-caused-file R N (Ok i) = caused-met R N 0 (λ e. omega arith) (λ e. omega arith) (λ e. omega arith) (λ e. omega arith)
-caused-file R N (Err why) = caused-met R N 3 (λ e. omega arith) (λ e. omega arith) (λ e. omega arith) (λ e. omega arith)
+-- where nothing stands against it, the scan's end is whole, or memory was wanted
+complete : (s : Setting) {path : List ℕ} {roots : List (List ℕ)} (before after : Scene) (end : ScanEnd)
+    → IsUnhindered s roots before after → Scans s path roots before.hand after.hand before.store after.store end
+    → IsComplete (scan_saying end).status
+complete s before after Unopened free scans = absurd (free.store (scans.store.rose refl))
+complete s before after Filled free scans = absurd (scans.ends.filled free.tells free.empty)
+complete s before after (Unlisted stop.Failed) free scans = absurd (free.faultless (inl (scans.hand.rose refl)))
+complete s before after (Unlisted stop.TooMany) free scans = absurd (free.files (scans.ends.fits free.still))
+complete s before after (Unlisted stop.TooManyEntries) free scans = absurd (free.entries (scans.ends.fits free.still))
+complete s before after (Unlisted (stop.RootGone path)) free scans =
+    let fits = scans.ends.fits free.still in
+    absurd (free.there (record { path = path; root = fits.0; nothing = fits.1 }))
+complete s before after (Unlisted stop.OutOfMemory) free scans = tt
+complete s before after Unread free scans = absurd (free.faultless (inl (scans.hand.rose refl)))
+complete s before after (Altered name met) free scans = absurd (never_other free.still scans.ends)
+complete s before after Unkept free scans = absurd (free.store (scans.store.rose refl))
+complete s before after Full free scans = absurd scans.ends
+complete s before after OutOfMemory free scans = tt
+complete s before after (Whole summary) free scans = tt
 
--- nor is what is said of a section
-caused-section : (R N : Type 0) (r : Result Identity Why) (s : Option (List ℕ)) → IsCaused R N (code_of (section_saying r s).status)
-caused-section R N (Ok i) (Some bytes) = caused-met R N 0 (λ e. omega arith) (λ e. omega arith) (λ e. omega arith) (λ e. omega arith)
-caused-section R N (Ok i) None = caused-met R N 3 (λ e. omega arith) (λ e. omega arith) (λ e. omega arith) (λ e. omega arith)
-caused-section R N (Err why) s = caused-met R N 3 (λ e. omega arith) (λ e. omega arith) (λ e. omega arith) (λ e. omega arith)
+-- what the status says, by the line
+pub has_status : (s : Setting) (line : Line) (before after : Scene) (end : Status) → Runs s line before after end
+    → HasStatus s line before after end
+has_status s (asks_ident path) before after end run =
+    ident_status before after path run.does.answer end (λ f. run.does.asks.hands.cause.rose f) run.does.said
+has_status s (asks_section path name) before after end run =
+    section_status before after path name run.does.answer end (λ f. run.does.asks.hands.cause.rose f) run.does.said
+has_status s (asks_scan path roots) before after end run =
+    by_end (ScanStatus s roots before after) run.end before.streams after.streams end (end_status s before after run.end run.scans) tt
+    (λ summary whole rose. inr (inr rose)) run.said
+has_status s unbuilt before after end run = run.says.ends
+has_status s unreadable before after end run = run.says.ends
 
--- what is said of a load's answer
-caused-ident : (R N : Type 0) (path : List ℕ) (answer : LoadFacts) (old new : Streams) (code : ℕ) → (IsTrue (is_failed answer) → R)
-    → (Rose old.out_faults new.out_faults → R) → SaysIdent path answer old new code → IsCaused R N code
-caused-ident R N path (loaded found) old new code hand out said = caused-wants R N _ old new code (caused-file R N said.0) out said.2
-caused-ident R N path (too_large stamp) old new code hand out said =
-    caused-ends R N _ old new code (caused-met R N 3 (λ e. omega arith) (λ e. omega arith) (λ e. omega arith) (λ e. omega arith)) out said
-caused-ident R N path gone old new code hand out said =
-    caused-ends R N _ old new code (caused-met R N 3 (λ e. omega arith) (λ e. omega arith) (λ e. omega arith) (λ e. omega arith)) out said
-caused-ident R N path failed old new code hand out said =
-    caused-ends R N _ old new code (record { fault = λ e. hand refl; usage = λ e. omega arith; bad_row = λ e. omega arith; not_built = λ e. absurd (omega arith) }) out said
-caused-ident R N path no_memory old new code hand out said =
-    caused-ends R N _ old new code (caused-met R N 6 (λ e. omega arith) (λ e. omega arith) (λ e. omega arith) (λ e. omega arith)) out said
-
--- what is said of a section, by a load's answer
-caused-named : (R N : Type 0) (path name : List ℕ) (answer : LoadFacts) (old new : Streams) (code : ℕ) → (IsTrue (is_failed answer) → R)
-    → (Rose old.out_faults new.out_faults → R) → SaysSection path name answer old new code → IsCaused R N code
-caused-named R N path name (loaded found) old new code hand out said =
-    caused-ends R N _ old new code (caused-section R N said.0 said.1) out said.4
-caused-named R N path name (too_large stamp) old new code hand out said =
-    caused-ends R N _ old new code (caused-met R N 3 (λ e. omega arith) (λ e. omega arith) (λ e. omega arith) (λ e. omega arith)) out said
-caused-named R N path name gone old new code hand out said =
-    caused-ends R N _ old new code (caused-met R N 3 (λ e. omega arith) (λ e. omega arith) (λ e. omega arith) (λ e. omega arith)) out said
-caused-named R N path name failed old new code hand out said =
-    caused-ends R N _ old new code (record { fault = λ e. hand refl; usage = λ e. omega arith; bad_row = λ e. omega arith; not_built = λ e. absurd (omega arith) }) out said
-caused-named R N path name no_memory old new code hand out said =
-    caused-ends R N _ old new code (caused-met R N 6 (λ e. omega arith) (λ e. omega arith) (λ e. omega arith) (λ e. omega arith)) out said
-
--- what is said where a walk ended with a fault
-caused-walk : (R N : Type 0) (fault : WalkFault) → (IsTrue (is_hand_fault (Unlisted fault)) → R) → IsCaused R N (code_of (walk_saying fault).status)
-caused-walk R N stop.Failed hand = record { fault = λ e. hand refl; usage = λ e. omega arith; bad_row = λ e. omega arith; not_built = λ e. absurd (omega arith) }
-caused-walk R N stop.TooMany hand = caused-met R N 5 (λ e. omega arith) (λ e. omega arith) (λ e. omega arith) (λ e. omega arith)
-caused-walk R N stop.TooManyEntries hand = caused-met R N 5 (λ e. omega arith) (λ e. omega arith) (λ e. omega arith) (λ e. omega arith)
-caused-walk R N (stop.RootGone path) hand = caused-met R N 3 (λ e. omega arith) (λ e. omega arith) (λ e. omega arith) (λ e. omega arith)
-caused-walk R N stop.OutOfMemory hand = caused-met R N 6 (λ e. omega arith) (λ e. omega arith) (λ e. omega arith) (λ e. omega arith)
-
--- what is said of a scan's end
-caused-scan : (R N : Type 0) (end : ScanEnd) → (IsTrue (is_hand_fault end) → R) → (IsTrue (is_store_fault end) → R) → (end ≡ Filled → N)
-    → IsCaused R N (code_of (scan_saying end).status)
-caused-scan R N Unopened hand store filled = record { fault = λ e. store refl; usage = λ e. omega arith; bad_row = λ e. omega arith; not_built = λ e. absurd (omega arith) }
-caused-scan R N Filled hand store filled = record { fault = λ e. absurd (omega arith); usage = λ e. omega arith; bad_row = λ e. omega arith; not_built = λ e. filled refl }
-caused-scan R N (Unlisted fault) hand store filled = caused-walk R N fault hand
-caused-scan R N Unread hand store filled = record { fault = λ e. hand refl; usage = λ e. omega arith; bad_row = λ e. omega arith; not_built = λ e. absurd (omega arith) }
-caused-scan R N (Altered name met) hand store filled = caused-met R N 4 (λ e. omega arith) (λ e. omega arith) (λ e. omega arith) (λ e. omega arith)
-caused-scan R N Unkept hand store filled = record { fault = λ e. store refl; usage = λ e. omega arith; bad_row = λ e. omega arith; not_built = λ e. absurd (omega arith) }
-caused-scan R N Full hand store filled = caused-met R N 5 (λ e. omega arith) (λ e. omega arith) (λ e. omega arith) (λ e. omega arith)
-caused-scan R N OutOfMemory hand store filled = caused-met R N 6 (λ e. omega arith) (λ e. omega arith) (λ e. omega arith) (λ e. omega arith)
-caused-scan R N (Whole summary) hand store filled = caused-met R N 0 (λ e. omega arith) (λ e. omega arith) (λ e. omega arith) (λ e. omega arith)
-
--- where nothing is to be said on the standard output, the status is the saying's
-silent-code : (saying : Saying) (old new : Streams) (code : ℕ) → saying.out ≡ [] → Ends saying old new code → code ≡ code_of saying.status
-silent-code saying old new code silent (inl whole) = whole.ends
-silent-code saying old new code silent (inr cut) = let some = cut.some in absurd (let same : length saying.out ≡ 0 = ap length silent in omega arith)
-
--- what is known of the causes of each line's status
-pub causes-run : (s : Setting) (line : Line) (before after : Hand) (kept now : Stock) (old new : Streams) (code : ℕ)
-    → Runs s line before after kept now old new code → HasCauses s line before after kept now old new code
-causes-run s (asks_ident path) before after kept now old new code run =
-    let caused : IsCaused (Rose before.faults after.faults ⊎ Rose old.out_faults new.out_faults) ⊥ code
-    = caused-ident _ _ path run.does.answer old new code (λ f. inl (run.does.cause.rose f)) (λ r. inr r) run.does.said in
-    record {
-      fault = caused.fault;
-      usage = (λ e. absurd (caused.usage e), λ e. absurd (cc));
-      bad_row = caused.bad_row;
-      not_built = caused.not_built;
-      always = λ e. absurd (cc);
-    }
-causes-run s (asks_section path name) before after kept now old new code run =
-    let caused : IsCaused (Rose before.faults after.faults ⊎ Rose old.out_faults new.out_faults) ⊥ code
-    = caused-named _ _ path name run.does.answer old new code (λ f. inl (run.does.cause.rose f)) (λ r. inr r) run.does.said in
-    record {
-      fault = caused.fault;
-      usage = (λ e. absurd (caused.usage e), λ e. absurd (cc));
-      bad_row = caused.bad_row;
-      not_built = caused.not_built;
-      always = λ e. absurd (cc);
-    }
-causes-run s (asks_scan store roots) before after kept now old new code run =
-    let caused : IsCaused (Rose before.faults after.faults ⊎ (Rose kept.faults now.faults ⊎ Rose old.out_faults new.out_faults))
-    (IsTrue s.tells_tables → kept.holding.tables ≢ []) code
-    = caused-wants _ _ (scan_saying run.end) old new code
-    (caused-scan _ _ run.end (λ f. inl (run.scans.hand.rose f)) (λ f. inr (inl (run.scans.store.rose f)))
-    (λ e. (subst (λ (end : ScanEnd). EndsBy s roots before after kept.holding now.holding end) e run.scans.ends).filled)) (λ r. inr (inr r)) run.said in
-    record {
-      fault = caused.fault;
-      usage = (λ e. absurd (caused.usage e), λ e. absurd (cc));
-      bad_row = caused.bad_row;
-      not_built = caused.not_built;
-      always = λ e. absurd (cc);
-    }
-causes-run s unbuilt before after kept now old new code run =
-    let eight : code ≡ 8 = silent-code _ old new code refl run.does.says in
-    record {
-      fault = λ e. omega arith;
-      usage = (λ e. absurd (omega arith), λ e. absurd (cc));
-      bad_row = λ e. omega arith;
-      not_built = λ e. tt;
-      always = λ e. eight;
-    }
-causes-run s unreadable before after kept now old new code run =
-    let two : code ≡ 2 = silent-code _ old new code refl run.does.says in
-    record {
-      fault = λ e. omega arith;
-      usage = (λ e. refl, λ e. two);
-      bad_row = λ e. omega arith;
-      not_built = λ e. omega arith;
-      always = λ e. absurd (cc);
-    }
+-- how a scan ends when, if the line asks for one
+pub if_scan : (s : Setting) (line : Line) (before after : Scene) (end : Status) → Runs s line before after end
+    → IfScan s line before after end
+if_scan s (asks_scan path roots) before after end run = record {
+  filled = λ tells some.
+      by_end (IsTurnedAway before.store after.store) run.end before.streams after.streams end (λ _. turned_away s before after run.end tells some run.scans) tt
+      (λ summary whole _.
+      absurd (some ((subst (λ (how : ScanEnd). EndsBy s roots before.hand after.hand before.store after.store how) whole run.scans.ends).keeps.empty tells)))
+      run.said;
+  complete = λ free.
+      by_end IsComplete run.end before.streams after.streams end (λ _. complete s before after run.end free run.scans) tt
+      (λ summary whole rose. absurd (free.faultless (inr rose))) run.said;
+}
+if_scan s _ before after end run = tt

@@ -1,9 +1,9 @@
 pub mod AlteredLemmas
 pub mod CauseLemmas
+pub mod Codes
+pub mod Heard
 pub mod ReadLemmas
 pub mod RootLemmas
-pub mod SaidLemmas
-pub mod ScanCauseLemmas
 pub mod ScanEnds
 pub mod ScanFiles
 pub mod ScanLemmas
@@ -12,4 +12,3 @@ pub mod ScanPass
 pub mod ScanState
 pub mod ScanStore
 pub mod ScanWhole
-pub mod SinkLemmas

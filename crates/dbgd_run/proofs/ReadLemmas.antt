@@ -9,7 +9,7 @@ use Rattle.row_types.specs.declared.limits.TheConstants.{EDITION, FILE_LIMIT}
 use Rattle.row_types.specs.declared.reading.Reading.{Reading}
 use Rattle.row_types.specs.declared.reading.Reading.TheVariants.{Plain}
 use Rattle.row_types.proofs.TrueRowLemmas.{name_read}
-use Rattle.tree_trait.specs.Found.{FoundFacts, IsFound}
+use Rattle.tree_trait.specs.Found.{FoundFacts, IsFound, Versions}
 
 -- what the bytes of a file that isn't too large are found to be is its reading
 pub reads_within : (stamp : StampFacts) (bytes : List ℕ) (reading : Reading) → stamp.size ≤ FILE_LIMIT → ReadsBytes bytes reading
@@ -18,7 +18,7 @@ reads_within stamp bytes reading small reads =
     subst (λ (b : Bool). MatchBool b (reading ≡ Plain TooLarge) (ReadsBytes bytes reading)) (sym (le-ltb FILE_LIMIT stamp.size small)) reads
 
 -- the row of a file that was found under its name is true
-pub found_is_true : (version : List ℕ → StampFacts → List ℕ → Type 0) (name : NameFacts) (found : FoundFacts) (reading : Reading)
+pub found_is_true : (version : Versions) (name : NameFacts) (found : FoundFacts) (reading : Reading)
     → found.path ≡ name.path → found.stamp ≡ name.stamp → name.stamp.size ≤ FILE_LIMIT → IsFound version found → ReadsBytes found.bytes reading
     → IsTrueRow version (record { name = name; edition = EDITION; reading = reading })
 found_is_true version name found reading path stamp small known reads = record {
@@ -29,3 +29,5 @@ found_is_true version name found reading path stamp small known reads = record {
   where
     at_name : version found.path found.stamp found.bytes → version name.path name.stamp found.bytes
     at_name h = subst (λ (s : StampFacts). version name.path s found.bytes) stamp (subst (λ (p : List ℕ). version p found.stamp found.bytes) path h)
+
+pub ruleset rows_read = (found_is_true, reads_within)

@@ -1,5 +1,6 @@
 -- Words that name folders.
-use Rattle.std.proofs.Common.{◌≡◌, ℕ, ◌<◌, suc, zero, true, List, [], ◌∷◌, map, length, get_or, arith}
+use Rattle.std.proofs.Common.{◌≡◌, ℕ, ◌<◌, suc, zero, true, List, [], ◌∷◌, map, length, get_or}
+use Rattle.std.proofs.Common.{arith}
 use Rattle.std.specs.List.{list_all}
 use Rattle.std.specs.Prelude.{String}
 use Rattle.std.specs.String.{string_bytes}

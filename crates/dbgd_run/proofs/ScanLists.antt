@@ -8,7 +8,7 @@ use Rattle.row_types.specs.Name.{NameFacts, same_name}
 use Rattle.row_types.specs.Row.{RowFacts}
 use Rattle.scan_queue.specs.Names.{without}
 use Rattle.scan_queue.proofs.NameTests.{path_differs, same_name-Decides}
-use Rattle.index_rows.specs.Rows.{path_of, with_row}
+use Rattle.index_rows.specs.Rows.{row_path, with_row}
 use Rattle.index_rows.proofs.Lists.{filter_all, filter_none, first_related, rest_related}
 use Rattle.index_rows.proofs.PathLemmas.{fails_after, tests_before}
 
@@ -16,6 +16,11 @@ use Rattle.index_rows.proofs.PathLemmas.{fails_after, tests_before}
 all_mid : {X : Type 0} (P : X → Type 0) (xs : List X) (y : X) (ys : List X) → All P (xs ++ y ∷ ys) → P y
 all_mid P [] y ys h = All-head P y ys h
 all_mid P (x ∷ xs) y ys h = all_mid P xs y ys (All-tail P x (xs ++ y ∷ ys) h)
+
+-- what holds of each holds of those in front
+pub all_front : {X : Type 0} (P : X → Type 0) (xs ys : List X) → All P (xs ++ ys) → All P xs
+all_front P [] ys h = All-nil P
+all_front P (x ∷ xs) ys h = All-cons P x xs (All-head P x (xs ++ ys) h) (all_front P xs ys (All-tail P x (xs ++ ys) h))
 
 -- each element in front is related to the one in the middle
 pub pairs_before : {X : Type 0} (R : X → X → Type 0) (xs : List X) (y : X) (ys : List X) → AllPairs R (xs ++ y ∷ ys) → All (λ x. R x y) xs
@@ -47,12 +52,12 @@ without_itself name = rw (same_itself name) refl
 -- a row that stands after all others comes last
 pub put_last : (row : RowFacts) (rows : List RowFacts) → All (λ other. IsBefore other.name.path row.name.path) rows → with_row row rows ≡ rows ++ row ∷ []
 put_last row rows h =
-    let front : filter (λ other. is_before (path_of other) (path_of row)) rows ≡ rows
-    = filter_all (λ other. is_before (path_of other) (path_of row)) rows
-    (All-weaker (λ (other : RowFacts). IsBefore other.name.path row.name.path) (λ other. is_before (path_of other) (path_of row) ≡ true)
+    let front : filter (λ other. is_before (row_path other) (row_path row)) rows ≡ rows
+    = filter_all (λ other. is_before (row_path other) (row_path row)) rows
+    (All-weaker (λ (other : RowFacts). IsBefore other.name.path row.name.path) (λ other. is_before (row_path other) (row_path row) ≡ true)
     (λ other before. tests_before other.name.path row.name.path before) rows h) in
-    let back : filter (λ other. is_before (path_of row) (path_of other)) rows ≡ []
-    = filter_none (λ other. is_before (path_of row) (path_of other)) rows
-    (All-weaker (λ (other : RowFacts). IsBefore other.name.path row.name.path) (λ other. is_before (path_of row) (path_of other) ≡ false)
+    let back : filter (λ other. is_before (row_path row) (row_path other)) rows ≡ []
+    = filter_none (λ other. is_before (row_path row) (row_path other)) rows
+    (All-weaker (λ (other : RowFacts). IsBefore other.name.path row.name.path) (λ other. is_before (row_path row) (row_path other) ≡ false)
     (λ other before. fails_after other.name.path row.name.path before) rows h) in
-    ap (λ xs. xs ++ row ∷ filter (λ other. is_before (path_of row) (path_of other)) rows) front ∙ ap (λ xs. rows ++ row ∷ xs) back
+    ap (λ xs. xs ++ row ∷ filter (λ other. is_before (row_path row) (row_path other)) rows) front ∙ ap (λ xs. rows ++ row ∷ xs) back

@@ -1,11 +1,11 @@
--- What a command says, and how it ends (this project's rule).
-use Rattle.std.specs.Prelude.{◌≡◌, ◌⊎◌, ℕ, ◌<◌, ◌≤◌, List, [], Option, length}
-use Rattle.row_types.specs.Faults.{Rose}
-use Rattle.dbgd_run.specs.Sink.{Appends, WritesPart}
-use Rattle.dbgd_run.specs.Statuses.{code_of}
-use Rattle.dbgd_run.specs.Texts.{output_fault_line, no_memory_line}
+-- What a command says on its two sinks, and how it ends (this project's rule).
+use Rattle.std.specs.Prelude.{◌≡◌, ◌⊎◌, ℕ, List, [], ◌++◌, codes}
+use Rattle.http_wire.specs.Sink.{GetsAll, GetsPart}
+use Rattle.http_wire.specs.Stream.{ShownStream}
+use Rattle.dbgd_run.specs.Texts.{line}
 use Rattle.dbgd_run.specs.declared.status.Status.{Status}
-use Rattle.dbgd_run.specs.declared.status.Status.TheVariants.{Fault, OutOfMemory}
+use Rattle.dbgd_run.specs.declared.status.Status.TheVariants.{Fault, Absent, Limit, OutOfMemory}
+use Rattle.dbgd_run.specs.declared.status.Status.TheVariants.{NotBuilt}
 
 -- what is to be written on the standard output and on the standard error, and the status
 pub record Saying : Type 0 where
@@ -13,53 +13,63 @@ pub record Saying : Type 0 where
   pub err : List ℕ
   pub status : Status
 
--- what the two sinks have got at a moment, and their counts of faults
+-- bytes on the standard output alone
+abbrev pub out_saying : List ℕ → Status → Saying
+out_saying bytes status = record { out = bytes; err = []; status = status }
+
+-- a line on the standard error alone
+abbrev pub error_saying : List ℕ → Status → Saying
+error_saying text status = record { out = []; err = line text; status = status }
+
+-- of a failed call of an object of the outside
+abbrev pub fault_saying : List ℕ → Saying
+fault_saying what = error_saying (codes "dbgd: fault " ++ what) Fault
+
+-- of a limit that was met
+abbrev pub limit_saying : List ℕ → Saying
+limit_saying what = error_saying (codes "dbgd: limit " ++ what) Limit
+
+-- where no regular file or no folder is
+abbrev pub gone_saying : List ℕ → Saying
+gone_saying path = error_saying (codes "dbgd: gone " ++ path) Absent
+
+-- where memory was refused
+abbrev pub no_memory_saying : Saying
+no_memory_saying = error_saying (codes "dbgd: out of memory") OutOfMemory
+
+-- of what isn't built yet
+abbrev pub not_built_saying : Saying
+not_built_saying = error_saying (codes "dbgd: not built yet") NotBuilt
+
+-- what the two sinks show at a moment
 pub record Streams : Type 0 where
-  pub out : Option (List ℕ)
-  pub out_faults : ℕ
-  pub err : Option (List ℕ)
-  pub err_faults : ℕ
+  pub out : ShownStream
+  pub err : ShownStream
 
--- the streams of these two sinks, by what each tells and by its count
-abbrev pub streams : {O : Type 0} → (O → Option (List ℕ)) → (O → ℕ) → O → O → Streams
-streams written faults out err =
-    record { out = written out; out_faults = faults out; err = written err; err_faults = faults err }
+-- what these two sinks show
+abbrev pub streams : {O : Type 0} → (O → ShownStream) → O → O → Streams
+streams shows out err = record { out = shows out; err = shows err }
 
--- a sink got all of the text; or a proper prefix of it, and its count rose
-abbrev pub Gets : List ℕ → Option (List ℕ) → Option (List ℕ) → ℕ → ℕ → Type 0
-Gets text old new before now =
-    (Appends old text new × (before ≤ now)) ⊎ (WritesPart old text new × Rose before now)
+-- a sink got all of the bytes; or a proper prefix of them, and its count rose
+abbrev pub Gets : List ℕ → ShownStream → ShownStream → Type 0
+Gets bytes before after = GetsAll bytes before after ⊎ GetsPart bytes before after
 
--- the standard error got the text, or a proper prefix where its count rose
-abbrev pub ErrGets : List ℕ → Streams → Streams → Type 0
-ErrGets text old new = Gets text old.err new.err old.err_faults new.err_faults
+-- the standard output got all that was to be said, and the command ends as it says
+pub record EndsWhole (saying : Saying) (old new : Streams) (status : Status) : Type 0 where
+  pub ends : status ≡ saying.status
+  pub out : GetsAll saying.out old.out new.out
+  pub err : Gets saying.err old.err new.err
 
--- all was said, and the command ends as it says
-pub record EndsWhole (saying : Saying) (old new : Streams) (code : ℕ) : Type 0 where
-  pub ends : code ≡ code_of saying.status
-  pub out : Appends old.out saying.out new.out
-  pub out_later : old.out_faults ≤ new.out_faults
-  pub err : ErrGets saying.err old new
-
--- a write to the standard output failed: it got a proper prefix of what was to be said
-pub record EndsCut (saying : Saying) (old new : Streams) (code : ℕ) : Type 0 where
-  pub ends : code ≡ code_of Fault
-  pub some : 0 < length saying.out
-  pub out : WritesPart old.out saying.out new.out
-  pub out_rose : Rose old.out_faults new.out_faults
-  pub err : ErrGets output_fault_line old new
-
--- memory was refused before anything was written
-pub record EndsUnsaid (old new : Streams) (code : ℕ) : Type 0 where
-  pub ends : code ≡ code_of OutOfMemory
-  pub out : Appends old.out [] new.out
-  pub out_later : old.out_faults ≤ new.out_faults
-  pub err : ErrGets no_memory_line old new
+-- a write to the standard output failed: it got a proper prefix of what was to be said, and that is said in its place
+pub record EndsCut (saying : Saying) (old new : Streams) (status : Status) : Type 0 where
+  pub ends : status ≡ Fault
+  pub out : GetsPart saying.out old.out new.out
+  pub err : Gets (fault_saying (codes "output")).err old.err new.err
 
 -- what is to be said was said, or as much of it as the standard output took
-abbrev pub Ends : Saying → Streams → Streams → ℕ → Type 0
-Ends saying old new code = EndsWhole saying old new code ⊎ EndsCut saying old new code
+abbrev pub Ends : Saying → Streams → Streams → Status → Type 0
+Ends saying old new status = EndsWhole saying old new status ⊎ EndsCut saying old new status
 
--- the same, or want of memory
-abbrev pub EndsOrWants : Saying → Streams → Streams → ℕ → Type 0
-EndsOrWants saying old new code = Ends saying old new code ⊎ EndsUnsaid old new code
+-- memory was refused before anything was written, and that is said
+abbrev pub WantsMemory : Streams → Streams → Status → Type 0
+WantsMemory old new status = EndsWhole no_memory_saying old new status

@@ -1,28 +1,34 @@
 -- The command `ident` (this project's rule): what it says of a file, by what the load of it answered.
-use Rattle.std.specs.Prelude.{ℕ, List, [], Result, Ok, Err}
+use Rattle.std.specs.Prelude.{◌⊎◌, ℕ, List, Result, Ok, Err, codes}
 use Rattle.file_formats.specs.Identity.{Identity, IsIdentity}
 use Rattle.file_formats.specs.declared.fault.Why.{Why}
 use Rattle.file_formats.specs.declared.fault.Why.TheVariants.{TooLarge}
 use Rattle.tree_trait.specs.Load.{LoadFacts, loaded, too_large, gone, failed, no_memory}
-use Rattle.dbgd_run.specs.Endings.{Saying, Streams, Ends, EndsOrWants}
-use Rattle.dbgd_run.specs.Load.{gone_saying, fault_saying, no_memory_saying}
+use Rattle.dbgd_run.specs.Endings.{Ends, EndsWhole, Saying, Streams, WantsMemory, fault_saying}
+use Rattle.dbgd_run.specs.Endings.{gone_saying, out_saying}
 use Rattle.dbgd_run.specs.Texts.{identity_line, plain_line}
+use Rattle.dbgd_run.specs.declared.status.Status.{Status}
 use Rattle.dbgd_run.specs.declared.status.Status.TheVariants as status
 
--- of a file without an identity: the reason, on the standard output
-abbrev pub plain_saying : Why → Saying
-plain_saying why = record { out = plain_line why; err = []; status = status.Absent }
+-- of a file with an identity: its line
+abbrev pub identity_saying : Identity → Saying
+identity_saying i = out_saying (identity_line i) status.Done
 
--- of a file that was read, by its identity
-abbrev pub file_saying : Result Identity Why → Saying
-file_saying (Ok i) = record { out = identity_line i; err = []; status = status.Done }
-file_saying (Err why) = plain_saying why
+-- of a file without one: the reason, on the standard output
+abbrev pub plain_saying : Why → Saying
+plain_saying why = out_saying (plain_line why) status.Absent
+
+-- what is said of a file that was read: the line of an identity takes memory, that of a plain file none
+abbrev pub SaysFile : Result Identity Why → Streams → Streams → Status → Type 0
+SaysFile (Ok i) old new end = Ends (identity_saying i) old new end ⊎ WantsMemory old new end
+SaysFile (Err why) old new end = Ends (plain_saying why) old new end
 
 -- what is said of the file at a path, by what its load answered
-abbrev pub SaysIdent : List ℕ → LoadFacts → Streams → Streams → ℕ → Type 0
-SaysIdent path (loaded found) old new code =
-    (identity : Result Identity Why) × IsIdentity found.bytes identity × EndsOrWants (file_saying identity) old new code
-SaysIdent path (too_large stamp) old new code = Ends (plain_saying TooLarge) old new code
-SaysIdent path gone old new code = Ends (gone_saying path) old new code
-SaysIdent path failed old new code = Ends fault_saying old new code
-SaysIdent path no_memory old new code = Ends no_memory_saying old new code
+abbrev pub SaysIdent : List ℕ → LoadFacts → Streams → Streams → Status → Type 0
+SaysIdent path (loaded found) old new end =
+    (identity : Result Identity Why) × IsIdentity found.bytes identity
+    × SaysFile identity old new end
+SaysIdent path (too_large stamp) old new end = Ends (plain_saying TooLarge) old new end
+SaysIdent path gone old new end = EndsWhole (gone_saying path) old new end
+SaysIdent path failed old new end = EndsWhole (fault_saying (codes "file")) old new end
+SaysIdent path no_memory old new end = WantsMemory old new end

@@ -1,5 +1,6 @@
 -- The line that a reader of words gives.
-use Rattle.dbgd_run.specs.Words.{Line as Asked, asks_ident, asks_section, asks_scan, unbuilt, unreadable}
+use Rattle.dbgd_run.specs.Words.{Line as Asked, asks_ident, asks_section, asks_scan, unbuilt}
+use Rattle.dbgd_run.specs.Words.{unreadable}
 use Rattle.dbgd_run.specs.declared.words.Line.{Line}
 use Rattle.dbgd_run.specs.declared.words.Line.TheVariants.{Ident, Section, Scan, NotBuilt, Usage}
 

@@ -1,36 +1,39 @@
 -- The command `scan` (this project's rule): the store is opened, the folders are walked, and the listed files are read
 -- and their rows kept, in path order, up to the first that isn't as it was listed. The store holds what was kept,
 -- however the scan ended.
-use Rattle.std.specs.Prelude.{◌≡◌, ◌≢◌, ◌⊎◌, ℕ, ◌≤◌, Bool, true, List, [], ◌∷◌, ◌++◌, map, length, All, IsTrue, Ok, Err}
+use Rattle.std.specs.Prelude.{◌≡◌, ◌≢◌, ◌⊎◌, ℕ, ◌≤◌, true, List, [], ◌∷◌, ◌++◌, map, length, All}
+use Rattle.std.specs.Prelude.{IsTrue, Err}
 use Rattle.row_types.specs.Faults.{HasCause, Rose}
 use Rattle.row_types.specs.Name.{NameFacts}
 use Rattle.row_types.specs.Row.{RowFacts, too_large_row}
-use Rattle.row_types.specs.Stamp.{StampFacts}
+use Rattle.row_types.specs.Rules.{Rules}
 use Rattle.row_types.specs.declared.limits.TheConstants.{FILE_LIMIT}
 use Rattle.scan_queue.specs.declared.miss.Seen.{Seen}
 use Rattle.scan_queue.specs.declared.miss.Seen.TheVariants as seen
-use Rattle.index_rows.specs.Rows.{names_of}
-use Rattle.tree_trait.specs.Heard.{Heard, load}
-use Rattle.tree_trait.specs.Load.{LoadFacts, loaded, too_large, gone, failed, no_memory, FitsLoad}
-use Rattle.tree_walk.specs.Answers.{with_answers}
-use Rattle.tree_walk.specs.Ends.{Walks}
-use Rattle.tree_walk.specs.Files.{AreFilesUnder, FitsFault, IsTold}
-use Rattle.tree_walk.specs.declared.fault.WalkFault.{WalkFault}
-use Rattle.tree_walk.specs.declared.walked.Walk.{Walk}
+use Rattle.index_keeper.specs.Store.{ShownStore, with_path}
+use Rattle.index_rows.specs.Rows.{row_names}
 use Rattle.index_state.specs.Complete.{IsScan}
 use Rattle.index_state.specs.Plan.{plan_of}
-use Rattle.dbgd_run.specs.Endings.{Streams, EndsOrWants}
-use Rattle.dbgd_run.specs.Load.{Hand}
+use Rattle.tree_trait.specs.Asks.{IsTold}
+use Rattle.tree_trait.specs.Found.{Versions}
+use Rattle.tree_trait.specs.Heard.{Heard, load, with_answers}
+use Rattle.tree_trait.specs.Load.{LoadFacts, loaded, too_large, gone, failed, FitsLoad}
+use Rattle.tree_trait.specs.Shown.{ShownTree}
+use Rattle.tree_walk.specs.Ends.{IsWhole, Walks}
+use Rattle.tree_walk.specs.Files.{AreFilesUnder, FitsFault}
+use Rattle.tree_walk.specs.declared.fault.WalkFault.{WalkFault}
+use Rattle.tree_walk.specs.declared.walked.Walk.{Walk}
+use Rattle.dbgd_run.specs.Kept.{HasKept, HasTorn, KeepsAll}
 use Rattle.dbgd_run.specs.Numbers.{summary_of}
 use Rattle.dbgd_run.specs.Read.{IsRowOf}
-use Rattle.row_types.specs.Rules.{Rules}
-use Rattle.dbgd_run.specs.Setting.{Setting, TellsStill}
-use Rattle.dbgd_run.specs.Store.{Holding, Stock}
+use Rattle.dbgd_run.specs.ScanSaid.{SaysEnd, is_hand_fault, is_open, is_store_fault}
+use Rattle.dbgd_run.specs.Scene.{LeavesHand, Scene, Setting, TellsStill}
 use Rattle.dbgd_run.specs.declared.scan_end.ScanEnd.{ScanEnd}
-use Rattle.dbgd_run.specs.declared.scan_end.ScanEnd.TheVariants.{Unopened, Filled, Unlisted, Unread, Altered, Unkept, Full, OutOfMemory, Whole}
+use Rattle.dbgd_run.specs.declared.scan_end.ScanEnd.TheVariants.{Unopened, Filled, Unlisted, Unread}
+use Rattle.dbgd_run.specs.declared.scan_end.ScanEnd.TheVariants.{Altered, Unkept, OutOfMemory}
+use Rattle.dbgd_run.specs.declared.scan_end.ScanEnd.TheVariants.{Whole}
+use Rattle.dbgd_run.specs.declared.status.Status.{Status}
 use Rattle.dbgd_run.specs.declared.summary.Summary.{Summary}
-use Rattle.dbgd_run.specs.Kept.{HasKept, HasTorn, KeepsAll}
-use Rattle.dbgd_run.specs.ScanSaid.{is_hand_fault, is_open, is_store_fault, scan_saying}
 
 -- a listed file that was read: its name, what its load answered, and its row
 pub record FileRead : Type 0 where
@@ -42,20 +45,17 @@ pub record FileRead : Type 0 where
 abbrev pub Reads : NameFacts → LoadFacts → RowFacts → Type 0
 Reads name (loaded found) row = (found.stamp ≡ name.stamp) × IsRowOf name found.bytes row
 Reads name (too_large stamp) row = (stamp ≡ name.stamp) × (row ≡ too_large_row name)
-Reads name gone row = ⊥
-Reads name failed row = ⊥
-Reads name no_memory row = ⊥
+Reads name _ row = ⊥
 
 -- the load found this in place of the file that was listed
 abbrev pub FindsOther : NameFacts → LoadFacts → Seen → Type 0
 FindsOther name (loaded found) met = (found.stamp ≢ name.stamp) × (met ≡ seen.File found.stamp)
 FindsOther name (too_large stamp) met = (stamp ≢ name.stamp) × (met ≡ seen.File stamp)
 FindsOther name gone met = met ≡ seen.Gone
-FindsOther name failed met = ⊥
-FindsOther name no_memory met = ⊥
+FindsOther name _ met = ⊥
 
 -- the file was read
-pub record IsFileRead (version : List ℕ → StampFacts → List ℕ → Type 0) (file : FileRead) : Type 0 where
+pub record IsFileRead (version : Versions) (file : FileRead) : Type 0 where
   pub asked : FitsLoad version file.name.path FILE_LIMIT file.answer
   pub read : Reads file.name file.answer file.row
 
@@ -75,28 +75,27 @@ load_of name answer = load name.path FILE_LIMIT answer
 abbrev pub loads_read : List FileRead → List Heard
 loads_read files = map (λ file. load_of file.name file.answer) files
 
--- the files were loaded and read, in the listing's order; these names are left of it, and this was heard last
-pub record LoadsFiles (version : List ℕ → StampFacts → List ℕ → Type 0) (Still : Type 0) (listing : List NameFacts) (before after : Hand) (files : List FileRead) (left : List NameFacts) (last : List Heard) : Type 0 where
-  pub listed : listing ≡ names_read files ++ left
-  pub read : All (IsFileRead version) files
-  pub heard : after.heard ≡ with_answers before.heard (loads_read files ++ last)
-  pub told : Still → All (IsTold before.present) (loads_read files ++ last)
-
--- the walk was whole, and then the files of its listing were loaded and read; of a hand that tells files which never
--- change, these are the files under the roots
-pub record ReadsFiles (s : Setting) (roots : List (List ℕ)) (before after : Hand) (files : List FileRead) (left : List NameFacts) (last : List Heard) : Type 0 where
+-- the walk was whole, and then the files of its listing were loaded and read, in its order; these names are left of it,
+-- and this was heard last; of a hand that tells files which never change, these are the files under the roots
+pub record ReadsFiles (s : Setting) (roots : List (List ℕ)) (before after : ShownTree)
+    (files : List FileRead) (left : List NameFacts) (last : List Heard) : Type 0 where
   pub walk : Walk
-  pub between : Hand
-  pub walks : Walks before.heard between.heard (TellsStill s) before.present roots (Ok walk)
-  pub still : TellsStill s → between.present ≡ before.present
-  pub under : TellsStill s → AreFilesUnder before.present roots walk.listing
-  pub loads : LoadsFiles s.world.version (TellsStill s) walk.listing between after files left last
+  pub walked : List Heard
+  pub whole : IsWhole walked roots walk
+  pub listed : walk.listing ≡ names_read files ++ left
+  pub read : All (IsFileRead s.world.version) files
+  pub heard : after.heard ≡ with_answers before.heard (walked ++ (loads_read files ++ last))
+  pub told :
+      TellsStill s.tells_files before
+      → All (IsTold before.present) (walked ++ (loads_read files ++ last))
+  pub under : TellsStill s.tells_files before → AreFilesUnder before.present roots walk.listing
 
 -- the ends of a scan whose walk was whole. Read says which files were read, which names are left, and what was heard
 -- last; Kept, which rows the store has kept
 
 -- the load of the next file failed
-pub record EndsUnread (Read : List FileRead → List NameFacts → List Heard → Type 0) (Kept : List RowFacts → Type 0) : Type 0 where
+pub record EndsUnread (Read : List FileRead → List NameFacts → List Heard → Type 0)
+    (Kept : List RowFacts → Type 0) : Type 0 where
   pub files : List FileRead
   pub name : NameFacts
   pub left : List NameFacts
@@ -104,7 +103,8 @@ pub record EndsUnread (Read : List FileRead → List NameFacts → List Heard �
   pub keeps : Kept (rows_read files)
 
 -- the next file was another by the time that it was loaded
-pub record EndsAltered (Read : List FileRead → List NameFacts → List Heard → Type 0) (Kept : List RowFacts → Type 0) (name : NameFacts) (met : Seen) : Type 0 where
+pub record EndsAltered (Read : List FileRead → List NameFacts → List Heard → Type 0)
+    (Kept : List RowFacts → Type 0) (name : NameFacts) (met : Seen) : Type 0 where
   pub files : List FileRead
   pub answer : LoadFacts
   pub left : List NameFacts
@@ -113,7 +113,9 @@ pub record EndsAltered (Read : List FileRead → List NameFacts → List Heard �
   pub keeps : Kept (rows_read files)
 
 -- the next file was read, and the store failed to keep its row
-pub record EndsUnkept (version : List ℕ → StampFacts → List ℕ → Type 0) (Read : List FileRead → List NameFacts → List Heard → Type 0) (Torn : List RowFacts → RowFacts → Type 0) : Type 0 where
+pub record EndsUnkept (version : Versions)
+    (Read : List FileRead → List NameFacts → List Heard → Type 0)
+    (Torn : List RowFacts → RowFacts → Type 0) : Type 0 where
   pub files : List FileRead
   pub last : FileRead
   pub left : List NameFacts
@@ -122,7 +124,9 @@ pub record EndsUnkept (version : List ℕ → StampFacts → List ℕ → Type 0
   pub tears : Torn (rows_read files) last.row
 
 -- memory was refused before the next file was loaded, or for the row of the file that was read last
-pub record EndsWanting (version : List ℕ → StampFacts → List ℕ → Type 0) (Read : List FileRead → List NameFacts → List Heard → Type 0) (Kept : List RowFacts → Type 0) : Type 0 where
+pub record EndsWanting (version : Versions)
+    (Read : List FileRead → List NameFacts → List Heard → Type 0)
+    (Kept : List RowFacts → Type 0) : Type 0 where
   pub files : List FileRead
   pub last : List FileRead
   pub left : List NameFacts
@@ -133,67 +137,80 @@ pub record EndsWanting (version : List ℕ → StampFacts → List ℕ → Type 
 
 -- each listed file was read and its row kept: the rows are true and have the listed names; in a told world they are one
 -- scan of the listing. The numbers are those of the plan against the rows before, of which there were none
-pub record EndsScanned (true_row : RowFacts → Type 0) (world_told : Bool) (Read : List FileRead → List NameFacts → List Heard → Type 0) (Kept : List RowFacts → Type 0) (summary : Summary) : Type 0 where
+pub record EndsScanned (world : Rules) (Read : List FileRead → List NameFacts → List Heard → Type 0)
+    (Kept : List RowFacts → Type 0) (summary : Summary) : Type 0 where
   pub files : List FileRead
   pub reads : Read files [] []
   pub keeps : Kept (rows_read files)
-  pub names : names_of (rows_read files) ≡ names_read files
-  pub holds : All true_row (rows_read files)
-  pub scan : world_told ≡ true → IsScan true_row (names_read files) (rows_read files)
+  pub names : row_names (rows_read files) ≡ names_read files
+  pub holds : All world.true_row (rows_read files)
+  pub scan : world.told ≡ true → IsScan world.true_row (names_read files) (rows_read files)
   pub numbers : summary ≡ summary_of (plan_of (names_read files) []) (rows_read files)
 
 -- how the scan of an open store came to its end; Walk says it of a walk that ended with a fault. A log that was empty has
 -- room for a whole listing
-abbrev pub EndsOpen : Rules → (WalkFault → Type 0) → (List FileRead → List NameFacts → List Heard → Type 0) → (List RowFacts → Type 0)
-    → (List RowFacts → RowFacts → Type 0) → ScanEnd → Type 0
-EndsOpen r Walk Read Kept Torn Unopened = ⊥
-EndsOpen r Walk Read Kept Torn Filled = ⊥
-EndsOpen r Walk Read Kept Torn (Unlisted fault) = Walk fault
-EndsOpen r Walk Read Kept Torn Unread = EndsUnread Read Kept
-EndsOpen r Walk Read Kept Torn (Altered name met) = EndsAltered Read Kept name met
-EndsOpen r Walk Read Kept Torn Unkept = EndsUnkept r.version Read Torn
-EndsOpen r Walk Read Kept Torn Full = ⊥
-EndsOpen r Walk Read Kept Torn OutOfMemory = EndsWanting r.version Read Kept
-EndsOpen r Walk Read Kept Torn (Whole summary) = EndsScanned r.true_row r.told Read Kept summary
+abbrev pub EndsOpen : Rules → (WalkFault → Type 0)
+    → (List FileRead → List NameFacts → List Heard → Type 0)
+    → (List RowFacts → Type 0) → (List RowFacts → RowFacts → Type 0) → ScanEnd → Type 0
+EndsOpen world Walk Read Kept Torn (Unlisted fault) = Walk fault
+EndsOpen world Walk Read Kept Torn Unread = EndsUnread Read Kept
+EndsOpen world Walk Read Kept Torn (Altered name met) = EndsAltered Read Kept name met
+EndsOpen world Walk Read Kept Torn Unkept = EndsUnkept world.version Read Torn
+EndsOpen world Walk Read Kept Torn OutOfMemory = EndsWanting world.version Read Kept
+EndsOpen world Walk Read Kept Torn (Whole summary) = EndsScanned world Read Kept summary
+EndsOpen world Walk Read Kept Torn _ = ⊥
 
 -- the walk ended with a fault, which files that never change explain, and nothing was kept
-pub record EndsInWalk (s : Setting) (roots : List (List ℕ)) (before after : Hand) (old new : Holding) (fault : WalkFault) : Type 0 where
-  pub walks : Walks before.heard after.heard (TellsStill s) before.present roots (Err fault)
-  pub fits : TellsStill s → FitsFault before.present roots fault
-  pub keeps : HasKept s old new []
+pub record EndsInWalk (s : Setting) (roots : List (List ℕ)) (before after : ShownTree)
+    (old new : ShownStore) (fault : WalkFault) : Type 0 where
+  pub walks : Walks s.tells_files before after roots (Err fault)
+  pub fits : TellsStill s.tells_files before → FitsFault before.present roots fault
+  pub keeps : HasKept s.tells_tables old new []
 
 -- the scan ended before a folder was looked at
-pub record EndsEarly (s : Setting) (before after : Hand) (old new : Holding) : Type 0 where
-  pub hand : after ≡ before
-  pub keeps : KeepsAll s old new
+pub record EndsEarly (s : Setting) (before after : ShownTree) (old new : ShownStore) : Type 0 where
+  pub hand : LeavesHand before after
+  pub keeps : KeepsAll s.tells_tables old new
 
 -- it ended there since the store held something
-pub record EndsFilled (s : Setting) (before after : Hand) (old new : Holding) : Type 0 where
+pub record EndsFilled (s : Setting) (before after : ShownTree) (old new : ShownStore) : Type 0 where
   pub early : EndsEarly s before after old new
   pub filled : IsTrue s.tells_tables → old.tables ≢ []
 
 -- how the scan of an open store came to its end, and what it left
-abbrev pub EndsOver : Setting → List (List ℕ) → Hand → Hand → Holding → Holding → ScanEnd → Type 0
+abbrev pub EndsOver : Setting → List (List ℕ) → ShownTree → ShownTree → ShownStore → ShownStore
+    → ScanEnd → Type 0
 EndsOver s roots before after old new end =
-    EndsOpen s.world (EndsInWalk s roots before after old new) (ReadsFiles s roots before after) (HasKept s old new) (HasTorn s old new) end
+    EndsOpen s.world (EndsInWalk s roots before after old new) (ReadsFiles s roots before after)
+    (HasKept s.tells_tables old new) (HasTorn s.tells_tables old new) end
 
 -- how the scan came to its end, and what it left
-abbrev pub EndsBy : Setting → List (List ℕ) → Hand → Hand → Holding → Holding → ScanEnd → Type 0
+abbrev pub EndsBy : Setting → List (List ℕ) → ShownTree → ShownTree → ShownStore → ShownStore
+    → ScanEnd → Type 0
 EndsBy s roots before after old new Unopened = EndsEarly s before after old new
 EndsBy s roots before after old new Filled = EndsFilled s before after old new
-EndsBy s roots before after old new OutOfMemory = EndsEarly s before after old new ⊎ EndsOver s roots before after old new OutOfMemory
+EndsBy s roots before after old new OutOfMemory =
+    EndsEarly s before after old new ⊎ EndsOver s roots before after old new OutOfMemory
 EndsBy s roots before after old new end = EndsOver s roots before after old new end
 
+-- the store was opened once, by this path; where memory was refused, once or not at all
+abbrev pub OpensBy : List ℕ → ShownStore → ShownStore → ScanEnd → Type 0
+OpensBy path old new OutOfMemory = (new.paths ≡ old.paths) ⊎ (new.paths ≡ with_path path old.paths)
+OpensBy path old new _ = new.paths ≡ with_path path old.paths
+
 -- the scan came to this end, by then the store was opened, and a call failed only where a count rose
-pub record Scans (s : Setting) (roots : List (List ℕ)) (before after : Hand) (old new : Stock) (end : ScanEnd) : Type 0 where
-  pub ends : EndsBy s roots before after old.holding new.holding end
+pub record Scans (s : Setting) (path : List ℕ) (roots : List (List ℕ))
+    (before after : ShownTree) (old new : ShownStore) (end : ScanEnd) : Type 0 where
+  pub ends : EndsBy s roots before after old new end
   pub hand : HasCause before.faults after.faults (IsTrue (is_hand_fault end))
   pub store : HasCause old.faults new.faults (IsTrue (is_store_fault end))
   pub later : old.epoch ≤ new.epoch
   pub opened : IsTrue (is_open end) → Rose old.epoch new.epoch
+  pub opens : OpensBy path old new end
 
--- the scan came to an end, and it was said, or want of memory in its place
-pub record RunsScan (s : Setting) (roots : List (List ℕ)) (before after : Hand) (kept now : Stock) (old new : Streams) (code : ℕ) : Type 0 where
+-- the scan came to an end, and it was said
+pub record RunsScan (s : Setting) (path : List ℕ) (roots : List (List ℕ))
+    (before after : Scene) (status : Status) : Type 0 where
   pub end : ScanEnd
-  pub scans : Scans s roots before after kept now end
-  pub said : EndsOrWants (scan_saying end) old new code
+  pub scans : Scans s path roots before.hand after.hand before.store after.store end
+  pub said : SaysEnd end before.streams after.streams status

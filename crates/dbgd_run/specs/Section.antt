@@ -1,35 +1,39 @@
 -- The command `section` (this project's rule): what it says of a file and a name, by what the load of the file answered.
-use Rattle.std.specs.Prelude.{ℕ, List, [], Option, Some, None, Result, Ok, Err}
+use Rattle.std.specs.Prelude.{ℕ, List, ◌++◌, Option, Some, None, Result, Ok, Err, codes}
 use Rattle.file_formats.specs.Identity.{Identity, IsIdentity}
 use Rattle.file_formats.specs.Table.{IsSectionAnswer}
 use Rattle.file_formats.specs.declared.fault.Why.{Why}
 use Rattle.file_formats.specs.declared.fault.Why.TheVariants.{TooLarge}
 use Rattle.tree_trait.specs.Load.{LoadFacts, loaded, too_large, gone, failed, no_memory}
-use Rattle.dbgd_run.specs.Endings.{Saying, Streams, Ends}
-use Rattle.dbgd_run.specs.Load.{gone_saying, fault_saying, no_memory_saying}
-use Rattle.dbgd_run.specs.Texts.{plain_fault_line, no_section_line}
+use Rattle.dbgd_run.specs.Endings.{Ends, EndsWhole, Saying, Streams, WantsMemory, error_saying}
+use Rattle.dbgd_run.specs.Endings.{fault_saying, gone_saying, out_saying}
+use Rattle.dbgd_run.specs.Texts.{why_word}
+use Rattle.dbgd_run.specs.declared.status.Status.{Status}
 use Rattle.dbgd_run.specs.declared.status.Status.TheVariants as status
 
--- of a file without an identity: the reason, on the standard error, even where it has the section
+-- of a file without an identity: the reason, on the standard error, since the standard output is for a section's bytes
 abbrev pub plain_fault_saying : Why → Saying
-plain_fault_saying why = record { out = []; err = plain_fault_line why; status = status.Absent }
+plain_fault_saying why = error_saying (codes "dbgd: plain " ++ why_word why) status.Absent
 
--- of a file with an identity: exactly the section's bytes, or that there is none
-abbrev pub bytes_saying : Option (List ℕ) → Saying
-bytes_saying (Some bytes) = record { out = bytes; err = []; status = status.Done }
-bytes_saying None = record { out = []; err = no_section_line; status = status.Absent }
+-- of a file with an identity: exactly the section's bytes, or that no section has the name
+abbrev pub SaysBytes : Option (List ℕ) → Streams → Streams → Status → Type 0
+SaysBytes (Some bytes) old new end = Ends (out_saying bytes status.Done) old new end
+SaysBytes None old new end =
+    EndsWhole (error_saying (codes "dbgd: no section") status.Absent) old new end
 
--- of a file that was read, by its identity and the section of the name
-abbrev pub section_saying : Result Identity Why → Option (List ℕ) → Saying
-section_saying (Ok i) section = bytes_saying section
-section_saying (Err why) section = plain_fault_saying why
+-- of a file that was read, by its identity and the section of the name; of a plain one nothing else, even where it has
+-- the section
+abbrev pub SaysNamed : Result Identity Why → Option (List ℕ) → Streams → Streams → Status → Type 0
+SaysNamed (Ok i) section old new end = SaysBytes section old new end
+SaysNamed (Err why) section old new end = EndsWhole (plain_fault_saying why) old new end
 
 -- what is said of the section of a name, by what the load of the file at a path answered
-abbrev pub SaysSection : List ℕ → List ℕ → LoadFacts → Streams → Streams → ℕ → Type 0
-SaysSection path name (loaded found) old new code =
+abbrev pub SaysSection : List ℕ → List ℕ → LoadFacts → Streams → Streams → Status → Type 0
+SaysSection path name (loaded found) old new end =
     (identity : Result Identity Why) × (section : Option (List ℕ)) × IsIdentity found.bytes identity
-    × IsSectionAnswer found.bytes name section × Ends (section_saying identity section) old new code
-SaysSection path name (too_large stamp) old new code = Ends (plain_fault_saying TooLarge) old new code
-SaysSection path name gone old new code = Ends (gone_saying path) old new code
-SaysSection path name failed old new code = Ends fault_saying old new code
-SaysSection path name no_memory old new code = Ends no_memory_saying old new code
+    × IsSectionAnswer found.bytes name section × SaysNamed identity section old new end
+SaysSection path name (too_large stamp) old new end =
+    EndsWhole (plain_fault_saying TooLarge) old new end
+SaysSection path name gone old new end = EndsWhole (gone_saying path) old new end
+SaysSection path name failed old new end = EndsWhole (fault_saying (codes "file")) old new end
+SaysSection path name no_memory old new end = WantsMemory old new end

@@ -1,7 +1,8 @@
 -- The program's exit statuses (this project's rule).
-use Rattle.std.specs.Prelude.{ℕ}
+use Rattle.std.specs.Prelude.{◌≡◌, ℕ}
 use Rattle.dbgd_run.specs.declared.status.Status.{Status}
-use Rattle.dbgd_run.specs.declared.status.Status.TheVariants.{Done, Fault, Usage, Absent, Altered, Limit, OutOfMemory, BadRow, NotBuilt}
+use Rattle.dbgd_run.specs.declared.status.Status.TheVariants.{Done, Fault, Usage, Absent, Altered}
+use Rattle.dbgd_run.specs.declared.status.Status.TheVariants.{Limit, OutOfMemory, BadRow, NotBuilt}
 
 -- the number with which the program ends
 abbrev pub code_of : Status → ℕ
@@ -14,3 +15,7 @@ code_of Limit = 5
 code_of OutOfMemory = 6
 code_of BadRow = 7
 code_of NotBuilt = 8
+
+-- no two statuses have one number
+abbrev pub AreApart : Type 0
+AreApart = (status other : Status) → code_of status ≡ code_of other → status ≡ other

@@ -16,16 +16,13 @@ pub data Line : Type 0 where
 
 -- the words of `ident`: one file
 abbrev pub ident_line : List (List ℕ) → Line
-ident_line [] = unreadable
 ident_line (path ∷ []) = asks_ident path
-ident_line (path ∷ other ∷ rest) = unreadable
+ident_line _ = unreadable
 
 -- the words of `section`: one file and a name
 abbrev pub section_line : List (List ℕ) → Line
-section_line [] = unreadable
-section_line (path ∷ []) = unreadable
 section_line (path ∷ name ∷ []) = asks_section path name
-section_line (path ∷ name ∷ other ∷ rest) = unreadable
+section_line _ = unreadable
 
 -- whether a word names a folder that can be scanned: a path in its canonical form, and no longer than the longest one
 -- that is kept. A word that begins with `-` isn't one.
@@ -35,13 +32,15 @@ is_root word = nat_le (length word) PATH_LIMIT && is_canonical word
 -- the folders of a scan: at least one
 abbrev pub roots_line : List ℕ → List (List ℕ) → Line
 roots_line store [] = unbuilt
-roots_line store (root ∷ rest) = if list_all is_root (root ∷ rest) then asks_scan store (root ∷ rest) else unbuilt
+roots_line store (root ∷ rest) =
+    if list_all is_root (root ∷ rest) then asks_scan store (root ∷ rest) else unbuilt
 
 -- the words of `scan`: `-d`, the store, and the folders; other words aren't built yet
 abbrev pub scan_line : List (List ℕ) → Line
 scan_line [] = unreadable
 scan_line (option ∷ []) = unbuilt
-scan_line (option ∷ store ∷ roots) = if bytes_eq option (codes "-d") then roots_line store roots else unbuilt
+scan_line (option ∷ store ∷ roots) =
+    if bytes_eq option (codes "-d") then roots_line store roots else unbuilt
 
 -- the commands that aren't built yet, whatever follows them
 abbrev pub unbuilt_commands : List (List ℕ)

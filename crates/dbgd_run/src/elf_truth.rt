@@ -14,7 +14,8 @@ pub trait ElfTruth: Truth {
     ghost read_rows: { (row : RowFacts) → IsTrueRow Self.version row → Self.true_row row };
 
     /// In a told world no other row is true.
-    ghost only_read: { Self.told ≡ true → (row : RowFacts) → Self.true_row row → IsTrueRow Self.version row };
+    ghost only_read: { Self.told ≡ true → (row : RowFacts) → Self.true_row row
+        → IsTrueRow Self.version row };
 }
 
 impl ElfTruth for OpenWorld {

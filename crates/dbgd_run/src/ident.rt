@@ -1,20 +1,18 @@
 //! The command `ident`.
 
-ghost use Rattle.std.specs.Prelude.{Ok, Result};
+ghost use Rattle.std.specs.Prelude.{◌⊎◌, Result};
 ghost use Rattle.file_formats.specs.Identity.{Identity, IsIdentity};
 ghost use Rattle.file_formats.specs.declared.fault.Why.{Why};
 ghost use Rattle.tree_trait.specs.Load.{load_facts};
-ghost use Rattle.dbgd_run.specs.Endings.{Ends, EndsOrWants, streams};
-ghost use Rattle.dbgd_run.specs.Ident.{SaysIdent, file_saying, plain_saying};
-ghost use Rattle.dbgd_run.specs.Load.{RunsOn, hand as shown};
-ghost use Rattle.dbgd_run.specs.Statuses.{code_of};
+ghost use Rattle.dbgd_run.specs.Endings.{Ends, WantsMemory, streams};
+ghost use Rattle.dbgd_run.specs.File.{RunsOn};
+ghost use Rattle.dbgd_run.specs.Ident.{SaysFile, SaysIdent, identity_saying, plain_saying};
 
-use crate::sayings::{FILE_FAULT, NO_MEMORY, say_gone};
-use crate::sink::Sink;
-use crate::speech::{Said, speak};
+use crate::speech::{say, say_fault, say_gone, say_no_memory};
 use crate::status::Status;
 use crate::texts::{identity_line, plain_line};
 use elf_classify::ident;
+use http_wire::Sink;
 use row_types::{FILE_LIMIT, Ident, Truth, Why};
 use std::alloc::Global;
 use tree_trait::{LoadAnswer, Tree};
@@ -22,42 +20,29 @@ use tree_trait::{LoadAnswer, Tree};
 /// Says why a file has no identity.
 fn say_plain<O: Sink>(why: Why, out: &mut O, err: &mut O) -> Status
     ensures { Ends (plain_saying why)
-        (streams O.written O.write_faults out.old err.old)
-        (streams O.written O.write_faults out.new err.new) (code_of result) }
+        (streams O.shows out.old err.old) (streams O.shows out.new err.new) result }
 {
-    let said = Said {
-        out: plain_line(why).as_bytes(),
-        err: None,
-        status: Status::Absent,
-    };
-    speak(out, err, &said)
+    say(plain_line(why).as_bytes(), Status::Absent, out, err)
 }
 
 /// Says what the identity of a file is.
 fn say_identity<O: Sink>(alloc: Global, ident: &Ident, out: &mut O, err: &mut O) -> Status
-    ensures { EndsOrWants (file_saying (Ok ident.now))
-        (streams O.written O.write_faults out.old err.old)
-        (streams O.written O.write_faults out.new err.new) (code_of result) }
+    ensures { Ends (identity_saying ident.now)
+        (streams O.shows out.old err.old) (streams O.shows out.new err.new) result
+        ⊎ WantsMemory
+        (streams O.shows out.old err.old) (streams O.shows out.new err.new) result }
 {
     match identity_line(alloc, ident) {
-        Ok(line) => {
-            let said = Said {
-                out: line.as_bytes(),
-                err: None,
-                status: Status::Done,
-            };
-            speak(out, err, &said)
-        }
-        Err(_) => speak(out, err, &NO_MEMORY),
+        Ok(line) => say(line.as_bytes(), Status::Done, out, err),
+        Err(_) => say_no_memory(out, err),
     }
 }
 
 /// Says what a file is, by its bytes.
 fn say_file<O: Sink>(alloc: Global, bytes: &[u8], out: &mut O, err: &mut O) -> Status
     ensures { (identity : Result Identity Why) × IsIdentity bytes.now identity
-        × EndsOrWants (file_saying identity)
-        (streams O.written O.write_faults out.old err.old)
-        (streams O.written O.write_faults out.new err.new) (code_of result) }
+        × SaysFile identity
+        (streams O.shows out.old err.old) (streams O.shows out.new err.new) result }
 {
     match ident(bytes) {
         Ok(ident) => say_identity(alloc, &ident, out, err),
@@ -66,7 +51,7 @@ fn say_file<O: Sink>(alloc: Global, bytes: &[u8], out: &mut O, err: &mut O) -> S
 }
 
 /// Says what the file at a path is, by what its load answered.
-fn say<W: Truth, O: Sink>(
+fn say_loaded<W: Truth, O: Sink>(
     alloc: Global,
     path: &str,
     answer: &LoadAnswer<W>,
@@ -74,15 +59,14 @@ fn say<W: Truth, O: Sink>(
     err: &mut O,
 ) -> Status
     ensures { SaysIdent path.now (load_facts answer.now)
-        (streams O.written O.write_faults out.old err.old)
-        (streams O.written O.write_faults out.new err.new) (code_of result) }
+        (streams O.shows out.old err.old) (streams O.shows out.new err.new) result }
 {
     match answer {
         LoadAnswer::Found(found) => say_file(alloc, found.bytes.as_slice(), out, err),
         LoadAnswer::TooLarge { .. } => say_plain(Why::TooLarge, out, err),
         LoadAnswer::Gone => say_gone(path, out, err),
-        LoadAnswer::Failed => speak(out, err, &FILE_FAULT),
-        LoadAnswer::OutOfMemory => speak(out, err, &NO_MEMORY),
+        LoadAnswer::Failed => say_fault("file", out, err),
+        LoadAnswer::OutOfMemory => say_no_memory(out, err),
     }
 }
 
@@ -94,11 +78,10 @@ pub fn run_ident<W: Truth, T: Tree<W>, O: Sink>(
     out: &mut O,
     err: &mut O,
 ) -> Status
-    ensures { RunsOn (SaysIdent path.now) W.version T.told path.now
-        (shown T.present T.heard T.faults hand.old) (shown T.present T.heard T.faults hand.new)
-        (streams O.written O.write_faults out.old err.old)
-        (streams O.written O.write_faults out.new err.new) (code_of result) }
+    ensures { RunsOn (SaysIdent path.now) T.told W.version path.now
+        (T.shows hand.old) (T.shows hand.new)
+        (streams O.shows out.old err.old) (streams O.shows out.new err.new) result }
 {
     let answer = hand.load(alloc, path, FILE_LIMIT);
-    say(alloc, path, &answer, out, err)
+    say_loaded(alloc, path, &answer, out, err)
 }

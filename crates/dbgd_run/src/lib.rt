@@ -1,22 +1,19 @@
-//! The commands of `dbgd`: what each reads, writes and ends with, over objects of the outside that are
-//! handed in. Real files and streams stand in the program's own crate.
+//! The commands of `dbgd`: what each reads, writes and ends with, over objects of the outside that
+//! are handed in. Real files and streams stand in the program's own crate.
 #![tactic(auto)]
 
 mod elf_truth;
 mod ident;
 mod listed;
-mod mem_sink;
 mod outside;
 mod pass;
 mod reading;
 mod roots;
-mod sayings;
 mod scan;
 mod scan_end;
 mod scan_sayings;
 mod scan_texts;
 mod section;
-mod sink;
 mod speech;
 mod status;
 mod summary;
@@ -26,7 +23,6 @@ mod texts;
 mod words;
 
 pub use elf_truth::ElfTruth;
-pub use mem_sink::MemSink;
+pub use http_wire::{MemSink, Sink, Stream, WriteAnswer, WriteFault, write_all};
 pub use outside::{Outside, run, run_local};
-pub use sink::{Sink, WriteAnswer, WriteFault, write_all};
 pub use status::Status;

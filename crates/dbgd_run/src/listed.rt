@@ -3,9 +3,10 @@
 ghost use Rattle.std.specs.Prelude.{◌≡◌, ◌<◌, IfOk};
 ghost use Rattle.row_types.specs.Row.{too_large_row};
 ghost use Rattle.row_types.specs.declared.limits.TheConstants.{FILE_LIMIT};
+ghost use Rattle.tree_trait.specs.Asks.{Asks};
 ghost use Rattle.tree_trait.specs.Load.{LoadFacts, load_facts, loaded, FitsLoad, IsAskedFile};
-ghost use Rattle.dbgd_run.specs.Load.{hand as shown};
-ghost use Rattle.dbgd_run.specs.ScanSteps.{LeadsTo, LoadsNext};
+ghost use Rattle.dbgd_run.specs.Scan.{load_of};
+ghost use Rattle.dbgd_run.specs.ScanSteps.{LeadsTo};
 
 use crate::elf_truth::ElfTruth;
 use crate::reading::read_row;
@@ -22,8 +23,7 @@ pub fn load_row<W: ElfTruth, T: Tree<W>>(
     hand: &mut T,
 ) -> Result<TrueRow<W>, ScanEnd>
     ensures loads { (answer : LoadFacts)
-        × LoadsNext W.version T.told (T.still hand.old) (T.still hand.new) name.path
-        (shown T.present T.heard T.faults hand.old) (shown T.present T.heard T.faults hand.new) answer
+        × Asks T.told W.version (T.shows hand.old) (T.shows hand.new) (load_of name answer)
         × LeadsTo name answer result }
     ensures named { IfOk result (λ row. row.name ≡ name) }
 {

@@ -2,25 +2,21 @@
 
 ghost use Rattle.std.specs.Prelude.{◌≡◌, ◌<◌, drop, map, vec_len, slice_index_or, IfSome, IsSome};
 ghost use Rattle.std.specs.String.{string_bytes};
-ghost use Rattle.dbgd_run.specs.Endings.{streams};
-ghost use Rattle.dbgd_run.specs.Load.{hand};
-ghost use Rattle.dbgd_run.specs.Lines.{asked_by};
-ghost use Rattle.dbgd_run.specs.Runs.{IsRun, Runs};
 ghost use Rattle.row_types.specs.Rules.{rules};
-ghost use Rattle.dbgd_run.specs.Setting.{setting};
-ghost use Rattle.dbgd_run.specs.Statuses.{code_of};
-ghost use Rattle.dbgd_run.specs.Store.{stock};
+ghost use Rattle.dbgd_run.specs.Endings.{EndsWhole, streams};
+ghost use Rattle.dbgd_run.specs.Lines.{asked_by};
+ghost use Rattle.dbgd_run.specs.Runs.{IsRun, Runs, usage_saying};
+ghost use Rattle.dbgd_run.specs.Scene.{scene, setting};
 ghost use Rattle.dbgd_run.specs.Words.{line_of};
 
 use crate::elf_truth::ElfTruth;
 use crate::ident::run_ident;
-use crate::sayings::NOT_BUILT;
 use crate::scan::run_scan;
 use crate::section::run_section;
-use crate::sink::Sink;
-use crate::speech::{Message, Said, speak};
+use crate::speech::{say_error, say_not_built};
 use crate::status::Status;
 use crate::words::{Line, read_line};
+use http_wire::Sink;
 use index_keeper::Store;
 use std::alloc::Global;
 use std::marker::PhantomData;
@@ -37,15 +33,19 @@ pub struct Outside<W: ElfTruth, T: Tree<W>, S: Store<W>, O: Sink> {
     pub of: PhantomData<W>,
 }
 
-/// What is said of words that can't be read.
-const USAGE: Said<'static> = Said {
-    out: b"",
-    err: Some(Message {
-        text: "usage: dbgd ident FILE, sources FILE, section FILE NAME, query -d DB ID, scan -d DB DIR, serve -d DB DIR, trial SEED FILES WORKERS",
-        object: "",
-    }),
-    status: Status::Usage,
-};
+/// Says how the words of each command read.
+fn say_usage<O: Sink>(out: &mut O, err: &mut O) -> Status
+    ensures { EndsWhole usage_saying
+        (streams O.shows out.old err.old) (streams O.shows out.new err.new) result }
+{
+    say_error(
+        "usage: dbgd ident FILE, sources FILE, section FILE NAME, query -d DB ID, ",
+        "scan -d DB DIR, serve -d DB DIR, trial SEED FILES WORKERS",
+        Status::Usage,
+        out,
+        err,
+    )
+}
 
 /// Does what a line of words asks.
 fn run_line<W: ElfTruth, T: Tree<W>, S: Store<W>, O: Sink>(
@@ -54,14 +54,12 @@ fn run_line<W: ElfTruth, T: Tree<W>, S: Store<W>, O: Sink>(
     outside: &mut Outside<W, T, S, O>,
 ) -> Status
     requires { 0 < vec_len outside.old.hands }
-    ensures law { (d : T) →
-        let before = slice_index_or outside.old.hands.items 0 d in
-        let after = slice_index_or outside.new.hands.items 0 d in
-        Runs (setting (rules W.version W.true_row W.told) T.told (T.still before) S.K.told) (asked_by line.entry)
-        (hand T.present T.heard T.faults before) (hand T.present T.heard T.faults after)
-        (stock S.tables S.made S.epoch S.faults outside.old.store) (stock S.tables S.made S.epoch S.faults outside.new.store)
-        (streams O.written O.write_faults outside.old.out outside.old.err)
-        (streams O.written O.write_faults outside.new.out outside.new.err) (code_of result) }
+    ensures law { (d : T) → Runs (setting (rules W.version W.true_row W.told) T.told S.K.told)
+        (asked_by line.entry)
+        (scene (T.shows (slice_index_or outside.old.hands.items 0 d)) (S.shows outside.old.store)
+        (streams O.shows outside.old.out outside.old.err))
+        (scene (T.shows (slice_index_or outside.new.hands.items 0 d)) (S.shows outside.new.store)
+        (streams O.shows outside.new.out outside.new.err)) result }
     ensures hands { vec_len outside.new.hands ≡ vec_len outside.old.hands }
     ensures others { drop 1 outside.new.hands.items ≡ drop 1 outside.old.hands.items }
 {
@@ -81,8 +79,8 @@ fn run_line<W: ElfTruth, T: Tree<W>, S: Store<W>, O: Sink>(
             out,
             err,
         ),
-        Line::NotBuilt => speak(out, err, &NOT_BUILT),
-        Line::Usage => speak(out, err, &USAGE),
+        Line::NotBuilt => say_not_built(out, err),
+        Line::Usage => say_usage(out, err),
     }
 }
 
@@ -94,14 +92,13 @@ pub fn run_local<W: ElfTruth, T: Tree<W>, S: Store<W>, O: Sink>(
 ) -> Option<u8>
     requires { 0 < vec_len outside.old.hands }
     ensures some { IsSome result }
-    ensures run { (d : T) →
-        let before = slice_index_or outside.old.hands.items 0 d in
-        let after = slice_index_or outside.new.hands.items 0 d in
-        IfSome result (IsRun (setting (rules W.version W.true_row W.told) T.told (T.still before) S.K.told) (line_of (map string_bytes words.now))
-        (hand T.present T.heard T.faults before) (hand T.present T.heard T.faults after)
-        (stock S.tables S.made S.epoch S.faults outside.old.store) (stock S.tables S.made S.epoch S.faults outside.new.store)
-        (streams O.written O.write_faults outside.old.out outside.old.err)
-        (streams O.written O.write_faults outside.new.out outside.new.err)) }
+    ensures run { (d : T) → IfSome result (IsRun
+        (setting (rules W.version W.true_row W.told) T.told S.K.told)
+        (line_of (map string_bytes words.now))
+        (scene (T.shows (slice_index_or outside.old.hands.items 0 d)) (S.shows outside.old.store)
+        (streams O.shows outside.old.out outside.old.err))
+        (scene (T.shows (slice_index_or outside.new.hands.items 0 d)) (S.shows outside.new.store)
+        (streams O.shows outside.new.out outside.new.err))) }
     ensures hands { vec_len outside.new.hands ≡ vec_len outside.old.hands }
     ensures others { drop 1 outside.new.hands.items ≡ drop 1 outside.old.hands.items }
 {
@@ -116,14 +113,13 @@ pub fn run<W: ElfTruth, T: Tree<W>, S: Store<W>, O: Sink>(
     outside: &mut Outside<W, T, S, O>,
 ) -> u8
     requires { 0 < vec_len outside.old.hands }
-    ensures run { (d : T) →
-        let before = slice_index_or outside.old.hands.items 0 d in
-        let after = slice_index_or outside.new.hands.items 0 d in
-        IsRun (setting (rules W.version W.true_row W.told) T.told (T.still before) S.K.told) (line_of (map string_bytes words.now))
-        (hand T.present T.heard T.faults before) (hand T.present T.heard T.faults after)
-        (stock S.tables S.made S.epoch S.faults outside.old.store) (stock S.tables S.made S.epoch S.faults outside.new.store)
-        (streams O.written O.write_faults outside.old.out outside.old.err)
-        (streams O.written O.write_faults outside.new.out outside.new.err) result }
+    ensures run { (d : T) → IsRun
+        (setting (rules W.version W.true_row W.told) T.told S.K.told)
+        (line_of (map string_bytes words.now))
+        (scene (T.shows (slice_index_or outside.old.hands.items 0 d)) (S.shows outside.old.store)
+        (streams O.shows outside.old.out outside.old.err))
+        (scene (T.shows (slice_index_or outside.new.hands.items 0 d)) (S.shows outside.new.store)
+        (streams O.shows outside.new.out outside.new.err)) result }
     ensures hands { vec_len outside.new.hands ≡ vec_len outside.old.hands }
     ensures others { drop 1 outside.new.hands.items ≡ drop 1 outside.old.hands.items }
 {

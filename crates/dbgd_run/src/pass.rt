@@ -1,18 +1,18 @@
 //! A scan of what a walk listed.
 
-ghost use Rattle.std.specs.Prelude.{◌≡◌, [], Some, IsTrue};
+ghost use Rattle.std.specs.Prelude.{◌≡◌, [], false, Some, IsTrue};
 ghost use Rattle.row_types.specs.Faults.{HasCause};
+ghost use Rattle.row_types.specs.Rules.{rules};
+ghost use Rattle.tree_trait.specs.Asks.{Asks};
 ghost use Rattle.tree_trait.specs.Load.{LoadFacts};
 ghost use Rattle.index_state.specs.Invariant.{IndexInvariant};
-ghost use Rattle.index_state.specs.Keeping.{meanings};
 ghost use Rattle.index_state.specs.Plan.{plan_of};
 ghost use Rattle.index_state.specs.State.{pass_of};
 ghost use Rattle.index_state.specs.Step.{IsAwaited};
-ghost use Rattle.dbgd_run.specs.Load.{hand as shown};
-ghost use Rattle.dbgd_run.specs.Scan.{EndsOpen, LoadsFiles};
+ghost use Rattle.dbgd_run.specs.Scan.{load_of};
 ghost use Rattle.dbgd_run.specs.ScanSaid.{is_hand_fault, is_store_fault};
-ghost use Rattle.dbgd_run.specs.ScanSteps.{DoesNext, FilesEnd, IsBegun, IsNew, KeepsFiles, KeepsNext, LoadsNext, TearsFiles};
-ghost use Rattle.row_types.specs.Rules.{rules};
+ghost use Rattle.dbgd_run.specs.ScanSteps.{DoesNext, EndsListed, FilesEnd, IsBegun, IsNew};
+ghost use Rattle.dbgd_run.specs.ScanSteps.{KeepsNext};
 
 use crate::elf_truth::ElfTruth;
 use crate::listed::load_row;
@@ -27,7 +27,7 @@ use tree_trait::Tree;
 
 /// Shows what holds of an index at every moment.
 fn show_index<W: ElfTruth, K: Keeper<W>>(state: &State<W, K>)
-    ensures { IndexInvariant W.true_row (meanings K.told K.tables K.images K.made K.faults K.epoch) state.now }
+    ensures { IndexInvariant W.true_row K.told K.shows state.now }
 {
     let _rows = state.rows();
 }
@@ -38,8 +38,9 @@ fn keep_row<W: ElfTruth, K: Keeper<W>>(
     row: TrueRow<W>,
     state: &mut State<W, K>,
 ) -> Option<ScanEnd>
-    requires { IsAwaited row.name state.old }
-    ensures { KeepsNext (meanings K.told K.tables K.images K.made K.faults K.epoch) row state.old state.new result }
+    requires awaited { IsAwaited row.name state.old }
+    requires sound { state.old.broken ≡ false }
+    ensures { KeepsNext K.told K.shows row state.old state.new result }
 {
     match state.publish(alloc, row) {
         Published::Added | Published::Replaced => None,
@@ -57,11 +58,11 @@ fn read_file<W: ElfTruth, T: Tree<W>, K: Keeper<W>>(
     state: &mut State<W, K>,
     hand: &mut T,
 ) -> Option<ScanEnd>
-    requires { IsAwaited name state.old }
+    requires awaited { IsAwaited name state.old }
+    requires sound { state.old.broken ≡ false }
     ensures next { (answer : LoadFacts)
-        × LoadsNext W.version T.told (T.still hand.old) (T.still hand.new) name.path
-        (shown T.present T.heard T.faults hand.old) (shown T.present T.heard T.faults hand.new) answer
-        × DoesNext (meanings K.told K.tables K.images K.made K.faults K.epoch) name answer state.old state.new result }
+        × Asks T.told W.version (T.shows hand.old) (T.shows hand.new) (load_of name answer)
+        × DoesNext K.told K.shows name answer state.old state.new result }
 {
     match load_row(alloc, name, hand) {
         Ok(row) => keep_row(alloc, row, state),
@@ -76,11 +77,13 @@ fn read_files<W: ElfTruth, T: Tree<W>, K: Keeper<W>>(
     hand: &mut T,
 ) -> Option<ScanEnd>
     requires { IsBegun (pass_of state.old.pass).listing state.old }
-    ensures ends { FilesEnd (rules W.version W.true_row W.told) (IsTrue T.told × T.still hand.old)
-        (meanings K.told K.tables K.images K.made K.faults K.epoch) (pass_of state.old.pass).listing
-        (shown T.present T.heard T.faults hand.old) (shown T.present T.heard T.faults hand.new) state.old state.new result }
-    ensures hand { HasCause (T.faults hand.old) (T.faults hand.new) (result ≡ Some ScanEnd.Unread) }
-    ensures keeper { HasCause (K.faults state.old.keeper) (K.faults state.new.keeper) (result ≡ Some ScanEnd.Unkept) }
+    ensures ends { FilesEnd (rules W.version W.true_row W.told) T.told K.told K.shows
+        (pass_of state.old.pass).listing (T.shows hand.old) (T.shows hand.new)
+        state.old state.new result }
+    ensures hand { HasCause (T.shows hand.old).faults (T.shows hand.new).faults
+        (result ≡ Some ScanEnd.Unread) }
+    ensures keeper { HasCause (K.shows state.old.keeper).faults (K.shows state.new.keeper).faults
+        (result ≡ Some ScanEnd.Unkept) }
 {
     while let Some(name) = state.take() {
         show_index(state);
@@ -100,13 +103,13 @@ fn read_pass<W: ElfTruth, T: Tree<W>, K: Keeper<W>>(
 ) -> ScanEnd
     requires begun { IsBegun (pass_of state.old.pass).listing state.old }
     requires planned { plan.now ≡ plan_of (pass_of state.old.pass).listing [] }
-    ensures ends { EndsOpen (rules W.version W.true_row W.told) (λ fault. ⊥)
-        (LoadsFiles W.version (IsTrue T.told × T.still hand.old) (pass_of state.old.pass).listing
-        (shown T.present T.heard T.faults hand.old) (shown T.present T.heard T.faults hand.new))
-        (KeepsFiles (meanings K.told K.tables K.images K.made K.faults K.epoch) state.old state.new)
-        (TearsFiles (meanings K.told K.tables K.images K.made K.faults K.epoch) state.old state.new) result }
-    ensures hand { HasCause (T.faults hand.old) (T.faults hand.new) (IsTrue (is_hand_fault result)) }
-    ensures keeper { HasCause (K.faults state.old.keeper) (K.faults state.new.keeper) (IsTrue (is_store_fault result)) }
+    ensures ends { EndsListed (rules W.version W.true_row W.told) T.told K.told K.shows
+        (pass_of state.old.pass).listing (T.shows hand.old) (T.shows hand.new)
+        state.old state.new result }
+    ensures hand { HasCause (T.shows hand.old).faults (T.shows hand.new).faults
+        (IsTrue (is_hand_fault result)) }
+    ensures keeper { HasCause (K.shows state.old.keeper).faults (K.shows state.new.keeper).faults
+        (IsTrue (is_store_fault result)) }
 {
     match read_files(alloc, state, hand) {
         Some(end) => end,
@@ -126,13 +129,12 @@ pub fn scan_listing<W: ElfTruth, T: Tree<W>, K: Keeper<W>>(
     hand: &mut T,
 ) -> ScanEnd
     requires { IsNew state.old }
-    ensures ends { EndsOpen (rules W.version W.true_row W.told) (λ fault. ⊥)
-        (LoadsFiles W.version (IsTrue T.told × T.still hand.old) listing
-        (shown T.present T.heard T.faults hand.old) (shown T.present T.heard T.faults hand.new))
-        (KeepsFiles (meanings K.told K.tables K.images K.made K.faults K.epoch) state.old state.new)
-        (TearsFiles (meanings K.told K.tables K.images K.made K.faults K.epoch) state.old state.new) result }
-    ensures hand { HasCause (T.faults hand.old) (T.faults hand.new) (IsTrue (is_hand_fault result)) }
-    ensures keeper { HasCause (K.faults state.old.keeper) (K.faults state.new.keeper) (IsTrue (is_store_fault result)) }
+    ensures ends { EndsListed (rules W.version W.true_row W.told) T.told K.told K.shows
+        listing (T.shows hand.old) (T.shows hand.new) state.old state.new result }
+    ensures hand { HasCause (T.shows hand.old).faults (T.shows hand.new).faults
+        (IsTrue (is_hand_fault result)) }
+    ensures keeper { HasCause (K.shows state.old.keeper).faults (K.shows state.new.keeper).faults
+        (IsTrue (is_store_fault result)) }
 {
     match state.begin(alloc, listing, roots) {
         Begun::Begun(plan) => read_pass(alloc, state, &plan, hand),

@@ -24,7 +24,7 @@ fn reading_of(alloc: Global, bytes: &[u8]) -> Reading
 }
 
 /// The row of a file that was found under its name. No memory is taken.
-#[tactic(auto, using(crate::proofs::ReadLemmas::found_is_true, crate::proofs::ReadLemmas::reads_within))]
+#[tactic(auto, using(crate::proofs::ReadLemmas::rows_read))]
 pub fn read_row<W: ElfTruth>(alloc: Global, name: Name, found: &Found<W>) -> TrueRow<W>
     requires path { found.now.path ≡ name.path }
     requires stamp { found.now.stamp ≡ name.stamp }

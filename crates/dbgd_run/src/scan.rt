@@ -1,27 +1,23 @@
 //! The command `scan`.
 
-ghost use Rattle.std.specs.Prelude.{◌≡◌, List, IsTrue};
+ghost use Rattle.std.specs.Prelude.{IsTrue};
 ghost use Rattle.row_types.specs.Faults.{HasCause};
-ghost use Rattle.index_keeper.specs.Tables.{KeptFacts};
-ghost use Rattle.index_state.specs.Keeping.{meanings};
-ghost use Rattle.index_state.specs.Opening.{IsSettled};
+ghost use Rattle.row_types.specs.Rules.{rules};
+ghost use Rattle.index_keeper.specs.Store.{HasAll, ShownStore, TakesBack};
+ghost use Rattle.index_state.specs.Opening.{CanOpen};
 ghost use Rattle.dbgd_run.specs.Endings.{streams};
-ghost use Rattle.dbgd_run.specs.Load.{hand as shown};
 ghost use Rattle.dbgd_run.specs.Scan.{EndsBy, EndsOpen, ReadsFiles, RunsScan, Scans};
 ghost use Rattle.dbgd_run.specs.ScanSaid.{is_hand_fault, is_store_fault};
 ghost use Rattle.dbgd_run.specs.ScanSteps.{EndsUnlisted, IsNew, KeepsFiles, TearsFiles};
-ghost use Rattle.row_types.specs.Rules.{rules};
-ghost use Rattle.dbgd_run.specs.Setting.{setting};
-ghost use Rattle.dbgd_run.specs.Statuses.{code_of};
-ghost use Rattle.dbgd_run.specs.Store.{stock};
+ghost use Rattle.dbgd_run.specs.Scene.{scene, setting};
 
 use crate::elf_truth::ElfTruth;
 use crate::pass::scan_listing;
 use crate::roots::Roots;
 use crate::scan_end::ScanEnd;
 use crate::scan_sayings::say_end;
-use crate::sink::Sink;
 use crate::status::Status;
+use http_wire::Sink;
 use index_keeper::{Keeper, Store, StoreAnswer};
 use index_state::{OpenFault, State, open_state};
 use row_types::CanonPath;
@@ -38,14 +34,15 @@ fn scan_roots<W: ElfTruth, T: Tree<W>, K: Keeper<W>>(
 ) -> ScanEnd
     requires { IsNew state.old }
     ensures ends { EndsOpen (rules W.version W.true_row W.told)
-        (EndsUnlisted (setting (rules W.version W.true_row W.told) T.told (T.still hand.old) K.told) roots.items
-        (shown T.present T.heard T.faults hand.old) (shown T.present T.heard T.faults hand.new) state.old state.new)
-        (ReadsFiles (setting (rules W.version W.true_row W.told) T.told (T.still hand.old) K.told) roots.items
-        (shown T.present T.heard T.faults hand.old) (shown T.present T.heard T.faults hand.new))
-        (KeepsFiles (meanings K.told K.tables K.images K.made K.faults K.epoch) state.old state.new)
-        (TearsFiles (meanings K.told K.tables K.images K.made K.faults K.epoch) state.old state.new) result }
-    ensures hand { HasCause (T.faults hand.old) (T.faults hand.new) (IsTrue (is_hand_fault result)) }
-    ensures keeper { HasCause (K.faults state.old.keeper) (K.faults state.new.keeper) (IsTrue (is_store_fault result)) }
+        (EndsUnlisted T.told roots.items (T.shows hand.old) (T.shows hand.new) state.old state.new)
+        (ReadsFiles (setting (rules W.version W.true_row W.told) T.told K.told) roots.items
+        (T.shows hand.old) (T.shows hand.new))
+        (KeepsFiles K.shows state.old state.new)
+        (TearsFiles K.told K.shows state.old state.new) result }
+    ensures hand { HasCause (T.shows hand.old).faults (T.shows hand.new).faults
+        (IsTrue (is_hand_fault result)) }
+    ensures keeper { HasCause (K.shows state.old.keeper).faults (K.shows state.new.keeper).faults
+        (IsTrue (is_store_fault result)) }
 {
     match walk(alloc, hand, roots.as_slice()) {
         Ok(
@@ -65,13 +62,15 @@ fn scan_keeper<W: ElfTruth, T: Tree<W>, K: Keeper<W>>(
     roots: Vec<CanonPath>,
     hand: &mut T,
 ) -> (ScanEnd, K)
-    requires { IsSettled (meanings K.told K.tables K.images K.made K.faults K.epoch) keeper }
-    ensures ends { (had left : List KeptFacts) → (IsTrue K.told → had ≡ K.tables keeper) → (IsTrue K.told → K.images result.1 left)
-        → EndsBy (setting (rules W.version W.true_row W.told) T.told (T.still hand.old) K.told) roots.items
-        (shown T.present T.heard T.faults hand.old) (shown T.present T.heard T.faults hand.new)
-        (record { tables = had; made = K.made keeper }) (record { tables = left; made = K.made result.1 }) result.0 }
-    ensures hand { HasCause (T.faults hand.old) (T.faults hand.new) (IsTrue (is_hand_fault result.0)) }
-    ensures keeper { HasCause (K.faults keeper) (K.faults result.1) (IsTrue (is_store_fault result.0)) }
+    requires { CanOpen K.told (K.shows keeper) }
+    ensures ends { (from mid into : ShownStore) → HasAll K.told from (K.shows keeper)
+        → TakesBack K.told (K.shows result.1) mid into
+        → EndsBy (setting (rules W.version W.true_row W.told) T.told K.told) roots.items
+        (T.shows hand.old) (T.shows hand.new) from into result.0 }
+    ensures hand { HasCause (T.shows hand.old).faults (T.shows hand.new).faults
+        (IsTrue (is_hand_fault result.0)) }
+    ensures keeper { HasCause (K.shows keeper).faults (K.shows result.1).faults
+        (IsTrue (is_store_fault result.0)) }
 {
     match open_state(alloc, keeper) {
         Ok(mut state) => {
@@ -92,9 +91,8 @@ fn scan<W: ElfTruth, T: Tree<W>, S: Store<W>>(
     hand: &mut T,
     store: &mut S,
 ) -> ScanEnd
-    ensures { Scans (setting (rules W.version W.true_row W.told) T.told (T.still hand.old) S.K.told) roots.now
-        (shown T.present T.heard T.faults hand.old) (shown T.present T.heard T.faults hand.new)
-        (stock S.tables S.made S.epoch S.faults store.old) (stock S.tables S.made S.epoch S.faults store.new) result }
+    ensures { Scans (setting (rules W.version W.true_row W.told) T.told S.K.told) path.now roots.now
+        (T.shows hand.old) (T.shows hand.new) (S.shows store.old) (S.shows store.new) result }
 {
     let Ok(roots) = roots.paths(alloc) else {
         return ScanEnd::OutOfMemory;
@@ -120,11 +118,10 @@ pub fn run_scan<W: ElfTruth, T: Tree<W>, S: Store<W>, O: Sink>(
     out: &mut O,
     err: &mut O,
 ) -> Status
-    ensures { RunsScan (setting (rules W.version W.true_row W.told) T.told (T.still hand.old) S.K.told) roots.now
-        (shown T.present T.heard T.faults hand.old) (shown T.present T.heard T.faults hand.new)
-        (stock S.tables S.made S.epoch S.faults store.old) (stock S.tables S.made S.epoch S.faults store.new)
-        (streams O.written O.write_faults out.old err.old)
-        (streams O.written O.write_faults out.new err.new) (code_of result) }
+    ensures { RunsScan (setting (rules W.version W.true_row W.told) T.told S.K.told)
+        path.now roots.now
+        (scene (T.shows hand.old) (S.shows store.old) (streams O.shows out.old err.old))
+        (scene (T.shows hand.new) (S.shows store.new) (streams O.shows out.new err.new)) result }
 {
     let end = scan(alloc, path, roots, hand, store);
     say_end(alloc, &end, out, err)

@@ -2,7 +2,8 @@
 
 ghost use Rattle.std.specs.Prelude.{◌≡◌, ◌++◌, ◌≤◌, decimal, replicate, IfOk, OnOk};
 ghost use Rattle.std.specs.String.{string_bytes};
-ghost use Rattle.dbgd_run.specs.Texts.{altered_line, line, nine_digits, seen_text, stamp_text, summary_line};
+ghost use Rattle.dbgd_run.specs.Texts.{altered_text, nine_digits, seen_text, stamp_text};
+ghost use Rattle.dbgd_run.specs.Texts.{summary_line};
 
 use crate::summary::Summary;
 use itoa::Buffer;
@@ -65,7 +66,7 @@ fn seen_text(alloc: Global, seen: &Seen) -> Result<String, AllocError>
 
 /// The line of a file that was another by the time that it was read, but for its line feed.
 pub fn altered_text(alloc: Global, name: &Name, seen: &Seen) -> Result<String, AllocError>
-    ensures { IfOk result (λ text. line (string_bytes text) ≡ altered_line name.now seen.now) }
+    ensures { IfOk result (λ text. string_bytes text ≡ altered_text name.now seen.now) }
 {
     let mut text = String::from_str(alloc, "dbgd: altered ")?;
     text.push_str(name.path.text())?;
@@ -78,7 +79,8 @@ pub fn altered_text(alloc: Global, name: &Name, seen: &Seen) -> Result<String, A
 
 /// Adds a number and what it counts to a text.
 fn push_count(text: &mut String, number: u64, what: &str) -> Result<(), AllocError>
-    ensures { OnOk result (string_bytes text.new ≡ string_bytes text.old ++ decimal number ++ what.now) }
+    ensures { OnOk result
+        (string_bytes text.new ≡ string_bytes text.old ++ decimal number ++ what.now) }
 {
     text.push_str(Buffer::new().format(number))?;
     text.push_str(what)

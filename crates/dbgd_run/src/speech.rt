@@ -1,81 +1,111 @@
-//! What a command says on its two sinks.
+//! The lines that a command speaks by its two sinks.
 
-ghost use Rattle.std.specs.Prelude.{◌++◌, OnOk, OnErr, IsErr};
-ghost use Rattle.row_types.specs.Faults.{HasCause};
-ghost use Rattle.dbgd_run.specs.Endings.{Ends, Gets, streams};
-ghost use Rattle.dbgd_run.specs.Sink.{Appends, WritesPart};
-ghost use Rattle.dbgd_run.specs.Speech.{err_text, message_line, saying_of};
-ghost use Rattle.dbgd_run.specs.Statuses.{code_of};
+ghost use Rattle.std.specs.Prelude.{◌++◌, MatchResult};
+ghost use Rattle.http_wire.specs.Sink.{GetsAll, GetsPart};
+ghost use Rattle.dbgd_run.specs.Endings.{Ends, EndsWhole, Gets, WantsMemory};
+ghost use Rattle.dbgd_run.specs.Endings.{error_saying, fault_saying, gone_saying, limit_saying};
+ghost use Rattle.dbgd_run.specs.Endings.{not_built_saying, out_saying, streams};
+ghost use Rattle.dbgd_run.specs.Texts.{line};
 
-use crate::sink::{Sink, WriteFault, write_all};
 use crate::status::Status;
+use http_wire::{Sink, WriteFault, write_all};
 
-/// A line on the standard error: a text and what it speaks of, as a path.
-#[derive(Clone, Copy, Debug)]
-pub struct Message<'a> {
-    pub text: &'a str,
-    pub object: &'a str,
-}
-
-/// What is to be said, and with which status the command ends then.
-#[derive(Clone, Copy, Debug)]
-pub struct Said<'a> {
-    pub out: &'a [u8],
-    pub err: Option<Message<'a>>,
-    pub status: Status,
-}
-
-/// What is said where the standard output fails.
-const OUTPUT_FAULT: Message<'static> = Message {
-    text: "dbgd: fault output",
-    object: "",
-};
-
-/// Writes two pieces, one after the other. After a fault a proper prefix of both was written.
+/// Writes two pieces, one after the other.
+#[tactic(auto, using(http_wire::proofs::Pieces::in_a_row))]
 fn write_both<S: Sink>(sink: &mut S, first: &[u8], second: &[u8]) -> Result<(), WriteFault>
-    ensures all { OnOk result (Appends (S.written sink.old) (first.now ++ second.now) (S.written sink.new)) }
-    ensures part { OnErr result (WritesPart (S.written sink.old) (first.now ++ second.now) (S.written sink.new)) }
-    ensures cause { HasCause (S.write_faults sink.old) (S.write_faults sink.new) (IsErr result) }
+    ensures { MatchResult result
+        (λ _. GetsAll (first.now ++ second.now) (S.shows sink.old) (S.shows sink.new))
+        (λ _. GetsPart (first.now ++ second.now) (S.shows sink.old) (S.shows sink.new)) }
 {
-    match write_all(sink, first) {
-        Ok(()) => write_all(sink, second),
-        Err(fault) => Err(fault),
-    }
+    write_all(sink, first)?;
+    write_all(sink, second)
 }
 
-/// Writes a message's line.
-fn write_message<S: Sink>(sink: &mut S, message: &Message<'_>) -> Result<(), WriteFault>
-    ensures all { OnOk result (Appends (S.written sink.old) (message_line message.now) (S.written sink.new)) }
-    ensures part { OnErr result (WritesPart (S.written sink.old) (message_line message.now) (S.written sink.new)) }
-    ensures cause { HasCause (S.write_faults sink.old) (S.write_faults sink.new) (IsErr result) }
+/// Writes a line of two pieces.
+#[tactic(auto, using(http_wire::proofs::Pieces::in_a_row))]
+fn write_line<S: Sink>(sink: &mut S, text: &str, object: &str) -> Result<(), WriteFault>
+    ensures { MatchResult result
+        (λ _. GetsAll (line (text.now ++ object.now)) (S.shows sink.old) (S.shows sink.new))
+        (λ _. GetsPart (line (text.now ++ object.now)) (S.shows sink.old) (S.shows sink.new)) }
 {
-    match write_both(sink, message.text.as_bytes(), message.object.as_bytes()) {
-        Ok(()) => write_all(sink, b"\n"),
-        Err(fault) => Err(fault),
-    }
+    write_both(sink, text.as_bytes(), object.as_bytes())?;
+    write_all(sink, b"\n")
 }
 
-/// Says a message, if there is one. A write that fails changes nothing else.
-fn tell<S: Sink>(sink: &mut S, message: Option<Message<'_>>)
-    ensures { Gets (err_text message.entry) (S.written sink.old) (S.written sink.new) (S.write_faults sink.old) (S.write_faults sink.new) }
+/// Says a line of two pieces. A write that fails changes nothing else.
+fn tell<S: Sink>(sink: &mut S, text: &str, object: &str)
+    ensures { Gets (line (text.now ++ object.now)) (S.shows sink.old) (S.shows sink.new) }
 {
-    if let Some(message) = message {
-        let _ = write_message(sink, &message);
-    }
+    let _ = write_line(sink, text, object);
 }
 
-/// Says all on the two sinks. Where the standard output fails, that is said in place of the message.
-pub fn speak<O: Sink>(out: &mut O, err: &mut O, said: &Said<'_>) -> Status
-    ensures { Ends (saying_of said.now) (streams O.written O.write_faults out.old err.old) (streams O.written O.write_faults out.new err.new) (code_of result) }
+/// Says bytes on the standard output; where it fails, that is said on the standard error.
+#[tactic(auto, using(http_wire::proofs::Pieces::in_a_row))]
+pub fn say<O: Sink>(bytes: &[u8], status: Status, out: &mut O, err: &mut O) -> Status
+    ensures { Ends (out_saying bytes.now status)
+        (streams O.shows out.old err.old) (streams O.shows out.new err.new) result }
 {
-    match write_all(out, said.out) {
-        Ok(()) => {
-            tell(err, said.err);
-            said.status
-        }
+    match write_all(out, bytes) {
+        Ok(()) => status,
         Err(_) => {
-            tell(err, Some(OUTPUT_FAULT));
+            tell(err, "dbgd: fault ", "output");
             Status::Fault
         }
     }
+}
+
+/// Says a line on the standard error: a text and what it speaks of.
+#[tactic(auto, using(http_wire::proofs::Pieces::in_a_row))]
+pub fn say_error<O: Sink>(
+    text: &str,
+    object: &str,
+    status: Status,
+    out: &mut O,
+    err: &mut O,
+) -> Status
+    ensures { EndsWhole (error_saying (text.now ++ object.now) status)
+        (streams O.shows out.old err.old) (streams O.shows out.new err.new) result }
+{
+    tell(err, text, object);
+    status
+}
+
+/// Says that a call of an object of the outside failed.
+pub fn say_fault<O: Sink>(what: &str, out: &mut O, err: &mut O) -> Status
+    ensures { EndsWhole (fault_saying what.now)
+        (streams O.shows out.old err.old) (streams O.shows out.new err.new) result }
+{
+    say_error("dbgd: fault ", what, Status::Fault, out, err)
+}
+
+/// Says that a limit was met.
+pub fn say_limit<O: Sink>(what: &str, out: &mut O, err: &mut O) -> Status
+    ensures { EndsWhole (limit_saying what.now)
+        (streams O.shows out.old err.old) (streams O.shows out.new err.new) result }
+{
+    say_error("dbgd: limit ", what, Status::Limit, out, err)
+}
+
+/// Says that no regular file is at a path, or no folder.
+pub fn say_gone<O: Sink>(path: &str, out: &mut O, err: &mut O) -> Status
+    ensures { EndsWhole (gone_saying path.now)
+        (streams O.shows out.old err.old) (streams O.shows out.new err.new) result }
+{
+    say_error("dbgd: gone ", path, Status::Absent, out, err)
+}
+
+/// Says that memory was refused.
+pub fn say_no_memory<O: Sink>(out: &mut O, err: &mut O) -> Status
+    ensures { WantsMemory
+        (streams O.shows out.old err.old) (streams O.shows out.new err.new) result }
+{
+    say_error("dbgd: out of memory", "", Status::OutOfMemory, out, err)
+}
+
+/// Says that the command, or what it asks, isn't built yet.
+pub fn say_not_built<O: Sink>(out: &mut O, err: &mut O) -> Status
+    ensures { EndsWhole not_built_saying
+        (streams O.shows out.old err.old) (streams O.shows out.new err.new) result }
+{
+    say_error("dbgd: not built yet", "", Status::NotBuilt, out, err)
 }

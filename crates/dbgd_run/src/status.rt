@@ -1,7 +1,7 @@
 //! How the program ends.
 
 ghost use Rattle.std.specs.Prelude.{◌≡◌};
-ghost use Rattle.dbgd_run.specs.Statuses.{code_of};
+ghost use Rattle.dbgd_run.specs.Statuses.{AreApart, code_of};
 
 /// How a command ends.
 #[derive(Clone, Copy, Debug, PartialEq, Eq)]
@@ -28,8 +28,10 @@ pub enum Status {
 
 impl Status {
     /// The program's exit status.
+    #[tactic(auto, using(crate::proofs::Codes::are_apart))]
     pub fn code(self) -> u8
-        ensures { result ≡ code_of self }
+        ensures code { result ≡ code_of self }
+        ensures apart { AreApart }
     {
         match self {
             Status::Done => 0,

@@ -2,12 +2,8 @@
 //! texts say. The expected texts are those of the words' description.
 
 mod ends;
-mod fakes;
 mod files;
-mod helpers;
-mod outsides;
-mod scan_helpers;
-mod scan_stores;
+mod hands;
+mod rig;
 mod scans;
-mod sections;
 mod words;

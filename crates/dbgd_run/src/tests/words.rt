@@ -1,111 +1,90 @@
 //! What the words ask.
 
-use crate::mem_sink::MemSink;
-use crate::outside::{Outside, run_local};
-use crate::tests::helpers::{Case, NO_BAD_WRITES, empty_store, hand_of, run_case, words_of};
-use row_types::OpenWorld;
-use std::marker::PhantomData;
+use crate::outside::run_local;
+use crate::tests::hands::{File, one_file};
+use crate::tests::rig::{Run, SOUND, outside_of, run_all, words_of};
+use std::alloc::Global;
+use std::process::Abort;
 use std::test::Fail;
 
 const USAGE: &str =
     "usage: dbgd ident FILE, sources FILE, section FILE NAME, query -d DB ID, scan -d DB DIR, serve -d DB DIR, trial SEED FILES WORKERS\n";
 
-#[test]
-fn other_words_give_the_usage(rt: HostRuntime) -> Result<(), Fail> {
-    let lines: [&[&str]; 11] = [
-        &[],
-        &[""],
-        &["frobnicate"],
-        &["IDENT", "/w/a"],
-        &["--help"],
-        &["find", "/w/a"],
-        &["ident"],
-        &["ident", "/w/a", "/w/a"],
-        &["section", "/w/a"],
-        &["section", "/w/a", ".text", ".text"],
-        &["scan"],
-    ];
+/// Lines that can't be read.
+const UNREADABLE: [&[&str]; 11] = [
+    &[],
+    &[""],
+    &["frobnicate"],
+    &["IDENT", "/w/a"],
+    &["--help"],
+    &["find", "/w/a"],
+    &["ident"],
+    &["ident", "/w/a", "/w/a"],
+    &["section", "/w/a"],
+    &["section", "/w/a", ".text", ".text"],
+    &["scan"],
+];
+
+/// Lines of commands, or of words of a scan, that aren't built yet. A later command isn't, whatever follows.
+const UNBUILT: [&[&str]; 17] = [
+    &["sources"],
+    &["sources", "--help", ""],
+    &["query"],
+    &["query", "--help", ""],
+    &["serve"],
+    &["serve", "--help", ""],
+    &["trial"],
+    &["trial", "--help", ""],
+    &["scan", "-d"],
+    &["scan", "-d", "m"],
+    &["scan", "/w"],
+    &["scan", "--help"],
+    &["scan", "-d", "m", "-c", "2", "/w"],
+    &["scan", "-d", "m", "w"],
+    &["scan", "-d", "m", "/w/"],
+    &["scan", "-d", "m", "/w", "/w/../v"],
+    &["scan", "--database", "m", "/w"],
+];
+
+/// Runs each line alone: it says this on err, with this status.
+fn each_says(
+    rt: &impl Abort,
+    alloc: Global,
+    lines: &[&[&str]],
+    err: &str,
+    status: u8,
+) -> Result<(), Fail> {
     for words in lines {
-        let case = Case {
+        let case = Run {
             words,
             out: b"",
-            err: USAGE,
-            status: 2,
+            err,
+            status,
         };
-        run_case(
-            &rt,
-            rt.alloc(),
-            hand_of(rt.alloc(), b"", &[])?,
-            &NO_BAD_WRITES,
-            &case,
+        run_all(
+            rt,
+            alloc,
+            one_file(alloc, File::Empty, &[])?,
+            &SOUND,
+            &[case],
         )?;
     }
     Ok(())
 }
 
 #[test]
-fn a_later_command_is_not_built_whatever_follows(rt: HostRuntime) -> Result<(), Fail> {
-    for command in ["sources", "query", "serve", "trial"] {
-        for words in [[command].as_slice(), [command, "--help", ""].as_slice()] {
-            let case = Case {
-                words,
-                out: b"",
-                err: "dbgd: not built yet\n",
-                status: 8,
-            };
-            run_case(
-                &rt,
-                rt.alloc(),
-                hand_of(rt.alloc(), b"", &[])?,
-                &NO_BAD_WRITES,
-                &case,
-            )?;
-        }
-    }
-    Ok(())
-}
-
-#[test]
-fn a_scan_of_other_words_is_not_built(rt: HostRuntime) -> Result<(), Fail> {
-    let lines: [&[&str]; 9] = [
-        &["scan", "-d"],
-        &["scan", "-d", "m"],
-        &["scan", "/w"],
-        &["scan", "--help"],
-        &["scan", "-d", "m", "-c", "2", "/w"],
-        &["scan", "-d", "m", "w"],
-        &["scan", "-d", "m", "/w/"],
-        &["scan", "-d", "m", "/w", "/w/../v"],
-        &["scan", "--database", "m", "/w"],
-    ];
-    for words in lines {
-        let case = Case {
-            words,
-            out: b"",
-            err: "dbgd: not built yet\n",
-            status: 8,
-        };
-        run_case(
-            &rt,
-            rt.alloc(),
-            hand_of(rt.alloc(), b"", &[])?,
-            &NO_BAD_WRITES,
-            &case,
-        )?;
-    }
-    Ok(())
+fn words_that_ask_nothing_give_their_line(rt: HostRuntime) -> Result<(), Fail> {
+    each_says(&rt, rt.alloc(), &UNREADABLE, USAGE, 2)?;
+    each_says(&rt, rt.alloc(), &UNBUILT, "dbgd: not built yet\n", 8)
 }
 
 #[test]
 fn the_local_part_answers_every_line(rt: HostRuntime) -> Result<(), Fail> {
     let alloc = rt.alloc();
-    let mut outside = Outside {
-        hands: vec![in alloc; hand_of(alloc, b"", &[])?]?,
-        store: empty_store(alloc),
-        out: MemSink::new(alloc, Vec::new(alloc)),
-        err: MemSink::new(alloc, Vec::new(alloc)),
-        of: PhantomData::<OpenWorld>,
-    };
+    let mut outside = outside_of(alloc, one_file(alloc, File::Empty, &[])?, &SOUND)?;
+    if outside.hands.is_empty() {
+        return Err("a hand".into());
+    }
     let words = words_of(alloc, &["ident", "/w/a"])?;
     assert_eq!(rt; run_local(alloc, words.as_slice(), &mut outside), Some(3));
     assert_eq!(rt; run_local(alloc, &[], &mut outside), Some(2));

@@ -1,0 +1,155 @@
+//! The hands of the tests.
+
+ghost use Rattle.std.specs.Prelude.{◌≡◌, IfOk};
+
+use row_types::{OpenWorld, Stamp};
+use sample_files::{
+    ID_A, ID_B, big_endian_debug, both_classes, chosen_ids, debug_companion, eight_aligned_notes,
+    executable, extended_counts,
+};
+use std::alloc::{AllocError, Global};
+use std::test::Fail;
+use tree_trait::{DirAnswer, Found, LoadAnswer, MemTree, Script, StatAnswer, Tree, TwoWorld};
+
+/// What a file holds.
+#[derive(Clone, Copy, Debug)]
+pub enum File {
+    Empty,
+    /// An ELF header that is one byte short.
+    Cut,
+    Both,
+    EightAligned,
+    /// Two notes with ids, of which the first id is too short.
+    SecondId,
+    TwoIds,
+    LongestId,
+    TooLongId,
+    BigEndian,
+    Extended,
+    Executable,
+    Companion,
+}
+
+/// A file's bytes.
+fn bytes_of(alloc: Global, file: File) -> Result<Vec<u8>, AllocError> {
+    match file {
+        File::Empty => Ok(Vec::new(alloc)),
+        File::Cut => cut_header(alloc),
+        File::Both => both_classes(alloc),
+        File::EightAligned => eight_aligned_notes(alloc),
+        File::SecondId => chosen_ids(alloc, &[&[0x99], &[0xbe, 0xef]]),
+        File::TwoIds => chosen_ids(alloc, &[&ID_A, &ID_B]),
+        File::LongestId => chosen_ids(alloc, &[&[0x11; 64]]),
+        File::TooLongId => chosen_ids(alloc, &[&[0x11; 65]]),
+        File::BigEndian => big_endian_debug(alloc),
+        File::Extended => extended_counts(alloc),
+        File::Executable => executable(alloc),
+        File::Companion => debug_companion(alloc),
+    }
+}
+
+/// 51 bytes that begin as a 32-bit header, which has 52.
+fn cut_header(alloc: Global) -> Result<Vec<u8>, AllocError> {
+    let mut bytes = Vec::from_slice(alloc, b"\x7fELF\x01\x01\x01")?;
+    bytes.extend_from_slice(&[0; 44])?;
+    Ok(bytes)
+}
+
+/// A file of these bytes.
+fn file_of(alloc: Global, path: &str, bytes: Vec<u8>) -> Result<Found<OpenWorld>, Fail>
+    ensures { IfOk result (λ file. file.path ≡ path.now) }
+{
+    let stamp = Stamp {
+        size: bytes.len() as u64,
+        secs: 100,
+        nanos: 0,
+    };
+    Ok(Found::new(String::from_str(alloc, path)?, stamp, bytes))
+}
+
+/// A hand that has one file, `/w/a`, and fails at these calls.
+pub fn one_file(alloc: Global, file: File, bad: &[u64]) -> Result<MemTree<OpenWorld>, Fail> {
+    let found = file_of(alloc, "/w/a", bytes_of(alloc, file)?)?;
+    let script = Script {
+        stages: vec![in alloc; vec![in alloc; found]?]?,
+        moves: Vec::new(alloc),
+        bad_calls: Vec::from_slice(alloc, bad)?,
+    };
+    Ok(MemTree::new(alloc, script))
+}
+
+/// A hand that has `/srv/a` of both classes and `/srv/b`, a text, and fails at these calls.
+pub fn two_files(alloc: Global, bad: &[u64]) -> Result<MemTree<OpenWorld>, Fail> {
+    let first = file_of(alloc, "/srv/a", both_classes(alloc)?)?;
+    let second = file_of(alloc, "/srv/b", Vec::from_slice(alloc, b"hello\n")?)?;
+    let script = Script {
+        stages: vec![in alloc; vec![in alloc; first, second]?]?,
+        moves: Vec::new(alloc),
+        bad_calls: Vec::from_slice(alloc, bad)?,
+    };
+    Ok(MemTree::new(alloc, script))
+}
+
+/// A hand of the told world of one byte a file, which has `/w/a`.
+pub fn one_byte(alloc: Global) -> Result<MemTree<TwoWorld>, Fail> {
+    let stamp = Stamp {
+        size: 1,
+        secs: 1,
+        nanos: 0,
+    };
+    let found: Found<TwoWorld> = Found::new(
+        String::from_str(alloc, "/w/a")?,
+        stamp,
+        vec![in alloc; b'x']?,
+    );
+    let script = Script {
+        stages: vec![in alloc; vec![in alloc; found]?]?,
+        moves: Vec::new(alloc),
+        bad_calls: Vec::new(alloc),
+    };
+    Ok(MemTree::new(alloc, script))
+}
+
+/// The stamp of a file of one byte more than 1 GiB.
+const LARGE: Stamp = Stamp {
+    size: 1_073_741_825,
+    secs: 100,
+    nanos: 0,
+};
+
+/// A tree that has one file above the size limit, at every path, or no memory for any.
+#[derive(Drop)]
+pub enum Crowded {
+    TooLarge,
+    NoMemory,
+}
+
+impl Tree<OpenWorld> for Crowded {
+    ghost use Rattle.std.specs.Prelude.{false, None, []};
+
+    ghost told = { false };
+
+    ghost shows = { λ _. record { present = []; Still = ⊥; heard = None; faults = 0 } };
+
+    fn load(&mut self, _alloc: Global, _path: &str, limit: u64) -> LoadAnswer<OpenWorld> {
+        match self {
+            Crowded::NoMemory => LoadAnswer::OutOfMemory,
+            Crowded::TooLarge if limit < LARGE.size => LoadAnswer::TooLarge { stamp: LARGE },
+            Crowded::TooLarge => LoadAnswer::Gone,
+        }
+    }
+
+    fn stat(&mut self, _alloc: Global, _path: &str) -> StatAnswer {
+        match self {
+            Crowded::NoMemory => StatAnswer::OutOfMemory,
+            Crowded::TooLarge => StatAnswer::File(LARGE),
+        }
+    }
+
+    fn read_dir(&mut self, _alloc: Global, _path: &str) -> DirAnswer {
+        match self {
+            Crowded::NoMemory => DirAnswer::OutOfMemory,
+            Crowded::TooLarge => DirAnswer::Gone,
+        }
+    }
+}

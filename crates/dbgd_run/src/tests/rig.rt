@@ -1,0 +1,136 @@
+//! One harness for all runs: words are run over objects in memory, and what comes of each is compared.
+
+ghost use Rattle.std.specs.Prelude.{◌<◌};
+
+use crate::elf_truth::ElfTruth;
+use crate::outside::{Outside, run};
+use http_wire::{MemSink, Sink, Stream, WriteAnswer};
+use index_keeper::MemStore;
+use std::alloc::Global;
+use std::marker::PhantomData;
+use std::process::Abort;
+use std::test::Fail;
+use tree_trait::Tree;
+
+/// When the objects around a hand fail: the call of the store from which on it fails, until it is opened
+/// again, those of its calls that fail once, the writes that fail on out and on err, and how many bytes
+/// a write takes at most.
+#[derive(Clone, Copy)]
+pub struct Plan<'a> {
+    pub stop_at: Option<u64>,
+    pub bad_calls: &'a [u64],
+    pub bad_out: &'a [u64],
+    pub bad_err: &'a [u64],
+    pub width: usize,
+}
+
+/// Nothing fails.
+pub const SOUND: Plan<'static> = Plan {
+    stop_at: None,
+    bad_calls: &[],
+    bad_out: &[],
+    bad_err: &[],
+    width: 1000,
+};
+
+/// The words of a run, all that out and err have got by its end, and its status.
+#[derive(Clone, Copy)]
+pub struct Run<'a> {
+    pub words: &'a [&'a str],
+    pub out: &'a [u8],
+    pub err: &'a str,
+    pub status: u8,
+}
+
+/// A sink in memory that takes so many bytes at most at a time.
+#[derive(Drop)]
+pub struct Narrow {
+    pub sink: MemSink,
+    pub width: usize,
+}
+
+impl Stream for Narrow {
+    ghost use Rattle.http_wire.specs.MemSink.{shown_sink};
+
+    ghost shows = { λ s. shown_sink s.sink };
+}
+
+impl Sink for Narrow {
+    fn write(&mut self, bytes: &[u8]) -> WriteAnswer {
+        self.sink
+            .write(&bytes[..bytes.len().min(self.width.max(1))])
+    }
+}
+
+/// The objects of a run.
+type Memory<W, T> = Outside<W, T, MemStore<W>, Narrow>;
+
+/// The words as the program gets them.
+pub fn words_of(alloc: Global, words: &[&str]) -> Result<Vec<String>, Fail> {
+    let mut texts = Vec::new(alloc);
+    for word in words {
+        texts.push(String::from_str(alloc, word)?)?;
+    }
+    Ok(texts)
+}
+
+/// A sink of a plan.
+fn sink_of(alloc: Global, bad_writes: &[u64], width: usize) -> Result<Narrow, Fail> {
+    Ok(Narrow {
+        sink: MemSink::new(alloc, Vec::from_slice(alloc, bad_writes)?),
+        width,
+    })
+}
+
+/// The objects around a hand, by a plan. The store keeps nothing yet.
+pub fn outside_of<W: ElfTruth + Send, T: Tree<W>>(
+    alloc: Global,
+    hand: T,
+    plan: &Plan<'_>,
+) -> Result<Memory<W, T>, Fail> {
+    let bad_calls = Vec::from_slice(alloc, plan.bad_calls)?;
+    let mut hands = Vec::new(alloc);
+    hands.push(hand)?;
+    Ok(Outside {
+        hands,
+        store: MemStore::new(alloc, Vec::new(alloc), plan.stop_at, bad_calls),
+        out: sink_of(alloc, plan.bad_out, plan.width)?,
+        err: sink_of(alloc, plan.bad_err, plan.width)?,
+        of: PhantomData::<W>,
+    })
+}
+
+/// Runs once, and compares.
+fn run_once<W: ElfTruth + Send, T: Tree<W>>(
+    rt: &impl Abort,
+    alloc: Global,
+    outside: &mut Memory<W, T>,
+    case: &Run<'_>,
+) -> Result<(), Fail> {
+    if outside.hands.is_empty() {
+        return Err("a hand".into());
+    }
+    let words = words_of(alloc, case.words)?;
+    let status = run(alloc, words.as_slice(), outside);
+    let out = outside.out.sink.written().ok_or("out is told")?;
+    let err = outside.err.sink.written().ok_or("err is told")?;
+    assert_eq!(rt; out, case.out, "out of {:?}", case.words);
+    assert_eq!(rt; err, case.err.as_bytes(), "err of {:?}", case.words);
+    assert_eq!(rt; status, case.status, "status of {:?}", case.words);
+    Ok(())
+}
+
+/// Runs one after the other over a hand and the objects of a plan.
+pub fn run_all<W: ElfTruth + Send, T: Tree<W>>(
+    rt: &impl Abort,
+    alloc: Global,
+    hand: T,
+    plan: &Plan<'_>,
+    cases: &[Run<'_>],
+) -> Result<(), Fail> {
+    let mut outside = outside_of(alloc, hand, plan)?;
+    for case in cases {
+        run_once(rt, alloc, &mut outside, case)?;
+    }
+    Ok(())
+}

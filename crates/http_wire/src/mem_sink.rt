@@ -1,0 +1,88 @@
+//! A sink that keeps what is written.
+
+ghost use Rattle.std.specs.Prelude.{◌≡◌, ◌<◌, [], Some, length};
+ghost use Rattle.std.specs.Option.{option_copied};
+ghost use Rattle.row_types.specs.Faults.{raised};
+ghost use Rattle.http_wire.specs.MemSink.{next_answer, next_faults, shown_sink};
+ghost use Rattle.http_wire.specs.Sink.{Writes};
+
+use crate::sink::{Sink, WriteAnswer};
+use crate::stream::Stream;
+use row_types::Faults;
+use std::alloc::Global;
+use std::marker::Model;
+
+/// A sink in memory that fails at listed writes and takes each other piece whole. Writes are numbered
+/// from 0. Where memory for a piece is refused, what was written isn't told from then on.
+#[derive(Drop)]
+pub struct MemSink {
+    written: Option<Vec<u8>>,
+    bad_writes: Vec<u64>,
+    writes: u64,
+    faults: Faults,
+}
+
+impl Model for MemSink {
+    ghost use Rattle.std.specs.Option.{option_map};
+    ghost use Rattle.http_wire.specs.MemSink.{SinkFacts};
+
+    ghost Value = { SinkFacts };
+
+    ghost view = { λ s. record {
+      written = option_map (λ v. v.items) s.written;
+      bad_writes = s.bad_writes.items;
+      writes = s.writes;
+      faults = s.faults;
+    } };
+}
+
+impl MemSink {
+    /// An empty sink that fails at these writes.
+    pub fn new(alloc: Global, bad_writes: Vec<u64>) -> MemSink
+        ensures { result ≡ record { written = Some []; bad_writes = bad_writes.items; writes = 0; faults = 0 } }
+    {
+        MemSink {
+            written: Some(Vec::new(alloc)),
+            bad_writes,
+            writes: 0,
+            faults: Faults::new(),
+        }
+    }
+
+    /// The bytes that were written, where they are told.
+    pub fn written(&self) -> Option<&[u8]>
+        ensures { option_copied result ≡ self.now.written }
+    {
+        self.written.as_ref().map(|bytes| bytes.as_slice())
+    }
+}
+
+impl Stream for MemSink {
+    ghost use Rattle.http_wire.specs.MemSink.{shown_sink};
+
+    ghost shows = { shown_sink };
+}
+
+impl Sink for MemSink {
+    fn write(&mut self, bytes: &[u8]) -> WriteAnswer
+        requires { 0 < length bytes.now }
+        ensures writes { Writes bytes.now (shown_sink self.old) (shown_sink self.new) result }
+        ensures exact { result ≡ next_answer self.old bytes.now }
+        ensures count { self.new.faults ≡ next_faults self.old }
+        ensures number { self.new.writes ≡ raised self.old.writes }
+        ensures bad { self.new.bad_writes ≡ self.old.bad_writes }
+    {
+        let fails = self.bad_writes.contains(&self.writes);
+        self.writes = self.writes.saturating_add(1);
+        if fails {
+            self.faults.raise();
+            return WriteAnswer::Failed;
+        }
+        if let Some(written) = &mut self.written
+            && written.extend_from_slice(bytes).is_err()
+        {
+            self.written = None;
+        }
+        WriteAnswer::Took(bytes.len())
+    }
+}

@@ -1,0 +1,43 @@
+//! Where bytes go.
+
+ghost use Rattle.std.specs.Prelude.{◌<◌, MatchResult, length};
+ghost use Rattle.http_wire.specs.Sink.{GetsAll, GetsPart, Writes};
+
+use crate::stream::Stream;
+
+/// What a write answers.
+#[derive(Clone, Copy, Debug, PartialEq, Eq)]
+pub enum WriteAnswer {
+    /// So many bytes from the front were written, at least one.
+    Took(usize),
+    /// None was written.
+    Failed,
+}
+
+/// A write that failed before all the bytes were written.
+#[derive(Clone, Copy, Debug, PartialEq, Eq)]
+pub struct WriteFault;
+
+/// Where bytes go: a stream of the program, or a list in memory.
+pub trait Sink: Stream {
+    /// Writes some bytes from the front.
+    fn write(&mut self, bytes: &[u8]) -> WriteAnswer
+        requires { 0 < length bytes.now }
+        ensures writes { Writes bytes.now (Self.shows self.old) (Self.shows self.new) result };
+}
+
+/// Writes all the bytes. After a fault a proper prefix of them was written.
+pub fn write_all<S: Sink>(sink: &mut S, bytes: &[u8]) -> Result<(), WriteFault>
+    ensures { MatchResult result
+        (λ _. GetsAll bytes.now (S.shows sink.old) (S.shows sink.new))
+        (λ _. GetsPart bytes.now (S.shows sink.old) (S.shows sink.new)) }
+{
+    let mut at = 0;
+    while at < bytes.len() {
+        match sink.write(&bytes[at..]) {
+            WriteAnswer::Took(n) => at += n,
+            WriteAnswer::Failed => return Err(WriteFault),
+        }
+    }
+    Ok(())
+}
