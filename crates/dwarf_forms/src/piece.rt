@@ -49,7 +49,7 @@ fn piece_from(bytes: &[u8], wide: bool, at: u64, n: u64) -> Option<Piece<'_>>
     })
 }
 
-/// The bytes behind the initial length at a place, None where none stands there or it passes the end.
+/// The bytes behind the initial length at a place, None where none stands there or passes the end.
 #[tactic(auto, unfolding(file_formats::specs::DwarfLengths::piece_at))]
 pub fn piece_at(bytes: &[u8], at: u64, order: Order) -> Option<Piece<'_>>
     ensures value { option_map piece_facts result ≡ piece_at order bytes.now at }

@@ -23,7 +23,8 @@ pub enum RawValue<'a> {
 
 /// Passes n bytes.
 fn pass<'a>(cursor: &mut Cursor<'a>, n: u64, format: Format) -> Result<RawValue<'a>, FormFault>
-    ensures { ReadsAs raw_facts (λ s p. fixed_at s n p nothing) format cursor.old cursor.new result }
+    ensures { ReadsAs raw_facts (λ s p. fixed_at s n p nothing) format
+        cursor.old cursor.new result }
 {
     cursor.take(n)?;
     Ok(RawValue::PassedBy)
@@ -63,7 +64,8 @@ fn read_direct<'a>(
     constant: Option<i64>,
     format: Format,
 ) -> Result<RawValue<'a>, FormFault>
-    ensures { ReadsAs raw_facts (λ s. direct_at s constant form) format cursor.old cursor.new result }
+    ensures { ReadsAs raw_facts (λ s. direct_at s constant form) format
+        cursor.old cursor.new result }
 {
     if form == DW_FORM_IMPLICIT_CONST {
         return match constant {

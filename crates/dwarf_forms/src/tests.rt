@@ -15,8 +15,8 @@ fn strings(base: Option<u64>, wide: bool) -> Strings<'static> {
     }
 }
 
-// DWARF 5, section 7.5.6, table 7.6, and section 7.5.5: a form, and how many bytes the value takes that
-// begins with a byte 3 and goes on with bytes 0, in the 32-bit and in the 64-bit format.
+// DWARF 5, section 7.5.6, table 7.6, and section 7.5.5: a form, and how many bytes the value takes
+// that begins with a byte 3 and goes on with bytes 0, in the 32-bit and in the 64-bit format.
 const SIZES: [(u64, usize, usize); 41] = [
     (0x01, 8, 8),
     (0x03, 5, 5),
@@ -114,7 +114,7 @@ fn texts_are_there_or_absent(rt: HostRuntime) {
     }
 }
 
-// Indirect forms lead through one another; implicit_const takes its constant from the abbreviation alone.
+// Indirect forms lead through one another; implicit_const has its constant from the abbreviation.
 #[test]
 fn a_chain_of_indirect_forms_leads_to_one(rt: HostRuntime) {
     let cases: [(u64, &[u8], Option<i64>, Result<Value<'static>, FormFault>); 10] = [

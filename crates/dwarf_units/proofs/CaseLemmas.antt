@@ -6,7 +6,7 @@ use Rattle.std.specs.Result.{result_ok}
 use Rattle.byte_read.specs.View.{View}
 use Rattle.file_formats.specs.DwarfReads.{Read}
 use Rattle.dwarf_forms.specs.declared.fault.FormFault.{FormFault}
-use Rattle.dwarf_forms.specs.FormAnswers.{Answers, Got, Failed}
+use Rattle.dwarf_forms.specs.FormAnswers.{Answers, Got}
 
 -- what a test lets through is what was there
 pub only_then : {A : Type 0} (t : Bool) (x r : A) → (if t then Some x else None) ≡ Some r → (t ≡ true) × (x ≡ r)

@@ -1,8 +1,7 @@
 -- From a unit's header to its first entry, each step leads to one thing.
-use Rattle.std.proofs.Common.{◌≡◌, ℕ, Bool, false, Option, Some, None, Result, Ok, Err, ap, refl, subst, sym, ◌∙◌}
+use Rattle.std.proofs.Common.{◌≡◌, ℕ, false, Option, Some, None, Ok, ap, subst, sym, ◌∙◌}
 use Rattle.std.specs.Prelude.{◌==◌, drop}
 use Rattle.std.proofs.lemmas.Bool.{ne_eqb}
-use Rattle.std.specs.Result.{result_ok}
 use Rattle.byte_read.specs.View.{View, at_start}
 use Rattle.file_formats.specs.declared.dwarf_units.UnitHead.{UnitHead}
 use Rattle.file_formats.specs.DwarfReads.{Input, At, unsigned_at}

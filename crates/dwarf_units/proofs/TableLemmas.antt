@@ -1,7 +1,7 @@
 -- A cursor that has only moved reads from the same bytes.
-use Rattle.std.proofs.Common.{◌≡◌, ℕ, ◌-◌, ◌<◌, Option, ap, length, refl, sym, ◌∙◌, arith}
+use Rattle.std.proofs.Common.{◌≡◌, ℕ, ◌-◌, ◌<◌, ap, length, refl, sym, ◌∙◌, arith}
 use Rattle.byte_read.specs.View.{View}
-use Rattle.file_formats.specs.DwarfReads.{Input, At}
+use Rattle.file_formats.specs.DwarfReads.{Input}
 use Rattle.dwarf_forms.specs.declared.numbers.Format.{Format}
 use Rattle.dwarf_forms.specs.FormAnswers.{input_of}
 use Rattle.dwarf_units.specs.Finds.{LeadsTo, Comes, LeadsNowhere}

@@ -1,5 +1,5 @@
 -- A reader of an entry's values that keeps what it has noted: what is noted, with what is left, decides the entry.
-use Rattle.std.proofs.Common.{◌≡◌, ℕ, Bool, true, false, List, [], ◌∷◌, Option, Some, None, Result, Ok, Err, ap, refl, subst, sym, ◌∙◌}
+use Rattle.std.proofs.Common.{◌≡◌, ℕ, true, false, List, [], ◌∷◌, Option, Some, None, ap, refl, subst, sym, ◌∙◌}
 use Rattle.std.specs.Option.{option_or}
 use Rattle.std.specs.Result.{result_ok}
 use Rattle.byte_read.specs.View.{View}
@@ -7,10 +7,10 @@ use Rattle.file_formats.specs.declared.dwarf_units.Pair.{Pair}
 use Rattle.file_formats.specs.DwarfReads.{Input, At}
 use Rattle.file_formats.specs.DwarfForms.{Raw, form_at}
 use Rattle.file_formats.specs.DwarfSequences.{Along, ends, goes}
-use Rattle.file_formats.specs.DwarfAbbreviations.{pair_at, is_last, Pairs, ended, more}
+use Rattle.file_formats.specs.DwarfAbbreviations.{pair_at, is_last, ended, more}
 use Rattle.file_formats.specs.DwarfUnits.{RawEntry, IsRaw, attribute_at, entry_with, no_attributes, one_attribute, with_first}
 use Rattle.dwarf_forms.specs.declared.numbers.Format.{Format}
-use Rattle.dwarf_forms.specs.FormAnswers.{input_of, Got, Failed}
+use Rattle.dwarf_forms.specs.FormAnswers.{input_of, Got}
 use Rattle.dwarf_units.specs.Finds.{Found}
 use Rattle.dwarf_units.specs.Entries.{IsOnly, RawAt}
 use Rattle.dwarf_units.proofs.CaseLemmas.{some_same}

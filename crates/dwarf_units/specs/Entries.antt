@@ -1,8 +1,7 @@
 -- What callers see of a unit's first entry (DWARF 5, section 7.5.2).
-use Rattle.std.specs.Prelude.{◌≡◌, ℕ, Option, MatchOption}
+use Rattle.std.specs.Prelude.{◌≡◌, Option, MatchOption}
 use Rattle.std.specs.Option.{option_map, option_copied}
 use Rattle.byte_read.specs.View.{View}
-use Rattle.file_formats.specs.DwarfReads.{Input}
 use Rattle.file_formats.specs.DwarfUnits.{DebugSections, RawEntry, RootEntry, IsRaw, IsEntryFrom}
 use Rattle.dwarf_forms.specs.declared.numbers.Format.{Format}
 use Rattle.dwarf_forms.specs.declared.parts.DebugParts.{DebugParts}

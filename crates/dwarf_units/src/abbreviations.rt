@@ -1,7 +1,8 @@
 //! Abbreviations. DWARF 5, section 7.5.3.
 
 ghost use Rattle.std.specs.Prelude.{◌≡◌};
-ghost use Rattle.file_formats.specs.DwarfAbbreviations.{behind_tag, abbreviation_at, spec_at, pair_at, is_last, IsFirst};
+ghost use Rattle.file_formats.specs.DwarfAbbreviations.{behind_tag, abbreviation_at, spec_at};
+ghost use Rattle.file_formats.specs.DwarfAbbreviations.{pair_at, is_last, IsFirst};
 ghost use Rattle.dwarf_units.specs.Finds.{Finds, Walks, PairsTo, tag_at};
 
 use byte_read::Cursor;
@@ -19,7 +20,8 @@ fn pass_tag(table: &mut Cursor<'_>, format: Format) -> Option<()>
     Some(())
 }
 
-/// Reads an abbreviation's code, None where the table ends or is cut. The cursor is then where the pairs begin.
+/// Reads an abbreviation's code, None where the table ends or is cut. The cursor is then where
+/// its pairs begin.
 #[tactic(auto, unfolding(file_formats::specs::DwarfAbbreviations::abbreviation_at))]
 fn read_code(table: &mut Cursor<'_>, format: Format) -> Option<u64>
     ensures { Finds abbreviation_at format table.old table.new result }

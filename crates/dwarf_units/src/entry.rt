@@ -4,7 +4,8 @@ ghost use Rattle.std.specs.Prelude.{◌≡◌, drop, List, ℕ};
 ghost use Rattle.file_formats.specs.DwarfCodes.{UnitCodes};
 ghost use Rattle.std.specs.Option.{option_map, option_and_then, option_copied};
 ghost use Rattle.file_formats.specs.DwarfTexts.{value_of};
-ghost use Rattle.file_formats.specs.DwarfUnits.{IsEntryWith, IsRootEntry, place_of, root_of, text_of};
+ghost use Rattle.file_formats.specs.DwarfUnits.{IsEntryWith, IsRootEntry, place_of};
+ghost use Rattle.file_formats.specs.DwarfUnits.{root_of, text_of};
 ghost use Rattle.dwarf_forms.specs.FormAnswers.{raw_facts};
 ghost use Rattle.dwarf_forms.specs.TextAnswers.{texts_of};
 ghost use Rattle.dwarf_units.specs.UnitList.{unit_facts};
@@ -51,7 +52,9 @@ fn place_in(raw: Option<RawValue<'_>>) -> Option<u64>
 
 /// The text that a value names.
 fn text_in<'a>(raw: Option<RawValue<'a>>, strings: &Strings<'a>) -> Option<&'a [u8]>
-    ensures { option_copied result ≡ option_and_then (λ value. text_of (value_of (texts_of strings.now) value)) (option_map raw_facts raw.entry) }
+    ensures { option_copied result
+        ≡ option_and_then (λ value. text_of (value_of (texts_of strings.now) value))
+        (option_map raw_facts raw.entry) }
 {
     match strings.value(raw?) {
         Value::Text(text) => text,
@@ -79,7 +82,7 @@ fn entry_said<'a>(raw: RawAttributes<'a>, wide: bool, parts: &DebugParts<'a>) ->
     }
 }
 
-/// Reads the values of the entry at a place, by the first abbreviation of its code in the table at a place.
+/// Reads the values of the entry at a place, by the first abbreviation of its code in a table.
 fn read_values_at<'a>(
     table: &mut Cursor<'_>,
     values: &mut Cursor<'a>,
@@ -97,7 +100,8 @@ fn read_values_at<'a>(
 
 /// Reads the first entry of a unit with this header.
 fn read_entry<'a>(unit: &Unit<'a>, head: UnitHead, parts: &DebugParts<'a>) -> Option<UnitDie<'a>>
-    ensures { Tells die_facts (IsEntryWith (sections_of parts.now) (unit_facts unit.now) head) result }
+    ensures { Tells die_facts
+        (IsEntryWith (sections_of parts.now) (unit_facts unit.now) head) result }
 {
     let format = Format {
         wide: unit.wide,
@@ -114,7 +118,8 @@ fn read_entry<'a>(unit: &Unit<'a>, head: UnitHead, parts: &DebugParts<'a>) -> Op
 
 /// Reads what a unit's first entry says of its sources, None where the unit can't be read.
 pub fn unit_die<'a>(unit: &Unit<'a>, parts: &DebugParts<'a>) -> Option<UnitDie<'a>>
-    ensures entry { Tells die_facts (IsRootEntry (sections_of parts.now) (unit_facts unit.now)) result }
+    ensures entry { Tells die_facts
+        (IsRootEntry (sections_of parts.now) (unit_facts unit.now)) result }
     ensures codes { UnitCodes }
 {
     let head = read_head(unit, parts.order)?;

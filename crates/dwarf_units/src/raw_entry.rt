@@ -34,7 +34,8 @@ impl<'a> RawAttributes<'a> {
 
     /// Notes an attribute's value, unless the attribute was there before.
     fn note(&mut self, attribute: u64, value: RawValue<'a>)
-        ensures { raw_entry self.new ≡ with_first (raw_entry self.old) (one_attribute attribute (raw_facts value.entry)) }
+        ensures { raw_entry self.new
+            ≡ with_first (raw_entry self.old) (one_attribute attribute (raw_facts value.entry)) }
     {
         match attribute {
             DW_AT_STMT_LIST => self.stmt_list = self.stmt_list.or(Some(value)),

@@ -1,6 +1,6 @@
 -- Abbreviations (DWARF 5, section 7.5.3, "Abbreviations Tables"): each is a code, a tag, a byte that says whether entries
 -- have children, and pairs of attribute and form that end with the pair (0, 0). The code 0 ends the table.
-use Rattle.std.specs.Prelude.{◌≡◌, ℕ, List, [], ◌∷◌, Bool, true, false, Option, Some, None, ◌&&◌, ◌==◌, if◌then◌else◌, ℤ}
+use Rattle.std.specs.Prelude.{◌≡◌, ℕ, List, [], ◌∷◌, Bool, true, false, Option, Some, None, ◌&&◌, ◌==◌, if◌then◌else◌}
 use Rattle.std.specs.Option.{option_map, option_and_then}
 use Rattle.std.specs.Result.{result_ok}
 use Rattle.file_formats.specs.declared.dwarf_forms.TheConstants.{DW_FORM_IMPLICIT_CONST}
@@ -28,7 +28,8 @@ abbreviation_at s p = option_and_then (λ code. opened_by s code) (result_ok (un
 abbrev pub spec_by : Input → At ℕ → Option (At FormSpec)
 spec_by s form =
     if form.value == DW_FORM_IMPLICIT_CONST
-    then option_map (λ n. record { value = record { form = form.value; constant = Some n.value }; next = n.next }) (result_ok (signed_at s form.next))
+    then option_map (λ n. record { value = record { form = form.value; constant = Some n.value }; next = n.next })
+    (result_ok (signed_at s form.next))
     else Some (record { value = record { form = form.value; constant = None }; next = form.next })
 
 -- the form at place p with its constant
@@ -38,7 +39,8 @@ spec_at s p = option_and_then (λ form. spec_by s form) (result_ok (unsigned_at 
 -- the pair at place p, none where it is cut
 unfoldable pub pair_at : Input → ℕ → Option (At Pair)
 pair_at s p =
-    option_and_then (λ attribute. option_map (λ spec. record { value = record { attribute = attribute.value; spec = spec.value }; next = spec.next })
+    option_and_then (λ attribute.
+    option_map (λ spec. record { value = record { attribute = attribute.value; spec = spec.value }; next = spec.next })
     (spec_at s attribute.next)) (result_ok (unsigned_at s p))
 
 -- the pair that ends an abbreviation
@@ -53,6 +55,7 @@ pub data Pairs (s : Input) : ℕ → List Pair → ℕ → Type 0 where
 
 -- the first abbreviation of a code, in the table that goes on at place p, has its pairs at the last place
 pub data IsFirst (s : Input) (code : ℕ) : ℕ → ℕ → Type 0 where
-  found : (p : ℕ) (head : At ℕ) → abbreviation_at s p ≡ Some head → (head.value == code) ≡ true → IsFirst s code p head.next
-  later : (p : ℕ) (head : At ℕ) (pairs : List Pair) (q r : ℕ) → abbreviation_at s p ≡ Some head → (head.value == code) ≡ false
-      → Pairs s head.next pairs q → IsFirst s code q r → IsFirst s code p r
+  found : (p : ℕ) (head : At ℕ) → abbreviation_at s p ≡ Some head → (head.value == code) ≡ true
+      → IsFirst s code p head.next
+  later : (p : ℕ) (head : At ℕ) (pairs : List Pair) (q r : ℕ) → abbreviation_at s p ≡ Some head
+      → (head.value == code) ≡ false → Pairs s head.next pairs q → IsFirst s code q r → IsFirst s code p r

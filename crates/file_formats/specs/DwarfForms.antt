@@ -77,7 +77,8 @@ pub data Raw : Type 0 where
 
 -- the value of a layout at the place
 abbrev pub layout_at : Input → Layout → ℕ → Read Raw
-layout_at s (Numbered width sense) p = number_at s width p >>= λ n. Ok (record { value = numbered sense n.value; next = n.next })
+layout_at s (Numbered width sense) p =
+    number_at s width p >>= λ n. Ok (record { value = numbered sense n.value; next = n.next })
 layout_at s Signed p = signed_at s p >>= λ n. Ok (record { value = passed_by; next = n.next })
 layout_at s Text p = string_at s p >>= λ t. Ok (record { value = inline t.value; next = t.next })
 layout_at s Address p = fixed_at s s.address_size p (λ _. passed_by)
@@ -96,7 +97,8 @@ implicit_at (Some constant) p = Ok (record { value = passed_by; next = p })
 
 -- the value of a form other than indirect at the place
 abbrev pub direct_at : Input → Option ℤ → ℕ → ℕ → Read Raw
-direct_at s constant form p = if form == DW_FORM_IMPLICIT_CONST then implicit_at constant p else known_at s form (layout_of form) p
+direct_at s constant form p =
+    if form == DW_FORM_IMPLICIT_CONST then implicit_at constant p else known_at s form (layout_of form) p
 
 -- the form that a chain of forms at the place leads to, where it has at most so many members
 unfoldable pub chain_at : Input → ℕ → ℕ → ℕ → Read ℕ

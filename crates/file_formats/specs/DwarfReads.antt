@@ -43,7 +43,8 @@ offset_size wide = if wide then 8 else 4
 -- what the next n bytes mean, where they are there
 abbrev pub fixed_at : {A : Type 0} → Input → ℕ → ℕ → (List ℕ → A) → Read A
 fixed_at s n p meaning =
-    if nat_le (p + n) (length s.bytes) then Ok (record { value = meaning (bytes_at s.bytes p n); next = p + n }) else Err is_short
+    if nat_le (p + n) (length s.bytes) then Ok (record { value = meaning (bytes_at s.bytes p n); next = p + n })
+    else Err is_short
 
 -- 64 bits hold the unsigned number
 abbrev pub is_u64 : ℕ → Bool

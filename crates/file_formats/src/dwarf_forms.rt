@@ -1,5 +1,5 @@
-//! The forms of an attribute's value, under the standard's names (DWARF 5, section 7.5.6, table 7.6),
-//! and how a value of each form stands in the bytes.
+//! The forms of an attribute's value, under the standard's names (DWARF 5, section 7.5.6, table
+//! 7.6), and how a value of each form stands in the bytes.
 
 /// An address, of the unit's address size.
 pub const DW_FORM_ADDR: u64 = 0x01;

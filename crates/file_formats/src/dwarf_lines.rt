@@ -1,4 +1,5 @@
-//! The content types of a line table's entries, under the standard's names (DWARF 5, section 7.22, table 7.27).
+//! The content types of a line table's entries, under the standard's names (DWARF 5, section 7.22,
+//! table 7.27).
 
 /// The path of a directory or file.
 pub const DW_LNCT_PATH: u64 = 0x1;

@@ -1,5 +1,5 @@
-//! The numbers of units and of their first entries, under the standard's names, and what their parts say
-//! (DWARF 5, sections 7.2.2, 7.4 and 7.5.1 to 7.5.4).
+//! The numbers of units and of their first entries, under the standard's names, and what their
+//! parts say (DWARF 5, sections 7.2.2, 7.4 and 7.5.1 to 7.5.4).
 
 /// The least first word that is no length of 32-bit format (section 7.2.2).
 pub const RESERVED_LENGTHS: u64 = 0xffff_fff0;
