@@ -71,8 +71,8 @@ impl Book {
         Counted::Full
     }
 
-    /// Counts what happened, in the share and in its row alike. A count that doesn't fit is refused,
-    /// which marks the share for good.
+    /// Counts what happened, in the share and in its row alike. A count that doesn't fit is
+    /// refused, which marks the share for good.
     pub fn count(&self, share: &mut Share, what: Count) -> Counted
         requires book { share.old.book ≡ self.now.id }
         requires row { IsSome share.old.row }

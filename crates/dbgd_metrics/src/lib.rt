@@ -5,6 +5,8 @@
 mod book;
 mod count;
 mod counting;
+#[cfg(test)]
+mod expected;
 mod number;
 mod page;
 mod plays;

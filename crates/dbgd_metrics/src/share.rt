@@ -3,8 +3,8 @@ use crate::number::{NUMBERS, Number};
 use crate::view::Token;
 use std::marker::Model;
 
-/// A seat of the counter table. Contracts see the table, the row if it has drawn one, its numbers, its
-/// mark and the loads that it has noted.
+/// A seat of the counter table. Contracts see the table, the row if it has drawn one, its numbers,
+/// its mark and the loads that it has noted.
 pub struct Share {
     pub(crate) token: Token,
     pub(crate) row: Option<u64>,

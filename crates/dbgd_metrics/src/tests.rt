@@ -3,6 +3,9 @@ ghost use Rattle.std.specs.Thread.{IsSync};
 ghost use Rattle.dbgd_metrics.specs.Counts.{CanCount};
 ghost use Rattle.dbgd_metrics.specs.declared.count.Count.TheVariants.{Request};
 
+use crate::expected::{
+    AT_THE_END, EACH_ROUTE_AND_STATUS, FOUR_THREADS, TWO_REQUESTS_AND_A_PASS, TWO_THREADS, ZEROS,
+};
 use crate::{Book, Count, Counted, Drawn, RouteName, Share, ShareSplit};
 use std::sync::Wait;
 use std::test::Fail;
@@ -149,16 +152,6 @@ fn answers(
     [first, second, third]
 }
 
-// The page after two requests and a pass.
-const TWO_REQUESTS_AND_A_PASS: &str = "dbgd_requests_total{route=\"debuginfo\",status=\"200\"} 1
-dbgd_requests_total{route=\"executable\",status=\"404\"} 1
-dbgd_body_bytes_total 1026
-dbgd_rows_added_total 12
-dbgd_rows_replaced_total 0
-dbgd_rows_dropped_total 0
-dbgd_passes_total 1
-";
-
 #[test]
 fn the_page_after_two_requests_and_a_pass(rt: HostRuntime) -> Result<(), Fail> {
     let (book, share) = Book::make(rt.alloc(), 1)?;
@@ -179,14 +172,6 @@ fn the_page_after_two_requests_and_a_pass(rt: HostRuntime) -> Result<(), Fail> {
     Ok(())
 }
 
-// The page before anything was counted.
-const ZEROS: &str = "dbgd_body_bytes_total 0
-dbgd_rows_added_total 0
-dbgd_rows_replaced_total 0
-dbgd_rows_dropped_total 0
-dbgd_passes_total 0
-";
-
 #[test]
 fn the_page_of_zeros_has_no_requests(rt: HostRuntime) -> Result<(), Fail> {
     let (book, share) = Book::make(rt.alloc(), 65)?;
@@ -194,22 +179,6 @@ fn the_page_of_zeros_has_no_requests(rt: HostRuntime) -> Result<(), Fail> {
     assert_eq!(rt; book.text(rt.alloc(), &mut share)?.as_str(), ZEROS);
     Ok(())
 }
-
-// A line for each route and for each status.
-const EACH_ROUTE_AND_STATUS: &str = "dbgd_requests_total{route=\"debuginfo\",status=\"200\"} 1
-dbgd_requests_total{route=\"debuginfo\",status=\"400\"} 2
-dbgd_requests_total{route=\"executable\",status=\"404\"} 3
-dbgd_requests_total{route=\"source\",status=\"405\"} 4
-dbgd_requests_total{route=\"section\",status=\"431\"} 5
-dbgd_requests_total{route=\"metrics\",status=\"502\"} 6
-dbgd_requests_total{route=\"other\",status=\"503\"} 7
-dbgd_requests_total{route=\"other\",status=\"507\"} 8
-dbgd_body_bytes_total 36
-dbgd_rows_added_total 3
-dbgd_rows_replaced_total 4
-dbgd_rows_dropped_total 5
-dbgd_passes_total 1
-";
 
 #[test]
 fn lines_stand_by_route_and_status(rt: HostRuntime) -> Result<(), Fail> {
@@ -236,15 +205,6 @@ fn lines_stand_by_route_and_status(rt: HostRuntime) -> Result<(), Fail> {
     Ok(())
 }
 
-// The page after 20,000 requests of 3 bytes each.
-const TWO_THREADS: &str = "dbgd_requests_total{route=\"section\",status=\"200\"} 20000
-dbgd_body_bytes_total 60000
-dbgd_rows_added_total 0
-dbgd_rows_replaced_total 0
-dbgd_rows_dropped_total 0
-dbgd_passes_total 0
-";
-
 #[test]
 fn the_totals_are_what_two_threads_counted(rt: HostRuntime) -> Result<(), Fail> {
     let (book, share) = Book::make(rt.alloc(), 2)?;
@@ -255,16 +215,6 @@ fn the_totals_are_what_two_threads_counted(rt: HostRuntime) -> Result<(), Fail> 
     assert_eq!(rt; book.text(rt.alloc(), &mut second)?.as_str(), TWO_THREADS);
     Ok(())
 }
-
-// The page after 20,000 requests of 3 bytes and 20,000 of 4.
-const FOUR_THREADS: &str = "dbgd_requests_total{route=\"source\",status=\"200\"} 20000
-dbgd_requests_total{route=\"source\",status=\"503\"} 20000
-dbgd_body_bytes_total 140000
-dbgd_rows_added_total 0
-dbgd_rows_replaced_total 0
-dbgd_rows_dropped_total 0
-dbgd_passes_total 0
-";
 
 #[test]
 fn the_totals_are_what_four_threads_counted(rt: HostRuntime) -> Result<(), Fail> {
@@ -277,16 +227,6 @@ fn the_totals_are_what_four_threads_counted(rt: HostRuntime) -> Result<(), Fail>
     assert_eq!(rt; book.text(rt.alloc(), &mut right)?.as_str(), FOUR_THREADS);
     Ok(())
 }
-
-// The page of two shares whose bytes are at their end, twice 2^64 - 1.
-const AT_THE_END: &str = "dbgd_requests_total{route=\"other\",status=\"200\"} 2
-dbgd_requests_total{route=\"other\",status=\"405\"} 1
-dbgd_body_bytes_total 36893488147419103230
-dbgd_rows_added_total 0
-dbgd_rows_replaced_total 0
-dbgd_rows_dropped_total 0
-dbgd_passes_total 0
-";
 
 #[test]
 fn a_number_at_its_end_stays_and_marks_the_share(rt: HostRuntime) -> Result<(), Fail> {

@@ -44,8 +44,8 @@ impl Book {
         Ok(totals)
     }
 
-    /// The page of the totals. Each word is loaded once, at a moment within this call; the numbers of
-    /// other shares may grow in between.
+    /// The page of the totals. Each word is loaded once, at a moment within this call; the numbers
+    /// of other shares may grow in between.
     pub fn text(&self, alloc: Global, share: &mut Share) -> Result<String, AllocError>
         requires book { share.old.book ≡ self.now.id }
         requires row { IsSome share.old.row }
