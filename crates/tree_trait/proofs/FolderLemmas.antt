@@ -1,22 +1,20 @@
 -- Paths under a folder, and the entries that they give.
-use Rattle.std.proofs.Common.{◌≡◌, ◌≢◌, ℕ, ◌+◌, ◌≤◌, ◌<◌, ◌||◌, ◌&&◌, ◌⊎◌, Bool, true, false, not, cond, List, [], ◌∷◌, ◌++◌, length, take, drop, map, Option, Some, None, option_map, is_some, MatchOption, Bor, nat_eq, refl, sym, ◌∙◌, ap, subst, inl, inr, append_assoc, length-append, arith}
+use Rattle.std.proofs.Common.{◌≡◌, ◌≢◌, ℕ, ◌+◌, ◌≤◌, ◌<◌, ◌||◌, Bool, true, false, not, cond, List, [], ◌∷◌, ◌++◌, length, take, drop, map, Option, Some, None, option_map, is_some, MatchOption, Bor, nat_eq, refl, sym, ◌∙◌, ap, subst, append_assoc, length-append, arith}
 use Rattle.std.specs.Prelude.{◌==◌, nat_lt, if◌then◌else◌}
-use Rattle.std.specs.List.{list_any, list_all, starts_with, position_or_len, prefix_len, before_first, after_first}
+use Rattle.std.specs.List.{list_any, starts_with, position_or_len, prefix_len, before_first, after_first}
 use Rattle.std.specs.Str.{bytes_eq}
 use Rattle.std.proofs.Math.Seq.{drop-append_seam, take-append_seam}
-use Rattle.std.proofs.lemmas.Bool.{eqb-true, lt-ltb, ltb-true, false_from_ne_true, not-true, and_from, or_cases, or_from, or_left, or_parts, or_right}
-use Rattle.std.proofs.lemmas.Bool.Decides.{Decides-eqb, same_from_decides}
+use Rattle.std.proofs.lemmas.Bool.{eqb-true, lt-ltb, ltb-true, false_from_ne_true, and_from}
+use Rattle.std.proofs.lemmas.Bool.Decides.{Decides-eqb}
 use Rattle.std.proofs.lemmas.List.{append_cancel_left}
-use Rattle.std.proofs.lemmas.List.Folds.{list_all-append, list_any-append}
 use Rattle.std.proofs.lemmas.List.Sums.{split_at_first, passes_at_first}
 use Rattle.std.proofs.lemmas.Slice.Eq.{bytes_eq-Decides, starts_is}
 use Rattle.row_types.specs.Canon.{stays}
-use Rattle.row_types.specs.Name.{NameFacts}
 use Rattle.row_types.specs.declared.limits.TheConstants.{SEPARATOR}
 use Rattle.row_types.proofs.CanonLemmas.{left_true, right_true}
-use Rattle.tree_trait.specs.Dir.{child, makes, is_there, are_once, IsListing}
-use Rattle.tree_trait.specs.Entry.{EntryFacts, has_no_slash, is_entry_name, same_kind, same_entry, has_entry}
-use Rattle.tree_trait.specs.Folder.{first_piece, piece_under, with_piece, with_pieces}
+use Rattle.tree_trait.specs.Dir.{child, makes}
+use Rattle.tree_trait.specs.Entry.{EntryFacts, has_no_slash, is_entry_name}
+use Rattle.tree_trait.specs.Folder.{IsRest, first_piece, piece_under}
 use Rattle.tree_trait.specs.Found.{FoundFacts, name_of}
 use Rattle.row_types.specs.Under.{front_under, lies_under}
 use Rattle.tree_trait.specs.Present.{is_folder}
@@ -24,7 +22,7 @@ use Rattle.tree_trait.specs.declared.entry.EntryKind.{EntryKind}
 use Rattle.tree_trait.specs.declared.entry.EntryKind.TheVariants.{Folder, File, Other}
 
 -- what follows a folder's path and a slash
-pub rest_of : (parent folder path inner : List ℕ) (r : Option (Bor (List ℕ))) → parent ++ SEPARATOR ∷ [] ≡ front_under folder → path ≡ parent ++ inner → MatchOption r ((rest : List ℕ) → inner ≢ SEPARATOR ∷ rest) (λ x. inner ≡ SEPARATOR ∷ x.now) → MatchOption r ((rest : List ℕ) → path ≢ front_under folder ++ rest) (λ x. path ≡ front_under folder ++ x.now)
+pub rest_of : (parent folder path inner : List ℕ) (r : Option (Bor (List ℕ))) → parent ++ SEPARATOR ∷ [] ≡ front_under folder → path ≡ parent ++ inner → MatchOption r ((rest : List ℕ) → inner ≢ SEPARATOR ∷ rest) (λ x. inner ≡ SEPARATOR ∷ x.now) → IsRest (front_under folder) path r
 rest_of parent folder path inner None front split h =
     λ rest e. h rest (append_cancel_left parent inner (SEPARATOR ∷ rest) (sym split ∙ e ∙ ap (λ f. f ++ rest) (sym front) ∙ append_assoc parent (SEPARATOR ∷ []) rest))
 rest_of parent folder path inner (Some x) front split h =
@@ -37,7 +35,7 @@ starts_at front path rest e = (starts_is Decides-eqb path front (starts_with nat
 pub starts_rest : (front path : List ℕ) → starts_with nat_eq path front ≡ true → path ≡ front ++ drop (length front) path
 starts_rest front path h = (starts_is Decides-eqb path front (starts_with nat_eq path front) refl).0 h
 
-pub is_some_starts : (front path : List ℕ) (r : Option (Bor (List ℕ))) → MatchOption r ((rest : List ℕ) → path ≢ front ++ rest) (λ x. path ≡ front ++ x.now) → is_some r ≡ starts_with nat_eq path front
+pub is_some_starts : (front path : List ℕ) (r : Option (Bor (List ℕ))) → IsRest front path r → is_some r ≡ starts_with nat_eq path front
 is_some_starts front path None h = sym (false_from_ne_true (starts_with nat_eq path front) (λ t. h (drop (length front) path) (starts_rest front path t)))
 is_some_starts front path (Some x) h = sym (starts_at front path x.now h)
 
@@ -48,7 +46,7 @@ piece_at folder path rest e =
     subst (λ b. (if b then Some (first_piece (drop (length front) path)) else None) ≡ Some (first_piece rest)) (sym (starts_at front path rest e))
     (ap (λ t. Some (first_piece t)) (ap (drop (length front)) e ∙ drop-append_seam front rest))
 
-pub piece_of_rest : (folder path : List ℕ) (r : Option (Bor (List ℕ))) → MatchOption r ((rest : List ℕ) → path ≢ front_under folder ++ rest) (λ x. path ≡ front_under folder ++ x.now) → option_map (λ x. first_piece x.now) r ≡ piece_under folder path
+pub piece_of_rest : (folder path : List ℕ) (r : Option (Bor (List ℕ))) → IsRest (front_under folder) path r → option_map (λ x. first_piece x.now) r ≡ piece_under folder path
 piece_of_rest folder path None h =
     let front : List ℕ = front_under folder in
     let none : starts_with nat_eq path front ≡ false = false_from_ne_true (starts_with nat_eq path front) (λ t. h (drop (length front) path) (starts_rest front path t)) in
@@ -170,118 +168,3 @@ made_is_piece folder path name Folder valid h =
     ∙ append_assoc (child folder name) (SEPARATOR ∷ []) more ∙ append_assoc (front_under folder) name (SEPARATOR ∷ more) in
     piece_at folder path (name ++ SEPARATOR ∷ more) split ∙ ap (λ p. Some p) (first_dir name more (right_true (stays name) (has_no_slash name) valid))
 made_is_piece folder path name Other valid h = cc
-
--- an entry is the same as itself, and sameness goes both ways
-kind_itself : (k : EntryKind) → same_kind k k ≡ true
-kind_itself Folder = refl
-kind_itself File = refl
-kind_itself Other = refl
-
-kind_back : (k j : EntryKind) → same_kind k j ≡ same_kind j k
-kind_back Folder Folder = refl
-kind_back Folder File = refl
-kind_back Folder Other = refl
-kind_back File Folder = refl
-kind_back File File = refl
-kind_back File Other = refl
-kind_back Other Folder = refl
-kind_back Other File = refl
-kind_back Other Other = refl
-
-bytes_back : (a b : List ℕ) → bytes_eq a b ≡ bytes_eq b a
-bytes_back a b =
-    let one = bytes_eq-Decides a b in
-    let two = bytes_eq-Decides b a in
-    same_from_decides (bytes_eq a b) (bytes_eq b a) one (λ t. sym (two.0 t), λ e. two.1 (sym e))
-
-entry_itself : (e : EntryFacts) → same_entry e e ≡ true
-entry_itself e = and_from _ _ ((bytes_eq-Decides e.name e.name).1 refl) (kind_itself e.kind)
-
-entry_back : (e f : EntryFacts) → same_entry e f ≡ same_entry f e
-entry_back e f =
-    ap (λ b. b && same_kind e.kind f.kind) (bytes_back e.name f.name) ∙ ap (λ b. bytes_eq f.name e.name && b) (kind_back e.kind f.kind)
-
--- what each entry has, each has with one more piece that has it
-piece_each : (P : EntryFacts → Bool) (known : List EntryFacts) (p : Option EntryFacts) → list_all P known ≡ true → ((e : EntryFacts) → p ≡ Some e → is_entry_name e.name ≡ true → P e ≡ true) → list_all P (with_piece known p) ≡ true
-piece_each P known None h k = h
-piece_each P known (Some e) h k =
-    elim (is_entry_name e.name && not (has_entry known e)) as (λ v. (is_entry_name e.name && not (has_entry known e)) ≡ v → list_all P (if v then known ++ e ∷ [] else known) ≡ true) [
-      | true ↦ λ t. list_all-append P known (e ∷ []) ∙ and_from _ _ h (and_from (P e) true (k e refl (left_true (is_entry_name e.name) _ t)) refl)
-      | false ↦ λ t. h
-    ] refl
-
-each_of : (folder : List ℕ) (whole files : List NameFacts) (known : List EntryFacts) → ((e : EntryFacts) → is_there files folder e ≡ true → is_there whole folder e ≡ true) → list_all (is_there whole folder) known ≡ true → list_all (is_there whole folder) (with_pieces folder known files) ≡ true
-each_of folder whole [] known sub h = h
-each_of folder whole (file ∷ rest) known sub h =
-    each_of folder whole rest (with_piece known (piece_under folder file.path))
-    (λ e t. sub e (or_right (makes e.kind (child folder e.name) file.path) _ t))
-    (piece_each (is_there whole folder) known (piece_under folder file.path) h
-    (λ e p valid. sub e (or_left _ (is_there rest folder e) (piece_makes folder file.path e p valid))))
-
--- an entry that is known stays, and a piece is known from then on
-piece_keeps : (known : List EntryFacts) (p : Option EntryFacts) (e : EntryFacts) → has_entry known e ≡ true → has_entry (with_piece known p) e ≡ true
-piece_keeps known None e h = h
-piece_keeps known (Some f) e h =
-    elim (is_entry_name f.name && not (has_entry known f)) as (λ v. has_entry (if v then known ++ f ∷ [] else known) e ≡ true) [
-      | true ↦ list_any-append (same_entry e) known (f ∷ []) ∙ or_left _ _ h
-      | false ↦ h
-    ]
-
-piece_adds : (known : List EntryFacts) (e : EntryFacts) → is_entry_name e.name ≡ true → has_entry (with_piece known (Some e)) e ≡ true
-piece_adds known e valid =
-    elim (has_entry known e) as (λ v. has_entry known e ≡ v → has_entry (if is_entry_name e.name && not v then known ++ e ∷ [] else known) e ≡ true) [
-      | true ↦ λ t. subst (λ b. has_entry (if b then known ++ e ∷ [] else known) e ≡ true) (sym (and_no (is_entry_name e.name))) t
-      | false ↦ λ t. subst (λ b. has_entry (if b then known ++ e ∷ [] else known) e ≡ true) (sym (and_from (is_entry_name e.name) true valid refl))
-          (list_any-append (same_entry e) known (e ∷ []) ∙ or_right (has_entry known e) _ (or_left (same_entry e e) false (entry_itself e)))
-    ] refl
-  where
-    and_no : (b : Bool) → (b && false) ≡ false
-    and_no true = refl
-    and_no false = refl
-
-all_of : (folder : List ℕ) (files : List NameFacts) (known : List EntryFacts) (e : EntryFacts) → is_entry_name e.name ≡ true → (has_entry known e ≡ true) ⊎ (is_there files folder e ≡ true) → has_entry (with_pieces folder known files) e ≡ true
-all_of folder [] known e valid (inl h) = h
-all_of folder [] known e valid (inr h) = cc
-all_of folder (file ∷ rest) known e valid (inl h) = all_of folder rest (with_piece known (piece_under folder file.path)) e valid (inl (piece_keeps known (piece_under folder file.path) e h))
-all_of folder (file ∷ rest) known e valid (inr h) =
-    elim (or_cases (makes e.kind (child folder e.name) file.path) (is_there rest folder e) h) [
-      | inl t ↦ all_of folder rest (with_piece known (piece_under folder file.path)) e valid
-          (inl (subst (λ p. has_entry (with_piece known p) e ≡ true) (sym (made_is_piece folder file.path e.name e.kind valid t)) (piece_adds known e valid)))
-      | inr t ↦ all_of folder rest (with_piece known (piece_under folder file.path)) e valid (inr t)
-    ]
-
--- no entry stands twice
-once_more : (known : List EntryFacts) (e : EntryFacts) → are_once known ≡ true → has_entry known e ≡ false → are_once (known ++ e ∷ []) ≡ true
-once_more [] e h n = refl
-once_more (first ∷ rest) e h n =
-    and_from _ _
-    (ap not (list_any-append (same_entry first) rest (e ∷ [])
-    ∙ or_from _ _ (not-true (has_entry rest first) (left_true _ (are_once rest) h)) (or_from _ false (entry_back first e ∙ (or_parts (same_entry e first) (has_entry rest e) n).0) refl)))
-    (once_more rest e (right_true (not (has_entry rest first)) _ h) (or_parts (same_entry e first) (has_entry rest e) n).1)
-
-piece_once : (known : List EntryFacts) (p : Option EntryFacts) → are_once known ≡ true → are_once (with_piece known p) ≡ true
-piece_once known None h = h
-piece_once known (Some e) h =
-    elim (is_entry_name e.name && not (has_entry known e)) as (λ v. (is_entry_name e.name && not (has_entry known e)) ≡ v → are_once (if v then known ++ e ∷ [] else known) ≡ true) [
-      | true ↦ λ t. once_more known e h (not-true (has_entry known e) (right_true (is_entry_name e.name) _ t))
-      | false ↦ λ t. h
-    ] refl
-
-once_of : (folder : List ℕ) (files : List NameFacts) (known : List EntryFacts) → are_once known ≡ true → are_once (with_pieces folder known files) ≡ true
-once_of folder [] known h = h
-once_of folder (file ∷ rest) known h = once_of folder rest (with_piece known (piece_under folder file.path)) (piece_once known (piece_under folder file.path) h)
-
--- each entry has an entry's name
-names_of : (folder : List ℕ) (files : List NameFacts) (known : List EntryFacts) → list_all (λ e. is_entry_name e.name) known ≡ true → list_all (λ e. is_entry_name e.name) (with_pieces folder known files) ≡ true
-names_of folder [] known h = h
-names_of folder (file ∷ rest) known h =
-    names_of folder rest (with_piece known (piece_under folder file.path)) (piece_each (λ e. is_entry_name e.name) known (piece_under folder file.path) h (λ e is valid. valid))
-
--- the pieces of all files are the folder's listing
-pub listing : (folder : List ℕ) (files : List NameFacts) → IsListing files folder (with_pieces folder [] files)
-listing folder files = record {
-  names = names_of folder files [] refl;
-  each = each_of folder files files [] (λ e h. h) refl;
-  all = λ e valid there. all_of folder files [] e valid (inr there);
-  once = once_of folder files [] refl;
-}

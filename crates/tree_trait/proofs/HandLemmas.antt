@@ -1,6 +1,5 @@
 -- A tree that is handed on by some calls, and then by some more.
-use Rattle.std.proofs.Common.{◌≤◌, ◌⊎◌, Bool, inl, inr, ◌∙◌, arith}
-use Rattle.row_types.specs.Faults.{Rose}
+use Rattle.std.proofs.Common.{◌⊎◌, Bool, inl, inr, ◌∙◌, arith}
 use Rattle.tree_trait.specs.Found.{Versions}
 use Rattle.tree_trait.specs.Shown.{ShownTree, HandsOn}
 

@@ -1,4 +1,6 @@
+pub mod EntryLemmas
 pub mod FolderLemmas
 pub mod HandLemmas
+pub mod ListingLemmas
 pub mod NameLemmas
 pub mod TreeLemmas

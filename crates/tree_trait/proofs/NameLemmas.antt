@@ -1,12 +1,12 @@
 -- Names of files, and the file at a path.
-use Rattle.std.proofs.Common.{◌≡◌, ℕ, Bool, true, false, cond, List, [], ◌∷◌, map, Option, Some, None, option_map, MatchOption, refl, sym, ◌∙◌, ap, Bor}
+use Rattle.std.proofs.Common.{◌≡◌, ℕ, Bool, true, false, cond, List, [], ◌∷◌, map, Option, Some, None, option_map, refl, sym, ◌∙◌, ap, Bor}
 use Rattle.std.specs.List.{find}
 use Rattle.std.specs.Option.{option_copied}
 use Rattle.std.specs.Str.{bytes_eq}
 use Rattle.std.proofs.lemmas.Slice.Eq.{bytes_eq-Decides}
 use Rattle.tree_trait.specs.Found.{FoundFacts, name_of}
 use Rattle.row_types.specs.Name.{stamp_at}
-use Rattle.tree_trait.specs.Present.{IsAt}
+use Rattle.tree_trait.specs.Present.{IsFileAt}
 
 -- the stamp at a path is that of the first file of the path
 pub stamp_at-names : (files : List FoundFacts) (path : List ℕ) → stamp_at (map name_of files) path ≡ option_map (λ file. file.stamp) (find (λ file. bytes_eq file.path path) files)
@@ -23,7 +23,7 @@ find_passes p (y ∷ ys) x e =
     [ true ↦ λ t f. cc | false ↦ λ t f. find_passes p ys x f ] refl e
 
 -- what the search for a path answers of the names
-pub found_at : (files : List FoundFacts) (path : List ℕ) (result : Option (Bor FoundFacts)) → option_copied result ≡ find (λ file. bytes_eq file.path path) files → MatchOption result (stamp_at (map name_of files) path ≡ None) (λ file. IsAt (map name_of files) path (name_of file.now))
+pub found_at : (files : List FoundFacts) (path : List ℕ) (result : Option (Bor FoundFacts)) → option_copied result ≡ find (λ file. bytes_eq file.path path) files → IsFileAt files path result
 found_at files path None e = stamp_at-names files path ∙ ap (option_map (λ file. file.stamp)) (sym e)
 found_at files path (Some file) e = record {
   there = stamp_at-names files path ∙ ap (option_map (λ f. f.stamp)) (sym e);

@@ -63,6 +63,13 @@ pub looked_stays : (answers more : List Heard) (path : List ℕ) → IsSome (fir
 looked_stays answers more path h =
     ap is_some (first_some-append (look_at path) answers more) ∙ some_or (first_look answers path) (first_some (look_at path) more) h
 
+-- a path that was looked at just now was looked at
+pub looked_now : (answers : List Heard) (path : List ℕ) (answer : StatAnswer) → is_look_answer answer ≡ true → IsSome (first_look (answers ++ stat path answer ∷ []) path)
+looked_now answers path answer ok =
+    ap is_some (first_some-append (look_at path) answers (stat path answer ∷ []))
+    ∙ or_some (first_look answers path) (option_or (look_at path (stat path answer)) None)
+    (some_or (look_at path (stat path answer)) None (ap (λ (b : Bool). is_some (if b then Some answer else None)) (and_from _ _ ((bytes_eq-Decides path path).1 refl) ok)))
+
 -- an entry that was listed stays listed
 pub entries_stay : (answers more : List Heard) (folder : List ℕ) (entry : EntryFacts) → has_entry (entries_in answers folder) entry ≡ true → has_entry (entries_in (answers ++ more) folder) entry ≡ true
 entries_stay answers more folder entry h =
@@ -92,6 +99,11 @@ after_first {Y} f {good} answers last path answer ok fresh says p =
 -- one more look, at a path that wasn't looked at
 pub after_look : (answers : List Heard) (path : List ℕ) (answer : StatAnswer) → is_look_answer answer ≡ true → first_look answers path ≡ None → (p : List ℕ) → first_look (answers ++ stat path answer ∷ []) p ≡ cond (same p path) (Some answer) (first_look answers p)
 after_look answers path answer ok fresh p = after_first look_at answers (stat path answer) path answer ok fresh (λ q. refl) p
+
+-- at that path
+pub look_here : (answers : List Heard) (path : List ℕ) (answer : StatAnswer) → is_look_answer answer ≡ true → first_look answers path ≡ None → first_look (answers ++ stat path answer ∷ []) path ≡ Some answer
+look_here answers path answer ok fresh =
+    after_look answers path answer ok fresh path ∙ ap (λ (b : Bool). cond b (Some answer) (first_look answers path)) ((same-Decides path path).1 refl)
 
 -- one more look, at a path that was looked at before
 pub look_again : (answers : List Heard) (path : List ℕ) (answer : StatAnswer) {known : StatAnswer} → first_look answers path ≡ Some known → (p : List ℕ) → first_look (answers ++ stat path answer ∷ []) p ≡ first_look answers p
@@ -123,9 +135,8 @@ times_after_reading answers path answer p = sum_by_push (λ (h : Heard). one_if 
 
 -- a folder that wasn't asked has no answer
 no_reading : (p : List ℕ) (h : Heard) → reads p h ≡ false → reading_of p h ≡ None
-no_reading p (load asked limit answer) e = refl
-no_reading p (stat asked answer) e = refl
 no_reading p (read_dir asked answer) e = ap (λ (b : Bool). if b then Some answer else None) (and_left (bytes_eq asked p) (is_dir_answer answer) e)
+no_reading p _ e = refl
 
 pub unread : (answers : List Heard) (p : List ℕ) → times_read answers p ≡ 0 → first_reading answers p ≡ None
 unread [] p h = refl
@@ -154,21 +165,19 @@ was_read (x ∷ answers) p h some =
 
 -- what a look that was answered says, it was answered at that path
 pub look_says : (p : List ℕ) (h : Heard) {answer : StatAnswer} → look_at p h ≡ Some answer → (h ≡ stat p answer) × (is_look_answer answer ≡ true)
-look_says p (load asked limit other) {answer} e = absurd (none-some answer e)
 look_says p (stat asked other) {answer} e =
     let parts = cond_some (bytes_eq asked p && is_look_answer other) other answer e in
     let both = and_parts (bytes_eq asked p) (is_look_answer other) parts.0 in (
       ap (λ (q : List ℕ). stat q other) ((bytes_eq-Decides asked p).0 both.0) ∙ ap (λ (a : StatAnswer). stat p a) parts.1,
       ap is_look_answer (sym parts.1) ∙ both.1,
     )
-look_says p (read_dir asked other) {answer} e = absurd (none-some answer e)
+look_says p _ {answer} e = absurd (none-some answer e)
 
 pub reading_says : (p : List ℕ) (h : Heard) {answer : DirFacts} → reading_of p h ≡ Some answer → (h ≡ read_dir p answer) × (is_dir_answer answer ≡ true)
-reading_says p (load asked limit other) {answer} e = absurd (none-some answer e)
-reading_says p (stat asked said) {answer} e = absurd (none-some answer e)
 reading_says p (read_dir asked other) {answer} e =
     let parts = cond_some (bytes_eq asked p && is_dir_answer other) other answer e in
     let both = and_parts (bytes_eq asked p) (is_dir_answer other) parts.0 in (
       ap (λ (q : List ℕ). read_dir q other) ((bytes_eq-Decides asked p).0 both.0) ∙ ap (λ (d : DirFacts). read_dir p d) parts.1,
       ap is_dir_answer (sym parts.1) ∙ both.1,
     )
+reading_says p _ {answer} e = absurd (none-some answer e)

@@ -1,6 +1,6 @@
 -- What is reached by answers is reached by more of them.
-use Rattle.std.proofs.Common.{◌≡◌, ℕ, inl, inr, List, ◌++◌, All, Some, subst}
-use Rattle.std.proofs.lemmas.List.Elements.{All-contains}
+use Rattle.std.proofs.Common.{◌≡◌, ℕ, inl, inr, List, [], ◌∷◌, ◌++◌, All, Some, subst}
+use Rattle.std.proofs.lemmas.List.Elements.{All-contains, All-push, All-weaker}
 use Rattle.row_types.specs.Canon.{IsCanonPath}
 use Rattle.tree_trait.specs.Heard.{Heard, load, stat, read_dir}
 use Rattle.tree_trait.specs.declared.entry.EntryKind.{EntryKind}
@@ -37,10 +37,16 @@ pub candidate_more : (answers more : List Heard) (roots : List (List ℕ)) (path
 candidate_more answers more roots path (inl r) = inl r
 candidate_more answers more roots path (inr e) = inr (entry_more more e)
 
-pub due_more : (answers more : List Heard) (roots : List (List ℕ)) (h : Heard) → IsDue answers roots h → IsDue (answers ++ more) roots h
+due_more : (answers more : List Heard) (roots : List (List ℕ)) (h : Heard) → IsDue answers roots h → IsDue (answers ++ more) roots h
 due_more answers more roots (load path limit answer) d = d
 due_more answers more roots (stat path answer) d = (candidate_more answers more roots path d.0, d.1)
 due_more answers more roots (read_dir path answer) d = (folder_more answers more roots path d.0, d.1)
+
+-- with one more that was due, all were
+pub due_push : (answers : List Heard) (roots : List (List ℕ)) (h : Heard) → All (IsDue answers roots) answers → IsDue (answers ++ h ∷ []) roots h → All (IsDue (answers ++ h ∷ []) roots) (answers ++ h ∷ [])
+due_push answers roots h due last =
+    let later : List Heard = answers ++ h ∷ [] in
+    All-push (IsDue later roots) answers h (All-weaker (IsDue answers roots) (IsDue later roots) (due_more answers (h ∷ []) roots) answers due) last
 
 -- a folder is reached
 pub folder_reached : (answers : List Heard) (roots : List (List ℕ)) (path : List ℕ) → IsFolder answers roots path → IsReached answers roots path

@@ -4,7 +4,7 @@ use Rattle.std.proofs.lemmas.Result.{IfOk-weaker}
 use Rattle.tree_trait.specs.Dir.{IsListing}
 use Rattle.tree_trait.specs.Folder.{with_pieces}
 use Rattle.tree_trait.specs.Found.{name_of}
-use Rattle.tree_trait.proofs.FolderLemmas.{listing}
+use Rattle.tree_trait.proofs.ListingLemmas.{listing}
 use Rattle.tree_trait.proofs.folder.entries_of.Goals as goal
 
 pub returns : goal.returns

@@ -2,7 +2,7 @@
 use Rattle.std.proofs.Common.{ℕ, ◌+◌, ◌<◌, ◌≤◌, List, ◌++◌, length, drop, ◌∙◌, arith}
 use Rattle.tree_trait.specs.Entry.{EntryFacts}
 use Rattle.tree_trait.proofs.HandLemmas.{hands_then}
-use Rattle.tree_walk.proofs.FileLemmas.{next_from}
+use Rattle.tree_walk.proofs.UnderwayLemmas.{next_from}
 use Rattle.tree_walk.proofs.GoesLemmas.{goes_then, goes_then_up}
 use Rattle.tree_walk.proofs.top.enter_all.Goals as goal
 

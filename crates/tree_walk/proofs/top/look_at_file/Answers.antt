@@ -1,11 +1,9 @@
 -- The file was looked at before, or the look is answered, or it fails.
-use Rattle.std.proofs.Common.{◌≡◌, true, ◌++◌, refl, sym, ◌∙◌, subst}
-use Rattle.std.proofs.lemmas.Result.{MatchResult-weaker}
-use Rattle.tree_trait.specs.Heard.{stat, has_failed}
+use Rattle.std.proofs.Common.{refl, sym, ◌∙◌}
+use Rattle.tree_trait.specs.Heard.{stat}
 use Rattle.tree_trait.specs.declared.stat.StatAnswer.TheVariants.{Failed}
-use Rattle.tree_walk.specs.Search.{SearchFacts, IsUnderway}
 use Rattle.tree_walk.proofs.LastLemmas.{look_last}
-use Rattle.tree_walk.proofs.FileLemmas.{file_candidate, known_file, new_file, file_entry, file_fault}
+use Rattle.tree_walk.proofs.FileLemmas.{file_candidate, file_ends, known_file}
 use Rattle.tree_walk.proofs.GoesLemmas.{goes_none, goes_on, goes_up, call_fault}
 use Rattle.tree_walk.proofs.top.look_at_file.Goals as goal
 
@@ -16,14 +14,8 @@ returns-then-is_looked-clause-goes g c = λ answers roots folder entry rest is n
 pub returns-in_err-answer-clause-goes : goal.returns-in_err-answer-clause-goes
 returns-in_err-answer-clause-goes g c = λ answers roots folder entry rest is n.
     goes_up c.from_residual.ensures.1 c.in_err-answer.ensures.goes
-    (λ more h. call_fault answers more (stat c.args.path Failed) c.in_err-answer.field-0.0
-    (look_last Failed (λ last. has_failed last ≡ true) n.next.underway (file_candidate is n) n.kept refl) h)
+    (λ more h. call_fault answers more (stat c.args.path Failed) c.in_err-answer.field-0.0 (look_last Failed n.next.underway (file_candidate is n) n.kept refl) h)
 
 pub returns-clause-goes : goal.returns-clause-goes
 returns-clause-goes g c = λ answers roots folder entry rest is n.
-    goes_on c.in_ok-answer.ensures.goes
-    (λ more h.
-    let new = new_file is n (sym c.is_looked.ensures ∙ c.if-is_looked.false) h.answered in
-    MatchResult-weaker c.note_new.result c.note_new.ensures
-    (λ _ added. subst (λ (s : SearchFacts). IsUnderway (answers ++ more) roots s folder rest) (sym added.same) (file_entry h.heard n new added.few))
-    (λ fault bad. file_fault fault h.heard n new bad))
+    goes_on c.in_ok-answer.ensures.goes (λ more look. file_ends c.note_new.result c.note_new.new.self is n (sym c.is_looked.ensures ∙ c.if-is_looked.false) look c.note_new.ensures)

@@ -3,7 +3,7 @@ use Rattle.std.proofs.Common.{◌≡◌, ◌<◌, ◌≤◌, inl, inr, true, Lis
 use Rattle.std.proofs.lemmas.Bool.{false≢true, cases_lt}
 use Rattle.tree_trait.specs.Dir.{dir_failed}
 use Rattle.tree_trait.specs.Entry.{EntryFacts}
-use Rattle.tree_trait.specs.Heard.{read_dir, has_failed}
+use Rattle.tree_trait.specs.Heard.{read_dir}
 use Rattle.tree_walk.specs.Search.{SearchFacts, IsEntered, paid}
 use Rattle.tree_walk.proofs.LastLemmas.{read_last}
 use Rattle.tree_walk.proofs.FileLemmas.{read_into, read_over}
@@ -14,7 +14,7 @@ pub returns-in_err-content-clause-goes : goal.returns-in_err-content-clause-goes
 returns-in_err-content-clause-goes g c = λ answers roots u.
     goes_up c.from_residual.ensures.1 c.in_err-content.ensures.goes
     (λ more h. call_fault answers more (read_dir c.args.folder.now dir_failed) c.in_err-content.field-0.0
-    (read_last c.args.search.now c.args.folder.now dir_failed (λ last. has_failed last ≡ true) u refl) h)
+    (read_last c.args.search.now c.args.folder.now dir_failed u refl) h)
 
 pub returns-then-pay-clause-goes : goal.returns-then-pay-clause-goes
 returns-then-pay-clause-goes g c = λ answers roots u.
