@@ -147,7 +147,7 @@ fn enter<R: Files>(files: &R, alloc: Global, folder: &str) -> Result<(), ReadFau
 
 /// One look at a path.
 fn look_once<R: Files>(files: &R, alloc: Global, path: &str) -> Result<StatAnswer, ReadFault>
-    ensures { IfOk result IsSeen }
+    ensures { IfOk result (IsSeen path.now) }
 {
     let seen = fs::symlink_metadata(files, path)?;
     if seen.is_symlink() {
@@ -165,7 +165,7 @@ fn look_once<R: Files>(files: &R, alloc: Global, path: &str) -> Result<StatAnswe
 
 /// What stands at a path. Where another file was opened than was seen, the path is looked at again.
 pub fn look<R: Files>(files: &R, alloc: Global, path: &str) -> Result<StatAnswer, ReadFault>
-    ensures { IfOk result IsSeen }
+    ensures { IfOk result (IsSeen path.now) }
 {
     settled(|| look_once(files, alloc, path))
 }

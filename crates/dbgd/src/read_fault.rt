@@ -1,10 +1,10 @@
 //! Why the system gave nothing for a path, and what each call of the tree answers then.
 
-ghost use Rattle.std.specs.Prelude.{◌≡◌, IsTrue};
+ghost use Rattle.std.specs.Prelude.{◌≡◌, ℕ, List, IsTrue};
 ghost use Rattle.std.specs.IoError.{raw_os_error};
-ghost use Rattle.tree_trait.specs.Dir.{dir_facts, is_dir_no_memory};
-ghost use Rattle.tree_trait.specs.Load.{load_facts, is_no_memory};
-ghost use Rattle.tree_trait.specs.Stat.{is_stat_no_memory};
+ghost use Rattle.tree_trait.specs.Dir.{dir_facts};
+ghost use Rattle.tree_trait.specs.Heard.{load, stat, read_dir, wants_memory};
+ghost use Rattle.tree_trait.specs.Load.{load_facts};
 ghost use Rattle.dbgd.specs.Errors.{fault_in_listing, is_counted, is_no_process};
 ghost use Rattle.dbgd.specs.Errors.{load_of, stat_of, dir_of};
 ghost use Rattle.dbgd.specs.Numbers.{ArePinnedErrors};
@@ -56,7 +56,9 @@ impl ReadFault {
     /// What a load answers.
     pub fn load_answer(self) -> LoadAnswer<OpenWorld>
         ensures value { load_facts result ≡ load_of self }
-        ensures memory { IsTrue (is_no_memory (load_facts result)) → self ≡ ReadFault.OutOfMemory }
+        ensures memory { (path : List ℕ) (limit : ℕ)
+            → IsTrue (wants_memory (load path limit (load_facts result)))
+            → self ≡ ReadFault.OutOfMemory }
     {
         match self {
             ReadFault::Gone | ReadFault::OutOfReach => LoadAnswer::Gone,
@@ -68,7 +70,8 @@ impl ReadFault {
     /// What a look answers.
     pub fn stat_answer(self) -> StatAnswer
         ensures value { result ≡ stat_of self }
-        ensures memory { IsTrue (is_stat_no_memory result) → self ≡ ReadFault.OutOfMemory }
+        ensures memory { (path : List ℕ) → IsTrue (wants_memory (stat path result))
+            → self ≡ ReadFault.OutOfMemory }
     {
         match self {
             ReadFault::Gone | ReadFault::OutOfReach | ReadFault::Denied => StatAnswer::Gone,
@@ -80,8 +83,9 @@ impl ReadFault {
     /// What the read of a folder answers.
     pub fn dir_answer(self, alloc: Global) -> DirAnswer
         ensures value { dir_facts result ≡ dir_of self }
-        ensures memory { IsTrue (is_dir_no_memory (dir_facts result)) →
-            self ≡ ReadFault.OutOfMemory }
+        ensures memory { (path : List ℕ)
+            → IsTrue (wants_memory (read_dir path (dir_facts result)))
+            → self ≡ ReadFault.OutOfMemory }
     {
         match self {
             ReadFault::Gone | ReadFault::OutOfReach => DirAnswer::Gone,

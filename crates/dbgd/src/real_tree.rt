@@ -60,13 +60,7 @@ impl<R: Files + AllocGlobal + Clone + Send + Drop> Tree<OpenWorld> for RealTree<
 
     ghost told = { false };
 
-    ghost present = { λ _. [] };
-
-    ghost still = { λ _. ⊥ };
-
-    ghost heard = { λ _. None };
-
-    ghost faults = { λ t. t.faults };
+    ghost shows = { λ t. record { present = []; Still = ⊥; heard = None; faults = t.faults } };
 
     fn load(&mut self, alloc: Global, path: &str, limit: u64) -> LoadAnswer<OpenWorld> {
         match load_file(&self.files, alloc, path, limit) {
