@@ -7,71 +7,55 @@ use Rattle.sample_world.specs.declared.sample.Sample.{Sample}
 use Rattle.sample_world.specs.declared.sample.Sample.TheVariants.{Empty, FirstLibrary, SecondLibrary, Program, Script, Tool, Notes, OtherMachine, ToolDebug, Readme, Header, Source, Before, After}
 
 -- a file's path
-abbrev pub path_of : Sample → List ℕ
-path_of Empty = codes "/srv/bin/empty"
-path_of FirstLibrary = codes "/srv/bin/libx.so"
-path_of SecondLibrary = codes "/srv/bin/liby.so"
-path_of Program = codes "/srv/bin/prog"
-path_of Script = codes "/srv/bin/run.sh"
-path_of Tool = codes "/srv/bin/tool"
-path_of Notes = codes "/srv/debug/notes.txt"
-path_of OtherMachine = codes "/srv/debug/ppc.debug"
-path_of ToolDebug = codes "/srv/debug/tool.debug"
-path_of Readme = codes "/w/README"
-path_of Header = codes "/w/src/inc/util.h"
-path_of Source = codes "/w/src/main.c"
-path_of Before = codes "/srv/a"
-path_of After = codes "/srv/a"
+abbrev pub sample_path : Sample → List ℕ
+sample_path Empty = codes "/srv/bin/empty"
+sample_path FirstLibrary = codes "/srv/bin/libx.so"
+sample_path SecondLibrary = codes "/srv/bin/liby.so"
+sample_path Program = codes "/srv/bin/prog"
+sample_path Script = codes "/srv/bin/run.sh"
+sample_path Tool = codes "/srv/bin/tool"
+sample_path Notes = codes "/srv/debug/notes.txt"
+sample_path OtherMachine = codes "/srv/debug/ppc.debug"
+sample_path ToolDebug = codes "/srv/debug/tool.debug"
+sample_path Readme = codes "/w/README"
+sample_path Header = codes "/w/src/inc/util.h"
+sample_path Source = codes "/w/src/main.c"
+sample_path _ = codes "/srv/a"
 
 -- a line of text
 abbrev pub line : List ℕ → List ℕ
 line text = text ++ 10 ∷ []
 
 -- a file's bytes
-abbrev pub bytes_of : Sample → List ℕ
-bytes_of Empty = []
-bytes_of FirstLibrary = both_classes
-bytes_of SecondLibrary = eight_aligned_notes
-bytes_of Program = dwarf_five
-bytes_of Script = line (codes "#!/bin/sh")
-bytes_of Tool = executable
-bytes_of Notes = []
-bytes_of OtherMachine = big_endian_debug
-bytes_of ToolDebug = debug_companion
-bytes_of Readme = []
-bytes_of Header = []
-bytes_of Source = line (codes "int main(void){return 0;}")
-bytes_of Before = line (codes "hello")
-bytes_of After = line (codes "hello!")
+abbrev pub sample_bytes : Sample → List ℕ
+sample_bytes FirstLibrary = both_classes
+sample_bytes SecondLibrary = eight_aligned_notes
+sample_bytes Program = dwarf_five
+sample_bytes Script = line (codes "#!/bin/sh")
+sample_bytes Tool = executable
+sample_bytes OtherMachine = big_endian_debug
+sample_bytes ToolDebug = debug_companion
+sample_bytes Source = line (codes "int main(void){return 0;}")
+sample_bytes Before = line (codes "hello")
+sample_bytes After = line (codes "hello!")
+sample_bytes _ = []
 
 -- when a file changed last, in seconds since the start of 1970
-abbrev pub secs_of : Sample → ℤ
-secs_of Empty = pos 100
-secs_of FirstLibrary = pos 100
-secs_of SecondLibrary = pos 100
-secs_of Program = pos 100
-secs_of Script = pos 100
-secs_of Tool = pos 100
-secs_of Notes = pos 100
-secs_of OtherMachine = pos 100
-secs_of ToolDebug = pos 100
-secs_of Readme = pos 100
-secs_of Header = pos 100
-secs_of Source = pos 100
-secs_of Before = pos 100
-secs_of After = pos 101
+abbrev pub sample_secs : Sample → ℤ
+sample_secs After = pos 101
+sample_secs _ = pos 100
 
 -- a file's stamp
-abbrev pub stamp_of : Sample → StampFacts
-stamp_of sample = record { size = length (bytes_of sample); secs = secs_of sample; nanos = 0 }
+abbrev pub sample_stamp : Sample → StampFacts
+sample_stamp sample = record { size = length (sample_bytes sample); secs = sample_secs sample; nanos = 0 }
 
 -- a file as a tree finds it
-abbrev pub found_of : Sample → FoundFacts
-found_of sample = record { path = path_of sample; stamp = stamp_of sample; bytes = bytes_of sample }
+abbrev pub sample_found : Sample → FoundFacts
+sample_found sample = record { path = sample_path sample; stamp = sample_stamp sample; bytes = sample_bytes sample }
 
 -- the file of this path and stamp with these bytes is one of the samples
 pub record IsSample (path : List ℕ) (stamp : StampFacts) (bytes : List ℕ) : Type 0 where
   pub sample : Sample
-  pub placed : path ≡ path_of sample
-  pub stamped : stamp ≡ stamp_of sample
-  pub filled : bytes ≡ bytes_of sample
+  pub placed : path ≡ sample_path sample
+  pub stamped : stamp ≡ sample_stamp sample
+  pub filled : bytes ≡ sample_bytes sample

@@ -10,49 +10,37 @@ use Rattle.row_types.proofs.TrueRowLemmas.{true_rows_same}
 use Rattle.row_types.specs.Reading.{IsTrueRow}
 use Rattle.row_types.specs.Row.{RowFacts}
 use Rattle.row_types.specs.Stamp.{StampFacts}
-use Rattle.sample_world.specs.Samples.{path_of, secs_of, bytes_of, IsSample}
+use Rattle.sample_world.specs.Samples.{sample_path, sample_secs, sample_bytes, IsSample}
 use Rattle.sample_world.specs.declared.sample.Sample.{Sample}
 use Rattle.sample_world.specs.declared.sample.Sample.TheVariants.{Empty, FirstLibrary, SecondLibrary, Program, Script, Tool, Notes, OtherMachine, ToolDebug, Readme, Header, Source, Before, After}
 
 -- all samples
 abbrev samples : List Sample
-samples = Empty ∷ FirstLibrary ∷ SecondLibrary ∷ Program ∷ Script ∷ Tool ∷ Notes ∷ OtherMachine ∷ ToolDebug ∷ Readme ∷ Header ∷ Source ∷ Before ∷ After ∷ []
+samples = Before ∷ After ∷ REFERENCE_TREE
 
 -- the sample of a path and a time
 abbrev sample_at : List ℕ → ℤ → Option Sample
-sample_at path secs = find (λ sample. bytes_eq (path_of sample) path && int_eq (secs_of sample) secs) samples
+sample_at path secs = find (λ sample. bytes_eq (sample_path sample) path && int_eq (sample_secs sample) secs) samples
 
 -- a sample is the one of its path and its time
-at_its_place : (sample : Sample) → sample_at (path_of sample) (secs_of sample) ≡ Some sample
+at_its_place : (sample : Sample) → sample_at (sample_path sample) (sample_secs sample) ≡ Some sample
 at_its_place Empty = refl
-at_its_place FirstLibrary = refl
-at_its_place SecondLibrary = refl
-at_its_place Program = refl
-at_its_place Script = refl
-at_its_place Tool = refl
-at_its_place Notes = refl
-at_its_place OtherMachine = refl
-at_its_place ToolDebug = refl
-at_its_place Readme = refl
-at_its_place Header = refl
-at_its_place Source = refl
-at_its_place Before = refl
-at_its_place After = refl
+at_its_place _ = refl
 
 -- samples of one path and one time are one
-same_sample : (a b : Sample) → path_of a ≡ path_of b → secs_of a ≡ secs_of b → a ≡ b
+same_sample : (a b : Sample) → sample_path a ≡ sample_path b → sample_secs a ≡ sample_secs b → a ≡ b
 same_sample a b path secs =
-    let at : sample_at (path_of a) (secs_of a) ≡ sample_at (path_of b) (secs_of b) = ap (λ p. sample_at p (secs_of a)) path ∙ ap (sample_at (path_of b)) secs in
+    let at : sample_at (sample_path a) (sample_secs a) ≡ sample_at (sample_path b) (sample_secs b) = ap (λ p. sample_at p (sample_secs a)) path ∙ ap (sample_at (sample_path b)) secs in
     let some : Some a ≡ Some b = sym (at_its_place a) ∙ at ∙ at_its_place b in
     ap (λ found. option_map_or (λ sample. sample) found a) some
 
 -- a path and a stamp name at most one content
 pub one_content : (path : List ℕ) (stamp : StampFacts) (a b : List ℕ) → IsSample path stamp a → IsSample path stamp b → a ≡ b
 one_content path stamp a b p q =
-    let placed : path_of p.sample ≡ path_of q.sample = sym p.placed ∙ q.placed in
-    let timed : secs_of p.sample ≡ secs_of q.sample = ap (λ s. s.secs) (sym p.stamped ∙ q.stamped) in
+    let placed : sample_path p.sample ≡ sample_path q.sample = sym p.placed ∙ q.placed in
+    let timed : sample_secs p.sample ≡ sample_secs q.sample = ap (λ s. s.secs) (sym p.stamped ∙ q.stamped) in
     let same : p.sample ≡ q.sample = same_sample p.sample q.sample placed timed in
-    p.filled ∙ ap bytes_of same ∙ sym q.filled
+    p.filled ∙ ap sample_bytes same ∙ sym q.filled
 
 -- a name has at most one true row
 pub one_true_row : (a b : RowFacts) → a.name ≡ b.name → IsTrueRow IsSample a → IsTrueRow IsSample b → a ≡ b

@@ -1,7 +1,7 @@
 //! The files of the sample world.
 
 ghost use Rattle.std.specs.Prelude.{◌≡◌, IfOk};
-ghost use Rattle.sample_world.specs.Samples.{path_of, secs_of, bytes_of, found_of};
+ghost use Rattle.sample_world.specs.Samples.{sample_path, sample_secs, sample_bytes, sample_found};
 
 use crate::world::SampleWorld;
 use row_types::Stamp;
@@ -63,7 +63,7 @@ pub const REFERENCE_TREE: [Sample; 12] = [
 impl Sample {
     /// The file's path.
     pub fn path(self) -> &'static str
-        ensures { result.now ≡ path_of self }
+        ensures { result.now ≡ sample_path self }
     {
         match self {
             Sample::Empty => "/srv/bin/empty",
@@ -84,7 +84,7 @@ impl Sample {
 
     /// When the file changed last, in seconds since the start of 1970.
     pub fn secs(self) -> i64
-        ensures { result ≡ secs_of self }
+        ensures { result ≡ sample_secs self }
     {
         match self {
             Sample::After => 101,
@@ -94,7 +94,7 @@ impl Sample {
 
     /// The file's bytes.
     pub fn bytes(self, alloc: Global) -> Result<Vec<u8>, AllocError>
-        ensures { IfOk result (λ bytes. bytes.items ≡ bytes_of self) }
+        ensures { IfOk result (λ bytes. bytes.items ≡ sample_bytes self) }
     {
         match self {
             Sample::Program => dwarf_five(alloc),
@@ -113,7 +113,7 @@ impl Sample {
 
     /// The file, as a tree of this world finds it.
     pub fn found(self, alloc: Global) -> Result<Found<SampleWorld>, AllocError>
-        ensures { IfOk result (λ found. found ≡ found_of self) }
+        ensures { IfOk result (λ found. found ≡ sample_found self) }
     {
         let bytes = self.bytes(alloc)?;
         let path = String::from_str(alloc, self.path())?;

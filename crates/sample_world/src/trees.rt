@@ -2,7 +2,7 @@
 
 ghost use Rattle.std.specs.Prelude.{◌≡◌, map, IfOk, IsTrue};
 ghost use Rattle.tree_trait.specs.Script.{is_script};
-ghost use Rattle.sample_world.specs.Samples.{found_of};
+ghost use Rattle.sample_world.specs.Samples.{sample_found};
 ghost use Rattle.sample_world.specs.Trees.{reference_facts, changed_file_facts};
 
 use crate::sample::{REFERENCE_TREE, Sample};
@@ -12,7 +12,7 @@ use tree_trait::{Found, Script};
 
 /// The files, in the order given.
 pub fn files_of(alloc: Global, samples: &[Sample]) -> Result<Vec<Found<SampleWorld>>, AllocError>
-    ensures { IfOk result (λ files. files.items ≡ map found_of samples.now) }
+    ensures { IfOk result (λ files. files.items ≡ map sample_found samples.now) }
 {
     let mut files = Vec::with_capacity(alloc, samples.len())?;
     for sample in samples {

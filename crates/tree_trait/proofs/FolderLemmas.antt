@@ -22,28 +22,28 @@ use Rattle.tree_trait.specs.declared.entry.EntryKind.{EntryKind}
 use Rattle.tree_trait.specs.declared.entry.EntryKind.TheVariants.{Folder, File, Other}
 
 -- what follows a folder's path and a slash
-pub rest_of : (parent folder path inner : List ℕ) (r : Option (Bor (List ℕ))) → parent ++ SEPARATOR ∷ [] ≡ front_under folder → path ≡ parent ++ inner → MatchOption r ((rest : List ℕ) → inner ≢ SEPARATOR ∷ rest) (λ x. inner ≡ SEPARATOR ∷ x.now) → IsRest (front_under folder) path r
-rest_of parent folder path inner None front split h =
+pub rest_of : (parent folder : List ℕ) {path : List ℕ} (inner : List ℕ) (r : Option (Bor (List ℕ))) → parent ++ SEPARATOR ∷ [] ≡ front_under folder → path ≡ parent ++ inner → MatchOption r ((rest : List ℕ) → inner ≢ SEPARATOR ∷ rest) (λ x. inner ≡ SEPARATOR ∷ x.now) → IsRest (front_under folder) path r
+rest_of parent folder inner None front split h =
     λ rest e. h rest (append_cancel_left parent inner (SEPARATOR ∷ rest) (sym split ∙ e ∙ ap (λ f. f ++ rest) (sym front) ∙ append_assoc parent (SEPARATOR ∷ []) rest))
-rest_of parent folder path inner (Some x) front split h =
+rest_of parent folder inner (Some x) front split h =
     split ∙ ap (λ t. parent ++ t) h ∙ sym (append_assoc parent (SEPARATOR ∷ []) x.now) ∙ ap (λ f. f ++ x.now) front
 
 -- whether a path begins with the front
-pub starts_at : (front path rest : List ℕ) → path ≡ front ++ rest → starts_with nat_eq path front ≡ true
-starts_at front path rest e = (starts_is Decides-eqb path front (starts_with nat_eq path front) refl).1 rest e
+pub starts_at : (front : List ℕ) {path : List ℕ} (rest : List ℕ) → path ≡ front ++ rest → starts_with nat_eq path front ≡ true
+starts_at front {path} rest e = (starts_is Decides-eqb path front (starts_with nat_eq path front) refl).1 rest e
 
 pub starts_rest : (front path : List ℕ) → starts_with nat_eq path front ≡ true → path ≡ front ++ drop (length front) path
 starts_rest front path h = (starts_is Decides-eqb path front (starts_with nat_eq path front) refl).0 h
 
 pub is_some_starts : (front path : List ℕ) (r : Option (Bor (List ℕ))) → IsRest front path r → is_some r ≡ starts_with nat_eq path front
 is_some_starts front path None h = sym (false_from_ne_true (starts_with nat_eq path front) (λ t. h (drop (length front) path) (starts_rest front path t)))
-is_some_starts front path (Some x) h = sym (starts_at front path x.now h)
+is_some_starts front path (Some x) h = sym (starts_at front x.now h)
 
 -- the piece behind a folder
-piece_at : (folder path rest : List ℕ) → path ≡ front_under folder ++ rest → piece_under folder path ≡ Some (first_piece rest)
-piece_at folder path rest e =
+piece_at : (folder : List ℕ) {path : List ℕ} (rest : List ℕ) → path ≡ front_under folder ++ rest → piece_under folder path ≡ Some (first_piece rest)
+piece_at folder {path} rest e =
     let front : List ℕ = front_under folder in
-    subst (λ b. (if b then Some (first_piece (drop (length front) path)) else None) ≡ Some (first_piece rest)) (sym (starts_at front path rest e))
+    subst (λ b. (if b then Some (first_piece (drop (length front) path)) else None) ≡ Some (first_piece rest)) (sym (starts_at front rest e))
     (ap (λ t. Some (first_piece t)) (ap (drop (length front)) e ∙ drop-append_seam front rest))
 
 pub piece_of_rest : (folder path : List ℕ) (r : Option (Bor (List ℕ))) → IsRest (front_under folder) path r → option_map (λ x. first_piece x.now) r ≡ piece_under folder path
@@ -51,7 +51,7 @@ piece_of_rest folder path None h =
     let front : List ℕ = front_under folder in
     let none : starts_with nat_eq path front ≡ false = false_from_ne_true (starts_with nat_eq path front) (λ t. h (drop (length front) path) (starts_rest front path t)) in
     subst (λ b. None ≡ (if b then Some (first_piece (drop (length front) path)) else None)) (sym none) refl
-piece_of_rest folder path (Some x) h = sym (piece_at folder path x.now h)
+piece_of_rest folder path (Some x) h = sym (piece_at folder x.now h)
 
 -- a search among names is one among their files
 pub any_names : (path : List ℕ) (files : List FoundFacts) → is_folder (map name_of files) path ≡ list_any (λ file. lies_under path file.path) files
@@ -115,14 +115,14 @@ front_of_child folder name h =
     front_of_longer (child folder name) (let long = name_long name h in let front = front_long folder in omega (arith, length-append (front_under folder) name, front, long))
 
 -- a file's piece is an entry that the file makes
-made_by_piece : (folder path rest : List ℕ) (e : EntryFacts) → path ≡ front_under folder ++ rest → first_piece rest ≡ e → is_entry_name e.name ≡ true → makes e.kind (child folder e.name) path ≡ true
-made_by_piece folder path rest e split piece valid =
+made_by_piece : (folder : List ℕ) {path : List ℕ} (rest : List ℕ) {e : EntryFacts} → path ≡ front_under folder ++ rest → first_piece rest ≡ e → is_entry_name e.name ≡ true → makes e.kind (child folder e.name) path ≡ true
+made_by_piece folder {path} rest {e} split piece valid =
     subst (λ f. is_entry_name f.name ≡ true → makes f.kind (child folder f.name) path ≡ true) piece
     (elim (nat_lt (position_or_len slash rest) (length rest)) as
     (λ v. nat_lt (position_or_len slash rest) (length rest) ≡ v →
     (let f : EntryFacts = if v then record { name = before_first slash rest; kind = Folder } else record { name = rest; kind = File } in
     is_entry_name f.name ≡ true → makes f.kind (child folder f.name) path ≡ true)) [
-      | true ↦ λ t named. folder_made folder path (before_first slash rest) (after_first slash rest) named (split ∙ ap (λ r. front_under folder ++ r) (cut rest (ltb-true _ _ t)))
+      | true ↦ λ t named. folder_made folder (before_first slash rest) (after_first slash rest) named (split ∙ ap (λ r. front_under folder ++ r) (cut rest (ltb-true _ _ t)))
       | false ↦ λ t named. (bytes_eq-Decides path (child folder rest)).1 split
     ] refl)
     valid
@@ -132,32 +132,32 @@ made_by_piece folder path rest e split piece valid =
         split_at_first slash text 0 lt
         ∙ ap (λ b. before_first slash text ++ b ∷ after_first slash text) (eqb-true _ SEPARATOR (passes_at_first slash text 0 lt))
 
-    folder_made : (folder path name more : List ℕ) → is_entry_name name ≡ true → path ≡ front_under folder ++ (name ++ SEPARATOR ∷ more) → lies_under (child folder name) path ≡ true
-    folder_made folder path name more named e =
+    folder_made : (folder : List ℕ) {path : List ℕ} (name more : List ℕ) → is_entry_name name ≡ true → path ≡ front_under folder ++ (name ++ SEPARATOR ∷ more) → lies_under (child folder name) path ≡ true
+    folder_made folder {path} name more named e =
         let whole : path ≡ (child folder name ++ SEPARATOR ∷ []) ++ more =
         e ∙ sym (append_assoc (front_under folder) name (SEPARATOR ∷ more)) ∙ sym (append_assoc (child folder name) (SEPARATOR ∷ []) more) in
         let below : path ≡ front_under (child folder name) ++ more = whole ∙ ap (λ f. f ++ more) (sym (front_of_child folder name named)) in
         let longer = ap length whole in
         let one = length-append (child folder name ++ SEPARATOR ∷ []) more in
         let two = length-append (child folder name) (SEPARATOR ∷ []) in
-        and_from _ _ (starts_at _ path more below)
+        and_from _ _ (starts_at _ more below)
         (ap not (false_from_ne_true (bytes_eq path (child folder name)) (λ t. let same = ap length ((bytes_eq-Decides path (child folder name)).0 t) in absurd (omega (arith, same, longer, one, two)))))
 
-pub piece_makes : (folder path : List ℕ) (e : EntryFacts) → piece_under folder path ≡ Some e → is_entry_name e.name ≡ true → makes e.kind (child folder e.name) path ≡ true
-piece_makes folder path e piece valid =
+pub piece_makes : (folder path : List ℕ) {e : EntryFacts} → piece_under folder path ≡ Some e → is_entry_name e.name ≡ true → makes e.kind (child folder e.name) path ≡ true
+piece_makes folder path {e} piece valid =
     elim (starts_with nat_eq path (front_under folder)) as
     (λ v. starts_with nat_eq path (front_under folder) ≡ v → (if v then Some (first_piece (drop (length (front_under folder)) path)) else None) ≡ Some e → makes e.kind (child folder e.name) path ≡ true) [
-      | true ↦ λ t p. made_by_piece folder path (drop (length (front_under folder)) path) e (starts_rest (front_under folder) path t) (same_some _ e p) valid
+      | true ↦ λ t p. made_by_piece folder (drop (length (front_under folder)) path) (starts_rest (front_under folder) path t) (same_some p) valid
       | false ↦ λ t p. cc
     ] refl piece
   where
-    same_some : (a b : EntryFacts) → Some a ≡ Some b → a ≡ b
-    same_some a b e = cc
+    same_some : {a b : EntryFacts} → Some a ≡ Some b → a ≡ b
+    same_some e = cc
 
 -- an entry that a file makes is the file's piece
 pub made_is_piece : (folder path : List ℕ) (name : List ℕ) (kind : EntryKind) → is_entry_name name ≡ true → makes kind (child folder name) path ≡ true → piece_under folder path ≡ Some (record { name = name; kind = kind })
 made_is_piece folder path name File valid h =
-    piece_at folder path name ((bytes_eq-Decides path (child folder name)).0 h)
+    piece_at folder name ((bytes_eq-Decides path (child folder name)).0 h)
     ∙ ap (λ p. Some p) (first_file name (right_true (stays name) (has_no_slash name) valid))
 made_is_piece folder path name Folder valid h =
     let front : List ℕ = front_under (child folder name) in
@@ -166,5 +166,5 @@ made_is_piece folder path name Folder valid h =
     let split : path ≡ front_under folder ++ (name ++ SEPARATOR ∷ more) =
     below ∙ ap (λ f. f ++ more) (front_of_child folder name valid)
     ∙ append_assoc (child folder name) (SEPARATOR ∷ []) more ∙ append_assoc (front_under folder) name (SEPARATOR ∷ more) in
-    piece_at folder path (name ++ SEPARATOR ∷ more) split ∙ ap (λ p. Some p) (first_dir name more (right_true (stays name) (has_no_slash name) valid))
+    piece_at folder (name ++ SEPARATOR ∷ more) split ∙ ap (λ p. Some p) (first_dir name more (right_true (stays name) (has_no_slash name) valid))
 made_is_piece folder path name Other valid h = cc

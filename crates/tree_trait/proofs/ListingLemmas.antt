@@ -27,7 +27,7 @@ each_of folder whole (file ∷ rest) known sub h =
     each_of folder whole rest (with_piece known (piece_under folder file.path))
     (λ e t. sub e (or_right (makes e.kind (child folder e.name) file.path) _ t))
     (piece_each (is_there whole folder) known (piece_under folder file.path) h
-    (λ e p valid. sub e (or_left _ (is_there rest folder e) (piece_makes folder file.path e p valid))))
+    (λ e p valid. sub e (or_left _ (is_there rest folder e) (piece_makes folder file.path p valid))))
 
 -- an entry that is known stays, and a piece is known from then on
 piece_keeps : (known : List EntryFacts) (p : Option EntryFacts) (e : EntryFacts) → has_entry known e ≡ true → has_entry (with_piece known p) e ≡ true

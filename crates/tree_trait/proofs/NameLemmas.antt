@@ -16,16 +16,16 @@ stamp_at-names (file ∷ rest) path =
     [ true ↦ refl | false ↦ stamp_at-names rest path ]
 
 -- what is found passes the test
-pub find_passes : {X : Type 0} (p : X → Bool) (xs : List X) (x : X) → find p xs ≡ Some x → p x ≡ true
-find_passes p [] x e = cc
-find_passes p (y ∷ ys) x e =
+pub find_passes : {X : Type 0} (p : X → Bool) (xs : List X) {x : X} → find p xs ≡ Some x → p x ≡ true
+find_passes p [] e = cc
+find_passes p (y ∷ ys) {x} e =
     elim (p y) as (λ v. p y ≡ v → cond v (Some y) (find p ys) ≡ Some x → p x ≡ true)
-    [ true ↦ λ t f. cc | false ↦ λ t f. find_passes p ys x f ] refl e
+    [ true ↦ λ t f. cc | false ↦ λ t f. find_passes p ys f ] refl e
 
 -- what the search for a path answers of the names
 pub found_at : (files : List FoundFacts) (path : List ℕ) (result : Option (Bor FoundFacts)) → option_copied result ≡ find (λ file. bytes_eq file.path path) files → IsFileAt files path result
 found_at files path None e = stamp_at-names files path ∙ ap (option_map (λ file. file.stamp)) (sym e)
 found_at files path (Some file) e = record {
   there = stamp_at-names files path ∙ ap (option_map (λ f. f.stamp)) (sym e);
-  asked = (bytes_eq-Decides file.now.path path).0 (find_passes (λ f. bytes_eq f.path path) files file.now (sym e));
+  asked = (bytes_eq-Decides file.now.path path).0 (find_passes (λ f. bytes_eq f.path path) files (sym e));
 }

@@ -76,10 +76,10 @@ memory_is_no_fault (read_dir path dir_no_memory) h = refl
 memory_is_no_fault _ h = absurd (false≢true h)
 
 -- a call that is answered by the files of the next stage
-asks_answered : {version : Versions} (tree next : TreeFacts) {asked : Heard} {bad : Bool} → IsScripted version tree.script tree.stage
+asks_answered : {version : Versions} (tree : TreeFacts) {next : TreeFacts} {asked : Heard} {bad : Bool} → IsScripted version tree.script tree.stage
     → IsStageAnswer version bad (names_at tree.script (next_stage tree)) asked → wants_memory asked ≡ false → next ≡ answered tree asked → tree.faults ≤ next.faults
     → Asks true version (shown_by tree) (shown_by next) asked
-asks_answered {version} tree next {asked} scripted answer answers e later =
+asks_answered {version} tree {asked} scripted answer answers e later =
     subst (λ (t : TreeFacts). Asks true version (shown_by tree) (shown_by t) asked) (sym e) (record {
       fits = answer.fits;
       tells = λ _. answer.tells;
@@ -121,14 +121,14 @@ pub asks_kept : {X : Type 0} (facts : X → Heard) {version : Versions} (tree ne
     → IfSome call (λ kept. IsListedAs asked (facts kept)) → IsSomeAnd call (λ kept. next ≡ answered tree (facts kept)) → tree.faults ≤ next.faults
     → Asks true version (shown_by tree) (shown_by next) asked
 asks_kept facts {version} tree next {asked} {bad} (Some kept) scripted files answer listed ended later =
-    asks_answered tree next scripted (subst (λ (ns : List NameFacts). IsStageAnswer version bad ns asked) files answer) listed.answered
+    asks_answered tree scripted (subst (λ (ns : List NameFacts). IsStageAnswer version bad ns asked) files answer) listed.answered
     (ended ∙ ap (answered tree) listed.same) later
 asks_kept facts tree next None scripted files answer listed ended later = absurd ended
 
 -- a call for which memory was refused
-pub asks_nothing : {version : Versions} (tree next : TreeFacts) {asked : Heard} → IsScripted version tree.script tree.stage → wants_memory asked ≡ true → next ≡ tree
+pub asks_nothing : {version : Versions} {tree next : TreeFacts} {asked : Heard} → IsScripted version tree.script tree.stage → wants_memory asked ≡ true → next ≡ tree
     → Asks true version (shown_by tree) (shown_by next) asked
-asks_nothing {version} tree next {asked} scripted wants e =
+asks_nothing {version} {tree} {asked} scripted wants e =
     subst (λ (t : TreeFacts). Asks true version (shown_by tree) (shown_by t) asked) (sym e) (record {
       fits = memory_fits version asked wants;
       tells = λ _. memory_told (present_in tree) asked wants;

@@ -15,39 +15,54 @@ use row_types::{OpenWorld, Stamp};
 use std::alloc::{AllocError, Global};
 use std::test::Fail;
 
-#[test]
-fn a_script_is_answered_call_by_call(rt: HostRuntime) -> Result<(), Fail> {
-    let alloc = rt.alloc();
+/// The tree of `yy` at `/w/a`, whose call 2 fails, and which is empty from call 3 on.
+fn changing_tree(alloc: Global) -> Result<MemTree<TwoWorld>, AllocError> {
     let stamp = Stamp {
         size: 2,
         secs: 2,
         nanos: 0,
     };
-    let found: Found<TwoWorld> = Found::new(
-        String::from_str(alloc, "/w/a")?,
-        stamp,
-        vec![in alloc; b'y', b'y']?,
-    );
+    let path = String::from_str(alloc, "/w/a")?;
+    let found: Found<TwoWorld> = Found::new(path, stamp, vec![in alloc; b'y', b'y']?);
     let script = Script {
         stages: vec![in alloc; vec![in alloc; found]?, vec![in alloc]?]?,
         moves: vec![in alloc; 3, 4]?,
         bad_calls: vec![in alloc; 2]?,
     };
-    let mut tree = MemTree::new(alloc, script);
-    match tree.load(alloc, "/w/a", 2) {
-        LoadAnswer::Found(found) => assert_eq!(rt; found.bytes.as_slice(), b"yy".as_slice()),
-        _ => panic!(rt; "the file is there"),
+    Ok(MemTree::new(alloc, script))
+}
+
+/// What a load answers, in a word.
+fn load_word(answer: &LoadAnswer<TwoWorld>) -> &'static str {
+    match answer {
+        LoadAnswer::Found(found) if found.bytes.as_slice() == b"yy".as_slice() => "yy",
+        LoadAnswer::Found(_) => "found",
+        LoadAnswer::TooLarge { .. } => "too large",
+        LoadAnswer::Gone => "gone",
+        LoadAnswer::Failed => "failed",
+        LoadAnswer::OutOfMemory => "out of memory",
     }
-    match tree.load(alloc, "/w/a", 1) {
-        LoadAnswer::TooLarge { stamp } => assert_eq!(rt; stamp.size, 2),
-        _ => panic!(rt; "the file has more bytes than the limit"),
+}
+
+#[test]
+fn a_script_is_answered_call_by_call(rt: HostRuntime) -> Result<(), Fail> {
+    let alloc = rt.alloc();
+    let mut tree = changing_tree(alloc)?;
+    let calls = [
+        (2, "yy"),
+        (1, "too large"),
+        (2, "failed"),
+        (2, "gone"),
+        (2, "gone"),
+    ];
+    for (limit, word) in calls {
+        let answer = tree.load(alloc, "/w/a", limit);
+        assert_eq!(rt; load_word(&answer), word);
     }
-    assert!(rt; matches!(&tree.load(alloc, "/w/a", 2), LoadAnswer::Failed));
-    assert!(rt; matches!(&tree.load(alloc, "/w/a", 2), LoadAnswer::Gone));
-    assert!(rt; matches!(&tree.load(alloc, "/w/a", 2), LoadAnswer::Gone));
     Ok(())
 }
 
+/// An empty file.
 fn empty_file(alloc: Global, path: &str) -> Result<Found<OpenWorld>, AllocError>
     ensures { IfOk result (λ file. file.path ≡ path.now) }
 {
@@ -59,9 +74,8 @@ fn empty_file(alloc: Global, path: &str) -> Result<Found<OpenWorld>, AllocError>
     Ok(Found::new(String::from_str(alloc, path)?, stamp, vec![in alloc]?))
 }
 
-#[test]
-fn a_folder_is_looked_at_and_listed(rt: HostRuntime) -> Result<(), Fail> {
-    let alloc = rt.alloc();
+/// The tree of three files under `/srv`, whose call 4 fails.
+fn folder_tree(alloc: Global) -> Result<MemTree<OpenWorld>, AllocError> {
     let first = empty_file(alloc, "/srv/a")?;
     let second = empty_file(alloc, "/srv/sub/b")?;
     let third = empty_file(alloc, "/srv/sub/c")?;
@@ -70,19 +84,51 @@ fn a_folder_is_looked_at_and_listed(rt: HostRuntime) -> Result<(), Fail> {
         moves: vec![in alloc]?,
         bad_calls: vec![in alloc; 4]?,
     };
-    let mut tree = MemTree::new(alloc, script);
-    assert!(rt; matches!(&tree.stat(alloc, "/srv/sub"), StatAnswer::Folder));
-    assert!(rt; matches!(&tree.stat(alloc, "/srv/a"), StatAnswer::File(_)));
-    assert!(rt; matches!(&tree.stat(alloc, "/srv/s"), StatAnswer::Gone));
-    match tree.read_dir(alloc, "/srv") {
-        DirAnswer::Listed { entries, skipped } => {
-            assert!(rt; entries.len() == 2 && skipped == 0);
-            assert!(rt; entries.iter().any(|entry| entry.kind == EntryKind::Folder));
-            assert!(rt; entries.iter().any(|entry| entry.name() == "a"));
-        }
-        _ => panic!(rt; "the folder is there"),
+    Ok(MemTree::new(alloc, script))
+}
+
+/// What a look answers, in a word.
+fn stat_word(answer: StatAnswer) -> &'static str {
+    match answer {
+        StatAnswer::Folder => "folder",
+        StatAnswer::File(_) => "file",
+        StatAnswer::Gone => "gone",
+        _ => "other",
     }
-    assert!(rt; matches!(&tree.read_dir(alloc, "/srv"), DirAnswer::Failed));
-    assert!(rt; matches!(&tree.read_dir(alloc, "/srv/a"), DirAnswer::Gone));
+}
+
+/// What the reading of a folder answers, in a word.
+fn dir_word(answer: &DirAnswer) -> &'static str {
+    match answer {
+        DirAnswer::Listed { entries, skipped: 0 } => {
+            let file = entries.iter().any(|e| e.name() == "a" && e.kind == EntryKind::File);
+            let folder = entries.iter().any(|e| e.name() == "sub" && e.kind == EntryKind::Folder);
+            if file && folder && entries.len() == 2 { "a and sub" } else { "others" }
+        }
+        DirAnswer::Listed { .. } => "others",
+        DirAnswer::Gone => "gone",
+        DirAnswer::Failed => "failed",
+        DirAnswer::OutOfMemory => "out of memory",
+    }
+}
+
+#[test]
+fn a_folder_is_looked_at_and_listed(rt: HostRuntime) -> Result<(), Fail> {
+    let alloc = rt.alloc();
+    let mut tree = folder_tree(alloc)?;
+    for (path, word) in [
+        ("/srv/sub", "folder"),
+        ("/srv/a", "file"),
+        ("/srv/s", "gone"),
+    ] {
+        assert_eq!(rt; stat_word(tree.stat(alloc, path)), word, "{path}");
+    }
+    for (path, word) in [
+        ("/srv", "a and sub"),
+        ("/srv", "failed"),
+        ("/srv/a", "gone"),
+    ] {
+        assert_eq!(rt; dir_word(&tree.read_dir(alloc, path)), word, "{path}");
+    }
     Ok(())
 }

@@ -11,7 +11,7 @@ use Rattle.std.proofs.lemmas.Option.{none-some, cond_some}
 use Rattle.std.proofs.lemmas.Slice.Eq.{bytes_eq-Decides}
 use Rattle.tree_trait.specs.Dir.{DirFacts}
 use Rattle.tree_trait.specs.Entry.{EntryFacts, has_entry}
-use Rattle.tree_trait.specs.Heard.{Heard, load, stat, read_dir}
+use Rattle.tree_trait.specs.Heard.{Heard, stat, read_dir}
 use Rattle.tree_trait.specs.declared.stat.StatAnswer.{StatAnswer}
 use Rattle.tree_walk.specs.Answers.{is_look_answer, is_dir_answer, look_at, reading_of, first_some, first_look, first_reading, entries_of, entries_in, reads, times_read, is_answered}
 use Rattle.tree_walk.proofs.SetLemmas.{same, same-Decides}

@@ -13,12 +13,13 @@ use Rattle.tree_trait.specs.Dir.{child}
 use Rattle.tree_trait.specs.Entry.{EntryFacts, has_entry}
 use Rattle.tree_trait.specs.Heard.{Heard}
 use Rattle.tree_trait.specs.declared.entry.EntryKind.{EntryKind}
-use Rattle.tree_trait.specs.declared.entry.EntryKind.TheVariants as kind
 use Rattle.tree_trait.specs.declared.stat.StatAnswer.{StatAnswer}
-use Rattle.tree_trait.specs.declared.stat.StatAnswer.TheVariants.{Folder, File, Gone}
+use Rattle.tree_trait.specs.declared.stat.StatAnswer.TheVariants.{File}
 use Rattle.tree_walk.specs.Answers.{first_look, entries_in, times_read, entries_read, all_passed_over}
 use Rattle.tree_walk.specs.Ends.{IsCause, IsWithinLimits, IsWhole, IsTooMany, StopsAtLast}
-use Rattle.tree_walk.specs.Search.{SearchFacts, Adds, has, found_names, file_of, IsMet, IsSettled, IsSearch, IsUnderway}
+use Rattle.tree_walk.specs.Kept.{file_of, IsMet, IsSettled, IsSearch}
+use Rattle.tree_walk.specs.Search.{SearchFacts, Adds, has, found_names}
+use Rattle.tree_walk.specs.Underway.{IsUnderway}
 use Rattle.tree_walk.specs.Walked.{IsReached, root, entry, IsEntry, IsFolder, IsWalked, IsWalkListing}
 use Rattle.tree_walk.specs.declared.fault.WalkFault.{WalkFault}
 use Rattle.tree_walk.specs.declared.fault.WalkFault.TheVariants.{TooMany, OutOfMemory as WalkMemory}

@@ -11,7 +11,8 @@ use Rattle.tree_trait.specs.Entry.{EntryFacts, has_entry, same_entry}
 use Rattle.tree_trait.specs.Heard.{Heard}
 use Rattle.tree_trait.proofs.EntryLemmas.{entries_same}
 use Rattle.tree_walk.specs.Answers.{times_read}
-use Rattle.tree_walk.specs.Search.{SearchFacts, has, with_path, with_folder, with_long, IsSettled, AreFolders, AreLong, AreSeenTo, IsSearch}
+use Rattle.tree_walk.specs.Kept.{IsSettled, AreFolders, AreSeenTo, IsSearch}
+use Rattle.tree_walk.specs.Search.{SearchFacts, has, with_path, with_folder, with_long}
 use Rattle.tree_walk.specs.Walked.{IsReached, IsFolder}
 use Rattle.tree_walk.proofs.AnswerLemmas.{one_if}
 use Rattle.tree_walk.proofs.GrowLemmas.{Grows, seen_more}

@@ -9,7 +9,7 @@ use Rattle.tree_trait.specs.Asks.{IsTold}
 use Rattle.tree_trait.specs.Heard.{Heard, has_failed, with_answers}
 use Rattle.tree_trait.specs.Shown.{ShownTree, StaysStill}
 use Rattle.tree_walk.specs.Ends.{Goes, StopsAtLast, IsCause}
-use Rattle.tree_walk.specs.Search.{IsCallFault}
+use Rattle.tree_walk.specs.Calls.{IsCallFault}
 use Rattle.tree_walk.specs.declared.fault.WalkFault.{WalkFault}
 use Rattle.tree_walk.specs.declared.fault.WalkFault.TheVariants.{Failed, OutOfMemory}
 

@@ -1,5 +1,5 @@
 -- What is kept agrees with more answers too.
-use Rattle.std.proofs.Common.{◌≡◌, ℕ, ◌+◌, ◌-◌, ◌^◌, ◌≤◌, ◌⊎◌, inl, inr, min, true, false, List, [], ◌∷◌, ◌++◌, length, IsSome, MatchBool, Contains, All, refl, sym, ◌∙◌, ap, subst, arith}
+use Rattle.std.proofs.Common.{◌≡◌, ℕ, ◌+◌, ◌-◌, ◌^◌, ◌≤◌, inl, inr, min, true, false, List, [], ◌∷◌, ◌++◌, length, IsSome, MatchBool, Contains, refl, ◌∙◌, ap, subst, arith}
 use Rattle.std.specs.Prelude.{nat_lt, count_by}
 use Rattle.std.specs.Str.{bytes_eq}
 use Rattle.std.proofs.lemmas.Bool.{and_from}
@@ -15,7 +15,8 @@ use Rattle.tree_trait.specs.declared.entry.EntryKind.TheVariants as kind
 use Rattle.tree_trait.specs.declared.stat.StatAnswer.{StatAnswer}
 use Rattle.tree_trait.specs.declared.stat.StatAnswer.TheVariants.{Gone}
 use Rattle.tree_walk.specs.Answers.{is_answered, first_look, entries_in, entry_count, passed_over, times_read}
-use Rattle.tree_walk.specs.Search.{has, IsMet, IsSettled, AreSeenTo, AreAnswered, AreFolders, AreLong, IsPaid}
+use Rattle.tree_walk.specs.Kept.{IsMet, IsSettled, AreSeenTo, AreAnswered, AreFolders, AreLong, IsPaid}
+use Rattle.tree_walk.specs.Search.{has}
 use Rattle.tree_walk.specs.Walked.{IsDue}
 use Rattle.tree_walk.proofs.AnswerLemmas.{one_if, times_past_look}
 use Rattle.tree_walk.proofs.ReachLemmas.{reached_more, folder_more, due_push}

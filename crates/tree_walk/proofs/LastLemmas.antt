@@ -1,18 +1,18 @@
 -- The last call of a walk, with what was asked before it.
-use Rattle.std.proofs.Common.{◌≡◌, ℕ, ◌+◌, ◌≤◌, inl, inr, List, [], ◌∷◌, ◌++◌, length, Contains, refl, sym, ◌∙◌, ap, subst, append_assoc, arith}
-use Rattle.std.specs.Prelude.{count_by}
-use Rattle.std.specs.Str.{bytes_eq}
-use Rattle.std.proofs.lemmas.List.Elements.{All-push, All-weaker, Contains-append_right}
+use Rattle.std.proofs.Common.{◌≡◌, ℕ, ◌≤◌, inl, inr, List, [], ◌∷◌, ◌++◌, length, Contains, refl, sym, ◌∙◌, ap, subst, append_assoc, arith}
+use Rattle.std.proofs.lemmas.List.Elements.{Contains-append_right}
 use Rattle.row_types.specs.Canon.{IsCanonPath}
 use Rattle.scan_queue.specs.declared.listing.TheConstants.{LISTING_LIMIT}
 use Rattle.tree_trait.specs.Dir.{DirFacts}
 use Rattle.tree_trait.specs.Entry.{EntryFacts}
 use Rattle.tree_trait.specs.Heard.{Heard, stat, read_dir}
 use Rattle.tree_trait.specs.declared.stat.StatAnswer.{StatAnswer}
-use Rattle.tree_walk.specs.Answers.{times_read, looks}
+use Rattle.tree_walk.specs.Answers.{looks}
 use Rattle.tree_walk.specs.Ends.{BeginsWithRoots, LooksAtRoots, StopsAtLast}
-use Rattle.tree_walk.specs.Search.{SearchFacts, has, with_last, IsSearch, IsBeginning, IsUnderway}
-use Rattle.tree_walk.specs.Walked.{IsCandidate, IsDue, AsksDue}
+use Rattle.tree_walk.specs.Kept.{IsSearch}
+use Rattle.tree_walk.specs.Search.{SearchFacts, with_last}
+use Rattle.tree_walk.specs.Underway.{IsBeginning, IsUnderway}
+use Rattle.tree_walk.specs.Walked.{IsCandidate, AsksDue}
 use Rattle.tree_walk.proofs.EndLemmas.{room_is}
 use Rattle.tree_walk.proofs.GrowLemmas.{few_of, folders_look}
 use Rattle.tree_walk.proofs.ReachLemmas.{candidate_more, due_push}

@@ -1,4 +1,5 @@
 pub mod AnswerLemmas
+pub mod ElementLemmas
 pub mod EndLemmas
 pub mod EntrySteps
 pub mod FileLemmas
@@ -13,5 +14,6 @@ pub mod ReachLemmas
 pub mod ReadLemmas
 pub mod RootLemmas
 pub mod SetLemmas
+pub mod ToldLemmas
 pub mod UnderwayLemmas
 pub mod WalkLemmas

@@ -1,11 +1,11 @@
 -- What the faults of a walk say of the files that are there.
-use Rattle.std.proofs.Common.{◌≡◌, ℕ, ◌+◌, ◌≤◌, ◌<◌, inl, inr, Bool, true, false, not, List, [], ◌∷◌, ◌++◌, length, map, Result, Ok, Err, IfErr, IsTrue, All, Contains, refl, sym, ap, subst, arith}
-use Rattle.std.specs.Prelude.{sum_by, count_by}
+use Rattle.std.proofs.Common.{◌≡◌, ℕ, ◌+◌, ◌≤◌, ◌<◌, inl, inr, Bool, true, false, not, List, [], ◌∷◌, length, map, Result, Ok, Err, IfErr, IsTrue, All, Contains, refl, sym, ap, subst, arith}
+use Rattle.std.specs.Prelude.{sum_by}
 use Rattle.std.specs.List.{list_any}
 use Rattle.std.specs.Str.{bytes_eq}
 use Rattle.std.proofs.lemmas.Bool.{false≢true, and_from, or_cases, false_from_ne_true}
 use Rattle.std.proofs.lemmas.List.Elements.{All-contains, All-cons, All-head, All-nil, All-tail, All-weaker, All-contains_itself, Contains-append_right, Contains-push}
-use Rattle.std.proofs.lemmas.List.Sums.{sum_by_push, sum_by-cons}
+use Rattle.std.proofs.lemmas.List.Sums.{sum_by-cons}
 use Rattle.std.proofs.lemmas.Slice.Eq.{bytes_eq-Decides}
 use Rattle.row_types.specs.Name.{NameFacts}
 use Rattle.tree_trait.specs.Asks.{IsTold}
@@ -17,13 +17,14 @@ use Rattle.tree_trait.specs.declared.stat.StatAnswer.TheVariants.{Gone}
 use Rattle.tree_walk.specs.Answers.{entry_count, entries_read, reads, times_read, looks}
 use Rattle.tree_walk.specs.Ends.{IsCause, IsRootGone, IsTooMany, IsTooManyEntries, Walks}
 use Rattle.tree_walk.specs.Files.{FolderFacts, FitsFault, HasManyEntries, HasManyFiles, IsFileUnder, IsFolderUnder}
-use Rattle.tree_walk.specs.Walked.{AsksDue, IsDue}
+use Rattle.tree_walk.specs.Walked.{IsDue}
 use Rattle.tree_walk.specs.declared.fault.WalkFault.{WalkFault}
 use Rattle.tree_walk.specs.declared.fault.WalkFault.TheVariants.{TooMany, TooManyEntries, RootGone}
 use Rattle.tree_walk.specs.declared.walked.Walk.{Walk}
 use Rattle.tree_walk.specs.declared.walked.TheConstants.{ENTRY_LIMIT}
 use Rattle.tree_walk.proofs.AnswerLemmas.{one_if}
-use Rattle.tree_walk.proofs.PresentLemmas.{reached_within, walked_under}
+use Rattle.tree_walk.proofs.PresentLemmas.{walked_under}
+use Rattle.tree_walk.proofs.ToldLemmas.{reached_within}
 use Rattle.tree_walk.proofs.ReachLemmas.{folder_reached}
 
 -- the folders with one more, if it was listed

@@ -1,5 +1,5 @@
 -- What is kept agrees with the answers after a look at a path.
-use Rattle.std.proofs.Common.{◌≡◌, ℕ, ◌^◌, ◌-◌, ◌||◌, true, false, cond, List, [], ◌∷◌, ◌++◌, Option, Some, None, is_some, Contains, refl, sym, ◌∙◌, ap, subst, add-zero, arith}
+use Rattle.std.proofs.Common.{◌≡◌, ℕ, ◌||◌, true, false, cond, List, [], ◌∷◌, ◌++◌, Option, Some, None, is_some, Contains, refl, sym, ◌∙◌, ap, subst, add-zero, arith}
 use Rattle.std.specs.Cmp.Lexicographic.{slice_cmp}
 use Rattle.std.specs.List.Sorted.{IsStrictlySortedBy}
 use Rattle.std.specs.Map.{lookup, keys_of}
@@ -12,7 +12,8 @@ use Rattle.tree_trait.specs.Dir.{DirFacts}
 use Rattle.tree_trait.specs.declared.stat.StatAnswer.{StatAnswer}
 use Rattle.tree_trait.specs.declared.stat.StatAnswer.TheVariants.{File, Gone}
 use Rattle.tree_walk.specs.Answers.{is_look_answer, first_look, entries_of}
-use Rattle.tree_walk.specs.Search.{SearchFacts, has, with_path, with_file, with_other, noted, file_of, is_no_file, is_looked, AreLooks, IsSearch}
+use Rattle.tree_walk.specs.Kept.{file_of, is_no_file, AreLooks, IsSearch}
+use Rattle.tree_walk.specs.Search.{SearchFacts, has, with_path, with_file, with_other, noted, is_looked}
 use Rattle.tree_walk.specs.Walked.{IsCandidate}
 use Rattle.tree_walk.proofs.AnswerLemmas.{looked_stays, after_look, look_again, reading_past_look, look_past_reading}
 use Rattle.tree_walk.proofs.GrowLemmas.{seen_more, answered_push, folders_look, long_more, paid_push}

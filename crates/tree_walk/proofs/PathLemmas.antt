@@ -76,14 +76,14 @@ pub within_child : (root folder name : List ℕ) → is_within root folder ≡ t
 within_child root folder name h =
     elim (or_cases (bytes_eq folder root) (lies_under root folder) h) [
       | inl one ↦ within_from_start root (child folder name)
-          (starts_at (front_under root) (child folder name) name (ap (λ (f : List ℕ). front_under f ++ name) ((bytes_eq-Decides folder root).0 one)))
+          (starts_at (front_under root) name (ap (λ (f : List ℕ). front_under f ++ name) ((bytes_eq-Decides folder root).0 one)))
       | inr under ↦
           let front : List ℕ = front_under root in
           let rest : List ℕ = drop (length front) folder in
           let begins = front_begins folder in
           let below : folder ≡ front ++ rest = starts_rest front folder (and_parts _ _ under).0 in
           within_from_start root (child folder name)
-          (starts_at front (child folder name) ((rest ++ begins.0) ++ name)
+          (starts_at front ((rest ++ begins.0) ++ name)
           (ap (λ (f : List ℕ). f ++ name) (begins.1 ∙ ap (λ (f : List ℕ). f ++ begins.0) below ∙ append_assoc front rest begins.0) ∙ append_assoc front (rest ++ begins.0) name))
     ]
 
@@ -96,7 +96,7 @@ under_from_front folder {path} rest e some =
     let two : length (front_under folder) ≡ length (folder ++ begins.0) = ap length begins.1 in
     let three : length (folder ++ begins.0) ≡ length folder + length begins.0 = length-append folder begins.0 in
     let other : bytes_eq path folder ≡ false = false_from_ne_true (bytes_eq path folder) (λ t. let same = ap length ((bytes_eq-Decides path folder).0 t) in absurd (omega (arith, same, whole, one, two, three, some))) in
-    and_from _ _ (starts_at (front_under folder) path rest e) (ap not other)
+    and_from _ _ (starts_at (front_under folder) rest e) (ap not other)
 
 -- what follows the front of a canonical folder, in a canonical path, is names
 names_of_pieces : (ps : List (List ℕ)) → list_all stays ps ≡ true → list_all has_no_slash ps ≡ true → list_all is_entry_name ps ≡ true

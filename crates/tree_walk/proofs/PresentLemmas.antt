@@ -1,32 +1,26 @@
--- The listing of a tree that is told and still: the files that are there under the roots.
-use Rattle.std.proofs.Common.{◌≡◌, ℕ, ◌+◌, ◌≤◌, ◌<◌, inl, inr, Bool, true, false, not, cond, List, [], ◌∷◌, ◌++◌, length, drop, map, Some, None, option_map, IsSome, All, Contains, refl, sym, ◌∙◌, ap, subst, append_assoc, length-append, arith}
+-- The files that are there under the roots are those that are listed.
+use Rattle.std.proofs.Common.{◌≡◌, ℕ, ◌+◌, ◌≤◌, ◌<◌, inl, inr, true, false, not, List, [], ◌∷◌, ◌++◌, length, drop, map, Some, None, IsSome, All, Contains, refl, sym, ◌∙◌, ap, subst, append_assoc, length-append, arith}
 use Rattle.std.specs.Prelude.{◌==◌}
-use Rattle.std.specs.List.{list_any, list_all, find, join_with_byte}
+use Rattle.std.specs.List.{list_any, list_all, join_with_byte}
 use Rattle.std.specs.Str.{bytes_eq}
-use Rattle.std.proofs.lemmas.Bool.{false≢true, false_from_ne_true, not-true, and_parts, or_cases, or_left, or_right}
-use Rattle.std.proofs.lemmas.List.{get_or-map, length-map}
-use Rattle.std.proofs.lemmas.List.Elements.{All-contains, Contains-append_right, Contains-append_cases, Contains-push_cases}
-use Rattle.std.proofs.lemmas.List.Folds.{list_any_at}
+use Rattle.std.proofs.lemmas.Bool.{false≢true, not-true, and_parts, or_cases}
+use Rattle.std.proofs.lemmas.List.Elements.{All-contains}
 use Rattle.std.proofs.lemmas.List.Splits.{join_with_byte-slice_split, length-slice_split}
-use Rattle.std.proofs.lemmas.List.Sums.{AllPass-from_list_all}
-use Rattle.std.proofs.lemmas.Option.{none-some, same_Some}
 use Rattle.std.proofs.lemmas.Slice.Eq.{bytes_eq-Decides}
 use Rattle.row_types.specs.Canon.{canon, is_canonical, pieces, IsCanonPath}
 use Rattle.row_types.specs.Name.{NameFacts}
-use Rattle.row_types.specs.Stamp.{StampFacts}
 use Rattle.row_types.specs.declared.limits.TheConstants.{PATH_LIMIT, SEPARATOR}
-use Rattle.tree_trait.specs.Dir.{DirFacts, listed, no_dir, dir_failed, dir_no_memory, child, makes, is_there, TellsDir}
-use Rattle.tree_trait.specs.Entry.{EntryFacts, is_entry_name, has_entry}
+use Rattle.tree_trait.specs.Dir.{child, makes, is_there}
+use Rattle.tree_trait.specs.Entry.{is_entry_name}
 use Rattle.tree_trait.specs.Heard.{Heard}
-use Rattle.row_types.specs.Name.{stamp_at}
 use Rattle.row_types.specs.Under.{front_under, lies_under}
 use Rattle.tree_trait.specs.Present.{are_distinct, are_apart, is_folder}
 use Rattle.tree_trait.specs.Stat.{TellsStat}
 use Rattle.tree_trait.specs.declared.entry.EntryKind.TheVariants as kind
 use Rattle.tree_trait.specs.declared.stat.StatAnswer.{StatAnswer}
-use Rattle.tree_trait.specs.declared.stat.StatAnswer.TheVariants.{Folder, File, Other, Gone, Failed, OutOfMemory}
+use Rattle.tree_trait.specs.declared.stat.StatAnswer.TheVariants.{Folder, File, Other, Gone}
 use Rattle.tree_trait.proofs.FolderLemmas.{front_of_child, name_long, starts_rest}
-use Rattle.tree_walk.specs.Answers.{is_look_answer, is_dir_answer, look_at, reading_of, first_look, first_reading, entries_of, entries_in}
+use Rattle.tree_walk.specs.Answers.{is_look_answer, first_look, first_reading}
 use Rattle.tree_walk.specs.Ends.{IsWhole}
 use Rattle.row_types.specs.Under.{is_within}
 use Rattle.tree_trait.specs.Asks.{IsTold}
@@ -35,113 +29,10 @@ use Rattle.tree_trait.specs.Shown.{ShownTree, IsPresence}
 use Rattle.tree_walk.specs.Files.{IsFileUnder, AreFilesUnder}
 use Rattle.tree_walk.specs.Walked.{IsNamed, IsReached, root, entry, IsEntry, IsFolder, IsCandidate, IsWalked, IsFull}
 use Rattle.tree_walk.specs.declared.walked.Walk.{Walk}
-use Rattle.tree_walk.proofs.AnswerLemmas.{place_of_first, look_says, reading_says}
-use Rattle.tree_walk.proofs.PathLemmas.{within_child, under_from_front, names_after}
+use Rattle.tree_walk.proofs.PathLemmas.{under_from_front, names_after}
 use Rattle.tree_walk.proofs.ReachLemmas.{look_was_due}
-
--- some element that passes, and what all pass
-any_from_Contains : {X : Type 0} (p : X → Bool) (xs : List X) (x : X) → Contains xs x → p x ≡ true → list_any p xs ≡ true
-any_from_Contains p xs x c h = list_any_at p xs c.0 x c.1 (subst (λ z. p z ≡ true) (sym c.2) h)
-
-all_at : {X : Type 0} (p : X → Bool) (xs : List X) (x : X) → list_all p xs ≡ true → Contains xs x → p x ≡ true
-all_at p xs x h c = subst (λ z. p z ≡ true) c.2 (AllPass-from_list_all p xs h c.0 x c.1)
-
-any_more : {X : Type 0} (p q : X → Bool) (xs : List X) → ((x : X) → p x ≡ true → q x ≡ true) → list_any p xs ≡ true → list_any q xs ≡ true
-any_more p q [] f h = h
-any_more p q (x ∷ xs) f h =
-    elim (or_cases (p x) (list_any p xs) h) [ inl here ↦ or_left (q x) (list_any q xs) (f x here) | inr later ↦ or_right (q x) (list_any q xs) (any_more p q xs f later) ]
-
--- a root under which a path lies
-any_root : {X : Type 0} (p : X → Bool) (xs : List X) → list_any p xs ≡ true → (x : X) × Contains xs x × (p x ≡ true)
-any_root p [] h = absurd (false≢true h)
-any_root p (x ∷ xs) h =
-    elim (or_cases (p x) (list_any p xs) h) [
-      | inl here ↦ (x, (0, omega arith, refl), here)
-      | inr later ↦ let found = any_root p xs later in (found.0, Contains-append_right (x ∷ []) xs found.0 found.1, found.2)
-    ]
-
-path_there : (names : List NameFacts) (name : NameFacts) → Contains names name → Contains (map (λ n. n.path) names) name.path
-path_there names name c = (
-  c.0,
-  subst (λ (n : ℕ). c.0 < n) (sym (length-map names (λ (n : NameFacts). n.path))) c.1,
-  get_or-map (λ (n : NameFacts). n.path) names c.0 name name.path c.1 ∙ ap (λ (n : NameFacts). n.path) c.2,
-)
-
--- the file at a path
-pub file_found : (names : List NameFacts) (path : List ℕ) {stamp : StampFacts} → stamp_at names path ≡ Some stamp → Contains names (record { path = path; stamp = stamp })
-file_found [] path {stamp} h = absurd (none-some stamp h)
-file_found (n ∷ names) path {stamp} h =
-    elim (bytes_eq n.path path) as (λ v. bytes_eq n.path path ≡ v → option_map (λ (m : NameFacts). m.stamp) (cond v (Some n) (find (λ m. bytes_eq m.path path) names)) ≡ Some stamp → Contains (n ∷ names) (record { path = path; stamp = stamp })) [
-      | true ↦ λ e t.
-          let same : n ≡ record { path = path; stamp = stamp } =
-          ap (λ (p : List ℕ). record { path = p; stamp = n.stamp }) ((bytes_eq-Decides n.path path).0 e) ∙ ap (λ (s : StampFacts). record { path = path; stamp = s }) (same_Some n.stamp stamp t) in
-          (0, omega arith, same)
-      | false ↦ λ e t. Contains-append_right (n ∷ []) names (record { path = path; stamp = stamp }) (file_found names path t)
-    ] refl h
-
-pub file_stamp : (names : List NameFacts) (name : NameFacts) → are_distinct (map (λ n. n.path) names) ≡ true → Contains names name → stamp_at names name.path ≡ Some name.stamp
-file_stamp [] name distinct c = absurd (let lt = c.1 in omega arith)
-file_stamp (n ∷ names) name distinct c =
-    let parts = and_parts (not (list_any (λ other. bytes_eq other n.path) (map (λ (m : NameFacts). m.path) names))) (are_distinct (map (λ (m : NameFacts). m.path) names)) distinct in
-    elim (Contains-append_cases (n ∷ []) names name c) [
-      | inl here ↦ elim (Contains-push_cases [] n name here) [
-        | inl none ↦ absurd (let lt = none.1 in omega arith)
-        | inr one ↦ ap (λ (b : Bool). option_map (λ (m : NameFacts). m.stamp) (cond b (Some n) (find (λ m. bytes_eq m.path name.path) names))) ((bytes_eq-Decides n.path name.path).1 (ap (λ (m : NameFacts). m.path) one))
-            ∙ ap (λ (m : NameFacts). Some m.stamp) one
-      ]
-      | inr later ↦
-          let none : list_any (λ other. bytes_eq other n.path) (map (λ (m : NameFacts). m.path) names) ≡ false = not-true _ parts.0 in
-          let other : bytes_eq n.path name.path ≡ false = false_from_ne_true (bytes_eq n.path name.path)
-          (λ t. false≢true (sym none ∙ any_from_Contains (λ other. bytes_eq other n.path) (map (λ (m : NameFacts). m.path) names) name.path (path_there names name later) ((bytes_eq-Decides name.path n.path).1 (sym ((bytes_eq-Decides n.path name.path).0 t))))) in
-          ap (λ (b : Bool). option_map (λ (m : NameFacts). m.stamp) (cond b (Some n) (find (λ m. bytes_eq m.path name.path) names))) other ∙ file_stamp names name parts.1 later
-    ]
-
--- what the answers say of the tree
-told_look : (present : List NameFacts) (answers : List Heard) → All (IsTold present) answers → (path : List ℕ) {answer : StatAnswer} → first_look answers path ≡ Some answer → TellsStat present path answer × (is_look_answer answer ≡ true)
-told_look present answers told path {answer} h =
-    let at = place_of_first (look_at path) answers h in
-    let says = look_says path at.0 at.2 in
-    (subst (IsTold present) says.0 (All-contains (IsTold present) answers at.0 told at.1), says.1)
-
-told_reading : (present : List NameFacts) (answers : List Heard) → All (IsTold present) answers → (path : List ℕ) {answer : DirFacts} → first_reading answers path ≡ Some answer → TellsDir present path answer × (is_dir_answer answer ≡ true)
-told_reading present answers told path {answer} h =
-    let at = place_of_first (reading_of path) answers h in
-    let says = reading_says path at.0 at.2 in
-    (subst (IsTold present) says.0 (All-contains (IsTold present) answers at.0 told at.1), says.1)
-
--- a look at a file finds it
-look_finds : (present : List NameFacts) (path : List ℕ) {stamp : StampFacts} (answer : StatAnswer) → stamp_at present path ≡ Some stamp → TellsStat present path answer → is_look_answer answer ≡ true → answer ≡ File stamp
-look_finds present path {stamp} Folder at t ok = absurd (none-some stamp (sym t.no_file ∙ at))
-look_finds present path {stamp} (File found) at t ok = ap (λ (s : StampFacts). File s) (same_Some found stamp (sym t ∙ at))
-look_finds present path Other at t ok = absurd t
-look_finds present path {stamp} Gone at t ok = absurd (none-some stamp (sym t.no_file ∙ at))
-look_finds present path Failed at t ok = absurd (false≢true ok)
-look_finds present path OutOfMemory at t ok = absurd (false≢true ok)
-
--- what lies under the reached paths lies under a root
-pub reached_within : {answers : List Heard} {roots : List (List ℕ)} {path : List ℕ} → IsReached answers roots path → list_any (λ r. is_within r path) roots ≡ true
-reached_within {roots} {path} (root p c) = any_from_Contains (λ r. is_within r path) roots path c (or_left (bytes_eq path path) (lies_under path path) ((bytes_eq-Decides path path).1 refl))
-reached_within {answers} {roots} (entry folder p k r n) =
-    subst (λ (q : List ℕ). list_any (λ z. is_within z q) roots ≡ true) (sym n.joined)
-    (any_more (λ z. is_within z folder) (λ z. is_within z (child folder n.name)) roots (λ z h. within_child z folder n.name h) (reached_within r))
-
-candidate_within : (answers : List Heard) (roots : List (List ℕ)) (path : List ℕ) → IsCandidate answers roots path → list_any (λ r. is_within r path) roots ≡ true
-candidate_within answers roots path (inl r) = reached_within {answers = answers} (root path r)
-candidate_within answers roots path (inr e) = reached_within (entry e.folder path kind.File e.reached e.named)
-
--- a folder's entries are those that stand there
-entries_told : (present : List NameFacts) (folder : List ℕ) (answer : DirFacts) (e : EntryFacts) → TellsDir present folder answer → is_dir_answer answer ≡ true → is_folder present folder ≡ true → is_entry_name e.name ≡ true → is_there present folder e ≡ true → has_entry (entries_of (Some answer)) e ≡ true
-entries_told present folder (listed entries skipped) e t ok some valid there = t.listing.all e valid there
-entries_told present folder no_dir e t ok some valid there = absurd (false≢true (sym t ∙ some))
-entries_told present folder dir_failed e t ok some valid there = absurd (false≢true ok)
-entries_told present folder dir_no_memory e t ok some valid there = absurd (false≢true ok)
-
-named_told : (present : List NameFacts) (answers : List Heard) (folder : List ℕ) (e : EntryFacts) → All (IsTold present) answers → IsSome (first_reading answers folder) → is_folder present folder ≡ true → is_entry_name e.name ≡ true → is_there present folder e ≡ true → has_entry (entries_in answers folder) e ≡ true
-named_told present answers folder e told read some valid there =
-    elim (first_reading answers folder) as (λ o. first_reading answers folder ≡ o → IsSome o → has_entry (entries_of o) e ≡ true) [
-      | None ↦ λ h r. absurd (false≢true r)
-      | Some answer ↦ λ h r. let says = told_reading present answers told folder h in entries_told present folder answer e says.0 says.1 some valid there
-    ] refl read
+use Rattle.tree_walk.proofs.ElementLemmas.{any_from_Contains, all_at, any_root, path_there, file_found, file_stamp}
+use Rattle.tree_walk.proofs.ToldLemmas.{candidate_within, look_finds, named_told, told_look}
 
 -- from a folder down to a file, name by name
 joined_some : (name : List ℕ) (more : List (List ℕ)) → is_entry_name name ≡ true → 1 ≤ length (join_with_byte SEPARATOR (name ∷ more))
@@ -205,8 +96,7 @@ root_is_folder present path file (File stamp) apart there under t ok =
     absurd (false≢true (sym none ∙ any_from_Contains (lies_under path) paths file.path (path_there present file there) under))
 root_is_folder present path file Other apart there under t ok = absurd t
 root_is_folder present path file Gone apart there under t ok = absurd (false≢true (sym t.no_folder ∙ any_from_Contains (λ n. lies_under path n.path) present file there under))
-root_is_folder present path file Failed apart there under t ok = absurd (false≢true ok)
-root_is_folder present path file OutOfMemory apart there under t ok = absurd (false≢true ok)
+root_is_folder present path file _ apart there under t ok = absurd (false≢true ok)
 
 -- each file under a root is reached
 candidate_from_under : (present : List NameFacts) {answers : List Heard} {roots : List (List ℕ)} {walk : Walk} (file : NameFacts) → IsWhole answers roots walk → All (IsTold present) answers → are_apart (map (λ n. n.path) present) ≡ true → Contains present file → IsCanonPath file.path

@@ -6,7 +6,6 @@ use Rattle.tree_trait.specs.Heard.{Heard, load, stat, read_dir}
 use Rattle.tree_trait.specs.declared.entry.EntryKind.{EntryKind}
 use Rattle.tree_trait.specs.declared.entry.EntryKind.TheVariants as kind
 use Rattle.tree_trait.specs.declared.stat.StatAnswer.{StatAnswer}
-use Rattle.tree_trait.specs.declared.stat.StatAnswer.TheVariants.{Folder}
 use Rattle.tree_walk.specs.Answers.{first_look, look_at}
 use Rattle.tree_walk.specs.Walked.{IsNamed, IsReached, root, entry, IsEntry, IsFolder, IsCandidate, IsDue}
 use Rattle.tree_walk.proofs.AnswerLemmas.{entries_stay, look_stays, place_of_first, look_says}

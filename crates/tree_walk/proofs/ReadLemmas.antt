@@ -1,5 +1,5 @@
 -- What is kept agrees with the answers after a folder was read.
-use Rattle.std.proofs.Common.{◌≡◌, ℕ, ◌+◌, ◌-◌, ◌^◌, ◌⊎◌, inl, inr, min, Bool, true, false, cond, List, [], ◌∷◌, ◌++◌, length, Option, Some, None, All, refl, sym, ◌∙◌, ap, subst, arith}
+use Rattle.std.proofs.Common.{◌≡◌, ℕ, ◌+◌, ◌-◌, ◌^◌, ◌⊎◌, inl, inr, min, Bool, true, false, cond, List, [], ◌∷◌, ◌++◌, length, Option, Some, None, All, refl, ◌∙◌, ap, subst, arith}
 use Rattle.std.specs.Prelude.{count_by}
 use Rattle.std.specs.Str.{bytes_eq}
 use Rattle.std.proofs.lemmas.Bool.{false≢true}
@@ -7,11 +7,12 @@ use Rattle.std.proofs.lemmas.List.Sums.{sum_by_push}
 use Rattle.std.proofs.lemmas.Slice.Eq.{bytes_eq-Decides}
 use Rattle.row_types.specs.Canon.{IsCanonPath}
 use Rattle.tree_trait.specs.Dir.{DirFacts, child}
-use Rattle.tree_trait.specs.Entry.{EntryFacts, has_entry}
+use Rattle.tree_trait.specs.Entry.{has_entry}
 use Rattle.tree_trait.specs.Heard.{Heard, read_dir}
 use Rattle.tree_trait.proofs.EntryLemmas.{bytes_back}
 use Rattle.tree_walk.specs.Answers.{is_dir_answer, first_reading, entries_of, entries_in, times_read, passed_over}
-use Rattle.tree_walk.specs.Search.{SearchFacts, has, with_last, IsSettled, IsPending, AreSeenTo, AreFolders, IsSearch}
+use Rattle.tree_walk.specs.Kept.{IsSettled, IsPending, AreSeenTo, AreFolders, IsSearch}
+use Rattle.tree_walk.specs.Search.{SearchFacts, has, with_last}
 use Rattle.tree_walk.specs.Walked.{IsFolder, IsDue}
 use Rattle.tree_walk.proofs.AnswerLemmas.{one_if, looked_stays, after_reading, times_after_reading, unread}
 use Rattle.tree_walk.proofs.GrowLemmas.{settled_more, answered_push, long_more, paid_push}

@@ -1,18 +1,20 @@
 -- The roots, as they are looked at one after the other.
-use Rattle.std.proofs.Common.{◌≡◌, ℕ, ◌+◌, ◌≤◌, inl, inr, Bool, true, false, cond, List, [], ◌∷◌, ◌++◌, length, Some, None, is_some, IsSome, Result, MatchResult, Contains, refl, sym, ◌∙◌, ap, subst}
+use Rattle.std.proofs.Common.{◌≡◌, ℕ, ◌+◌, inl, inr, Bool, true, false, cond, List, [], ◌∷◌, ◌++◌, length, Some, None, is_some, IsSome, Result, MatchResult, Contains, refl, sym, ◌∙◌, ap, subst}
 use Rattle.std.specs.Prelude.{if◌then◌else◌}
 use Rattle.std.proofs.lemmas.Bool.{false≢true, and_from}
 use Rattle.std.proofs.lemmas.List.{length_push}
 use Rattle.std.proofs.lemmas.List.Elements.{Contains-push_cases}
 use Rattle.std.proofs.lemmas.List.Folds.{list_all-append}
 use Rattle.row_types.specs.Canon.{IsCanonPath}
-use Rattle.scan_queue.specs.declared.listing.TheConstants.{LISTING_LIMIT}
 use Rattle.tree_trait.specs.Heard.{Heard, stat}
 use Rattle.tree_trait.specs.declared.stat.StatAnswer.{StatAnswer}
 use Rattle.tree_trait.specs.declared.stat.StatAnswer.TheVariants.{Folder, Gone, Failed, OutOfMemory}
 use Rattle.tree_walk.specs.Answers.{is_look_answer, first_look, is_found}
 use Rattle.tree_walk.specs.Ends.{IsWithinLimits, IsRootGone, IsCause}
-use Rattle.tree_walk.specs.Search.{SearchFacts, has, is_looked, noted, with_root, with_new_root, Adds, IsSearch, AreLooked, IsBeginning, IsLook}
+use Rattle.tree_walk.specs.Calls.{IsLook}
+use Rattle.tree_walk.specs.Kept.{IsSearch}
+use Rattle.tree_walk.specs.Search.{SearchFacts, has, is_looked, noted, with_root, with_new_root, Adds}
+use Rattle.tree_walk.specs.Underway.{AreLooked, IsBeginning}
 use Rattle.tree_walk.specs.declared.fault.WalkFault.{WalkFault}
 use Rattle.tree_walk.proofs.EndLemmas.{room_is, adds_ends, too_many_is}
 use Rattle.tree_walk.proofs.LastLemmas.{looks_next, root_among, root_last}

@@ -1,37 +1,27 @@
 -- A walk that is underway goes on.
-use Rattle.std.proofs.Common.{◌≡◌, ℕ, ◌+◌, ◌-◌, ◌^◌, ◌≤◌, ◌<◌, inl, inr, min, Bool, true, false, cond, List, [], ◌∷◌, ◌++◌, length, Option, Some, None, is_some, IsSome, MatchBool, Result, MatchResult, refl, sym, ◌∙◌, ap, subst, drop, get_or, arith}
-use Rattle.std.specs.Prelude.{if◌then◌else◌}
-use Rattle.std.proofs.lemmas.Bool.{false≢true, lt-ltb, le-ltb, and_from}
+use Rattle.std.proofs.Common.{◌≡◌, ℕ, ◌+◌, ◌≤◌, ◌<◌, inl, inr, Bool, true, List, [], ◌∷◌, ◌++◌, length, Some, None, IsSome, MatchBool, refl, sym, ◌∙◌, ap, subst, drop, get_or}
+use Rattle.std.proofs.lemmas.Bool.{false≢true, lt-ltb, le-ltb}
 use Rattle.std.proofs.lemmas.List.{drop_more}
 use Rattle.std.proofs.lemmas.List.Folds.{list_any_at}
-use Rattle.std.proofs.lemmas.List.Sums.{sum_by_push}
-use Rattle.std.proofs.lemmas.Slice.Eq.{bytes_eq-Decides}
 use Rattle.row_types.specs.Stamp.{StampFacts}
 use Rattle.row_types.specs.declared.limits.TheConstants.{PATH_LIMIT}
 use Rattle.scan_queue.specs.declared.listing.TheConstants.{LISTING_LIMIT}
-use Rattle.tree_trait.specs.Dir.{DirFacts, child}
-use Rattle.tree_trait.specs.Entry.{EntryFacts, same_kind, same_entry, has_entry}
-use Rattle.tree_trait.specs.Heard.{Heard, stat, read_dir}
+use Rattle.tree_trait.specs.Dir.{child}
+use Rattle.tree_trait.specs.Entry.{EntryFacts, same_entry, has_entry}
+use Rattle.tree_trait.specs.Heard.{Heard}
 use Rattle.tree_trait.specs.declared.entry.EntryKind.{EntryKind}
 use Rattle.tree_trait.specs.declared.entry.EntryKind.TheVariants as kind
-use Rattle.tree_trait.specs.declared.stat.StatAnswer.{StatAnswer}
 use Rattle.tree_trait.specs.declared.stat.StatAnswer.TheVariants.{Folder}
-use Rattle.tree_walk.specs.Answers.{is_look_answer, first_look, entries_of, entry_count, entries_read}
-use Rattle.tree_walk.specs.Ends.{IsTooMany, IsTooManyEntries, IsCause}
-use Rattle.tree_walk.specs.Search.{SearchFacts, Adds, IsEntered, IsLook, IsNext, IsNextAt, has, with_path, noted, with_folder, with_long, with_last, paid, is_looked, IsMet, IsSettled, IsSearch, AreLooked, IsUnderway, IsAddFault, IsRead}
-use Rattle.tree_walk.specs.declared.fault.WalkFault.{WalkFault}
-use Rattle.tree_walk.specs.declared.fault.WalkFault.TheVariants.{TooMany, OutOfMemory as WalkMemory}
-use Rattle.tree_walk.specs.Walked.{IsNamed, IsEntry, entry as reached_entry, IsCandidate}
-use Rattle.tree_walk.specs.declared.walked.TheConstants.{ENTRY_LIMIT}
+use Rattle.tree_walk.specs.Answers.{first_look}
+use Rattle.tree_walk.specs.Kept.{IsMet, IsSettled, IsSearch}
+use Rattle.tree_walk.specs.Search.{SearchFacts, has, with_folder, with_long}
+use Rattle.tree_walk.specs.Underway.{IsEntered, IsNext, IsNextAt, AreLooked, IsUnderway}
+use Rattle.tree_walk.specs.Walked.{IsNamed, IsEntry, entry as reached_entry}
 use Rattle.tree_trait.proofs.EntryLemmas.{entry_itself}
-use Rattle.tree_walk.proofs.AnswerLemmas.{looked_stays, look_stays, look_here, entries_stay}
-use Rattle.tree_walk.proofs.ReachLemmas.{reached_more, folder_reached}
-use Rattle.tree_walk.proofs.EndLemmas.{adds_ends, too_many_is}
-use Rattle.tree_walk.proofs.LastLemmas.{begins_more, look_last, read_last}
-use Rattle.tree_walk.proofs.SetLemmas.{same-Decides}
+use Rattle.tree_walk.proofs.AnswerLemmas.{looked_stays, look_stays, entries_stay}
+use Rattle.tree_walk.proofs.ReachLemmas.{reached_more}
+use Rattle.tree_walk.proofs.LastLemmas.{begins_more}
 use Rattle.tree_walk.proofs.EntrySteps.{folder_step, folder_known, folder_stays, folder_files, long_step, long_known, entry_step, with_pending}
-use Rattle.tree_walk.proofs.LookLemmas.{IsLookDue, note_step, is_looked_is}
-use Rattle.tree_walk.proofs.ReadLemmas.{read_step, read_entries, next_folder}
 
 -- the roots stay looked at
 still_looked : {answers : List Heard} (more : List Heard) {roots : List (List ℕ)} {search : SearchFacts} (next : SearchFacts) → AreLooked answers roots roots search → ((path : List ℕ) → has search.folders path ≡ true → has next.folders path ≡ true) → AreLooked (answers ++ more) roots roots next

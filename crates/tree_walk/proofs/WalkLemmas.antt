@@ -8,7 +8,8 @@ use Rattle.tree_trait.specs.Heard.{Heard}
 use Rattle.tree_trait.specs.Shown.{ShownTree, HandsOn, StaysStill}
 use Rattle.tree_walk.specs.Ends.{IsCause, IsWhole, Walks}
 use Rattle.tree_walk.specs.Files.{AreFilesUnder}
-use Rattle.tree_walk.specs.Search.{SearchFacts, found_names, IsUnderway}
+use Rattle.tree_walk.specs.Search.{SearchFacts, found_names}
+use Rattle.tree_walk.specs.Underway.{IsUnderway}
 use Rattle.tree_walk.specs.declared.fault.WalkFault.{WalkFault}
 use Rattle.tree_walk.specs.declared.fault.WalkFault.TheVariants.{OutOfMemory}
 use Rattle.tree_walk.specs.declared.walked.Walk.{Walk}

@@ -10,7 +10,10 @@ pub use Rattle.tree_trait.specs.Present
 pub use Rattle.tree_trait.specs.Shown
 pub use Rattle.tree_trait.specs.Stat
 pub mod Answers
+pub mod Calls
 pub mod Ends
 pub mod Files
+pub mod Kept
 pub mod Search
+pub mod Underway
 pub mod Walked

@@ -6,7 +6,7 @@ ghost use Rattle.tree_trait.specs.Dir.{dir_failed};
 ghost use Rattle.tree_trait.specs.Heard.{stat, read_dir};
 ghost use Rattle.tree_trait.specs.Shown.{HandsOn};
 ghost use Rattle.tree_walk.specs.Ends.{Goes};
-ghost use Rattle.tree_walk.specs.Search.{IsCallFault, IsLook, IsRead};
+ghost use Rattle.tree_walk.specs.Calls.{IsCallFault, IsLook, IsRead};
 
 use crate::fault::WalkFault;
 use row_types::{CanonPath, Truth};

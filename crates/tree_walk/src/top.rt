@@ -11,7 +11,7 @@ ghost use Rattle.tree_trait.specs.Heard.{Heard};
 ghost use Rattle.tree_trait.specs.Shown.{HandsOn};
 ghost use Rattle.tree_walk.specs.Ends.{Goes, IsCause, Walks};
 ghost use Rattle.tree_walk.specs.Files.{AreFilesUnder, FitsFault};
-ghost use Rattle.tree_walk.specs.Search.{IsBeginning, IsEntered, IsNext, IsNextAt, IsUnderway};
+ghost use Rattle.tree_walk.specs.Underway.{IsBeginning, IsEntered, IsNext, IsNextAt, IsUnderway};
 ghost use Rattle.tree_walk.specs.Search.{with_last};
 
 use crate::ask::{look, read};

@@ -1,7 +1,7 @@
 -- One root after the other is looked at.
 use Rattle.std.proofs.Common.{ℕ, ◌+◌, ◌<◌, List, length, take, drop, inr, subst, arith}
 use Rattle.tree_trait.proofs.HandLemmas.{hands_then}
-use Rattle.tree_walk.specs.Search.{IsBeginning}
+use Rattle.tree_walk.specs.Underway.{IsBeginning}
 use Rattle.tree_walk.proofs.GoesLemmas.{goes_then, goes_then_up, split_at, take_one}
 use Rattle.tree_walk.proofs.top.begin.Goals as goal
 

@@ -2,7 +2,7 @@
 use Rattle.std.proofs.Common.{◌<◌, [], take, Ok}
 use Rattle.tree_trait.specs.Shown.{HandsOn}
 use Rattle.tree_walk.specs.Ends.{Goes, IsCause}
-use Rattle.tree_walk.specs.Search.{IsBeginning}
+use Rattle.tree_walk.specs.Underway.{IsBeginning}
 use Rattle.tree_walk.proofs.top.begin.Given as goal
 
 abbrev pub invariant-loop-root : goal.invariant-loop-root

@@ -6,7 +6,8 @@ use Rattle.row_types.specs.Canon.{IsCanonPath, IsCanonical}
 use Rattle.row_types.specs.declared.limits.TheConstants.{PATH_LIMIT}
 use Rattle.tree_trait.specs.Dir.{child}
 use Rattle.tree_trait.specs.Entry.{EntryFacts}
-use Rattle.tree_walk.specs.Search.{SearchFacts, IsUnderway, with_long}
+use Rattle.tree_walk.specs.Search.{SearchFacts, with_long}
+use Rattle.tree_walk.specs.Underway.{IsUnderway}
 use Rattle.tree_walk.proofs.UnderwayLemmas.{long_entry}
 use Rattle.tree_walk.proofs.GoesLemmas.{goes_none, goes_memory}
 use Rattle.tree_walk.proofs.PathLemmas.{child_canonical, too_long}

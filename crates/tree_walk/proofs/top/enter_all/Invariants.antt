@@ -3,7 +3,7 @@ use Rattle.std.proofs.Common.{◌≡◌, ℕ, ◌+◌, ◌≤◌, List, drop, le
 use Rattle.tree_trait.specs.Heard.{Heard}
 use Rattle.tree_trait.specs.Shown.{HandsOn}
 use Rattle.tree_walk.specs.Ends.{Goes, IsCause}
-use Rattle.tree_walk.specs.Search.{IsEntered, IsUnderway}
+use Rattle.tree_walk.specs.Underway.{IsEntered, IsUnderway}
 use Rattle.tree_walk.proofs.top.enter_all.Given as goal
 
 abbrev pub invariant-loop-entry : goal.invariant-loop-entry

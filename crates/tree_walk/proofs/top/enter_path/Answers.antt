@@ -1,6 +1,7 @@
 -- A folder is to be read, a file is looked at, and anything else leads nowhere.
 use Rattle.std.proofs.Common.{sym, ◌∙◌, subst}
-use Rattle.tree_walk.specs.Search.{SearchFacts, IsUnderway}
+use Rattle.tree_walk.specs.Search.{SearchFacts}
+use Rattle.tree_walk.specs.Underway.{IsUnderway}
 use Rattle.tree_walk.proofs.UnderwayLemmas.{folder_entry, other_entry}
 use Rattle.tree_walk.proofs.GoesLemmas.{goes_none}
 use Rattle.tree_walk.proofs.top.enter_path.Goals as goal

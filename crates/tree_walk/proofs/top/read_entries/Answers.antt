@@ -1,10 +1,11 @@
 -- The reading is answered and paid, or it lists too much, or it fails.
-use Rattle.std.proofs.Common.{◌≡◌, ◌<◌, ◌≤◌, inl, inr, true, List, ◌++◌, length, refl, sym, ◌∙◌, ap, subst}
+use Rattle.std.proofs.Common.{◌≡◌, ◌<◌, ◌≤◌, inl, inr, List, ◌++◌, length, refl, sym, ◌∙◌, ap, subst}
 use Rattle.std.proofs.lemmas.Bool.{false≢true, cases_lt}
 use Rattle.tree_trait.specs.Dir.{dir_failed}
 use Rattle.tree_trait.specs.Entry.{EntryFacts}
 use Rattle.tree_trait.specs.Heard.{read_dir}
-use Rattle.tree_walk.specs.Search.{SearchFacts, IsEntered, paid}
+use Rattle.tree_walk.specs.Search.{SearchFacts, paid}
+use Rattle.tree_walk.specs.Underway.{IsEntered}
 use Rattle.tree_walk.proofs.LastLemmas.{read_last}
 use Rattle.tree_walk.proofs.FileLemmas.{read_into, read_over}
 use Rattle.tree_walk.proofs.GoesLemmas.{goes_on, goes_up, call_fault}

@@ -2,7 +2,7 @@
 use Rattle.std.proofs.Common.{List, ◌++◌, sym, subst}
 use Rattle.std.proofs.lemmas.Result.{MatchResult-weaker}
 use Rattle.tree_trait.specs.Entry.{EntryFacts}
-use Rattle.tree_walk.specs.Search.{IsEntered}
+use Rattle.tree_walk.specs.Underway.{IsEntered}
 use Rattle.tree_walk.proofs.UnderwayLemmas.{all_seen}
 use Rattle.tree_walk.proofs.GoesLemmas.{goes_then}
 use Rattle.tree_walk.proofs.top.read_folder.Goals as goal

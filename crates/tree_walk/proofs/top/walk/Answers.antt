@@ -1,7 +1,8 @@
 -- One folder after the other is read, until none is left.
 use Rattle.std.proofs.Common.{◌≡◌, ℕ, List, [], inl, sym, subst}
 use Rattle.tree_trait.proofs.HandLemmas.{hands_then}
-use Rattle.tree_walk.specs.Search.{SearchFacts, IsUnderway}
+use Rattle.tree_walk.specs.Search.{SearchFacts}
+use Rattle.tree_walk.specs.Underway.{IsUnderway}
 use Rattle.tree_walk.proofs.GoesLemmas.{goes_on, goes_then, goes_then_up, goes_up}
 use Rattle.tree_walk.proofs.LimitLemmas.{fault_fits}
 use Rattle.tree_walk.proofs.WalkLemmas.{walk_ended, files_of}

@@ -2,7 +2,7 @@
 use Rattle.std.proofs.Common.{◌+◌, ◌<◌, [], length, Ok}
 use Rattle.tree_trait.specs.Shown.{HandsOn}
 use Rattle.tree_walk.specs.Ends.{Goes, IsCause}
-use Rattle.tree_walk.specs.Search.{IsUnderway}
+use Rattle.tree_walk.specs.Underway.{IsUnderway}
 use Rattle.tree_walk.proofs.top.walk.Given as goal
 
 abbrev pub invariant-loop-folder : goal.invariant-loop-folder
