@@ -1,10 +1,14 @@
 -- The files of the sample world (this project's example).
 use Rattle.std.specs.Prelude.{◌≡◌, ℕ, ℤ, pos, List, [], ◌∷◌, ◌++◌, length, codes}
 use Rattle.row_types.specs.Stamp.{StampFacts}
-use Rattle.sample_files.specs.Samples.{both_classes, big_endian_debug, eight_aligned_notes, dwarf_five, executable, debug_companion}
+use Rattle.sample_files.specs.Samples.{both_classes, big_endian_debug, eight_aligned_notes, dwarf_five}
+use Rattle.sample_files.specs.Samples.{executable, debug_companion}
 use Rattle.tree_trait.specs.Found.{FoundFacts}
 use Rattle.sample_world.specs.declared.sample.Sample.{Sample}
-use Rattle.sample_world.specs.declared.sample.Sample.TheVariants.{Empty, FirstLibrary, SecondLibrary, Program, Script, Tool, Notes, OtherMachine, ToolDebug, Readme, Header, Source, Before, After}
+use Rattle.sample_world.specs.declared.sample.Sample.TheVariants.{Empty, FirstLibrary, SecondLibrary, Program}
+use Rattle.sample_world.specs.declared.sample.Sample.TheVariants.{Script, Tool, Notes, OtherMachine}
+use Rattle.sample_world.specs.declared.sample.Sample.TheVariants.{ToolDebug, Readme, Header, Source, Before}
+use Rattle.sample_world.specs.declared.sample.Sample.TheVariants.{After}
 
 -- a file's path
 abbrev pub sample_path : Sample → List ℕ
@@ -51,7 +55,11 @@ sample_stamp sample = record { size = length (sample_bytes sample); secs = sampl
 
 -- a file as a tree finds it
 abbrev pub sample_found : Sample → FoundFacts
-sample_found sample = record { path = sample_path sample; stamp = sample_stamp sample; bytes = sample_bytes sample }
+sample_found sample = record {
+  path = sample_path sample;
+  stamp = sample_stamp sample;
+  bytes = sample_bytes sample;
+}
 
 -- the file of this path and stamp with these bytes is one of the samples
 pub record IsSample (path : List ℕ) (stamp : StampFacts) (bytes : List ℕ) : Type 0 where

@@ -7,7 +7,8 @@ use Rattle.sample_world.specs.declared.sample.Sample.TheVariants.{Before, After}
 
 -- the reference tree, whose calls of these numbers fail
 abbrev pub reference_facts : List ℕ → ScriptFacts
-reference_facts bad_calls = record { stages = map sample_found REFERENCE_TREE ∷ []; moves = []; bad_calls = bad_calls }
+reference_facts bad_calls =
+    record { stages = map sample_found REFERENCE_TREE ∷ []; moves = []; bad_calls = bad_calls }
 
 -- the file that changes before the call of this number
 abbrev pub changed_file_facts : ℕ → ScriptFacts

@@ -11,8 +11,12 @@ use Rattle.row_types.specs.Reading.{IsTrueRow}
 use Rattle.row_types.specs.Row.{RowFacts}
 use Rattle.row_types.specs.Stamp.{StampFacts}
 use Rattle.sample_world.specs.Samples.{sample_path, sample_secs, sample_bytes, IsSample}
+use Rattle.sample_world.specs.declared.sample.TheConstants.{REFERENCE_TREE}
 use Rattle.sample_world.specs.declared.sample.Sample.{Sample}
-use Rattle.sample_world.specs.declared.sample.Sample.TheVariants.{Empty, FirstLibrary, SecondLibrary, Program, Script, Tool, Notes, OtherMachine, ToolDebug, Readme, Header, Source, Before, After}
+use Rattle.sample_world.specs.declared.sample.Sample.TheVariants.{Empty, FirstLibrary, SecondLibrary, Program}
+use Rattle.sample_world.specs.declared.sample.Sample.TheVariants.{Script, Tool, Notes, OtherMachine}
+use Rattle.sample_world.specs.declared.sample.Sample.TheVariants.{ToolDebug, Readme, Header, Source, Before}
+use Rattle.sample_world.specs.declared.sample.Sample.TheVariants.{After}
 
 -- all samples
 abbrev samples : List Sample
@@ -20,7 +24,8 @@ samples = Before ∷ After ∷ REFERENCE_TREE
 
 -- the sample of a path and a time
 abbrev sample_at : List ℕ → ℤ → Option Sample
-sample_at path secs = find (λ sample. bytes_eq (sample_path sample) path && int_eq (sample_secs sample) secs) samples
+sample_at path secs = find
+    (λ sample. bytes_eq (sample_path sample) path && int_eq (sample_secs sample) secs) samples
 
 -- a sample is the one of its path and its time
 at_its_place : (sample : Sample) → sample_at (sample_path sample) (sample_secs sample) ≡ Some sample
@@ -30,12 +35,14 @@ at_its_place _ = refl
 -- samples of one path and one time are one
 same_sample : (a b : Sample) → sample_path a ≡ sample_path b → sample_secs a ≡ sample_secs b → a ≡ b
 same_sample a b path secs =
-    let at : sample_at (sample_path a) (sample_secs a) ≡ sample_at (sample_path b) (sample_secs b) = ap (λ p. sample_at p (sample_secs a)) path ∙ ap (sample_at (sample_path b)) secs in
+    let at : sample_at (sample_path a) (sample_secs a) ≡ sample_at (sample_path b) (sample_secs b) =
+    ap (λ p. sample_at p (sample_secs a)) path ∙ ap (sample_at (sample_path b)) secs in
     let some : Some a ≡ Some b = sym (at_its_place a) ∙ at ∙ at_its_place b in
     ap (λ found. option_map_or (λ sample. sample) found a) some
 
 -- a path and a stamp name at most one content
-pub one_content : (path : List ℕ) (stamp : StampFacts) (a b : List ℕ) → IsSample path stamp a → IsSample path stamp b → a ≡ b
+pub one_content : (path : List ℕ) (stamp : StampFacts) (a b : List ℕ) → IsSample path stamp a
+    → IsSample path stamp b → a ≡ b
 one_content path stamp a b p q =
     let placed : sample_path p.sample ≡ sample_path q.sample = sym p.placed ∙ q.placed in
     let timed : sample_secs p.sample ≡ sample_secs q.sample = ap (λ s. s.secs) (sym p.stamped ∙ q.stamped) in

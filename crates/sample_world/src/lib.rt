@@ -1,5 +1,5 @@
-//! A told world of small ELF files and texts, with their trees in memory. It is an example for tests of
-//! the crates above, and it reads nothing.
+//! A told world of small ELF files and texts, with their trees in memory. It is an example for
+//! tests of the crates above, and it reads nothing.
 #![tactic(auto)]
 
 mod sample;

@@ -9,8 +9,10 @@ use Rattle.tree_trait.specs.declared.entry.EntryKind.{EntryKind}
 use Rattle.tree_trait.specs.declared.entry.EntryKind.TheVariants.{Folder, File, Other}
 
 -- a test of whether two are one goes both ways
-back : {X : Type 0} (same : X → X → Bool) → ((a b : X) → Decides (same a b) (a ≡ b)) → (a b : X) → same a b ≡ same b a
-back same decides a b = same_from_decides (same a b) (same b a) (decides a b) (λ t. sym ((decides b a).0 t), λ e. (decides b a).1 (sym e))
+back : {X : Type 0} (same : X → X → Bool) → ((a b : X) → Decides (same a b) (a ≡ b)) → (a b : X)
+    → same a b ≡ same b a
+back same decides a b = same_from_decides (same a b) (same b a) (decides a b)
+    (λ t. sym ((decides b a).0 t), λ e. (decides b a).1 (sym e))
 
 pub bytes_back : (a b : List ℕ) → bytes_eq a b ≡ bytes_eq b a
 bytes_back = back bytes_eq bytes_eq-Decides
@@ -36,4 +38,5 @@ entries_same a b h =
     ∙ ap (λ (k : EntryKind). record { name = b.name; kind = k }) (kinds_same a.kind b.kind parts.1)
 
 pub entry_back : (e f : EntryFacts) → same_entry e f ≡ same_entry f e
-entry_back = back same_entry (λ a b. (entries_same a b, λ e. subst (λ (x : EntryFacts). same_entry a x ≡ true) e (entry_itself a)))
+entry_back = back same_entry
+    (λ a b. (entries_same a b, λ e. subst (λ (x : EntryFacts). same_entry a x ≡ true) e (entry_itself a)))

@@ -1,5 +1,6 @@
 -- Names of files, and the file at a path.
-use Rattle.std.proofs.Common.{◌≡◌, ℕ, Bool, true, false, cond, List, [], ◌∷◌, map, Option, Some, None, option_map, refl, sym, ◌∙◌, ap, Bor}
+use Rattle.std.proofs.Common.{◌≡◌, ℕ, Bool, true, false, cond, List, [], ◌∷◌, map, Option, Some, None}
+use Rattle.std.proofs.Common.{option_map, refl, sym, ◌∙◌, ap, Bor}
 use Rattle.std.specs.List.{find}
 use Rattle.std.specs.Option.{option_copied}
 use Rattle.std.specs.Str.{bytes_eq}
@@ -9,10 +10,14 @@ use Rattle.row_types.specs.Name.{stamp_at}
 use Rattle.tree_trait.specs.Present.{IsFileAt}
 
 -- the stamp at a path is that of the first file of the path
-pub stamp_at-names : (files : List FoundFacts) (path : List ℕ) → stamp_at (map name_of files) path ≡ option_map (λ file. file.stamp) (find (λ file. bytes_eq file.path path) files)
+pub stamp_at-names : (files : List FoundFacts) (path : List ℕ)
+    → stamp_at (map name_of files) path ≡ option_map (λ file. file.stamp)
+    (find (λ file. bytes_eq file.path path) files)
 stamp_at-names [] path = refl
 stamp_at-names (file ∷ rest) path =
-    elim (bytes_eq file.path path) as (λ v. option_map (λ name. name.stamp) (cond v (Some (name_of file)) (find (λ name. bytes_eq name.path path) (map name_of rest))) ≡ option_map (λ f. f.stamp) (cond v (Some file) (find (λ f. bytes_eq f.path path) rest)))
+    elim (bytes_eq file.path path) as (λ v. option_map (λ name. name.stamp)
+    (cond v (Some (name_of file)) (find (λ name. bytes_eq name.path path) (map name_of rest))) ≡ option_map
+    (λ f. f.stamp) (cond v (Some file) (find (λ f. bytes_eq f.path path) rest)))
     [ true ↦ refl | false ↦ stamp_at-names rest path ]
 
 -- what is found passes the test
@@ -23,7 +28,8 @@ find_passes p (y ∷ ys) {x} e =
     [ true ↦ λ t f. cc | false ↦ λ t f. find_passes p ys f ] refl e
 
 -- what the search for a path answers of the names
-pub found_at : (files : List FoundFacts) (path : List ℕ) (result : Option (Bor FoundFacts)) → option_copied result ≡ find (λ file. bytes_eq file.path path) files → IsFileAt files path result
+pub found_at : (files : List FoundFacts) (path : List ℕ) (result : Option (Bor FoundFacts))
+    → option_copied result ≡ find (λ file. bytes_eq file.path path) files → IsFileAt files path result
 found_at files path None e = stamp_at-names files path ∙ ap (option_map (λ file. file.stamp)) (sym e)
 found_at files path (Some file) e = record {
   there = stamp_at-names files path ∙ ap (option_map (λ f. f.stamp)) (sym e);

@@ -1,5 +1,7 @@
 -- What holds of a tree in memory at each stage.
-use Rattle.std.proofs.Common.{◌≡◌, ℕ, ◌+◌, ◌<◌, ◌≤◌, ◌&&◌, Bool, true, false, List, [], map, length, All, Option, Some, None, IfSome, slice_index_or, refl, sym, ◌∙◌, ap, subst, inl, arith}
+use Rattle.std.proofs.Common.{◌≡◌, ℕ, ◌+◌, ◌<◌, ◌≤◌, ◌&&◌, Bool, true, false, List, [], map, length, All}
+use Rattle.std.proofs.Common.{Option, Some, None, IfSome, slice_index_or, refl, sym, ◌∙◌, ap, subst, inl}
+use Rattle.std.proofs.Common.{arith}
 use Rattle.std.specs.Prelude.{IsTrue, nat_lt, if◌then◌else◌}
 use Rattle.std.specs.List.{list_all}
 use Rattle.std.specs.Option.{IsSomeAnd}
@@ -17,14 +19,16 @@ use Rattle.tree_trait.specs.Found.{FoundFacts, IsFound, Versions, name_of}
 use Rattle.tree_trait.specs.Heard.{Heard, load, stat, read_dir, has_failed, wants_memory}
 use Rattle.tree_trait.specs.HeardCalls.{IsListedAs}
 use Rattle.tree_trait.specs.Load.{no_memory}
-use Rattle.tree_trait.specs.MemTree.{TreeFacts, IsScripted, IsStill, IsStageAnswer, answered, next_stage, present_in, shown_by}
+use Rattle.tree_trait.specs.MemTree.{TreeFacts, IsScripted, IsStill, IsStageAnswer, answered, next_stage}
+use Rattle.tree_trait.specs.MemTree.{present_in, shown_by}
 use Rattle.tree_trait.specs.Present.{IsKnown, are_apart, are_distinct}
 use Rattle.tree_trait.specs.Script.{ScriptFacts, is_script, is_stage, is_listed, stage_for, names_at}
 use Rattle.tree_trait.specs.Shown.{IsPresence, StaysStill}
 use Rattle.tree_trait.specs.declared.stat.StatAnswer.TheVariants.{OutOfMemory}
 
 -- a sound script's first stage is there
-pub scripted_first : {version : Versions} (script : ScriptFacts) → IsTrue (is_script script) → All (All (IsFound version)) script.stages → IsScripted version script 0
+pub scripted_first : {version : Versions} (script : ScriptFacts) → IsTrue (is_script script)
+    → All (All (IsFound version)) script.stages → IsScripted version script 0
 scripted_first script sound known = record {
   sound = sound;
   placed = ltb-true 0 (length script.stages) (left_true _ (list_all is_stage script.stages) sound);
@@ -32,27 +36,35 @@ scripted_first script sound known = record {
 }
 
 -- the names at a stage of a sound script are known
-pub tree_known : {version : Versions} (tree : TreeFacts) → IsScripted version tree.script tree.stage → IsPresence version (shown_by tree)
+pub tree_known : {version : Versions} (tree : TreeFacts) → IsScripted version tree.script tree.stage
+    → IsPresence version (shown_by tree)
 tree_known {version} tree scripted =
     let files : List FoundFacts = slice_index_or tree.script.stages tree.stage [] in
     let known : All (IsFound version) files = scripted.known tree.stage [] scripted.placed in
     let all_sound : IsTrue (list_all is_stage tree.script.stages) = right_true _ _ scripted.sound in
-    let sound : IsTrue (is_stage files) = AllPass-from_list_all is_stage tree.script.stages all_sound tree.stage [] scripted.placed in
+    let sound : IsTrue (is_stage files) =
+    AllPass-from_list_all is_stage tree.script.stages all_sound tree.stage [] scripted.placed in
     record {
-      known = All-map (IsKnown version) name_of files (λ k d h. inl ((slice_index_or files k d).bytes, (known k d h).known));
+      known = All-map (IsKnown version) name_of files
+          (λ k d h. inl ((slice_index_or files k d).bytes, (known k d h).known));
       canonical =
           All-map (λ (name : NameFacts). IsTrue (is_canonical name.path)) name_of files
-          (AllPass-from_list_all (λ (file : FoundFacts). is_canonical file.path) files (left_true (list_all (λ (file : FoundFacts). is_canonical file.path) files) _ sound));
+          (AllPass-from_list_all (λ (file : FoundFacts). is_canonical file.path) files
+          (left_true (list_all (λ (file : FoundFacts). is_canonical file.path) files) _ sound));
       distinct =
-          subst (λ (paths : List (List ℕ)). IsTrue (are_distinct paths)) (sym (map-map (λ (name : NameFacts). name.path) name_of files))
+          subst (λ (paths : List (List ℕ)). IsTrue (are_distinct paths))
+          (sym (map-map (λ (name : NameFacts). name.path) name_of files))
           (right_true _ (are_distinct (map (λ file. file.path) files)) sound);
       apart = λ still. still.apart;
     }
 
 -- the next stage is one of the script's, and no earlier one
-next_placed : (moves : List ℕ) (call stage count : ℕ) → stage < count → (stage ≤ stage_for moves call stage count) × (stage_for moves call stage count < count)
+next_placed : (moves : List ℕ) (call stage count : ℕ) → stage < count
+    → (stage ≤ stage_for moves call stage count) × (stage_for moves call stage count < count)
 next_placed moves call stage count placed =
-    elim (is_listed moves call && nat_lt (stage + 1) count) as (λ b. (is_listed moves call && nat_lt (stage + 1) count) ≡ b → (stage ≤ (if b then stage + 1 else stage)) × ((if b then stage + 1 else stage) < count)) [
+    elim (is_listed moves call && nat_lt (stage + 1) count) as (λ b.
+    (is_listed moves call && nat_lt (stage + 1) count) ≡ b
+    → (stage ≤ (if b then stage + 1 else stage)) × ((if b then stage + 1 else stage) < count)) [
       | true ↦ λ t. (omega arith, ltb-true (stage + 1) count (right_true (is_listed moves call) _ t))
       | false ↦ λ t. (omega arith, placed)
     ] refl
@@ -76,8 +88,10 @@ memory_is_no_fault (read_dir path dir_no_memory) h = refl
 memory_is_no_fault _ h = absurd (false≢true h)
 
 -- a call that is answered by the files of the next stage
-asks_answered : {version : Versions} (tree : TreeFacts) {next : TreeFacts} {asked : Heard} {bad : Bool} → IsScripted version tree.script tree.stage
-    → IsStageAnswer version bad (names_at tree.script (next_stage tree)) asked → wants_memory asked ≡ false → next ≡ answered tree asked → tree.faults ≤ next.faults
+asks_answered : {version : Versions} (tree : TreeFacts) {next : TreeFacts} {asked : Heard} {bad : Bool}
+    → IsScripted version tree.script tree.stage
+    → IsStageAnswer version bad (names_at tree.script (next_stage tree)) asked → wants_memory asked ≡ false
+    → next ≡ answered tree asked → tree.faults ≤ next.faults
     → Asks true version (shown_by tree) (shown_by next) asked
 asks_answered {version} tree {asked} scripted answer answers e later =
     subst (λ (t : TreeFacts). Asks true version (shown_by tree) (shown_by t) asked) (sym e) (record {
@@ -96,37 +110,52 @@ asks_answered {version} tree {asked} scripted answer answers e later =
     placed = next_placed tree.script.moves tree.calls tree.stage (length tree.script.stages) scripted.placed
 
     known : IsPresence version (shown_by (answered tree asked))
-    known = tree_known (answered tree asked) (record { sound = scripted.sound; placed = placed.1; known = scripted.known })
+    known = tree_known (answered tree asked)
+        (record { sound = scripted.sound; placed = placed.1; known = scripted.known })
 
-    cause : HasCause tree.faults (if has_failed asked then raised tree.faults else tree.faults) (IsTrue (has_failed asked))
+    cause : HasCause tree.faults (if has_failed asked then raised tree.faults else tree.faults)
+        (IsTrue (has_failed asked))
     cause =
-        let risen : tree.faults ≤ (if has_failed asked then raised tree.faults else tree.faults) = subst (λ (t : TreeFacts). tree.faults ≤ t.faults) e later in
-        record { later = risen; rose = λ failed. subst (λ (b : Bool). Rose tree.faults (if b then raised tree.faults else tree.faults)) (sym failed) (omega arith) }
+        let risen : tree.faults ≤ (if has_failed asked then raised tree.faults else tree.faults) =
+        subst (λ (t : TreeFacts). tree.faults ≤ t.faults) e later in
+        record {
+          later = risen;
+          rose = λ failed. subst
+              (λ (b : Bool). Rose tree.faults (if b then raised tree.faults else tree.faults)) (sym failed)
+              (omega arith);
+        }
 
     stays : IsStill tree → StaysStill (shown_by tree) (shown_by (answered tree asked))
     stays still =
-        let same : names_at tree.script (next_stage tree) ≡ present_in tree = still.rests (next_stage tree) placed.0 placed.1 in
+        let same : names_at tree.script (next_stage tree) ≡ present_in tree =
+        still.rests (next_stage tree) placed.0 placed.1 in
         let first = placed.0 in
         record {
           still = record {
             rests = λ stage later within. still.rests stage (omega (arith, first, later)) within ∙ sym same;
-            apart = subst (λ (names : List NameFacts). IsTrue (are_apart (map (λ name. name.path) names))) (sym same) still.apart;
+            apart = subst (λ (names : List NameFacts). IsTrue (are_apart (map (λ name. name.path) names)))
+                (sym same) still.apart;
           };
           same = same;
         }
 
 -- a call of which an answer was kept
-pub asks_kept : {X : Type 0} (facts : X → Heard) {version : Versions} (tree next : TreeFacts) {asked : Heard} {bad : Bool} {names : List NameFacts} (call : Option X)
-    → IsScripted version tree.script tree.stage → names ≡ names_at tree.script (next_stage tree) → IsStageAnswer version bad names asked
-    → IfSome call (λ kept. IsListedAs asked (facts kept)) → IsSomeAnd call (λ kept. next ≡ answered tree (facts kept)) → tree.faults ≤ next.faults
+pub asks_kept : {X : Type 0} (facts : X → Heard) {version : Versions} (tree next : TreeFacts) {asked : Heard}
+    {bad : Bool} {names : List NameFacts} (call : Option X)
+    → IsScripted version tree.script tree.stage → names ≡ names_at tree.script (next_stage tree)
+    → IsStageAnswer version bad names asked
+    → IfSome call (λ kept. IsListedAs asked (facts kept))
+    → IsSomeAnd call (λ kept. next ≡ answered tree (facts kept)) → tree.faults ≤ next.faults
     → Asks true version (shown_by tree) (shown_by next) asked
 asks_kept facts {version} tree next {asked} {bad} (Some kept) scripted files answer listed ended later =
-    asks_answered tree scripted (subst (λ (ns : List NameFacts). IsStageAnswer version bad ns asked) files answer) listed.answered
+    asks_answered tree scripted
+    (subst (λ (ns : List NameFacts). IsStageAnswer version bad ns asked) files answer) listed.answered
     (ended ∙ ap (answered tree) listed.same) later
 asks_kept facts tree next None scripted files answer listed ended later = absurd ended
 
 -- a call for which memory was refused
-pub asks_nothing : {version : Versions} {tree next : TreeFacts} {asked : Heard} → IsScripted version tree.script tree.stage → wants_memory asked ≡ true → next ≡ tree
+pub asks_nothing : {version : Versions} {tree next : TreeFacts} {asked : Heard}
+    → IsScripted version tree.script tree.stage → wants_memory asked ≡ true → next ≡ tree
     → Asks true version (shown_by tree) (shown_by next) asked
 asks_nothing {version} {tree} {asked} scripted wants e =
     subst (λ (t : TreeFacts). Asks true version (shown_by tree) (shown_by t) asked) (sym e) (record {
@@ -134,7 +163,10 @@ asks_nothing {version} {tree} {asked} scripted wants e =
       tells = λ _. memory_told (present_in tree) asked wants;
       listed = rw wants refl;
       hands = record {
-        cause = record { later = omega arith; rose = λ failed. absurd (false≢true (sym (memory_is_no_fault asked wants) ∙ failed)) };
+        cause = record {
+          later = omega arith;
+          rose = λ failed. absurd (false≢true (sym (memory_is_no_fault asked wants) ∙ failed));
+        };
         known = λ _ _. tree_known tree scripted;
         keeps = λ _ known. known;
         still = λ still. record { still = still; same = refl };

@@ -48,11 +48,13 @@ are_once (entry ∷ rest) = not (has_entry rest entry) && are_once rest
 pub record IsListing (present : List NameFacts) (folder : List ℕ) (entries : List EntryFacts) : Type 0 where
   pub names : list_all (λ entry. is_entry_name entry.name) entries ≡ true
   pub each : list_all (is_there present folder) entries ≡ true
-  pub all : (entry : EntryFacts) → is_entry_name entry.name ≡ true → is_there present folder entry ≡ true → has_entry entries entry ≡ true
+  pub all : (entry : EntryFacts) → is_entry_name entry.name ≡ true → is_there present folder entry ≡ true
+      → has_entry entries entry ≡ true
   pub once : are_once entries ≡ true
 
 -- a folder stands at the path, and its entries are listed whole
-pub record IsListed (present : List NameFacts) (folder : List ℕ) (entries : List EntryFacts) (skipped : ℕ) : Type 0 where
+pub record IsListed (present : List NameFacts) (folder : List ℕ) (entries : List EntryFacts)
+    (skipped : ℕ) : Type 0 where
   pub there : is_folder present folder ≡ true
   pub listing : IsListing present folder entries
   pub whole : skipped ≡ 0

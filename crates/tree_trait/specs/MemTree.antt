@@ -1,5 +1,6 @@
 -- The tree in memory (this project's rule): it answers by its script.
-use Rattle.std.specs.Prelude.{◌≡◌, ℕ, ◌≤◌, ◌<◌, Bool, false, if◌then◌else◌, List, [], ◌∷◌, ◌++◌, map, length, All, IsTrue, Some}
+use Rattle.std.specs.Prelude.{◌≡◌, ℕ, ◌≤◌, ◌<◌, Bool, false, if◌then◌else◌, List, [], ◌∷◌, ◌++◌, map, length}
+use Rattle.std.specs.Prelude.{All, IsTrue, Some}
 use Rattle.row_types.specs.Faults.{raised}
 use Rattle.row_types.specs.Name.{NameFacts}
 use Rattle.tree_trait.specs.Asks.{FitsAny, IsTold}
@@ -33,7 +34,8 @@ present_in tree = names_at tree.script tree.stage
 
 -- no later stage has other names, and no path lies under another
 pub record IsStill (tree : TreeFacts) : Type 0 where
-  pub rests : (stage : ℕ) → tree.stage ≤ stage → stage < length tree.script.stages → names_at tree.script stage ≡ present_in tree
+  pub rests : (stage : ℕ) → tree.stage ≤ stage → stage < length tree.script.stages
+      → names_at tree.script stage ≡ present_in tree
   pub apart : IsTrue (are_apart (map (λ name. name.path) (present_in tree)))
 
 -- the stage in which the next call is answered
@@ -42,7 +44,12 @@ next_stage tree = stage_for tree.script.moves tree.calls tree.stage (length tree
 
 -- what the tree shows: it tells its questions
 abbrev pub shown_by : TreeFacts → ShownTree
-shown_by tree = record { present = present_in tree; Still = IsStill tree; heard = Some tree.heard; faults = tree.faults }
+shown_by tree = record {
+  present = present_in tree;
+  Still = IsStill tree;
+  heard = Some tree.heard;
+  faults = tree.faults;
+}
 
 -- the tree after a call that was answered
 abbrev pub answered : TreeFacts → Heard → TreeFacts
@@ -67,7 +74,8 @@ abbrev pub FailsWhere : Bool → Heard → Type 0
 FailsWhere bad asked = wants_memory asked ≡ false → has_failed asked ≡ bad
 
 -- the call is answered by the files of a stage
-pub record IsStageAnswer (version : Versions) (bad : Bool) (present : List NameFacts) (asked : Heard) : Type 0 where
+pub record IsStageAnswer (version : Versions) (bad : Bool) (present : List NameFacts)
+    (asked : Heard) : Type 0 where
   pub fits : FitsAny version asked
   pub tells : IsTold present asked
   pub fails : FailsWhere bad asked

@@ -29,7 +29,8 @@ pub record StaysStill (before after : ShownTree) : Type 0 where
 
 -- what some calls leave of a tree, if one was made where Asked: its count never falls, and they fail only where it rose;
 -- what is known of the names of a told tree; and a still tree stays so
-pub record HandsOn (told : Bool) (version : Versions) (before after : ShownTree) (Asked Fails : Type 0) : Type 0 where
+pub record HandsOn (told : Bool) (version : Versions) (before after : ShownTree)
+    (Asked Fails : Type 0) : Type 0 where
   pub cause : HasCause before.faults after.faults Fails
   pub known : IsTrue told → Asked → IsPresence version after
   pub keeps : IsTrue told → IsPresence version before → IsPresence version after

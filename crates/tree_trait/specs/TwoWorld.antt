@@ -41,25 +41,34 @@ apart : (stamp : StampFacts) → stamp ≡ first_stamp → stamp ≡ second_stam
 apart stamp p q = false≢true (ap (λ (s : StampFacts). s.size == 2) (sym p ∙ q))
 
 -- the stamp tells the bytes
-same_bytes : (stamp : StampFacts) (a b : List ℕ) → IsOne first_stamp (codes "x") stamp a ⊎ IsOne second_stamp (codes "yy") stamp a → IsOne first_stamp (codes "x") stamp b ⊎ IsOne second_stamp (codes "yy") stamp b → a ≡ b
+same_bytes : (stamp : StampFacts)
+    (a b : List ℕ) → IsOne first_stamp (codes "x") stamp a ⊎ IsOne second_stamp (codes "yy") stamp a
+    → IsOne first_stamp (codes "x") stamp b ⊎ IsOne second_stamp (codes "yy") stamp b → a ≡ b
 same_bytes stamp a b (inl p) (inl q) = p.filled ∙ sym q.filled
 same_bytes stamp a b (inl p) (inr q) = absurd (apart stamp p.stamped q.stamped)
 same_bytes stamp a b (inr p) (inl q) = absurd (apart stamp q.stamped p.stamped)
 same_bytes stamp a b (inr p) (inr q) = p.filled ∙ sym q.filled
 
 -- a name has at most one content
-pub either_is_one : true ≡ true → (asked : List ℕ) (stamp : StampFacts) (a b : List ℕ) → IsEither asked stamp a → IsEither asked stamp b → a ≡ b
+pub either_is_one : true ≡ true → (asked : List ℕ) (stamp : StampFacts) (a b : List ℕ)
+    → IsEither asked stamp a → IsEither asked stamp b → a ≡ b
 either_is_one told asked stamp a b p q = same_bytes stamp a b p.one q.one
 
 -- neither content begins as an ELF file does
-reason_is_one : (stamp : StampFacts) (bytes : List ℕ) → IsOne first_stamp (codes "x") stamp bytes ⊎ IsOne second_stamp (codes "yy") stamp bytes → (r : Result Identity Why) → IsIdentity bytes r → r ≡ Err WhyNotElf
+reason_is_one : (stamp : StampFacts) (bytes : List ℕ)
+    → IsOne first_stamp (codes "x") stamp bytes ⊎ IsOne second_stamp (codes "yy") stamp bytes
+    → (r : Result Identity Why) → IsIdentity bytes r → r ≡ Err WhyNotElf
 unfolding table_of head_of
-reason_is_one stamp bytes (inl p) r h = refused_is_one (codes "x") NotElf refl r (subst (λ b. IsIdentity b r) p.filled h)
-reason_is_one stamp bytes (inr p) r h = refused_is_one (codes "yy") NotElf refl r (subst (λ b. IsIdentity b r) p.filled h)
+reason_is_one stamp bytes (inl p) r h =
+    refused_is_one (codes "x") NotElf refl r (subst (λ b. IsIdentity b r) p.filled h)
+reason_is_one stamp bytes (inr p) r h =
+    refused_is_one (codes "yy") NotElf refl r (subst (λ b. IsIdentity b r) p.filled h)
 
 -- a name has at most one true row
-pub one_true_row : true ≡ true → (a b : RowFacts) → a.name ≡ b.name → IsTrueRow IsEither a → IsTrueRow IsEither b → a ≡ b
+pub one_true_row : true ≡ true → (a b : RowFacts) → a.name ≡ b.name → IsTrueRow IsEither a
+    → IsTrueRow IsEither b → a ≡ b
 one_true_row told =
     true_rows_same IsEither
-    (λ asked stamp bytes either r s p q. reason_is_one stamp bytes either.one r p ∙ sym (reason_is_one stamp bytes either.one s q))
+    (λ asked stamp bytes either r s p q. reason_is_one stamp bytes either.one r p
+    ∙ sym (reason_is_one stamp bytes either.one s q))
     (either_is_one told)

@@ -100,10 +100,21 @@ fn stat_word(answer: StatAnswer) -> &'static str {
 /// What the reading of a folder answers, in a word.
 fn dir_word(answer: &DirAnswer) -> &'static str {
     match answer {
-        DirAnswer::Listed { entries, skipped: 0 } => {
-            let file = entries.iter().any(|e| e.name() == "a" && e.kind == EntryKind::File);
-            let folder = entries.iter().any(|e| e.name() == "sub" && e.kind == EntryKind::Folder);
-            if file && folder && entries.len() == 2 { "a and sub" } else { "others" }
+        DirAnswer::Listed {
+            entries,
+            skipped: 0,
+        } => {
+            let file = entries
+                .iter()
+                .any(|e| e.name() == "a" && e.kind == EntryKind::File);
+            let folder = entries
+                .iter()
+                .any(|e| e.name() == "sub" && e.kind == EntryKind::Folder);
+            if file && folder && entries.len() == 2 {
+                "a and sub"
+            } else {
+                "others"
+            }
         }
         DirAnswer::Listed { .. } => "others",
         DirAnswer::Gone => "gone",

@@ -1,5 +1,7 @@
 -- What a walk found, by what it kept.
-use Rattle.std.proofs.Common.{◌≡◌, ℕ, ◌+◌, ◌-◌, ◌^◌, ◌≤◌, ◌<◌, inl, inr, min, Bool, true, false, List, [], length, Option, Some, None, IsSome, Result, Ok, Err, MatchResult, Contains, refl, sym, ◌∙◌, ap, subst, arith}
+use Rattle.std.proofs.Common.{◌≡◌, ℕ, ◌+◌, ◌-◌, ◌^◌, ◌≤◌, ◌<◌, inl, inr, min, Bool, true, false, List, []}
+use Rattle.std.proofs.Common.{length, Option, Some, None, IsSome, Result, Ok, Err, MatchResult, Contains}
+use Rattle.std.proofs.Common.{refl, sym, ◌∙◌, ap, subst, arith}
 use Rattle.std.specs.Prelude.{count_by}
 use Rattle.std.specs.Str.{bytes_eq}
 use Rattle.std.proofs.lemmas.Bool.{false≢true, MatchBool-at_true, MatchBool-at_false, le-ltb, lt-ltb}
@@ -27,29 +29,43 @@ use Rattle.tree_walk.specs.declared.walked.Walk.{Walk}
 use Rattle.tree_walk.specs.declared.walked.TheConstants.{ENTRY_LIMIT}
 use Rattle.tree_walk.proofs.AnswerLemmas.{one_if, was_read}
 use Rattle.tree_walk.proofs.ReachLemmas.{look_was_due}
-use Rattle.tree_walk.proofs.SetLemmas.{length_names, name_from_lookup, lookup_from_name, by_path_from_sorted, distinct_from_sorted, has_from_Contains, Contains-from_has}
+use Rattle.tree_walk.proofs.SetLemmas.{length_names, name_from_lookup, lookup_from_name, by_path_from_sorted}
+use Rattle.tree_walk.proofs.SetLemmas.{distinct_from_sorted, has_from_Contains, Contains-from_has}
 
 -- a file that was found is what the look said
-file_back : (answer : Option StatAnswer) {stamp : StampFacts} → file_of answer ≡ Some stamp → answer ≡ Some (File stamp)
+file_back : (answer : Option StatAnswer) {stamp : StampFacts} → file_of answer ≡ Some stamp
+    → answer ≡ Some (File stamp)
 file_back (Some (File found)) {stamp} h = ap (λ (s : StampFacts). Some (File s)) (same_Some found stamp h)
 file_back _ {stamp} h = absurd (none-some stamp h)
 
-walked_from_file : {answers : List Heard} {roots : List (List ℕ)} {search : SearchFacts} {folder : List ℕ} {rest : List EntryFacts} → IsSearch answers roots search folder rest → (name : NameFacts) → Contains (found_names search.files) name → IsWalked answers roots name
+walked_from_file : {answers : List Heard} {roots : List (List ℕ)} {search : SearchFacts} {folder : List ℕ}
+    {rest : List EntryFacts} → IsSearch answers roots search folder rest → (name : NameFacts)
+    → Contains (found_names search.files) name → IsWalked answers roots name
 walked_from_file {answers} {roots} {search} s name c =
-    let file : first_look answers name.path ≡ Some (File name.stamp) = file_back (first_look answers name.path) (sym (s.looks.files name.path) ∙ lookup_from_name search.files name s.looks.ordered c) in
+    let file : first_look answers name.path ≡ Some (File name.stamp) =
+    file_back (first_look answers name.path)
+    (sym (s.looks.files name.path) ∙ lookup_from_name search.files name s.looks.ordered c) in
     let due = look_was_due answers roots s.asked.due name.path file in
     record { candidate = due.0; short = due.1.short; file = file }
 
 -- the files are the walk listing
-pub listing_is : {answers : List Heard} {roots : List (List ℕ)} {search : SearchFacts} {folder : List ℕ} {rest : List EntryFacts} → IsSearch answers roots search folder rest → IsWalkListing answers roots (found_names search.files)
-listing_is {answers} {roots} {search} {folder} {rest} s = record {
+pub listing_is : {answers : List Heard} {roots : List (List ℕ)} {search : SearchFacts} {folder : List ℕ}
+    {rest : List EntryFacts} → IsSearch answers roots search folder rest
+    → IsWalkListing answers roots (found_names search.files)
+listing_is {search} s = record {
   by_path = by_path_from_sorted search.files s.looks.ordered;
-  all = λ name. (walked_from_file s name, λ w. name_from_lookup search.files name (s.looks.files name.path ∙ ap file_of w.file));
+  all = λ name. (
+    walked_from_file s name,
+    λ w. name_from_lookup search.files name
+        (s.looks.files name.path ∙ ap file_of w.file),
+  );
 }
 
 -- the limits are kept
-pub room_is : {answers : List Heard} {roots : List (List ℕ)} {search : SearchFacts} {folder : List ℕ} {rest : List EntryFacts} → IsSearch answers roots search folder rest → length search.files ≤ LISTING_LIMIT → IsWithinLimits answers roots
-room_is {answers} {roots} {search} {folder} {rest} s few =
+pub room_is : {answers : List Heard} {roots : List (List ℕ)} {search : SearchFacts} {folder : List ℕ}
+    {rest : List EntryFacts} → IsSearch answers roots search folder rest
+    → length search.files ≤ LISTING_LIMIT → IsWithinLimits answers roots
+room_is {answers} {search} s few =
     let was : search.left + entries_read answers ≡ ENTRY_LIMIT = s.paid.left in
     record {
       names = found_names search.files;
@@ -60,8 +76,11 @@ room_is {answers} {roots} {search} {folder} {rest} s few =
     }
 
 -- too many files
-pub too_many_is : {answers : List Heard} {roots : List (List ℕ)} {search : SearchFacts} {folder : List ℕ} {rest : List EntryFacts} → StopsAtLast answers roots (λ last. Unit {0}) → IsSearch answers roots search folder rest → LISTING_LIMIT < length search.files → IsTooMany answers roots
-too_many_is {answers} {roots} {search} {folder} {rest} last s many = record {
+pub too_many_is : {answers : List Heard} {roots : List (List ℕ)} {search : SearchFacts} {folder : List ℕ}
+    {rest : List EntryFacts} → StopsAtLast answers roots (λ last. Unit {0})
+    → IsSearch answers roots search folder rest → LISTING_LIMIT < length search.files
+    → IsTooMany answers roots
+too_many_is {search} last s many = record {
   last = last;
   names = found_names search.files;
   listing = listing_is s;
@@ -69,55 +88,86 @@ too_many_is {answers} {roots} {search} {folder} {rest} last s many = record {
 }
 
 -- how a call ends that adds to the search
-pub adds_ends : {V : Type 0} {answers : List Heard} {roots : List (List ℕ)} (result : Result V WalkFault) (next now : SearchFacts) (Good : SearchFacts → Type 0) → Adds next now result
-    → (length next.files ≤ LISTING_LIMIT → Good next) → (LISTING_LIMIT < length next.files → IsTooMany answers roots) → MatchResult result (λ _. Good now) (IsCause answers roots)
+pub adds_ends : {V : Type 0} {answers : List Heard} {roots : List (List ℕ)} (result : Result V WalkFault)
+    (next now : SearchFacts) (Good : SearchFacts → Type 0) → Adds next now result
+    → (length next.files ≤ LISTING_LIMIT → Good next)
+    → (LISTING_LIMIT < length next.files → IsTooMany answers roots)
+    → MatchResult result (λ _. Good now) (IsCause answers roots)
 adds_ends (Ok _) next now Good added few many = subst Good (sym added.same) (few added.few)
 adds_ends (Err TooMany) next now Good added few many = many added
 adds_ends (Err WalkMemory) next now Good added few many = tt
 adds_ends (Err _) next now Good added few many = absurd added
 
 -- an entry of a folder was seen to
-settled_of : {answers : List Heard} {roots : List (List ℕ)} {search : SearchFacts} → IsSearch answers roots search [] [] → (at : List ℕ) (e : EntryFacts) → has_entry (entries_in answers at) e ≡ true → IsSettled answers search.folders search.long (child at e.name) e.kind
-settled_of s at e h = elim (s.closed.each at e h) [ inl done ↦ done | inr pending ↦ absurd (false≢true pending.among) ]
+settled_of : {answers : List Heard} {roots : List (List ℕ)} {search : SearchFacts}
+    → IsSearch answers roots search [] [] → (at : List ℕ) (e : EntryFacts)
+    → has_entry (entries_in answers at) e ≡ true
+    → IsSettled answers search.folders search.long (child at e.name) e.kind
+settled_of s at e h = elim
+    (s.closed.each at e h) [ inl done ↦ done | inr pending ↦ absurd (false≢true pending.among) ]
 
-met_of : {answers : List Heard} {roots : List (List ℕ)} {search : SearchFacts} {k : EntryKind} {path : List ℕ} → IsSearch answers roots search [] [] → IsEntry answers roots k path → length path ≤ PATH_LIMIT → IsMet answers search.folders path k
-met_of {answers} {roots} {search} {k} {path} s e short =
-    let settled : IsSettled answers search.folders search.long path k = subst (λ (p : List ℕ). IsSettled answers search.folders search.long p k) (sym e.named.joined) (settled_of s e.folder (record { name = e.named.name; kind = k }) e.named.listed) in
-    MatchBool-at_false (has search.long path ≡ true) (IsMet answers search.folders path k) (le-ltb PATH_LIMIT (length path) short) settled
+met_of : {answers : List Heard} {roots : List (List ℕ)} {search : SearchFacts} {k : EntryKind}
+    {path : List ℕ} → IsSearch answers roots search [] [] → IsEntry answers roots k path
+    → length path ≤ PATH_LIMIT → IsMet answers search.folders path k
+met_of {answers} {search} {k} {path} s e short =
+    let settled : IsSettled answers search.folders search.long path k =
+    subst (λ (p : List ℕ). IsSettled answers search.folders search.long p k) (sym e.named.joined)
+    (settled_of s e.folder (record { name = e.named.name; kind = k }) e.named.listed) in
+    MatchBool-at_false (has search.long path ≡ true) (IsMet answers search.folders path k)
+    (le-ltb PATH_LIMIT (length path) short) settled
 
-long_of : {answers : List Heard} {roots : List (List ℕ)} {search : SearchFacts} → IsUnderway answers roots search [] [] → {path : List ℕ} → IsReached answers roots path → PATH_LIMIT < length path → has search.long path ≡ true
+long_of : {answers : List Heard} {roots : List (List ℕ)} {search : SearchFacts}
+    → IsUnderway answers roots search [] [] → {path : List ℕ} → IsReached answers roots path
+    → PATH_LIMIT < length path → has search.long path ≡ true
 long_of {answers} {roots} {search} u {path} (root p c) lt =
-    elim (first_look answers path) as (λ o. first_look answers path ≡ o → IsSome o → has search.long path ≡ true) [
+    elim (first_look answers path) as (λ o. first_look answers path ≡ o → IsSome o
+    → has search.long path ≡ true) [
       | None ↦ λ e h. absurd (false≢true h)
-      | Some a ↦ λ e h. absurd (let short : length path ≤ PATH_LIMIT = (look_was_due answers roots u.search_is.asked.due path e).1.short in omega arith)
+      | Some a ↦ λ e h. absurd
+          (let short : length path ≤ PATH_LIMIT = (look_was_due answers roots u.search_is.asked.due path e).1.short in
+          omega arith)
     ] refl (u.looked.looked path c)
-long_of {answers} {roots} {search} u {path} (entry folder p k r n) lt =
-    let settled : IsSettled answers search.folders search.long path k = subst (λ (q : List ℕ). IsSettled answers search.folders search.long q k) (sym n.joined) (settled_of u.search_is folder (record { name = n.name; kind = k }) n.listed) in
-    MatchBool-at_true (has search.long path ≡ true) (IsMet answers search.folders path k) (lt-ltb PATH_LIMIT (length path) lt) settled
+long_of {answers} {search} u {path} (entry folder p k r n) lt =
+    let settled : IsSettled answers search.folders search.long path k =
+    subst (λ (q : List ℕ). IsSettled answers search.folders search.long q k) (sym n.joined)
+    (settled_of u.search_is folder (record { name = n.name; kind = k }) n.listed) in
+    MatchBool-at_true (has search.long path ≡ true) (IsMet answers search.folders path k)
+    (lt-ltb PATH_LIMIT (length path) lt) settled
 
 -- each folder is known
-known_of : {answers : List Heard} {roots : List (List ℕ)} {search : SearchFacts} → IsUnderway answers roots search [] [] → (path : List ℕ) → IsFolder answers roots path → length path ≤ PATH_LIMIT → has search.folders path ≡ true
+known_of : {answers : List Heard} {roots : List (List ℕ)} {search : SearchFacts}
+    → IsUnderway answers roots search [] [] → (path : List ℕ) → IsFolder answers roots path
+    → length path ≤ PATH_LIMIT → has search.folders path ≡ true
 known_of u path (inl r) short = u.looked.folders path r.root r.folder
-known_of {answers} {roots} {search} u path (inr e) short = met_of u.search_is e short
+known_of u path (inr e) short = met_of u.search_is e short
 
 -- and was read once
-once_of : {answers : List Heard} {roots : List (List ℕ)} {search : SearchFacts} → IsUnderway answers roots search [] [] → search.todo ≡ [] → (path : List ℕ) → IsFolder answers roots path → length path ≤ PATH_LIMIT → times_read answers path ≡ 1
-once_of {answers} {roots} {search} u empty path f short =
-    let all : times_read answers path + count_by (bytes_eq path) search.todo ≡ 1 = u.search_is.known.counts path ∙ ap (λ (b : Bool). one_if b) (known_of u path f short) in
+once_of : {answers : List Heard} {roots : List (List ℕ)} {search : SearchFacts}
+    → IsUnderway answers roots search [] [] → search.todo ≡ [] → (path : List ℕ)
+    → IsFolder answers roots path → length path ≤ PATH_LIMIT → times_read answers path ≡ 1
+once_of {answers} {search} u empty path f short =
+    let all : times_read answers path + count_by (bytes_eq path) search.todo ≡ 1 =
+    u.search_is.known.counts path ∙ ap (λ (b : Bool). one_if b) (known_of u path f short) in
     let none : count_by (bytes_eq path) search.todo ≡ 0 = ap (count_by (bytes_eq path)) empty in
     omega (arith, all, none)
 
-never_of : {answers : List Heard} {roots : List (List ℕ)} {search : SearchFacts} → IsUnderway answers roots search [] [] → (path : List ℕ) → PATH_LIMIT < length path → times_read answers path ≡ 0
+never_of : {answers : List Heard} {roots : List (List ℕ)} {search : SearchFacts}
+    → IsUnderway answers roots search [] [] → (path : List ℕ) → PATH_LIMIT < length path
+    → times_read answers path ≡ 0
 never_of {answers} {search} u path lt =
     elim (has search.folders path) as (λ v. has search.folders path ≡ v → times_read answers path ≡ 0) [
-      | true ↦ λ e. absurd (let short : length path ≤ PATH_LIMIT = (u.search_is.known.due path e).1.short in omega arith)
+      | true ↦ λ e. absurd (let short : length path ≤ PATH_LIMIT = (u.search_is.known.due path e).1.short in
+          omega arith)
       | false ↦ λ e.
-          let all : times_read answers path + count_by (bytes_eq path) search.todo ≡ 0 = u.search_is.known.counts path ∙ ap (λ (b : Bool). one_if b) e in
+          let all : times_read answers path + count_by (bytes_eq path) search.todo ≡ 0 =
+          u.search_is.known.counts path ∙ ap (λ (b : Bool). one_if b) e in
           omega (arith, all)
     ] refl
 
 -- with nothing left to read the walk is whole
-pub whole_is : {answers : List Heard} {roots : List (List ℕ)} {search : SearchFacts} (walk : Walk) → IsUnderway answers roots search [] [] → search.todo ≡ [] → walk.listing ≡ found_names search.files → walk.skipped ≡ summed search.skipped (length search.long) → IsWhole answers roots walk
+pub whole_is : {answers : List Heard} {roots : List (List ℕ)} {search : SearchFacts} (walk : Walk)
+    → IsUnderway answers roots search [] [] → search.todo ≡ [] → walk.listing ≡ found_names search.files
+    → walk.skipped ≡ summed search.skipped (length search.long) → IsWhole answers roots walk
 whole_is {answers} {roots} {search} walk u empty found over =
     let s = u.search_is in
     let had : search.skipped ≡ min (all_passed_over answers) (2 ^ 64 - 1) = s.paid.skipped in
@@ -136,11 +186,17 @@ whole_is {answers} {roots} {search} walk u empty found over =
         never = never_of u;
       };
       room = room_is s u.few;
-      listing = subst (λ (names : List NameFacts). IsWalkListing answers roots names) (sym found) (listing_is s);
+      listing = subst (λ (names : List NameFacts). IsWalkListing answers roots names) (sym found)
+          (listing_is s);
       skipped = record {
         long = search.long;
         distinct = distinct_from_sorted search.long s.too_long.apart;
-        each = λ path. (λ c. s.too_long.each path (has_from_Contains search.long path c), λ r. Contains-from_has search.long path (long_of u r.0 r.1));
+        each = λ path. (
+          λ c. s.too_long.each path
+              (has_from_Contains search.long path c),
+          λ r. Contains-from_has search.long path
+              (long_of u r.0 r.1),
+        );
         sum = omega (arith, over, had);
       };
     }

@@ -1,5 +1,6 @@
 -- What is kept agrees with the answers after an entry that asks nothing: a folder, or a path that is too long.
-use Rattle.std.proofs.Common.{◌≡◌, ℕ, ◌+◌, ◌<◌, ◌||◌, inl, inr, Bool, true, false, List, [], ◌∷◌, ◌++◌, length, refl, sym, ◌∙◌, ap, subst, arith}
+use Rattle.std.proofs.Common.{◌≡◌, ℕ, ◌+◌, ◌<◌, ◌||◌, inl, inr, Bool, true, false, List, [], ◌∷◌, ◌++◌}
+use Rattle.std.proofs.Common.{length, refl, sym, ◌∙◌, ap, subst, arith}
 use Rattle.std.specs.Prelude.{if◌then◌else◌, count_by}
 use Rattle.std.specs.Str.{bytes_eq}
 use Rattle.std.proofs.lemmas.Bool.{or_cases, or_right}
@@ -19,34 +20,52 @@ use Rattle.tree_walk.proofs.GrowLemmas.{Grows, seen_more}
 use Rattle.tree_walk.proofs.SetLemmas.{same, same-Decides, same_bytes, has-with_path, sorted-with_path}
 
 -- the same search with other entries to see to
-pub with_pending : {answers : List Heard} {roots : List (List ℕ)} {search : SearchFacts} {folder to : List ℕ} {rest left : List EntryFacts} → IsSearch answers roots search folder rest
+pub with_pending : {answers : List Heard} {roots : List (List ℕ)} {search : SearchFacts} {folder to : List ℕ}
+    {rest left : List EntryFacts} → IsSearch answers roots search folder rest
     → AreSeenTo answers search.folders search.long to left → IsSearch answers roots search to left
-with_pending s closed = record { looks = s.looks; asked = s.asked; known = s.known; too_long = s.too_long; paid = s.paid; closed = closed }
+with_pending s closed = record {
+  looks = s.looks;
+  asked = s.asked;
+  known = s.known;
+  too_long = s.too_long;
+  paid = s.paid;
+  closed = closed;
+}
 
 -- sets that only grew
-has_more : (paths : List (List ℕ)) (path p : List ℕ) → has paths p ≡ true → has (with_path paths path) p ≡ true
+has_more : (paths : List (List ℕ)) (path p : List ℕ) → has paths p ≡ true
+    → has (with_path paths path) p ≡ true
 has_more paths path p h = has-with_path paths path p ∙ or_right (same p path) (has paths p) h
 
 has_new : (paths : List (List ℕ)) (path : List ℕ) → has (with_path paths path) path ≡ true
-has_new paths path = has-with_path paths path path ∙ ap (λ (b : Bool). b || has paths path) ((same-Decides path path).1 refl)
+has_new paths path = has-with_path paths path path
+    ∙ ap (λ (b : Bool). b || has paths path) ((same-Decides path path).1 refl)
 
-grown : {answers : List Heard} {known next long longer : List (List ℕ)} → ((path : List ℕ) → has known path ≡ true → has next path ≡ true) → ((path : List ℕ) → has long path ≡ true → has longer path ≡ true) → Grows answers answers known next long longer
+grown : {answers : List Heard} {known next long longer : List (List ℕ)}
+    → ((path : List ℕ) → has known path ≡ true → has next path ≡ true)
+    → ((path : List ℕ) → has long path ≡ true → has longer path ≡ true)
+    → Grows answers answers known next long longer
 grown folders long = record { folders = folders; too_long = long; looks = λ p h. h }
 
 -- a folder that wasn't known is to be read
-folder_new : {answers : List Heard} {roots known todo : List (List ℕ)} {path : List ℕ} → AreFolders answers roots known todo → IsFolder answers roots path → IsCanonPath path → has known path ≡ false
+folder_new : {answers : List Heard} {roots known todo : List (List ℕ)} {path : List ℕ}
+    → AreFolders answers roots known todo → IsFolder answers roots path → IsCanonPath path
+    → has known path ≡ false
     → AreFolders answers roots (with_path known path) (todo ++ path ∷ [])
 folder_new {answers} {roots} {known} {todo} {path} f is_folder kept fresh = record {
   due = λ p h. elim (or_cases (same p path) (has known p) (sym (has-with_path known path p) ∙ h)) [
-    | inl one ↦ subst (λ (z : List ℕ). IsFolder answers roots z × IsCanonPath z) (sym ((same-Decides p path).0 one)) (is_folder, kept)
+    | inl one ↦ subst (λ (z : List ℕ). IsFolder answers roots z × IsCanonPath z)
+        (sym ((same-Decides p path).0 one)) (is_folder, kept)
     | inr old ↦ f.due p old
   ];
   counts = λ p.
       let push = sum_by_push (λ (q : List ℕ). one_if (bytes_eq p q)) todo path in
-      elim (same p path) as (λ v. same p path ≡ v → times_read answers p + count_by (bytes_eq p) (todo ++ path ∷ []) ≡ one_if (v || has known p)) [
+      elim (same p path) as (λ v. same p path ≡ v
+      → times_read answers p + count_by (bytes_eq p) (todo ++ path ∷ []) ≡ one_if (v || has known p)) [
         | true ↦ λ e.
             let one : one_if (bytes_eq p path) ≡ 1 = ap one_if (sym (same_bytes p path) ∙ e) in
-            let fresh_p : has known p ≡ false = subst (λ (z : List ℕ). has known z ≡ false) (sym ((same-Decides p path).0 e)) fresh in
+            let fresh_p : has known p ≡ false =
+            subst (λ (z : List ℕ). has known z ≡ false) (sym ((same-Decides p path).0 e)) fresh in
             let none : times_read answers p + count_by (bytes_eq p) todo ≡ 0 = f.counts p ∙ ap one_if fresh_p in
             omega (arith, push, one, none)
         | false ↦ λ e.
@@ -58,12 +77,19 @@ folder_new {answers} {roots} {known} {todo} {path} f is_folder kept fresh = reco
 
 -- the search with a folder that is to be read, if it isn't known yet
 abbrev with_new_folder : SearchFacts → List ℕ → Bool → SearchFacts
-with_new_folder search path known = if known then search else record search { folders = with_path search.folders path; todo = search.todo ++ path ∷ [] }
+with_new_folder search path known =
+    if known then search else record search {
+      folders = with_path search.folders path;
+      todo = search.todo ++ path ∷ [];
+    }
 
-pub folder_step : {answers : List Heard} {roots : List (List ℕ)} {search : SearchFacts} {folder : List ℕ} {rest : List EntryFacts} {path : List ℕ} → IsSearch answers roots search folder rest → IsFolder answers roots path → IsCanonPath path
+pub folder_step : {answers : List Heard} {roots : List (List ℕ)} {search : SearchFacts} {folder : List ℕ}
+    {rest : List EntryFacts} {path : List ℕ} → IsSearch answers roots search folder rest
+    → IsFolder answers roots path → IsCanonPath path
     → IsSearch answers roots (with_folder search path) folder rest
 folder_step {answers} {roots} {search} {folder} {rest} {path} s is_folder kept =
-    elim (has search.folders path) as (λ v. has search.folders path ≡ v → IsSearch answers roots (with_new_folder search path v) folder rest) [
+    elim (has search.folders path) as (λ v. has search.folders path ≡ v
+    → IsSearch answers roots (with_new_folder search path v) folder rest) [
       | true ↦ λ e. s
       | false ↦ λ e. record {
         looks = s.looks;
@@ -78,29 +104,38 @@ folder_step {answers} {roots} {search} {folder} {rest} {path} s is_folder kept =
 -- it is known from then on
 pub folder_known : (search : SearchFacts) (path : List ℕ) → has (with_folder search path).folders path ≡ true
 folder_known search path =
-    elim (has search.folders path) as (λ v. has search.folders path ≡ v → has (with_new_folder search path v).folders path ≡ true)
+    elim (has search.folders path) as (λ v. has search.folders path ≡ v
+    → has (with_new_folder search path v).folders path ≡ true)
     [ true ↦ λ e. e | false ↦ λ e. has_new search.folders path ] refl
 
-pub folder_stays : (search : SearchFacts) (path p : List ℕ) → has search.folders p ≡ true → has (with_folder search path).folders p ≡ true
+pub folder_stays : (search : SearchFacts) (path p : List ℕ) → has search.folders p ≡ true
+    → has (with_folder search path).folders p ≡ true
 folder_stays search path p h =
-    elim (has search.folders path) as (λ v. has (with_new_folder search path v).folders p ≡ true) [ true ↦ h | false ↦ has_more search.folders path p h ]
+    elim (has search.folders path) as (λ v. has (with_new_folder search path v).folders p ≡ true)
+    [ true ↦ h | false ↦ has_more search.folders path p h ]
 
 -- a folder is no file
 pub folder_files : (search : SearchFacts) (path : List ℕ) → (with_folder search path).files ≡ search.files
-folder_files search path = elim (has search.folders path) as (λ v. (with_new_folder search path v).files ≡ search.files) [ true ↦ refl | false ↦ refl ]
+folder_files search path =
+    elim (has search.folders path) as (λ v. (with_new_folder search path v).files ≡ search.files)
+    [ true ↦ refl | false ↦ refl ]
 
 -- a path that is too long
-pub long_step : {answers : List Heard} {roots : List (List ℕ)} {search : SearchFacts} {folder : List ℕ} {rest : List EntryFacts} {path : List ℕ} → IsSearch answers roots search folder rest → IsReached answers roots path → PATH_LIMIT < length path
+pub long_step : {answers : List Heard} {roots : List (List ℕ)} {search : SearchFacts} {folder : List ℕ}
+    {rest : List EntryFacts} {path : List ℕ} → IsSearch answers roots search folder rest
+    → IsReached answers roots path → PATH_LIMIT < length path
     → IsSearch answers roots (with_long search path) folder rest
-long_step {answers} {roots} {search} {folder} {rest} {path} s reached long = record {
+long_step {answers} {roots} {search} {path} s reached long = record {
   looks = s.looks;
   asked = s.asked;
   known = s.known;
   too_long = record {
-    each = λ p h. elim (or_cases (same p path) (has search.long p) (sym (has-with_path search.long path p) ∙ h)) [
-      | inl one ↦ subst (λ (z : List ℕ). IsReached answers roots z × (PATH_LIMIT < length z)) (sym ((same-Decides p path).0 one)) (reached, long)
-      | inr old ↦ s.too_long.each p old
-    ];
+    each = λ p h. elim (or_cases (same p path) (has search.long p)
+        (sym (has-with_path search.long path p) ∙ h)) [
+          | inl one ↦ subst (λ (z : List ℕ). IsReached answers roots z × (PATH_LIMIT < length z))
+              (sym ((same-Decides p path).0 one)) (reached, long)
+          | inr old ↦ s.too_long.each p old
+        ];
     apart = sorted-with_path search.long path s.too_long.apart;
   };
   paid = s.paid;
@@ -111,17 +146,21 @@ pub long_known : (search : SearchFacts) (path : List ℕ) → has (with_long sea
 long_known search path = has_new search.long path
 
 -- one of the entries was seen to
-pub entry_step : {answers : List Heard} {roots : List (List ℕ)} {search : SearchFacts} {folder : List ℕ} {first : EntryFacts} {rest : List EntryFacts} → IsSearch answers roots search folder (first ∷ rest)
-    → IsSettled answers search.folders search.long (child folder first.name) first.kind → IsSearch answers roots search folder rest
-entry_step {answers} {roots} {search} {folder} {first} {rest} s settled =
+pub entry_step : {answers : List Heard} {roots : List (List ℕ)} {search : SearchFacts} {folder : List ℕ}
+    {first : EntryFacts} {rest : List EntryFacts} → IsSearch answers roots search folder (first ∷ rest)
+    → IsSettled answers search.folders search.long (child folder first.name) first.kind
+    → IsSearch answers roots search folder rest
+entry_step {answers} {search} {folder} {first} {rest} s settled =
     with_pending s (record {
       each = λ at entry h. elim (s.closed.each at entry h) [
         | inl done ↦ inl done
         | inr pending ↦ elim (or_cases (same_entry entry first) (has_entry rest entry) pending.among) [
           | inl one ↦
               let is_first : first ≡ entry = sym (entries_same entry first one) in
-              inl (subst (λ (z : List ℕ). IsSettled answers search.folders search.long (child z entry.name) entry.kind) (sym pending.here)
-              (subst (λ (e : EntryFacts). IsSettled answers search.folders search.long (child folder e.name) e.kind) is_first settled))
+              inl (subst (λ (z : List ℕ). IsSettled answers search.folders search.long
+              (child z entry.name) entry.kind) (sym pending.here)
+              (subst (λ (e : EntryFacts). IsSettled answers search.folders search.long
+              (child folder e.name) e.kind) is_first settled))
           | inr later ↦ inr (record { here = pending.here; among = later })
         ]
       ];

@@ -1,5 +1,7 @@
 -- What a file of a folder, and the reading of a folder, make of a walk that is underway.
-use Rattle.std.proofs.Common.{◌≡◌, ℕ, ◌+◌, ◌-◌, ◌^◌, ◌≤◌, ◌<◌, inr, min, true, false, List, [], ◌∷◌, ◌++◌, length, Option, Some, None, is_some, IsSome, Result, MatchResult, refl, sym, ◌∙◌, ap, subst, arith}
+use Rattle.std.proofs.Common.{◌≡◌, ℕ, ◌+◌, ◌-◌, ◌^◌, ◌≤◌, ◌<◌, inr, min, true, false, List, [], ◌∷◌, ◌++◌}
+use Rattle.std.proofs.Common.{length, Option, Some, None, is_some, IsSome, Result, MatchResult, refl, sym}
+use Rattle.std.proofs.Common.{◌∙◌, ap, subst, arith}
 use Rattle.std.proofs.lemmas.Bool.{false≢true}
 use Rattle.std.proofs.lemmas.List.Sums.{sum_by_push}
 use Rattle.tree_trait.specs.Dir.{DirFacts}
@@ -27,32 +29,52 @@ use Rattle.tree_walk.proofs.LookLemmas.{IsLookDue, note_step, is_looked_is}
 use Rattle.tree_walk.proofs.ReadLemmas.{read_step, read_entries, next_folder}
 
 -- a file that was looked at before
-pub known_file : {answers : List Heard} {roots : List (List ℕ)} {search : SearchFacts} {folder path : List ℕ} {entry : EntryFacts} {rest : List EntryFacts} → entry.kind ≡ kind.File → IsNextAt answers roots search folder entry rest path
+pub known_file : {answers : List Heard} {roots : List (List ℕ)} {search : SearchFacts} {folder path : List ℕ}
+    {entry : EntryFacts} {rest : List EntryFacts} → entry.kind ≡ kind.File
+    → IsNextAt answers roots search folder entry rest path
     → is_looked search path ≡ true → IsUnderway answers roots search folder rest
 known_file {answers} {search} {path} is n looked =
     let u = n.next.underway in
     let was : IsSome (first_look answers path) = sym (is_looked_is path u.search_is) ∙ looked in
-    underway_none u (entry_step u.search_is (settled_at answers search n (subst (λ (k : EntryKind). IsMet answers search.folders path k) (sym is) was))) u.few (λ p h. h)
+    underway_none u (entry_step u.search_is
+    (settled_at answers search n
+    (subst (λ (k : EntryKind). IsMet answers search.folders path k) (sym is) was))) u.few (λ p h. h)
 
 -- a file of a folder may be looked at
-pub file_candidate : {answers : List Heard} {roots : List (List ℕ)} {search : SearchFacts} {folder path : List ℕ} {entry : EntryFacts} {rest : List EntryFacts} → entry.kind ≡ kind.File → IsNextAt answers roots search folder entry rest path → IsCandidate answers roots path
-file_candidate {answers} {roots} {path} is n = inr (subst (λ (k : EntryKind). IsEntry answers roots k path) is (entry_of n))
+pub file_candidate : {answers : List Heard} {roots : List (List ℕ)} {search : SearchFacts}
+    {folder path : List ℕ} {entry : EntryFacts} {rest : List EntryFacts} → entry.kind ≡ kind.File
+    → IsNextAt answers roots search folder entry rest path → IsCandidate answers roots path
+file_candidate {answers} {roots} {path} is n =
+    inr (subst (λ (k : EntryKind). IsEntry answers roots k path) is (entry_of n))
 
 -- how a look at a file ends that wasn't looked at before
-pub file_ends : {V : Type 0} {answers more : List Heard} {roots : List (List ℕ)} {search : SearchFacts} {folder path : List ℕ} {answer : StatAnswer} {entry : EntryFacts} {rest : List EntryFacts} (result : Result V WalkFault) (now : SearchFacts)
-    → entry.kind ≡ kind.File → IsNextAt answers roots search folder entry rest path → is_looked search path ≡ false → IsLook path more answer → Adds (noted search path answer) now result
-    → MatchResult result (λ _. IsUnderway (answers ++ more) roots now folder rest) (IsCause (answers ++ more) roots)
-file_ends {V} {answers} {more} {roots} {search} {folder} {path} {answer} {entry} {rest} result now is n new look added =
+pub file_ends : {V : Type 0} {answers more : List Heard} {roots : List (List ℕ)} {search : SearchFacts}
+    {folder path : List ℕ} {answer : StatAnswer} {entry : EntryFacts} {rest : List EntryFacts}
+    (result : Result V WalkFault) (now : SearchFacts)
+    → entry.kind ≡ kind.File → IsNextAt answers roots search folder entry rest path
+    → is_looked search path ≡ false → IsLook path more answer → Adds (noted search path answer) now result
+    → MatchResult result (λ _. IsUnderway (answers ++ more) roots now folder rest)
+    (IsCause (answers ++ more) roots)
+file_ends {answers} {roots} {search} {folder} {path} {answer} {entry} {rest} result now is n new look added =
     let later : List Heard = answers ++ stat path answer ∷ [] in
     let next : SearchFacts = noted search path answer in
     let u = n.next.underway in
     let candidate : IsCandidate answers roots path = file_candidate is n in
     let none : is_some (first_look answers path) ≡ false = sym (is_looked_is path u.search_is) ∙ new in
     let fresh : first_look answers path ≡ None = is_none (first_look answers path) none in
-    let due : IsLookDue answers roots path answer = record { candidate = candidate; kept = n.kept; answered = look.answered; there = λ c gone. false≢true (sym none ∙ u.looked.looked path c) } in
-    let met : IsMet later next.folders path entry.kind = subst (λ (k : EntryKind). IsMet later next.folders path k) (sym is) (ap is_some (look_here answers path answer look.answered fresh)) in
+    let due : IsLookDue answers roots path answer =
+    record {
+      candidate = candidate;
+      kept = n.kept;
+      answered = look.answered;
+      there = λ c gone. false≢true (sym none ∙ u.looked.looked path c);
+    } in
+    let met : IsMet later next.folders path entry.kind =
+    subst (λ (k : EntryKind). IsMet later next.folders path k) (sym is)
+    (ap is_some (look_here answers path answer look.answered fresh)) in
     let s = entry_step (note_step u.search_is due fresh) (settled_at later next n met) in
-    subst (λ (m : List Heard). MatchResult result (λ _. IsUnderway (answers ++ m) roots now folder rest) (IsCause (answers ++ m) roots)) (sym look.heard)
+    subst (λ (m : List Heard). MatchResult result (λ _. IsUnderway (answers ++ m) roots now folder rest)
+    (IsCause (answers ++ m) roots)) (sym look.heard)
     (adds_ends result next now (λ next. IsUnderway later roots next folder rest) added
     (λ few. underway_more (stat path answer ∷ []) u s few (λ p h. h))
     (λ many. too_many_is (look_last answer u candidate n.kept tt) s many))
@@ -62,7 +84,9 @@ file_ends {V} {answers} {more} {roots} {search} {folder} {path} {answer} {entry}
     is_none (Some a) h = absurd (false≢true (sym h))
 
 -- a folder was read
-pub read_into : {answers more : List Heard} {roots : List (List ℕ)} (search : SearchFacts) {folder : List ℕ} {entries : List EntryFacts} {skipped : ℕ} → IsUnderway answers roots (with_last search folder) [] [] → IsRead folder more entries skipped → length entries ≤ search.left
+pub read_into : {answers more : List Heard} {roots : List (List ℕ)} (search : SearchFacts) {folder : List ℕ}
+    {entries : List EntryFacts} {skipped : ℕ} → IsUnderway answers roots (with_last search folder) [] []
+    → IsRead folder more entries skipped → length entries ≤ search.left
     → IsEntered (answers ++ more) roots (paid search (length entries) skipped) folder entries
 read_into {answers} {roots} search {folder} {entries} {skipped} u r room =
     let d : DirFacts = r.answer in
@@ -71,19 +95,25 @@ read_into {answers} {roots} search {folder} {entries} {skipped} u r room =
     let s = read_step search folder d u.search_is r.answered
     (omega (arith, count, room)) (ap (λ (n : ℕ). min (search.skipped + n) (2 ^ 64 - 1)) r.passed) in
     let walk = underway_more (read_dir folder d ∷ []) u s u.few (λ p h. h) in
-    let reached = reached_more (read_dir folder d ∷ []) (folder_reached answers roots folder (next_folder search.todo folder u.search_is.known).is_folder) in
+    let reached = reached_more (read_dir folder d ∷ [])
+    (folder_reached answers roots folder (next_folder search.todo folder u.search_is.known).is_folder) in
     let listed = read_entries search folder d u.search_is r.answered in
-    subst (λ (m : List Heard). IsEntered (answers ++ m) roots (paid search (length entries) skipped) folder entries) (sym r.heard)
-    (subst (λ (x : List EntryFacts). IsEntered (answers ++ read_dir folder d ∷ []) roots (paid search (length entries) skipped) folder x) (sym r.entries_are)
+    subst (λ (m : List Heard). IsEntered (answers ++ m) roots
+    (paid search (length entries) skipped) folder entries) (sym r.heard)
+    (subst (λ (x : List EntryFacts). IsEntered (answers ++ read_dir folder d ∷ []) roots
+    (paid search (length entries) skipped) folder x) (sym r.entries_are)
     (record { underway = walk; reached = reached; listed = listed }))
 
 -- a folder has more entries than may be read
-pub read_over : {answers more : List Heard} {roots : List (List ℕ)} (search : SearchFacts) {folder : List ℕ} {entries : List EntryFacts} {skipped : ℕ} → IsUnderway answers roots (with_last search folder) [] [] → IsRead folder more entries skipped → search.left < length entries
+pub read_over : {answers more : List Heard} {roots : List (List ℕ)} (search : SearchFacts) {folder : List ℕ}
+    {entries : List EntryFacts} {skipped : ℕ} → IsUnderway answers roots (with_last search folder) [] []
+    → IsRead folder more entries skipped → search.left < length entries
     → IsTooManyEntries (answers ++ more) roots
 read_over {answers} {roots} search {folder} {entries} u r over =
     let d : DirFacts = r.answer in
     let count : length entries ≡ length (entries_of (Some d)) = ap length r.entries_are in
-    let read : entries_read (answers ++ read_dir folder d ∷ []) ≡ entries_read answers + length (entries_of (Some d)) = sum_by_push entry_count answers (read_dir folder d) in
+    let read : entries_read (answers ++ read_dir folder d ∷ []) ≡ entries_read answers + length
+    (entries_of (Some d)) = sum_by_push entry_count answers (read_dir folder d) in
     let was : search.left + entries_read answers ≡ ENTRY_LIMIT = u.search_is.paid.left in
     subst (λ (m : List Heard). IsTooManyEntries (answers ++ m) roots) (sym r.heard)
     (record {

@@ -1,5 +1,6 @@
 -- What is kept agrees with more answers too.
-use Rattle.std.proofs.Common.{◌≡◌, ℕ, ◌+◌, ◌-◌, ◌^◌, ◌≤◌, inl, inr, min, true, false, List, [], ◌∷◌, ◌++◌, length, IsSome, MatchBool, Contains, refl, ◌∙◌, ap, subst, arith}
+use Rattle.std.proofs.Common.{◌≡◌, ℕ, ◌+◌, ◌-◌, ◌^◌, ◌≤◌, inl, inr, min, true, false, List, [], ◌∷◌, ◌++◌}
+use Rattle.std.proofs.Common.{length, IsSome, MatchBool, Contains, refl, ◌∙◌, ap, subst, arith}
 use Rattle.std.specs.Prelude.{nat_lt, count_by}
 use Rattle.std.specs.Str.{bytes_eq}
 use Rattle.std.proofs.lemmas.Bool.{and_from}
@@ -27,20 +28,26 @@ pub record Grows (answers later : List Heard) (known next long longer : List (Li
   pub too_long : (path : List ℕ) → has long path ≡ true → has longer path ≡ true
   pub looks : (path : List ℕ) → IsSome (first_look answers path) → IsSome (first_look later path)
 
-met_more : {answers later : List Heard} {known next long longer : List (List ℕ)} (path : List ℕ) (k : EntryKind) → Grows answers later known next long longer → IsMet answers known path k → IsMet later next path k
+met_more : {answers later : List Heard} {known next long longer : List (List ℕ)} (path : List ℕ)
+    (k : EntryKind) → Grows answers later known next long longer → IsMet answers known path k
+    → IsMet later next path k
 met_more path kind.Folder g h = g.folders path h
 met_more path kind.File g h = g.looks path h
 met_more path kind.Other g h = h
 
-pub settled_more : {answers later : List Heard} {known next long longer : List (List ℕ)} (path : List ℕ) (k : EntryKind) → Grows answers later known next long longer
+pub settled_more : {answers later : List Heard} {known next long longer : List (List ℕ)} (path : List ℕ)
+    (k : EntryKind) → Grows answers later known next long longer
     → IsSettled answers known long path k → IsSettled later next longer path k
 settled_more {answers} {later} {known} {next} {long} {longer} path k g h =
-    elim (nat_lt PATH_LIMIT (length path)) as (λ v. MatchBool v (has long path ≡ true) (IsMet answers known path k) → MatchBool v (has longer path ≡ true) (IsMet later next path k))
+    elim (nat_lt PATH_LIMIT (length path)) as (λ v. MatchBool v (has long path ≡ true)
+    (IsMet answers known path k) → MatchBool v (has longer path ≡ true) (IsMet later next path k))
     [ true ↦ λ s. g.too_long path s | false ↦ λ s. met_more path k g s ] h
 
 -- what was seen to stays so, and nothing is new to be seen to
-pub seen_more : {answers later : List Heard} {known next long longer : List (List ℕ)} {folder : List ℕ} {rest : List EntryFacts} → Grows answers later known next long longer
-    → ((at : List ℕ) → entries_in later at ≡ entries_in answers at) → AreSeenTo answers known long folder rest → AreSeenTo later next longer folder rest
+pub seen_more : {answers later : List Heard} {known next long longer : List (List ℕ)} {folder : List ℕ}
+    {rest : List EntryFacts} → Grows answers later known next long longer
+    → ((at : List ℕ) → entries_in later at ≡ entries_in answers at)
+    → AreSeenTo answers known long folder rest → AreSeenTo later next longer folder rest
 seen_more g stays seen = record {
   each = λ at entry h.
       elim (seen.each at entry (subst (λ (es : List EntryFacts). has_entry es entry ≡ true) (stays at) h)) [
@@ -50,33 +57,44 @@ seen_more g stays seen = record {
 }
 
 -- one more was asked, which was due, and was answered
-pub answered_push : {answers : List Heard} {roots : List (List ℕ)} (h : Heard) → AreAnswered answers roots → IsDue (answers ++ h ∷ []) roots h → is_answered h ≡ true
+pub answered_push : {answers : List Heard} {roots : List (List ℕ)} (h : Heard) → AreAnswered answers roots
+    → IsDue (answers ++ h ∷ []) roots h → is_answered h ≡ true
     → ((path : List ℕ) → Contains roots path → h ≡ stat path Gone → ⊥) → AreAnswered (answers ++ h ∷ []) roots
 answered_push {answers} {roots} h asked due ok there = record {
   due = due_push answers roots h asked.due due;
-  answered = list_all-append is_answered answers (h ∷ []) ∙ and_from _ _ asked.answered (and_from _ true ok refl);
-  there = λ path r c. elim (Contains-push_cases answers h (stat path Gone) c) [ inl before ↦ asked.there path r before | inr last ↦ there path r last ];
+  answered = list_all-append is_answered answers (h ∷ [])
+      ∙ and_from _ _ asked.answered (and_from _ true ok refl);
+  there = λ path r c. elim
+      (Contains-push_cases answers h
+      (stat path Gone) c) [ inl before ↦ asked.there path r before | inr last ↦ there path r last ];
 }
 
 -- a look reads no folder
-pub folders_look : {answers : List Heard} {roots known todo : List (List ℕ)} (path : List ℕ) (answer : StatAnswer) → AreFolders answers roots known todo → AreFolders (answers ++ stat path answer ∷ []) roots known todo
-folders_look {answers} {roots} {known} {todo} path answer f = record {
+pub folders_look : {answers : List Heard} {roots known todo : List (List ℕ)} (path : List ℕ)
+    (answer : StatAnswer) → AreFolders answers roots known todo
+    → AreFolders (answers ++ stat path answer ∷ []) roots known todo
+folders_look {answers} {roots} {todo} path answer f = record {
   due = λ p h. (folder_more answers (stat path answer ∷ []) roots p (f.due p h).0, (f.due p h).1);
-  counts = λ p. ap (λ (n : ℕ). n + count_by (bytes_eq p) todo) (times_past_look answers path answer p) ∙ f.counts p;
+  counts = λ p. ap (λ (n : ℕ). n + count_by (bytes_eq p) todo) (times_past_look answers path answer p)
+      ∙ f.counts p;
 }
 
 -- no folder was read twice
-pub few_of : {answers : List Heard} {roots known todo : List (List ℕ)} → AreFolders answers roots known todo → (path : List ℕ) → times_read answers path ≤ 1
+pub few_of : {answers : List Heard} {roots known todo : List (List ℕ)} → AreFolders answers roots known todo
+    → (path : List ℕ) → times_read answers path ≤ 1
 few_of {answers} {known} {todo} f path =
     let all = f.counts path in
-    elim (has known path) as (λ b. times_read answers path + count_by (bytes_eq path) todo ≡ one_if b → times_read answers path ≤ 1) [ true ↦ λ e. omega arith | false ↦ λ e. omega arith ] all
+    elim (has known path) as (λ b. times_read answers path + count_by (bytes_eq path) todo ≡ one_if b
+    → times_read answers path ≤ 1) [ true ↦ λ e. omega arith | false ↦ λ e. omega arith ] all
 
 -- what is too long stays so
-pub long_more : {answers : List Heard} {roots paths : List (List ℕ)} (more : List Heard) → AreLong answers roots paths → AreLong (answers ++ more) roots paths
+pub long_more : {answers : List Heard} {roots paths : List (List ℕ)} (more : List Heard)
+    → AreLong answers roots paths → AreLong (answers ++ more) roots paths
 long_more more l = record { each = λ p h. (reached_more more (l.each p h).0, (l.each p h).1); apart = l.apart }
 
 -- one more answer is paid
-pub paid_push : {answers : List Heard} {spare over left skipped : ℕ} (h : Heard) → IsPaid answers spare over → left + entry_count h ≡ spare → skipped ≡ min (over + passed_over h) (2 ^ 64 - 1)
+pub paid_push : {answers : List Heard} {spare over left skipped : ℕ} (h : Heard) → IsPaid answers spare over
+    → left + entry_count h ≡ spare → skipped ≡ min (over + passed_over h) (2 ^ 64 - 1)
     → IsPaid (answers ++ h ∷ []) left skipped
 paid_push {answers} h paid cost skip =
     let read = sum_by_push entry_count answers h in

@@ -1,5 +1,6 @@
 -- The last call of a walk, with what was asked before it.
-use Rattle.std.proofs.Common.{◌≡◌, ℕ, ◌≤◌, inl, inr, List, [], ◌∷◌, ◌++◌, length, Contains, refl, sym, ◌∙◌, ap, subst, append_assoc, arith}
+use Rattle.std.proofs.Common.{◌≡◌, ℕ, ◌≤◌, inl, inr, List, [], ◌∷◌, ◌++◌, length, Contains, refl, sym, ◌∙◌}
+use Rattle.std.proofs.Common.{ap, subst, append_assoc, arith}
 use Rattle.std.proofs.lemmas.List.Elements.{Contains-append_right}
 use Rattle.row_types.specs.Canon.{IsCanonPath}
 use Rattle.scan_queue.specs.declared.listing.TheConstants.{LISTING_LIMIT}
@@ -19,19 +20,26 @@ use Rattle.tree_walk.proofs.ReachLemmas.{candidate_more, due_push}
 use Rattle.tree_walk.proofs.ReadLemmas.{read_due, folders_read}
 
 -- one more look, in order; the paths after it aren't looked at yet
-pub looks_next : (paths after : List (List ℕ)) (given : List StatAnswer) (path : List ℕ) (answer : StatAnswer) → length given ≡ length paths → looks (paths ++ path ∷ after) (given ++ answer ∷ []) ≡ looks paths given ++ stat path answer ∷ []
+pub looks_next : (paths after : List (List ℕ)) (given : List StatAnswer) (path : List ℕ)
+    (answer : StatAnswer) → length given ≡ length paths
+    → looks (paths ++ path ∷ after) (given ++ answer ∷ []) ≡ looks paths given ++ stat path answer ∷ []
 looks_next [] [] [] path answer e = refl
 looks_next [] (q ∷ after) [] path answer e = refl
 looks_next [] after (a ∷ given) path answer e = absurd (omega (arith, e))
 looks_next (p ∷ paths) after [] path answer e = absurd (omega (arith, e))
-looks_next (p ∷ paths) after (a ∷ given) path answer e = ap (λ t. stat p a ∷ t) (looks_next paths after given path answer (omega (arith, e)))
+looks_next (p ∷ paths) after (a ∷ given) path answer e =
+    ap (λ t. stat p a ∷ t) (looks_next paths after given path answer (omega (arith, e)))
 
 -- a root is among the roots
-pub root_among : {roots : List (List ℕ)} (seen after : List (List ℕ)) (path : List ℕ) → roots ≡ seen ++ path ∷ after → Contains roots path
-root_among seen after path split = subst (λ (rs : List (List ℕ)). Contains rs path) (sym split) (Contains-append_right seen (path ∷ after) path (0, omega arith, refl))
+pub root_among : {roots : List (List ℕ)} (seen after : List (List ℕ)) (path : List ℕ)
+    → roots ≡ seen ++ path ∷ after → Contains roots path
+root_among seen after path split =
+    subst (λ (rs : List (List ℕ)). Contains rs path) (sym split)
+    (Contains-append_right seen (path ∷ after) path (0, omega arith, refl))
 
 -- what began with the roots still does
-pub begins_more : {answers : List Heard} (more : List Heard) {roots : List (List ℕ)} → BeginsWithRoots answers roots → BeginsWithRoots (answers ++ more) roots
+pub begins_more : {answers : List Heard} (more : List Heard) {roots : List (List ℕ)}
+    → BeginsWithRoots answers roots → BeginsWithRoots (answers ++ more) roots
 begins_more more b = record {
   given = b.given;
   rest = b.rest ++ more;
@@ -41,35 +49,64 @@ begins_more more b = record {
 }
 
 -- a call that was due ends the walk
-stops_at : {answers : List Heard} {roots : List (List ℕ)} {search : SearchFacts} {folder : List ℕ} {rest : List EntryFacts} {Stops : Heard → Type 0} (h : Heard) → IsSearch answers roots search folder rest → length search.files ≤ LISTING_LIMIT
-    → LooksAtRoots (answers ++ h ∷ []) roots → AsksDue (answers ++ h ∷ []) roots → Stops h → StopsAtLast (answers ++ h ∷ []) roots Stops
-stops_at {answers} h s few first asked stops = record { first = first; asked = asked; earlier = answers; last = h; split = refl; room = room_is s few; stops = stops }
+stops_at : {answers : List Heard} {roots : List (List ℕ)} {search : SearchFacts} {folder : List ℕ}
+    {rest : List EntryFacts} {Stops : Heard → Type 0} (h : Heard) → IsSearch answers roots search folder rest
+    → length search.files ≤ LISTING_LIMIT
+    → LooksAtRoots (answers ++ h ∷ []) roots → AsksDue (answers ++ h ∷ []) roots → Stops h
+    → StopsAtLast (answers ++ h ∷ []) roots Stops
+stops_at {answers} h s few first asked stops =
+    record {
+      first = first;
+      asked = asked;
+      earlier = answers;
+      last = h;
+      split = refl;
+      room = room_is s few;
+      stops = stops;
+    }
 
 -- with a look that was due, whatever it answers, only what was due was asked, and no folder twice
-look_asked : {answers : List Heard} {roots : List (List ℕ)} {search : SearchFacts} {folder : List ℕ} {rest : List EntryFacts} {path : List ℕ} (answer : StatAnswer) → IsSearch answers roots search folder rest → IsCandidate answers roots path → IsCanonPath path → AsksDue (answers ++ stat path answer ∷ []) roots
+look_asked : {answers : List Heard} {roots : List (List ℕ)} {search : SearchFacts} {folder : List ℕ}
+    {rest : List EntryFacts} {path : List ℕ} (answer : StatAnswer)
+    → IsSearch answers roots search folder rest → IsCandidate answers roots path → IsCanonPath path
+    → AsksDue (answers ++ stat path answer ∷ []) roots
 look_asked {answers} {roots} {path} answer s candidate kept = record {
-  due = due_push answers roots (stat path answer) s.asked.due (candidate_more answers (stat path answer ∷ []) roots path candidate, kept);
+  due = due_push answers roots (stat path answer) s.asked.due
+      (candidate_more answers (stat path answer ∷ []) roots path candidate, kept);
   few = few_of (folders_look path answer s.known);
 }
 
 -- a look at the next root
-pub root_last : {answers : List Heard} {roots seen : List (List ℕ)} {search : SearchFacts} {path : List ℕ} {Stops : Heard → Type 0} (after : List (List ℕ)) (answer : StatAnswer) → IsBeginning answers roots seen search → roots ≡ seen ++ path ∷ after → IsCanonPath path
+pub root_last : {answers : List Heard} {roots seen : List (List ℕ)} {search : SearchFacts} {path : List ℕ}
+    {Stops : Heard → Type 0} (after : List (List ℕ)) (answer : StatAnswer)
+    → IsBeginning answers roots seen search → roots ≡ seen ++ path ∷ after → IsCanonPath path
     → Stops (stat path answer) → StopsAtLast (answers ++ stat path answer ∷ []) roots Stops
 root_last {answers} {roots} {seen} {path} after answer b split kept stops =
     let given : List StatAnswer = b.given ++ answer ∷ [] in
     let first : answers ++ stat path answer ∷ [] ≡ looks roots given =
-    ap (λ (h : List Heard). h ++ stat path answer ∷ []) b.first ∙ sym (looks_next seen after b.given path answer b.each) ∙ ap (λ (rs : List (List ℕ)). looks rs given) (sym split) in
-    stops_at (stat path answer) b.search_is b.few (inr (given, first)) (look_asked answer b.search_is (inl (root_among seen after path split)) kept) stops
+    ap (λ (h : List Heard). h ++ stat path answer ∷ []) b.first
+    ∙ sym (looks_next seen after b.given path answer b.each)
+    ∙ ap (λ (rs : List (List ℕ)). looks rs given) (sym split) in
+    stops_at (stat path answer) b.search_is b.few (inr (given, first))
+    (look_asked answer b.search_is (inl (root_among seen after path split)) kept) stops
 
 -- a look at a file
-pub look_last : {answers : List Heard} {roots : List (List ℕ)} {search : SearchFacts} {folder : List ℕ} {rest : List EntryFacts} {path : List ℕ} {Stops : Heard → Type 0} (answer : StatAnswer) → IsUnderway answers roots search folder rest → IsCandidate answers roots path → IsCanonPath path
+pub look_last : {answers : List Heard} {roots : List (List ℕ)} {search : SearchFacts} {folder : List ℕ}
+    {rest : List EntryFacts} {path : List ℕ} {Stops : Heard → Type 0} (answer : StatAnswer)
+    → IsUnderway answers roots search folder rest → IsCandidate answers roots path → IsCanonPath path
     → Stops (stat path answer) → StopsAtLast (answers ++ stat path answer ∷ []) roots Stops
 look_last {path} answer u candidate kept stops =
-    stops_at (stat path answer) u.search_is u.few (inl (begins_more (stat path answer ∷ []) u.first)) (look_asked answer u.search_is candidate kept) stops
+    stops_at (stat path answer) u.search_is u.few (inl (begins_more (stat path answer ∷ []) u.first))
+    (look_asked answer u.search_is candidate kept) stops
 
 -- the reading of the next folder
-pub read_last : {answers : List Heard} {roots : List (List ℕ)} {Stops : Heard → Type 0} (search : SearchFacts) (path : List ℕ) (answer : DirFacts) → IsUnderway answers roots (with_last search path) [] [] → Stops (read_dir path answer)
+pub read_last : {answers : List Heard} {roots : List (List ℕ)} {Stops : Heard → Type 0} (search : SearchFacts)
+    (path : List ℕ) (answer : DirFacts) → IsUnderway answers roots (with_last search path) [] []
+    → Stops (read_dir path answer)
     → StopsAtLast (answers ++ read_dir path answer ∷ []) roots Stops
 read_last search path answer u stops =
     stops_at (read_dir path answer) u.search_is u.few (inl (begins_more (read_dir path answer ∷ []) u.first))
-    (record { due = read_due search path answer u.search_is; few = few_of (folders_read search.todo path answer u.search_is.known) }) stops
+    (record {
+      due = read_due search path answer u.search_is;
+      few = few_of (folders_read search.todo path answer u.search_is.known);
+    }) stops

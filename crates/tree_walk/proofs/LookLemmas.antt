@@ -1,5 +1,6 @@
 -- What is kept agrees with the answers after a look at a path.
-use Rattle.std.proofs.Common.{◌≡◌, ℕ, ◌||◌, true, false, cond, List, [], ◌∷◌, ◌++◌, Option, Some, None, is_some, Contains, refl, sym, ◌∙◌, ap, subst, add-zero, arith}
+use Rattle.std.proofs.Common.{◌≡◌, ℕ, ◌||◌, true, false, cond, List, [], ◌∷◌, ◌++◌, Option, Some, None}
+use Rattle.std.proofs.Common.{is_some, Contains, refl, sym, ◌∙◌, ap, subst, add-zero, arith}
 use Rattle.std.specs.Cmp.Lexicographic.{slice_cmp}
 use Rattle.std.specs.List.Sorted.{IsStrictlySortedBy}
 use Rattle.std.specs.Map.{lookup, keys_of}
@@ -15,81 +16,112 @@ use Rattle.tree_walk.specs.Answers.{is_look_answer, first_look, entries_of}
 use Rattle.tree_walk.specs.Kept.{file_of, is_no_file, AreLooks, IsSearch}
 use Rattle.tree_walk.specs.Search.{SearchFacts, has, with_path, with_file, with_other, noted, is_looked}
 use Rattle.tree_walk.specs.Walked.{IsCandidate}
-use Rattle.tree_walk.proofs.AnswerLemmas.{looked_stays, after_look, look_again, reading_past_look, look_past_reading}
+use Rattle.tree_walk.proofs.AnswerLemmas.{looked_stays, after_look, look_again, reading_past_look}
+use Rattle.tree_walk.proofs.AnswerLemmas.{look_past_reading}
 use Rattle.tree_walk.proofs.GrowLemmas.{seen_more, answered_push, folders_look, long_more, paid_push}
 use Rattle.tree_walk.proofs.ReachLemmas.{candidate_more}
-use Rattle.tree_walk.proofs.SetLemmas.{same, same-Decides, has-with_path, sorted-with_path, keys-insert_entry, lookup-insert_entry}
+use Rattle.tree_walk.proofs.SetLemmas.{same, same-Decides, has-with_path, sorted-with_path, keys-insert_entry}
+use Rattle.tree_walk.proofs.SetLemmas.{lookup-insert_entry}
 
 -- the files with what a look found
-file_kept : (files : List (List ℕ × StampFacts)) (before : Option StatAnswer) (p path : List ℕ) (answer : StatAnswer) → file_of (Some answer) ≡ None → lookup (same p) files ≡ file_of before → (same p path ≡ true → before ≡ None)
+file_kept : (files : List (List ℕ × StampFacts)) (before : Option StatAnswer) (p path : List ℕ)
+    (answer : StatAnswer) → file_of (Some answer) ≡ None → lookup (same p) files ≡ file_of before
+    → (same p path ≡ true → before ≡ None)
     → lookup (same p) files ≡ file_of (cond (same p path) (Some answer) before)
 file_kept files before p path answer none h fresh =
     elim (same p path) as (λ v. same p path ≡ v → lookup (same p) files ≡ file_of (cond v (Some answer) before))
     [ true ↦ λ e. h ∙ ap file_of (fresh e) ∙ sym none | false ↦ λ e. h ] refl
 
-lookup-with_file : (files : List (List ℕ × StampFacts)) (before : Option StatAnswer) (p path : List ℕ) (answer : StatAnswer) → lookup (same p) files ≡ file_of before → (same p path ≡ true → before ≡ None)
+lookup-with_file : (files : List (List ℕ × StampFacts)) (before : Option StatAnswer) (p path : List ℕ)
+    (answer : StatAnswer) → lookup (same p) files ≡ file_of before → (same p path ≡ true → before ≡ None)
     → lookup (same p) (with_file files path answer) ≡ file_of (cond (same p path) (Some answer) before)
 lookup-with_file files before p path (File stamp) h fresh =
     lookup-insert_entry files path stamp p
-    ∙ elim (same p path) as (λ v. cond v (Some stamp) (lookup (same p) files) ≡ file_of (cond v (Some (File stamp)) before)) [ true ↦ refl | false ↦ h ]
+    ∙ elim (same p path) as (λ v. cond v (Some stamp)
+    (lookup (same p) files) ≡ file_of (cond v (Some (File stamp)) before)) [ true ↦ refl | false ↦ h ]
 lookup-with_file files before p path answer h fresh = file_kept files before p path answer refl h fresh
 
 -- the other paths with what a look found
-other_added : (others : List (List ℕ)) (before : Option StatAnswer) (p path : List ℕ) (answer : StatAnswer) → is_no_file (Some answer) ≡ true → has others p ≡ is_no_file before → has (with_path others path) p ≡ is_no_file (cond (same p path) (Some answer) before)
+other_added : (others : List (List ℕ)) (before : Option StatAnswer) (p path : List ℕ) (answer : StatAnswer)
+    → is_no_file (Some answer) ≡ true → has others p ≡ is_no_file before
+    → has (with_path others path) p ≡ is_no_file (cond (same p path) (Some answer) before)
 other_added others before p path answer no_file h =
     has-with_path others path p
-    ∙ elim (same p path) as (λ v. (v || has others p) ≡ is_no_file (cond v (Some answer) before)) [ true ↦ sym no_file | false ↦ h ]
+    ∙ elim (same p path) as (λ v. (v || has others p) ≡ is_no_file (cond v (Some answer) before))
+    [ true ↦ sym no_file | false ↦ h ]
 
-has-with_other : (others : List (List ℕ)) (before : Option StatAnswer) (p path : List ℕ) (answer : StatAnswer) → has others p ≡ is_no_file before → (same p path ≡ true → before ≡ None)
+has-with_other : (others : List (List ℕ)) (before : Option StatAnswer) (p path : List ℕ)
+    (answer : StatAnswer) → has others p ≡ is_no_file before → (same p path ≡ true → before ≡ None)
     → has (with_other others path answer) p ≡ is_no_file (cond (same p path) (Some answer) before)
 has-with_other others before p path (File stamp) h fresh =
     elim (same p path) as (λ v. same p path ≡ v → has others p ≡ is_no_file (cond v (Some (File stamp)) before))
     [ true ↦ λ e. h ∙ ap is_no_file (fresh e) | false ↦ λ e. h ] refl
 has-with_other others before p path answer h fresh = other_added others before p path answer refl h
 
-sorted-with_file : (files : List (List ℕ × StampFacts)) (path : List ℕ) (answer : StatAnswer) → IsStrictlySortedBy (slice_cmp nat_cmp) (keys_of files) → IsStrictlySortedBy (slice_cmp nat_cmp) (keys_of (with_file files path answer))
-sorted-with_file files path (File stamp) h = subst (λ (ks : List (List ℕ)). IsStrictlySortedBy (slice_cmp nat_cmp) ks) (sym (keys-insert_entry files path stamp)) (sorted-with_path (keys_of files) path h)
+sorted-with_file : (files : List (List ℕ × StampFacts)) (path : List ℕ) (answer : StatAnswer)
+    → IsStrictlySortedBy (slice_cmp nat_cmp) (keys_of files)
+    → IsStrictlySortedBy (slice_cmp nat_cmp) (keys_of (with_file files path answer))
+sorted-with_file files path (File stamp) h =
+    subst (λ (ks : List (List ℕ)). IsStrictlySortedBy (slice_cmp nat_cmp) ks)
+    (sym (keys-insert_entry files path stamp)) (sorted-with_path (keys_of files) path h)
 sorted-with_file files path _ h = h
 
 -- a look at a path that wasn't looked at
-looks_noted : {answers : List Heard} {files : List (List ℕ × StampFacts)} {others : List (List ℕ)} (path : List ℕ) (answer : StatAnswer) → AreLooks answers files others → is_look_answer answer ≡ true → first_look answers path ≡ None
-    → AreLooks (answers ++ stat path answer ∷ []) (with_file files path answer) (with_other others path answer)
+looks_noted : {answers : List Heard} {files : List (List ℕ × StampFacts)} {others : List (List ℕ)}
+    (path : List ℕ) (answer : StatAnswer) → AreLooks answers files others → is_look_answer answer ≡ true
+    → first_look answers path ≡ None
+    → AreLooks (answers ++ stat path answer ∷ []) (with_file files path answer)
+    (with_other others path answer)
 looks_noted {answers} {files} {others} path answer l ok fresh =
-    let before : (p : List ℕ) → same p path ≡ true → first_look answers p ≡ None = λ p e. subst (λ (z : List ℕ). first_look answers z ≡ None) (sym ((same-Decides p path).0 e)) fresh in
+    let before : (p : List ℕ) → same p path ≡ true → first_look answers p ≡ None =
+    λ p e. subst (λ (z : List ℕ). first_look answers z ≡ None) (sym ((same-Decides p path).0 e)) fresh in
     record {
-      files = λ p. lookup-with_file files (first_look answers p) p path answer (l.files p) (before p) ∙ ap file_of (sym (after_look answers path answer ok fresh p));
-      others = λ p. has-with_other others (first_look answers p) p path answer (l.others p) (before p) ∙ ap is_no_file (sym (after_look answers path answer ok fresh p));
+      files = λ p. lookup-with_file files (first_look answers p) p path answer (l.files p) (before p)
+          ∙ ap file_of (sym (after_look answers path answer ok fresh p));
+      others = λ p. has-with_other others (first_look answers p) p path answer (l.others p) (before p)
+          ∙ ap is_no_file (sym (after_look answers path answer ok fresh p));
       ordered = sorted-with_file files path answer l.ordered;
     }
 
 -- a call that changes no first look
-looks_stay : {answers : List Heard} {files : List (List ℕ × StampFacts)} {others : List (List ℕ)} (later : List Heard) → AreLooks answers files others → ((p : List ℕ) → first_look later p ≡ first_look answers p) → AreLooks later files others
+looks_stay : {answers : List Heard} {files : List (List ℕ × StampFacts)} {others : List (List ℕ)}
+    (later : List Heard) → AreLooks answers files others
+    → ((p : List ℕ) → first_look later p ≡ first_look answers p) → AreLooks later files others
 looks_stay later l stays = record {
   files = λ p. l.files p ∙ ap file_of (sym (stays p));
   others = λ p. l.others p ∙ ap is_no_file (sym (stays p));
   ordered = l.ordered;
 }
 
-pub looks_past_reading : {answers : List Heard} {files : List (List ℕ × StampFacts)} {others : List (List ℕ)} (path : List ℕ) (answer : DirFacts) → AreLooks answers files others → AreLooks (answers ++ read_dir path answer ∷ []) files others
-looks_past_reading {answers} path answer l = looks_stay (answers ++ read_dir path answer ∷ []) l (look_past_reading answers path answer)
+pub looks_past_reading : {answers : List Heard} {files : List (List ℕ × StampFacts)} {others : List (List ℕ)}
+    (path : List ℕ) (answer : DirFacts) → AreLooks answers files others
+    → AreLooks (answers ++ read_dir path answer ∷ []) files others
+looks_past_reading {answers} path answer l =
+    looks_stay (answers ++ read_dir path answer ∷ []) l (look_past_reading answers path answer)
 
 -- a look that is due
-pub record IsLookDue (answers : List Heard) (roots : List (List ℕ)) (path : List ℕ) (answer : StatAnswer) : Type 0 where
+pub record IsLookDue (answers : List Heard) (roots : List (List ℕ)) (path : List ℕ)
+    (answer : StatAnswer) : Type 0 where
   pub candidate : IsCandidate answers roots path
   pub kept : IsCanonPath path
   pub answered : is_look_answer answer ≡ true
   pub there : Contains roots path → answer ≡ Gone → ⊥
 
 -- it leaves all else as it was
-look_step : {answers : List Heard} {roots : List (List ℕ)} {search : SearchFacts} {folder : List ℕ} {rest : List EntryFacts} {path : List ℕ} {answer : StatAnswer} {files : List (List ℕ × StampFacts)} {others : List (List ℕ)}
-    → IsSearch answers roots search folder rest → IsLookDue answers roots path answer → AreLooks (answers ++ stat path answer ∷ []) files others
-    → IsSearch (answers ++ stat path answer ∷ []) roots (record search { files = files; others = others }) folder rest
-look_step {answers} {roots} {search} {folder} {rest} {path} {answer} s due looks =
+look_step : {answers : List Heard} {roots : List (List ℕ)} {search : SearchFacts} {folder : List ℕ}
+    {rest : List EntryFacts} {path : List ℕ} {answer : StatAnswer} {files : List (List ℕ × StampFacts)}
+    {others : List (List ℕ)}
+    → IsSearch answers roots search folder rest → IsLookDue answers roots path answer
+    → AreLooks (answers ++ stat path answer ∷ []) files others
+    → IsSearch (answers ++ stat path answer ∷ []) roots
+    (record search { files = files; others = others }) folder rest
+look_step {answers} {roots} {search} {path} {answer} s due looks =
     let more : List Heard = stat path answer ∷ [] in
     let had = s.paid.skipped in
     record {
       looks = looks;
-      asked = answered_push (stat path answer) s.asked (candidate_more answers more roots path due.candidate, due.kept) due.answered
+      asked = answered_push (stat path answer) s.asked
+          (candidate_more answers more roots path due.candidate, due.kept) due.answered
           (λ p r e.
           let one : path ≡ p = cc in
           let gone : answer ≡ Gone = cc in
@@ -97,26 +129,39 @@ look_step {answers} {roots} {search} {folder} {rest} {path} {answer} s due looks
       known = folders_look path answer s.known;
       too_long = long_more more s.too_long;
       paid = paid_push (stat path answer) s.paid (add-zero search.left) (omega (arith, had));
-      closed = seen_more (record { folders = λ p h. h; too_long = λ p h. h; looks = λ p h. looked_stays answers more p h }) (λ at. ap entries_of (reading_past_look answers path answer at)) s.closed;
+      closed = seen_more (record {
+        folders = λ p h. h;
+        too_long = λ p h. h;
+        looks = λ p h. looked_stays answers more p h;
+      })
+          (λ at. ap entries_of (reading_past_look answers path answer at)) s.closed;
     }
 
-pub note_step : {answers : List Heard} {roots : List (List ℕ)} {search : SearchFacts} {folder : List ℕ} {rest : List EntryFacts} {path : List ℕ} {answer : StatAnswer}
-    → IsSearch answers roots search folder rest → IsLookDue answers roots path answer → first_look answers path ≡ None
+pub note_step : {answers : List Heard} {roots : List (List ℕ)} {search : SearchFacts} {folder : List ℕ}
+    {rest : List EntryFacts} {path : List ℕ} {answer : StatAnswer}
+    → IsSearch answers roots search folder rest → IsLookDue answers roots path answer
+    → first_look answers path ≡ None
     → IsSearch (answers ++ stat path answer ∷ []) roots (noted search path answer) folder rest
 note_step {path} {answer} s due fresh = look_step s due (looks_noted path answer s.looks due.answered fresh)
 
 -- a look at a path that was looked at before
-pub again_step : {answers : List Heard} {roots : List (List ℕ)} {search : SearchFacts} {folder : List ℕ} {rest : List EntryFacts} {path : List ℕ} {answer known : StatAnswer}
-    → IsSearch answers roots search folder rest → IsLookDue answers roots path answer → first_look answers path ≡ Some known
+pub again_step : {answers : List Heard} {roots : List (List ℕ)} {search : SearchFacts} {folder : List ℕ}
+    {rest : List EntryFacts} {path : List ℕ} {answer known : StatAnswer}
+    → IsSearch answers roots search folder rest → IsLookDue answers roots path answer
+    → first_look answers path ≡ Some known
     → IsSearch (answers ++ stat path answer ∷ []) roots search folder rest
-again_step {answers} {path} {answer} s due before = look_step s due (looks_stay (answers ++ stat path answer ∷ []) s.looks (look_again answers path answer before))
+again_step {answers} {path} {answer} s due before =
+    look_step s due (looks_stay (answers ++ stat path answer ∷ []) s.looks
+    (look_again answers path answer before))
 
 -- whether a path was looked at
 is_some_file : (answer : Option StatAnswer) → (is_some (file_of answer) || is_no_file answer) ≡ is_some answer
 is_some_file (Some (File stamp)) = refl
 is_some_file _ = refl
 
-pub is_looked_is : {answers : List Heard} {roots : List (List ℕ)} {search : SearchFacts} {folder : List ℕ} {rest : List EntryFacts} (path : List ℕ) → IsSearch answers roots search folder rest → is_looked search path ≡ is_some (first_look answers path)
+pub is_looked_is : {answers : List Heard} {roots : List (List ℕ)} {search : SearchFacts} {folder : List ℕ}
+    {rest : List EntryFacts} (path : List ℕ) → IsSearch answers roots search folder rest
+    → is_looked search path ≡ is_some (first_look answers path)
 is_looked_is {answers} {search} path s =
     ap (λ (o : Option StampFacts). is_some o || has search.others path) (s.looks.files path)
     ∙ ap (λ b. is_some (file_of (first_look answers path)) || b) (s.looks.others path)

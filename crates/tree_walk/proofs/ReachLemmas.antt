@@ -10,50 +10,64 @@ use Rattle.tree_walk.specs.Answers.{first_look, look_at}
 use Rattle.tree_walk.specs.Walked.{IsNamed, IsReached, root, entry, IsEntry, IsFolder, IsCandidate, IsDue}
 use Rattle.tree_walk.proofs.AnswerLemmas.{entries_stay, look_stays, place_of_first, look_says}
 
-named_more : {answers : List Heard} (more : List Heard) {folder : List ℕ} {k : EntryKind} {path : List ℕ} → IsNamed answers folder k path → IsNamed (answers ++ more) folder k path
+named_more : {answers : List Heard} (more : List Heard) {folder : List ℕ} {k : EntryKind} {path : List ℕ}
+    → IsNamed answers folder k path → IsNamed (answers ++ more) folder k path
 named_more {answers} more {folder} {k} n = record {
   name = n.name;
   listed = entries_stay answers more folder (record { name = n.name; kind = k }) n.listed;
   joined = n.joined;
 }
 
-pub reached_more : {answers : List Heard} (more : List Heard) {roots : List (List ℕ)} {path : List ℕ} → IsReached answers roots path → IsReached (answers ++ more) roots path
+pub reached_more : {answers : List Heard} (more : List Heard) {roots : List (List ℕ)} {path : List ℕ}
+    → IsReached answers roots path → IsReached (answers ++ more) roots path
 reached_more more (root p c) = root p c
-reached_more {answers} more {roots} (entry folder p k r n) = entry folder p k (reached_more more r) (named_more more n)
+reached_more more (entry folder p k r n) = entry folder p k (reached_more more r) (named_more more n)
 
-pub entry_more : {answers : List Heard} (more : List Heard) {roots : List (List ℕ)} {k : EntryKind} {path : List ℕ} → IsEntry answers roots k path → IsEntry (answers ++ more) roots k path
-entry_more {answers} more {roots} {k} {path} e = record {
+pub entry_more : {answers : List Heard} (more : List Heard) {roots : List (List ℕ)} {k : EntryKind}
+    {path : List ℕ} → IsEntry answers roots k path → IsEntry (answers ++ more) roots k path
+entry_more more e = record {
   folder = e.folder;
   reached = reached_more more e.reached;
   named = named_more more e.named;
 }
 
-pub folder_more : (answers more : List Heard) (roots : List (List ℕ)) (path : List ℕ) → IsFolder answers roots path → IsFolder (answers ++ more) roots path
-folder_more answers more roots path (inl r) = inl (record { root = r.root; folder = look_stays answers more path r.folder })
+pub folder_more : (answers more : List Heard) (roots : List (List ℕ)) (path : List ℕ)
+    → IsFolder answers roots path → IsFolder (answers ++ more) roots path
+folder_more answers more roots path (inl r) =
+    inl (record { root = r.root; folder = look_stays answers more path r.folder })
 folder_more answers more roots path (inr e) = inr (entry_more more e)
 
-pub candidate_more : (answers more : List Heard) (roots : List (List ℕ)) (path : List ℕ) → IsCandidate answers roots path → IsCandidate (answers ++ more) roots path
+pub candidate_more : (answers more : List Heard) (roots : List (List ℕ)) (path : List ℕ)
+    → IsCandidate answers roots path → IsCandidate (answers ++ more) roots path
 candidate_more answers more roots path (inl r) = inl r
 candidate_more answers more roots path (inr e) = inr (entry_more more e)
 
-due_more : (answers more : List Heard) (roots : List (List ℕ)) (h : Heard) → IsDue answers roots h → IsDue (answers ++ more) roots h
+due_more : (answers more : List Heard) (roots : List (List ℕ)) (h : Heard) → IsDue answers roots h
+    → IsDue (answers ++ more) roots h
 due_more answers more roots (load path limit answer) d = d
 due_more answers more roots (stat path answer) d = (candidate_more answers more roots path d.0, d.1)
 due_more answers more roots (read_dir path answer) d = (folder_more answers more roots path d.0, d.1)
 
 -- with one more that was due, all were
-pub due_push : (answers : List Heard) (roots : List (List ℕ)) (h : Heard) → All (IsDue answers roots) answers → IsDue (answers ++ h ∷ []) roots h → All (IsDue (answers ++ h ∷ []) roots) (answers ++ h ∷ [])
+pub due_push : (answers : List Heard) (roots : List (List ℕ)) (h : Heard) → All (IsDue answers roots) answers
+    → IsDue (answers ++ h ∷ []) roots h → All (IsDue (answers ++ h ∷ []) roots) (answers ++ h ∷ [])
 due_push answers roots h due last =
     let later : List Heard = answers ++ h ∷ [] in
-    All-push (IsDue later roots) answers h (All-weaker (IsDue answers roots) (IsDue later roots) (due_more answers (h ∷ []) roots) answers due) last
+    All-push (IsDue later roots) answers h
+    (All-weaker (IsDue answers roots) (IsDue later roots)
+    (due_more answers (h ∷ []) roots) answers due) last
 
 -- a folder is reached
-pub folder_reached : (answers : List Heard) (roots : List (List ℕ)) (path : List ℕ) → IsFolder answers roots path → IsReached answers roots path
+pub folder_reached : (answers : List Heard) (roots : List (List ℕ)) (path : List ℕ)
+    → IsFolder answers roots path → IsReached answers roots path
 folder_reached answers roots path (inl r) = root path r.root
 folder_reached answers roots path (inr e) = entry e.folder path kind.Folder e.reached e.named
 
 -- a look that was answered was due
-pub look_was_due : (answers : List Heard) (roots : List (List ℕ)) → All (IsDue answers roots) answers → (path : List ℕ) {answer : StatAnswer} → first_look answers path ≡ Some answer → IsCandidate answers roots path × IsCanonPath path
-look_was_due answers roots due path {answer} h =
+pub look_was_due : (answers : List Heard) (roots : List (List ℕ)) → All (IsDue answers roots) answers
+    → (path : List ℕ) {answer : StatAnswer} → first_look answers path ≡ Some answer
+    → IsCandidate answers roots path × IsCanonPath path
+look_was_due answers roots due path h =
     let at = place_of_first (look_at path) answers h in
-    subst (IsDue answers roots) (look_says path at.0 at.2).0 (All-contains (IsDue answers roots) answers at.0 due at.1)
+    subst (IsDue answers roots)
+    (look_says path at.0 at.2).0 (All-contains (IsDue answers roots) answers at.0 due at.1)

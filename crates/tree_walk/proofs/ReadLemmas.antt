@@ -1,5 +1,6 @@
 -- What is kept agrees with the answers after a folder was read.
-use Rattle.std.proofs.Common.{◌≡◌, ℕ, ◌+◌, ◌-◌, ◌^◌, ◌⊎◌, inl, inr, min, Bool, true, false, cond, List, [], ◌∷◌, ◌++◌, length, Option, Some, None, All, refl, ◌∙◌, ap, subst, arith}
+use Rattle.std.proofs.Common.{◌≡◌, ℕ, ◌+◌, ◌-◌, ◌^◌, ◌⊎◌, inl, inr, min, Bool, true, false, cond, List, []}
+use Rattle.std.proofs.Common.{◌∷◌, ◌++◌, length, Option, Some, None, All, refl, ◌∙◌, ap, subst, arith}
 use Rattle.std.specs.Prelude.{count_by}
 use Rattle.std.specs.Str.{bytes_eq}
 use Rattle.std.proofs.lemmas.Bool.{false≢true}
@@ -10,7 +11,8 @@ use Rattle.tree_trait.specs.Dir.{DirFacts, child}
 use Rattle.tree_trait.specs.Entry.{has_entry}
 use Rattle.tree_trait.specs.Heard.{Heard, read_dir}
 use Rattle.tree_trait.proofs.EntryLemmas.{bytes_back}
-use Rattle.tree_walk.specs.Answers.{is_dir_answer, first_reading, entries_of, entries_in, times_read, passed_over}
+use Rattle.tree_walk.specs.Answers.{is_dir_answer, first_reading, entries_of, entries_in, times_read}
+use Rattle.tree_walk.specs.Answers.{passed_over}
 use Rattle.tree_walk.specs.Kept.{IsSettled, IsPending, AreSeenTo, AreFolders, IsSearch}
 use Rattle.tree_walk.specs.Search.{SearchFacts, has, with_last}
 use Rattle.tree_walk.specs.Walked.{IsFolder, IsDue}
@@ -26,68 +28,99 @@ pub record IsNextFolder (answers : List Heard) (roots : List (List ℕ)) (path :
   pub kept : IsCanonPath path
   pub unread : first_reading answers path ≡ None
 
-pub next_folder : {answers : List Heard} {roots known : List (List ℕ)} (todo : List (List ℕ)) (path : List ℕ) → AreFolders answers roots known (todo ++ path ∷ []) → IsNextFolder answers roots path
+pub next_folder : {answers : List Heard} {roots known : List (List ℕ)} (todo : List (List ℕ)) (path : List ℕ)
+    → AreFolders answers roots known (todo ++ path ∷ []) → IsNextFolder answers roots path
 next_folder {answers} {roots} {known} todo path f =
     let push = sum_by_push (λ (q : List ℕ). one_if (bytes_eq path q)) todo path in
     let one : one_if (bytes_eq path path) ≡ 1 = ap one_if ((bytes_eq-Decides path path).1 refl) in
     elim (has known path) as (λ v. has known path ≡ v → IsNextFolder answers roots path) [
       | true ↦ λ e.
-          let all : times_read answers path + count_by (bytes_eq path) (todo ++ path ∷ []) ≡ 1 = f.counts path ∙ ap one_if e in
-          record { is_folder = (f.due path e).0; kept = (f.due path e).1; unread = unread answers path (omega (arith, push, one, all)) }
+          let all : times_read answers path + count_by (bytes_eq path) (todo ++ path ∷ []) ≡ 1 =
+          f.counts path ∙ ap one_if e in
+          record {
+            is_folder = (f.due path e).0;
+            kept = (f.due path e).1;
+            unread = unread answers path (omega (arith, push, one, all));
+          }
       | false ↦ λ e.
-          let all : times_read answers path + count_by (bytes_eq path) (todo ++ path ∷ []) ≡ 0 = f.counts path ∙ ap one_if e in
+          let all : times_read answers path + count_by (bytes_eq path) (todo ++ path ∷ []) ≡ 0 =
+          f.counts path ∙ ap one_if e in
           absurd (omega (arith, push, one, all))
     ] refl
 
 -- its reading is due
-pub reading_due : {answers : List Heard} {roots : List (List ℕ)} (search : SearchFacts) (path : List ℕ) (answer : DirFacts) → IsSearch answers roots (with_last search path) [] [] → IsDue (answers ++ read_dir path answer ∷ []) roots (read_dir path answer)
+pub reading_due : {answers : List Heard} {roots : List (List ℕ)} (search : SearchFacts) (path : List ℕ)
+    (answer : DirFacts) → IsSearch answers roots (with_last search path) [] []
+    → IsDue (answers ++ read_dir path answer ∷ []) roots (read_dir path answer)
 reading_due {answers} {roots} search path answer s =
     let next = next_folder search.todo path s.known in
     (folder_more answers (read_dir path answer ∷ []) roots path next.is_folder, next.kept)
 
-pub read_due : {answers : List Heard} {roots : List (List ℕ)} (search : SearchFacts) (path : List ℕ) (answer : DirFacts) → IsSearch answers roots (with_last search path) [] [] → All (IsDue (answers ++ read_dir path answer ∷ []) roots) (answers ++ read_dir path answer ∷ [])
-read_due {answers} {roots} search path answer s = due_push answers roots (read_dir path answer) s.asked.due (reading_due search path answer s)
+pub read_due : {answers : List Heard} {roots : List (List ℕ)} (search : SearchFacts) (path : List ℕ)
+    (answer : DirFacts) → IsSearch answers roots (with_last search path) [] []
+    → All (IsDue (answers ++ read_dir path answer ∷ []) roots) (answers ++ read_dir path answer ∷ [])
+read_due {answers} {roots} search path answer s =
+    due_push answers roots (read_dir path answer) s.asked.due (reading_due search path answer s)
 
 -- it is one of the folders that were read
-pub folders_read : {answers : List Heard} {roots known : List (List ℕ)} (todo : List (List ℕ)) (path : List ℕ) (answer : DirFacts) → AreFolders answers roots known (todo ++ path ∷ []) → AreFolders (answers ++ read_dir path answer ∷ []) roots known todo
+pub folders_read : {answers : List Heard} {roots known : List (List ℕ)} (todo : List (List ℕ)) (path : List ℕ)
+    (answer : DirFacts) → AreFolders answers roots known (todo ++ path ∷ [])
+    → AreFolders (answers ++ read_dir path answer ∷ []) roots known todo
 folders_read {answers} {roots} {known} todo path answer f = record {
   due = λ p h. (folder_more answers (read_dir path answer ∷ []) roots p (f.due p h).0, (f.due p h).1);
   counts = λ p.
       let push = sum_by_push (λ (q : List ℕ). one_if (bytes_eq p q)) todo path in
       let times = times_after_reading answers path answer p in
       let turned : one_if (bytes_eq path p) ≡ one_if (bytes_eq p path) = ap one_if (bytes_back path p) in
-      let all : times_read answers p + count_by (bytes_eq p) (todo ++ path ∷ []) ≡ one_if (has known p) = f.counts p in
+      let all : times_read answers p + count_by (bytes_eq p) (todo ++ path ∷ []) ≡ one_if (has known p) =
+      f.counts p in
       omega (arith, push, times, turned, all);
 }
 
 -- its entries are those of the answer
-pub read_entries : {answers : List Heard} {roots : List (List ℕ)} (search : SearchFacts) (path : List ℕ) (answer : DirFacts) → IsSearch answers roots (with_last search path) [] [] → is_dir_answer answer ≡ true → entries_in (answers ++ read_dir path answer ∷ []) path ≡ entries_of (Some answer)
-read_entries {answers} {roots} search path answer s ok =
+pub read_entries : {answers : List Heard} {roots : List (List ℕ)} (search : SearchFacts) (path : List ℕ)
+    (answer : DirFacts) → IsSearch answers roots (with_last search path) [] [] → is_dir_answer answer ≡ true
+    → entries_in (answers ++ read_dir path answer ∷ []) path ≡ entries_of (Some answer)
+read_entries {answers} search path answer s ok =
     ap entries_of (after_reading answers path answer ok (next_folder search.todo path s.known).unread path
     ∙ ap (λ (b : Bool). cond b (Some answer) (first_reading answers path)) ((same-Decides path path).1 refl))
 
 -- they are still to be seen to, and all others were
-seen_read : {answers : List Heard} {known long : List (List ℕ)} (path : List ℕ) (answer : DirFacts) → AreSeenTo answers known long [] [] → is_dir_answer answer ≡ true → first_reading answers path ≡ None
+seen_read : {answers : List Heard} {known long : List (List ℕ)} (path : List ℕ) (answer : DirFacts)
+    → AreSeenTo answers known long [] [] → is_dir_answer answer ≡ true → first_reading answers path ≡ None
     → AreSeenTo (answers ++ read_dir path answer ∷ []) known long path (entries_of (Some answer))
 seen_read {answers} {known} {long} path answer seen ok fresh =
     let more : List Heard = read_dir path answer ∷ [] in
     record {
       each = λ at entry h.
-          elim (same at path) as (λ v. same at path ≡ v → has_entry (entries_of (cond v (Some answer) (first_reading answers at))) entry ≡ true
-          → IsSettled (answers ++ more) known long (child at entry.name) entry.kind ⊎ IsPending path (entries_of (Some answer)) at entry) [
+          elim (same at path) as (λ v. same at path ≡ v
+          → has_entry (entries_of (cond v (Some answer) (first_reading answers at))) entry ≡ true
+          → IsSettled (answers ++ more) known long (child at entry.name) entry.kind ⊎ IsPending path
+          (entries_of (Some answer)) at entry) [
             | true ↦ λ e t. inr (record { here = (same-Decides at path).0 e; among = t })
             | false ↦ λ e t. elim (seen.each at entry t) [
-              | inl done ↦ inl (settled_more {answers = answers} {later = answers ++ more} (child at entry.name) entry.kind (record { folders = λ p f. f; too_long = λ p f. f; looks = λ p f. looked_stays answers more p f }) done)
+              | inl done ↦ inl (settled_more {answers = answers} {later = answers ++ more}
+                  (child at entry.name) entry.kind
+                  (record {
+                    folders = λ p f. f;
+                    too_long = λ p f. f;
+                    looks = λ p f. looked_stays answers more p f;
+                  }) done)
               | inr pending ↦ absurd (false≢true pending.among)
             ]
-          ] refl (subst (λ (o : Option DirFacts). has_entry (entries_of o) entry ≡ true) (after_reading answers path answer ok fresh at) h);
+          ] refl (subst (λ (o : Option DirFacts). has_entry (entries_of o) entry ≡ true)
+          (after_reading answers path answer ok fresh at) h);
     }
 
 -- the reading of that folder
-pub read_step : {answers : List Heard} {roots : List (List ℕ)} (search : SearchFacts) (path : List ℕ) (answer : DirFacts) {left skipped : ℕ} → IsSearch answers roots (with_last search path) [] [] → is_dir_answer answer ≡ true
-    → left + length (entries_of (Some answer)) ≡ search.left → skipped ≡ min (search.skipped + passed_over (read_dir path answer)) (2 ^ 64 - 1)
-    → IsSearch (answers ++ read_dir path answer ∷ []) roots (record search { left = left; skipped = skipped }) path (entries_of (Some answer))
-read_step {answers} {roots} search path answer s ok paid passed = record {
+pub read_step : {answers : List Heard} {roots : List (List ℕ)} (search : SearchFacts) (path : List ℕ)
+    (answer : DirFacts) {left skipped : ℕ} → IsSearch answers roots (with_last search path) [] []
+    → is_dir_answer answer ≡ true
+    → left + length (entries_of (Some answer)) ≡ search.left
+    → skipped ≡ min (search.skipped + passed_over (read_dir path answer)) (2 ^ 64 - 1)
+    → IsSearch (answers ++ read_dir path answer ∷ []) roots
+    (record search { left = left; skipped = skipped }) path (entries_of (Some answer))
+read_step search path answer s ok paid passed = record {
   looks = looks_past_reading path answer s.looks;
   asked = answered_push (read_dir path answer) s.asked (reading_due search path answer s) ok (λ p r e. cc);
   known = folders_read search.todo path answer s.known;

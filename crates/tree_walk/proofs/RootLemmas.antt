@@ -1,5 +1,7 @@
 -- The roots, as they are looked at one after the other.
-use Rattle.std.proofs.Common.{◌≡◌, ℕ, ◌+◌, inl, inr, Bool, true, false, cond, List, [], ◌∷◌, ◌++◌, length, Some, None, is_some, IsSome, Result, MatchResult, Contains, refl, sym, ◌∙◌, ap, subst}
+use Rattle.std.proofs.Common.{◌≡◌, ℕ, ◌+◌, inl, inr, Bool, true, false, cond, List, [], ◌∷◌, ◌++◌, length}
+use Rattle.std.proofs.Common.{Some, None, is_some, IsSome, Result, MatchResult, Contains, refl, sym, ◌∙◌, ap}
+use Rattle.std.proofs.Common.{subst}
 use Rattle.std.specs.Prelude.{if◌then◌else◌}
 use Rattle.std.proofs.lemmas.Bool.{false≢true, and_from}
 use Rattle.std.proofs.lemmas.List.{length_push}
@@ -24,26 +26,36 @@ use Rattle.tree_walk.proofs.EntrySteps.{folder_step, folder_known, folder_stays}
 use Rattle.tree_walk.proofs.LookLemmas.{IsLookDue, note_step, again_step, is_looked_is}
 
 -- something is there where the look was answered and didn't say otherwise
-there_from_answer : (answer : StatAnswer) → is_look_answer answer ≡ true → (answer ≡ Gone → ⊥) → is_found answer ≡ true
+there_from_answer : (answer : StatAnswer) → is_look_answer answer ≡ true → (answer ≡ Gone → ⊥)
+    → is_found answer ≡ true
 there_from_answer Gone ok there = absurd (there refl)
 there_from_answer Failed ok there = absurd (false≢true ok)
 there_from_answer OutOfMemory ok there = absurd (false≢true ok)
 there_from_answer _ ok there = refl
 
 -- what a root's first look makes of the search
-record IsRootNoted (answers : List Heard) (roots : List (List ℕ)) (search next : SearchFacts) (path : List ℕ) : Type 0 where
+record IsRootNoted (answers : List Heard) (roots : List (List ℕ)) (search next : SearchFacts)
+    (path : List ℕ) : Type 0 where
   search_is : IsSearch answers roots next [] []
   keeps : (p : List ℕ) → has search.folders p ≡ true → has next.folders p ≡ true
   adds : first_look answers path ≡ Some Folder → has next.folders path ≡ true
 
-root_noted : {answers : List Heard} {roots : List (List ℕ)} (search : SearchFacts) {path : List ℕ} (answer : StatAnswer) → Contains roots path → IsCanonPath path → first_look answers path ≡ Some answer → IsSearch answers roots (noted search path answer) [] []
+root_noted : {answers : List Heard} {roots : List (List ℕ)} (search : SearchFacts) {path : List ℕ}
+    (answer : StatAnswer) → Contains roots path → IsCanonPath path → first_look answers path ≡ Some answer
+    → IsSearch answers roots (noted search path answer) [] []
     → IsRootNoted answers roots search (with_root search path answer) path
 root_noted search {path} Folder r kept here s = record {
   search_is = folder_step s (inl (record { root = r; folder = here })) kept;
   keeps = λ p h. folder_stays (noted search path Folder) path p h;
   adds = λ h. folder_known (noted search path Folder) path;
 }
-root_noted search answer r kept here s = record { search_is = s; keeps = λ p h. h; adds = λ h. let e : Some answer ≡ Some Folder = sym here ∙ h in cc }
+root_noted search answer r kept here s =
+    record {
+      search_is = s;
+      keeps = λ p h. h;
+      adds = λ h. let e : Some answer ≡ Some Folder = sym here ∙ h in
+          cc;
+    }
 
 -- what a look at a root makes of the search
 record IsRootStep (answers : List Heard) (roots seen : List (List ℕ)) (search : SearchFacts) : Type 0 where
@@ -51,72 +63,107 @@ record IsRootStep (answers : List Heard) (roots seen : List (List ℕ)) (search 
   looked : AreLooked answers roots seen search
 
 -- one more root was looked at
-looked_push : {answers : List Heard} {roots seen : List (List ℕ)} {search next : SearchFacts} (path : List ℕ) (answer : StatAnswer) → AreLooked answers roots seen search → is_look_answer answer ≡ true
-    → ((p : List ℕ) → Contains roots p → first_look (answers ++ stat path answer ∷ []) p ≡ Some Folder → has next.folders p ≡ true)
+looked_push : {answers : List Heard} {roots seen : List (List ℕ)} {search next : SearchFacts} (path : List ℕ)
+    (answer : StatAnswer) → AreLooked answers roots seen search → is_look_answer answer ≡ true
+    → ((p : List ℕ) → Contains roots p → first_look (answers ++ stat path answer ∷ []) p ≡ Some Folder
+    → has next.folders p ≡ true)
     → AreLooked (answers ++ stat path answer ∷ []) roots (seen ++ path ∷ []) next
-looked_push {answers} {roots} {seen} path answer looked ok folders =
+looked_push {answers} {seen} path answer looked ok folders =
     let more : List Heard = stat path answer ∷ [] in
     record {
       looked = λ p c. elim (Contains-push_cases seen path p c) [
         | inl before ↦ looked_stays answers more p (looked.looked p before)
-        | inr one ↦ subst (λ (q : List ℕ). IsSome (first_look (answers ++ more) q)) one (looked_now answers path answer ok)
+        | inr one ↦ subst (λ (q : List ℕ). IsSome (first_look (answers ++ more) q)) one
+            (looked_now answers path answer ok)
       ];
       folders = folders;
     }
 
-root_new : {answers : List Heard} {roots seen : List (List ℕ)} {search next : SearchFacts} {path : List ℕ} {answer : StatAnswer} → AreLooked answers roots seen search → IsLookDue answers roots path answer → first_look answers path ≡ None
-    → IsRootNoted (answers ++ stat path answer ∷ []) roots search next path → IsRootStep (answers ++ stat path answer ∷ []) roots (seen ++ path ∷ []) next
+root_new : {answers : List Heard} {roots seen : List (List ℕ)} {search next : SearchFacts} {path : List ℕ}
+    {answer : StatAnswer} → AreLooked answers roots seen search → IsLookDue answers roots path answer
+    → first_look answers path ≡ None
+    → IsRootNoted (answers ++ stat path answer ∷ []) roots search next path
+    → IsRootStep (answers ++ stat path answer ∷ []) roots (seen ++ path ∷ []) next
 root_new {answers} {next} {path} {answer} looked due fresh noted_root = record {
   search_is = noted_root.search_is;
   looked = looked_push path answer looked due.answered
       (λ p r h. elim (same p path) as (λ v. same p path ≡ v → has next.folders p ≡ true) [
         | true ↦ λ e.
             let one : p ≡ path = (same-Decides p path).0 e in
-            subst (λ (q : List ℕ). has next.folders q ≡ true) (sym one) (noted_root.adds (subst (λ (q : List ℕ). first_look (answers ++ stat path answer ∷ []) q ≡ Some Folder) one h))
-        | false ↦ λ e. noted_root.keeps p (looked.folders p r (sym (after_look answers path answer due.answered fresh p ∙ ap (λ (b : Bool). cond b (Some answer) (first_look answers p)) e) ∙ h))
+            subst (λ (q : List ℕ). has next.folders q ≡ true) (sym one)
+            (noted_root.adds (subst (λ (q : List ℕ). first_look
+            (answers ++ stat path answer ∷ []) q ≡ Some Folder) one h))
+        | false ↦ λ e. noted_root.keeps p
+            (looked.folders p r (sym
+            (after_look answers path answer due.answered fresh p
+            ∙ ap (λ (b : Bool). cond b (Some answer) (first_look answers p)) e) ∙ h))
       ] refl);
 }
 
-root_step : {answers : List Heard} {roots seen : List (List ℕ)} {search : SearchFacts} {path : List ℕ} {answer : StatAnswer}
-    → IsSearch answers roots search [] [] → AreLooked answers roots seen search → Contains roots path → IsLookDue answers roots path answer
-    → IsRootStep (answers ++ stat path answer ∷ []) roots (seen ++ path ∷ []) (with_new_root search path answer)
+root_step : {answers : List Heard} {roots seen : List (List ℕ)} {search : SearchFacts} {path : List ℕ}
+    {answer : StatAnswer}
+    → IsSearch answers roots search [] [] → AreLooked answers roots seen search → Contains roots path
+    → IsLookDue answers roots path answer
+    → IsRootStep (answers ++ stat path answer ∷ []) roots (seen ++ path ∷ [])
+    (with_new_root search path answer)
 root_step {answers} {roots} {seen} {search} {path} {answer} s looked r due =
     let later : List Heard = answers ++ stat path answer ∷ [] in
     let asked : is_looked search path ≡ is_some (first_look answers path) = is_looked_is path s in
-    elim (first_look answers path) as (λ o. first_look answers path ≡ o → IsRootStep later roots (seen ++ path ∷ []) (with_new_root search path answer)) [
+    elim (first_look answers path) as (λ o. first_look answers path ≡ o
+    → IsRootStep later roots (seen ++ path ∷ []) (with_new_root search path answer)) [
       | None ↦ λ e.
-          let noted_root = root_noted search answer r due.kept (look_here answers path answer due.answered e) (note_step s due e) in
-          subst (λ (b : Bool). IsRootStep later roots (seen ++ path ∷ []) (if b then search else with_root search path answer)) (sym (asked ∙ ap is_some e)) (root_new looked due e noted_root)
+          let noted_root = root_noted search answer r due.kept (look_here answers path answer due.answered e)
+          (note_step s due e) in
+          subst (λ (b : Bool). IsRootStep later roots (seen ++ path ∷ [])
+          (if b then search else with_root search path answer)) (sym (asked ∙ ap is_some e))
+          (root_new looked due e noted_root)
       | Some known ↦ λ e.
-          subst (λ (b : Bool). IsRootStep later roots (seen ++ path ∷ []) (if b then search else with_root search path answer)) (sym (asked ∙ ap is_some e))
-          (record { search_is = again_step s due e; looked = looked_push path answer looked due.answered (λ p c h. looked.folders p c (sym (look_again answers path answer e p) ∙ h)) })
+          subst (λ (b : Bool). IsRootStep later roots (seen ++ path ∷ [])
+          (if b then search else with_root search path answer)) (sym (asked ∙ ap is_some e))
+          (record {
+            search_is = again_step s due e;
+            looked = looked_push path answer looked due.answered
+                (λ p c h. looked.folders p c (sym (look_again answers path answer e p) ∙ h));
+          })
     ] refl
 
 -- how a look at a root that is there ends
-pub root_ends : {V : Type 0} {answers more : List Heard} {roots seen : List (List ℕ)} {search : SearchFacts} {path : List ℕ} {answer : StatAnswer} (result : Result V WalkFault) (now : SearchFacts) (after : List (List ℕ))
-    → IsBeginning answers roots seen search → roots ≡ seen ++ path ∷ after → IsCanonPath path → IsLook path more answer → (answer ≡ Gone → ⊥) → Adds (with_new_root search path answer) now result
-    → MatchResult result (λ _. IsBeginning (answers ++ more) roots (seen ++ path ∷ []) now) (IsCause (answers ++ more) roots)
-root_ends {V} {answers} {more} {roots} {seen} {search} {path} {answer} result now after b split kept look there added =
+pub root_ends : {V : Type 0} {answers more : List Heard} {roots seen : List (List ℕ)} {search : SearchFacts}
+    {path : List ℕ} {answer : StatAnswer} (result : Result V WalkFault) (now : SearchFacts)
+    (after : List (List ℕ))
+    → IsBeginning answers roots seen search → roots ≡ seen ++ path ∷ after → IsCanonPath path
+    → IsLook path more answer → (answer ≡ Gone → ⊥) → Adds (with_new_root search path answer) now result
+    → MatchResult result (λ _. IsBeginning (answers ++ more) roots (seen ++ path ∷ []) now)
+    (IsCause (answers ++ more) roots)
+root_ends {answers} {roots} {seen} {search} {path} {answer} result now after b split kept look there added =
     let r : Contains roots path = root_among seen after path split in
-    let due : IsLookDue answers roots path answer = record { candidate = inl r; kept = kept; answered = look.answered; there = λ _. there } in
+    let due : IsLookDue answers roots path answer =
+    record { candidate = inl r; kept = kept; answered = look.answered; there = λ _. there } in
     let step = root_step b.search_is b.looked r due in
     let e : length b.given ≡ length seen = b.each in
-    subst (λ (m : List Heard). MatchResult result (λ _. IsBeginning (answers ++ m) roots (seen ++ path ∷ []) now) (IsCause (answers ++ m) roots)) (sym look.heard)
-    (adds_ends result (with_new_root search path answer) now (λ next. IsBeginning (answers ++ stat path answer ∷ []) roots (seen ++ path ∷ []) next) added
+    subst (λ (m : List Heard). MatchResult result
+    (λ _. IsBeginning (answers ++ m) roots (seen ++ path ∷ []) now) (IsCause (answers ++ m) roots))
+    (sym look.heard)
+    (adds_ends result (with_new_root search path answer) now
+    (λ next. IsBeginning (answers ++ stat path answer ∷ []) roots (seen ++ path ∷ []) next) added
     (λ few. record {
       search_is = step.search_is;
       few = few;
       looked = step.looked;
       given = b.given ++ answer ∷ [];
       each = length_push b.given answer ∙ ap (λ (n : ℕ). n + 1) e ∙ sym (length_push seen path);
-      there = list_all-append is_found b.given (answer ∷ []) ∙ and_from _ _ b.there (and_from _ true (there_from_answer answer look.answered there) refl);
-      first = ap (λ (h : List Heard). h ++ stat path answer ∷ []) b.first ∙ sym (looks_next seen [] b.given path answer b.each);
+      there = list_all-append is_found b.given (answer ∷ [])
+          ∙ and_from _ _ b.there (and_from _ true (there_from_answer answer look.answered there) refl);
+      first = ap (λ (h : List Heard). h ++ stat path answer ∷ []) b.first
+          ∙ sym (looks_next seen [] b.given path answer b.each);
     })
     (λ many. too_many_is (root_last after answer b split kept tt) step.search_is many))
 
 -- nothing is at a root
-pub root_gone : {answers more : List Heard} {roots seen : List (List ℕ)} {search : SearchFacts} {path : List ℕ} (after : List (List ℕ)) → IsBeginning answers roots seen search → roots ≡ seen ++ path ∷ after → more ≡ stat path Gone ∷ [] → IsRootGone (answers ++ more) roots path
-root_gone {answers} {more} {roots} {seen} {search} {path} after b split heard = record {
+pub root_gone : {answers more : List Heard} {roots seen : List (List ℕ)} {search : SearchFacts}
+    {path : List ℕ} (after : List (List ℕ)) → IsBeginning answers roots seen search
+    → roots ≡ seen ++ path ∷ after → more ≡ stat path Gone ∷ [] → IsRootGone (answers ++ more) roots path
+root_gone {answers} {roots} {seen} {path} after b split heard = record {
   before = seen;
   after = after;
   given = b.given;
@@ -124,5 +171,6 @@ root_gone {answers} {more} {roots} {seen} {search} {path} after b split heard = 
   each = b.each;
   there = b.there;
   room = subst (λ (h : List Heard). IsWithinLimits h roots) b.first (room_is b.search_is b.few);
-  heard = ap (λ (m : List Heard). answers ++ m) heard ∙ ap (λ (h : List Heard). h ++ stat path Gone ∷ []) b.first;
+  heard = ap (λ (m : List Heard). answers ++ m) heard
+      ∙ ap (λ (h : List Heard). h ++ stat path Gone ∷ []) b.first;
 }

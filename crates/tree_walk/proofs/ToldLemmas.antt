@@ -18,7 +18,8 @@ use Rattle.tree_trait.specs.Stat.{TellsStat}
 use Rattle.tree_trait.specs.declared.entry.EntryKind.TheVariants as kind
 use Rattle.tree_trait.specs.declared.stat.StatAnswer.{StatAnswer}
 use Rattle.tree_trait.specs.declared.stat.StatAnswer.TheVariants.{Folder, File, Other, Gone}
-use Rattle.tree_walk.specs.Answers.{is_look_answer, is_dir_answer, look_at, reading_of, first_look, first_reading, entries_of, entries_in}
+use Rattle.tree_walk.specs.Answers.{is_look_answer, is_dir_answer, look_at, reading_of, first_look}
+use Rattle.tree_walk.specs.Answers.{first_reading, entries_of, entries_in}
 use Rattle.row_types.specs.Under.{is_within}
 use Rattle.tree_trait.specs.Asks.{IsTold}
 use Rattle.tree_walk.specs.Walked.{IsReached, root, entry, IsCandidate}
@@ -27,46 +28,67 @@ use Rattle.tree_walk.proofs.PathLemmas.{within_child}
 use Rattle.tree_walk.proofs.ElementLemmas.{any_from_Contains, any_more}
 
 -- what the answers say of the tree
-pub told_look : (present : List NameFacts) (answers : List Heard) → All (IsTold present) answers → (path : List ℕ) {answer : StatAnswer} → first_look answers path ≡ Some answer → TellsStat present path answer × (is_look_answer answer ≡ true)
-told_look present answers told path {answer} h =
+pub told_look : (present : List NameFacts) (answers : List Heard) → All (IsTold present) answers
+    → (path : List ℕ) {answer : StatAnswer} → first_look answers path ≡ Some answer
+    → TellsStat present path answer × (is_look_answer answer ≡ true)
+told_look present answers told path h =
     let at = place_of_first (look_at path) answers h in
     let says = look_says path at.0 at.2 in
     (subst (IsTold present) says.0 (All-contains (IsTold present) answers at.0 told at.1), says.1)
 
-told_reading : (present : List NameFacts) (answers : List Heard) → All (IsTold present) answers → (path : List ℕ) {answer : DirFacts} → first_reading answers path ≡ Some answer → TellsDir present path answer × (is_dir_answer answer ≡ true)
-told_reading present answers told path {answer} h =
+told_reading : (present : List NameFacts) (answers : List Heard) → All (IsTold present) answers
+    → (path : List ℕ) {answer : DirFacts} → first_reading answers path ≡ Some answer
+    → TellsDir present path answer × (is_dir_answer answer ≡ true)
+told_reading present answers told path h =
     let at = place_of_first (reading_of path) answers h in
     let says = reading_says path at.0 at.2 in
     (subst (IsTold present) says.0 (All-contains (IsTold present) answers at.0 told at.1), says.1)
 
 -- a look at a file finds it
-pub look_finds : (present : List NameFacts) (path : List ℕ) {stamp : StampFacts} (answer : StatAnswer) → stamp_at present path ≡ Some stamp → TellsStat present path answer → is_look_answer answer ≡ true → answer ≡ File stamp
+pub look_finds : (present : List NameFacts) (path : List ℕ) {stamp : StampFacts} (answer : StatAnswer)
+    → stamp_at present path ≡ Some stamp → TellsStat present path answer → is_look_answer answer ≡ true
+    → answer ≡ File stamp
 look_finds present path {stamp} Folder at t ok = absurd (none-some stamp (sym t.no_file ∙ at))
-look_finds present path {stamp} (File found) at t ok = ap (λ (s : StampFacts). File s) (same_Some found stamp (sym t ∙ at))
+look_finds present path {stamp} (File found) at t ok =
+    ap (λ (s : StampFacts). File s) (same_Some found stamp (sym t ∙ at))
 look_finds present path {stamp} Gone at t ok = absurd (none-some stamp (sym t.no_file ∙ at))
 look_finds present path Other at t ok = absurd t
 look_finds present path _ at t ok = absurd (false≢true ok)
 
 -- what lies under the reached paths lies under a root
-pub reached_within : {answers : List Heard} {roots : List (List ℕ)} {path : List ℕ} → IsReached answers roots path → list_any (λ r. is_within r path) roots ≡ true
-reached_within {roots} {path} (root p c) = any_from_Contains (λ r. is_within r path) roots path c (or_left (bytes_eq path path) (lies_under path path) ((bytes_eq-Decides path path).1 refl))
-reached_within {answers} {roots} (entry folder p k r n) =
+pub reached_within : {answers : List Heard} {roots : List (List ℕ)} {path : List ℕ}
+    → IsReached answers roots path → list_any (λ r. is_within r path) roots ≡ true
+reached_within {roots} {path} (root p c) =
+    any_from_Contains (λ r. is_within r path) roots path c
+    (or_left (bytes_eq path path) (lies_under path path) ((bytes_eq-Decides path path).1 refl))
+reached_within {roots} (entry folder p k r n) =
     subst (λ (q : List ℕ). list_any (λ z. is_within z q) roots ≡ true) (sym n.joined)
-    (any_more (λ z. is_within z folder) (λ z. is_within z (child folder n.name)) roots (λ z h. within_child z folder n.name h) (reached_within r))
+    (any_more (λ z. is_within z folder)
+    (λ z. is_within z (child folder n.name)) roots (λ z h. within_child z folder n.name h)
+    (reached_within r))
 
-pub candidate_within : (answers : List Heard) (roots : List (List ℕ)) (path : List ℕ) → IsCandidate answers roots path → list_any (λ r. is_within r path) roots ≡ true
+pub candidate_within : (answers : List Heard) (roots : List (List ℕ)) (path : List ℕ)
+    → IsCandidate answers roots path → list_any (λ r. is_within r path) roots ≡ true
 candidate_within answers roots path (inl r) = reached_within {answers = answers} (root path r)
 candidate_within answers roots path (inr e) = reached_within (entry e.folder path kind.File e.reached e.named)
 
 -- a folder's entries are those that stand there
-entries_told : (present : List NameFacts) (folder : List ℕ) (answer : DirFacts) (e : EntryFacts) → TellsDir present folder answer → is_dir_answer answer ≡ true → is_folder present folder ≡ true → is_entry_name e.name ≡ true → is_there present folder e ≡ true → has_entry (entries_of (Some answer)) e ≡ true
+entries_told : (present : List NameFacts) (folder : List ℕ) (answer : DirFacts) (e : EntryFacts)
+    → TellsDir present folder answer → is_dir_answer answer ≡ true → is_folder present folder ≡ true
+    → is_entry_name e.name ≡ true → is_there present folder e ≡ true
+    → has_entry (entries_of (Some answer)) e ≡ true
 entries_told present folder (listed entries skipped) e t ok some valid there = t.listing.all e valid there
 entries_told present folder no_dir e t ok some valid there = absurd (false≢true (sym t ∙ some))
 entries_told present folder _ e t ok some valid there = absurd (false≢true ok)
 
-pub named_told : (present : List NameFacts) (answers : List Heard) (folder : List ℕ) (e : EntryFacts) → All (IsTold present) answers → IsSome (first_reading answers folder) → is_folder present folder ≡ true → is_entry_name e.name ≡ true → is_there present folder e ≡ true → has_entry (entries_in answers folder) e ≡ true
+pub named_told : (present : List NameFacts) (answers : List Heard) (folder : List ℕ) (e : EntryFacts)
+    → All (IsTold present) answers → IsSome (first_reading answers folder) → is_folder present folder ≡ true
+    → is_entry_name e.name ≡ true → is_there present folder e ≡ true
+    → has_entry (entries_in answers folder) e ≡ true
 named_told present answers folder e told read some valid there =
-    elim (first_reading answers folder) as (λ o. first_reading answers folder ≡ o → IsSome o → has_entry (entries_of o) e ≡ true) [
+    elim (first_reading answers folder) as (λ o. first_reading answers folder ≡ o → IsSome o
+    → has_entry (entries_of o) e ≡ true) [
       | None ↦ λ h r. absurd (false≢true r)
-      | Some answer ↦ λ h r. let says = told_reading present answers told folder h in entries_told present folder answer e says.0 says.1 some valid there
+      | Some answer ↦ λ h r. let says = told_reading present answers told folder h in
+          entries_told present folder answer e says.0 says.1 some valid there
     ] refl read

@@ -1,5 +1,6 @@
 -- A walk that is underway goes on.
-use Rattle.std.proofs.Common.{◌≡◌, ℕ, ◌+◌, ◌≤◌, ◌<◌, inl, inr, Bool, true, List, [], ◌∷◌, ◌++◌, length, Some, None, IsSome, MatchBool, refl, sym, ◌∙◌, ap, subst, drop, get_or}
+use Rattle.std.proofs.Common.{◌≡◌, ℕ, ◌+◌, ◌≤◌, ◌<◌, inl, inr, Bool, true, List, [], ◌∷◌, ◌++◌, length, Some}
+use Rattle.std.proofs.Common.{None, IsSome, MatchBool, refl, sym, ◌∙◌, ap, subst, drop, get_or}
 use Rattle.std.proofs.lemmas.Bool.{false≢true, lt-ltb, le-ltb}
 use Rattle.std.proofs.lemmas.List.{drop_more}
 use Rattle.std.proofs.lemmas.List.Folds.{list_any_at}
@@ -21,16 +22,21 @@ use Rattle.tree_trait.proofs.EntryLemmas.{entry_itself}
 use Rattle.tree_walk.proofs.AnswerLemmas.{looked_stays, look_stays, entries_stay}
 use Rattle.tree_walk.proofs.ReachLemmas.{reached_more}
 use Rattle.tree_walk.proofs.LastLemmas.{begins_more}
-use Rattle.tree_walk.proofs.EntrySteps.{folder_step, folder_known, folder_stays, folder_files, long_step, long_known, entry_step, with_pending}
+use Rattle.tree_walk.proofs.EntrySteps.{folder_step, folder_known, folder_stays, folder_files, long_step}
+use Rattle.tree_walk.proofs.EntrySteps.{long_known, entry_step, with_pending}
 
 -- the roots stay looked at
-still_looked : {answers : List Heard} (more : List Heard) {roots : List (List ℕ)} {search : SearchFacts} (next : SearchFacts) → AreLooked answers roots roots search → ((path : List ℕ) → has search.folders path ≡ true → has next.folders path ≡ true) → AreLooked (answers ++ more) roots roots next
+still_looked : {answers : List Heard} (more : List Heard) {roots : List (List ℕ)} {search : SearchFacts}
+    (next : SearchFacts) → AreLooked answers roots roots search
+    → ((path : List ℕ) → has search.folders path ≡ true → has next.folders path ≡ true)
+    → AreLooked (answers ++ more) roots roots next
 still_looked {answers} more next looked grows = record {
   looked = λ p c. looked_stays answers more p (looked.looked p c);
   folders = λ p c h. grows p (looked.folders p c (before p (looked.looked p c) h));
 }
   where
-    before : (p : List ℕ) → IsSome (first_look answers p) → first_look (answers ++ more) p ≡ Some Folder → first_look answers p ≡ Some Folder
+    before : (p : List ℕ) → IsSome (first_look answers p) → first_look (answers ++ more) p ≡ Some Folder
+        → first_look answers p ≡ Some Folder
     before p some h =
         elim (first_look answers p) as (λ o. first_look answers p ≡ o → IsSome o → o ≡ Some Folder) [
           | None ↦ λ e s. absurd (false≢true s)
@@ -38,8 +44,13 @@ still_looked {answers} more next looked grows = record {
         ] refl some
 
 -- a walk goes on
-pub underway_more : {answers : List Heard} (more : List Heard) {roots : List (List ℕ)} {search next : SearchFacts} {folder to : List ℕ} {rest left : List EntryFacts} → IsUnderway answers roots search folder rest → IsSearch (answers ++ more) roots next to left → length next.files ≤ LISTING_LIMIT → ((path : List ℕ) → has search.folders path ≡ true → has next.folders path ≡ true) → IsUnderway (answers ++ more) roots next to left
-underway_more {answers} more {roots} {search} {next} u s few grows = record {
+pub underway_more : {answers : List Heard} (more : List Heard) {roots : List (List ℕ)}
+    {search next : SearchFacts} {folder to : List ℕ} {rest left : List EntryFacts}
+    → IsUnderway answers roots search folder rest → IsSearch (answers ++ more) roots next to left
+    → length next.files ≤ LISTING_LIMIT
+    → ((path : List ℕ) → has search.folders path ≡ true → has next.folders path ≡ true)
+    → IsUnderway (answers ++ more) roots next to left
+underway_more more {next} u s few grows = record {
   search_is = s;
   few = few;
   looked = still_looked more next u.looked grows;
@@ -47,7 +58,11 @@ underway_more {answers} more {roots} {search} {next} u s few grows = record {
 }
 
 -- an entry was seen to without a question
-pub underway_none : {answers : List Heard} {roots : List (List ℕ)} {search next : SearchFacts} {folder : List ℕ} {rest left : List EntryFacts} → IsUnderway answers roots search folder rest → IsSearch answers roots next folder left → length next.files ≤ LISTING_LIMIT → ((path : List ℕ) → has search.folders path ≡ true → has next.folders path ≡ true) → IsUnderway answers roots next folder left
+pub underway_none : {answers : List Heard} {roots : List (List ℕ)} {search next : SearchFacts}
+    {folder : List ℕ} {rest left : List EntryFacts} → IsUnderway answers roots search folder rest
+    → IsSearch answers roots next folder left → length next.files ≤ LISTING_LIMIT
+    → ((path : List ℕ) → has search.folders path ≡ true → has next.folders path ≡ true)
+    → IsUnderway answers roots next folder left
 underway_none u s few grows = record {
   search_is = s;
   few = few;
@@ -56,67 +71,109 @@ underway_none u s few grows = record {
 }
 
 -- an entry whose path isn't too long was seen to
-settled_short : (answers : List Heard) (known long : List (List ℕ)) (path : List ℕ) (k : EntryKind) → length path ≤ PATH_LIMIT → IsMet answers known path k → IsSettled answers known long path k
+settled_short : (answers : List Heard) (known long : List (List ℕ)) (path : List ℕ) (k : EntryKind)
+    → length path ≤ PATH_LIMIT → IsMet answers known path k → IsSettled answers known long path k
 settled_short answers known long path k short met =
-    subst (λ (b : Bool). MatchBool b (has long path ≡ true) (IsMet answers known path k)) (sym (le-ltb PATH_LIMIT (length path) short)) met
+    subst (λ (b : Bool). MatchBool b (has long path ≡ true) (IsMet answers known path k))
+    (sym (le-ltb PATH_LIMIT (length path) short)) met
 
 -- an entry that is seen to at its path
-pub settled_at : {answers : List Heard} {roots : List (List ℕ)} {search : SearchFacts} {folder path : List ℕ} {entry : EntryFacts} {rest : List EntryFacts} (later : List Heard) (next : SearchFacts) → IsNextAt answers roots search folder entry rest path
-    → IsMet later next.folders path entry.kind → IsSettled later next.folders next.long (child folder entry.name) entry.kind
-settled_at {answers} {roots} {search} {folder} {path} {entry} later next n met =
-    subst (λ (p : List ℕ). IsSettled later next.folders next.long p entry.kind) n.joined (settled_short later next.folders next.long path entry.kind n.kept.short met)
+pub settled_at : {answers : List Heard} {roots : List (List ℕ)} {search : SearchFacts} {folder path : List ℕ}
+    {entry : EntryFacts} {rest : List EntryFacts} (later : List Heard) (next : SearchFacts)
+    → IsNextAt answers roots search folder entry rest path
+    → IsMet later next.folders path entry.kind
+    → IsSettled later next.folders next.long (child folder entry.name) entry.kind
+settled_at {path} {entry} later next n met =
+    subst (λ (p : List ℕ). IsSettled later next.folders next.long p entry.kind) n.joined
+    (settled_short later next.folders next.long path entry.kind n.kept.short met)
 
 -- the path is that of an entry of the folder
-pub entry_of : {answers : List Heard} {roots : List (List ℕ)} {search : SearchFacts} {folder path : List ℕ} {entry : EntryFacts} {rest : List EntryFacts} → IsNextAt answers roots search folder entry rest path → IsEntry answers roots entry.kind path
-entry_of {answers} {roots} {search} {folder} {path} {entry} n = record { folder = folder; reached = n.next.reached; named = record { name = entry.name; listed = n.next.listed; joined = n.joined } }
+pub entry_of : {answers : List Heard} {roots : List (List ℕ)} {search : SearchFacts} {folder path : List ℕ}
+    {entry : EntryFacts} {rest : List EntryFacts} → IsNextAt answers roots search folder entry rest path
+    → IsEntry answers roots entry.kind path
+entry_of {folder} {entry} n =
+    record {
+      folder = folder;
+      reached = n.next.reached;
+      named = record { name = entry.name; listed = n.next.listed; joined = n.joined };
+    }
 
 -- an entry that is a folder
-pub folder_entry : {answers : List Heard} {roots : List (List ℕ)} {search : SearchFacts} {folder path : List ℕ} {entry : EntryFacts} {rest : List EntryFacts} → entry.kind ≡ kind.Folder → IsNextAt answers roots search folder entry rest path
+pub folder_entry : {answers : List Heard} {roots : List (List ℕ)} {search : SearchFacts}
+    {folder path : List ℕ} {entry : EntryFacts} {rest : List EntryFacts} → entry.kind ≡ kind.Folder
+    → IsNextAt answers roots search folder entry rest path
     → IsUnderway answers roots (with_folder search path) folder rest
-folder_entry {answers} {roots} {search} {folder} {path} {entry} {rest} is n =
+folder_entry {answers} {roots} {search} {path} {entry} is n =
     let next : SearchFacts = with_folder search path in
-    let at : IsEntry answers roots kind.Folder path = subst (λ (k : EntryKind). IsEntry answers roots k path) is (entry_of n) in
+    let at : IsEntry answers roots kind.Folder path =
+    subst (λ (k : EntryKind). IsEntry answers roots k path) is (entry_of n) in
     let s = folder_step n.next.underway.search_is (inr at) n.kept in
-    let met : IsMet answers next.folders path entry.kind = subst (λ (k : EntryKind). IsMet answers next.folders path k) (sym is) (folder_known search path) in
-    underway_none n.next.underway (entry_step s (settled_at answers next n met)) (subst (λ (files : List (List ℕ × StampFacts)). length files ≤ LISTING_LIMIT) (sym (folder_files search path)) n.next.underway.few) (folder_stays search path)
+    let met : IsMet answers next.folders path entry.kind =
+    subst (λ (k : EntryKind). IsMet answers next.folders path k) (sym is) (folder_known search path) in
+    underway_none n.next.underway (entry_step s (settled_at answers next n met))
+    (subst (λ (files : List (List ℕ × StampFacts)). length files ≤ LISTING_LIMIT)
+    (sym (folder_files search path)) n.next.underway.few) (folder_stays search path)
 
 -- an entry that is neither a folder nor a file
-pub other_entry : {answers : List Heard} {roots : List (List ℕ)} {search : SearchFacts} {folder path : List ℕ} {entry : EntryFacts} {rest : List EntryFacts} → entry.kind ≡ kind.Other → IsNextAt answers roots search folder entry rest path
+pub other_entry : {answers : List Heard} {roots : List (List ℕ)} {search : SearchFacts} {folder path : List ℕ}
+    {entry : EntryFacts} {rest : List EntryFacts} → entry.kind ≡ kind.Other
+    → IsNextAt answers roots search folder entry rest path
     → IsUnderway answers roots search folder rest
-other_entry {answers} {roots} {search} {folder} {path} {entry} {rest} is n =
-    let met : IsMet answers search.folders path entry.kind = subst (λ (k : EntryKind). IsMet answers search.folders path k) (sym is) tt in
-    underway_none n.next.underway (entry_step n.next.underway.search_is (settled_at answers search n met)) n.next.underway.few (λ p h. h)
+other_entry {answers} {search} {path} {entry} is n =
+    let met : IsMet answers search.folders path entry.kind =
+    subst (λ (k : EntryKind). IsMet answers search.folders path k) (sym is) tt in
+    underway_none n.next.underway
+    (entry_step n.next.underway.search_is (settled_at answers search n met)) n.next.underway.few (λ p h. h)
 
 -- an entry whose path is too long
-pub long_entry : {answers : List Heard} {roots : List (List ℕ)} {search : SearchFacts} {folder : List ℕ} {entry : EntryFacts} {rest : List EntryFacts} → IsNext answers roots search folder entry rest → PATH_LIMIT < length (child folder entry.name)
+pub long_entry : {answers : List Heard} {roots : List (List ℕ)} {search : SearchFacts} {folder : List ℕ}
+    {entry : EntryFacts} {rest : List EntryFacts} → IsNext answers roots search folder entry rest
+    → PATH_LIMIT < length (child folder entry.name)
     → IsUnderway answers roots (with_long search (child folder entry.name)) folder rest
-long_entry {answers} {roots} {search} {folder} {entry} {rest} n long =
+long_entry {answers} {search} {folder} {entry} n long =
     let path : List ℕ = child folder entry.name in
     let next : SearchFacts = with_long search path in
-    let named : IsNamed answers folder entry.kind path = record { name = entry.name; listed = n.listed; joined = refl } in
+    let named : IsNamed answers folder entry.kind path =
+    record { name = entry.name; listed = n.listed; joined = refl } in
     let s = long_step n.underway.search_is (reached_entry folder path entry.kind n.reached named) long in
     let settled : IsSettled answers next.folders next.long path entry.kind =
-    subst (λ (b : Bool). MatchBool b (has next.long path ≡ true) (IsMet answers next.folders path entry.kind)) (sym (lt-ltb PATH_LIMIT (length path) long)) (long_known search path) in
+    subst (λ (b : Bool). MatchBool b (has next.long path ≡ true) (IsMet answers next.folders path entry.kind))
+    (sym (lt-ltb PATH_LIMIT (length path) long)) (long_known search path) in
     underway_none n.underway (entry_step s settled) n.underway.few (λ p h. h)
 
 -- an entry is among the entries
-has_at : (entries : List EntryFacts) (i : ℕ) {e : EntryFacts} → i < length entries → e ≡ get_or entries i e → has_entry entries e ≡ true
-has_at entries i {e} within here = list_any_at (same_entry e) entries i e within (subst (λ (f : EntryFacts). same_entry e f ≡ true) here (entry_itself e))
+has_at : (entries : List EntryFacts) (i : ℕ) {e : EntryFacts} → i < length entries → e ≡ get_or entries i e
+    → has_entry entries e ≡ true
+has_at entries i {e} within here =
+    list_any_at (same_entry e) entries i e within
+    (subst (λ (f : EntryFacts). same_entry e f ≡ true) here (entry_itself e))
 
 -- the entry that comes next
-pub next_from : {answers : List Heard} {roots : List (List ℕ)} {begun search : SearchFacts} {folder : List ℕ} {entries : List EntryFacts} (more : List Heard) (i : ℕ) {e : EntryFacts} → IsEntered answers roots begun folder entries
-    → i < length entries → e ≡ get_or entries i e → IsUnderway (answers ++ more) roots search folder (drop i entries) → IsNext (answers ++ more) roots search folder e (drop (i + 1) entries)
-next_from {answers} {roots} {begun} {search} {folder} {entries} more i {e} entered within here u = record {
-  underway = subst (λ (es : List EntryFacts). IsUnderway (answers ++ more) roots search folder es) (drop_more entries i e within ∙ ap (λ (f : EntryFacts). f ∷ drop (i + 1) entries) (sym here)) u;
+pub next_from : {answers : List Heard} {roots : List (List ℕ)} {begun search : SearchFacts} {folder : List ℕ}
+    {entries : List EntryFacts} (more : List Heard) (i : ℕ) {e : EntryFacts}
+    → IsEntered answers roots begun folder entries
+    → i < length entries → e ≡ get_or entries i e
+    → IsUnderway (answers ++ more) roots search folder (drop i entries)
+    → IsNext (answers ++ more) roots search folder e (drop (i + 1) entries)
+next_from {answers} {roots} {search} {folder} {entries} more i {e} entered within here u = record {
+  underway = subst (λ (es : List EntryFacts). IsUnderway (answers ++ more) roots search folder es)
+      (drop_more entries i e within ∙ ap (λ (f : EntryFacts). f ∷ drop (i + 1) entries) (sym here)) u;
   reached = reached_more more entered.reached;
-  listed = entries_stay answers more folder e (subst (λ (es : List EntryFacts). has_entry es e ≡ true) (sym entered.listed) (has_at entries i within here));
+  listed = entries_stay answers more folder e
+      (subst (λ (es : List EntryFacts). has_entry es e ≡ true) (sym entered.listed)
+      (has_at entries i within here));
 }
 
 -- with all entries seen to, nothing is pending
-pub all_seen : {answers : List Heard} {roots : List (List ℕ)} {search : SearchFacts} {folder : List ℕ} → IsUnderway answers roots search folder [] → IsUnderway answers roots search [] []
+pub all_seen : {answers : List Heard} {roots : List (List ℕ)} {search : SearchFacts} {folder : List ℕ}
+    → IsUnderway answers roots search folder [] → IsUnderway answers roots search [] []
 all_seen u = record {
   search_is = with_pending u.search_is (record {
-    each = λ at e h. elim (u.search_is.closed.each at e h) [ inl done ↦ inl done | inr pending ↦ absurd (false≢true pending.among) ];
+    each = λ at e h. elim (u.search_is.closed.each at e h) [
+      | inl done ↦ inl done
+      | inr pending ↦ absurd
+          (false≢true pending.among)
+    ];
   });
   few = u.few;
   looked = u.looked;

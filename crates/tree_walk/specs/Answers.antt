@@ -36,7 +36,8 @@ look_at path _ = None
 
 -- what was answered of the folder at this path, if this is an answered reading of it
 abbrev pub reading_of : List ℕ → Heard → Option DirFacts
-reading_of path (read_dir asked answer) = if bytes_eq asked path && is_dir_answer answer then Some answer else None
+reading_of path (read_dir asked answer) =
+    if bytes_eq asked path && is_dir_answer answer then Some answer else None
 reading_of path _ = None
 
 -- the first value that a list gives

@@ -6,7 +6,8 @@ use Rattle.tree_trait.specs.Heard.{Heard, stat, read_dir}
 use Rattle.tree_trait.specs.declared.stat.StatAnswer.{StatAnswer}
 use Rattle.tree_walk.specs.Answers.{is_dir_answer, is_look_answer, entries_of, passed_over}
 use Rattle.tree_walk.specs.declared.fault.WalkFault.{WalkFault}
-use Rattle.tree_walk.specs.declared.fault.WalkFault.TheVariants.{Failed as FaultFailed, OutOfMemory as FaultMemory}
+use Rattle.tree_walk.specs.declared.fault.WalkFault.TheVariants.{Failed as FaultFailed}
+use Rattle.tree_walk.specs.declared.fault.WalkFault.TheVariants.{OutOfMemory as FaultMemory}
 
 -- one look was heard and answered
 pub record IsLook (path : List ℕ) (more : List Heard) (answer : StatAnswer) : Type 0 where

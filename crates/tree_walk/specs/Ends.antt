@@ -12,7 +12,8 @@ use Rattle.tree_trait.specs.declared.stat.StatAnswer.TheVariants.{Gone}
 use Rattle.tree_walk.specs.Answers.{entries_read, looks, is_found}
 use Rattle.tree_walk.specs.Walked.{IsFull, IsWalkListing, AsksDue, AsksOnce, IsSkipped}
 use Rattle.tree_walk.specs.declared.fault.WalkFault.{WalkFault}
-use Rattle.tree_walk.specs.declared.fault.WalkFault.TheVariants.{Failed, TooMany, TooManyEntries, RootGone, OutOfMemory}
+use Rattle.tree_walk.specs.declared.fault.WalkFault.TheVariants.{Failed, TooMany, TooManyEntries, RootGone}
+use Rattle.tree_walk.specs.declared.fault.WalkFault.TheVariants.{OutOfMemory}
 use Rattle.tree_walk.specs.declared.walked.Walk.{Walk}
 use Rattle.tree_walk.specs.declared.walked.TheConstants.{ENTRY_LIMIT}
 
@@ -43,7 +44,8 @@ pub record IsWhole (answers : List Heard) (roots : List (List ℕ)) (walk : Walk
 
 -- the roots were looked at first, in the order given: all of them, or as many as there were answers
 abbrev pub LooksAtRoots : List Heard → List (List ℕ) → Type 0
-LooksAtRoots answers roots = BeginsWithRoots answers roots ⊎ ((given : List StatAnswer) × (answers ≡ looks roots given))
+LooksAtRoots answers roots =
+    BeginsWithRoots answers roots ⊎ ((given : List StatAnswer) × (answers ≡ looks roots given))
 
 -- the roots were looked at first, nothing was asked but what was due, no folder twice, and all went well up to the last
 -- call
@@ -90,7 +92,8 @@ IsCause answers roots OutOfMemory = Unit {0}
 -- some more answers were heard, which the list that the tree tells grew by; they are those of the files that are there,
 -- where the tree is told and still; and by them, behind those that were heard before, a call ended so
 pub record Goes {V : Type 0} (told : Bool) (before after : ShownTree) (answers : List Heard)
-    (Good : List Heard → V → Type 0) (Bad : List Heard → WalkFault → Type 0) (result : Result V WalkFault) : Type 0 where
+    (Good : List Heard → V → Type 0) (Bad : List Heard → WalkFault → Type 0)
+    (result : Result V WalkFault) : Type 0 where
   pub more : List Heard
   pub heard : after.heard ≡ with_answers before.heard more
   pub tells : IsTrue told → before.Still → All (IsTold before.present) more
@@ -99,4 +102,5 @@ pub record Goes {V : Type 0} (told : Bool) (before after : ShownTree) (answers :
 -- the walk ended by the answers that it heard
 abbrev pub Walks : Bool → ShownTree → ShownTree → List (List ℕ) → Result Walk WalkFault → Type 0
 Walks told before after roots result =
-    Goes told before after [] (λ answers walk. IsWhole answers roots walk) (λ answers fault. IsCause answers roots fault) result
+    Goes told before after [] (λ answers walk. IsWhole answers roots walk)
+    (λ answers fault. IsCause answers roots fault) result

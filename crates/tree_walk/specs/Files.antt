@@ -21,7 +21,8 @@ pub record IsFileUnder (present : List NameFacts) (roots : List (List ℕ)) (nam
   pub short : length name.path ≤ PATH_LIMIT
 
 -- the names are those files, by path
-pub record AreFilesUnder (present : List NameFacts) (roots : List (List ℕ)) (names : List NameFacts) : Type 0 where
+pub record AreFilesUnder (present : List NameFacts) (roots : List (List ℕ))
+    (names : List NameFacts) : Type 0 where
   pub by_path : IsByPath names
   pub all : (name : NameFacts) → Contains names name ↔ IsFileUnder present roots name
 
@@ -31,7 +32,8 @@ pub record FolderFacts : Type 0 where
   pub entries : List EntryFacts
 
 -- the folder is a root or lies under one, its path is no longer than a path that is kept, and these are its entries
-pub record IsFolderUnder (present : List NameFacts) (roots : List (List ℕ)) (folder : FolderFacts) : Type 0 where
+pub record IsFolderUnder (present : List NameFacts) (roots : List (List ℕ))
+    (folder : FolderFacts) : Type 0 where
   pub under : list_any (λ root. is_within root folder.path) roots ≡ true
   pub short : length folder.path ≤ PATH_LIMIT
   pub listing : IsListing present folder.path folder.entries

@@ -1,5 +1,6 @@
 -- How what a walk keeps agrees with the answers (this crate's bookkeeping, which no public clause cites).
-use Rattle.std.specs.Prelude.{◌≡◌, ℕ, ◌+◌, ◌-◌, ◌^◌, ◌<◌, ◌⊎◌, min, nat_lt, Bool, true, false, if◌then◌else◌, List, length, count_by, All, Contains, Option, Some, None, IsSome, MatchBool}
+use Rattle.std.specs.Prelude.{◌≡◌, ℕ, ◌+◌, ◌-◌, ◌^◌, ◌<◌, ◌⊎◌, min, nat_lt, Bool, true, false, if◌then◌else◌}
+use Rattle.std.specs.Prelude.{List, length, count_by, All, Contains, Option, Some, None, IsSome, MatchBool}
 use Rattle.std.specs.BTreeMap.{is_at}
 use Rattle.std.specs.List.{list_all}
 use Rattle.std.specs.List.Sorted.{IsStrictlySortedBy}
@@ -46,7 +47,8 @@ IsSettled answers known long path k =
     MatchBool (nat_lt PATH_LIMIT (length path)) (has long path ≡ true) (IsMet answers known path k)
 
 -- the entry of this folder is among the entries that are still to be seen to
-pub record IsPending (folder : List ℕ) (rest : List EntryFacts) (at : List ℕ) (entry : EntryFacts) : Type 0 where
+pub record IsPending (folder : List ℕ) (rest : List EntryFacts) (at : List ℕ)
+    (entry : EntryFacts) : Type 0 where
   pub here : at ≡ folder
   pub among : has_entry rest entry ≡ true
 
@@ -57,8 +59,10 @@ pub record AreSeenTo (answers : List Heard) (known long : List (List ℕ)) (fold
       → IsSettled answers known long (child at entry.name) entry.kind ⊎ IsPending folder rest at entry
 
 -- the files that were found, and the other paths that were looked at, are those of the looks
-pub record AreLooks (answers : List Heard) (found : List (List ℕ × StampFacts)) (rest : List (List ℕ)) : Type 0 where
-  pub files : (path : List ℕ) → lookup (is_at (slice_cmp nat_cmp path)) found ≡ file_of (first_look answers path)
+pub record AreLooks (answers : List Heard) (found : List (List ℕ × StampFacts))
+    (rest : List (List ℕ)) : Type 0 where
+  pub files : (path : List ℕ)
+      → lookup (is_at (slice_cmp nat_cmp path)) found ≡ file_of (first_look answers path)
   pub others : (path : List ℕ) → has rest path ≡ is_no_file (first_look answers path)
   pub ordered : IsStrictlySortedBy (slice_cmp nat_cmp) (keys_of found)
 
@@ -76,7 +80,8 @@ pub record AreFolders (answers : List Heard) (roots known todo : List (List ℕ)
 
 -- the paths are reached, and too long
 pub record AreLong (answers : List Heard) (roots paths : List (List ℕ)) : Type 0 where
-  pub each : (path : List ℕ) → has paths path ≡ true → IsReached answers roots path × (PATH_LIMIT < length path)
+  pub each : (path : List ℕ) → has paths path ≡ true
+      → IsReached answers roots path × (PATH_LIMIT < length path)
   pub apart : IsStrictlySortedBy (slice_cmp nat_cmp) paths
 
 -- so many entries may still be read, and so many were passed over

@@ -1,5 +1,6 @@
 -- What a walk keeps while it goes on (this crate's bookkeeping, which no public clause cites).
-use Rattle.std.specs.Prelude.{◌≡◌, ℕ, ◌+◌, ◌-◌, ◌^◌, ◌≤◌, ◌<◌, ◌||◌, min, Bool, if◌then◌else◌, List, [], ◌∷◌, ◌++◌, length, map, is_some, MatchResult, Result}
+use Rattle.std.specs.Prelude.{◌≡◌, ℕ, ◌+◌, ◌-◌, ◌^◌, ◌≤◌, ◌<◌, ◌||◌, min, Bool, if◌then◌else◌, List, [], ◌∷◌}
+use Rattle.std.specs.Prelude.{◌++◌, length, map, is_some, MatchResult, Result}
 use Rattle.std.specs.BTreeMap.{is_at, insert_entry}
 use Rattle.std.specs.BTreeSet.{insert_key}
 use Rattle.std.specs.List.{list_any}
@@ -36,7 +37,15 @@ with_path paths path = insert_key (slice_cmp nat_cmp) paths path
 
 -- nothing was asked yet
 abbrev pub unasked : SearchFacts
-unasked = record { files = []; others = []; folders = []; todo = []; long = []; left = ENTRY_LIMIT; skipped = 0 }
+unasked = record {
+  files = [];
+  others = [];
+  folders = [];
+  todo = [];
+  long = [];
+  left = ENTRY_LIMIT;
+  skipped = 0;
+}
 
 -- whether the path was looked at
 abbrev pub is_looked : SearchFacts → List ℕ → Bool
@@ -54,11 +63,16 @@ with_other others path _ = with_path others path
 
 -- what was found at a path that wasn't looked at yet
 abbrev pub noted : SearchFacts → List ℕ → StatAnswer → SearchFacts
-noted search path answer = record search { files = with_file search.files path answer; others = with_other search.others path answer }
+noted search path answer =
+    record search { files = with_file search.files path answer; others = with_other search.others path answer }
 
 -- a folder that is to be read, if it isn't known yet
 abbrev pub with_folder : SearchFacts → List ℕ → SearchFacts
-with_folder search path = if has search.folders path then search else record search { folders = with_path search.folders path; todo = search.todo ++ path ∷ [] }
+with_folder search path =
+    if has search.folders path then search else record search {
+      folders = with_path search.folders path;
+      todo = search.todo ++ path ∷ [];
+    }
 
 -- a path that is too long
 abbrev pub with_long : SearchFacts → List ℕ → SearchFacts
@@ -79,7 +93,8 @@ with_last search folder = record search { todo = search.todo ++ folder ∷ [] }
 
 -- so many entries were read, and so many passed over
 abbrev pub paid : SearchFacts → ℕ → ℕ → SearchFacts
-paid search count skipped = record search { left = search.left - count; skipped = min (search.skipped + skipped) (2 ^ 64 - 1) }
+paid search count skipped =
+    record search { left = search.left - count; skipped = min (search.skipped + skipped) (2 ^ 64 - 1) }
 
 -- the names of the files
 abbrev pub found_names : List (List ℕ × StampFacts) → List NameFacts

@@ -18,7 +18,8 @@ use Rattle.tree_walk.specs.Search.{SearchFacts, has}
 -- these roots were looked at, and each root that is known to be a folder is among the folders
 pub record AreLooked (answers : List Heard) (roots seen : List (List ℕ)) (search : SearchFacts) : Type 0 where
   pub looked : (path : List ℕ) → Contains seen path → IsSome (first_look answers path)
-  pub folders : (path : List ℕ) → Contains roots path → first_look answers path ≡ Some Folder → has search.folders path ≡ true
+  pub folders : (path : List ℕ) → Contains roots path → first_look answers path ≡ Some Folder
+      → has search.folders path ≡ true
 
 -- the first roots were looked at, and nothing else was asked
 pub record IsBeginning (answers : List Heard) (roots seen : List (List ℕ)) (search : SearchFacts) : Type 0 where
@@ -31,26 +32,30 @@ pub record IsBeginning (answers : List Heard) (roots seen : List (List ℕ)) (se
   pub first : answers ≡ looks seen given
 
 -- all roots were looked at, and folders are being read
-pub record IsUnderway (answers : List Heard) (roots : List (List ℕ)) (search : SearchFacts) (folder : List ℕ) (rest : List EntryFacts) : Type 0 where
+pub record IsUnderway (answers : List Heard) (roots : List (List ℕ)) (search : SearchFacts) (folder : List ℕ)
+    (rest : List EntryFacts) : Type 0 where
   pub search_is : IsSearch answers roots search folder rest
   pub few : length search.files ≤ LISTING_LIMIT
   pub looked : AreLooked answers roots roots search
   pub first : BeginsWithRoots answers roots
 
 -- a folder was read, and each of its entries is still to be seen to
-pub record IsEntered (answers : List Heard) (roots : List (List ℕ)) (search : SearchFacts) (folder : List ℕ) (entries : List EntryFacts) : Type 0 where
+pub record IsEntered (answers : List Heard) (roots : List (List ℕ)) (search : SearchFacts) (folder : List ℕ)
+    (entries : List EntryFacts) : Type 0 where
   pub underway : IsUnderway answers roots search folder entries
   pub reached : IsReached answers roots folder
   pub listed : entries_in answers folder ≡ entries
 
 -- an entry of a folder is to be seen to, and then the rest
-pub record IsNext (answers : List Heard) (roots : List (List ℕ)) (search : SearchFacts) (folder : List ℕ) (entry : EntryFacts) (rest : List EntryFacts) : Type 0 where
+pub record IsNext (answers : List Heard) (roots : List (List ℕ)) (search : SearchFacts) (folder : List ℕ)
+    (entry : EntryFacts) (rest : List EntryFacts) : Type 0 where
   pub underway : IsUnderway answers roots search folder (entry ∷ rest)
   pub reached : IsReached answers roots folder
   pub listed : has_entry (entries_in answers folder) entry ≡ true
 
 -- its path is short enough to be kept
-pub record IsNextAt (answers : List Heard) (roots : List (List ℕ)) (search : SearchFacts) (folder : List ℕ) (entry : EntryFacts) (rest : List EntryFacts) (path : List ℕ) : Type 0 where
+pub record IsNextAt (answers : List Heard) (roots : List (List ℕ)) (search : SearchFacts) (folder : List ℕ)
+    (entry : EntryFacts) (rest : List EntryFacts) (path : List ℕ) : Type 0 where
   pub next : IsNext answers roots search folder entry rest
   pub joined : path ≡ child folder entry.name
   pub kept : IsCanonPath path

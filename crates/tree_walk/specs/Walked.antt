@@ -24,7 +24,8 @@ pub record IsNamed (answers : List Heard) (folder : List ℕ) (k : EntryKind) (p
 -- the paths that the answers lead to: the roots, and the entries of folders that are reached
 pub data IsReached (answers : List Heard) (roots : List (List ℕ)) : List ℕ → Type 0 where
   root : (path : List ℕ) → Contains roots path → IsReached answers roots path
-  entry : (folder path : List ℕ) (k : EntryKind) → IsReached answers roots folder → IsNamed answers folder k path → IsReached answers roots path
+  entry : (folder path : List ℕ) (k : EntryKind) → IsReached answers roots folder
+      → IsNamed answers folder k path → IsReached answers roots path
 
 -- the path is that of an entry of this kind in a folder that is reached
 pub record IsEntry (answers : List Heard) (roots : List (List ℕ)) (k : EntryKind) (path : List ℕ) : Type 0 where
@@ -59,8 +60,10 @@ pub record IsWalkListing (answers : List Heard) (roots : List (List ℕ)) (names
 -- nothing is left to ask: each root was looked at, each folder read, and each file looked at
 pub record IsFull (answers : List Heard) (roots : List (List ℕ)) : Type 0 where
   pub looked : (path : List ℕ) → Contains roots path → IsSome (first_look answers path)
-  pub folders : (path : List ℕ) → IsFolder answers roots path → length path ≤ PATH_LIMIT → IsSome (first_reading answers path)
-  pub files : (path : List ℕ) → IsEntry answers roots kind.File path → length path ≤ PATH_LIMIT → IsSome (first_look answers path)
+  pub folders : (path : List ℕ) → IsFolder answers roots path → length path ≤ PATH_LIMIT
+      → IsSome (first_reading answers path)
+  pub files : (path : List ℕ) → IsEntry answers roots kind.File path → length path ≤ PATH_LIMIT
+      → IsSome (first_look answers path)
 
 -- the look or the reading was due: at a root or a file, or of a folder, and at a path that is kept
 abbrev pub IsDue : List Heard → List (List ℕ) → Heard → Type 0
@@ -76,7 +79,8 @@ pub record AsksDue (answers : List Heard) (roots : List (List ℕ)) : Type 0 whe
 -- nothing was asked but what was due, and each folder once
 pub record AsksOnce (answers : List Heard) (roots : List (List ℕ)) : Type 0 where
   pub due : All (IsDue answers roots) answers
-  pub once : (path : List ℕ) → IsFolder answers roots path → length path ≤ PATH_LIMIT → times_read answers path ≡ 1
+  pub once : (path : List ℕ) → IsFolder answers roots path → length path ≤ PATH_LIMIT
+      → times_read answers path ≡ 1
   pub never : (path : List ℕ) → PATH_LIMIT < length path → times_read answers path ≡ 0
 
 -- what was passed over: entries that the readings passed over, and reached paths that are too long, whatever stands
@@ -84,5 +88,6 @@ pub record AsksOnce (answers : List Heard) (roots : List (List ℕ)) : Type 0 wh
 pub record IsSkipped (answers : List Heard) (roots : List (List ℕ)) (count : ℕ) : Type 0 where
   pub long : List (List ℕ)
   pub distinct : are_distinct long ≡ true
-  pub each : (path : List ℕ) → Contains long path ↔ (IsReached answers roots path × (PATH_LIMIT < length path))
+  pub each : (path : List ℕ)
+      → Contains long path ↔ (IsReached answers roots path × (PATH_LIMIT < length path))
   pub sum : count ≡ summed (all_passed_over answers) (length long)

@@ -4,14 +4,11 @@ ghost use Rattle.std.specs.Prelude.{◌≡◌, ◌&&◌, map, IfOk, IsTrue};
 ghost use Rattle.std.specs.List.{list_all};
 ghost use Rattle.row_types.specs.Canon.{is_canonical};
 ghost use Rattle.tree_trait.specs.Present.{are_distinct};
-ghost use Rattle.tree_trait.specs.Script.{is_stage};
 
 use crate::fault::WalkFault;
 use crate::top::walk;
-use crate::walked::Walk;
 use row_types::{CanonPath, OpenWorld, Stamp};
 use std::alloc::{AllocError, Global};
-use std::process::Abort;
 use std::test::Fail;
 use tree_trait::{
     DirAnswer, Entry, EntryKind, Found, LoadAnswer, MemTree, Script, StatAnswer, Tree,
@@ -19,7 +16,8 @@ use tree_trait::{
 
 /// Empty files at the paths.
 fn files_at(alloc: Global, paths: &[&str]) -> Result<Vec<Found<OpenWorld>>, AllocError>
-    ensures { IfOk result (λ files. map (λ file. file.path) files.items ≡ map (λ path. path.now) paths.now) }
+    ensures { IfOk result (λ files.
+        map (λ file. file.path) files.items ≡ map (λ path. path.now) paths.now) }
 {
     let stamp = Stamp {
         size: 0,
@@ -33,14 +31,16 @@ fn files_at(alloc: Global, paths: &[&str]) -> Result<Vec<Found<OpenWorld>>, Allo
     Ok(files)
 }
 
-/// The tree of these files, of which the calls of these numbers fail.
-fn tree_of(
+/// The tree of empty files at the paths, of which the calls of these numbers fail.
+fn tree_at(
     alloc: Global,
-    files: Vec<Found<OpenWorld>>,
+    paths: &[&str],
     bad_calls: Vec<u64>,
 ) -> Result<MemTree<OpenWorld>, AllocError>
-    requires { IsTrue (is_stage files.items) }
+    requires { let texts = map (λ path. path.now) paths.now in
+        IsTrue (list_all is_canonical texts && are_distinct texts) }
 {
+    let files = files_at(alloc, paths)?;
     let script = Script {
         stages: vec![in alloc; files]?,
         moves: vec![in alloc]?,
@@ -49,20 +49,8 @@ fn tree_of(
     Ok(MemTree::new(alloc, script))
 }
 
-/// The tree of empty files at the paths, of which the calls of these numbers fail.
-fn tree_at(
-    alloc: Global,
-    paths: &[&str],
-    bad_calls: Vec<u64>,
-) -> Result<MemTree<OpenWorld>, AllocError>
-    requires { IsTrue (list_all is_canonical (map (λ path. path.now) paths.now) && are_distinct (map (λ path. path.now) paths.now)) }
-{
-    let files = files_at(alloc, paths)?;
-    tree_of(alloc, files, bad_calls)
-}
-
-/// Twelve files under three folders.
-fn three_folders(alloc: Global) -> Result<MemTree<OpenWorld>, AllocError> {
+/// Twelve files under three folders. The call of this number fails.
+fn three_folders(alloc: Global, bad_call: u64) -> Result<MemTree<OpenWorld>, AllocError> {
     let paths = [
         "/srv/bin/prog",
         "/srv/bin/tool",
@@ -77,119 +65,74 @@ fn three_folders(alloc: Global) -> Result<MemTree<OpenWorld>, AllocError> {
         "/w/src/inc/util.h",
         "/w/README",
     ];
-    tree_at(alloc, &paths, vec![in alloc]?)
+    tree_at(alloc, &paths, vec![in alloc; bad_call]?)
 }
 
-fn root(alloc: Global, text: &str) -> Result<CanonPath, Fail> {
-    Ok(
-        CanonPath::check(String::from_str(alloc, text)?)
-            .ok()
-            .ok_or("a canonical path")?,
-    )
+/// How many entries a walk passes over, and the files that it lists; or why it ends early.
+fn walk_text<T: Tree<OpenWorld>>(
+    alloc: Global,
+    hand: &mut T,
+    roots: &[&str],
+) -> Result<String, Fail> {
+    let mut paths = Vec::new(alloc);
+    for root in roots {
+        let path = CanonPath::check(String::from_str(alloc, root)?);
+        paths.push(path.ok().ok_or("a canonical path")?)?;
+    }
+    let found = match walk(alloc, hand, paths.as_slice()) {
+        Ok(found) => found,
+        Err(fault) => return Ok(fault_text(alloc, &fault)?),
+    };
+    let mut text = format!(in alloc; "{}", found.skipped)?;
+    for name in found.listing.names() {
+        text.push_str(" ")?;
+        text.push_str(name.path.text())?;
+    }
+    Ok(text)
 }
 
-fn assert_lists(rt: &impl Abort, walk: &Walk, paths: &[&str]) {
-    let names = walk.listing.names();
-    assert_eq!(rt; names.len(), paths.len());
-    assert!(rt;
-        names
-            .iter()
-            .zip(paths)
-            .all(|(name, path)| name.path.text() == *path)
-    );
+/// Why a walk ends early.
+fn fault_text(alloc: Global, fault: &WalkFault) -> Result<String, AllocError> {
+    match fault {
+        WalkFault::RootGone(path) => format!(in alloc; "nothing at {}", path.text()),
+        WalkFault::Failed => String::from_str(alloc, "failed"),
+        _ => String::from_str(alloc, "another fault"),
+    }
 }
+
+/// The roots, the number of the call that fails, and what the walk finds.
+type Case = (&'static [&'static str], u64, &'static str);
+
+const CASES: [Case; 5] = [
+    (
+        &["/srv/bin", "/srv/debug", "/w"],
+        99,
+        "0 /srv/bin/empty /srv/bin/libx.so /srv/bin/liby.so /srv/bin/prog /srv/bin/run.sh \
+         /srv/bin/tool /srv/debug/notes.txt /srv/debug/ppc.debug /srv/debug/tool.debug \
+         /w/README /w/src/inc/util.h /w/src/main.c",
+    ),
+    (
+        &["/srv/debug", "/srv", "/srv/debug"],
+        99,
+        "0 /srv/bin/empty /srv/bin/libx.so /srv/bin/liby.so /srv/bin/prog /srv/bin/run.sh \
+         /srv/bin/tool /srv/debug/notes.txt /srv/debug/ppc.debug /srv/debug/tool.debug",
+    ),
+    (&["/srv/bin/tool"], 99, "0 /srv/bin/tool"),
+    (&["/srv", "/none"], 99, "nothing at /none"),
+    (&["/srv"], 1, "failed"),
+];
 
 #[test]
-fn the_files_under_each_root_are_listed_by_path(rt: HostRuntime) -> Result<(), Fail> {
-    let alloc = rt.alloc();
-    let mut tree = three_folders(alloc)?;
-    let roots = vec![in alloc;
-        root(alloc, "/srv/bin")?,
-        root(alloc, "/srv/debug")?,
-        root(alloc, "/w")?,
-    ]?;
-    match walk(alloc, &mut tree, roots.as_slice()) {
-        Ok(walk) => {
-            assert_lists(
-                &rt,
-                &walk,
-                &[
-                    "/srv/bin/empty",
-                    "/srv/bin/libx.so",
-                    "/srv/bin/liby.so",
-                    "/srv/bin/prog",
-                    "/srv/bin/run.sh",
-                    "/srv/bin/tool",
-                    "/srv/debug/notes.txt",
-                    "/srv/debug/ppc.debug",
-                    "/srv/debug/tool.debug",
-                    "/w/README",
-                    "/w/src/inc/util.h",
-                    "/w/src/main.c",
-                ],
-            );
-            assert_eq!(rt; walk.skipped, 0);
-        }
-        Err(_) => panic!(rt; "each root is there"),
+fn a_walk_lists_the_files_under_its_roots_by_path(rt: HostRuntime) -> Result<(), Fail> {
+    for (roots, bad_call, text) in CASES {
+        let mut tree = three_folders(rt.alloc(), bad_call)?;
+        assert_eq!(rt; walk_text(rt.alloc(), &mut tree, roots)?.as_str(), text);
     }
     Ok(())
 }
 
-#[test]
-fn roots_that_overlap_list_each_file_once(rt: HostRuntime) -> Result<(), Fail> {
-    let alloc = rt.alloc();
-    let mut tree = three_folders(alloc)?;
-    let roots = vec![in alloc;
-        root(alloc, "/srv/bin")?,
-        root(alloc, "/srv")?,
-        root(alloc, "/srv/bin")?,
-    ]?;
-    match walk(alloc, &mut tree, roots.as_slice()) {
-        Ok(walk) => assert_eq!(rt; walk.listing.len(), 9),
-        Err(_) => panic!(rt; "each root is there"),
-    }
-    Ok(())
-}
-
-#[test]
-fn a_root_that_is_a_file_is_listed(rt: HostRuntime) -> Result<(), Fail> {
-    let alloc = rt.alloc();
-    let mut tree = three_folders(alloc)?;
-    let roots = vec![in alloc; root(alloc, "/srv/bin/tool")?]?;
-    match walk(alloc, &mut tree, roots.as_slice()) {
-        Ok(walk) => assert_lists(&rt, &walk, &["/srv/bin/tool"]),
-        Err(_) => panic!(rt; "the root is there"),
-    }
-    Ok(())
-}
-
-#[test]
-fn a_root_that_is_gone_ends_the_walk(rt: HostRuntime) -> Result<(), Fail> {
-    let alloc = rt.alloc();
-    let mut tree = three_folders(alloc)?;
-    let roots = vec![in alloc; root(alloc, "/srv")?, root(alloc, "/none")?]?;
-    match walk(alloc, &mut tree, roots.as_slice()) {
-        Err(WalkFault::RootGone(path)) => assert_eq!(rt; path.text(), "/none"),
-        _ => panic!(rt; "nothing is at the second root"),
-    }
-    Ok(())
-}
-
-#[test]
-fn a_reading_that_fails_ends_the_walk(rt: HostRuntime) -> Result<(), Fail> {
-    let alloc = rt.alloc();
-    let mut tree = tree_at(alloc, &["/srv/prog"], vec![in alloc; 1]?)?;
-    let roots = vec![in alloc; root(alloc, "/srv")?]?;
-    assert!(rt;
-        matches!(
-            &walk(alloc, &mut tree, roots.as_slice()),
-            Err(WalkFault::Failed)
-        )
-    );
-    Ok(())
-}
-
-/// A tree in which each path is a folder with one file of a name of 4096 bytes, and no path is a file.
+/// A tree in which each path is a folder with one file of a name of 4096 bytes, and no path is a
+/// file.
 #[derive(Drop)]
 struct LongNames;
 
@@ -234,15 +177,7 @@ impl Tree<OpenWorld> for LongNames {
 
 #[test]
 fn a_path_that_is_too_long_is_passed_over(rt: HostRuntime) -> Result<(), Fail> {
-    let alloc = rt.alloc();
     let mut tree = LongNames;
-    let roots = vec![in alloc; root(alloc, "/srv")?]?;
-    match walk(alloc, &mut tree, roots.as_slice()) {
-        Ok(walk) => {
-            assert_eq!(rt; walk.listing.len(), 0);
-            assert_eq!(rt; walk.skipped, 3);
-        }
-        Err(_) => panic!(rt; "the folder is there"),
-    }
+    assert_eq!(rt; walk_text(rt.alloc(), &mut tree, &["/srv"])?.as_str(), "3");
     Ok(())
 }

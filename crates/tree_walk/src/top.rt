@@ -1,6 +1,6 @@
 //! The walk.
 
-ghost use Rattle.std.specs.Prelude.{◌≡◌, ◌+◌, ◌≤◌, ◌<◌, ℕ, List, [], true, ◌∷◌, ◌++◌, length};
+ghost use Rattle.std.specs.Prelude.{◌≡◌, ◌+◌, ◌≤◌, ◌<◌, ℕ, List, [], true, ◌∷◌, ◌++◌, ◌^◌, length};
 ghost use Rattle.std.specs.Prelude.{IsTrue, IfErr, IfOk, OnOk};
 ghost use Rattle.std.specs.String.{string_bytes};
 ghost use Rattle.row_types.specs.Canon.{IsCanonPath};
@@ -17,7 +17,7 @@ ghost use Rattle.tree_walk.specs.Search.{with_last};
 use crate::ask::{look, read};
 use crate::fault::WalkFault;
 use crate::search::Search;
-use crate::walked::Walk;
+use crate::walked::{ENTRY_LIMIT, Walk};
 use row_types::{CanonPath, SEPARATOR, Truth};
 use std::alloc::{AllocError, Global};
 use tree_trait::{Entry, EntryKind, StatAnswer, Tree};
@@ -38,6 +38,7 @@ pub fn walk<W: Truth, T: Tree<W>>(
         → IfErr result (FitsFault (T.shows hand.old).present roots.now) }
     ensures hands { HandsOn T.told W.version (T.shows hand.old) (T.shows hand.new)
         (0 < length roots.now) (result ≡ Err WalkFault.Failed) }
+    ensures limit { ENTRY_LIMIT ≡ 2 ^ 22 }
 {
     let mut search = begin(alloc, hand, roots)?;
     while let Some(folder) = search.next_folder() {

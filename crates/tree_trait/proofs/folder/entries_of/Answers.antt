@@ -9,5 +9,8 @@ use Rattle.tree_trait.proofs.folder.entries_of.Goals as goal
 
 pub returns : goal.returns
 returns g c =
-    IfOk-weaker c.collected.result (λ v. v.items ≡ with_pieces c.args.folder.now [] (map name_of c.args.files.now)) (λ v. IsListing (map name_of c.args.files.now) c.args.folder.now v.items)
-    (λ v e. subst (IsListing (map name_of c.args.files.now) c.args.folder.now) (sym e) (listing c.args.folder.now (map name_of c.args.files.now))) c.collected.ensures
+    IfOk-weaker c.collected.result
+    (λ v. v.items ≡ with_pieces c.args.folder.now [] (map name_of c.args.files.now))
+    (λ v. IsListing (map name_of c.args.files.now) c.args.folder.now v.items)
+    (λ v e. subst (IsListing (map name_of c.args.files.now) c.args.folder.now) (sym e)
+    (listing c.args.folder.now (map name_of c.args.files.now))) c.collected.ensures

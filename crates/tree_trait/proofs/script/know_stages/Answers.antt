@@ -14,4 +14,5 @@ loop-stage-preserved g c =
 
 pub returns : goal.returns
 returns g c =
-    subst (All (λ stage. All (IsFound g.W.Truth.version) stage.items)) (take_all c.loop-stage.stage-index c.args.stages.now c.loop-stage-test.false) c.loop-stage.invariant
+    subst (All (λ stage. All (IsFound g.W.Truth.version) stage.items))
+    (take_all c.loop-stage.stage-index c.args.stages.now c.loop-stage-test.false) c.loop-stage.invariant

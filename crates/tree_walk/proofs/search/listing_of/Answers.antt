@@ -13,5 +13,6 @@ unreachable-requires c =
       by_path = by_path_from_sorted c.args.files.entries c.requires.ordered;
       few = subst (λ (n : ℕ). n ≤ LISTING_LIMIT) (sym (length_names c.args.files.entries)) c.requires.few;
     } in
-    let e : c.in_ok-found_names.field-0.items ≡ found_names c.args.files.entries = c.in_ok-found_names.ensures in
+    let e : c.in_ok-found_names.field-0.items ≡ found_names c.args.files.entries =
+    c.in_ok-found_names.ensures in
     false≢true (c.in-Err.ensures.ok.1 (subst (λ (ns : List NameFacts). IsListing ns) (sym e) made))

@@ -7,10 +7,13 @@ use Rattle.tree_trait.specs.Present.{are_distinct}
 use Rattle.tree_trait.specs.Script.{is_stage}
 use Rattle.tree_walk.proofs.tests.tree_at.Goals as goal
 
-stage_at : (files : List FoundFacts) (paths : List (List ℕ)) → map (λ file. file.path) files ≡ paths → (list_all is_canonical paths && are_distinct paths) ≡ true → is_stage files ≡ true
+stage_at : (files : List FoundFacts) (paths : List (List ℕ)) → map (λ file. file.path) files ≡ paths
+    → (list_all is_canonical paths && are_distinct paths) ≡ true → is_stage files ≡ true
 stage_at files paths e h =
-    ap (λ (b : Bool). b && are_distinct (map (λ (f : FoundFacts). f.path) files)) (sym (list_all-map is_canonical (λ (f : FoundFacts). f.path) files))
+    ap (λ (b : Bool). b && are_distinct (map (λ (f : FoundFacts). f.path) files))
+    (sym (list_all-map is_canonical (λ (f : FoundFacts). f.path) files))
     ∙ ap (λ (ps : List (List ℕ)). list_all is_canonical ps && are_distinct ps) e ∙ h
 
-pub tree_of-requires : goal.tree_of-requires
-tree_of-requires c = stage_at c.in_ok-files.files.items (map (λ path. path.now) c.args.paths.now) c.in_ok-files.ensures c.requires
+pub new-requires : goal.new-requires
+new-requires c = stage_at c.in_ok-files.files.items
+    (map (λ path. path.now) c.args.paths.now) c.in_ok-files.ensures c.requires

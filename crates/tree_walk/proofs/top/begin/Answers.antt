@@ -11,7 +11,8 @@ returns-in_err-look_at_root-clause-goes g c =
     let i : ℕ = c.loop-root.root-index in
     let within : i < length roots = omega arith in
     goes_then_up c.from_residual.ensures.1 c.loop-root.invariant.goes c.loop-root.invariant.hands.still
-    (λ heard b. c.in_err-look_at_root.ensures.goes heard roots (take i roots) (drop (i + 1) roots) (split_at roots i within c.root-item.is) b)
+    (λ heard b. c.in_err-look_at_root.ensures.goes heard roots (take i roots) (drop (i + 1) roots)
+    (split_at roots i within c.root-item.is) b)
 
 pub loop-root-preserved : goal.loop-root-preserved
 loop-root-preserved g c =
@@ -20,7 +21,10 @@ loop-root-preserved g c =
     let within : i < length roots = omega arith in
     record {
       goes = goes_then c.loop-root.invariant.goes c.loop-root.invariant.hands.still
-          (λ heard b. c.in_ok-look_at_root.ensures.goes heard roots (take i roots) (drop (i + 1) roots) (split_at roots i within c.root-item.is) b)
-          (λ heard b. subst (λ (seen : List (List ℕ)). IsBeginning heard roots seen c.look_at_root.new.search) (take_one roots i within c.root-item.is) b);
-      hands = hands_then c.loop-root.invariant.hands c.look_at_root.ensures.hands (λ _. inr tt) (λ none. absurd none);
+          (λ heard b. c.in_ok-look_at_root.ensures.goes heard roots (take i roots) (drop (i + 1) roots)
+          (split_at roots i within c.root-item.is) b)
+          (λ heard b. subst (λ (seen : List (List ℕ)). IsBeginning heard roots seen c.look_at_root.new.search)
+          (take_one roots i within c.root-item.is) b);
+      hands = hands_then c.loop-root.invariant.hands c.look_at_root.ensures.hands (λ _. inr tt)
+          (λ none. absurd none);
     }

@@ -7,6 +7,9 @@ use Rattle.tree_walk.proofs.top.begin.Given as goal
 
 abbrev pub invariant-loop-root : goal.invariant-loop-root
 invariant-loop-root g l = record {
-  goes : Goes g.T.Tree.told (g.T.Tree.shows l.initial.hand) (g.T.Tree.shows l.hand) [] (λ heard search. IsBeginning heard l.roots (take l.root-index l.roots) search) (λ heard. IsCause heard l.roots) (Ok l.search);
-  hands : HandsOn g.T.Tree.told g.W.Truth.version (g.T.Tree.shows l.initial.hand) (g.T.Tree.shows l.hand) (0 < l.root-index) ⊥;
+  goes : Goes g.T.Tree.told (g.T.Tree.shows l.initial.hand) (g.T.Tree.shows l.hand) []
+      (λ heard search. IsBeginning heard l.roots (take l.root-index l.roots) search)
+      (λ heard. IsCause heard l.roots) (Ok l.search);
+  hands : HandsOn g.T.Tree.told g.W.Truth.version (g.T.Tree.shows l.initial.hand) (g.T.Tree.shows l.hand)
+      (0 < l.root-index) ⊥;
 }

@@ -14,8 +14,11 @@ returns-then-is_looked-clause-goes g c = λ answers roots folder entry rest is n
 pub returns-in_err-answer-clause-goes : goal.returns-in_err-answer-clause-goes
 returns-in_err-answer-clause-goes g c = λ answers roots folder entry rest is n.
     goes_up c.from_residual.ensures.1 c.in_err-answer.ensures.goes
-    (λ more h. call_fault answers more (stat c.args.path Failed) c.in_err-answer.field-0.0 (look_last Failed n.next.underway (file_candidate is n) n.kept refl) h)
+    (λ more h. call_fault answers more (stat c.args.path Failed) c.in_err-answer.field-0.0
+    (look_last Failed n.next.underway (file_candidate is n) n.kept refl) h)
 
 pub returns-clause-goes : goal.returns-clause-goes
 returns-clause-goes g c = λ answers roots folder entry rest is n.
-    goes_on c.in_ok-answer.ensures.goes (λ more look. file_ends c.note_new.result c.note_new.new.self is n (sym c.is_looked.ensures ∙ c.if-is_looked.false) look c.note_new.ensures)
+    goes_on c.in_ok-answer.ensures.goes
+    (λ more look. file_ends c.note_new.result c.note_new.new.self is n
+    (sym c.is_looked.ensures ∙ c.if-is_looked.false) look c.note_new.ensures)

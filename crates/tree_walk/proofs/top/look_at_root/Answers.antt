@@ -11,7 +11,8 @@ use Rattle.tree_walk.proofs.top.look_at_root.Goals as goal
 pub returns-in_err-answer-clause-goes : goal.returns-in_err-answer-clause-goes
 returns-in_err-answer-clause-goes g c = λ answers roots seen after split b.
     goes_up c.from_residual.ensures.1 c.in_err-answer.ensures.goes
-    (λ more h. call_fault answers more (stat c.args.root.now Failed) c.in_err-answer.field-0.0 (root_last after Failed b split c.in_err-answer.ensures.kept refl) h)
+    (λ more h. call_fault answers more (stat c.args.root.now Failed) c.in_err-answer.field-0.0
+    (root_last after Failed b split c.in_err-answer.ensures.kept refl) h)
 
 pub returns-in_default-clause-goes : goal.returns-in_default-clause-goes
 returns-in_default-clause-goes g c = λ answers roots seen after split b.
@@ -21,5 +22,6 @@ returns-in_default-clause-goes g c = λ answers roots seen after split b.
 pub returns-in_ok-copy-in-Gone-clause-goes : goal.returns-in_ok-copy-in-Gone-clause-goes
 returns-in_ok-copy-in-Gone-clause-goes g c = λ answers roots seen after split b.
     goes_on c.in_ok-answer.ensures.goes
-    (λ more look. subst (λ (path : List ℕ). IsRootGone (answers ++ more) roots path) (sym c.in_ok-copy-in-Gone.ensures)
+    (λ more look. subst (λ (path : List ℕ). IsRootGone (answers ++ more) roots path)
+    (sym c.in_ok-copy-in-Gone.ensures)
     (root_gone after b split (look.heard ∙ ap (λ answer. stat c.args.root.now answer ∷ []) c.in-Gone.is)))

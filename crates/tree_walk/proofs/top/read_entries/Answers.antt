@@ -22,9 +22,13 @@ returns-then-pay-clause-goes g c = λ answers roots u.
     goes_on c.in_ok-content.ensures.goes
     (λ more h.
     let items : List EntryFacts = c.in_ok-content.content.entries.items in
-    let fits : length items ≤ c.args.search.now.left = subst (λ (es : List EntryFacts). length es ≤ c.args.search.now.left) c.as_slice.ensures.value (c.pay.ensures.room.0 c.if-pay.true) in
+    let fits : length items ≤ c.args.search.now.left =
+    subst (λ (es : List EntryFacts). length es ≤ c.args.search.now.left) c.as_slice.ensures.value
+    (c.pay.ensures.room.0 c.if-pay.true) in
     let now : c.pay.new.self ≡ paid c.args.search.now (length items) c.in_ok-content.content.skipped =
-    c.if-pay.ensures.value ∙ ap (λ (es : List EntryFacts). paid c.args.search.now (length es) c.in_ok-content.content.skipped) c.as_slice.ensures.value in
+    c.if-pay.ensures.value ∙ ap
+    (λ (es : List EntryFacts). paid c.args.search.now
+    (length es) c.in_ok-content.content.skipped) c.as_slice.ensures.value in
     subst (λ (s : SearchFacts). IsEntered (answers ++ more) roots s c.args.folder.now items) (sym now)
     (read_into c.args.search.now u h fits))
 
@@ -35,6 +39,9 @@ returns-else-pay-clause-goes g c = λ answers roots u.
     let items : List EntryFacts = c.in_ok-content.content.entries.items in
     let over : c.args.search.now.left < length items = elim (cases_lt c.args.search.now.left (length items)) [
       | inl lt ↦ lt
-      | inr le ↦ absurd (false≢true (sym c.if-pay.false ∙ c.pay.ensures.room.1 (subst (λ (es : List EntryFacts). length es ≤ c.args.search.now.left) (sym c.as_slice.ensures.value) le)))
+      | inr le ↦ absurd (false≢true
+          (sym c.if-pay.false ∙ c.pay.ensures.room.1
+          (subst (λ (es : List EntryFacts). length es ≤ c.args.search.now.left)
+          (sym c.as_slice.ensures.value) le)))
     ] in
     read_over c.args.search.now u h over)

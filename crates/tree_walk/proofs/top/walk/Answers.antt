@@ -9,32 +9,40 @@ use Rattle.tree_walk.proofs.WalkLemmas.{walk_ended, files_of}
 use Rattle.tree_walk.proofs.top.walk.Goals as goal
 
 pub returns-in_err-search-clause-refused : goal.returns-in_err-search-clause-refused
-returns-in_err-search-clause-refused g c = fault_fits c.from_residual.result (goes_up c.from_residual.ensures.1 c.in_err-search.ensures.goes (λ heard bad. bad))
+returns-in_err-search-clause-refused g c =
+    fault_fits c.from_residual.result
+    (goes_up c.from_residual.ensures.1 c.in_err-search.ensures.goes (λ heard bad. bad))
 
 pub returns-in_err-read_folder-clause-walk : goal.returns-in_err-read_folder-clause-walk
 returns-in_err-read_folder-clause-walk g c =
     let roots : List (List ℕ) = c.args.roots.now in
     goes_then_up c.from_residual-in_err-read_folder.ensures.1 c.loop-folder.invariant.goes c.loop-folder.invariant.hands.still
-    (λ heard u. c.in_err-read_folder.ensures.goes heard roots (subst (λ (s : SearchFacts). IsUnderway heard roots s [] []) c.in-Some.ensures u))
+    (λ heard u. c.in_err-read_folder.ensures.goes heard roots
+    (subst (λ (s : SearchFacts). IsUnderway heard roots s [] []) c.in-Some.ensures u))
 
 pub returns-in_err-read_folder-clause-refused : goal.returns-in_err-read_folder-clause-refused
-returns-in_err-read_folder-clause-refused g c = fault_fits c.from_residual-in_err-read_folder.result (returns-in_err-read_folder-clause-walk g c)
+returns-in_err-read_folder-clause-refused g c =
+    fault_fits c.from_residual-in_err-read_folder.result (returns-in_err-read_folder-clause-walk g c)
 
 pub loop-folder-preserved : goal.loop-folder-preserved
 loop-folder-preserved g c =
     let roots : List (List ℕ) = c.args.roots.now in
     record {
       goes = goes_then c.loop-folder.invariant.goes c.loop-folder.invariant.hands.still
-          (λ heard u. c.in_ok-read_folder.ensures.goes heard roots (subst (λ (s : SearchFacts). IsUnderway heard roots s [] []) c.in-Some.ensures u))
+          (λ heard u. c.in_ok-read_folder.ensures.goes heard roots
+          (subst (λ (s : SearchFacts). IsUnderway heard roots s [] []) c.in-Some.ensures u))
           (λ heard u. u);
-      hands = hands_then c.loop-folder.invariant.hands c.read_folder.ensures.hands (λ some. inl some) (λ none. absurd none);
+      hands = hands_then c.loop-folder.invariant.hands c.read_folder.ensures.hands (λ some. inl some)
+          (λ none. absurd none);
     }
 
 pub returns-clause-walk : goal.returns-clause-walk
 returns-clause-walk g c =
     let now : c.next_folder.new.self ≡ c.loop-folder.search = c.in_default.ensures.0 in
     goes_on c.loop-folder.invariant.goes
-    (λ heard u. walk_ended c.finish.result (subst (λ (s : SearchFacts). IsUnderway heard c.args.roots.now s [] []) (sym now) u) (subst (λ (s : SearchFacts). s.todo ≡ []) (sym now) c.in_default.ensures.1)
+    (λ heard u. walk_ended c.finish.result
+    (subst (λ (s : SearchFacts). IsUnderway heard c.args.roots.now s [] []) (sym now) u)
+    (subst (λ (s : SearchFacts). s.todo ≡ []) (sym now) c.in_default.ensures.1)
     c.finish.ensures.listing c.finish.ensures.skipped c.finish.ensures.memory)
 
 pub returns-clause-files : goal.returns-clause-files

@@ -7,8 +7,11 @@ use Rattle.tree_walk.proofs.top.walk.Given as goal
 
 abbrev pub invariant-loop-folder : goal.invariant-loop-folder
 invariant-loop-folder g l = record {
-  goes : Goes g.T.Tree.told (g.T.Tree.shows l.fn.hand) (g.T.Tree.shows l.hand) [] (λ heard search. IsUnderway heard l.fn.roots search [] []) (λ heard. IsCause heard l.fn.roots) (Ok l.search);
-  hands : HandsOn g.T.Tree.told g.W.Truth.version (g.T.Tree.shows l.fn.hand) (g.T.Tree.shows l.hand) (0 < length l.fn.roots) ⊥;
+  goes : Goes g.T.Tree.told (g.T.Tree.shows l.fn.hand) (g.T.Tree.shows l.hand) []
+      (λ heard search. IsUnderway heard l.fn.roots search [] []) (λ heard. IsCause heard l.fn.roots)
+      (Ok l.search);
+  hands : HandsOn g.T.Tree.told g.W.Truth.version (g.T.Tree.shows l.fn.hand) (g.T.Tree.shows l.hand)
+      (0 < length l.fn.roots) ⊥;
 }
 
 abbrev pub decreases-loop-folder : goal.decreases-loop-folder

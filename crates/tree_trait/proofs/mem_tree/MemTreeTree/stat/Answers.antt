@@ -10,4 +10,5 @@ returns-then-end_call-clause-asks g c =
     c.heard_stat-call.ensures c.if-end_call.ensures.ended c.end_call.ensures.later
 
 pub returns-else-end_call-clause-asks : goal.returns-else-end_call-clause-asks
-returns-else-end_call-clause-asks g c = asks_nothing c.next_files.ensures.scripted refl c.if-end_call.ensures.same
+returns-else-end_call-clause-asks g c =
+    asks_nothing c.next_files.ensures.scripted refl c.if-end_call.ensures.same
