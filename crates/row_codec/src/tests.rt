@@ -1,7 +1,8 @@
 //! What no clause says: that memory suffices, and that the numbers of the format are those of its table.
 
 use crate::write_row;
-use row_types::{BuildId, CanonPath, EDITION, Ident, Name, Reading, Row, Sources, Stamp, Why};
+use row_types::{EDITION, Name, Reading, Row, Stamp, Why};
+use sample_rows::{elf, path, row};
 use std::alloc::Global;
 use std::test::Fail;
 
@@ -10,22 +11,9 @@ const EXAMPLE: [u8; 29] = [
     1, 2, 0, 0, 0, 0x2f, 0x61, 0, 0, 0, 0, 0, 0, 0, 0, 0x64, 0, 0, 0, 0, 0, 0, 0, 0, 0, 0, 0, 0, 1,
 ];
 
-/// The canonical path of this text.
-fn path(alloc: Global, text: &str) -> Result<CanonPath, Fail> {
-    Ok(
-        CanonPath::check(String::from_str(alloc, text)?)
-            .ok()
-            .ok_or("a path")?,
-    )
-}
-
 /// The row of `/a`, empty, changed at second 100.
 fn row_of(alloc: Global, reading: Reading) -> Result<Row, Fail> {
-    let name = Name {
-        path: path(alloc, "/a")?,
-        stamp: Stamp::new(0, 100, 0).ok_or("a stamp")?,
-    };
-    Ok(Row::new(name, EDITION, reading))
+    Ok(row(alloc, "/a", 0, reading)?.into_row())
 }
 
 #[test]
@@ -68,15 +56,8 @@ fn an_identity_and_its_sources_stand_behind_their_tag(rt: HostRuntime) -> Result
         path: path(alloc, "/b")?,
         stamp: Stamp::new(258, -1, 3).ok_or("a stamp")?,
     };
-    let ident = Ident {
-        id: BuildId::new(&[0xab, 0xcd]).ok_or("two bytes are an id")?,
-        exec: true,
-        debug: true,
-    };
-    let sources = Sources::check(vec![in alloc; path(alloc, "/s")?]?)
-        .ok()
-        .ok_or("one path ascends")?;
-    let row = Row::new(name, EDITION, Reading::Elf { ident, sources });
+    let reading = elf(alloc, &[0xab, 0xcd], true, true, &["/s"])?;
+    let row = Row::new(name, EDITION, reading);
     assert_eq!(rt;
         write_row(alloc, &row)?.as_slice(),
         WITH_IDENTITY.as_slice()

@@ -1,0 +1,5 @@
+pub use Rattle.row_types.specs.Name
+pub use Rattle.row_types.specs.Row
+pub use Rattle.row_types.specs.Stamp
+pub mod Names
+pub mod Rows

@@ -1,0 +1,20 @@
+-- Rows of sample files (this project's example).
+use Rattle.std.specs.Prelude.{ℕ, Bool, List}
+use Rattle.file_formats.specs.declared.fault.Why.TheVariants.{NotElf}
+use Rattle.row_types.specs.Row.{RowFacts}
+use Rattle.row_types.specs.declared.limits.TheConstants.{EDITION}
+use Rattle.row_types.specs.declared.reading.Reading.{Reading}
+use Rattle.row_types.specs.declared.reading.Reading.TheVariants.{Elf, Plain}
+use Rattle.sample_rows.specs.Names.{name_of}
+
+-- what a file with an id is found to be
+abbrev pub elf_of : List ℕ → Bool → Bool → List (List ℕ) → Reading
+elf_of id exec debug sources = Elf (record { id = id; exec = exec; debug = debug }) sources
+
+-- the row of a file of this path and size, which is found to be this
+abbrev pub row_of : List ℕ → ℕ → Reading → RowFacts
+row_of path size reading = record { name = name_of path size; edition = EDITION; reading = reading }
+
+-- the row of a file of this path and size, which is no ELF file
+abbrev pub plain_of : List ℕ → ℕ → RowFacts
+plain_of path size = row_of path size (Plain NotElf)

@@ -1,0 +1,66 @@
+//! Paths, stamps and names.
+
+ghost use Rattle.std.specs.Prelude.{◌≡◌, map, IfOk};
+ghost use Rattle.row_types.specs.Canon.{IsCanonPath};
+ghost use Rattle.sample_rows.specs.Names.{name_of, stamp_of};
+
+use crate::fault::SampleFault;
+use row_types::{CanonPath, Name, Stamp};
+use std::alloc::Global;
+
+/// The second at which each file has changed, counted from the start of 1970.
+pub const SECOND: i64 = 100;
+
+/// The canonical path of this text.
+pub fn path(alloc: Global, text: &str) -> Result<CanonPath, SampleFault>
+    ensures value { IfOk result (λ path. path ≡ text.now) }
+    ensures refused { result ≡ Err SampleFault.NotAPath → ¬ IsCanonPath text.now }
+{
+    match CanonPath::check(String::from_str(alloc, text)?) {
+        Ok(path) => Ok(path),
+        Err(_) => Err(SampleFault::NotAPath),
+    }
+}
+
+/// The canonical paths of these texts.
+pub fn paths(alloc: Global, texts: &[&str]) -> Result<Vec<CanonPath>, SampleFault>
+    ensures { IfOk result (λ paths. paths.items ≡ map (λ text. text.now) texts.now) }
+{
+    let mut paths = Vec::new(alloc);
+    for text in texts {
+        paths.push(path(alloc, text)?)?;
+    }
+    Ok(paths)
+}
+
+/// The stamp of a file of this size.
+pub fn stamp(size: u64) -> Stamp
+    ensures { result ≡ stamp_of size }
+{
+    Stamp {
+        size,
+        secs: SECOND,
+        nanos: 0,
+    }
+}
+
+/// The name of a file of this path and size.
+pub fn name(alloc: Global, text: &str, size: u64) -> Result<Name, SampleFault>
+    ensures { IfOk result (λ name. name ≡ name_of text.now size) }
+{
+    Ok(Name {
+        path: path(alloc, text)?,
+        stamp: stamp(size),
+    })
+}
+
+/// The names of files of these paths and sizes, in this order.
+pub fn names(alloc: Global, files: &[(&str, u64)]) -> Result<Vec<Name>, SampleFault>
+    ensures { IfOk result (λ names. names.items ≡ map (λ file. name_of file.0.now file.1) files.now) }
+{
+    let mut names = Vec::new(alloc);
+    for (text, size) in files {
+        names.push(name(alloc, text, *size)?)?;
+    }
+    Ok(names)
+}

@@ -1,0 +1,51 @@
+//! Rows, and what files are found to be.
+
+ghost use Rattle.std.specs.Prelude.{◌≡◌, length, map, IfOk};
+ghost use Rattle.row_types.specs.BuildId.{IsIdLength};
+ghost use Rattle.sample_rows.specs.Rows.{elf_of, plain_of, row_of};
+
+use crate::fault::SampleFault;
+use crate::naming::{name, paths};
+use row_types::{BuildId, EDITION, Ident, OpenWorld, Reading, Row, Sources, TrueRow, Why};
+use std::alloc::Global;
+
+/// What a file with this id is found to be: it has code or not, debug information or not, and was made
+/// from these sources, which stand by path.
+pub fn elf(
+    alloc: Global,
+    id: &[u8],
+    exec: bool,
+    debug: bool,
+    sources: &[&str],
+) -> Result<Reading, SampleFault>
+    ensures { IfOk result (λ found. found ≡ elf_of id.now exec debug (map (λ s. s.now) sources.now)) }
+{
+    let ident = Ident {
+        id: BuildId::new(id).ok_or(SampleFault::NotAnId)?,
+        exec,
+        debug,
+    };
+    match Sources::check(paths(alloc, sources)?) {
+        Ok(sources) => Ok(Reading::Elf { ident, sources }),
+        Err(_) => Err(SampleFault::NotByPath),
+    }
+}
+
+/// The row of a file of this path and size, which is found to be this. In the open world it is true.
+pub fn row(
+    alloc: Global,
+    text: &str,
+    size: u64,
+    reading: Reading,
+) -> Result<TrueRow<OpenWorld>, SampleFault>
+    ensures { IfOk result (λ row. row ≡ row_of text.now size reading) }
+{
+    Ok(TrueRow::new(Row::new(name(alloc, text, size)?, EDITION, reading)))
+}
+
+/// The row of a file of this path and size, which is no ELF file.
+pub fn plain(alloc: Global, text: &str, size: u64) -> Result<TrueRow<OpenWorld>, SampleFault>
+    ensures { IfOk result (λ row. row ≡ plain_of text.now size) }
+{
+    row(alloc, text, size, Reading::Plain(Why::NotElf))
+}
