@@ -4,6 +4,7 @@ ghost use Rattle.std.specs.Prelude.{◌≡◌, ◌&&◌, map, IfOk, IsTrue};
 ghost use Rattle.std.specs.List.{list_all};
 ghost use Rattle.row_types.specs.Canon.{is_canonical};
 ghost use Rattle.tree_trait.specs.Present.{are_distinct};
+ghost use Rattle.tree_trait.specs.Script.{is_stage};
 
 use crate::fault::WalkFault;
 use crate::top::walk;
@@ -31,22 +32,29 @@ fn files_at(alloc: Global, paths: &[&str]) -> Result<Vec<Found<OpenWorld>>, Allo
     Ok(files)
 }
 
-/// The tree of empty files at the paths, of which the calls of these numbers fail.
-fn tree_at(
+/// The tree of these files, of which the call of this number fails.
+fn tree_of(
     alloc: Global,
-    paths: &[&str],
-    bad_calls: Vec<u64>,
+    files: Vec<Found<OpenWorld>>,
+    bad_call: u64,
 ) -> Result<MemTree<OpenWorld>, AllocError>
+    requires { IsTrue (is_stage files.items) }
+{
+    let script = Script {
+        stages: vec![in alloc; files]?,
+        moves: vec![in alloc]?,
+        bad_calls: vec![in alloc; bad_call]?,
+    };
+    Ok(MemTree::new(alloc, script))
+}
+
+/// The tree of empty files at the paths, of which the call of this number fails.
+fn tree_at(alloc: Global, paths: &[&str], bad_call: u64) -> Result<MemTree<OpenWorld>, AllocError>
     requires { let texts = map (λ path. path.now) paths.now in
         IsTrue (list_all is_canonical texts && are_distinct texts) }
 {
     let files = files_at(alloc, paths)?;
-    let script = Script {
-        stages: vec![in alloc; files]?,
-        moves: vec![in alloc]?,
-        bad_calls,
-    };
-    Ok(MemTree::new(alloc, script))
+    tree_of(alloc, files, bad_call)
 }
 
 /// Twelve files under three folders. The call of this number fails.
@@ -65,7 +73,7 @@ fn three_folders(alloc: Global, bad_call: u64) -> Result<MemTree<OpenWorld>, All
         "/w/src/inc/util.h",
         "/w/README",
     ];
-    tree_at(alloc, &paths, vec![in alloc; bad_call]?)
+    tree_at(alloc, &paths, bad_call)
 }
 
 /// How many entries a walk passes over, and the files that it lists; or why it ends early.

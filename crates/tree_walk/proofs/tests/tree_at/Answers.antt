@@ -14,6 +14,6 @@ stage_at files paths e h =
     (sym (list_all-map is_canonical (λ (f : FoundFacts). f.path) files))
     ∙ ap (λ (ps : List (List ℕ)). list_all is_canonical ps && are_distinct ps) e ∙ h
 
-pub new-requires : goal.new-requires
-new-requires c = stage_at c.in_ok-files.files.items
+pub tree_of-requires : goal.tree_of-requires
+tree_of-requires c = stage_at c.in_ok-files.files.items
     (map (λ path. path.now) c.args.paths.now) c.in_ok-files.ensures c.requires
