@@ -8,9 +8,11 @@ use std::test::Fail;
 
 /// The listing of files of these paths and sizes.
 fn listing(alloc: Global, files: &[(&str, u64)]) -> Result<Listing, Fail> {
-    Ok(Listing::new(names(alloc, files)?)
-        .ok()
-        .ok_or("names by path")?)
+    Ok(
+        Listing::new(names(alloc, files)?)
+            .ok()
+            .ok_or("names by path")?,
+    )
 }
 
 // One listed name is current, one is current with another stamp, one isn't; one current name isn't listed.
@@ -18,7 +20,11 @@ fn listing(alloc: Global, files: &[(&str, u64)]) -> Result<Listing, Fail> {
 fn a_pass_begins_with_what_is_not_current(rt: HostRuntime) -> Result<(), Fail> {
     let alloc = rt.alloc();
     let rows = names(alloc, &[("/a", 1), ("/b", 1), ("/c", 4)])?;
-    let begun = Pass::begin(alloc, listing(alloc, &[("/a", 1), ("/b", 2), ("/d", 3)])?, rows);
+    let begun = Pass::begin(
+        alloc,
+        listing(alloc, &[("/a", 1), ("/b", 2), ("/d", 3)])?,
+        rows,
+    );
     let mut pass = begun.ok().ok_or("ample memory")?;
     assert_eq!(rt; pass.counts(), [2, 0, 2, 0]);
     let first = pass.take().ok_or("a name to be read")?;
