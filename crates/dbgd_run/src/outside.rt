@@ -22,8 +22,8 @@ use std::alloc::Global;
 use std::marker::PhantomData;
 use tree_trait::Tree;
 
-/// What the program is handed: the hands that read files, of which the first serves single files, the
-/// store of the index, and its two sinks.
+/// What the program is handed: the hands that read files, of which the first serves single files,
+/// the store of the index, and its two sinks.
 #[derive(Drop)]
 pub struct Outside<W: ElfTruth, T: Tree<W>, S: Store<W>, O: Sink> {
     pub hands: Vec<T>,

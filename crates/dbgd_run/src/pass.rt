@@ -70,7 +70,8 @@ fn read_file<W: ElfTruth, T: Tree<W>, K: Keeper<W>>(
     }
 }
 
-/// Loads the listed files and keeps their rows, in path order, up to the first thing that goes wrong.
+/// Loads the listed files and keeps their rows, in path order, up to the first thing that goes
+/// wrong.
 fn read_files<W: ElfTruth, T: Tree<W>, K: Keeper<W>>(
     alloc: Global,
     state: &mut State<W, K>,

@@ -25,7 +25,8 @@ use std::alloc::Global;
 use tree_trait::Tree;
 use tree_walk::{Walk, walk};
 
-/// Walks the folders, reads the listed files into an index without rows, and says how the scan ends.
+/// Walks the folders, reads the listed files into an index without rows, and says how the scan
+/// ends.
 fn scan_roots<W: ElfTruth, T: Tree<W>, K: Keeper<W>>(
     alloc: Global,
     state: &mut State<W, K>,
@@ -83,7 +84,8 @@ fn scan_keeper<W: ElfTruth, T: Tree<W>, K: Keeper<W>>(
     }
 }
 
-/// Scans the folders into a store, and says how the scan ended. The store has its keeper back by then.
+/// Scans the folders into a store, and says how the scan ended. The store has its keeper back by
+/// then.
 fn scan<W: ElfTruth, T: Tree<W>, S: Store<W>>(
     alloc: Global,
     path: &str,

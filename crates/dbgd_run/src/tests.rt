@@ -1,5 +1,5 @@
-//! What no clause says: that memory suffices, and that the definitions mean what the program's words and
-//! texts say. The expected texts are those of the words' description.
+//! What no clause says: that memory suffices, and that the definitions mean what the program's
+//! words and texts say. The expected texts are those of the words' description.
 
 mod ends;
 mod files;
@@ -7,3 +7,4 @@ mod hands;
 mod rig;
 mod scans;
 mod words;
+mod worlds;

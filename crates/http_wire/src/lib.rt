@@ -1,5 +1,6 @@
-//! HTTP/1.1 as bytes on a stream: by now the streams and sinks that bytes go through. The reader of heads
-//! and the replies come later. Nothing here knows what a request asks or which status a reply has.
+//! HTTP/1.1 as bytes on a stream: by now the streams and sinks that bytes go through. The reader of
+//! heads and the replies come later. Nothing here knows what a request asks or which status a reply
+//! has.
 #![tactic(auto)]
 
 mod mem_sink;

@@ -12,8 +12,8 @@ use row_types::Faults;
 use std::alloc::Global;
 use std::marker::Model;
 
-/// A sink in memory that fails at listed writes and takes each other piece whole. Writes are numbered
-/// from 0. Where memory for a piece is refused, what was written isn't told from then on.
+/// A sink in memory that fails at listed writes and takes each other piece whole. Writes are
+/// numbered from 0. Where memory for a piece is refused, what was written isn't told from then on.
 #[derive(Drop)]
 pub struct MemSink {
     written: Option<Vec<u8>>,
@@ -39,7 +39,12 @@ impl Model for MemSink {
 impl MemSink {
     /// An empty sink that fails at these writes.
     pub fn new(alloc: Global, bad_writes: Vec<u64>) -> MemSink
-        ensures { result ≡ record { written = Some []; bad_writes = bad_writes.items; writes = 0; faults = 0 } }
+        ensures { result ≡ record {
+          written = Some [];
+          bad_writes = bad_writes.items;
+          writes = 0;
+          faults = 0;
+        } }
     {
         MemSink {
             written: Some(Vec::new(alloc)),

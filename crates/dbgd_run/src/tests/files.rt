@@ -1,297 +1,195 @@
 //! What `ident` and `section` say of a file.
 
-use crate::tests::hands::{Crowded, File, one_byte, one_file};
-use crate::tests::rig::{Plan, Run, SOUND, run_all};
-use sample_world::{SampleWorld, reference_script};
+use crate::tests::hands::File::{
+    BigEndian, Both, Companion, Cut, EightAligned, Empty, Executable, Extended, LongestId,
+    SecondId, TooLongId, TwoIds,
+};
+use crate::tests::hands::Files::One;
+use crate::tests::rig::{Case, Plan, Run, SOUND, run_cases};
 use std::test::Fail;
-use tree_trait::MemTree;
 
 const IDENT: &[&str] = &["ident", "/w/a"];
 
-/// A file at `/w/a`, and the line of its identity or of why it has none, with the status.
-const IDENTITIES: [(File, &str, u8); 10] = [
-    (
-        File::Both,
-        "000102030405060708090a0b0c0d0e0f10111213 both\n",
-        0,
+const SECTION: &[&str] = &["section", "/w/a", ".text"];
+
+/// The line of the id A, and of an id of 64 bytes.
+const BOTH: &[u8] = b"000102030405060708090a0b0c0d0e0f10111213 both\n";
+
+const LONGEST: &[u8] =
+    b"11111111111111111111111111111111111111111111111111111111111111111111111111111111111111111111111111111111111111111111111111111111 executable\n";
+
+/// Files, with the line of the identity or of why there is none.
+const IDENTITIES: [Case; 10] = [
+    Case(One(Both), &[], SOUND, &[Run(IDENT, BOTH, "", 0)]),
+    Case(
+        One(EightAligned),
+        &[],
+        SOUND,
+        &[Run(IDENT, b"abcdef executable\n", "", 0)],
     ),
-    (File::EightAligned, "abcdef executable\n", 0),
-    (File::SecondId, "beef executable\n", 0),
-    (
-        File::TwoIds,
-        "000102030405060708090a0b0c0d0e0f10111213 executable\n",
-        0,
+    Case(
+        One(SecondId),
+        &[],
+        SOUND,
+        &[Run(IDENT, b"beef executable\n", "", 0)],
     ),
-    (
-        File::LongestId,
-        "11111111111111111111111111111111111111111111111111111111111111111111111111111111111111111111111111111111111111111111111111111111 executable\n",
-        0,
+    Case(One(TwoIds), &[], SOUND, &[Run(IDENT, FIRST_ID, "", 0)]),
+    Case(One(LongestId), &[], SOUND, &[Run(IDENT, LONGEST, "", 0)]),
+    Case(
+        One(Empty),
+        &[],
+        SOUND,
+        &[Run(IDENT, b"plain not-elf\n", "", 3)],
     ),
-    (File::Empty, "plain not-elf\n", 3),
-    (File::Cut, "plain bad-elf\n", 3),
-    (File::TooLongId, "plain no-build-id\n", 3),
-    (File::BigEndian, "a0a1a2a3a4a5a6a7 debuginfo\n", 0),
-    (
-        File::Extended,
-        "000102030405060708090a0b0c0d0e0f10111213 both\n",
-        0,
+    Case(
+        One(Cut),
+        &[],
+        SOUND,
+        &[Run(IDENT, b"plain bad-elf\n", "", 3)],
     ),
+    Case(
+        One(TooLongId),
+        &[],
+        SOUND,
+        &[Run(IDENT, b"plain no-build-id\n", "", 3)],
+    ),
+    Case(
+        One(BigEndian),
+        &[],
+        SOUND,
+        &[Run(IDENT, b"a0a1a2a3a4a5a6a7 debuginfo\n", "", 0)],
+    ),
+    Case(One(Extended), &[], SOUND, &[Run(IDENT, BOTH, "", 0)]),
 ];
+
+/// The line of code alone under the id A.
+const FIRST_ID: &[u8] = b"000102030405060708090a0b0c0d0e0f10111213 executable\n";
 
 #[test]
 fn an_identity_or_the_reason_is_printed(rt: HostRuntime) -> Result<(), Fail> {
-    let alloc = rt.alloc();
-    for (file, line, status) in IDENTITIES {
-        let case = Run {
-            words: IDENT,
-            out: line.as_bytes(),
-            err: "",
-            status,
-        };
-        run_all(&rt, alloc, one_file(alloc, file, &[])?, &SOUND, &[case])?;
-    }
-    Ok(())
+    run_cases(&rt, rt.alloc(), &IDENTITIES)
 }
 
-/// A file at `/w/a`, the name of a section, and what is written and said of it, with the status. Of the
-/// companion, the first takes no bytes in the file, the second is compressed, the third isn't there.
-const SECTIONS: [(File, &str, &[u8], &str, u8); 7] = [
-    (File::Companion, ".text", b"", "dbgd: no section\n", 3),
-    (File::Companion, ".debug_zz", b"", "dbgd: no section\n", 3),
-    (File::Companion, ".debug_line", b"", "dbgd: no section\n", 3),
-    (File::Executable, ".text", b"\xc3", "", 0),
-    (
-        File::Executable,
-        ".shstrtab",
-        b"\0.note.gnu.build-id\0.text\0.shstrtab\0",
-        "",
-        0,
+const NO_SECTION: &str = "dbgd: no section\n";
+
+const NAMES: &[u8] = b"\0.note.gnu.build-id\0.text\0.shstrtab\0";
+
+/// Files, with sections that are there, and that aren't: of the companion, the first takes no bytes
+/// in the file, the second is compressed, the third isn't there.
+const SECTIONS: [Case; 7] = [
+    Case(
+        One(Companion),
+        &[],
+        SOUND,
+        &[Run(SECTION, b"", NO_SECTION, 3)],
     ),
-    (File::Both, ".debug_info", b"", "", 0),
-    (
-        File::TooLongId,
-        ".text",
-        b"",
-        "dbgd: plain no-build-id\n",
-        3,
+    Case(
+        One(Companion),
+        &[],
+        SOUND,
+        &[Run(&["section", "/w/a", ".debug_zz"], b"", NO_SECTION, 3)],
+    ),
+    Case(
+        One(Companion),
+        &[],
+        SOUND,
+        &[Run(&["section", "/w/a", ".debug_line"], b"", NO_SECTION, 3)],
+    ),
+    Case(One(Executable), &[], SOUND, &[Run(SECTION, b"\xc3", "", 0)]),
+    Case(
+        One(Executable),
+        &[],
+        SOUND,
+        &[Run(&["section", "/w/a", ".shstrtab"], NAMES, "", 0)],
+    ),
+    Case(
+        One(Both),
+        &[],
+        SOUND,
+        &[Run(&["section", "/w/a", ".debug_info"], b"", "", 0)],
+    ),
+    Case(
+        One(TooLongId),
+        &[],
+        SOUND,
+        &[Run(SECTION, b"", "dbgd: plain no-build-id\n", 3)],
     ),
 ];
 
 #[test]
 fn a_section_is_written_as_it_stands(rt: HostRuntime) -> Result<(), Fail> {
-    let alloc = rt.alloc();
-    for (file, name, out, err, status) in SECTIONS {
-        let words: [&str; 3] = ["section", "/w/a", name];
-        let case = Run {
-            words: &words,
-            out,
-            err,
-            status,
-        };
-        run_all(&rt, alloc, one_file(alloc, file, &[])?, &SOUND, &[case])?;
-    }
-    Ok(())
+    run_cases(&rt, rt.alloc(), &SECTIONS)
 }
 
-const SECTION: &[&str] = &["section", "/w/a", ".text"];
+/// The plans in which a sink fails, or takes three bytes at a time.
+const BAD_OUT: Plan = Plan {
+    bad_out: &[0],
+    ..SOUND
+};
 
-/// What is said where the output failed.
-const CUT: &str = "dbgd: fault output\n";
+const BAD_BOTH: Plan = Plan {
+    bad_out: &[0],
+    bad_err: &[0],
+    ..SOUND
+};
 
-/// The calls of a hand with `/w/a`, code alone, that fail, what fails of the sinks, and a run.
-const MISHAPS: [(&[u64], Plan, Run); 10] = [
-    (
+const BAD_ERR: Plan = Plan {
+    bad_err: &[1],
+    ..SOUND
+};
+
+const NARROW: Plan = Plan { width: 3, ..SOUND };
+
+const NARROW_CUT: Plan = Plan {
+    width: 3,
+    bad_out: &[4],
+    ..SOUND
+};
+
+const FILE_FAULT: &str = "dbgd: fault file\n";
+
+const OUTPUT_FAULT: &str = "dbgd: fault output\n";
+
+/// What is gone, and what fails.
+const MISHAPS: [Case; 10] = [
+    Case(
+        One(Both),
         &[],
         SOUND,
-        Run {
-            words: &["ident", "w//b"],
-            out: b"",
-            err: "dbgd: gone w//b\n",
-            status: 3,
-        },
+        &[Run(&["ident", "w//b"], b"", "dbgd: gone w//b\n", 3)],
     ),
-    (
+    Case(
+        One(Both),
         &[],
         SOUND,
-        Run {
-            words: &["section", "/w/b", ".text"],
-            out: b"",
-            err: "dbgd: gone /w/b\n",
-            status: 3,
-        },
+        &[Run(&["section", "/b", ".text"], b"", "dbgd: gone /b\n", 3)],
     ),
-    (
-        &[0],
-        SOUND,
-        Run {
-            words: IDENT,
-            out: b"",
-            err: "dbgd: fault file\n",
-            status: 1,
-        },
-    ),
-    (
-        &[0],
-        SOUND,
-        Run {
-            words: SECTION,
-            out: b"",
-            err: "dbgd: fault file\n",
-            status: 1,
-        },
-    ),
-    (
+    Case(One(Both), &[0], SOUND, &[Run(IDENT, b"", FILE_FAULT, 1)]),
+    Case(One(Both), &[0], SOUND, &[Run(SECTION, b"", FILE_FAULT, 1)]),
+    Case(One(Both), &[], BAD_OUT, &[Run(IDENT, b"", OUTPUT_FAULT, 1)]),
+    Case(
+        One(Executable),
         &[],
-        Plan {
-            bad_out: &[0],
-            ..SOUND
-        },
-        Run {
-            words: IDENT,
-            out: b"",
-            err: CUT,
-            status: 1,
-        },
+        BAD_OUT,
+        &[Run(SECTION, b"", OUTPUT_FAULT, 1)],
     ),
-    (
+    Case(One(Both), &[], BAD_BOTH, &[Run(IDENT, b"", "", 1)]),
+    Case(
+        One(Both),
         &[],
-        Plan {
-            bad_out: &[0],
-            ..SOUND
-        },
-        Run {
-            words: SECTION,
-            out: b"",
-            err: CUT,
-            status: 1,
-        },
+        BAD_ERR,
+        &[Run(&["ident", "/w/b"], b"", "dbgd: gone ", 3)],
     ),
-    (
+    Case(One(Both), &[], NARROW, &[Run(IDENT, BOTH, "", 0)]),
+    Case(
+        One(Both),
         &[],
-        Plan {
-            bad_out: &[0],
-            bad_err: &[0],
-            ..SOUND
-        },
-        Run {
-            words: IDENT,
-            out: b"",
-            err: "",
-            status: 1,
-        },
-    ),
-    (
-        &[],
-        Plan {
-            bad_err: &[1],
-            ..SOUND
-        },
-        Run {
-            words: &["ident", "/w/b"],
-            out: b"",
-            err: "dbgd: gone ",
-            status: 3,
-        },
-    ),
-    (
-        &[],
-        Plan { width: 3, ..SOUND },
-        Run {
-            words: IDENT,
-            out: b"404142434445464748494a4b4c4d4e4f50515253 executable\n",
-            err: "",
-            status: 0,
-        },
-    ),
-    (
-        &[],
-        Plan {
-            width: 3,
-            bad_out: &[4],
-            ..SOUND
-        },
-        Run {
-            words: IDENT,
-            out: b"404142434445",
-            err: CUT,
-            status: 1,
-        },
+        NARROW_CUT,
+        &[Run(IDENT, b"000102030405", OUTPUT_FAULT, 1)],
     ),
 ];
 
 #[test]
 fn what_fails_is_said_and_left_as_it_is(rt: HostRuntime) -> Result<(), Fail> {
-    let alloc = rt.alloc();
-    for (bad_calls, plan, case) in MISHAPS {
-        run_all(
-            &rt,
-            alloc,
-            one_file(alloc, File::Executable, bad_calls)?,
-            &plan,
-            &[case],
-        )?;
-    }
-    Ok(())
-}
-
-#[test]
-fn a_crowded_tree_is_answered_without_bytes(rt: HostRuntime) -> Result<(), Fail> {
-    let alloc = rt.alloc();
-    let large = Run {
-        words: IDENT,
-        out: b"plain too-large\n",
-        err: "",
-        status: 3,
-    };
-    run_all(&rt, alloc, Crowded::TooLarge, &SOUND, &[large])?;
-    let wants = Run {
-        words: IDENT,
-        out: b"",
-        err: "dbgd: out of memory\n",
-        status: 6,
-    };
-    run_all(&rt, alloc, Crowded::NoMemory, &SOUND, &[wants])
-}
-
-/// Runs over the reference tree, what out has got by the end of each, err, and the status. The program's first
-/// bytes are those of its own id, and the tool's code is one byte.
-const REFERENCE: [Run; 4] = [
-    Run {
-        words: &["ident", "/srv/bin/libx.so"],
-        out: b"000102030405060708090a0b0c0d0e0f10111213 both\n",
-        err: "",
-        status: 0,
-    },
-    Run {
-        words: &["section", "/srv/bin/tool", ".text"],
-        out: b"000102030405060708090a0b0c0d0e0f10111213 both\n\xc3",
-        err: "",
-        status: 0,
-    },
-    Run {
-        words: &["ident", "/srv/bin/run.sh"],
-        out: b"000102030405060708090a0b0c0d0e0f10111213 both\n\xc3plain not-elf\n",
-        err: "",
-        status: 3,
-    },
-    Run {
-        words: &["section", "/srv/bin/run.sh", ".text"],
-        out: b"000102030405060708090a0b0c0d0e0f10111213 both\n\xc3plain not-elf\n",
-        err: "dbgd: plain not-elf\n",
-        status: 3,
-    },
-];
-
-#[test]
-fn a_told_world_answers_by_its_bytes(rt: HostRuntime) -> Result<(), Fail> {
-    let alloc = rt.alloc();
-    let plain = Run {
-        words: IDENT,
-        out: b"plain not-elf\n",
-        err: "",
-        status: 3,
-    };
-    run_all(&rt, alloc, one_byte(alloc)?, &SOUND, &[plain])?;
-    let hand: MemTree<SampleWorld> = MemTree::new(alloc, reference_script(alloc, Vec::new(alloc))?);
-    run_all(&rt, alloc, hand, &SOUND, &REFERENCE)
+    run_cases(&rt, rt.alloc(), &MISHAPS)
 }

@@ -30,6 +30,15 @@ pub enum File {
     Companion,
 }
 
+/// The files of a hand of the open world.
+#[derive(Clone, Copy)]
+pub enum Files {
+    /// `/w/a`.
+    One(File),
+    /// `/srv/a` of both classes and `/srv/b`, a text.
+    Two,
+}
+
 /// A file's bytes.
 fn bytes_of(alloc: Global, file: File) -> Result<Vec<u8>, AllocError> {
     match file {
@@ -67,8 +76,8 @@ fn file_of(alloc: Global, path: &str, bytes: Vec<u8>) -> Result<Found<OpenWorld>
     Ok(Found::new(String::from_str(alloc, path)?, stamp, bytes))
 }
 
-/// A hand that has one file, `/w/a`, and fails at these calls.
-pub fn one_file(alloc: Global, file: File, bad: &[u64]) -> Result<MemTree<OpenWorld>, Fail> {
+/// The tree of one file.
+fn one_file(alloc: Global, file: File, bad: &[u64]) -> Result<MemTree<OpenWorld>, Fail> {
     let found = file_of(alloc, "/w/a", bytes_of(alloc, file)?)?;
     let script = Script {
         stages: vec![in alloc; vec![in alloc; found]?]?,
@@ -78,8 +87,8 @@ pub fn one_file(alloc: Global, file: File, bad: &[u64]) -> Result<MemTree<OpenWo
     Ok(MemTree::new(alloc, script))
 }
 
-/// A hand that has `/srv/a` of both classes and `/srv/b`, a text, and fails at these calls.
-pub fn two_files(alloc: Global, bad: &[u64]) -> Result<MemTree<OpenWorld>, Fail> {
+/// The tree of two files.
+fn two_files(alloc: Global, bad: &[u64]) -> Result<MemTree<OpenWorld>, Fail> {
     let first = file_of(alloc, "/srv/a", both_classes(alloc)?)?;
     let second = file_of(alloc, "/srv/b", Vec::from_slice(alloc, b"hello\n")?)?;
     let script = Script {
@@ -88,6 +97,14 @@ pub fn two_files(alloc: Global, bad: &[u64]) -> Result<MemTree<OpenWorld>, Fail>
         bad_calls: Vec::from_slice(alloc, bad)?,
     };
     Ok(MemTree::new(alloc, script))
+}
+
+/// A hand that has these files, and fails at these calls.
+pub fn hand_of(alloc: Global, files: Files, bad: &[u64]) -> Result<MemTree<OpenWorld>, Fail> {
+    match files {
+        Files::One(file) => one_file(alloc, file, bad),
+        Files::Two => two_files(alloc, bad),
+    }
 }
 
 /// A hand of the told world of one byte a file, which has `/w/a`.

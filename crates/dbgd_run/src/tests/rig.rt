@@ -1,9 +1,11 @@
-//! One harness for all runs: words are run over objects in memory, and what comes of each is compared.
+//! One harness for all runs: words are run over objects in memory, and what comes of each is
+//! compared.
 
 ghost use Rattle.std.specs.Prelude.{◌<◌};
 
 use crate::elf_truth::ElfTruth;
 use crate::outside::{Outside, run};
+use crate::tests::hands::{Files, hand_of};
 use http_wire::{MemSink, Sink, Stream, WriteAnswer};
 use index_keeper::MemStore;
 use std::alloc::Global;
@@ -12,9 +14,9 @@ use std::process::Abort;
 use std::test::Fail;
 use tree_trait::Tree;
 
-/// When the objects around a hand fail: the call of the store from which on it fails, until it is opened
-/// again, those of its calls that fail once, the writes that fail on out and on err, and how many bytes
-/// a write takes at most.
+/// When the objects around a hand fail: the call of the store from which on it fails, until it is
+/// opened again, those of its calls that fail once, the writes that fail on out and on err, and how
+/// many bytes a write takes at most.
 #[derive(Clone, Copy)]
 pub struct Plan<'a> {
     pub stop_at: Option<u64>,
@@ -33,14 +35,13 @@ pub const SOUND: Plan<'static> = Plan {
     width: 1000,
 };
 
-/// The words of a run, all that out and err have got by its end, and its status.
+/// A run: its words, all that out and err have got by its end, and its status.
 #[derive(Clone, Copy)]
-pub struct Run<'a> {
-    pub words: &'a [&'a str],
-    pub out: &'a [u8],
-    pub err: &'a str,
-    pub status: u8,
-}
+pub struct Run<'a>(pub &'a [&'a str], pub &'a [u8], pub &'a str, pub u8);
+
+/// What a hand has, its calls that fail, what else fails, and runs over it, one after the other.
+#[derive(Clone, Copy)]
+pub struct Case<'a>(pub Files, pub &'a [u64], pub Plan<'a>, pub &'a [Run<'a>]);
 
 /// A sink in memory that takes so many bytes at most at a time.
 #[derive(Drop)]
@@ -107,16 +108,23 @@ fn run_once<W: ElfTruth + Send, T: Tree<W>>(
     outside: &mut Memory<W, T>,
     case: &Run<'_>,
 ) -> Result<(), Fail> {
+    let Run(words, out, err, status) = *case;
     if outside.hands.is_empty() {
         return Err("a hand".into());
     }
-    let words = words_of(alloc, case.words)?;
-    let status = run(alloc, words.as_slice(), outside);
-    let out = outside.out.sink.written().ok_or("out is told")?;
-    let err = outside.err.sink.written().ok_or("err is told")?;
-    assert_eq!(rt; out, case.out, "out of {:?}", case.words);
-    assert_eq!(rt; err, case.err.as_bytes(), "err of {:?}", case.words);
-    assert_eq!(rt; status, case.status, "status of {:?}", case.words);
+    let texts = words_of(alloc, words)?;
+    let ended = run(alloc, texts.as_slice(), outside);
+    assert_eq!(rt;
+        outside.out.sink.written().ok_or("told")?,
+        out,
+        "out of {words:?}"
+    );
+    assert_eq!(rt;
+        outside.err.sink.written().ok_or("told")?,
+        err.as_bytes(),
+        "err of {words:?}"
+    );
+    assert_eq!(rt; ended, status, "status of {words:?}");
     Ok(())
 }
 
@@ -126,11 +134,19 @@ pub fn run_all<W: ElfTruth + Send, T: Tree<W>>(
     alloc: Global,
     hand: T,
     plan: &Plan<'_>,
-    cases: &[Run<'_>],
+    runs: &[Run<'_>],
 ) -> Result<(), Fail> {
     let mut outside = outside_of(alloc, hand, plan)?;
-    for case in cases {
+    for case in runs {
         run_once(rt, alloc, &mut outside, case)?;
+    }
+    Ok(())
+}
+
+/// Runs each case over a hand of the open world.
+pub fn run_cases(rt: &impl Abort, alloc: Global, cases: &[Case<'_>]) -> Result<(), Fail> {
+    for Case(files, bad_calls, plan, runs) in cases {
+        run_all(rt, alloc, hand_of(alloc, *files, bad_calls)?, plan, runs)?;
     }
     Ok(())
 }

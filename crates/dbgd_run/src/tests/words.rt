@@ -1,7 +1,7 @@
 //! What the words ask.
 
 use crate::outside::run_local;
-use crate::tests::hands::{File, one_file};
+use crate::tests::hands::{File, Files, hand_of};
 use crate::tests::rig::{Run, SOUND, outside_of, run_all, words_of};
 use std::alloc::Global;
 use std::process::Abort;
@@ -25,7 +25,8 @@ const UNREADABLE: [&[&str]; 11] = [
     &["scan"],
 ];
 
-/// Lines of commands, or of words of a scan, that aren't built yet. A later command isn't, whatever follows.
+/// Lines of commands, or of words of a scan, that aren't built yet. A later command isn't, whatever
+/// follows.
 const UNBUILT: [&[&str]; 17] = [
     &["sources"],
     &["sources", "--help", ""],
@@ -55,19 +56,8 @@ fn each_says(
     status: u8,
 ) -> Result<(), Fail> {
     for words in lines {
-        let case = Run {
-            words,
-            out: b"",
-            err,
-            status,
-        };
-        run_all(
-            rt,
-            alloc,
-            one_file(alloc, File::Empty, &[])?,
-            &SOUND,
-            &[case],
-        )?;
+        let hand = hand_of(alloc, Files::One(File::Empty), &[])?;
+        run_all(rt, alloc, hand, &SOUND, &[Run(words, b"", err, status)])?;
     }
     Ok(())
 }
@@ -81,7 +71,8 @@ fn words_that_ask_nothing_give_their_line(rt: HostRuntime) -> Result<(), Fail> {
 #[test]
 fn the_local_part_answers_every_line(rt: HostRuntime) -> Result<(), Fail> {
     let alloc = rt.alloc();
-    let mut outside = outside_of(alloc, one_file(alloc, File::Empty, &[])?, &SOUND)?;
+    let hand = hand_of(alloc, Files::One(File::Empty), &[])?;
+    let mut outside = outside_of(alloc, hand, &SOUND)?;
     if outside.hands.is_empty() {
         return Err("a hand".into());
     }

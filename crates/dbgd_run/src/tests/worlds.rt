@@ -1,0 +1,101 @@
+//! Runs over told worlds, and over trees of one answer.
+
+use crate::tests::hands::{Crowded, one_byte};
+use crate::tests::rig::{Run, SOUND, run_all};
+use sample_world::{SampleWorld, changed_file_script, reference_script};
+use std::test::Fail;
+use tree_trait::MemTree;
+
+const IDENT: &[&str] = &["ident", "/w/a"];
+
+const SCAN: &[&str] = &["scan", "-d", "m", "/srv"];
+
+/// The line of a scan of one file.
+const ONE: &[u8] =
+    b"scan: 1 files, 1 added, 0 replaced, 0 dropped, 0 kept, 0 executables, 0 debuginfo\n";
+
+/// Runs over the reference tree. `/srv/bin/tool` has code of one byte.
+const REFERENCE: [Run; 5] = [
+    Run(
+        &["ident", "/srv/debug/ppc.debug"],
+        b"a0a1a2a3a4a5a6a7 debuginfo\n",
+        "",
+        0,
+    ),
+    Run(
+        &["ident", "/w/README"],
+        b"a0a1a2a3a4a5a6a7 debuginfo\nplain not-elf\n",
+        "",
+        3,
+    ),
+    Run(
+        &["section", "/srv/bin/tool", ".text"],
+        b"a0a1a2a3a4a5a6a7 debuginfo\nplain not-elf\n\xc3",
+        "",
+        0,
+    ),
+    Run(
+        &["section", "/w/README", ".text"],
+        b"a0a1a2a3a4a5a6a7 debuginfo\nplain not-elf\n\xc3",
+        "dbgd: plain not-elf\n",
+        3,
+    ),
+    Run(
+        &["scan", "-d", "m", "/srv/bin", "/srv/debug", "/w"],
+        b"a0a1a2a3a4a5a6a7 debuginfo\nplain not-elf\n\xc3scan: 12 files, 12 added, 0 replaced, 0 dropped, 0 kept, 4 executables, 4 debuginfo\n",
+        "dbgd: plain not-elf\n",
+        0,
+    ),
+];
+
+const ALTERED: &str = "dbgd: altered /srv/a listed 6:100:000000000 seen 7:101:000000000\n";
+
+/// A scan of the file that changes, and another one after it.
+const CHANGED: [Run; 2] = [Run(SCAN, b"", ALTERED, 4), Run(SCAN, ONE, ALTERED, 0)];
+
+#[test]
+fn the_sample_world_is_read_and_scanned(rt: HostRuntime) -> Result<(), Fail> {
+    let alloc = rt.alloc();
+    let script = reference_script(alloc, Vec::new(alloc))?;
+    let reference: MemTree<SampleWorld> = MemTree::new(alloc, script);
+    run_all(&rt, alloc, reference, &SOUND, &REFERENCE)?;
+    // The load comes after a look at the root, its entries, and a look at the file.
+    let changed: MemTree<SampleWorld> = MemTree::new(alloc, changed_file_script(alloc, 3)?);
+    run_all(&rt, alloc, changed, &SOUND, &CHANGED)
+}
+
+/// What is said of the file of one byte, in a told world.
+const BYTE: [Run; 2] = [
+    Run(IDENT, b"plain not-elf\n", "", 3),
+    Run(
+        &["scan", "-d", "m", "/w"],
+        b"plain not-elf\nscan: 1 files, 1 added, 0 replaced, 0 dropped, 0 kept, 0 executables, 0 debuginfo\n",
+        "",
+        0,
+    ),
+];
+
+/// What is said of a file above the size limit.
+const LARGE: [Run; 2] = [
+    Run(IDENT, b"plain too-large\n", "", 3),
+    Run(
+        &["scan", "-d", "m", "/large"],
+        b"plain too-large\nscan: 1 files, 1 added, 0 replaced, 0 dropped, 0 kept, 0 executables, 0 debuginfo\n",
+        "",
+        0,
+    ),
+];
+
+/// What is said where there is no memory for any file.
+const WANTS: [Run; 2] = [
+    Run(IDENT, b"", "dbgd: out of memory\n", 6),
+    Run(SCAN, b"", "dbgd: out of memory\ndbgd: out of memory\n", 6),
+];
+
+#[test]
+fn other_trees_are_read_and_scanned(rt: HostRuntime) -> Result<(), Fail> {
+    let alloc = rt.alloc();
+    run_all(&rt, alloc, one_byte(alloc)?, &SOUND, &BYTE)?;
+    run_all(&rt, alloc, Crowded::TooLarge, &SOUND, &LARGE)?;
+    run_all(&rt, alloc, Crowded::NoMemory, &SOUND, &WANTS)
+}
