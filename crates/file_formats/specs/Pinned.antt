@@ -16,8 +16,8 @@ pub record ArePinnedIdent : Type 0 where
   pub order : EI_DATA ≡ 5
   pub version : EI_VERSION ≡ 6
   pub size : EI_NIDENT ≡ 16
-  pub class32 : ELFCLASS32 ≡ 1
-  pub class64 : ELFCLASS64 ≡ 2
+  pub narrow_class : ELFCLASS32 ≡ 1
+  pub wide_class : ELFCLASS64 ≡ 2
   pub little : ELFDATA2LSB ≡ 1
   pub big : ELFDATA2MSB ≡ 2
   pub current : EV_CURRENT ≡ 1
@@ -34,8 +34,8 @@ pub record ArePinnedEhdr : Type 0 where
   pub e_shentsize : E_SHENTSIZE ≡ field 58 2 46 2
   pub e_shnum : E_SHNUM ≡ field 60 2 48 2
   pub e_shstrndx : E_SHSTRNDX ≡ field 62 2 50 2
-  pub size64 : EHDR64_SIZE ≡ 64
-  pub size32 : EHDR32_SIZE ≡ 52
+  pub wide_size : EHDR64_SIZE ≡ 64
+  pub narrow_size : EHDR32_SIZE ≡ 52
   pub core : ET_CORE ≡ 4
 
 -- a section header's fields and sizes, and the indexes of no section and of section 0's link
@@ -47,8 +47,8 @@ pub record ArePinnedShdr : Type 0 where
   pub sh_size : SH_SIZE ≡ field 32 8 20 4
   pub sh_link : SH_LINK ≡ field 40 4 24 4
   pub sh_addralign : SH_ADDRALIGN ≡ field 48 8 32 4
-  pub size64 : SHDR64_SIZE ≡ 64
-  pub size32 : SHDR32_SIZE ≡ 40
+  pub wide_size : SHDR64_SIZE ≡ 64
+  pub narrow_size : SHDR32_SIZE ≡ 40
   pub none : SHN_UNDEF ≡ 0
   pub link : SHN_XINDEX ≡ 0xffff
 

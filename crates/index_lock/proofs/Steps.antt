@@ -270,7 +270,8 @@ module _ {S E O : Type 0} (log : S → List E) (origin : S → O) where
       → settled (step slots 0 0 0 none) between found after
       → (after ≡ (Rests (joined_known mine theirs), [])) × Continues mine (joined_known mine theirs)
       × Continues theirs (joined_known mine theirs)
-  joined_and_settled {between = between} {mine = mine} {theirs = theirs} slots found is is' join told =
+  joined_and_settled {between = between} {mine = mine} {theirs = theirs}
+      slots found is is' join told =
       let both : between ≡ (Joined (joined_known mine theirs) mine theirs, []) =
       join ∙ λ k. (joined_view (is k).0 (is' k).0, (is k).1) in
       let said =

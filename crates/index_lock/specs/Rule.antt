@@ -65,7 +65,7 @@ pub record IsFree {S E O : Type 0} (log : S → List E) (origin : S → O)
   pub seen : (id : ℕ) (view : View E O) → get_elem? state.views id ≡ some view
       → HasSeen (known_of log origin value) view
 
--- the lock is held
+-- the lock is held: the value isn't at home, and no token but the holder has the lock
 pub record IsHeld {S E O : Type 0} (state : State (Option S) (View E O)) : Type 0 where
   pub holder : ℕ
   pub holding : View E O
@@ -75,9 +75,7 @@ pub record IsHeld {S E O : Type 0} (state : State (Option S) (View E O)) : Type 
   pub took : taken_at holding ≡ some all
   -- it is one more than twice the number of changes of that log
   pub word : state.words ≡ (2 * length all.log + 1) ∷ []
-  -- the value isn't at home
   pub slot : state.homes ≡ slot_under S holding ∷ []
-  -- no other token has the lock
   pub alone : (id : ℕ) (view : View E O) → get_elem? state.views id ≡ some view
       → taken_at view ≢ none → id ≡ holder
   -- each has seen a beginning of that log

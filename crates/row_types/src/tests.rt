@@ -23,6 +23,21 @@ fn an_id_is_read_in_either_case_and_printed_in_lower_case(rt: HostRuntime) -> Re
     Ok(())
 }
 
+#[test]
+fn an_id_has_2_to_64_bytes_and_a_second_less_than_1_000_000_000_nanoseconds(rt: HostRuntime) {
+    let bytes = [0x11; 65];
+    for (id, is_id) in [
+        (&bytes[..1], false),
+        (&bytes[..2], true),
+        (&bytes[..64], true),
+        (&bytes[..], false),
+    ] {
+        assert_eq!(rt; BuildId::new(id).is_some(), is_id, "{} bytes", id.len());
+    }
+    assert!(rt; Stamp::new(4, 100, 1_000_000_000).is_none());
+    assert!(rt; Stamp::new(4, 100, 999_999_999).is_some());
+}
+
 // RFC 3986, 5.2.4, has `/a/b/c/./../../g`, whose canonical form is `/a/g`.
 #[test]
 fn canonical_texts_are_told_from_others(rt: HostRuntime) {
