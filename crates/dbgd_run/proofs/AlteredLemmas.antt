@@ -27,8 +27,9 @@ use Rattle.dbgd_run.specs.Scene.{Setting, TellsStill}
 use Rattle.dbgd_run.proofs.ScanLists.{all_front}
 
 -- the next file of the listing is listed
-listed_next : {s : Setting} {roots : List (List ℕ)} {before after : ShownTree} {files : List FileRead} {name : NameFacts}
-    {left : List NameFacts} {last : List Heard} → (reads : ReadsFiles s roots before after files (name ∷ left) last)
+listed_next : {s : Setting} {roots : List (List ℕ)} {before after : ShownTree}
+    {files : List FileRead} {name : NameFacts} {left : List NameFacts} {last : List Heard} →
+    (reads : ReadsFiles s roots before after files (name ∷ left) last)
     → IsWalked reads.walked roots name
 listed_next {files = files} {name = name} {left = left} reads =
     (reads.whole.listing.all name).0
@@ -40,15 +41,17 @@ some_one e = cc
 
 -- the first look of told answers at a path is told
 first_told : (present : List NameFacts) (path : List ℕ) (answers : List Heard) (answer : StatAnswer)
-    → All (IsTold present) answers → first_look answers path ≡ Some answer → TellsStat present path answer
+    → All (IsTold present) answers → first_look answers path ≡ Some answer
+    → TellsStat present path answer
 first_told present path [] answer told e = absurd (cc)
 first_told present path (stat asked given ∷ rest) answer told e =
     look_told (All-head (IsTold present) (stat asked given) rest told)
     (λ h. first_told present path rest answer (All-tail (IsTold present) (stat asked given) rest told) h)
     (bytes_eq asked path) refl (is_look_answer given) e
   where
-    look_told : TellsStat present asked given → (first_look rest path ≡ Some answer → TellsStat present path answer)
-        → (same : Bool) → bytes_eq asked path ≡ same → (answered : Bool)
+    look_told : TellsStat present asked given
+        → (first_look rest path ≡ Some answer → TellsStat present path answer) → (same : Bool)
+        → bytes_eq asked path ≡ same → (answered : Bool)
         → option_or (if same && answered then Some given else None) (first_look rest path) ≡ Some answer
         → TellsStat present path answer
     look_told here later true is true e =
@@ -61,16 +64,18 @@ first_told present path (asked ∷ rest) answer told e =
 
 -- a load of the files that are there shows no other file
 none_other : (present : List NameFacts) (name : NameFacts) (answer : LoadFacts) (met : Seen)
-    → stamp_at present name.path ≡ Some name.stamp → TellsLoad present name.path answer → FindsOther name answer met → ⊥
+    → stamp_at present name.path ≡ Some name.stamp → TellsLoad present name.path answer
+    → FindsOther name answer met → ⊥
 none_other present name (loaded found) met there tells finds = finds.0 (cc)
 none_other present name (too_large stamp) met there tells finds = finds.0 (cc)
 none_other present name gone met there tells finds = absurd (cc)
 none_other present name _ met there tells finds = finds
 
 -- where the files are told and never change, no listed file is another
-pub never_other : {s : Setting} {roots : List (List ℕ)} {before after : ShownTree} {Kept : List RowFacts → Type 0}
-    {name : NameFacts} {met : Seen} → TellsStill s.tells_files before
-    → EndsAltered (ReadsFiles s roots before after) Kept name met → ⊥
+pub never_other : {s : Setting} {roots : List (List ℕ)} {before after : ShownTree}
+    {Kept : List RowFacts → Type 0} {name : NameFacts} {met : Seen}
+    → TellsStill s.tells_files before → EndsAltered (ReadsFiles s roots before after) Kept name met
+    → ⊥
 never_other {before = before} {name = name} {met = met} still ends =
     let reads = ends.reads in
     let told : All (IsTold before.present) ((reads.walked ++ loads_read ends.files) ++ load_of name ends.answer ∷ [])
@@ -82,9 +87,9 @@ never_other {before = before} {name = name} {met = met} still ends =
     ends.finds
 
 -- a file that was another, after the answers of the walk and the other loads
-pub heard_other : {s : Setting} {roots : List (List ℕ)} {before after : ShownTree} {Kept : List RowFacts → Type 0}
-    {name : NameFacts} {met : Seen} → EndsAltered (ReadsFiles s roots before after) Kept name met
-    → HeardOther s roots before after
+pub heard_other : {s : Setting} {roots : List (List ℕ)} {before after : ShownTree}
+    {Kept : List RowFacts → Type 0} {name : NameFacts} {met : Seen}
+    → EndsAltered (ReadsFiles s roots before after) Kept name met → HeardOther s roots before after
 heard_other {name = name} {met = met} ends = record {
   walked = ends.reads.walked;
   loads = loads_read ends.files;

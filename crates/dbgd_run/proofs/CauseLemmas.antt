@@ -29,18 +29,20 @@ use Rattle.dbgd_run.specs.declared.summary.Summary.{Summary}
 use Rattle.dbgd_run.proofs.AlteredLemmas.{heard_other, never_other}
 
 -- what the saying's status says is said, or that the standard output failed
-by_ends : (P : Status → Type 0) (saying : Saying) {old new : Streams} {end : Status} → P saying.status
-    → (Rose old.out.write_faults new.out.write_faults → P status.Fault) → Ends saying old new end → P end
+by_ends : (P : Status → Type 0) (saying : Saying) {old new : Streams} {end : Status}
+    → P saying.status → (Rose old.out.write_faults new.out.write_faults → P status.Fault)
+    → Ends saying old new end → P end
 by_ends P saying said out (inl whole) = subst P (sym whole.ends) said
 by_ends P saying said out (inr cut) = subst P (sym cut.ends) (out cut.out.rose)
 
 -- a command on one file, by what its load answered
-file_ends : (before after : Scene) {saying : Saying} {end : Status} → FileStatus before after saying.status
-    → Ends saying before.streams after.streams end → FileStatus before after end
+file_ends : (before after : Scene) {saying : Saying} {end : Status}
+    → FileStatus before after saying.status → Ends saying before.streams after.streams end
+    → FileStatus before after end
 file_ends before after {saying} said ends = by_ends (FileStatus before after) saying said (λ rose. inr rose) ends
 
-file_status : (before after : Scene) (r : Result Identity Why) (end : Status) → SaysFile r before.streams after.streams end
-    → FileStatus before after end
+file_status : (before after : Scene) (r : Result Identity Why) (end : Status)
+    → SaysFile r before.streams after.streams end → FileStatus before after end
 file_status before after (Ok i) end (inl ends) = file_ends before after tt ends
 file_status before after (Ok i) end (inr wants) = subst (FileStatus before after) (sym wants.ends) tt
 file_status before after (Err why) end ends = file_ends before after tt ends
@@ -54,8 +56,9 @@ ident_status before after path gone end hand said = subst (FileStatus before aft
 ident_status before after path failed end hand said = subst (FileStatus before after) (sym said.ends) (inl (hand refl))
 ident_status before after path no_memory end hand said = subst (FileStatus before after) (sym said.ends) tt
 
-named_status : (before after : Scene) (r : Result Identity Why) (section : Option (List ℕ)) (end : Status)
-    → SaysNamed r section before.streams after.streams end → FileStatus before after end
+named_status : (before after : Scene) (r : Result Identity Why) (section : Option (List ℕ))
+    (end : Status) → SaysNamed r section before.streams after.streams end
+    → FileStatus before after end
 named_status before after (Ok i) (Some bytes) end ends = file_ends before after tt ends
 named_status before after (Ok i) None end said = subst (FileStatus before after) (sym said.ends) tt
 named_status before after (Err why) section end said = subst (FileStatus before after) (sym said.ends) tt
@@ -70,8 +73,8 @@ section_status before after path name failed end hand said = subst (FileStatus b
 section_status before after path name no_memory end hand said = subst (FileStatus before after) (sym said.ends) tt
 
 -- what the status of a scan's end says
-end_status : (s : Setting) {path : List ℕ} {roots : List (List ℕ)} (before after : Scene) (end : ScanEnd)
-    → Scans s path roots before.hand after.hand before.store after.store end
+end_status : (s : Setting) {path : List ℕ} {roots : List (List ℕ)} (before after : Scene)
+    (end : ScanEnd) → Scans s path roots before.hand after.hand before.store after.store end
     → GetsAll (scan_saying end).out before.streams.out after.streams.out
     → ScanStatus s roots before after (scan_saying end).status
 end_status s before after Unopened scans said = inl (scans.store.rose refl)
@@ -106,7 +109,8 @@ end_status s before after (Whole summary) scans said = record { summary = summar
 
 -- what the end's status says is said, or that memory was wanted, or that the standard output failed
 by_end : (P : Status → Type 0) (how : ScanEnd) (old new : Streams) (end : Status)
-    → (GetsAll (scan_saying how).out old.out new.out → P (scan_saying how).status) → P status.OutOfMemory
+    → (GetsAll (scan_saying how).out old.out new.out → P (scan_saying how).status)
+    → P status.OutOfMemory
     → ((summary : Summary) → how ≡ Whole summary → Rose old.out.write_faults new.out.write_faults → P status.Fault)
     → SaysEnd how old new end → P end
 by_end P (Altered name met) old new end said wants out (inl whole) = subst P (sym whole.ends) (said whole.out)
@@ -117,8 +121,8 @@ by_end P (Whole summary) old new end said wants out (inr short) = subst P (sym s
 by_end P how old new end said wants out whole = subst P (sym whole.ends) (said whole.out)
 
 -- a store that holds something is turned away
-turned_away : (s : Setting) {path : List ℕ} {roots : List (List ℕ)} (before after : Scene) (end : ScanEnd)
-    → IsTrue s.tells_tables → ¬ (before.store.tables ≡ [])
+turned_away : (s : Setting) {path : List ℕ} {roots : List (List ℕ)} (before after : Scene)
+    (end : ScanEnd) → IsTrue s.tells_tables → ¬ (before.store.tables ≡ [])
     → Scans s path roots before.hand after.hand before.store after.store end
     → IsTurnedAway before.store after.store (scan_saying end).status
 turned_away s before after Unopened tells some scans = scans.store.rose refl
@@ -132,8 +136,9 @@ turned_away s before after OutOfMemory tells some scans = tt
 turned_away s before after (Whole summary) tells some scans = absurd (some (scans.ends.keeps.empty tells))
 
 -- where nothing stands against it, the scan's end is whole, or memory was wanted
-complete : (s : Setting) {path : List ℕ} {roots : List (List ℕ)} (before after : Scene) (end : ScanEnd)
-    → IsUnhindered s roots before after → Scans s path roots before.hand after.hand before.store after.store end
+complete : (s : Setting) {path : List ℕ} {roots : List (List ℕ)} (before after : Scene)
+    (end : ScanEnd) → IsUnhindered s roots before after
+    → Scans s path roots before.hand after.hand before.store after.store end
     → IsComplete (scan_saying end).status
 complete s before after Unopened free scans = absurd (free.store (scans.store.rose refl))
 complete s before after Filled free scans = absurd (scans.ends.filled free.tells free.empty)
@@ -152,8 +157,8 @@ complete s before after OutOfMemory free scans = tt
 complete s before after (Whole summary) free scans = tt
 
 -- what the status says, by the line
-pub has_status : (s : Setting) (line : Line) (before after : Scene) (end : Status) → Runs s line before after end
-    → HasStatus s line before after end
+pub has_status : (s : Setting) (line : Line) (before after : Scene) (end : Status)
+    → Runs s line before after end → HasStatus s line before after end
 has_status s (asks_ident path) before after end run =
     ident_status before after path run.does.answer end (λ f. run.does.asks.hands.cause.rose f) run.does.said
 has_status s (asks_section path name) before after end run =
@@ -165,8 +170,8 @@ has_status s unbuilt before after end run = run.says.ends
 has_status s unreadable before after end run = run.says.ends
 
 -- how a scan ends when, if the line asks for one
-pub if_scan : (s : Setting) (line : Line) (before after : Scene) (end : Status) → Runs s line before after end
-    → IfScan s line before after end
+pub if_scan : (s : Setting) (line : Line) (before after : Scene) (end : Status)
+    → Runs s line before after end → IfScan s line before after end
 if_scan s (asks_scan path roots) before after end run = record {
   filled = λ tells some.
       by_end (IsTurnedAway before.store after.store) run.end before.streams after.streams end (λ _. turned_away s before after run.end tells some run.scans) tt

@@ -12,8 +12,8 @@ use Rattle.row_types.proofs.TrueRowLemmas.{name_read}
 use Rattle.tree_trait.specs.Found.{FoundFacts, IsFound, Versions}
 
 -- what the bytes of a file that isn't too large are found to be is its reading
-pub reads_within : (stamp : StampFacts) (bytes : List ℕ) (reading : Reading) → stamp.size ≤ FILE_LIMIT → ReadsBytes bytes reading
-    → IsReading stamp bytes reading
+pub reads_within : (stamp : StampFacts) (bytes : List ℕ) (reading : Reading)
+    → stamp.size ≤ FILE_LIMIT → ReadsBytes bytes reading → IsReading stamp bytes reading
 reads_within stamp bytes reading small reads =
     subst (λ (b : Bool). MatchBool b (reading ≡ Plain TooLarge) (ReadsBytes bytes reading)) (sym (le-ltb FILE_LIMIT stamp.size small)) reads
 

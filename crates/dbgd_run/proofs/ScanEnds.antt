@@ -11,11 +11,13 @@ use Rattle.dbgd_run.specs.declared.scan_end.ScanEnd.TheVariants.{Unlisted, Unrea
 use Rattle.dbgd_run.specs.declared.scan_end.ScanEnd.TheVariants.{OutOfMemory, Whole}
 
 -- an end stays one where more is said of what was read and kept
-pub ends_open : (world : Rules) {W V : WalkFault → Type 0} {R Q : List FileRead → List NameFacts → List Heard → Type 0}
-    {A B : List RowFacts → Type 0} {C D : List RowFacts → RowFacts → Type 0} → ((fault : WalkFault) → W fault → V fault)
+pub ends_open : (world : Rules) {W V : WalkFault → Type 0}
+    {R Q : List FileRead → List NameFacts → List Heard → Type 0} {A B : List RowFacts → Type 0}
+    {C D : List RowFacts → RowFacts → Type 0} → ((fault : WalkFault) → W fault → V fault)
     → ((files : List FileRead) (left : List NameFacts) (last : List Heard) → R files left last → Q files left last)
-    → ((rows : List RowFacts) → A rows → B rows) → ((rows : List RowFacts) (row : RowFacts) → C rows row → D rows row)
-    → (end : ScanEnd) → EndsOpen world W R A C end → EndsOpen world V Q B D end
+    → ((rows : List RowFacts) → A rows → B rows)
+    → ((rows : List RowFacts) (row : RowFacts) → C rows row → D rows row) → (end : ScanEnd)
+    → EndsOpen world W R A C end → EndsOpen world V Q B D end
 ends_open world walk read keep tear (Unlisted fault) h = walk fault h
 ends_open world walk read keep tear Unread h =
     record { files = h.files; name = h.name; left = h.left; reads = read _ _ _ h.reads; keeps = keep _ h.keeps }

@@ -38,8 +38,8 @@ use Rattle.dbgd_run.proofs.ScanState.{TakesFirst, keeps_more, keeps_none, keeps_
 use Rattle.dbgd_run.proofs.ScanState.{leaves_pass, takes_first, tears_last}
 
 -- nothing was read yet
-pub starts : {K : Type 0} {told : Bool} {version : Versions} {shows : K → ShownKeeper} {listing : List NameFacts}
-    {hand : ShownTree} {state : StateFacts K} → IsBegun listing state
+pub starts : {K : Type 0} {told : Bool} {version : Versions} {shows : K → ShownKeeper}
+    {listing : List NameFacts} {hand : ShownTree} {state : StateFacts K} → IsBegun listing state
     → HasRead told version shows listing hand hand state state [] listing
 starts begun = record {
   loads = loads_none;
@@ -51,8 +51,9 @@ starts begun = record {
 }
 
 -- the next name went out: these files were read, and these names are left after it
-pub record IsOut {K : Type 0} (told : Bool) (version : Versions) (shows : K → ShownKeeper) (listing : List NameFacts)
-    (before after : ShownTree) (old new : StateFacts K) (name : NameFacts) (files : List FileRead) (left : List NameFacts) : Type 0 where
+pub record IsOut {K : Type 0} (told : Bool) (version : Versions) (shows : K → ShownKeeper)
+    (listing : List NameFacts) (before after : ShownTree) (old new : StateFacts K)
+    (name : NameFacts) (files : List FileRead) (left : List NameFacts) : Type 0 where
   pub loads : LoadsFiles told version listing before after files (name ∷ left) []
   pub still : before.Still → StaysStill before after
   pub hand : before.faults ≤ after.faults
@@ -64,24 +65,28 @@ pub record IsOut {K : Type 0} (told : Bool) (version : Versions) (shows : K → 
   pub later : All (λ other. IsBefore name.path other.path) left
 
 -- so far these files were read
-pub record GoesOut {K : Type 0} (told : Bool) (version : Versions) (shows : K → ShownKeeper) (listing : List NameFacts)
-    (before after : ShownTree) (old new : StateFacts K) (name : NameFacts) (files : List FileRead) : Type 0 where
+pub record GoesOut {K : Type 0} (told : Bool) (version : Versions) (shows : K → ShownKeeper)
+    (listing : List NameFacts) (before after : ShownTree) (old new : StateFacts K)
+    (name : NameFacts) (files : List FileRead) : Type 0 where
   pub left : List NameFacts
   pub out : IsOut told version shows listing before after old new name files left
 
 -- the listing of a pass is one
-pass_listing : {K : Type 0} {true_row : RowFacts → Type 0} {tells : Bool} {shows : K → ShownKeeper} {state : StateFacts K}
-    {listing reading handed : List NameFacts} → IndexInvariant true_row tells shows state
-    → IsPassOver listing reading handed state.pass → IsListing listing
+pass_listing : {K : Type 0} {true_row : RowFacts → Type 0} {tells : Bool} {shows : K → ShownKeeper}
+    {state : StateFacts K} {listing reading handed : List NameFacts}
+    → IndexInvariant true_row tells shows state → IsPassOver listing reading handed state.pass
+    → IsListing listing
 pass_listing holds pass =
     let sound : IsPass pass.from = subst (λ (p : Option PassFacts). IfSome p IsPass) pass.is holds.each_name_in_one_place in
     subst IsListing pass.listing sound.listing
 
 -- the next name goes out
-pub goes_out : {K : Type 0} {true_row : RowFacts → Type 0} {tells told : Bool} {version : Versions} {shows : K → ShownKeeper}
-    {listing : List NameFacts} {before after : ShownTree} {old mid new : StateFacts K} {name : NameFacts}
-    {files : List FileRead} {left : List NameFacts} → IndexInvariant true_row tells shows new
-    → HasRead told version shows listing before after old mid files left → TakesNext mid (Some name) new
+pub goes_out : {K : Type 0} {true_row : RowFacts → Type 0} {tells told : Bool} {version : Versions}
+    {shows : K → ShownKeeper} {listing : List NameFacts} {before after : ShownTree}
+    {old mid new : StateFacts K} {name : NameFacts} {files : List FileRead} {left : List NameFacts}
+    → IndexInvariant true_row tells shows new
+    → HasRead told version shows listing before after old mid files left
+    → TakesNext mid (Some name) new
     → GoesOut told version shows listing before after old new name files
 goes_out {told = told} {version = version} {shows = shows} {listing = listing} {before = before}
     {after = after} {old = old} {new = new} {name = name} {files = files} {left = left} holds had takes =
@@ -120,10 +125,13 @@ stays_on first asks still =
     record { still = two.still; same = two.same ∙ one.same }
 
 -- the file was read, and its row kept
-pub reads_on : {K : Type 0} {tells told : Bool} {version : Versions} {shows : K → ShownKeeper} {listing : List NameFacts}
-    {before between after : ShownTree} {old mid new : StateFacts K} {name : NameFacts} (answer : LoadFacts) (row : RowFacts)
-    {files : List FileRead} {left : List NameFacts} → IsOut told version shows listing before between old mid name files left
-    → Asks told version between after (load_of name answer) → Reads name answer row → Stores tells shows row mid new
+pub reads_on : {K : Type 0} {tells told : Bool} {version : Versions} {shows : K → ShownKeeper}
+    {listing : List NameFacts} {before between after : ShownTree} {old mid new : StateFacts K}
+    {name : NameFacts} (answer : LoadFacts) (row : RowFacts) {files : List FileRead}
+    {left : List NameFacts}
+    → IsOut told version shows listing before between old mid name files left
+    → Asks told version between after (load_of name answer) → Reads name answer row
+    → Stores tells shows row mid new
     → HasRead told version shows listing before after old new (files ++ file_of name answer row ∷ []) left
 reads_on {version = version} {shows = shows} {old = old} {mid = mid} {new = new} {name = name} answer row {files = files} out asks reads stored =
     let named : row.name ≡ name = reads_named name answer row reads in
@@ -152,9 +160,11 @@ other_heard name gone met h = refl
 other_heard name _ met h = absurd h
 
 -- the log of the rows that were kept has room for one more of the listing
-has_room : {K : Type 0} {told : Bool} {version : Versions} {shows : K → ShownKeeper} {listing : List NameFacts}
-    {before after : ShownTree} {old new : StateFacts K} {name : NameFacts} {files : List FileRead} {left : List NameFacts}
-    → IsOut told version shows listing before after old new name files left → length new.log ≡ LOG_LIMIT → ⊥
+has_room : {K : Type 0} {told : Bool} {version : Versions} {shows : K → ShownKeeper}
+    {listing : List NameFacts} {before after : ShownTree} {old new : StateFacts K}
+    {name : NameFacts} {files : List FileRead} {left : List NameFacts}
+    → IsOut told version shows listing before after old new name files left
+    → length new.log ≡ LOG_LIMIT → ⊥
 has_room {listing = listing} {new = new} {name = name} {files = files} {left = left} out full =
     let few : length listing ≤ LISTING_LIMIT = out.listed.few in
     let logged : length new.log ≡ length (rows_read files) = out.keeps.log in
@@ -171,11 +181,13 @@ has_room {listing = listing} {new = new} {name = name} {files = files} {left = l
     )
 
 -- the scan stops at the file
-pub stops : {K : Type 0} (world : Rules) {tells told : Bool} {shows : K → ShownKeeper} {listing : List NameFacts}
-    {before between after : ShownTree} {old mid : StateFacts K} (new : StateFacts K) {name : NameFacts}
-    (answer : LoadFacts) {files : List FileRead} {left : List NameFacts} (end : ScanEnd) → IndexInvariant world.true_row tells shows mid
+pub stops : {K : Type 0} (world : Rules) {tells told : Bool} {shows : K → ShownKeeper}
+    {listing : List NameFacts} {before between after : ShownTree} {old mid : StateFacts K}
+    (new : StateFacts K) {name : NameFacts} (answer : LoadFacts) {files : List FileRead}
+    {left : List NameFacts} (end : ScanEnd) → IndexInvariant world.true_row tells shows mid
     → IsOut told world.version shows listing before between old mid name files left
-    → Asks told world.version between after (load_of name answer) → DoesNext tells shows name answer mid new (Some end)
+    → Asks told world.version between after (load_of name answer)
+    → DoesNext tells shows name answer mid new (Some end)
     → EndsListed world told tells shows listing before after old new end
 stops world {told = told} {shows = shows} {listing = listing} {before = before} {after = after} {old = old} new {name = name} answer {files = files} {left = left} Unread holds out asks does = record {
   files = files;
@@ -228,44 +240,51 @@ stops world new {name = name} answer {files = files} {left = left} OutOfMemory h
 stops world new answer _ holds out asks does = absurd does
 
 -- the next file was read and its row kept: so far one file more was read
-pub goes_on : {K : Type 0} {true_row : RowFacts → Type 0} {tells told : Bool} {version : Versions} {shows : K → ShownKeeper}
-    {listing : List NameFacts} {before between after : ShownTree} {old was mid new : StateFacts K} {name : NameFacts}
-    (answer : LoadFacts) {files : List FileRead} {left : List NameFacts} → IndexInvariant true_row tells shows mid
-    → HasRead told version shows listing before between old was files left → TakesNext was (Some name) mid
-    → Asks told version between after (load_of name answer) → DoesNext tells shows name answer mid new None
-    → (more : List FileRead) × (rest : List NameFacts) × HasRead told version shows listing before after old new more rest
+pub goes_on : {K : Type 0} {true_row : RowFacts → Type 0} {tells told : Bool} {version : Versions}
+    {shows : K → ShownKeeper} {listing : List NameFacts} {before between after : ShownTree}
+    {old was mid new : StateFacts K} {name : NameFacts} (answer : LoadFacts) {files : List FileRead}
+    {left : List NameFacts} → IndexInvariant true_row tells shows mid
+    → HasRead told version shows listing before between old was files left
+    → TakesNext was (Some name) mid → Asks told version between after (load_of name answer)
+    → DoesNext tells shows name answer mid new None → (more : List FileRead) ×
+    (rest : List NameFacts) × HasRead told version shows listing before after old new more rest
 goes_on {name = name} answer {files = files} holds had takes asks does =
     let goes = goes_out holds had takes in
     (files ++ file_of name answer does.row ∷ [], goes.left, reads_on answer does.row goes.out asks does.reads does.next)
 
 -- the next file ends the scan
-pub ends_there : {K : Type 0} (world : Rules) {tells told : Bool} {shows : K → ShownKeeper} {listing : List NameFacts}
-    {before between after : ShownTree} {old was mid : StateFacts K} (new : StateFacts K) {name : NameFacts}
-    (answer : LoadFacts) {files : List FileRead} {left : List NameFacts} (end : ScanEnd) → IndexInvariant world.true_row tells shows mid
-    → HasRead told world.version shows listing before between old was files left → TakesNext was (Some name) mid
-    → Asks told world.version between after (load_of name answer) → DoesNext tells shows name answer mid new (Some end)
+pub ends_there : {K : Type 0} (world : Rules) {tells told : Bool} {shows : K → ShownKeeper}
+    {listing : List NameFacts} {before between after : ShownTree} {old was mid : StateFacts K}
+    (new : StateFacts K) {name : NameFacts} (answer : LoadFacts) {files : List FileRead}
+    {left : List NameFacts} (end : ScanEnd) → IndexInvariant world.true_row tells shows mid
+    → HasRead told world.version shows listing before between old was files left
+    → TakesNext was (Some name) mid → Asks told world.version between after (load_of name answer)
+    → DoesNext tells shows name answer mid new (Some end)
     → EndsListed world told tells shows listing before after old new end
 ends_there world new answer end holds had takes asks does =
     stops world new answer end holds (goes_out holds had takes).out asks does
 
 -- the index isn't broken while files are read
-pub stays_sound : {K : Type 0} {told : Bool} {version : Versions} {shows : K → ShownKeeper} {listing : List NameFacts}
-    {before after : ShownTree} {old was new : StateFacts K} {answer : Option NameFacts} {files : List FileRead}
-    {left : List NameFacts} → HasRead told version shows listing before after old was files left
-    → TakesNext was answer new → new.broken ≡ false
+pub stays_sound : {K : Type 0} {told : Bool} {version : Versions} {shows : K → ShownKeeper}
+    {listing : List NameFacts} {before after : ShownTree} {old was new : StateFacts K}
+    {answer : Option NameFacts} {files : List FileRead} {left : List NameFacts}
+    → HasRead told version shows listing before after old was files left → TakesNext was answer new
+    → new.broken ≡ false
 stays_sound had takes = ap (λ (s : StateFacts _). s.broken) takes.same ∙ had.keeps.sound
 
 -- fewer names are left once one went out
-fewer_left : {over reading handed : List NameFacts} {pass : Option PassFacts} → IsPassOver over reading handed pass
-    → length (pass_of pass).todo ≡ length reading
+fewer_left : {over reading handed : List NameFacts} {pass : Option PassFacts}
+    → IsPassOver over reading handed pass → length (pass_of pass).todo ≡ length reading
 fewer_left pass = ap (λ (p : Option PassFacts). length (pass_of p).todo) pass.is ∙ ap length pass.todo
 
 -- the names that are left get fewer
-pub smaller : {K : Type 0} {true_row : RowFacts → Type 0} {tells told : Bool} {version : Versions} {shows : K → ShownKeeper}
-    {listing : List NameFacts} {before between after : ShownTree} {old was mid new : StateFacts K} {name : NameFacts}
-    (answer : LoadFacts) {files : List FileRead} {left : List NameFacts} → IndexInvariant true_row tells shows mid
-    → HasRead told version shows listing before between old was files left → TakesNext was (Some name) mid
-    → Asks told version between after (load_of name answer) → DoesNext tells shows name answer mid new None
+pub smaller : {K : Type 0} {true_row : RowFacts → Type 0} {tells told : Bool} {version : Versions}
+    {shows : K → ShownKeeper} {listing : List NameFacts} {before between after : ShownTree}
+    {old was mid new : StateFacts K} {name : NameFacts} (answer : LoadFacts) {files : List FileRead}
+    {left : List NameFacts} → IndexInvariant true_row tells shows mid
+    → HasRead told version shows listing before between old was files left
+    → TakesNext was (Some name) mid → Asks told version between after (load_of name answer)
+    → DoesNext tells shows name answer mid new None
     → length (pass_of new.pass).todo < length (pass_of was.pass).todo
 smaller {listing = listing} {was = was} {new = new} {name = name} answer {files = files} {left = left} holds had takes asks does =
     let goes = goes_out holds had takes in

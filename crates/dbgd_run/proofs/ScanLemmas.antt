@@ -18,7 +18,8 @@ use Rattle.dbgd_run.specs.ScanSteps.{LoadsFiles}
 use Rattle.dbgd_run.proofs.Heard.{hears_asked, hears_both, hears_nothing}
 
 -- a row that was read has the listed name
-pub reads_named : (name : NameFacts) (answer : LoadFacts) (row : RowFacts) → Reads name answer row → row.name ≡ name
+pub reads_named : (name : NameFacts) (answer : LoadFacts) (row : RowFacts) → Reads name answer row
+    → row.name ≡ name
 reads_named name (loaded found) row h = h.1.named
 reads_named name (too_large stamp) row h = ap (λ (r : RowFacts). r.name) h.1
 reads_named name _ row h = absurd h
@@ -31,12 +32,14 @@ reads_heard name (too_large stamp) row h = refl
 reads_heard name _ row h = absurd h
 
 -- so has the row of a file that was read
-pub file_named : {version : Versions} {file : FileRead} → IsFileRead version file → file.row.name ≡ file.name
+pub file_named : {version : Versions} {file : FileRead} → IsFileRead version file
+    → file.row.name ≡ file.name
 file_named {version} {file} read = reads_named file.name file.answer file.row read.read
 
 -- the rows of files that stand before a path do so too
-pub rows_before : {version : Versions} (path : List ℕ) (files : List FileRead) → All (IsFileRead version) files
-    → All (λ name. IsBefore name.path path) (names_read files) → All (λ row. IsBefore row.name.path path) (rows_read files)
+pub rows_before : {version : Versions} (path : List ℕ) (files : List FileRead)
+    → All (IsFileRead version) files → All (λ name. IsBefore name.path path) (names_read files)
+    → All (λ row. IsBefore row.name.path path) (rows_read files)
 rows_before {version} path [] read before = All-nil (λ row. IsBefore row.name.path path)
 rows_before {version} path (file ∷ files) read before =
     All-cons (λ row. IsBefore row.name.path path) file.row (rows_read files)
@@ -52,7 +55,8 @@ names_more files file left =
     sym (append_assoc (names_read files) (file.name ∷ []) left)
     ∙ ap (λ xs. xs ++ left) (sym (map-append (λ (f : FileRead). f.name) files (file ∷ [])))
 
-pub rows_more : (files : List FileRead) (file : FileRead) → rows_read files ++ file.row ∷ [] ≡ rows_read (files ++ file ∷ [])
+pub rows_more : (files : List FileRead) (file : FileRead)
+    → rows_read files ++ file.row ∷ [] ≡ rows_read (files ++ file ∷ [])
 rows_more files file = sym (map-append (λ (f : FileRead). f.row) files (file ∷ []))
 
 loads_more : (files : List FileRead) (file : FileRead)
@@ -72,9 +76,10 @@ loads_none {told} {version} {listing} {hand} = record {
 }
 
 -- the load of the next file was heard last
-pub loads_last : {told : Bool} {version : Versions} {listing : List NameFacts} {before between after : ShownTree}
-    {files : List FileRead} {left : List NameFacts} {name : NameFacts} {answer : LoadFacts}
-    → (before.Still → StaysStill before between) → wants_memory (load_of name answer) ≡ false
+pub loads_last : {told : Bool} {version : Versions} {listing : List NameFacts}
+    {before between after : ShownTree} {files : List FileRead} {left : List NameFacts}
+    {name : NameFacts} {answer : LoadFacts} → (before.Still → StaysStill before between)
+    → wants_memory (load_of name answer) ≡ false
     → LoadsFiles told version listing before between files (name ∷ left) []
     → Asks told version between after (load_of name answer)
     → LoadsFiles told version listing before after files (name ∷ left) (load_of name answer ∷ [])
@@ -94,15 +99,16 @@ loads_last {before = before} {between = between} {after = after} {files = files}
 }
 
 -- a load that was refused memory wasn't heard
-pub loads_unheard : {told : Bool} {version : Versions} {listing : List NameFacts} {before between after : ShownTree}
-    {files : List FileRead} {left : List NameFacts} → after.heard ≡ between.heard
-    → LoadsFiles told version listing before between files left []
+pub loads_unheard : {told : Bool} {version : Versions} {listing : List NameFacts}
+    {before between after : ShownTree} {files : List FileRead} {left : List NameFacts}
+    → after.heard ≡ between.heard → LoadsFiles told version listing before between files left []
     → LoadsFiles told version listing before after files left []
 loads_unheard same had = record { listed = had.listed; read = had.read; heard = same ∙ had.heard; tells = had.tells }
 
 -- the next file was read
-pub loads_read_more : {told : Bool} {version : Versions} {listing : List NameFacts} {before after : ShownTree}
-    {files : List FileRead} {left : List NameFacts} {file : FileRead} → IsFileRead version file
+pub loads_read_more : {told : Bool} {version : Versions} {listing : List NameFacts}
+    {before after : ShownTree} {files : List FileRead} {left : List NameFacts} {file : FileRead}
+    → IsFileRead version file
     → LoadsFiles told version listing before after files (file.name ∷ left) (load_of file.name file.answer ∷ [])
     → LoadsFiles told version listing before after (files ++ file ∷ []) left []
 loads_read_more {version = version} {before = before} {files = files} {left = left} {file = file} read had = record {

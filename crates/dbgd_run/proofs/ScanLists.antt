@@ -13,7 +13,8 @@ use Rattle.index_rows.proofs.Lists.{filter_all, filter_none, first_related, rest
 use Rattle.index_rows.proofs.PathLemmas.{fails_after, tests_before}
 
 -- what holds of each holds of one in the middle
-all_mid : {X : Type 0} (P : X → Type 0) (xs : List X) (y : X) (ys : List X) → All P (xs ++ y ∷ ys) → P y
+all_mid : {X : Type 0} (P : X → Type 0) (xs : List X) (y : X) (ys : List X) → All P (xs ++ y ∷ ys)
+    → P y
 all_mid P [] y ys h = All-head P y ys h
 all_mid P (x ∷ xs) y ys h = all_mid P xs y ys (All-tail P x (xs ++ y ∷ ys) h)
 
@@ -23,14 +24,16 @@ all_front P [] ys h = All-nil P
 all_front P (x ∷ xs) ys h = All-cons P x xs (All-head P x (xs ++ ys) h) (all_front P xs ys (All-tail P x (xs ++ ys) h))
 
 -- each element in front is related to the one in the middle
-pub pairs_before : {X : Type 0} (R : X → X → Type 0) (xs : List X) (y : X) (ys : List X) → AllPairs R (xs ++ y ∷ ys) → All (λ x. R x y) xs
+pub pairs_before : {X : Type 0} (R : X → X → Type 0) (xs : List X) (y : X) (ys : List X)
+    → AllPairs R (xs ++ y ∷ ys) → All (λ x. R x y) xs
 pairs_before R [] y ys h = All-nil (λ x. R x y)
 pairs_before R (x ∷ xs) y ys h =
     All-cons (λ z. R z y) x xs (all_mid (R x) xs y ys (first_related R x (xs ++ y ∷ ys) h))
     (pairs_before R xs y ys (rest_related R x (xs ++ y ∷ ys) h))
 
 -- the one in the middle is related to each element behind it
-pub pairs_after : {X : Type 0} (R : X → X → Type 0) (xs : List X) (y : X) (ys : List X) → AllPairs R (xs ++ y ∷ ys) → All (R y) ys
+pub pairs_after : {X : Type 0} (R : X → X → Type 0) (xs : List X) (y : X) (ys : List X)
+    → AllPairs R (xs ++ y ∷ ys) → All (R y) ys
 pairs_after R [] y ys h = first_related R y ys h
 pairs_after R (x ∷ xs) y ys h = pairs_after R xs y ys (rest_related R x (xs ++ y ∷ ys) h)
 
@@ -39,7 +42,8 @@ pub same_itself : (name : NameFacts) → same_name name name ≡ true
 same_itself name = (same_name-Decides name name).1 refl
 
 -- a name takes nothing away from names that stand after it
-pub without_none : (name : NameFacts) (names : List NameFacts) → All (λ other. IsBefore name.path other.path) names → without name names ≡ names
+pub without_none : (name : NameFacts) (names : List NameFacts)
+    → All (λ other. IsBefore name.path other.path) names → without name names ≡ names
 without_none name names h =
     filter_all (λ other. not (same_name name other)) names
     (All-weaker (λ (other : NameFacts). IsBefore name.path other.path) (λ other. not (same_name name other) ≡ true)
@@ -50,7 +54,9 @@ pub without_itself : (name : NameFacts) → without name (name ∷ []) ≡ []
 without_itself name = rw (same_itself name) refl
 
 -- a row that stands after all others comes last
-pub put_last : (row : RowFacts) (rows : List RowFacts) → All (λ other. IsBefore other.name.path row.name.path) rows → with_row row rows ≡ rows ++ row ∷ []
+pub put_last : (row : RowFacts) (rows : List RowFacts)
+    → All (λ other. IsBefore other.name.path row.name.path) rows
+    → with_row row rows ≡ rows ++ row ∷ []
 put_last row rows h =
     let front : filter (λ other. is_before (row_path other) (row_path row)) rows ≡ rows
     = filter_all (λ other. is_before (row_path other) (row_path row)) rows

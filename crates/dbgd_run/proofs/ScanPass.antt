@@ -23,18 +23,21 @@ use Rattle.dbgd_run.proofs.ScanState.{begins_new, keeps_none}
 
 module _ {K : Type 0} {listing : List NameFacts} {roots : List (List ℕ)} {plan : Plan} {old new : StateFacts K} where
   -- the pass that was begun
-  pass_after : IsNew old → BeginsPass listing roots plan old new → IsPassOver listing listing [] new.pass
+  pass_after : IsNew old → BeginsPass listing roots plan old new
+      → IsPassOver listing listing [] new.pass
   pass_after fresh begins =
       subst (λ (p : Option PassFacts). IsPassOver listing listing [] p) (sym (ap (λ (s : StateFacts K). s.pass) begins.after))
       (begins_new listing fresh.rows)
 
   -- its listing
-  pub listing_after : IsNew old → BeginsPass listing roots plan old new → (pass_of new.pass).listing ≡ listing
+  pub listing_after : IsNew old → BeginsPass listing roots plan old new
+      → (pass_of new.pass).listing ≡ listing
   listing_after fresh begins =
       let pass = pass_after fresh begins in
       ap (λ (p : Option PassFacts). (pass_of p).listing) pass.is ∙ pass.listing
 
-  pub begun_after : IsNew old → BeginsPass listing roots plan old new → IsBegun (pass_of new.pass).listing new
+  pub begun_after : IsNew old → BeginsPass listing roots plan old new
+      → IsBegun (pass_of new.pass).listing new
   begun_after fresh begins = record {
     new = record {
       rows = ap (λ (s : StateFacts K). s.rows) begins.after ∙ fresh.rows;
@@ -45,15 +48,17 @@ module _ {K : Type 0} {listing : List NameFacts} {roots : List (List ℕ)} {plan
   }
 
   -- and its plan, against no rows
-  pub plan_after : IsNew old → BeginsPass listing roots plan old new → plan ≡ plan_of (pass_of new.pass).listing []
+  pub plan_after : IsNew old → BeginsPass listing roots plan old new
+      → plan ≡ plan_of (pass_of new.pass).listing []
   plan_after fresh begins =
       begins.planned ∙ ap (λ (rows : List RowFacts). plan_of listing (row_names rows)) fresh.rows
       ∙ ap (λ (xs : List NameFacts). plan_of xs []) (sym (listing_after fresh begins))
 
 -- the end of a pass is that of the scan of its listing
-pub ends_begun : {K : Type 0} (world : Rules) (told tells : Bool) (shows : K → ShownKeeper) {listing : List NameFacts}
-    {roots : List (List ℕ)} {plan : Plan} (before after : ShownTree) {old mid : StateFacts K} (new : StateFacts K) (end : ScanEnd)
-    → IsNew old → BeginsPass listing roots plan old mid
+pub ends_begun : {K : Type 0} (world : Rules) (told tells : Bool) (shows : K → ShownKeeper)
+    {listing : List NameFacts} {roots : List (List ℕ)} {plan : Plan} (before after : ShownTree)
+    {old mid : StateFacts K} (new : StateFacts K) (end : ScanEnd) → IsNew old
+    → BeginsPass listing roots plan old mid
     → EndsListed world told tells shows (pass_of mid.pass).listing before after mid new end
     → EndsListed world told tells shows listing before after old new end
 ends_begun world told tells shows before after new end fresh begins ends =
@@ -70,8 +75,9 @@ ends_begun world told tells shows before after new end fresh begins ends =
     (λ rows row tears. record { images = tears.images; made = tears.made ∙ ap (λ made. with_puts made rows) kept }) end ends
 
 -- memory was refused for the pass
-pub ends_unbegun : {K : Type 0} (world : Rules) {told : Bool} (tells : Bool) {shows : K → ShownKeeper} {listing : List NameFacts}
-    {hand : ShownTree} {old new : StateFacts K} → IsNew old → new ≡ old
+pub ends_unbegun : {K : Type 0} (world : Rules) {told : Bool} (tells : Bool)
+    {shows : K → ShownKeeper} {listing : List NameFacts} {hand : ShownTree} {old new : StateFacts K}
+    → IsNew old → new ≡ old
     → EndsListed world told tells shows listing hand hand old new OutOfMemory
 ends_unbegun world tells {shows = shows} {listing = listing} {old = old} fresh same = record {
   files = [];

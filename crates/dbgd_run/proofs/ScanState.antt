@@ -59,8 +59,8 @@ module _ {K : Type 0} {shows : K → ShownKeeper} where
 
   -- one more row is kept, behind the others
   pub keeps_more : {tells : Bool} {old mid new : StateFacts K} {rows : List RowFacts} {row : RowFacts}
-      → with_row row rows ≡ rows ++ row ∷ [] → KeepsFiles shows old mid rows → Stores tells shows row mid new
-      → KeepsFiles shows old new (rows ++ row ∷ [])
+      → with_row row rows ≡ rows ++ row ∷ [] → KeepsFiles shows old mid rows
+      → Stores tells shows row mid new → KeepsFiles shows old new (rows ++ row ∷ [])
   keeps_more {old = old} {mid = mid} {new = new} {rows = rows} {row = row} last had stored = record {
     stand = ap (λ (s : StateFacts K). s.rows) stored.after ∙ ap (with_row row) had.stand ∙ last;
     log = more;
@@ -77,8 +77,9 @@ module _ {K : Type 0} {shows : K → ShownKeeper} where
           omega (arith, length-append rows (row ∷ []), length-append mid.log (put_of row.name ∷ []), was, now)
 
   -- where memory was refused at the row, nothing more is kept
-  pub keeps_wanting : {tells : Bool} {old mid new : StateFacts K} {rows : List RowFacts} {row : RowFacts}
-      → KeepsFiles shows old mid rows → FindsNoMemory tells shows row mid new → KeepsFiles shows old new rows
+  pub keeps_wanting : {tells : Bool} {old mid new : StateFacts K} {rows : List RowFacts}
+      {row : RowFacts} → KeepsFiles shows old mid rows → FindsNoMemory tells shows row mid new
+      → KeepsFiles shows old new rows
   keeps_wanting had finds = record {
     stand = ap (λ (s : StateFacts K). s.rows) finds.same ∙ had.stand;
     log = ap (λ (s : StateFacts K). length s.log) finds.same ∙ had.log;
@@ -94,8 +95,9 @@ module _ {K : Type 0} {shows : K → ShownKeeper} where
       subst (λ b. Agrees true_row b state.log state.rows (shows state.keeper)) sound (holds.store_agrees_with_rows.tables told)
 
   -- a row that the keeper failed to keep stands or not
-  pub tears_last : {true_row : RowFacts → Type 0} {tells : Bool} {old mid new : StateFacts K} {rows : List RowFacts} {row : RowFacts}
-      → IndexInvariant true_row tells shows mid → KeepsFiles shows old mid rows → Breaks tells shows row mid new
+  pub tears_last : {true_row : RowFacts → Type 0} {tells : Bool} {old mid new : StateFacts K}
+      {rows : List RowFacts} {row : RowFacts} → IndexInvariant true_row tells shows mid
+      → KeepsFiles shows old mid rows → Breaks tells shows row mid new
       → TearsFiles tells shows old new rows row
   tears_last {mid = mid} {rows = rows} {row = row} holds had breaks = record {
     images = λ told image left.
@@ -126,12 +128,14 @@ begins_new listing none =
     (pass_begun listing)
 
 -- what is put into nothing stands alone
-alone : {X : Type 0} (x : X) (front back after : List X) → [] ≡ front ++ back → after ≡ front ++ x ∷ back → after ≡ x ∷ []
+alone : {X : Type 0} (x : X) (front back after : List X) → [] ≡ front ++ back
+    → after ≡ front ++ x ∷ back → after ≡ x ∷ []
 alone x [] [] after e h = h
 alone x _ _ after e h = absurd (cc)
 
 -- the name that goes out is the first of those to be read
-pub record TakesFirst (over reading : List NameFacts) (name : NameFacts) (now : Option PassFacts) : Type 0 where
+pub record TakesFirst (over reading : List NameFacts) (name : NameFacts)
+    (now : Option PassFacts) : Type 0 where
   pub left : List NameFacts
   pub first : reading ≡ name ∷ left
   pub pass : IsPassOver over left (name ∷ []) now

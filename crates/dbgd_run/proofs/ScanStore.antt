@@ -33,13 +33,13 @@ use Rattle.dbgd_run.proofs.ScanEnds.{ends_open}
 use Rattle.dbgd_run.proofs.ScanState.{keeps_none, tables_stand}
 
 -- what was loaded after a whole walk
-pub walked : {K : Type 0} (s : Setting) (shows : K → ShownKeeper) {roots : List (List ℕ)} (before between after : ShownTree)
-    (old new : StateFacts K) {walk : Walk} (end : ScanEnd) → Walks s.tells_files before between roots (Ok walk)
+pub walked : {K : Type 0} (s : Setting) (shows : K → ShownKeeper) {roots : List (List ℕ)}
+    (before between after : ShownTree) (old new : StateFacts K) {walk : Walk} (end : ScanEnd)
+    → Walks s.tells_files before between roots (Ok walk)
     → (before.Still → StaysStill before between)
     → (TellsStill s.tells_files before → AreFilesUnder before.present roots walk.listing)
     → EndsListed s.world s.tells_files s.tells_tables shows walk.listing between after old new end
-    → EndsOpen s.world (EndsUnlisted s.tells_files roots before after old new) (ReadsFiles s roots before after)
-    (KeepsFiles shows old new) (TearsFiles s.tells_tables shows old new) end
+    → EndsOpen s.world (EndsUnlisted s.tells_files roots before after old new) (ReadsFiles s roots before after) (KeepsFiles shows old new) (TearsFiles s.tells_tables shows old new) end
 walked s shows {roots = roots} before between after old new {walk = walk} end walks still under ends =
     ends_open s.world (λ fault none. absurd none)
     (λ files left last loads. record {
@@ -59,8 +59,8 @@ walked s shows {roots = roots} before between after old new {walk = walk} end wa
     (λ rows keeps. keeps) (λ rows row tears. tears) end ends
 
 -- a new index
-pub opens_new : {K : Type 0} {tells : Bool} {shows : K → ShownKeeper} {keeper : K} {state : StateFacts K}
-    → Opens tells shows keeper state → IsNew state
+pub opens_new : {K : Type 0} {tells : Bool} {shows : K → ShownKeeper} {keeper : K}
+    {state : StateFacts K} → Opens tells shows keeper state → IsNew state
 opens_new opens = record {
   rows = ap (λ (s : StateFacts _). s.rows) opens.value;
   log = ap (λ (s : StateFacts _). s.log) opens.value;
@@ -68,24 +68,26 @@ opens_new opens = record {
 }
 
 -- a keeper that gave no row has none
-gave_none : (tells : Bool) (before after : ShownKeeper) (answer : KeptAnswer) → Asks tells before after (for_rows answer)
-    → GivesNothing answer → IsTrue tells → before.tables ≡ []
+gave_none : (tells : Bool) (before after : ShownKeeper) (answer : KeptAnswer)
+    → Asks tells before after (for_rows answer) → GivesNothing answer → IsTrue tells
+    → before.tables ≡ []
 gave_none tells before after (kept.All rows) asks none told =
     let given = asks.tells told in
     sym given.stays.same ∙ sym given.whole ∙ none
 gave_none tells before after _ asks none told = absurd none
 
 -- what is said of an open store is said of the scan
-over_by : (s : Setting) (roots : List (List ℕ)) (before after : ShownTree) (old new : ShownStore) (end : ScanEnd)
-    → EndsOver s roots before after old new end → EndsBy s roots before after old new end
+over_by : (s : Setting) (roots : List (List ℕ)) (before after : ShownTree) (old new : ShownStore)
+    (end : ScanEnd) → EndsOver s roots before after old new end
+    → EndsBy s roots before after old new end
 over_by s roots before after old new Unopened h = absurd h
 over_by s roots before after old new Filled h = absurd h
 over_by s roots before after old new OutOfMemory h = inr h
 over_by s roots before after old new _ h = h
 
 -- what an index was opened on and left, and the stores before and after it
-pub record IsLent {K : Type 0} (s : Setting) (shows : K → ShownKeeper) (from into : ShownStore) (keeper : K)
-    (old new : StateFacts K) : Type 0 where
+pub record IsLent {K : Type 0} (s : Setting) (shows : K → ShownKeeper) (from into : ShownStore)
+    (keeper : K) (old new : StateFacts K) : Type 0 where
   pub opens : Opens s.tells_tables shows keeper old
   pub holds : IndexInvariant s.world.true_row s.tells_tables shows new
   pub has : HasAll s.tells_tables from (shows keeper)
@@ -93,15 +95,17 @@ pub record IsLent {K : Type 0} (s : Setting) (shows : K → ShownKeeper) (from i
   pub back : TakesBack s.tells_tables (shows new.keeper) mid into
 
 -- the store had nothing
-had_nothing : {K : Type 0} {s : Setting} {shows : K → ShownKeeper} {from into : ShownStore} {keeper : K} {old new : StateFacts K}
-    → IsLent s shows from into keeper old new → IsTrue s.tells_tables → from.tables ≡ []
+had_nothing : {K : Type 0} {s : Setting} {shows : K → ShownKeeper} {from into : ShownStore}
+    {keeper : K} {old new : StateFacts K} → IsLent s shows from into keeper old new
+    → IsTrue s.tells_tables → from.tables ≡ []
 had_nothing {s = s} {shows = shows} {keeper = keeper} {old = old} lent told =
     sym (lent.has.tables told)
     ∙ gave_none s.tells_tables (shows keeper) (shows old.keeper) lent.opens.answer lent.opens.asked lent.opens.empty told
 
 -- the rows of an index that isn't broken are those that a crash of its keeper leaves
-kept_store : {K : Type 0} {s : Setting} {shows : K → ShownKeeper} {from into : ShownStore} {keeper : K} {old new : StateFacts K}
-    {rows : List RowFacts} → IsLent s shows from into keeper old new → KeepsFiles shows old new rows
+kept_store : {K : Type 0} {s : Setting} {shows : K → ShownKeeper} {from into : ShownStore}
+    {keeper : K} {old new : StateFacts K} {rows : List RowFacts}
+    → IsLent s shows from into keeper old new → KeepsFiles shows old new rows
     → HasKept s.tells_tables from into rows
 kept_store {into = into} {rows = rows} lent keeps = record {
   empty = had_nothing lent;
@@ -113,9 +117,10 @@ kept_store {into = into} {rows = rows} lent keeps = record {
 }
 
 -- and so with a row that stands or not
-torn_store : {K : Type 0} {s : Setting} {shows : K → ShownKeeper} {from into : ShownStore} {keeper : K} {old new : StateFacts K}
-    {rows : List RowFacts} {row : RowFacts} → IsLent s shows from into keeper old new
-    → TearsFiles s.tells_tables shows old new rows row → HasTorn s.tells_tables from into rows row
+torn_store : {K : Type 0} {s : Setting} {shows : K → ShownKeeper} {from into : ShownStore}
+    {keeper : K} {old new : StateFacts K} {rows : List RowFacts} {row : RowFacts}
+    → IsLent s shows from into keeper old new → TearsFiles s.tells_tables shows old new rows row
+    → HasTorn s.tells_tables from into rows row
 torn_store {into = into} {rows = rows} lent tears = record {
   empty = had_nothing lent;
   tables = λ t. tears.images t into.tables (lent.back.image t);
@@ -124,10 +129,10 @@ torn_store {into = into} {rows = rows} lent tears = record {
 }
 
 -- the end of a scan over an index that was opened on a keeper
-pub ends_opened : {K : Type 0} (s : Setting) {shows : K → ShownKeeper} (roots : List (List ℕ)) (before after : ShownTree)
-    {from into : ShownStore} {keeper : K} {old new : StateFacts K} (end : ScanEnd) → IsLent s shows from into keeper old new
-    → EndsOpen s.world (EndsUnlisted s.tells_files roots before after old new) (ReadsFiles s roots before after)
-    (KeepsFiles shows old new) (TearsFiles s.tells_tables shows old new) end
+pub ends_opened : {K : Type 0} (s : Setting) {shows : K → ShownKeeper} (roots : List (List ℕ))
+    (before after : ShownTree) {from into : ShownStore} {keeper : K} {old new : StateFacts K}
+    (end : ScanEnd) → IsLent s shows from into keeper old new
+    → EndsOpen s.world (EndsUnlisted s.tells_files roots before after old new) (ReadsFiles s roots before after) (KeepsFiles shows old new) (TearsFiles s.tells_tables shows old new) end
     → EndsBy s roots before after from into end
 ends_opened s {shows = shows} roots before after {from = from} {into = into} {old = old} end lent ends =
     over_by s roots before after from into end
@@ -142,11 +147,12 @@ ends_opened s {shows = shows} roots before after {from = from} {into = into} {ol
     (λ files names last reads. reads) (λ rows keeps. kept_store lent keeps) (λ rows row tears. torn_store lent tears) end ends)
 
 -- a fault of a keeper is one of its store once it is given back
-pub rose_given : {old mid new keeper given : ℕ} → mid ≡ old → keeper ≡ 0 → Rose keeper given → new ≡ summed mid given → Rose old new
+pub rose_given : {old mid new keeper given : ℕ} → mid ≡ old → keeper ≡ 0 → Rose keeper given
+    → new ≡ summed mid given → Rose old new
 rose_given same none rose sum = omega arith
 
 -- the store was opened by the path
-pub opens_once : (path : List ℕ) (old new : ShownStore) (end : ScanEnd) → new.paths ≡ with_path path old.paths
-    → OpensBy path old new end
+pub opens_once : (path : List ℕ) (old new : ShownStore) (end : ScanEnd)
+    → new.paths ≡ with_path path old.paths → OpensBy path old new end
 opens_once path old new OutOfMemory h = inr h
 opens_once path old new _ h = h

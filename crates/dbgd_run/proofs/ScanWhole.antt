@@ -26,17 +26,20 @@ use Rattle.dbgd_run.specs.declared.summary.Summary.{Summary}
 use Rattle.dbgd_run.proofs.ScanLemmas.{file_named}
 
 -- the rows have the names of the files
-names_match : {version : Versions} (files : List FileRead) → All (IsFileRead version) files → row_names (rows_read files) ≡ names_read files
+names_match : {version : Versions} (files : List FileRead) → All (IsFileRead version) files
+    → row_names (rows_read files) ≡ names_read files
 names_match [] read = refl
 names_match {version} (file ∷ files) read =
     ap (λ (n : NameFacts). n ∷ row_names (rows_read files)) (file_named (All-head (IsFileRead version) file files read))
     ∙ ap (λ xs. file.name ∷ xs) (names_match files (All-tail (IsFileRead version) file files read))
 
 -- where all listed files were read, the scan is whole
-pub ends_whole : {K : Type 0} (world : Rules) {told tells : Bool} {shows : K → ShownKeeper} {listing : List NameFacts}
-    {before after : ShownTree} {old new : StateFacts K} {summary : Summary} → IndexInvariant world.true_row tells shows new
+pub ends_whole : {K : Type 0} (world : Rules) {told tells : Bool} {shows : K → ShownKeeper}
+    {listing : List NameFacts} {before after : ShownTree} {old new : StateFacts K}
+    {summary : Summary} → IndexInvariant world.true_row tells shows new
     → (world.told ≡ true → (a b : RowFacts) → a.name ≡ b.name → world.true_row a → world.true_row b → a ≡ b)
-    → HasReadAll told world.version shows listing before after old new → summary ≡ summary_of (plan_of listing []) new.rows
+    → HasReadAll told world.version shows listing before after old new
+    → summary ≡ summary_of (plan_of listing []) new.rows
     → EndsListed world told tells shows listing before after old new (Whole summary)
 ends_whole world {tells = tells} {shows = shows} {listing = listing} {new = new} holds one all numbers =
     let listed : listing ≡ names_read all.files = all.loads.listed ∙ append-nil (names_read all.files) in

@@ -1,5 +1,6 @@
 -- Sinks (this project's rule): what a write takes, and what was written since.
-use Rattle.std.specs.Prelude.{◌≡◌, ℕ, ◌<◌, ◌≤◌, Bool, true, false, List, [], ◌++◌, Option, IsSome, IsTrue, length, take}
+use Rattle.std.specs.Prelude.{◌≡◌, ℕ, ◌<◌, ◌≤◌, Bool, true, false, List, [], ◌++◌, Option, IsSome}
+use Rattle.std.specs.Prelude.{IsTrue, length, take}
 use Rattle.std.specs.Option.{option_map}
 use Rattle.row_types.specs.Faults.{HasCause, Rose}
 use Rattle.http_wire.specs.Stream.{LeavesReading, ShownStream}
@@ -43,5 +44,6 @@ pub record GetsPart (bytes : List ℕ) (before after : ShownStream) : Type 0 whe
   pub count : ℕ
   pub proper : count < length bytes
   pub appends : Appends before.written (take count bytes) after.written
+  pub later : before.write_faults ≤ after.write_faults
   pub rose : Rose before.write_faults after.write_faults
   pub reading : LeavesReading before after
