@@ -1,0 +1,35 @@
+-- What callers see of a line table's entries (DWARF 5, section 6.2.4.1).
+use Rattle.std.specs.Prelude.{◌≡◌, List, Option, MatchOption, map}
+use Rattle.std.specs.Option.{option_map, option_copied}
+use Rattle.std.specs.Global.{Vec}
+use Rattle.file_formats.specs.declared.dwarf_lines.FieldFormat.{FieldFormat}
+use Rattle.file_formats.specs.DwarfLines.{LineEntry}
+use Rattle.dwarf_forms.specs.FormAnswers.{raw_facts}
+use Rattle.dwarf_lines.specs.declared.entry.LineFile.{LineFile}
+use Rattle.dwarf_lines.specs.declared.fields.FieldValues.{FieldValues}
+use Rattle.dwarf_lines.specs.Lists.{EntryFields}
+
+-- the values as they stand
+abbrev pub values_facts : FieldValues → EntryFields
+values_facts v = record { path = option_map raw_facts v.path; directory = option_map raw_facts v.directory }
+
+-- what a file says
+abbrev pub file_facts : LineFile → LineEntry
+file_facts f = record { path = option_copied f.path; directory = f.dir }
+
+-- what files say
+abbrev pub files_facts : Vec LineFile → List LineEntry
+files_facts v = map file_facts v.items
+
+-- the formats of a list's fields
+abbrev pub formats_facts : Vec FieldFormat → List FieldFormat
+formats_facts v = v.items
+
+-- the fact holds of this value and of no other
+pub record IsOnly {A : Type 0} (P : A → Type 0) (value : A) : Type 0 where
+  pub here : P value
+  pub only : (other : A) → P other → other ≡ value
+
+-- the answer is the only value of which the fact holds, none exactly where it holds of none
+abbrev pub Tells : {A : Type 0} → (A → Type 0) → Option A → Type 0
+Tells P result = MatchOption result ((value : _) → P value → ⊥) (λ value. IsOnly P value)

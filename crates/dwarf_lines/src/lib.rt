@@ -1,0 +1,12 @@
+//! The directories and files that a line table's header lists. Their paths are joined in the crates
+//! above, and line number programs aren't read. DWARF 5, section 6.2.4.
+#![tactic(auto)]
+
+mod entry;
+mod fields;
+mod head;
+mod lists;
+mod table;
+
+pub use entry::LineFile;
+pub use table::{LineTable, line_table};

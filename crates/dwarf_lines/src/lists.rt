@@ -1,0 +1,111 @@
+//! The two lists of a line table: each has its formats, its number, and its entries. DWARF 5,
+//! section 6.2.4.
+
+ghost use Rattle.std.specs.Prelude.{IfOk};
+ghost use Rattle.file_formats.specs.DwarfLines.{format_at};
+ghost use Rattle.dwarf_forms.specs.TextAnswers.{texts_of};
+ghost use Rattle.dwarf_lines.specs.Finds.{Finds};
+ghost use Rattle.dwarf_lines.specs.Lists.{entries_at, entry_at, formats_at, list_at, row_at};
+ghost use Rattle.dwarf_lines.specs.Entries.{files_facts, formats_facts};
+
+use crate::entry::{LineFile, read_entry};
+use crate::fields::read_format;
+use byte_read::Cursor;
+use dwarf_forms::{Format, Strings, Width, read_number};
+use file_formats::dwarf_lines::FieldFormat;
+use std::alloc::{AllocError, Global};
+
+/// Reads so many formats of fields.
+fn read_formats_row(
+    alloc: Global,
+    cursor: &mut Cursor<'_>,
+    count: u64,
+    format: Format,
+) -> Result<Option<Vec<FieldFormat>>, AllocError>
+    ensures { IfOk result (λ found. Finds formats_facts (λ s. row_at (format_at s) count) format
+        cursor.old cursor.new found) }
+{
+    let mut fields = Vec::new(alloc);
+    for _done in 0..count {
+        let Some(field) = read_format(cursor, format) else {
+            return Ok(None);
+        };
+        fields.push(field)?;
+    }
+    Ok(Some(fields))
+}
+
+/// Reads the formats of a list's fields, behind their number.
+#[tactic(auto, unfolding(crate::specs::Lists::formats_at))]
+fn read_formats(
+    alloc: Global,
+    cursor: &mut Cursor<'_>,
+    format: Format,
+) -> Result<Option<Vec<FieldFormat>>, AllocError>
+    ensures { IfOk result (λ found. Finds formats_facts formats_at format
+        cursor.old cursor.new found) }
+{
+    let Ok(count) = read_number(cursor, Width::One, format) else {
+        return Ok(None);
+    };
+    read_formats_row(alloc, cursor, count, format)
+}
+
+/// Reads so many entries. No room is taken by their number.
+fn read_entries_row<'a>(
+    alloc: Global,
+    cursor: &mut Cursor<'a>,
+    count: u64,
+    fields: &[FieldFormat],
+    format: Format,
+    strings: &Strings<'a>,
+) -> Result<Option<Vec<LineFile<'a>>>, AllocError>
+    ensures { IfOk result (λ found. Finds files_facts
+        (λ s. row_at (entry_at s (texts_of strings.now) fields.now) count) format
+        cursor.old cursor.new found) }
+{
+    let mut entries = Vec::new(alloc);
+    for _done in 0..count {
+        let Some(entry) = read_entry(cursor, fields, format, strings) else {
+            return Ok(None);
+        };
+        entries.push(entry)?;
+    }
+    Ok(Some(entries))
+}
+
+/// Reads a list's entries, behind their number.
+#[tactic(auto, unfolding(crate::specs::Lists::entries_at))]
+fn read_entries<'a>(
+    alloc: Global,
+    cursor: &mut Cursor<'a>,
+    fields: &[FieldFormat],
+    format: Format,
+    strings: &Strings<'a>,
+) -> Result<Option<Vec<LineFile<'a>>>, AllocError>
+    ensures { IfOk result (λ found. Finds files_facts
+        (λ s. entries_at s (texts_of strings.now) fields.now) format
+        cursor.old cursor.new found) }
+{
+    let Ok(count) = read_number(cursor, Width::Leb, format) else {
+        return Ok(None);
+    };
+    read_entries_row(alloc, cursor, count, fields, format, strings)
+}
+
+/// Reads a list.
+#[tactic(auto, unfolding(crate::specs::Lists::list_at))]
+pub(crate) fn read_list<'a>(
+    alloc: Global,
+    cursor: &mut Cursor<'a>,
+    format: Format,
+    strings: &Strings<'a>,
+) -> Result<Option<Vec<LineFile<'a>>>, AllocError>
+    ensures { IfOk result (λ found. Finds files_facts
+        (λ s. list_at s (texts_of strings.now)) format cursor.old cursor.new found) }
+{
+    let Some(fields) = read_formats(alloc, cursor, format)? else {
+        return Ok(None);
+    };
+    read_entries(alloc, cursor, fields.as_slice(), format, strings)
+}
