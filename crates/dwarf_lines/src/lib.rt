@@ -10,3 +10,6 @@ mod table;
 
 pub use entry::LineFile;
 pub use table::{LineTable, line_table};
+
+#[cfg(test)]
+mod tests;

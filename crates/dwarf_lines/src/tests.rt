@@ -1,0 +1,240 @@
+//! Whether the clauses say what the standard means, and that memory suffices.
+
+use crate::{LineFile, line_table};
+use byte_read::Order;
+use dwarf_forms::Strings;
+use std::alloc::{AllocError, Global};
+use std::test::Fail;
+
+/// The texts of a file's units: text 1 by 4 bytes is w, and by 8 bytes /w.
+fn strings(order: Order) -> Strings<'static> {
+    Strings {
+        str: b"/w\0",
+        line_str: b".\0inc\0main.c\0util.h\0end",
+        offsets: b"\x14\0\0\0\x05\0\0\0\x01\0\0\0\x01\0\0\0\0\0\0\0\0\0\0\0",
+        base: Some(8),
+        wide: false,
+        order,
+    }
+}
+
+/// A table of these lists, of the 32-bit format, with addresses of 4 bytes and no opcodes.
+fn table(alloc: Global, lists: &[u8]) -> Result<Vec<u8>, AllocError> {
+    let size = u32::try_from(lists.len()).unwrap_or(0);
+    let mut bytes = Vec::new(alloc);
+    bytes.extend_from_slice(&size.wrapping_add(14).to_le_bytes())?;
+    bytes.extend_from_slice(b"\x05\0\x04\0")?;
+    bytes.extend_from_slice(&size.wrapping_add(6).to_le_bytes())?;
+    bytes.extend_from_slice(b"\x01\x01\x01\xfb\x0e\x01")?;
+    bytes.extend_from_slice(lists)?;
+    Ok(bytes)
+}
+
+/// A file of a table.
+const fn file<'a>(path: &'a [u8], dir: Option<u64>) -> LineFile<'a> {
+    LineFile {
+        path: Some(path),
+        dir,
+    }
+}
+
+/// The line table of a unit of /w/src/main.c (section 6.2.4): its length 65, version 5, addresses of
+/// 8 bytes, header length 57, twelve opcode lengths; two directories by line_strp; two files by
+/// line_strp, a directory's index by data1, and a content type 0x2001 by line_strp.
+const LINE: [u8; 69] = [
+    0x41, 0x00, 0x00, 0x00, 0x05, 0x00, 0x08, 0x00, 0x39, 0x00, 0x00, 0x00, 0x01, 0x01, 0x01, 0xfb,
+    0x0e, 0x0d, 0x00, 0x01, 0x01, 0x01, 0x01, 0x00, 0x00, 0x00, 0x01, 0x00, 0x00, 0x01, 0x01, 0x01,
+    0x1f, 0x02, 0x00, 0x00, 0x00, 0x00, 0x02, 0x00, 0x00, 0x00, 0x03, 0x01, 0x1f, 0x02, 0x0b, 0x81,
+    0x40, 0x1f, 0x02, 0x06, 0x00, 0x00, 0x00, 0x00, 0x00, 0x00, 0x00, 0x00, 0x0d, 0x00, 0x00, 0x00,
+    0x01, 0x00, 0x00, 0x00, 0x00,
+];
+
+#[test]
+fn a_table_lists_its_directories_and_files(rt: HostRuntime) -> Result<(), Fail> {
+    let alloc = rt.alloc();
+    let found = line_table(alloc, &LINE, 0, &strings(Order::Little))?.ok_or("a table")?;
+    let dirs: [Option<&[u8]>; 2] = [Some(b"."), Some(b"inc")];
+    assert_eq!(rt; found.dirs.as_slice(), dirs.as_slice());
+    let files = [file(b"main.c", Some(0)), file(b"util.h", Some(1))];
+    assert_eq!(rt; found.files.as_slice(), files.as_slice());
+    Ok(())
+}
+
+// A byte of the table, what it becomes, and whether the table can be read then: length, version,
+// header_length, opcode_base, the numbers of formats and of entries. A header_length past the
+// table's end is no fault by itself.
+#[test]
+fn a_damaged_table_lists_nothing(rt: HostRuntime) -> Result<(), Fail> {
+    let alloc = rt.alloc();
+    let cases = [
+        (0, 0x42, false),
+        (0, 0x40, false),
+        (4, 0x04, false),
+        (4, 0x06, false),
+        (5, 0x01, false),
+        (8, 0x38, false),
+        (8, 0x3a, true),
+        (11, 0xff, true),
+        (17, 0x00, false),
+        (17, 0xff, false),
+        (33, 0x03, false),
+        (50, 0x01, true),
+        (50, 0x03, false),
+        (68, 0xff, true),
+    ];
+    for (place, byte, is_read) in cases {
+        let mut line = LINE;
+        line[place] = byte;
+        let found = line_table(alloc, &line, 0, &strings(Order::Little))?;
+        assert_eq!(rt; found.is_some(), is_read, "byte {place}");
+    }
+    // No directory formats, and 2 to the power of 63 directories.
+    let mut line = LINE;
+    line[30..41].copy_from_slice(b"\0\x80\x80\x80\x80\x80\x80\x80\x80\x80\x01");
+    assert!(rt; line_table(alloc, &line, 0, &strings(Order::Little))?.is_none());
+    Ok(())
+}
+
+// DWARF 5, section 6.2.4.1, and this project's rules: no directories, and one file of these fields.
+#[test]
+fn the_first_field_of_a_content_type_counts(rt: HostRuntime) -> Result<(), Fail> {
+    let alloc = rt.alloc();
+    let cases: [(&[u8], Option<LineFile<'static>>); 17] = [
+        (b"\x01\x01\x08\x01a\0", Some(file(b"a", Some(0)))),
+        (b"\x02\x01\x08\x01\x08\x01a\0b\0", Some(file(b"a", Some(0)))),
+        (b"\x02\x01\x08\x01\x0b\x01a\0b", Some(file(b"a", Some(0)))),
+        (b"\x02\x01\x0b\x01\x08\x01ba\0", None),
+        (b"\x02\x01\x08\x01\x16\x01a\0\x0bb", None),
+        (b"\x02\x01\x08\x02\x16\x01a\0\x0b\x01", None),
+        (b"\x02\x01\x08\x02\x21\x01a\0", None),
+        (b"\x01\x01\x02\x01a\0", None),
+        (b"\x01\x02\x0f\x01\x01", None),
+        (b"\x02\x01\x08\x02\x0d\x01a\0\x05", Some(file(b"a", None))),
+        (
+            b"\x03\x01\x08\x02\x0d\x02\x0f\x01a\0\x05\x06",
+            Some(file(b"a", None)),
+        ),
+        (
+            b"\x03\x02\x0f\x01\x08\x02\x0f\x01\x05a\0\x06",
+            Some(file(b"a", Some(5))),
+        ),
+        (
+            b"\x02\x01\x08\x02\x05\x01a\0\x00\xff",
+            Some(file(b"a", Some(0xff00))),
+        ),
+        (
+            b"\x02\x01\x08\x05\x1e\x01a\0................",
+            Some(file(b"a", Some(0))),
+        ),
+        (
+            b"\x02\x01\x08\x03\x01\x01a\0....",
+            Some(file(b"a", Some(0))),
+        ),
+        (
+            b"\x01\x01\x1f\x01\x16\0\0\0",
+            Some(LineFile {
+                path: None,
+                dir: Some(0),
+            }),
+        ),
+        (
+            b"\x01\x01\x1d\x01\0\0\0\0",
+            Some(LineFile {
+                path: None,
+                dir: Some(0),
+            }),
+        ),
+    ];
+    for (fields, expected) in cases {
+        let mut lists = Vec::new(alloc);
+        lists.extend_from_slice(b"\0\0")?;
+        lists.extend_from_slice(fields)?;
+        let line = table(alloc, lists.as_slice())?;
+        let found = line_table(alloc, line.as_slice(), 0, &strings(Order::Little))?;
+        let files = found.as_ref().map(|found| found.files.as_slice());
+        let one = expected.as_ref().map(std::slice::from_ref);
+        assert_eq!(rt; files, one, "{fields:?}");
+    }
+    Ok(())
+}
+
+// An entry of one empty text takes one byte; the table has 100 of them.
+#[test]
+fn a_count_is_of_entries_that_stand_there(rt: HostRuntime) -> Result<(), Fail> {
+    let alloc = rt.alloc();
+    let cases: [(&[u8], Option<usize>); 5] = [
+        (b"\0", Some(0)),
+        (b"\x63", Some(99)),
+        (b"\x64", Some(100)),
+        (b"\x65", None),
+        (b"\xff\xff\xff\xff\xff\xff\xff\xff\xff\x01", None),
+    ];
+    for (count, expected) in cases {
+        let mut lists = Vec::new(alloc);
+        lists.extend_from_slice(b"\0\0\x01\x01\x08")?;
+        lists.extend_from_slice(count)?;
+        lists.extend_from_slice(&[0; 100])?;
+        let line = table(alloc, lists.as_slice())?;
+        let found = line_table(alloc, line.as_slice(), 0, &strings(Order::Little))?;
+        assert_eq!(rt;
+            found.as_ref().map(|found| found.files.len()),
+            expected,
+            "{count:?}"
+        );
+        for entry in found.iter().flat_map(|found| found.files.iter()) {
+            assert_eq!(rt; *entry, file(b"", Some(0)));
+        }
+    }
+    Ok(())
+}
+
+// In a list of no entries no form refuses; the numbers of its formats are read all the same.
+#[test]
+fn a_list_without_entries_has_any_forms(rt: HostRuntime) -> Result<(), Fail> {
+    let alloc = rt.alloc();
+    let cases: [(&[u8], bool); 7] = [
+        (b"\0\0\0\0", true),
+        (b"\x02\x01\x16\x02\x21\0\x01\x01\x02\0", true),
+        (b"\x01\x02\x0b\0\0\0", true),
+        (b"\x01\x01", false),
+        (b"\0\0\0", false),
+        (
+            b"\x01\xff\xff\xff\xff\xff\xff\xff\xff\xff\x02\x08\0\0\0",
+            false,
+        ),
+        (b"\0\xff\xff\xff\xff\xff\xff\xff\xff\xff\x02\0\0", false),
+    ];
+    for (lists, is_read) in cases {
+        let line = table(alloc, lists)?;
+        let found = line_table(alloc, line.as_slice(), 0, &strings(Order::Little))?;
+        assert_eq!(rt; found.is_some(), is_read, "{lists:?}");
+    }
+    Ok(())
+}
+
+/// A table of the 64-bit format behind three other bytes: its length 35, header length 23, one
+/// directory by strx1, one file by line_strp.
+const WIDE: &[u8] = b"xyz\xff\xff\xff\xff\x23\0\0\0\0\0\0\0\x05\0\x08\0\x17\0\0\0\0\0\0\0\
+    \x01\x01\x01\xfb\x0e\x01\x01\x01\x25\x01\x01\x01\x01\x1f\x01\x06\0\0\0\0\0\0\0";
+
+/// A table whose numbers have the most significant byte first: one directory by strp, one file by
+/// line_strp and data2.
+const BIG: &[u8] = b"xyz\0\0\0\x22\0\x05\x08\0\0\0\0\x1a\x01\x01\x01\xfb\x0e\x01\
+    \x01\x01\x0e\x01\0\0\0\x01\x02\x01\x1f\x02\x05\x01\0\0\0\x02\x01\x02";
+
+#[test]
+fn a_table_has_a_format_and_an_order(rt: HostRuntime) -> Result<(), Fail> {
+    let alloc = rt.alloc();
+    let cases: [(&[u8], Order, &[u8], LineFile<'static>); 2] = [
+        (WIDE, Order::Little, b"/w", file(b"main.c", Some(0))),
+        (BIG, Order::Big, b"w", file(b"inc", Some(0x102))),
+    ];
+    for (line, order, dir, expected) in cases {
+        let found = line_table(alloc, line, 3, &strings(order))?.ok_or("a table")?;
+        assert_eq!(rt; found.dirs.as_slice(), [Some(dir)].as_slice());
+        assert_eq!(rt; found.files.as_slice(), [expected].as_slice());
+        assert!(rt; line_table(alloc, line, 4, &strings(order))?.is_none());
+        assert!(rt; line_table(alloc, line, u64::MAX, &strings(order))?.is_none());
+    }
+    Ok(())
+}
