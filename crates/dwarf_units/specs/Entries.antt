@@ -2,24 +2,11 @@
 use Rattle.std.specs.Prelude.{◌≡◌, Option, MatchOption}
 use Rattle.std.specs.Option.{option_map, option_copied}
 use Rattle.byte_read.specs.View.{View}
-use Rattle.file_formats.specs.DwarfUnits.{DebugSections, RawEntry, RootEntry, IsRaw, IsEntryFrom}
+use Rattle.file_formats.specs.DwarfUnits.{RawEntry, RootEntry, IsRaw, IsEntryFrom}
 use Rattle.dwarf_forms.specs.declared.numbers.Format.{Format}
-use Rattle.dwarf_forms.specs.declared.parts.DebugParts.{DebugParts}
 use Rattle.dwarf_forms.specs.FormAnswers.{raw_facts, input_of}
 use Rattle.dwarf_units.specs.declared.raw_entry.RawAttributes.{RawAttributes}
 use Rattle.dwarf_units.specs.declared.entry.UnitDie.{UnitDie}
-
--- the sections' bytes
-abbrev pub sections_of : DebugParts → DebugSections
-sections_of p = record {
-  info = p.info.now;
-  abbrevs = p.abbrev.now;
-  lines = p.line.now;
-  str = p.str.now;
-  line_str = p.line_str.now;
-  str_offsets = p.str_offsets.now;
-  order = p.order;
-}
 
 -- the values as they stand
 abbrev pub raw_entry : RawAttributes → RawEntry

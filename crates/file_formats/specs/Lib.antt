@@ -14,3 +14,4 @@ pub mod DwarfLengths
 pub mod DwarfSequences
 pub mod DwarfAbbreviations
 pub mod DwarfUnits
+pub mod DwarfSections
