@@ -1,10 +1,9 @@
 -- Each part is that of its name; a file that can't be read or is relocatable has none.
-use Rattle.std.proofs.Common.{◌≡◌, ◌∙◌, sym, true, false}
+use Rattle.std.proofs.Common.{◌∙◌, sym}
 use Rattle.std.specs.Prelude.{◌==◌}
 use Rattle.std.proofs.lemmas.Bool.{eqb-true, eq-eqb, false_from_ne_true}
 use Rattle.file_formats.specs.declared.codes.TheConstants.{ET_REL}
 use Rattle.file_formats.specs.DwarfSections.{debug, relocatable, no_sections}
-use Rattle.dwarf_forms.specs.Parts.{sections_of}
 use Rattle.elf_classify.proofs.parts.parts_in.Goals as goal
 
 pub returns-in-Err : goal.returns-in-Err
