@@ -4,7 +4,10 @@ pub use Rattle.file_formats.specs.DwarfTexts
 pub use Rattle.file_formats.specs.DwarfCodes
 pub use Rattle.file_formats.specs.DwarfLengths
 pub use Rattle.file_formats.specs.DwarfSequences
+pub use Rattle.file_formats.specs.DwarfUnits
 pub mod Faults
 pub mod FormAnswers
 pub mod TextAnswers
 pub mod Pieces
+pub mod Parts
+pub mod Tells

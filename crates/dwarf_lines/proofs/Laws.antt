@@ -11,7 +11,8 @@ use Rattle.file_formats.specs.DwarfLengths.{Piece, piece_at}
 use Rattle.file_formats.specs.DwarfSequences.{Along, ends, goes}
 use Rattle.file_formats.specs.DwarfLines.{Row, no_more, one_more, format_at, AreFormats, field_at, first_value, LineEntry, IsLineEntry, IsLineList, LineTable, AreLineLists, line_head, IsLineTable}
 use Rattle.dwarf_lines.specs.Lists.{at_map, row_at, EntryFields, one_field, with_first, fields_at, entry_with, entry_at, formats_at, entries_at, list_at, table_of, lists_at, ending_by, lists_within, lists_of, table_in, table_at}
-use Rattle.dwarf_lines.specs.Entries.{Tells}
+use Rattle.dwarf_forms.specs.Tells.{Tells}
+use Rattle.dwarf_lines.specs.Finds.{as_it_is}
 use Rattle.dwarf_lines.proofs.RowLemmas.{row-zero, row-more}
 
 -- what comes by a value that may be there comes by one that is there
@@ -195,7 +196,7 @@ module _ (lines : List ℕ) (p : ℕ) (texts : Texts) where
       record { piece = piece; stands = stands; head = head; header = header; lists = lists-there _ _ lists }
 
 -- an answer that the function gives is the one that the relation holds of
-tells : {A : Type 0} (P : A → Type 0) (o : Option A) → ((x : A) → P x → o ≡ Some x) → ((x : A) → o ≡ Some x → P x) → Tells P o
+tells : {A : Type 0} (P : A → Type 0) (o : Option A) → ((x : A) → P x → o ≡ Some x) → ((x : A) → o ≡ Some x → P x) → Tells as_it_is P o
 tells P None found there = λ x h. let e = found x h in absurd (cc)
 tells P (Some x) found there = record { here = there x refl; only = λ y h. some_same (sym (found y h)) }
 
@@ -204,6 +205,6 @@ pub if_same : {A E : Type 0} (P : A → Type 0) {x : A} → P x → (r : Result 
 if_same P here (Ok y) is = subst P (sym is) here
 if_same P here (Err e) is = tt
 
-pub table-tells : (lines : List ℕ) (p : ℕ) (texts : Texts) → Tells (IsLineTable lines p texts) (table_at lines p texts)
+pub table-tells : (lines : List ℕ) (p : ℕ) (texts : Texts) → Tells as_it_is (IsLineTable lines p texts) (table_at lines p texts)
 table-tells lines p texts =
     tells (IsLineTable lines p texts) (table_at lines p texts) (table-found lines p texts) (table-there lines p texts)

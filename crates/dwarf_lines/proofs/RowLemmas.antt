@@ -6,6 +6,7 @@ use Rattle.file_formats.specs.DwarfReads.{Input, At}
 use Rattle.file_formats.specs.DwarfForms.{Raw}
 use Rattle.file_formats.specs.declared.dwarf_lines.FieldFormat.{FieldFormat}
 use Rattle.file_formats.specs.DwarfLines.{field_at}
+use Rattle.dwarf_forms.proofs.ChoiceLemmas.{or_assoc, or-none}
 use Rattle.dwarf_forms.specs.declared.numbers.Format.{Format}
 use Rattle.dwarf_forms.specs.FormAnswers.{input_of}
 use Rattle.dwarf_lines.specs.Finds.{Found}
@@ -92,14 +93,6 @@ module _ {A : Type 0} {at : Input → ℕ → Option (At A)} {f : Format} {n lef
         ∙ ap (λ xs. Some (record { value = xs; next = now.place })) (append-nil done);
     moved = w.moves.moved;
   }
-
-or_assoc : {A : Type 0} (a b c : Option A) → option_or (option_or a b) c ≡ option_or a (option_or b c)
-or_assoc None b c = refl
-or_assoc (Some x) b c = refl
-
-or-none : {A : Type 0} (a : Option A) → option_or a None ≡ a
-or-none None = refl
-or-none (Some x) = refl
 
 with_first_assoc : (e f g : EntryFields) → with_first (with_first e f) g ≡ with_first e (with_first f g)
 with_first_assoc e f g = simp or_assoc

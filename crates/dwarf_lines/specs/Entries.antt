@@ -1,5 +1,5 @@
 -- What callers see of a line table's entries (DWARF 5, section 6.2.4.1).
-use Rattle.std.specs.Prelude.{◌≡◌, List, Option, MatchOption, map}
+use Rattle.std.specs.Prelude.{List, map}
 use Rattle.std.specs.Option.{option_map, option_copied}
 use Rattle.std.specs.Global.{Vec}
 use Rattle.file_formats.specs.declared.dwarf_lines.FieldFormat.{FieldFormat}
@@ -24,12 +24,3 @@ files_facts v = map file_facts v.items
 -- the formats of a list's fields
 abbrev pub formats_facts : Vec FieldFormat → List FieldFormat
 formats_facts v = v.items
-
--- the fact holds of this value and of no other
-pub record IsOnly {A : Type 0} (P : A → Type 0) (value : A) : Type 0 where
-  pub here : P value
-  pub only : (other : A) → P other → other ≡ value
-
--- the answer is the only value of which the fact holds, none exactly where it holds of none
-abbrev pub Tells : {A : Type 0} → (A → Type 0) → Option A → Type 0
-Tells P result = MatchOption result ((value : _) → P value → ⊥) (λ value. IsOnly P value)

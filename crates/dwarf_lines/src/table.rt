@@ -5,7 +5,8 @@ ghost use Rattle.std.specs.Option.{option_copied};
 ghost use Rattle.file_formats.specs.DwarfLines.{IsLineTable, LineCodes};
 ghost use Rattle.dwarf_forms.specs.Pieces.{piece_facts};
 ghost use Rattle.dwarf_forms.specs.TextAnswers.{texts_of};
-ghost use Rattle.dwarf_lines.specs.Entries.{Tells, file_facts};
+ghost use Rattle.dwarf_forms.specs.Tells.{Tells};
+ghost use Rattle.dwarf_lines.specs.Entries.{file_facts};
 ghost use Rattle.dwarf_lines.specs.Finds.{Finds, as_it_is};
 ghost use Rattle.dwarf_lines.specs.Lists.{lists_at, lists_of, path_of, table_at};
 
@@ -138,7 +139,8 @@ pub fn line_table<'a>(
     offset: u64,
     strings: &Strings<'a>,
 ) -> Result<Option<LineTable<'a>>, AllocError>
-    ensures table { IfOk result (Tells (IsLineTable line.now offset (texts_of strings.now))) }
+    ensures table { IfOk result (Tells as_it_is
+        (IsLineTable line.now offset (texts_of strings.now))) }
     ensures codes { LineCodes }
 {
     read_table(alloc, line, offset, strings)

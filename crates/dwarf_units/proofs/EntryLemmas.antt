@@ -11,7 +11,8 @@ use Rattle.file_formats.specs.DwarfUnits.{DebugSections, RawEntry, RootEntry, Is
 use Rattle.dwarf_forms.specs.declared.numbers.Format.{Format}
 use Rattle.dwarf_forms.specs.FormAnswers.{input_of, Got}
 use Rattle.dwarf_units.specs.Finds.{LeadsTo, LeadsNowhere, Comes}
-use Rattle.dwarf_units.specs.Entries.{IsOnly, Tells, RawAt, EntryAt}
+use Rattle.dwarf_forms.specs.Tells.{IsOnly, Tells}
+use Rattle.dwarf_units.specs.Entries.{RawAt, EntryAt}
 use Rattle.dwarf_units.proofs.CaseLemmas.{ok_same, some_same}
 use Rattle.dwarf_units.proofs.TableLemmas.{HasMoved, input_on}
 

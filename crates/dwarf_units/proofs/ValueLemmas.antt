@@ -9,21 +9,15 @@ use Rattle.file_formats.specs.DwarfForms.{Raw, form_at}
 use Rattle.file_formats.specs.DwarfSequences.{Along, ends, goes}
 use Rattle.file_formats.specs.DwarfAbbreviations.{pair_at, is_last, ended, more}
 use Rattle.file_formats.specs.DwarfUnits.{RawEntry, IsRaw, attribute_at, entry_with, no_attributes, one_attribute, with_first}
+use Rattle.dwarf_forms.proofs.ChoiceLemmas.{or_assoc, or-none}
 use Rattle.dwarf_forms.specs.declared.numbers.Format.{Format}
 use Rattle.dwarf_forms.specs.FormAnswers.{input_of, Got}
 use Rattle.dwarf_units.specs.Finds.{Found}
-use Rattle.dwarf_units.specs.Entries.{IsOnly, RawAt}
+use Rattle.dwarf_forms.specs.Tells.{IsOnly}
+use Rattle.dwarf_units.specs.Entries.{RawAt}
 use Rattle.dwarf_units.proofs.CaseLemmas.{some_same}
 use Rattle.dwarf_units.proofs.WalkLemmas.{last_only, more_only, none_only}
 use Rattle.dwarf_units.proofs.TableLemmas.{HasMoved, read_on, moved-start, moved_on}
-
-or_assoc : {A : Type 0} (a b c : Option A) → option_or (option_or a b) c ≡ option_or a (option_or b c)
-or_assoc None b c = refl
-or_assoc (Some x) b c = refl
-
-or-none : {A : Type 0} (a : Option A) → option_or a None ≡ a
-or-none None = refl
-or-none (Some x) = refl
 
 with_first_assoc : (e f g : RawEntry) → with_first (with_first e f) g ≡ with_first e (with_first f g)
 with_first_assoc e f g = simp or_assoc

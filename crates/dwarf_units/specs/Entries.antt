@@ -1,25 +1,11 @@
 -- What callers see of a unit's first entry (DWARF 5, section 7.5.2).
-use Rattle.std.specs.Prelude.{◌≡◌, Option, MatchOption}
 use Rattle.std.specs.Option.{option_map, option_copied}
 use Rattle.byte_read.specs.View.{View}
-use Rattle.file_formats.specs.DwarfUnits.{DebugSections, RawEntry, RootEntry, IsRaw, IsEntryFrom}
+use Rattle.file_formats.specs.DwarfUnits.{RawEntry, RootEntry, IsRaw, IsEntryFrom}
 use Rattle.dwarf_forms.specs.declared.numbers.Format.{Format}
-use Rattle.dwarf_forms.specs.declared.parts.DebugParts.{DebugParts}
 use Rattle.dwarf_forms.specs.FormAnswers.{raw_facts, input_of}
 use Rattle.dwarf_units.specs.declared.raw_entry.RawAttributes.{RawAttributes}
 use Rattle.dwarf_units.specs.declared.entry.UnitDie.{UnitDie}
-
--- the sections' bytes
-abbrev pub sections_of : DebugParts → DebugSections
-sections_of p = record {
-  info = p.info.now;
-  abbrevs = p.abbrev.now;
-  lines = p.line.now;
-  str = p.str.now;
-  line_str = p.line_str.now;
-  str_offsets = p.str_offsets.now;
-  order = p.order;
-}
 
 -- the values as they stand
 abbrev pub raw_entry : RawAttributes → RawEntry
@@ -32,15 +18,6 @@ raw_entry a = record {
 -- what the first entry says
 abbrev pub die_facts : UnitDie → RootEntry
 die_facts d = record { stmt_list = d.stmt_list; comp_dir = option_copied d.comp_dir; str_offsets_base = d.base }
-
--- the fact holds of this value and of no other
-pub record IsOnly {A : Type 0} (P : A → Type 0) (value : A) : Type 0 where
-  pub here : P value
-  pub only : (other : A) → P other → other ≡ value
-
--- the answer is the only value of which the fact holds, none exactly where it holds of none
-abbrev pub Tells : {A R : Type 0} → (R → A) → (A → Type 0) → Option R → Type 0
-Tells facts P result = MatchOption result ((value : _) → P value → ⊥) (λ r. IsOnly P (facts r))
 
 -- the entry whose pairs and values stand at two cursors' places
 abbrev pub RawAt : Format → View → View → RawEntry → Type 0

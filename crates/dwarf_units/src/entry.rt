@@ -9,7 +9,9 @@ ghost use Rattle.file_formats.specs.DwarfUnits.{root_of, text_of};
 ghost use Rattle.dwarf_forms.specs.FormAnswers.{raw_facts};
 ghost use Rattle.dwarf_forms.specs.TextAnswers.{texts_of};
 ghost use Rattle.dwarf_units.specs.UnitList.{unit_facts};
-ghost use Rattle.dwarf_units.specs.Entries.{die_facts, raw_entry, sections_of, EntryAt, Tells};
+ghost use Rattle.dwarf_forms.specs.Parts.{sections_of};
+ghost use Rattle.dwarf_forms.specs.Tells.{Tells};
+ghost use Rattle.dwarf_units.specs.Entries.{die_facts, raw_entry, EntryAt};
 
 use crate::abbreviations::find_pairs;
 use crate::head::read_head;

@@ -3,7 +3,8 @@
 ghost use Rattle.std.specs.Prelude.{◌≡◌};
 ghost use Rattle.file_formats.specs.DwarfUnits.{no_attributes, one_attribute, with_first};
 ghost use Rattle.dwarf_forms.specs.FormAnswers.{raw_facts};
-ghost use Rattle.dwarf_units.specs.Entries.{raw_entry, Tells, RawAt};
+ghost use Rattle.dwarf_forms.specs.Tells.{Tells};
+ghost use Rattle.dwarf_units.specs.Entries.{raw_entry, RawAt};
 
 use crate::abbreviations::{ends, read_pair};
 use byte_read::Cursor;

@@ -1,2 +1,3 @@
 pub use Rattle.file_formats.specs.Identity
 pub use Rattle.file_formats.specs.Table
+pub use Rattle.file_formats.specs.DwarfSections

@@ -1,12 +1,15 @@
-//! What a file is and which section of it is asked for: a file's identity, and the bytes of the
-//! section of a name. ELF gABI, chapter 4, and this project's rules over it. Debug information is
-//! not read here.
+//! What a file is and which section of it is asked for: a file's identity, the bytes of the section
+//! of a name, and those of its debug information. ELF gABI, chapter 4, and this project's rules over
+//! it. What the debug sections say is not read here.
 #![tactic(auto)]
 
 mod identity;
 mod named;
+mod parts;
 #[cfg(test)]
 mod tests;
 
+pub use dwarf_forms::DebugParts;
 pub use identity::ident;
 pub use named::section_of;
+pub use parts::debug_parts;

@@ -2,6 +2,7 @@
 //! sample files' description; `readelf -hSn` shows the same ids, types and flags.
 
 mod changes;
+mod parts;
 mod sections;
 
 use crate::ident;

@@ -15,3 +15,4 @@ pub mod DwarfSequences
 pub mod DwarfAbbreviations
 pub mod DwarfUnits
 pub mod DwarfLines
+pub mod DwarfSections

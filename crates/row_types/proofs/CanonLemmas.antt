@@ -43,7 +43,7 @@ fold_stays (piece ∷ rest) kept h =
     ∙ append_assoc kept (piece ∷ []) rest
 
 -- each piece with a slash before it, by the slashes between them
-joined_pieces : (piece : List ℕ) (rest : List (List ℕ)) → joined (piece ∷ rest) ≡ SEPARATOR ∷ join_with_byte SEPARATOR (piece ∷ rest)
+pub joined_pieces : (piece : List ℕ) (rest : List (List ℕ)) → joined (piece ∷ rest) ≡ SEPARATOR ∷ join_with_byte SEPARATOR (piece ∷ rest)
 joined_pieces piece [] = append-nil (SEPARATOR ∷ piece)
 joined_pieces piece (next ∷ rest) = ap (λ t. (SEPARATOR ∷ piece) ++ t) (joined_pieces next rest)
 
@@ -145,3 +145,9 @@ form_of_canon text e = form_of_kept (fold keep [] (pieces text)) text (fold_kept
 pub has_form_is_canonical : (text : List ℕ) → has_form text ≡ is_canonical text
 has_form_is_canonical text =
     same_from_decides (has_form text) (is_canonical text) (canon_of_form text, form_of_canon text) (bytes_eq-Decides (canon text) text)
+
+-- a canonical form is its own
+pub canon_stays : (text : List ℕ) → canon (canon text) ≡ canon text
+canon_stays text =
+    canon_of_form (canon text)
+    (form_of_kept (fold keep [] (pieces text)) (canon text) (fold_kept (pieces text) [] (pieces_no_slash text) refl) refl)
