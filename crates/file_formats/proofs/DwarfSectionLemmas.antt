@@ -35,7 +35,7 @@ parts-unique {p = p} {q = q} same f g =
     let str_offsets : p.str_offsets ≡ q.str_offsets = part-unique f.str_offsets g.str_offsets in
     let order : p.order ≡ q.order = f.order ∙ ap (λ v. v.encoding.order) same ∙ sym g.order in
     let whole : of_parts p.info p.abbrevs p.lines p.str p.line_str p.str_offsets p.order
-        ≡ of_parts q.info q.abbrevs q.lines q.str q.line_str q.str_offsets q.order = cc in
+    ≡ of_parts q.info q.abbrevs q.lines q.str q.line_str q.str_offsets q.order = cc in
     whole
 
 pub debug-unique : {b : List ℕ} {r s : Option DebugSections} → IsDebugAnswer b r → IsDebugAnswer b s → r ≡ s
