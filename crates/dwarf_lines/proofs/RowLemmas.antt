@@ -1,6 +1,5 @@
 -- A loop that reads a row, or fields, keeps what it has read in front of what is left.
 use Rattle.std.proofs.Common.{◌≡◌, ℕ, suc, ◌+◌, ◌-◌, ◌<◌, List, [], ◌∷◌, ◌++◌, Option, Some, None, ap, refl, sym, ap₂, ◌∙◌, append_assoc, append-nil, option_map, arith}
-use Rattle.std.specs.Option.{option_or}
 use Rattle.byte_read.specs.View.{View}
 use Rattle.file_formats.specs.DwarfReads.{Input, At}
 use Rattle.file_formats.specs.DwarfForms.{Raw}

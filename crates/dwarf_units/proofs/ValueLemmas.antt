@@ -1,6 +1,5 @@
 -- A reader of an entry's values that keeps what it has noted: what is noted, with what is left, decides the entry.
 use Rattle.std.proofs.Common.{◌≡◌, ℕ, true, false, List, [], ◌∷◌, Option, Some, None, ap, refl, subst, sym, ◌∙◌}
-use Rattle.std.specs.Option.{option_or}
 use Rattle.std.specs.Result.{result_ok}
 use Rattle.byte_read.specs.View.{View}
 use Rattle.file_formats.specs.declared.dwarf_units.Pair.{Pair}

@@ -1,5 +1,5 @@
 -- A file has one answer for its debug sections.
-use Rattle.std.proofs.Common.{◌≡◌, refl, sym, ◌∙◌, ap, subst, ℕ, List, [], Option, Some}
+use Rattle.std.proofs.Common.{◌≡◌, refl, sym, ◌∙◌, ap, ℕ, List, [], Option, Some}
 use Rattle.std.specs.Option.{unwrap_or}
 use Rattle.file_formats.specs.declared.encoding.Order.{Order}
 use Rattle.file_formats.specs.declared.header.SectionTable.{SectionTable}

@@ -1,6 +1,6 @@
 -- The sections that debug information stands in (DWARF 5, section 7.5.1 and appendix B), by this project's rule on the
 -- section of a name; a file that a linker has still to put together (ET_REL) has none, since its values aren't final.
-use Rattle.std.specs.Prelude.{◌≡◌, ℕ, List, [], Bool, true, false, Option, Some, None, Ok, Err, ◌==◌, codes}
+use Rattle.std.specs.Prelude.{◌≡◌, ℕ, List, [], true, false, Option, Some, None, Ok, Err, ◌==◌, codes}
 use Rattle.std.specs.Option.{unwrap_or}
 use Rattle.file_formats.specs.declared.codes.TheConstants.{ET_REL}
 use Rattle.file_formats.specs.declared.fault.ElfFault.{ElfFault}
