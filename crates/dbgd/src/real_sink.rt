@@ -13,8 +13,8 @@ pub enum Stream {
     Err(Stderr),
 }
 
-/// A sink over a stream of the program. It doesn't tell what was written. A write that takes nothing is
-/// counted as a fault.
+/// A sink over a stream of the program. It doesn't tell what was written. A write that takes nothing
+/// is counted as a fault.
 #[derive(Drop)]
 pub struct RealSink {
     stream: Stream,
@@ -48,7 +48,8 @@ impl RealSink {
 impl dbgd_run::Stream for RealSink {
     ghost use Rattle.std.specs.Prelude.{None};
 
-    ghost shows = { λ s. record { left = None; read_faults = 0; written = None; write_faults = s.faults } };
+    ghost shows = { λ s.
+        record { left = None; read_faults = 0; written = None; write_faults = s.faults } };
 }
 
 impl Sink for RealSink {

@@ -19,7 +19,7 @@ use Rattle.tree_trait.specs.Found.{Versions}
 use Rattle.tree_trait.specs.Heard.{Heard, load, with_answers}
 use Rattle.tree_trait.specs.Load.{LoadFacts, loaded, too_large, gone, failed, FitsLoad}
 use Rattle.tree_trait.specs.Shown.{ShownTree}
-use Rattle.tree_walk.specs.Ends.{IsWhole, Walks}
+use Rattle.tree_walk.specs.Ends.{IsWholeWalk, Walks}
 use Rattle.tree_walk.specs.Files.{AreFilesUnder, FitsFault}
 use Rattle.tree_walk.specs.declared.fault.WalkFault.{WalkFault}
 use Rattle.tree_walk.specs.declared.walked.Walk.{Walk}
@@ -81,7 +81,7 @@ pub record ReadsFiles (s : Setting) (roots : List (List ℕ)) (before after : Sh
     (files : List FileRead) (left : List NameFacts) (last : List Heard) : Type 0 where
   pub walk : Walk
   pub walked : List Heard
-  pub whole : IsWhole walked roots walk
+  pub whole : IsWholeWalk walked roots walk
   pub listed : walk.listing ≡ names_read files ++ left
   pub read : All (IsFileRead s.world.version) files
   pub heard : after.heard ≡ with_answers before.heard (walked ++ (loads_read files ++ last))

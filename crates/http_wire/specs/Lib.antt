@@ -1,3 +1,14 @@
+pub mod Fields
+pub mod Find
+pub mod Heads
+pub mod Look
+pub mod MemConn
 pub mod MemSink
+pub mod Reader
+pub mod ReaderFacts
+pub mod Reply
+pub mod ReplyFault
+pub mod Said
 pub mod Sink
+pub mod Source
 pub mod Stream

@@ -1,14 +1,29 @@
-//! HTTP/1.1 as bytes on a stream: by now the streams and sinks that bytes go through. The reader of
-//! heads and the replies come later. Nothing here knows what a request asks or which status a reply
-//! has.
+//! HTTP/1.1 as bytes on a stream: the streams that bytes go through, the heads of requests, and the
+//! exact bytes of replies (RFC 9112). Nothing here knows what a target means or picks a status.
 #![tactic(auto)]
 
+mod fields;
+mod find;
+mod head;
+mod limits;
+mod look;
+mod mem_conn;
 mod mem_sink;
+mod reader;
+mod reply;
+mod reply_lines;
 mod sink;
+mod source;
 mod stream;
 #[cfg(test)]
 mod tests;
 
+pub use head::{Head, HeadAnswer, HeadFault};
+pub use limits::{FIELD_LIMIT, HEAD_LIMIT};
+pub use mem_conn::MemConn;
 pub use mem_sink::MemSink;
-pub use sink::{Sink, WriteAnswer, WriteFault, write_all};
+pub use reader::HeadReader;
+pub use reply::{ReplyFault, ReplyHead, write_reply};
+pub use sink::{Sink, WriteAnswer, WriteFault, write_all, write_both};
+pub use source::{ReadAnswer, Source};
 pub use stream::Stream;

@@ -1,6 +1,6 @@
 //! Where bytes go.
 
-ghost use Rattle.std.specs.Prelude.{◌<◌, MatchResult, length};
+ghost use Rattle.std.specs.Prelude.{◌<◌, ◌++◌, MatchResult, length};
 ghost use Rattle.http_wire.specs.Sink.{GetsAll, GetsPart, Writes};
 
 use crate::stream::Stream;
@@ -40,4 +40,15 @@ pub fn write_all<S: Sink>(sink: &mut S, bytes: &[u8]) -> Result<(), WriteFault>
         }
     }
     Ok(())
+}
+
+/// Writes two pieces, one after the other.
+#[tactic(auto, using(crate::proofs::Pieces::in_a_row))]
+pub fn write_both<S: Sink>(sink: &mut S, first: &[u8], second: &[u8]) -> Result<(), WriteFault>
+    ensures { MatchResult result
+        (λ _. GetsAll (first.now ++ second.now) (S.shows sink.old) (S.shows sink.new))
+        (λ _. GetsPart (first.now ++ second.now) (S.shows sink.old) (S.shows sink.new)) }
+{
+    write_all(sink, first)?;
+    write_all(sink, second)
 }

@@ -8,6 +8,7 @@ use Rattle.std.specs.Cmp.Lexicographic.{slice_cmp}
 use Rattle.std.specs.Str.{bytes_eq}
 use Rattle.std.specs.declared.cmp.Ordering.{Ordering}
 use Rattle.std.specs.declared.cmp.Ordering.TheVariants.{Less, Equal, Greater}
+use Rattle.std.proofs.lemmas.Bool.{false_from_ne_true}
 use Rattle.std.proofs.lemmas.Cmp.{nat_list_cmp_total}
 use Rattle.std.proofs.lemmas.List.{append-nil}
 use Rattle.std.proofs.lemmas.List.Elements.{All-append, All-cons, All-nil, All-filter, filter-append, filter_passes, recursion_from_All}
@@ -96,8 +97,8 @@ is_less Equal e = cc
 is_less Greater e = cc
 
 -- the rows after a change of the path
-pub edited_cut : (rows front own back : List KeptFacts) (edit : EditFacts) → IsCut edit.path rows front own back → edited rows edit ≡ front ++ row_after edit ++ back
-edited_cut rows front own back edit cut =
+pub edited_cut : {rows front own back : List KeptFacts} (edit : EditFacts) → IsCut edit.path rows front own back → edited rows edit ≡ front ++ row_after edit ++ back
+edited_cut {rows} {front} {own} {back} edit cut =
     let kept_front : filter (stands_before edit.path) rows ≡ front =
     ap (filter (stands_before edit.path)) cut.whole
     ∙ keeps_first (stands_before edit.path) front own back
@@ -114,23 +115,23 @@ edited_cut rows front own back edit cut =
     ∙ ap (λ l. front ++ row_after edit ++ l) kept_back
 
 -- the row that is found at a path is among its own
-found_cut : (path : List ℕ) (rows front own back : List KeptFacts) → IsCut path rows front own back → find (λ row. bytes_eq row.path path) rows ≡ find (λ row. bytes_eq row.path path) own
-found_cut path rows front own back cut =
+found_cut : {path : List ℕ} {rows front own back : List KeptFacts} → IsCut path rows front own back → find (λ row. bytes_eq row.path path) rows ≡ find (λ row. bytes_eq row.path path) own
+found_cut {path} {rows} {front} {own} {back} cut =
     ap (find (λ row. bytes_eq row.path path)) cut.whole
     ∙ finds_middle (λ row. bytes_eq row.path path) front own back
     (λ k d w. sym (is_eq-slice_cmp (slice_index_or front k d).path path) ∙ ap is_eq (cut.apart.before k d w))
     (λ k d w. sym (is_eq-slice_cmp (slice_index_or back k d).path path) ∙ ap is_eq (flipped path (slice_index_or back k d).path (cut.apart.after k d w)))
 
 -- nothing is kept under a path without a row
-pub no_bytes : (path : List ℕ) (rows front back : List KeptFacts) → IsCut path rows front [] back → bytes_at path rows ≡ None
-no_bytes path rows front back cut = ap (option_map (λ row. row.bytes)) (found_cut path rows front [] back cut)
+pub no_bytes : {path : List ℕ} {rows front back : List KeptFacts} → IsCut path rows front [] back → bytes_at path rows ≡ None
+no_bytes cut = ap (option_map (λ row. row.bytes)) (found_cut cut)
 
 -- the bytes of a path's row are kept under it
-pub row_bytes_at : (path : List ℕ) (rows front back : List KeptFacts) (row : KeptFacts) → IsCut path rows front (row ∷ []) back → bytes_at path rows ≡ Some row.bytes
-row_bytes_at path rows front back row cut =
+pub row_bytes_at : {path : List ℕ} {rows front back : List KeptFacts} {row : KeptFacts} → IsCut path rows front (row ∷ []) back → bytes_at path rows ≡ Some row.bytes
+row_bytes_at {path} {rows} {front} {back} {row} cut =
     let same : bytes_eq row.path path ≡ true = (bytes_eq-Decides row.path path).1 (cut.here 0 row (omega arith)) in
     let found : find (λ row. bytes_eq row.path path) (row ∷ []) ≡ Some row = rw same refl in
-    ap (option_map (λ row. row.bytes)) (found_cut path rows front (row ∷ []) back cut ∙ found)
+    ap (option_map (λ row. row.bytes)) (found_cut cut ∙ found)
 
 -- a row of a path is that path's row after the change that keeps its bytes
 own_row : (path : List ℕ) (row : KeptFacts) → row.path ≡ path → row_after (record { path = path; bytes = Some row.bytes }) ≡ row ∷ []
@@ -169,8 +170,8 @@ tail_ascends x xs h = λ i j d less within. h (suc i) (suc j) d (omega arith) (o
 head_first : (x : KeptFacts) (xs : List KeptFacts) → AscendsByPath (x ∷ xs) → All (λ row. IsBefore x.path row.path) xs
 head_first x xs h = λ k d within. h 0 (suc k) d (omega arith) (omega arith)
 
-cut_less : (path : List ℕ) (x : KeptFacts) (xs : List KeptFacts) → IsBefore x.path path → HasCut path xs → HasCut path (x ∷ xs)
-cut_less path x xs before rest = record {
+cut_less : {path : List ℕ} {x : KeptFacts} {xs : List KeptFacts} → IsBefore x.path path → HasCut path xs → HasCut path (x ∷ xs)
+cut_less {path} {x} before rest = record {
   front = x ∷ rest.front;
   own = rest.own;
   back = rest.back;
@@ -181,8 +182,8 @@ cut_less path x xs before rest = record {
   };
 }
 
-cut_here : (path : List ℕ) (x : KeptFacts) (xs : List KeptFacts) → x.path ≡ path → All (λ row. IsBefore x.path row.path) xs → HasCut path (x ∷ xs)
-cut_here path x xs same after = record {
+cut_here : {path : List ℕ} {x : KeptFacts} {xs : List KeptFacts} → x.path ≡ path → All (λ row. IsBefore x.path row.path) xs → HasCut path (x ∷ xs)
+cut_here {path} {x} {xs} same after = record {
   front = [];
   own = Some x.bytes;
   back = xs;
@@ -193,8 +194,8 @@ cut_here path x xs same after = record {
   };
 }
 
-cut_before : (path : List ℕ) (x : KeptFacts) (xs : List KeptFacts) → IsBefore path x.path → All (λ row. IsBefore x.path row.path) xs → HasCut path (x ∷ xs)
-cut_before path x xs before after = record {
+cut_before : {path : List ℕ} {x : KeptFacts} {xs : List KeptFacts} → IsBefore path x.path → All (λ row. IsBefore x.path row.path) xs → HasCut path (x ∷ xs)
+cut_before {path} {x} {xs} before after = record {
   front = [];
   own = None;
   back = x ∷ xs;
@@ -221,9 +222,9 @@ cut_of path [] h = record {
 }
 cut_of path (x ∷ xs) h =
     (elim (slice_cmp nat_cmp x.path path) as (λ o. slice_cmp nat_cmp x.path path ≡ o → HasCut path (x ∷ xs)) [
-      | Less ↦ λ e. cut_less path x xs e (cut_of path xs (tail_ascends x xs h))
-      | Equal ↦ λ e. cut_here path x xs (exact_bytes x.path path e) (head_first x xs h)
-      | Greater ↦ λ e. cut_before path x xs (flipped_back x.path path e) (head_first x xs h)
+      | Less ↦ λ e. cut_less e (cut_of path xs (tail_ascends x xs h))
+      | Equal ↦ λ e. cut_here (exact_bytes x.path path e) (head_first x xs h)
+      | Greater ↦ λ e. cut_before (flipped_back x.path path e) (head_first x xs h)
     ]) refl
 
 -- the undoing of a change leads back to the rows before it
@@ -232,22 +233,46 @@ undone rows edit h =
     let found : HasCut edit.path rows = cut_of edit.path rows h in
     let own : EditFacts = record { path = edit.path; bytes = found.own } in
     let taken : bytes_at edit.path rows ≡ found.own =
-    ap (option_map (λ row. row.bytes)) (found_cut edit.path rows found.front (row_after own) found.back found.cut) ∙ own_after edit.path found.own in
+    ap (option_map (λ row. row.bytes)) (found_cut found.cut) ∙ own_after edit.path found.own in
     let changed : IsCut edit.path (edited rows edit) found.front (row_after edit) found.back = record {
-      whole = edited_cut rows found.front (row_after own) found.back edit found.cut;
+      whole = edited_cut edit found.cut;
       apart = found.cut.apart;
       here = after_here edit.path edit.bytes;
     } in
-    edited_cut (edited rows edit) found.front (row_after edit) found.back (undo_of edit.path rows) changed
+    edited_cut (undo_of edit.path rows) changed
     ∙ ap (λ b. found.front ++ row_after (record { path = edit.path; bytes = b }) ++ found.back) taken
     ∙ sym found.cut.whole
 
 -- the same, where the rows and the path are known by equations
-pub undone_after : (rows value new : List KeptFacts) (edit : EditFacts) (path : List ℕ) → AscendsByPath rows → rows ≡ value → new ≡ edited rows edit → edit.path ≡ path → edited new (undo_of path value) ≡ value
-undone_after rows value new edit path h same made at =
+pub undone_after : {rows value new : List KeptFacts} {path : List ℕ} (edit : EditFacts) → AscendsByPath rows → rows ≡ value → new ≡ edited rows edit → edit.path ≡ path → edited new (undo_of path value) ≡ value
+undone_after {rows} {value} {new} {path} edit h same made at =
     ap (λ n. edited n (undo_of path value)) made
     ∙ subst (λ (v : List KeptFacts). edited (edited rows edit) (undo_of path v) ≡ v) same
     (subst (λ (p : List ℕ). edited (edited rows edit) (undo_of p rows) ≡ rows) at (undone rows edit h))
+
+-- what passes in none of the middle list is found in the others
+finds_around : {X : Type 0} (p : X → Bool) (a b c : List X) → All (λ x. p x ≡ false) b → find p (a ++ b ++ c) ≡ option_or (find p a) (find p c)
+finds_around p a b c h =
+    find-append p (a ++ b) c
+    ∙ ap (λ o. option_or o (find p c)) (find-append p a b)
+    ∙ ap (λ o. option_or (option_or (find p a) o) (find p c)) (finds_none p b (recursion_from_All (λ x. p x ≡ false) b h))
+    ∙ ap (λ o. option_or o (find p c)) (or_none (find p a))
+
+-- the bytes under a path stay where another path changes
+pub other_bytes : (path : List ℕ) (rows : List KeptFacts) (edit : EditFacts) → AscendsByPath rows → (edit.path ≡ path → ⊥) → bytes_at path (edited rows edit) ≡ bytes_at path rows
+other_bytes path rows edit ascends apart =
+    let found : HasCut edit.path rows = cut_of edit.path rows ascends in
+    let p : KeptFacts → Bool = λ row. bytes_eq row.path path in
+    let own : (bytes : Option (List ℕ)) → All (λ row. p row ≡ false) (row_after (record { path = edit.path; bytes = bytes })) =
+    λ bytes k d within.
+    let here = after_here edit.path bytes k d within in
+    false_from_ne_true (p (slice_index_or (row_after (record { path = edit.path; bytes = bytes })) k d))
+    (λ same. apart (sym here ∙ (bytes_eq-Decides (slice_index_or (row_after (record { path = edit.path; bytes = bytes })) k d).path path).0 same)) in
+    ap (option_map (λ row. row.bytes))
+    (ap (find p) (edited_cut edit found.cut)
+    ∙ finds_around p found.front (row_after edit) found.back (own edit.bytes)
+    ∙ sym (finds_around p found.front (row_after (record { path = edit.path; bytes = found.own })) found.back (own found.own))
+    ∙ ap (find p) (sym found.cut.whole))
 
 -- two lists in order, of which each element of the first stands before each of the second, are one list in order
 joined : {X : Type 0} (R : X → X → Type 0) (xs ys : List X) → AllPairs R xs → AllPairs R ys → All (λ x. All (R x) ys) xs → AllPairs R (xs ++ ys)

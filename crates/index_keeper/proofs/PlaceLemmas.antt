@@ -72,58 +72,58 @@ place_found path rows ascends (Err i) within gap =
     }
 
 -- the cut at a row of the path
-cut_at : (path : List ℕ) (rows : List KeptFacts) (i : ℕ) (d : KeptFacts) → IsRowPlace path rows i → IsCut path rows (take i rows) (slice_index_or rows i d ∷ []) (drop (i + 1) rows)
-cut_at path rows i d place = record {
+cut_at : {path : List ℕ} {rows : List KeptFacts} {i : ℕ} (d : KeptFacts) → IsRowPlace path rows i → IsCut path rows (take i rows) (slice_index_or rows i d ∷ []) (drop (i + 1) rows)
+cut_at {path} {rows} {i} d place = record {
   whole = sym (ap (λ l. l ++ drop (i + 1) rows) (sym (take_more rows i d place.within)) ∙ take-append-drop (i + 1) rows);
   apart = place.apart;
   here = All-cons (λ row. row.path ≡ path) (slice_index_or rows i d) [] (place.here d) (All-nil (λ row. row.path ≡ path));
 }
 
 -- the cut where no row is the path's
-cut_gap : (path : List ℕ) (rows : List KeptFacts) (i : ℕ) → IsGap path rows i → IsCut path rows (take i rows) [] (drop i rows)
-cut_gap path rows i place = record {
+cut_gap : {path : List ℕ} {rows : List KeptFacts} {i : ℕ} → IsGap path rows i → IsCut path rows (take i rows) [] (drop i rows)
+cut_gap {path} {rows} {i} place = record {
   whole = sym (ap (λ l. l ++ drop i rows) (append-nil (take i rows)) ∙ take-append-drop i rows);
   apart = place.apart;
   here = All-nil (λ row. row.path ≡ path);
 }
 
 -- a row set in the place of the path's is the change
-pub set_at : (path bytes : List ℕ) (rows : List KeptFacts) (i : ℕ) (row : KeptFacts) → row ≡ record { path = path; bytes = bytes } → IsRowPlace path rows i → slice_set rows i row ≡ edited rows (put_of path bytes)
-set_at path bytes rows i row e place =
+pub set_at : {path bytes : List ℕ} {rows : List KeptFacts} {i : ℕ} {row : KeptFacts} → row ≡ record { path = path; bytes = bytes } → IsRowPlace path rows i → slice_set rows i row ≡ edited rows (put_of path bytes)
+set_at {path} {bytes} {rows} {i} {row} e place =
     let new : KeptFacts = record { path = path; bytes = bytes } in
     let after : i + 1 ≡ suc i = omega arith in
     ap (slice_set rows i) e
     ∙ set_split rows i new place.within
     ∙ ap (λ n. take i rows ++ new ∷ drop n rows) (sym after)
     ∙ sym (append_assoc (take i rows) (new ∷ []) (drop (i + 1) rows))
-    ∙ sym (edited_cut rows (take i rows) (slice_index_or rows i row ∷ []) (drop (i + 1) rows) (put_of path bytes) (cut_at path rows i row place))
+    ∙ sym (edited_cut (put_of path bytes) (cut_at row place))
 
 -- a row put where the path's would stand is the change
-pub insert_at : (path bytes : List ℕ) (rows : List KeptFacts) (i : ℕ) (row : KeptFacts) → row ≡ record { path = path; bytes = bytes } → IsGap path rows i → insert rows i row ≡ edited rows (put_of path bytes)
-insert_at path bytes rows i row e place =
+pub insert_at : {path bytes : List ℕ} {rows : List KeptFacts} {i : ℕ} {row : KeptFacts} → row ≡ record { path = path; bytes = bytes } → IsGap path rows i → insert rows i row ≡ edited rows (put_of path bytes)
+insert_at {path} {bytes} {rows} {i} e place =
     let new : KeptFacts = record { path = path; bytes = bytes } in
     ap (insert rows i) e
     ∙ sym (append_assoc (take i rows) (new ∷ []) (drop i rows))
-    ∙ sym (edited_cut rows (take i rows) [] (drop i rows) (put_of path bytes) (cut_gap path rows i place))
+    ∙ sym (edited_cut (put_of path bytes) (cut_gap place))
 
 -- the rows without the path's are the change
-pub remove_at : (path : List ℕ) (rows : List KeptFacts) (i : ℕ) (d : KeptFacts) → IsRowPlace path rows i → remove rows i ≡ edited rows (removal_of path)
-remove_at path rows i d place =
+pub remove_at : {path : List ℕ} {rows : List KeptFacts} {i : ℕ} (d : KeptFacts) → IsRowPlace path rows i → remove rows i ≡ edited rows (removal_of path)
+remove_at {path} {rows} {i} d place =
     let after : i + 1 ≡ suc i = omega arith in
     ap (λ n. take i rows ++ drop n rows) (sym after)
     ∙ ap (λ l. l ++ drop (i + 1) rows) (sym (append-nil (take i rows)))
-    ∙ sym (edited_cut rows (take i rows) (slice_index_or rows i d ∷ []) (drop (i + 1) rows) (removal_of path) (cut_at path rows i d place))
+    ∙ sym (edited_cut (removal_of path) (cut_at d place))
 
 -- nothing changes where nothing is kept under the path
-pub remove_gap : (path : List ℕ) (rows : List KeptFacts) (i : ℕ) → IsGap path rows i → rows ≡ edited rows (removal_of path)
-remove_gap path rows i place =
-    let cut : IsCut path rows (take i rows) [] (drop i rows) = cut_gap path rows i place in
-    cut.whole ∙ sym (edited_cut rows (take i rows) [] (drop i rows) (removal_of path) cut)
+pub remove_gap : {path : List ℕ} {rows : List KeptFacts} {i : ℕ} → IsGap path rows i → rows ≡ edited rows (removal_of path)
+remove_gap {path} {rows} {i} place =
+    let cut : IsCut path rows (take i rows) [] (drop i rows) = cut_gap place in
+    cut.whole ∙ sym (edited_cut (removal_of path) cut)
 
 -- the bytes under a path, at its row
-pub bytes_here : (path : List ℕ) (rows : List KeptFacts) (i : ℕ) (d : KeptFacts) → IsRowPlace path rows i → bytes_at path rows ≡ Some (slice_index_or rows i d).bytes
-bytes_here path rows i d place = row_bytes_at path rows (take i rows) (drop (i + 1) rows) (slice_index_or rows i d) (cut_at path rows i d place)
+pub bytes_here : {path : List ℕ} {rows : List KeptFacts} {i : ℕ} (d : KeptFacts) → IsRowPlace path rows i → bytes_at path rows ≡ Some (slice_index_or rows i d).bytes
+bytes_here d place = row_bytes_at (cut_at d place)
 
 -- the bytes under a path without a row
-pub bytes_gone : (path : List ℕ) (rows : List KeptFacts) (i : ℕ) → IsGap path rows i → bytes_at path rows ≡ None
-bytes_gone path rows i place = no_bytes path rows (take i rows) (drop i rows) (cut_gap path rows i place)
+pub bytes_gone : {path : List ℕ} {rows : List KeptFacts} {i : ℕ} → IsGap path rows i → bytes_at path rows ≡ None
+bytes_gone place = no_bytes (cut_gap place)

@@ -6,8 +6,8 @@ ghost use Rattle.index_keeper.specs.Tables.{put_of, removal_of};
 use std::alloc::{AllocError, Global};
 use std::marker::Model;
 
-/// A path with the bytes that are kept under it from then on, or none. Contracts see it as a record of
-/// the two.
+/// A path with the bytes that are kept under it from then on, or none. Contracts see it as a record
+/// of the two.
 #[derive(Debug, Drop)]
 pub struct Edit {
     /// The path.
@@ -23,7 +23,11 @@ impl Model for Edit {
 
     ghost Value = { EditFacts };
 
-    ghost view = { λ e. record { path = string_bytes e.path; bytes = option_map (λ bytes. bytes.items) e.bytes } };
+    ghost view = { λ e. record {
+      path = string_bytes e.path;
+      bytes = option_map
+          (λ bytes. bytes.items) e.bytes;
+    } };
 }
 
 impl Edit {

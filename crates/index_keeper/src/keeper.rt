@@ -10,13 +10,14 @@ use crate::answer::{KeepAnswer, KeptAnswer};
 use row_types::Truth;
 use std::alloc::Global;
 
-/// An open store of rows of a world: a database, or a form in memory. Each object counts its own faults.
+/// An open store of rows of a world: a database, or a form in memory. Each object counts its own
+/// faults.
 pub trait Keeper<W: Truth>: Send + Drop {
     /// Whether the keeper tells its tables. It is a fact of the type.
     ghost told: { Bool };
 
-    /// What it shows at a moment. The count of faults is that since the opening; it never falls, and
-    /// stands still at 2^64 - 1. The changes may be told where the tables aren't.
+    /// What it shows at a moment. The count of faults is that since the opening; it never falls,
+    /// and stands still at 2^64 - 1. The changes may be told where the tables aren't.
     ghost shows: { Self → ShownKeeper };
 
     /// All rows of the tables, by path.
@@ -27,11 +28,13 @@ pub trait Keeper<W: Truth>: Send + Drop {
     /// Keeps the bytes under the path, in place of those that were kept there.
     fn put(&mut self, alloc: Global, path: &str, bytes: &[u8]) -> KeepAnswer
         requires { SpellsTrueRow W.true_row path.now bytes.now }
-        ensures { Asks told (shows self.old) (shows self.new) (for_change (put_of path.now bytes.now) result) };
+        ensures { Asks told (shows self.old) (shows self.new)
+            (for_change (put_of path.now bytes.now) result) };
 
     /// Keeps nothing under the path. It is done too where nothing was kept there.
     fn remove(&mut self, alloc: Global, path: &str) -> KeepAnswer
-        ensures { Asks told (shows self.old) (shows self.new) (for_change (removal_of path.now) result) };
+        ensures { Asks told (shows self.old) (shows self.new)
+            (for_change (removal_of path.now) result) };
 
     /// The number of the opening, which is greater than that of each earlier opening of the store.
     fn epoch(&self) -> u64

@@ -1,5 +1,6 @@
-//! The store that rows are kept in, and the keeper that changes it: the traits that stand for them, what
-//! they answer, and forms in memory that fail by a plan. What the bytes of a row are is said below.
+//! The store that rows are kept in, and the keeper that changes it: the traits that stand for them,
+//! what they answer, and forms in memory that fail by a plan. What the bytes of a row are is said
+//! below.
 #![tactic(auto)]
 
 mod answer;

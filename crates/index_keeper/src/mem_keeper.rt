@@ -15,8 +15,8 @@ use row_types::{Faults, Truth};
 use std::alloc::Global;
 use std::marker::{Model, PhantomData};
 
-/// A keeper in memory, which tells its tables and its changes, and fails exactly at the calls of its
-/// store's plan. Contracts see it as a record.
+/// A keeper in memory, which tells its tables and its changes, and fails exactly at the calls of
+/// its store's plan. Contracts see it as a record.
 #[derive(Drop)]
 pub struct MemKeeper<W: Truth> {
     shelf: Shelf,
@@ -33,7 +33,13 @@ impl<W: Truth> Model for MemKeeper<W> {
 
     ghost Value = { KeeperFacts };
 
-    ghost view = { λ k. record { shelf = k.shelf; doubt = k.doubt; faults = k.faults; epoch = k.epoch } };
+    ghost view = { λ k. record {
+      shelf = k.shelf;
+      doubt = k.doubt;
+      faults = k.faults;
+      epoch =
+          k.epoch;
+    } };
 
     ghost invariant = { λ k. All (IsTrueKept W.true_row) k.shelf.tables };
 }
@@ -149,8 +155,10 @@ impl<W: Truth + Send> Keeper<W> for MemKeeper<W> {
 
     fn put(&mut self, alloc: Global, path: &str, bytes: &[u8]) -> KeepAnswer
         requires { SpellsTrueRow W.true_row path.now bytes.now }
-        ensures asks { Asks true (shown_of self.old) (shown_of self.new) (for_change (put_of path.now bytes.now) result) }
-        ensures plan { GoesByPlan self.old self.new (for_change (put_of path.now bytes.now) result) }
+        ensures asks { Asks true (shown_of self.old) (shown_of self.new)
+            (for_change (put_of path.now bytes.now) result) }
+        ensures plan { GoesByPlan self.old self.new
+            (for_change (put_of path.now bytes.now) result) }
     {
         match Edit::put(alloc, path, bytes) {
             Ok(edit) => self.change(alloc, edit),
@@ -159,7 +167,8 @@ impl<W: Truth + Send> Keeper<W> for MemKeeper<W> {
     }
 
     fn remove(&mut self, alloc: Global, path: &str) -> KeepAnswer
-        ensures asks { Asks true (shown_of self.old) (shown_of self.new) (for_change (removal_of path.now) result) }
+        ensures asks { Asks true (shown_of self.old) (shown_of self.new)
+            (for_change (removal_of path.now) result) }
         ensures plan { GoesByPlan self.old self.new (for_change (removal_of path.now) result) }
     {
         match Edit::removal(alloc, path) {

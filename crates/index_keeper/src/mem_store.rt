@@ -18,11 +18,11 @@ use std::alloc::{AllocError, Global};
 use std::marker::{Model, PhantomData};
 use std::mem;
 
-/// A store in memory, whatever its path, which tells what it keeps and by which paths it was opened, and
-/// fails exactly at the calls of its plan: at the call of the number `stop_at` and each later one, until
-/// the store is opened again, and at the calls of the listed numbers. A change at the number `stop_at` is
-/// made all the same if that number is odd. What is kept goes to the keeper that is opened, and comes back
-/// with it. Contracts see the store as a record.
+/// A store in memory, whatever its path, which tells what it keeps and by which paths it was
+/// opened, and fails exactly at the calls of its plan: at the call of the number `stop_at` and each
+/// later one, until the store is opened again, and at the calls of the listed numbers. A change at
+/// the number `stop_at` is made all the same if that number is odd. What is kept goes to the keeper
+/// that is opened, and comes back with it. Contracts see the store as a record.
 #[derive(Drop)]
 pub struct MemStore<W: Truth> {
     shelf: Shelf,
@@ -40,7 +40,13 @@ impl<W: Truth> Model for MemStore<W> {
 
     ghost Value = { StoreFacts };
 
-    ghost view = { λ s. record { shelf = s.shelf; paths = map string_bytes s.paths.items; faults = s.faults; epoch = s.epoch } };
+    ghost view = { λ s. record {
+      shelf = s.shelf;
+      paths = map string_bytes s.paths.items;
+      faults =
+          s.faults;
+      epoch = s.epoch;
+    } };
 
     ghost invariant = { λ s. All (IsTrueKept W.true_row) s.shelf.tables };
 }
@@ -85,7 +91,8 @@ impl<W: Truth + Send> Store<W> for MemStore<W> {
     ghost shows = { store_shown };
 
     fn open_store(&mut self, alloc: Global, path: &str) -> StoreAnswer<MemKeeper<W>>
-        ensures opens { OpensStore true shown_of path.now (store_shown self.old) (store_shown self.new) result }
+        ensures opens { OpensStore true shown_of path.now (store_shown self.old)
+            (store_shown self.new) result }
         ensures plan { OpensByPlan path.now self.old self.new result }
     {
         if self.note_path(alloc, path).is_err() {
@@ -103,7 +110,8 @@ impl<W: Truth + Send> Store<W> for MemStore<W> {
     }
 
     fn give_back(&mut self, keeper: MemKeeper<W>)
-        ensures takes { TakesBack true (shown_of keeper) (store_shown self.old) (store_shown self.new) }
+        ensures takes { TakesBack true (shown_of keeper) (store_shown self.old)
+            (store_shown self.new) }
         ensures after { self.new ≡ after_giving self.old keeper }
     {
         self.faults.add(keeper.faults());

@@ -1,7 +1,8 @@
 //! Which calls of a store in memory fail.
 
 ghost use Rattle.std.specs.Prelude.{◌≡◌};
-ghost use Rattle.index_keeper.specs.Plan.{planned, stops_next, is_bad_next, opening_fails, call_fails, is_made_next, after_call, after_opening};
+ghost use Rattle.index_keeper.specs.Plan.{planned, stops_next, is_bad_next, opening_fails};
+ghost use Rattle.index_keeper.specs.Plan.{call_fails, is_made_next, after_call, after_opening};
 
 use std::marker::Model;
 
@@ -19,7 +20,13 @@ impl Model for Plan {
 
     ghost Value = { PlanFacts };
 
-    ghost view = { λ p. record { stop_at = p.stop_at; bad_calls = p.bad_calls.items; calls = p.calls; stopped = p.stopped } };
+    ghost view = { λ p. record {
+      stop_at = p.stop_at;
+      bad_calls = p.bad_calls.items;
+      calls =
+          p.calls;
+      stopped = p.stopped;
+    } };
 }
 
 impl Plan {

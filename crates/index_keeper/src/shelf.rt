@@ -1,7 +1,8 @@
 //! What a store in memory hands to its keeper, and gets back from it.
 
 ghost use Rattle.std.specs.Prelude.{◌≡◌, [], None, IfOk, OnOk, OnErr};
-ghost use Rattle.index_keeper.specs.Shelf.{shelf_of, after_making, after_tearing, doubt_of, IsDoubt};
+ghost use Rattle.index_keeper.specs.Shelf.{shelf_of, after_making, after_tearing, doubt_of};
+ghost use Rattle.index_keeper.specs.Shelf.{IsDoubt};
 
 use crate::edit::Edit;
 use crate::plan::Plan;
@@ -62,8 +63,8 @@ impl Shelf {
         Ok(())
     }
 
-    /// Fails at a change, which is made where the plan says so, or leaves all as it is. Gives the change
-    /// that leads to the other tables.
+    /// Fails at a change, which is made where the plan says so, or leaves all as it is. Gives the
+    /// change that leads to the other tables.
     pub fn tear(&mut self, alloc: Global, edit: Edit) -> Result<Edit, AllocError>
         ensures ok { OnOk result (self.new ≡ after_tearing self.old edit) }
         ensures value { IfOk result (λ doubt. doubt ≡ doubt_of self.old edit) }

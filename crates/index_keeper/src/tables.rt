@@ -2,7 +2,8 @@
 
 ghost use Rattle.std.specs.Prelude.{◌≡◌, [], IfOk, OnOk, OnErr, option_map};
 ghost use Rattle.index_keeper.specs.Places.{IsPlace};
-ghost use Rattle.index_keeper.specs.Tables.{AscendsByPath, bytes_at, edited, put_of, removal_of, undo_of};
+ghost use Rattle.index_keeper.specs.Tables.{AscendsByPath, bytes_at, edited, put_of, removal_of};
+ghost use Rattle.index_keeper.specs.Tables.{undo_of};
 
 use crate::edit::Edit;
 use crate::kept::Kept;
@@ -92,7 +93,8 @@ fn copies_of(alloc: Global, rows: &[Kept]) -> Result<Vec<Kept>, AllocError>
 /// A copy of the bytes that are kept under the path, if any.
 fn copy_at(alloc: Global, rows: &[Kept], path: &str) -> Result<Option<Vec<u8>>, AllocError>
     requires { AscendsByPath rows.now }
-    ensures { IfOk result (λ copy. option_map (λ bytes. bytes.items) copy ≡ bytes_at path.now rows.now) }
+    ensures { IfOk result (λ copy. option_map (λ bytes. bytes.items) copy ≡ bytes_at path.now
+        rows.now) }
 {
     match place_of(rows, path) {
         Ok(i) => {

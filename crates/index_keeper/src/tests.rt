@@ -7,7 +7,8 @@ use crate::mem_keeper::MemKeeper;
 use crate::mem_store::MemStore;
 use crate::store::Store;
 use row_codec::write_row;
-use row_types::{CanonPath, EDITION, Name, OpenWorld, Reading, Row, Stamp, Why};
+use row_types::OpenWorld;
+use sample_rows::plain;
 use std::alloc::Global;
 use std::process::Abort;
 use std::test::Fail;
@@ -22,17 +23,20 @@ const SECOND: [u8; 29] = [
     2, 2, 0, 0, 0, 0x2f, 0x62, 0, 0, 0, 0, 0, 0, 0, 0, 0x64, 0, 0, 0, 0, 0, 0, 0, 0, 0, 0, 0, 0, 1,
 ];
 
+/// A call of a keeper, and what it is to answer.
+#[derive(Clone, Copy)]
+enum Call<'a> {
+    /// The row of an empty file of this path, which is no ELF file, is put.
+    Put(&'a str, KeepAnswer),
+    /// What is kept under this path is removed.
+    Remove(&'a str, KeepAnswer),
+    /// The paths of all rows, each with a space behind it; `-` where they can't be read.
+    Rows(&'a str),
+}
+
 /// A store without rows, whose plan has these numbers.
 fn store_of(alloc: Global, stop_at: Option<u64>, bad_calls: Vec<u64>) -> MemStore<OpenWorld> {
     MemStore::new(alloc, Vec::new(alloc), stop_at, bad_calls)
-}
-
-/// The store of two rows.
-fn store_of_two(alloc: Global) -> Result<MemStore<OpenWorld>, Fail> {
-    let first = Kept::of(alloc, "/a", FIRST.as_slice())?;
-    let second = Kept::of(alloc, "/b", SECOND.as_slice())?;
-    let rows = vec![in alloc; first, second]?;
-    Ok(MemStore::new(alloc, rows, None, Vec::new(alloc)))
 }
 
 /// The keeper of a store that opens.
@@ -63,58 +67,74 @@ fn kept_paths<K: Keeper<OpenWorld>>(alloc: Global, keeper: &mut K) -> Result<Str
 fn put<K: Keeper<OpenWorld>>(
     alloc: Global,
     keeper: &mut K,
-    text: &str,
+    path: &str,
 ) -> Result<KeepAnswer, Fail> {
-    let path = CanonPath::check(String::from_str(alloc, text)?)
-        .ok()
-        .ok_or("a path")?;
-    let stamp = Stamp::new(0, 100, 0).ok_or("a stamp")?;
-    let row = Row::new(Name { path, stamp }, EDITION, Reading::Plain(Why::NotElf));
+    let row = plain(alloc, path, 0)?.into_row();
     let bytes = write_row(alloc, &row)?;
     Ok(keeper.put(alloc, row.name.path.text(), bytes.as_slice()))
 }
 
-/// Puts a row under each path, and looks at what is answered.
-fn put_all<K: Keeper<OpenWorld>>(
+/// Makes the calls, one after the other, and looks at what is answered.
+fn make_calls<K: Keeper<OpenWorld>>(
     rt: &impl Abort,
     alloc: Global,
     keeper: &mut K,
-    puts: &[(&str, KeepAnswer)],
+    calls: &[Call<'_>],
 ) -> Result<(), Fail> {
-    for (path, answer) in puts {
-        assert_eq!(rt; put(alloc, keeper, path)?, *answer, "put of {path}");
+    for call in calls {
+        match call {
+            Call::Put(path, want) => {
+                assert_eq!(rt; put(alloc, keeper, path)?, *want, "put of {path}")
+            }
+            Call::Remove(path, want) => {
+                assert_eq!(rt; keeper.remove(alloc, path), *want, "removal of {path}")
+            }
+            Call::Rows(want) => assert_eq!(rt; kept_paths(alloc, keeper)?.as_str(), *want),
+        }
     }
     Ok(())
 }
 
+/// Makes the calls on a keeper of the store, whose opening is to have this number, and gives it
+/// back.
+fn session(
+    rt: &impl Abort,
+    alloc: Global,
+    store: &mut MemStore<OpenWorld>,
+    epoch: u64,
+    calls: &[Call<'_>],
+) -> Result<(), Fail> {
+    let mut keeper = opened(alloc, store)?;
+    assert_eq!(rt; keeper.epoch(), epoch);
+    let made = make_calls(rt, alloc, &mut keeper, calls);
+    store.give_back(keeper);
+    made
+}
+
 #[test]
 fn rows_come_back_by_path(rt: HostRuntime) -> Result<(), Fail> {
+    let done = KeepAnswer::Done;
+    let calls = [
+        Call::Put("/b", done),
+        Call::Put("/a", done),
+        Call::Put("/b", done),
+        Call::Rows("/a /b "),
+        Call::Remove("/c", done),
+        Call::Remove("/a", done),
+    ];
     let alloc = rt.alloc();
     let mut store = store_of(alloc, None, Vec::new(alloc));
-    let mut keeper = opened(alloc, &mut store)?;
-    assert_eq!(rt; keeper.epoch(), 1);
-    let done = KeepAnswer::Done;
-    put_all(
-        &rt,
-        alloc,
-        &mut keeper,
-        &[("/b", done), ("/a", done), ("/b", done)],
-    )?;
-    assert_eq!(rt; kept_paths(alloc, &mut keeper)?.as_str(), "/a /b ");
-    assert_eq!(rt; keeper.remove(alloc, "/c"), done);
-    assert_eq!(rt; keeper.remove(alloc, "/a"), done);
-    store.give_back(keeper);
-    let mut again = opened(alloc, &mut store)?;
-    assert_eq!(rt; again.epoch(), 2);
-    assert_eq!(rt; kept_paths(alloc, &mut again)?.as_str(), "/b ");
-    store.give_back(again);
-    Ok(())
+    session(&rt, alloc, &mut store, 1, calls.as_slice())?;
+    session(&rt, alloc, &mut store, 2, &[Call::Rows("/b ")])
 }
 
 #[test]
 fn a_store_begins_with_the_rows_that_it_is_given(rt: HostRuntime) -> Result<(), Fail> {
     let alloc = rt.alloc();
-    let mut store = store_of_two(alloc)?;
+    let first = Kept::of(alloc, "/a", FIRST.as_slice())?;
+    let second = Kept::of(alloc, "/b", SECOND.as_slice())?;
+    let given = vec![in alloc; first, second]?;
+    let mut store: MemStore<OpenWorld> = MemStore::new(alloc, given, None, Vec::new(alloc));
     let mut keeper = opened(alloc, &mut store)?;
     let rows = match keeper.rows(alloc) {
         KeptAnswer::All(rows) => rows,
@@ -131,19 +151,14 @@ fn a_store_begins_with_the_rows_that_it_is_given(rt: HostRuntime) -> Result<(), 
 
 #[test]
 fn a_listed_call_fails_alone(rt: HostRuntime) -> Result<(), Fail> {
-    let alloc = rt.alloc();
-    let mut store = store_of(alloc, None, vec![in alloc; 2]?);
-    let mut keeper = opened(alloc, &mut store)?;
-    let (done, failed) = (KeepAnswer::Done, KeepAnswer::Failed);
-    put_all(
-        &rt,
-        alloc,
-        &mut keeper,
-        &[("/a", done), ("/b", failed), ("/c", done)],
-    )?;
-    assert_eq!(rt; kept_paths(alloc, &mut keeper)?.as_str(), "/a /c ");
-    store.give_back(keeper);
-    Ok(())
+    let calls = [
+        Call::Put("/a", KeepAnswer::Done),
+        Call::Put("/b", KeepAnswer::Failed),
+        Call::Put("/c", KeepAnswer::Done),
+        Call::Rows("/a /c "),
+    ];
+    let mut store = store_of(rt.alloc(), None, vec![in rt.alloc(); 2]?);
+    session(&rt, rt.alloc(), &mut store, 1, calls.as_slice())
 }
 
 #[test]
@@ -151,54 +166,31 @@ fn an_opening_that_fails_takes_no_number(rt: HostRuntime) -> Result<(), Fail> {
     let alloc = rt.alloc();
     let mut store = store_of(alloc, None, vec![in alloc; 0]?);
     assert!(rt; matches!(store.open_store(alloc, "m"), StoreAnswer::Failed));
-    for epoch in [1, 2] {
-        let keeper = opened(alloc, &mut store)?;
-        assert_eq!(rt; keeper.epoch(), epoch);
-        store.give_back(keeper);
-    }
-    Ok(())
+    session(&rt, alloc, &mut store, 1, &[])?;
+    session(&rt, alloc, &mut store, 2, &[])
 }
 
-/// What a store keeps that stops at its second put, after so many reads of its rows.
-fn kept_after_a_stop(
-    rt: &impl Abort,
-    alloc: Global,
-    store: &mut MemStore<OpenWorld>,
-    asks: u64,
-) -> Result<String, Fail> {
-    let mut keeper = opened(alloc, store)?;
-    for _ in 0..asks {
-        let _rows = kept_paths(alloc, &mut keeper)?;
-    }
-    let (done, failed) = (KeepAnswer::Done, KeepAnswer::Failed);
-    put_all(
-        rt,
-        alloc,
-        &mut keeper,
-        &[("/a", done), ("/b", failed), ("/c", failed)],
-    )?;
-    assert_eq!(rt; kept_paths(alloc, &mut keeper)?.as_str(), "-");
-    store.give_back(keeper);
-    let mut again = opened(alloc, store)?;
-    let paths = kept_paths(alloc, &mut again)?;
-    store.give_back(again);
-    Ok(paths)
-}
+/// The calls of a store that stops at its second put, and in front of them one for its rows.
+const STOPS: [Call<'static>; 5] = [
+    Call::Rows(""),
+    Call::Put("/a", KeepAnswer::Done),
+    Call::Put("/b", KeepAnswer::Failed),
+    Call::Put("/c", KeepAnswer::Failed),
+    Call::Rows("-"),
+];
 
 #[test]
 fn a_stop_at_an_even_number_leaves_the_tables_before_it(rt: HostRuntime) -> Result<(), Fail> {
     let alloc = rt.alloc();
     let mut store = store_of(alloc, Some(2), Vec::new(alloc));
-    let paths = kept_after_a_stop(&rt, alloc, &mut store, 0)?;
-    assert_eq!(rt; paths.as_str(), "/a ");
-    Ok(())
+    session(&rt, alloc, &mut store, 1, &STOPS[1..])?;
+    session(&rt, alloc, &mut store, 2, &[Call::Rows("/a ")])
 }
 
 #[test]
 fn a_stop_at_an_odd_number_leaves_the_tables_after_it(rt: HostRuntime) -> Result<(), Fail> {
     let alloc = rt.alloc();
     let mut store = store_of(alloc, Some(3), Vec::new(alloc));
-    let paths = kept_after_a_stop(&rt, alloc, &mut store, 1)?;
-    assert_eq!(rt; paths.as_str(), "/a /b ");
-    Ok(())
+    session(&rt, alloc, &mut store, 1, STOPS.as_slice())?;
+    session(&rt, alloc, &mut store, 2, &[Call::Rows("/a /b ")])
 }

@@ -109,8 +109,8 @@ at_rest is_true facts RowsRoom LogRoom none h = record {
 }
 
 -- the fields after a put
-pub put_index : (is_true : RowFacts → Type 0) (self inside : RowsFacts) (row given copy : RowFacts) (name : NameFacts) (rows : List RowFacts) (log : List Change) (prepared : Prepared) → inside ≡ self → IsIndex is_true inside → self.prepared ≡ Put row → Put copy ≡ inside.prepared → given ≡ row → is_true row → name ≡ copy.name → rows ≡ with_row given inside.rows → log ≡ inside.log ++ put_of name ∷ [] → prepared ≡ Nothing → IsIndex is_true (facts_from rows log prepared)
-put_index is_true self inside row given copy name rows log prepared same h asked taken given_is one name_is rows_is log_is none =
+pub put_index : {is_true : RowFacts → Type 0} {self inside : RowsFacts} {row given copy : RowFacts} {name : NameFacts} {rows : List RowFacts} {log : List Change} {prepared : Prepared} → inside ≡ self → IsIndex is_true inside → self.prepared ≡ Put row → Put copy ≡ inside.prepared → given ≡ row → is_true row → name ≡ copy.name → rows ≡ with_row given inside.rows → log ≡ inside.log ++ put_of name ∷ [] → prepared ≡ Nothing → IsIndex is_true (facts_from rows log prepared)
+put_index {is_true} {self} {inside} {row} {given} {copy} {name} {rows} {log} {prepared} same h asked taken given_is one name_is rows_is log_is none =
     let e : inside.prepared ≡ Put row = ap (λ (f : RowsFacts). f.prepared) same ∙ asked in
     let both : Put copy ≡ Put row = taken ∙ e in
     let copy_is : copy ≡ row = cc in
@@ -124,8 +124,8 @@ named : (p : Prepared) (path : List ℕ) (name : NameFacts) → IsDropOf path p 
 named p path name asked e = subst (IsDropOf path) e asked
 
 -- the fields after a drop
-pub drop_index : (is_true : RowFacts → Type 0) (self inside : RowsFacts) (path : List ℕ) (name : NameFacts) (rows : List RowFacts) (log : List Change) (prepared : Prepared) → inside ≡ self → IsIndex is_true inside → IsDropOf path self.prepared → Drop name ≡ inside.prepared → rows ≡ without_row path inside.rows → log ≡ inside.log ++ drop_of name ∷ [] → prepared ≡ Nothing → IsIndex is_true (facts_from rows log prepared)
-drop_index is_true self inside path name rows log prepared same h asked taken rows_is log_is none =
+pub drop_index : {is_true : RowFacts → Type 0} {self inside : RowsFacts} {name : NameFacts} {rows : List RowFacts} {log : List Change} {prepared : Prepared} (path : List ℕ) → inside ≡ self → IsIndex is_true inside → IsDropOf path self.prepared → Drop name ≡ inside.prepared → rows ≡ without_row path inside.rows → log ≡ inside.log ++ drop_of name ∷ [] → prepared ≡ Nothing → IsIndex is_true (facts_from rows log prepared)
+drop_index {is_true} {self} {inside} {name} {rows} {log} {prepared} path same h asked taken rows_is log_is none =
     let e : self.prepared ≡ Drop name = ap (λ (f : RowsFacts). f.prepared) (sym same) ∙ sym taken in
     index_same is_true (after_drop name inside) rows log prepared
     (rows_is ∙ ap (λ (p : List ℕ). without_row p inside.rows) (sym (named self.prepared path name asked e)))
@@ -140,19 +140,19 @@ can_inside : (self inside : RowsFacts) → inside ≡ self → CanBeVoid self.pr
 can_inside self inside same can = subst (λ (f : RowsFacts). CanBeVoid f.prepared f.rows) (sym same) can
 
 -- the fields after a void change
-pub void_index : (is_true : RowFacts → Type 0) (self inside : RowsFacts) (given : Prepared) (change : Change) (rows : List RowFacts) (log : List Change) (prepared : Prepared) → inside ≡ self → IsIndex is_true inside → CanBeVoid self.prepared self.rows → given ≡ inside.prepared → void_of given ≡ change ∷ [] → rows ≡ inside.rows → log ≡ inside.log ++ change ∷ [] → prepared ≡ Nothing → IsIndex is_true (facts_from rows log prepared)
-void_index is_true self inside given change rows log prepared same h can given_is change_is rows_is log_is none =
+pub void_index : {is_true : RowFacts → Type 0} {self inside : RowsFacts} {given : Prepared} {change : Change} {rows : List RowFacts} {log : List Change} {prepared : Prepared} → inside ≡ self → IsIndex is_true inside → CanBeVoid self.prepared self.rows → given ≡ inside.prepared → void_of given ≡ change ∷ [] → rows ≡ inside.rows → log ≡ inside.log ++ change ∷ [] → prepared ≡ Nothing → IsIndex is_true (facts_from rows log prepared)
+void_index {is_true} {self} {inside} {given} {change} {rows} {log} {prepared} same h can given_is change_is rows_is log_is none =
     index_same is_true (after_void inside) rows log prepared rows_is (void_log self inside given change log given_is change_is log_is) none
     (index_after_void is_true inside h (can_inside self inside same can))
 
 -- the names that the log leaves after a void change
-pub void_same : (is_true : RowFacts → Type 0) (self inside : RowsFacts) (given : Prepared) (change : Change) (log : List Change) → inside ≡ self → IsIndex is_true inside → CanBeVoid self.prepared self.rows → given ≡ inside.prepared → void_of given ≡ change ∷ [] → log ≡ inside.log ++ change ∷ [] → replay log ≡ replay self.log
-void_same is_true self inside given change log same h can given_is change_is log_is =
+pub void_same : {is_true : RowFacts → Type 0} {self inside : RowsFacts} {given : Prepared} {change : Change} {log : List Change} → inside ≡ self → IsIndex is_true inside → CanBeVoid self.prepared self.rows → given ≡ inside.prepared → void_of given ≡ change ∷ [] → log ≡ inside.log ++ change ∷ [] → replay log ≡ replay self.log
+void_same {is_true} {self} {inside} {given} {change} {log} same h can given_is change_is log_is =
     ap replay (void_log self inside given change log given_is change_is log_is)
     ∙ same_after_void is_true inside h (can_inside self inside same can)
     ∙ ap (λ (f : RowsFacts). replay f.log) same
 
 -- the fields once a drop is prepared
-pub drop_ready : (is_true : RowFacts → Type 0) (inside : RowsFacts) (path : List ℕ) (row : RowFacts) (name : NameFacts) (log : List Change) → IsIndex is_true inside → length inside.log ≢ LOG_LIMIT → row_at path inside.rows ≡ Some row → name ≡ row.name → log ≡ inside.log → IsIndex is_true (facts_from inside.rows log (Drop name))
-drop_ready is_true inside path row name log h less e same log_is =
+pub drop_ready : {is_true : RowFacts → Type 0} {inside : RowsFacts} {row : RowFacts} {name : NameFacts} {log : List Change} (path : List ℕ) → IsIndex is_true inside → length inside.log ≢ LOG_LIMIT → row_at path inside.rows ≡ Some row → name ≡ row.name → log ≡ inside.log → IsIndex is_true (facts_from inside.rows log (Drop name))
+drop_ready {is_true} {inside} {row} {name} {log} path h less e same log_is =
     index_same is_true (record inside { prepared = Drop name }) inside.rows log (Drop name) refl log_is refl (index_with_drop is_true inside path row name h less e same)

@@ -1,5 +1,5 @@
-//! The rows of an index: one for each path, in path order, each true in its world, with the log of the
-//! changes that made them. Which rows an index is to have is decided above.
+//! The rows of an index: one for each path, in path order, each true in its world, with the log of
+//! the changes that made them. Which rows an index is to have is decided above.
 #![tactic(auto)]
 
 mod change;

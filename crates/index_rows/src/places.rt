@@ -11,7 +11,8 @@ use crate::change::Change;
 use row_types::{CanonPath, Name, Row};
 use std::alloc::{AllocError, Global};
 
-/// The place of the path's row, or else the place at which it would stand. The search halves the list.
+/// The place of the path's row, or else the place at which it would stand. The search halves the
+/// list.
 pub(crate) fn place_of(rows: &[Row], path: &CanonPath) -> Result<usize, usize>
     requires { AscendsBy row_path rows.now }
     ensures { IsPlace row_path path.now rows.now result }

@@ -71,7 +71,8 @@ impl<'a> Iterator for RowIter<'a> {
 
 /// The first row that is picked, and the rows behind it.
 fn first_picked<'a>(rows: &'a [Row], pick: &Pick) -> Option<(&'a Row, &'a [Row])>
-    ensures some { IfSome result (λ found. filter (λ row. is_picked pick.now row.reading) rows.now ≡ found.0.now ∷ filter (λ row. is_picked pick.now row.reading) found.1.now) }
+    ensures some { IfSome result (λ found. filter (λ row. is_picked pick.now row.reading) rows.now
+        ≡ found.0.now ∷ filter (λ row. is_picked pick.now row.reading) found.1.now) }
     ensures none { IfNone result (filter (λ row. is_picked pick.now row.reading) rows.now ≡ []) }
 {
     let mut left = rows;

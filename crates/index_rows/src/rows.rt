@@ -1,11 +1,13 @@
 //! The rows of an index.
 
-ghost use Rattle.std.specs.Prelude.{◌≡◌, ◌↔◌, length, filter, Err, IsSome, IsSomeAnd, IfSome, IfOk, OnOk, OnErr};
+ghost use Rattle.std.specs.Prelude.{◌≡◌, ◌↔◌, ◌^◌, length, filter, Err, IsSome, IsSomeAnd, IfSome};
+ghost use Rattle.std.specs.Prelude.{IfOk, OnOk, OnErr};
 ghost use Rattle.std.specs.List.{list_any};
 ghost use Rattle.std.specs.Option.{option_copied};
 ghost use Rattle.index_rows.specs.Classes.{has_class, has_id, lists_source};
 ghost use Rattle.index_rows.specs.Log.{replay};
-ghost use Rattle.index_rows.specs.Rows.{after_drop, after_put, after_void, CanBeVoid, IsDropOf, IsIndex, row_names, nothing_yet, row_at};
+ghost use Rattle.index_rows.specs.Rows.{after_drop, after_put, after_void, CanBeVoid, IsDropOf};
+ghost use Rattle.index_rows.specs.Rows.{IsIndex, row_names, nothing_yet, row_at};
 ghost use Rattle.index_rows.specs.declared.prepared.Prepared.{Prepared};
 ghost use Rattle.index_rows.specs.declared.fault.RowsFault.{RowsFault};
 
@@ -22,8 +24,9 @@ use std::mem;
 /// The largest number of changes in a log, 2^22.
 pub const LOG_LIMIT: usize = 0x40_0000;
 
-/// The rows of an index, each true in the world `W`, and the log of the changes that made their names.
-/// Contracts see it as a record of the rows in path order, the log, and the change that room was made for.
+/// The rows of an index, each true in the world `W`, and the log of the changes that made their
+/// names. Contracts see it as a record of the rows in path order, the log, and the change that room
+/// was made for.
 #[derive(Drop)]
 pub struct Rows<W: Truth> {
     rows: Vec<Row>,
@@ -43,7 +46,9 @@ impl<W: Truth> Model for Rows<W> {
 
     ghost view = { λ r. record { rows = r.rows.items; log = r.log.items; prepared = r.prepared } };
 
-    ghost invariant = { λ r. IsKept W.true_row (record { rows = r.rows.items; log = r.log.items; prepared = r.prepared }) (vec_len r.rows < vec_capacity r.rows) (vec_len r.log < vec_capacity r.log) };
+    ghost invariant = { λ r. IsKept W.true_row
+        (record { rows = r.rows.items; log = r.log.items; prepared = r.prepared })
+        (vec_len r.rows < vec_capacity r.rows) (vec_len r.log < vec_capacity r.log) };
 }
 
 impl<W: Truth> Rows<W> {
@@ -117,18 +122,20 @@ impl<W: Truth> Rows<W> {
 
     /// Whether some row with the id lists the source.
     pub fn lists_source(&self, id: &BuildId, path: &CanonPath) -> bool
-        ensures { result ≡ list_any (λ row. lists_source id.now path.now row.reading) self.now.rows }
+        ensures { result ≡ list_any (λ row. lists_source id.now path.now row.reading)
+            self.now.rows }
     {
         self.rows
             .iter()
             .any(|row| row_iter::lists_source(id, path, &row.reading))
     }
 
-    /// Makes room for a put of an equal row, which then needs no memory. What was prepared before is
-    /// given up.
+    /// Makes room for a put of an equal row, which then needs no memory. What was prepared before
+    /// is given up.
     pub fn reserve(&mut self, row: &TrueRow<W>) -> Result<(), RowsFault>
         ensures ok { OnOk result (self.new ≡ record self.old { prepared = Prepared.Put row.now }) }
         ensures full { (result ≡ Err RowsFault.LogFull) ↔ (length self.old.log ≡ LOG_LIMIT) }
+        ensures limit { LOG_LIMIT ≡ 2 ^ 22 }
         ensures err { OnErr result (self.new ≡ self.old) }
         ensures holds { IsIndex W.true_row self.new }
     {
@@ -158,11 +165,12 @@ impl<W: Truth> Rows<W> {
         }
     }
 
-    /// Makes room for a drop of the path's row, which then needs no memory. What was prepared before is
-    /// given up.
+    /// Makes room for a drop of the path's row, which then needs no memory. What was prepared
+    /// before is given up.
     pub fn reserve_drop(&mut self, path: &CanonPath) -> Result<(), RowsFault>
         requires { IsSome (row_at path.now self.old.rows) }
-        ensures ok { OnOk result (IsSomeAnd (row_at path.now self.old.rows) (λ row. self.new ≡ record self.old { prepared = Prepared.Drop row.name })) }
+        ensures ok { OnOk result (IsSomeAnd (row_at path.now self.old.rows)
+            (λ row. self.new ≡ record self.old { prepared = Prepared.Drop row.name })) }
         ensures ready { OnOk result (IsDropOf path.now self.new.prepared) }
         ensures full { (result ≡ Err RowsFault.LogFull) ↔ (length self.old.log ≡ LOG_LIMIT) }
         ensures err { OnErr result (self.new ≡ self.old) }
@@ -185,7 +193,8 @@ impl<W: Truth> Rows<W> {
     /// Drops the path's row, for which room was made, and lists the drop.
     pub fn drop_path(&mut self, path: &CanonPath)
         requires { IsDropOf path.now self.old.prepared }
-        ensures value { IsSomeAnd (row_at path.now self.old.rows) (λ row. self.new ≡ after_drop row.name self.old) }
+        ensures value { IsSomeAnd (row_at path.now self.old.rows)
+            (λ row. self.new ≡ after_drop row.name self.old) }
         ensures holds { IsIndex W.true_row self.new }
     {
         match mem::replace(&mut self.prepared, Prepared::Nothing) {

@@ -1,5 +1,5 @@
-//! What no clause says: that memory suffices, and what puts, drops and look-ups come to on rows that are
-//! known from elsewhere.
+//! What no clause says: that memory suffices, and what puts, drops and look-ups come to on rows
+//! that are known from elsewhere.
 
 use crate::fault::RowsFault;
 use crate::rows::Rows;

@@ -1,5 +1,5 @@
 -- The names of rows, and what is found by them.
-use Rattle.std.proofs.Common.{◌≡◌, ℕ, ◌<◌, ◌&&◌, ◌||◌, Bool, true, false, cond, List, [], ◌∷◌, length, Option, Some, None, refl, sym, ◌∙◌, ap, subst, arith, slice_index_or}
+use Rattle.std.proofs.Common.{◌≡◌, ℕ, pos, map, ◌<◌, ◌&&◌, ◌||◌, Bool, true, false, cond, List, [], ◌∷◌, length, Option, Some, None, refl, sym, ◌∙◌, ap, subst, arith, slice_index_or}
 use Rattle.std.specs.List.{All, find}
 use Rattle.std.specs.Option.{option_map}
 use Rattle.std.specs.Prelude.{IsSomeAnd}
@@ -20,7 +20,17 @@ use Rattle.row_types.specs.Name.{stamp_at}
 use Rattle.scan_queue.specs.Names.{IsByPath, is_in}
 use Rattle.scan_queue.proofs.NameTests.{path_differs, same_name-Decides, same_stamp-Decides}
 use Rattle.scan_queue.proofs.Picks.{head_pairs, tail_pairs}
+use Rattle.index_keeper.specs.Tables.{AscendsByPath, KeptFacts}
+use Rattle.index_state.specs.Kept.{kept_of, tables_of}
 use Rattle.index_state.specs.Plan.{has_stamp}
+
+-- what stands by path stands so where each is seen otherwise
+pub map_ascends : {X Y : Type 0} (f : X → Y) (path : Y → List ℕ) (xs : List X) → (Y → X) → AscendsBy (λ x. path (f x)) xs → AscendsBy path (map f xs)
+map_ascends f path xs back ascends = λ i j d lt within.
+    let inside : j < length xs = omega (arith, within, length-map xs f) in
+    subst (λ y. IsBefore (path (slice_index_or (map f xs) i d)) (path y)) (sym (get_or-map f xs j (back d) d inside))
+    (subst (λ y. IsBefore (path y) (path (f (slice_index_or xs j (back d))))) (sym (get_or-map f xs i (back d) d (omega arith)))
+    (ascends i j (back d) lt inside))
 
 -- a row of a name
 row_with : NameFacts → RowFacts
@@ -28,12 +38,12 @@ row_with name = record { name = name; edition = 0; reading = Plain TooLarge }
 
 -- the names of rows by path are by path
 pub names_by_path : (rows : List RowFacts) → AscendsBy row_path rows → IsByPath (row_names rows)
-unfolding row_with
-names_by_path rows ascends = λ i j d lt within.
-    let inside : j < length rows = omega (arith, within, length-map rows (λ (r : RowFacts). r.name)) in
-    subst (λ (n : NameFacts). IsBefore (slice_index_or (row_names rows) i d).path n.path) (sym (get_or-map (λ (r : RowFacts). r.name) rows j (row_with d) d inside))
-    (subst (λ (n : NameFacts). IsBefore n.path (slice_index_or rows j (row_with d)).name.path) (sym (get_or-map (λ (r : RowFacts). r.name) rows i (row_with d) d (omega arith)))
-    (ascends i j (row_with d) lt inside))
+names_by_path rows ascends = map_ascends (λ (r : RowFacts). r.name) (λ (n : NameFacts). n.path) rows row_with ascends
+
+-- the tables of rows by path are by path
+pub tables_by_path : (rows : List RowFacts) → AscendsBy row_path rows → AscendsByPath (tables_of rows)
+tables_by_path rows ascends =
+    map_ascends kept_of (λ (r : KeptFacts). r.path) rows (λ r. row_with (record { path = r.path; stamp = record { size = 0; secs = pos 0; nanos = 0 } })) ascends
 
 -- the stamp of the path's row
 pub stamp_of_row : (path : List ℕ) (rows : List RowFacts) → stamp_at (row_names rows) path ≡ option_map (λ row. row.name.stamp) (row_at path rows)

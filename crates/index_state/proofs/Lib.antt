@@ -1,6 +1,7 @@
 pub mod ByName
 pub mod Found
 pub mod Keeps
+pub mod Lasting
 pub mod LogSteps
 pub mod Members
 pub mod Parts

@@ -14,7 +14,7 @@ use Rattle.row_types.specs.Row.{RowFacts}
 use Rattle.index_rows.specs.Rows.{row_names, row_path, row_at}
 use Rattle.index_rows.proofs.Lists.{IsFound, found_there}
 use Rattle.scan_queue.specs.Names.{IsByPath, is_in}
-use Rattle.scan_queue.specs.Pass.{IsPass, PassFacts, missed_names}
+use Rattle.scan_queue.specs.Pass.{IsPass, IsWhole, PassFacts, missed_names}
 use Rattle.scan_queue.specs.declared.miss.Miss.{Miss}
 use Rattle.scan_queue.proofs.NameTests.{not_before_itself, same_name-Decides}
 use Rattle.scan_queue.proofs.Picks.{head_pairs, tail_pairs}
@@ -76,25 +76,25 @@ or_nothing true h = refl
 or_nothing false h = h
 
 -- a pass of which nothing is left
-nothing_read : (pass : PassFacts) → pass.todo ≡ [] → pass.out ≡ [] → pass.missed ≡ [] → to_read pass ≡ []
-nothing_read pass a b c =
-    ap (λ (l : List NameFacts). l ++ pass.out ++ missed_names pass.missed) a
-    ∙ ap (λ (l : List NameFacts). [] ++ l ++ missed_names pass.missed) b
-    ∙ ap (λ (l : List Miss). [] ++ [] ++ missed_names l) c
+nothing_read : {pass : PassFacts} → IsWhole pass → to_read pass ≡ []
+nothing_read {pass} none =
+    ap (λ (l : List NameFacts). l ++ pass.out ++ missed_names pass.missed) none.todo
+    ∙ ap (λ (l : List NameFacts). [] ++ l ++ missed_names pass.missed) none.out
+    ∙ ap (λ (l : List Miss). [] ++ [] ++ missed_names l) none.missed
 
-nothing_look_for : (pass : PassFacts) → pass.groom ≡ [] → pass.out ≡ [] → pass.missed ≡ [] → to_look_for pass ≡ []
-nothing_look_for pass a b c =
-    ap (λ (l : List NameFacts). l ++ pass.out ++ missed_names pass.missed) a
-    ∙ ap (λ (l : List NameFacts). [] ++ l ++ missed_names pass.missed) b
-    ∙ ap (λ (l : List Miss). [] ++ [] ++ missed_names l) c
+nothing_look_for : {pass : PassFacts} → IsWhole pass → to_look_for pass ≡ []
+nothing_look_for {pass} none =
+    ap (λ (l : List NameFacts). l ++ pass.out ++ missed_names pass.missed) none.groom
+    ∙ ap (λ (l : List NameFacts). [] ++ l ++ missed_names pass.missed) none.out
+    ∙ ap (λ (l : List Miss). [] ++ [] ++ missed_names l) none.missed
 
 -- then the rows' names are the listing
-whole_names : (rows : List RowFacts) (pass : PassFacts) → IsByPath (row_names rows) → IsByPath pass.listing → ListedAccounted rows pass → RowsAccounted rows pass → to_read pass ≡ [] → to_look_for pass ≡ [] → row_names rows ≡ pass.listing
-whole_names rows pass p q listed looked none_read none_look =
+whole_names : (rows : List RowFacts) {pass : PassFacts} → IsByPath (row_names rows) → IsByPath pass.listing → ListedAccounted rows pass → RowsAccounted rows pass → IsWhole pass → row_names rows ≡ pass.listing
+whole_names rows {pass} p q listed looked none =
     same_names (row_names rows) pass.listing p q
     (λ n. agree (is_in pass.listing n) (is_in (row_names rows) n)
-    (λ h. listed n h ∙ ap (λ (l : List NameFacts). not (is_in l n)) none_read)
-    (λ h. or_nothing (is_in pass.listing n) (ap (λ (l : List NameFacts). is_in pass.listing n || is_in l n) (sym none_look) ∙ looked n h)))
+    (λ h. listed n h ∙ ap (λ (l : List NameFacts). not (is_in l n)) (nothing_read none))
+    (λ h. or_nothing (is_in pass.listing n) (ap (λ (l : List NameFacts). is_in pass.listing n || is_in l n) (sym (nothing_look_for none)) ∙ looked n h)))
 
 -- each row's name is one of the names
 rows_in : (rows : List RowFacts) → All (λ row. is_in (row_names rows) row.name ≡ true) rows
@@ -118,40 +118,45 @@ nil_of_length : {X : Type 0} (xs : List X) → length xs ≡ 0 → xs ≡ []
 nil_of_length [] e = refl
 nil_of_length (x ∷ xs) e = absurd (omega arith)
 
-complete : {K : Type 0} (world_told : Bool) (true_row : RowFacts → Type 0) (told : Bool) (shows : K → ShownKeeper) (state : StateFacts K) (pass : PassFacts) → (world_told ≡ true → (a b : RowFacts) → a.name ≡ b.name → true_row a → true_row b → a ≡ b) → IndexInvariant true_row told shows state → state.pass ≡ Some pass → pass.todo ≡ [] → pass.out ≡ [] → pass.groom ≡ [] → pass.missed ≡ [] → CompletePass world_told true_row told shows pass.listing state
-complete world_told true_row told shows state pass one h is todo out groom missed =
-    let by_path : IsByPath (row_names state.rows) = names_by_path state.rows h.rows_sorted_and_true.ascend in
-    let place = subst (λ (o : Option PassFacts). IfSome o (λ p. IsByPath p.listing)) is (listing_by_path state.pass h.each_name_in_one_place) in
-    let listed : ListedAccounted state.rows pass = subst (λ (o : Option PassFacts). IfSome o (ListedAccounted state.rows)) is h.listed_names_accounted_for in
-    let looked : RowsAccounted state.rows pass = subst (λ (o : Option PassFacts). IfSome o (RowsAccounted state.rows)) is h.rows_accounted_for in
-    let names : row_names state.rows ≡ pass.listing = whole_names state.rows pass by_path place listed looked (nothing_read pass todo out missed) (nothing_look_for pass groom out missed) in
-    record {
-      names = names;
-      scan = λ is_told. record {
-        ascend = h.rows_sorted_and_true.ascend;
-        holds = h.rows_sorted_and_true.holds;
-        listed = subst (λ (l : List NameFacts). All (λ row. is_in l row.name ≡ true) state.rows) names (rows_in state.rows);
-        each = scanned true_row pass.listing state.rows (one is_told) h.rows_sorted_and_true.holds by_path names;
-      };
-      kept = λ tells sound. (in_store h sound tells).same;
-    }
+-- no name is left of a pass whose numbers are 0
+left_none : {K : Type 0} (state : StateFacts K) {pass : PassFacts} (standing : Standing) → state.pass ≡ Some pass → standing ≡ standing_of state → LeavesNone standing → IsWhole pass
+left_none {K} state {pass} standing is says none = record {
+  todo = nil_of_length pass.todo (none_of (λ (q : PassFacts). length q.todo) (λ (s : Standing). s.todo) refl none.todo);
+  out = nil_of_length pass.out (none_of (λ (q : PassFacts). length q.out) (λ (s : Standing). s.out) refl none.out);
+  groom = nil_of_length pass.groom (none_of (λ (q : PassFacts). length q.groom) (λ (s : Standing). s.groom) refl none.groom);
+  missed = nil_of_length pass.missed (none_of (λ (q : PassFacts). length q.missed) (λ (s : Standing). s.missed) refl none.missed);
+}
   where
-    listing_by_path : (p : Option PassFacts) → IfSome p IsPass → IfSome p (λ q. IsByPath q.listing)
-    listing_by_path None i = tt
-    listing_by_path (Some q) i = i.listing.by_path
+    none_of : (f : PassFacts → ℕ) (n : Standing → ℕ) → n (standing_of state) ≡ f (pass_of state.pass) → n standing ≡ 0 → f pass ≡ 0
+    none_of f n e zero_is = ap (λ (o : Option PassFacts). f (pass_of o)) (sym is) ∙ sym e ∙ ap n (sym says) ∙ zero_is
+
+listing_by_path : (p : Option PassFacts) → IfSome p IsPass → IfSome p (λ q. IsByPath q.listing)
+listing_by_path None i = tt
+listing_by_path (Some q) i = i.listing.by_path
+
+module _ {K : Type 0} {world_told : Bool} {true_row : RowFacts → Type 0} {told : Bool} {shows : K → ShownKeeper} {state : StateFacts K} where
+  complete : {pass : PassFacts} → (world_told ≡ true → (a b : RowFacts) → a.name ≡ b.name → true_row a → true_row b → a ≡ b) → IndexInvariant true_row told shows state → state.pass ≡ Some pass → IsWhole pass → CompletePass world_told true_row told shows pass.listing state
+  complete {pass} one h is none =
+      let by_path : IsByPath (row_names state.rows) = names_by_path state.rows h.rows_sorted_and_true.ascend in
+      let place = subst (λ (o : Option PassFacts). IfSome o (λ p. IsByPath p.listing)) is (listing_by_path state.pass h.each_name_in_one_place) in
+      let listed : ListedAccounted state.rows pass = subst (λ (o : Option PassFacts). IfSome o (ListedAccounted state.rows)) is h.listed_names_accounted_for in
+      let looked : RowsAccounted state.rows pass = subst (λ (o : Option PassFacts). IfSome o (RowsAccounted state.rows)) is h.rows_accounted_for in
+      let names : row_names state.rows ≡ pass.listing = whole_names state.rows by_path place listed looked none in
+      record {
+        names = names;
+        scan = λ is_told. record {
+          ascend = h.rows_sorted_and_true.ascend;
+          holds = h.rows_sorted_and_true.holds;
+          listed = subst (λ (l : List NameFacts). All (λ row. is_in l row.name ≡ true) state.rows) names (rows_in state.rows);
+          each = scanned true_row pass.listing state.rows (one is_told) h.rows_sorted_and_true.holds by_path names;
+        };
+        kept = λ tells sound. (in_store h sound tells).same;
+      }
 
 -- where a standing leaves none, the index is complete
 pub whole : {K : Type 0} (world_told : Bool) (true_row : RowFacts → Type 0) (told : Bool) (shows : K → ShownKeeper) (state : StateFacts K) (standing : Standing) → (world_told ≡ true → (a b : RowFacts) → a.name ≡ b.name → true_row a → true_row b → a ≡ b) → IndexInvariant true_row told shows state → standing ≡ standing_of state → IfSome state.pass (λ pass. LeavesNone standing → CompletePass world_told true_row told shows pass.listing state)
 whole world_told true_row told shows state standing one h says = each state.pass refl
   where
-    none_of : (pass : PassFacts) → state.pass ≡ Some pass → (n : ℕ) (f : PassFacts → ℕ) → n ≡ f (pass_of state.pass) → n ≡ 0 → f pass ≡ 0
-    none_of pass is n f e zero_is = ap (λ (o : Option PassFacts). f (pass_of o)) (sym is) ∙ sym e ∙ zero_is
-
     each : (p : Option PassFacts) → state.pass ≡ p → IfSome p (λ pass. LeavesNone standing → CompletePass world_told true_row told shows pass.listing state)
     each None is = tt
-    each (Some pass) is = λ none.
-        complete world_told true_row told shows state pass one h is
-        (nil_of_length pass.todo (none_of pass is standing.todo (λ (q : PassFacts). length q.todo) (ap (λ (s : Standing). s.todo) says) none.todo))
-        (nil_of_length pass.out (none_of pass is standing.out (λ (q : PassFacts). length q.out) (ap (λ (s : Standing). s.out) says) none.out))
-        (nil_of_length pass.groom (none_of pass is standing.groom (λ (q : PassFacts). length q.groom) (ap (λ (s : Standing). s.groom) says) none.groom))
-        (nil_of_length pass.missed (none_of pass is standing.missed (λ (q : PassFacts). length q.missed) (ap (λ (s : Standing). s.missed) says) none.missed))
+    each (Some pass) is = λ none. complete one h is (left_none state standing is says none)

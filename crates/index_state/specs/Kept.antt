@@ -1,11 +1,12 @@
 -- What the store has of the rows (this project's rule): under each row's path its row bytes.
-use Rattle.std.specs.Prelude.{◌≡◌, ◌⊎◌, Bool, true, false, not, List, [], ◌∷◌, ◌++◌, map}
+use Rattle.std.specs.Prelude.{◌≡◌, ◌⊎◌, ℕ, Bool, true, false, not, List, [], ◌∷◌, ◌++◌, map, Some}
 use Rattle.row_types.specs.Row.{RowFacts}
 use Rattle.row_codec.specs.RowBytes.{row_bytes}
 use Rattle.index_rows.specs.declared.change.Change.{Change}
 use Rattle.index_keeper.specs.Keeper.{IsSettled, ShownKeeper}
-use Rattle.index_keeper.specs.Tables.{EditFacts, KeptFacts, edited}
+use Rattle.index_keeper.specs.Tables.{EditFacts, KeptFacts, bytes_at, edited}
 use Rattle.index_state.specs.Changes.{IsMadeBy}
+use Rattle.index_state.specs.State.{StateFacts}
 
 -- the row as a store keeps it
 abbrev pub kept_of : RowFacts → KeptFacts
@@ -45,3 +46,16 @@ pub record IsInDoubt (true_row : RowFacts → Type 0) (log : List Change) (rows 
 abbrev pub Agrees : (RowFacts → Type 0) → Bool → List Change → List RowFacts → ShownKeeper → Type 0
 Agrees true_row false log rows shown = IsInStore rows shown
 Agrees true_row true log rows shown = IsInDoubt true_row log rows shown
+
+-- the path is that of the last, void change of a broken index
+pub record IsDoubted {K : Type 0} (state : StateFacts K) (path : List ℕ) : Type 0 where
+  pub broken : state.broken ≡ true
+  pub front : List Change
+  pub void : Change
+  pub last : state.log ≡ front ++ void ∷ []
+  pub here : void.name.path ≡ path
+
+-- the row stands in whatever a crash now leaves, unless its path is in doubt
+abbrev pub Lasts : {K : Type 0} → ShownKeeper → StateFacts K → RowFacts → Type 0
+Lasts shown state row = ¬ IsDoubted state row.name.path →
+    (image : List KeptFacts) → shown.images image → bytes_at row.name.path image ≡ Some (row_bytes row)

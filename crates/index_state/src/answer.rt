@@ -2,8 +2,8 @@
 
 use row_types::Stamp;
 
-/// Why an index could not be opened. The keeper's own answer to the reading of its rows comes first, KeeperFault or
-/// OutOfMemory; where it gave the rows, NotBuilt is looked for.
+/// Why an index could not be opened. The keeper's own answer to the reading of its rows comes
+/// first, KeeperFault or OutOfMemory; where it gave the rows, NotBuilt is looked for.
 #[derive(Clone, Copy, Debug, PartialEq, Eq)]
 pub enum OpenFault {
     /// The keeper failed.
@@ -40,8 +40,8 @@ pub enum Begun {
     OutOfMemory,
 }
 
-/// What came of publishing a row. The refusals are looked for in the order broken, not listed, already there, log
-/// full, memory, keeper.
+/// What came of publishing a row. The refusals are looked for in the order broken, not listed,
+/// already there, log full, memory, keeper.
 #[derive(Clone, Copy, Debug, PartialEq, Eq)]
 pub enum Published {
     /// The row stands, and its path had none.

@@ -19,7 +19,8 @@ use std::alloc::{AllocError, Global};
 impl<W: Truth, K: Keeper<W>> State<W, K> {
     /// Begins a pass over what a walk of the roots listed. An earlier pass is given up.
     pub fn begin(&mut self, alloc: Global, listing: Listing, roots: Vec<CanonPath>) -> Begun
-        ensures step { IndexStep K.told K.shows self.old (begins listing roots.items) (to_begin result) self.new }
+        ensures step { IndexStep K.told K.shows self.old (begins listing roots.items)
+            (to_begin result) self.new }
     {
         if self.broken {
             return Begun::Broken;

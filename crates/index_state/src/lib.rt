@@ -1,5 +1,6 @@
-//! The state of an index: rows with their log, the keeper of their store, and the pass that is under way, which
-//! change together in one step. Loading files, locks and printing stand in the crates above.
+//! The state of an index: rows with their log, the keeper of their store, and the pass that is
+//! under way, which change together in one step. Loading files, locks and printing stand in the
+//! crates above.
 #![tactic(auto)]
 
 mod answer;

@@ -23,7 +23,7 @@ pub(crate) fn take_name(pass: &mut Option<Pass>) -> Option<Name>
     }
 }
 
-/// TakesName the name off the pass.
+/// Takes the name off the pass.
 pub(crate) fn leave(pass: &mut Option<Pass>, name: &Name)
     ensures after { pass.new ≡ option_map (left name.now) pass.old }
     ensures keeps { IfSome pass.new IsPass }

@@ -1,7 +1,8 @@
 //! Publishing what a file was found to be.
 
 ghost use Rattle.std.specs.Prelude.{◌≡◌};
-ghost use Rattle.index_state.specs.Step.{IndexStep, IsKnown, Leaves, Publishes, publishes, to_publish};
+ghost use Rattle.index_state.specs.Step.{IndexStep, IsKnown, Leaves, Publishes, publishes};
+ghost use Rattle.index_state.specs.Step.{to_publish};
 ghost use Rattle.index_state.specs.Stored.{Finds, SaysKept};
 ghost use Rattle.index_state.specs.declared.answer.Published.{Published};
 
@@ -35,7 +36,8 @@ pub(crate) enum Finding {
 impl<W: Truth, K: Keeper<W>> State<W, K> {
     /// Keeps a row whose name is listed, in the store and then in the index.
     pub fn publish(&mut self, alloc: Global, row: TrueRow<W>) -> Published
-        ensures step { IndexStep K.told K.shows self.old (publishes row) (to_publish result) self.new }
+        ensures step { IndexStep K.told K.shows self.old (publishes row) (to_publish result)
+            self.new }
     {
         match self.find(&row.row().name) {
             Finding::Broken => Published::Broken,
@@ -67,7 +69,7 @@ impl<W: Truth, K: Keeper<W>> State<W, K> {
         }
     }
 
-    /// TakesName the name of a row that stands off the pass.
+    /// Takes the name of a row that stands off the pass.
     fn pass_by(&mut self, name: &Name) -> Published
         requires { IsKnown name.now self.old }
         ensures said { result ≡ Published.Already }

@@ -6,8 +6,9 @@ use row_types::{CanonPath, Truth};
 use scan_queue::Pass;
 use std::marker::Model;
 
-/// The rows of an index with their log, the keeper of their store, and the pass, if one was begun. Contracts see it
-/// as a record, with the origin beside these: what the opening left. The index invariant holds of it at every moment.
+/// The rows of an index with their log, the keeper of their store, and the pass, if one was begun.
+/// Contracts see it as a record, with the origin beside these: what the opening left. The index
+/// invariant holds of it at every moment.
 #[derive(Drop)]
 pub struct State<W: Truth, K: Keeper<W>> {
     /// The rows and the log.

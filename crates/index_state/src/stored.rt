@@ -34,7 +34,8 @@ pub(crate) fn store_row<W: Truth, K: Keeper<W>>(
     row: &TrueRow<W>,
 ) -> Stored
     requires { is_in (row_names rows.old.rows) row.now.name ≡ false }
-    ensures value { StoresRow K.told K.shows row.now rows.old keeper.old result rows.new keeper.new }
+    ensures value { StoresRow K.told K.shows row.now rows.old keeper.old result rows.new
+        keeper.new }
     ensures holds { IsIndex W.true_row rows.new }
     ensures truth { W.true_row row.now }
 {
@@ -57,7 +58,8 @@ fn keep_reserved<W: Truth, K: Keeper<W>>(
     requires reserved { rows.old.prepared ≡ Prepared.Put row.now }
     requires index { IsIndex W.true_row rows.old }
     requires truth { W.true_row row.now }
-    ensures value { StoresRow K.told K.shows row.now rows.old keeper.old result rows.new keeper.new }
+    ensures value { StoresRow K.told K.shows row.now rows.old keeper.old result rows.new
+        keeper.new }
     ensures holds { IsIndex W.true_row rows.new }
 {
     match keep_spelled(alloc, keeper, row) {

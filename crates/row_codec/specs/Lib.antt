@@ -1,3 +1,4 @@
 pub use Rattle.row_types.specs.Row
 pub mod Spelled
 pub mod RowBytes
+pub mod Pinned

@@ -65,3 +65,7 @@ row_bytes row = row.edition ∷ (text_bytes row.name.path ++ stamp_bytes row.nam
 pub record IsRowBytes (row : RowFacts) (bytes : List ℕ) : Type 0 where
   pub spelled : IsSpelled row
   pub written : bytes ≡ row_bytes row
+
+-- the bytes are those of no other row
+abbrev pub IsOnlyRow : RowFacts → List ℕ → Type 0
+IsOnlyRow row bytes = (other : RowFacts) → IsRowBytes other bytes → other ≡ row

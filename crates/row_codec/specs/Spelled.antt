@@ -14,7 +14,7 @@ use Rattle.row_types.specs.declared.stamp.TheConstants.{NANOS_PER_SECOND}
 
 -- the bytes are the text of a path that is kept
 pub record IsPathText (text : List ℕ) : Type 0 where
-  pub utf8 : IsUtf8 text
+  pub valid : IsUtf8 text
   pub canonical : IsCanonPath text
 
 -- the numbers are those of a stamp

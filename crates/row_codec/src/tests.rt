@@ -1,4 +1,5 @@
-//! What no clause says: that memory suffices, and that the numbers of the format are those of its table.
+//! What no clause says: that memory suffices, and that the numbers of the format are those of its
+//! table.
 
 use crate::write_row;
 use row_types::{EDITION, Name, Reading, Row, Stamp, Why};
@@ -42,8 +43,9 @@ fn a_reason_is_spelled_by_its_number(rt: HostRuntime) -> Result<(), Fail> {
     Ok(())
 }
 
-/// What Python's `struct` packs, by the format's table, of `/b`, 258 bytes, changed 3 nanoseconds after
-/// the second before 1970, with code and debug information, the id `abcd` and the source `/s`.
+/// What Python's `struct` packs, by the format's table, of `/b`, 258 bytes, changed 3 nanoseconds
+/// after the second before 1970, with code and debug information, the id `abcd` and the source
+/// `/s`.
 const WITH_IDENTITY: [u8; 42] = [
     1, 2, 0, 0, 0, 0x2f, 0x62, 2, 1, 0, 0, 0, 0, 0, 0, 0xff, 0xff, 0xff, 0xff, 0xff, 0xff, 0xff,
     0xff, 3, 0, 0, 0, 1, 3, 2, 0xab, 0xcd, 1, 0, 0, 0, 2, 0, 0, 0, 0x2f, 0x73,

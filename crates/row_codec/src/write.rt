@@ -4,9 +4,12 @@ ghost use Rattle.std.specs.Prelude.{◌≡◌, ◌<◌, ◌^◌, ◌++◌, lengt
 ghost use Rattle.std.specs.List.{flat_map};
 ghost use Rattle.std.specs.Int.{cast_unsigned};
 ghost use Rattle.row_types.specs.BuildId.{IsIdLength};
-ghost use Rattle.row_types.specs.Row.{RowFacts};
+ghost use Rattle.row_codec.specs.Pinned.{ArePinnedReasons, ArePinnedSizes, ArePinnedTags};
 ghost use Rattle.row_codec.specs.Spelled.{IsPathText, IsStamp, AreSources, IsSpelledReading};
-ghost use Rattle.row_codec.specs.RowBytes.{four_bytes, eight_bytes, text_bytes, stamp_bytes, why_byte, flags_byte, ident_bytes, sources_bytes, reading_bytes, IsRowBytes};
+ghost use Rattle.row_codec.specs.RowBytes.{IsOnlyRow, IsRowBytes, eight_bytes, flags_byte};
+ghost use Rattle.row_codec.specs.RowBytes.{four_bytes};
+ghost use Rattle.row_codec.specs.RowBytes.{ident_bytes, reading_bytes, sources_bytes};
+ghost use Rattle.row_codec.specs.RowBytes.{stamp_bytes, text_bytes, why_byte};
 
 use crate::codes::{
     BAD_ELF, CORE, DEBUG_FLAG, ELF_TAG, EXEC_FLAG, NO_BUILD_ID, NO_SECTIONS, NOT_ELF, PLAIN_TAG,
@@ -15,10 +18,14 @@ use crate::codes::{
 use row_types::{CanonPath, Ident, Reading, Row, Sources, Stamp, Why};
 use std::alloc::{AllocError, Global};
 
-/// Spells a row. A row of 2^32 sources or more has no row bytes; for it memory is said not to suffice.
+/// Spells a row. A row of 2^32 sources or more has no row bytes; for it memory is said not to
+/// suffice.
 pub fn write_row(alloc: Global, row: &Row) -> Result<Vec<u8>, AllocError>
     ensures bytes { IfOk result (λ bytes. IsRowBytes row.now bytes.items) }
-    ensures only { IfOk result (λ bytes. (other : RowFacts) → IsRowBytes other bytes.items → other ≡ row.now) }
+    ensures only { IfOk result (λ bytes. IsOnlyRow row.now bytes.items) }
+    ensures tags { ArePinnedTags }
+    ensures reasons { ArePinnedReasons }
+    ensures sizes { ArePinnedSizes }
 {
     let mut bytes = Vec::new(alloc);
     bytes.push(row.edition)?;
@@ -131,7 +138,8 @@ fn push_sources(bytes: &mut Vec<u8>, sources: &Sources) -> Result<(), AllocError
 /// Adds each path, as a text.
 fn push_paths(bytes: &mut Vec<u8>, paths: &[CanonPath]) -> Result<(), AllocError>
     ensures texts { OnOk result (All IsPathText paths.now) }
-    ensures added { OnOk result (bytes.new.items ≡ bytes.old.items ++ flat_map text_bytes paths.now) }
+    ensures added { OnOk result (bytes.new.items ≡ bytes.old.items ++ flat_map text_bytes
+        paths.now) }
 {
     for path in paths {
         push_path(bytes, path)?;

@@ -1,5 +1,6 @@
-//! Builders of paths, names, rows and what files are found to be, for the tests of the crates above. A
-//! file is known by a short text, its path, and by its size; all have changed at one second.
+//! Builders of paths, names, rows and what files are found to be, for the tests of the crates
+//! above. A file is known by a short text, its path, and by its size; all have changed at one
+//! second.
 #![tactic(auto)]
 
 mod fault;

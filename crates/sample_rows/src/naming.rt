@@ -1,8 +1,7 @@
 //! Paths, stamps and names.
 
-ghost use Rattle.std.specs.Prelude.{◌≡◌, map, IfOk};
-ghost use Rattle.row_types.specs.Canon.{IsCanonPath};
-ghost use Rattle.sample_rows.specs.Names.{name_of, stamp_of};
+ghost use Rattle.std.specs.Prelude.{◌≡◌, IfOk};
+ghost use Rattle.sample_rows.specs.Names.{IsNoPath, name_of, names_of, stamp_of, texts_of};
 
 use crate::fault::SampleFault;
 use row_types::{CanonPath, Name, Stamp};
@@ -12,9 +11,10 @@ use std::alloc::Global;
 pub const SECOND: i64 = 100;
 
 /// The canonical path of this text.
+#[tactic(auto, unfolding(crate::specs::Names::IsNoPath))]
 pub fn path(alloc: Global, text: &str) -> Result<CanonPath, SampleFault>
     ensures value { IfOk result (λ path. path ≡ text.now) }
-    ensures refused { result ≡ Err SampleFault.NotAPath → ¬ IsCanonPath text.now }
+    ensures refused { result ≡ Err SampleFault.NotAPath → IsNoPath text.now }
 {
     match CanonPath::check(String::from_str(alloc, text)?) {
         Ok(path) => Ok(path),
@@ -23,8 +23,9 @@ pub fn path(alloc: Global, text: &str) -> Result<CanonPath, SampleFault>
 }
 
 /// The canonical paths of these texts.
+#[tactic(auto, unfolding(crate::specs::Names::texts_of))]
 pub fn paths(alloc: Global, texts: &[&str]) -> Result<Vec<CanonPath>, SampleFault>
-    ensures { IfOk result (λ paths. paths.items ≡ map (λ text. text.now) texts.now) }
+    ensures { IfOk result (λ paths. paths.items ≡ texts_of texts.now) }
 {
     let mut paths = Vec::new(alloc);
     for text in texts {
@@ -55,8 +56,9 @@ pub fn name(alloc: Global, text: &str, size: u64) -> Result<Name, SampleFault>
 }
 
 /// The names of files of these paths and sizes, in this order.
+#[tactic(auto, unfolding(crate::specs::Names::names_of))]
 pub fn names(alloc: Global, files: &[(&str, u64)]) -> Result<Vec<Name>, SampleFault>
-    ensures { IfOk result (λ names. names.items ≡ map (λ file. name_of file.0.now file.1) files.now) }
+    ensures { IfOk result (λ names. names.items ≡ names_of files.now) }
 {
     let mut names = Vec::new(alloc);
     for (text, size) in files {

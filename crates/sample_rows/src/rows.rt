@@ -2,6 +2,7 @@
 
 ghost use Rattle.std.specs.Prelude.{◌≡◌, length, map, IfOk};
 ghost use Rattle.row_types.specs.BuildId.{IsIdLength};
+ghost use Rattle.sample_rows.specs.Names.{texts_of};
 ghost use Rattle.sample_rows.specs.Rows.{elf_of, plain_of, row_of};
 
 use crate::fault::SampleFault;
@@ -9,8 +10,8 @@ use crate::naming::{name, paths};
 use row_types::{BuildId, EDITION, Ident, OpenWorld, Reading, Row, Sources, TrueRow, Why};
 use std::alloc::Global;
 
-/// What a file with this id is found to be: it has code or not, debug information or not, and was made
-/// from these sources, which stand by path.
+/// What a file with this id is found to be: it has code or not, debug information or not, and was
+/// made from these sources, which stand by path.
 pub fn elf(
     alloc: Global,
     id: &[u8],
@@ -18,7 +19,7 @@ pub fn elf(
     debug: bool,
     sources: &[&str],
 ) -> Result<Reading, SampleFault>
-    ensures { IfOk result (λ found. found ≡ elf_of id.now exec debug (map (λ s. s.now) sources.now)) }
+    ensures { IfOk result (λ found. found ≡ elf_of id.now exec debug (texts_of sources.now)) }
 {
     let ident = Ident {
         id: BuildId::new(id).ok_or(SampleFault::NotAnId)?,
@@ -31,7 +32,8 @@ pub fn elf(
     }
 }
 
-/// The row of a file of this path and size, which is found to be this. In the open world it is true.
+/// The row of a file of this path and size, which is found to be this. In the open world it is
+/// true.
 pub fn row(
     alloc: Global,
     text: &str,

@@ -27,21 +27,21 @@ sample_path Source = codes "/w/src/main.c"
 sample_path _ = codes "/srv/a"
 
 -- a line of text
-abbrev pub line : List ℕ → List ℕ
-line text = text ++ 10 ∷ []
+abbrev pub text_line : List ℕ → List ℕ
+text_line text = text ++ 10 ∷ []
 
 -- a file's bytes
 abbrev pub sample_bytes : Sample → List ℕ
 sample_bytes FirstLibrary = both_classes
 sample_bytes SecondLibrary = eight_aligned_notes
 sample_bytes Program = dwarf_five
-sample_bytes Script = line (codes "#!/bin/sh")
+sample_bytes Script = text_line (codes "#!/bin/sh")
 sample_bytes Tool = executable
 sample_bytes OtherMachine = big_endian_debug
 sample_bytes ToolDebug = debug_companion
-sample_bytes Source = line (codes "int main(void){return 0;}")
-sample_bytes Before = line (codes "hello")
-sample_bytes After = line (codes "hello!")
+sample_bytes Source = text_line (codes "int main(void){return 0;}")
+sample_bytes Before = text_line (codes "hello")
+sample_bytes After = text_line (codes "hello!")
 sample_bytes _ = []
 
 -- when a file changed last, in seconds since the start of 1970

@@ -11,7 +11,7 @@ use tree_trait::{DirAnswer, LoadAnswer, MemTree, StatAnswer, Tree};
 /// A path of the reference tree and the number of its file's bytes.
 type Size = (&'static str, u64);
 
-const SIZES: [Size; 12] = [
+static SIZES: [Size; 12] = [
     ("/srv/bin/empty", 0),
     ("/srv/bin/libx.so", 488),
     ("/srv/bin/liby.so", 408),
@@ -46,10 +46,10 @@ fn reference_tree(alloc: Global) -> Result<MemTree<SampleWorld>, Fail> {
 #[test]
 fn each_file_has_its_path_and_its_stamp(rt: HostRuntime) -> Result<(), Fail> {
     let mut tree = reference_tree(rt.alloc())?;
-    for (path, size) in SIZES {
+    for (path, size) in &SIZES {
         match tree.stat(rt.alloc(), path) {
             StatAnswer::File(stamp) => {
-                assert_eq!(rt; stamp.size, size, "size of {path}");
+                assert_eq!(rt; stamp.size, *size, "size of {path}");
                 assert_eq!(rt; stamp.secs, 100, "time of {path}");
                 assert_eq!(rt; stamp.nanos, 0, "time of {path}");
             }
@@ -62,8 +62,8 @@ fn each_file_has_its_path_and_its_stamp(rt: HostRuntime) -> Result<(), Fail> {
 #[test]
 fn each_file_is_loaded_whole(rt: HostRuntime) -> Result<(), Fail> {
     let mut tree = reference_tree(rt.alloc())?;
-    for (sample, (path, size)) in REFERENCE_TREE.into_iter().zip(SIZES) {
-        let answer = tree.load(rt.alloc(), path, size);
+    for (sample, (path, size)) in REFERENCE_TREE.into_iter().zip(&SIZES) {
+        let answer = tree.load(rt.alloc(), path, *size);
         let want = sample.bytes(rt.alloc())?;
         let bytes = found_bytes(&answer).ok_or("a file")?;
         assert_eq!(rt; bytes, want.as_slice(), "{path}");
@@ -71,20 +71,21 @@ fn each_file_is_loaded_whole(rt: HostRuntime) -> Result<(), Fail> {
     Ok(())
 }
 
+/// The note follows the header, in `liby.so` behind another note of 32 bytes.
+static IDS: [Id; 6] = [
+    (Sample::FirstLibrary, 64, &ID_A),
+    (Sample::SecondLibrary, 96, &[0xab, 0xcd, 0xef]),
+    (Sample::Program, 64, &ID_B),
+    (Sample::Tool, 64, &ID_C),
+    (Sample::ToolDebug, 64, &ID_C),
+    (Sample::OtherMachine, 52, &ID_BIG),
+];
+
 #[test]
 fn each_elf_file_has_its_id(rt: HostRuntime) -> Result<(), Fail> {
-    // The note follows the header, in liby.so behind another note of 32 bytes.
-    let ids: [Id; 6] = [
-        (Sample::FirstLibrary, 64, &ID_A),
-        (Sample::SecondLibrary, 96, &[0xab, 0xcd, 0xef]),
-        (Sample::Program, 64, &ID_B),
-        (Sample::Tool, 64, &ID_C),
-        (Sample::ToolDebug, 64, &ID_C),
-        (Sample::OtherMachine, 52, &ID_BIG),
-    ];
-    for (sample, place, id) in ids {
+    for (sample, place, id) in &IDS {
         let bytes = sample.bytes(rt.alloc())?;
-        let note = bytes.get(place..).ok_or("a note")?;
+        let note = bytes.get(*place..).ok_or("a note")?;
         assert_eq!(rt;
             note.get(12..16),
             Some(b"GNU\0".as_slice()),

@@ -15,7 +15,11 @@ use Rattle.row_types.specs.Ascends.{IsBefore, is_before}
 use Rattle.row_types.specs.Name.{NameFacts, same_name}
 use Rattle.row_types.proofs.AscendsLemmas.{before_from_test}
 use Rattle.scan_queue.specs.Names.{IsByPath, is_in, not_in}
-use Rattle.scan_queue.specs.Slots.{AreFirst, AreOrdered, IsSlot, KeyPrecedes, groom_of, key_of, listed_slot, miss_of, out_of, todo_of, unlisted_slot}
+use Rattle.scan_queue.specs.Pass.{missed_names}
+use Rattle.scan_queue.specs.Slots.{AreFirst, AreOrdered, IsSlot, KeyPrecedes, key_of, list_at, listed_slot, no_miss, same_place, slot_at, unlisted_slot}
+use Rattle.scan_queue.specs.declared.miss.Miss.{Miss}
+use Rattle.scan_queue.specs.declared.slot.Place.{Place}
+use Rattle.scan_queue.specs.declared.slot.Place.TheVariants.{Todo, Out, Groom, Missed}
 use Rattle.scan_queue.specs.declared.slot.Slot.{Slot}
 use Rattle.scan_queue.proofs.Picks.{head_pairs, none_picked, tail_pairs, weaken}
 use Rattle.scan_queue.proofs.Passes.{same_pass}
@@ -30,6 +34,10 @@ upto l rest (c ∷ cs) = cond (is_before c.path l.path) (unlisted_slot c ∷ upt
 abbrev pub merged : List NameFacts → List NameFacts → List Slot
 merged [] cs = map unlisted_slot cs
 merged (l ∷ ls) cs = upto l (merged ls) cs
+
+-- the names of the slots that stand at the place
+abbrev names_at : Place → List Slot → List NameFacts
+names_at place slots = missed_names (list_at place slots)
 
 -- with no current name left the listed ones follow
 pub only_listed : (ls : List NameFacts) → merged ls [] ≡ map listed_slot ls
@@ -114,14 +122,14 @@ before_all p l ls before rises = (
 )
 
 -- the unlisted slots are those of the current names that aren't listed
-groom_unlisted : (cs : List NameFacts) → filter_map groom_of (map unlisted_slot cs) ≡ not_in [] cs
+groom_unlisted : (cs : List NameFacts) → names_at Groom (map unlisted_slot cs) ≡ not_in [] cs
 groom_unlisted [] = refl
 groom_unlisted (c ∷ cs) = ap (λ (r : List NameFacts). c ∷ r) (groom_unlisted cs)
 
-groom_upto : (l : NameFacts) (ls : List NameFacts) → AllByRecursion (λ m. IsBefore l.path m.path) ls → ((cs : List NameFacts) → Rises cs → filter_map groom_of (merged ls cs) ≡ not_in ls cs) → (cs : List NameFacts) → Rises cs → filter_map groom_of (upto l (merged ls) cs) ≡ not_in (l ∷ ls) cs
+groom_upto : (l : NameFacts) (ls : List NameFacts) → AllByRecursion (λ m. IsBefore l.path m.path) ls → ((cs : List NameFacts) → Rises cs → names_at Groom (merged ls cs) ≡ not_in ls cs) → (cs : List NameFacts) → Rises cs → names_at Groom (upto l (merged ls) cs) ≡ not_in (l ∷ ls) cs
 groom_upto l ls first later [] h = later [] tt
 groom_upto l ls first later (c ∷ cs) h =
-    choose (λ (s : List Slot). filter_map groom_of s ≡ not_in (l ∷ ls) (c ∷ cs)) (is_before c.path l.path) (same_name l c) (unlisted_slot c ∷ upto l (merged ls) cs) (merged ls cs) (listed_slot l ∷ merged ls (c ∷ cs))
+    choose (λ (s : List Slot). names_at Groom s ≡ not_in (l ∷ ls) (c ∷ cs)) (is_before c.path l.path) (same_name l c) (unlisted_slot c ∷ upto l (merged ls) cs) (merged ls cs) (listed_slot l ∷ merged ls (c ∷ cs))
     (λ before.
     let all = before_all c.path l ls (before_from_test c.path l.path before) first in
     let other : is_in (l ∷ ls) c ≡ false = absent c (l ∷ ls) (weaken (λ (m : NameFacts). IsBefore c.path m.path) (λ (m : NameFacts). same_name c m ≡ false) (λ m b. path_differs c m b) (l ∷ ls) all) in
@@ -133,19 +141,19 @@ groom_upto l ls first later (c ∷ cs) h =
     later (c ∷ cs) h
     ∙ sym (one_other l ls (c ∷ cs) (differ_back l c differs, weaken (λ (n : NameFacts). IsBefore c.path n.path) (λ (n : NameFacts). same_name n l ≡ false) (λ n b. after_differs l c n not_before b) cs h.0)))
 
-groom_merged : (ls cs : List NameFacts) → Rises ls → Rises cs → filter_map groom_of (merged ls cs) ≡ not_in ls cs
+groom_merged : (ls cs : List NameFacts) → Rises ls → Rises cs → names_at Groom (merged ls cs) ≡ not_in ls cs
 groom_merged [] cs hl hc = groom_unlisted cs
 groom_merged (l ∷ ls) cs hl hc = groom_upto l ls hl.0 (λ bs h. groom_merged ls bs hl.1 h) cs hc
 
 -- the listed slots are those of the listed names that aren't current
-todo_unlisted : (cs : List NameFacts) → filter_map todo_of (map unlisted_slot cs) ≡ []
+todo_unlisted : (cs : List NameFacts) → names_at Todo (map unlisted_slot cs) ≡ []
 todo_unlisted [] = refl
 todo_unlisted (c ∷ cs) = todo_unlisted cs
 
-todo_upto : (l : NameFacts) (ls : List NameFacts) → AllByRecursion (λ m. IsBefore l.path m.path) ls → ((cs : List NameFacts) → Rises cs → filter_map todo_of (merged ls cs) ≡ not_in cs ls) → (cs : List NameFacts) → Rises cs → filter_map todo_of (upto l (merged ls) cs) ≡ not_in cs (l ∷ ls)
+todo_upto : (l : NameFacts) (ls : List NameFacts) → AllByRecursion (λ m. IsBefore l.path m.path) ls → ((cs : List NameFacts) → Rises cs → names_at Todo (merged ls cs) ≡ not_in cs ls) → (cs : List NameFacts) → Rises cs → names_at Todo (upto l (merged ls) cs) ≡ not_in cs (l ∷ ls)
 todo_upto l ls first later [] h = ap (λ (r : List NameFacts). l ∷ r) (later [] tt)
 todo_upto l ls first later (c ∷ cs) h =
-    choose (λ (s : List Slot). filter_map todo_of s ≡ not_in (c ∷ cs) (l ∷ ls)) (is_before c.path l.path) (same_name l c) (unlisted_slot c ∷ upto l (merged ls) cs) (merged ls cs) (listed_slot l ∷ merged ls (c ∷ cs))
+    choose (λ (s : List Slot). names_at Todo s ≡ not_in (c ∷ cs) (l ∷ ls)) (is_before c.path l.path) (same_name l c) (unlisted_slot c ∷ upto l (merged ls) cs) (merged ls cs) (listed_slot l ∷ merged ls (c ∷ cs))
     (λ before.
     let all = before_all c.path l ls (before_from_test c.path l.path before) first in
     todo_upto l ls first later cs h.1
@@ -157,7 +165,7 @@ todo_upto l ls first later (c ∷ cs) h =
     let other : is_in (c ∷ cs) l ≡ false = absent l (c ∷ cs) (differs, weaken (λ (n : NameFacts). IsBefore c.path n.path) (λ (n : NameFacts). same_name l n ≡ false) (λ n b. differ_back n l (after_differs l c n not_before b)) cs h.0) in
     ap (λ (r : List NameFacts). l ∷ r) (later (c ∷ cs) h) ∙ sym (first_stays (c ∷ cs) l ls other))
 
-todo_merged : (ls cs : List NameFacts) → Rises ls → Rises cs → filter_map todo_of (merged ls cs) ≡ not_in cs ls
+todo_merged : (ls cs : List NameFacts) → Rises ls → Rises cs → names_at Todo (merged ls cs) ≡ not_in cs ls
 todo_merged [] cs hl hc = todo_unlisted cs
 todo_merged (l ∷ ls) cs hl hc = todo_upto l ls hl.0 (λ bs h. todo_merged ls bs hl.1 h) cs hc
 
@@ -228,22 +236,23 @@ members (n ∷ ns) = (
 
 -- a slot as it begins: of a listed name, or of one that isn't
 abbrev IsFirst : List NameFacts → Slot → Type 0
-IsFirst listing s = ((s ≡ listed_slot s.name) × (is_in listing s.name ≡ true)) ⊎ (s ≡ unlisted_slot s.name)
+IsFirst listing s = ((s ≡ listed_slot s.miss.name) × (is_in listing s.miss.name ≡ true)) ⊎ (s ≡ unlisted_slot s.miss.name)
 
--- what holds of all that is picked holds of what is picked of each slot
-picked_back : (f : Slot → Option NameFacts) (Q : NameFacts → Type 0) (slots : List Slot) → AllByRecursion Q (filter_map f slots) → AllByRecursion (λ s. (v : NameFacts) → f s ≡ Some v → Q v) slots
+-- what holds of the names of all that is picked holds of the name of what is picked of each slot
+picked_back : (f : Slot → Option Miss) (Q : NameFacts → Type 0) (slots : List Slot) → AllByRecursion Q (missed_names (filter_map f slots)) → AllByRecursion (λ s. (v : Miss) → f s ≡ Some v → Q v.name) slots
 picked_back f Q [] h = tt
 picked_back f Q (s ∷ slots) h =
-    elim (f s) as (λ o. AllByRecursion Q (cons_option o (filter_map f slots)) → ((v : NameFacts) → o ≡ Some v → Q v) × AllByRecursion (λ (t : Slot). (v : NameFacts) → f t ≡ Some v → Q v) slots) [
+    elim (f s) as (λ o. AllByRecursion Q (missed_names (cons_option o (filter_map f slots))) → ((v : Miss) → o ≡ Some v → Q v.name) × AllByRecursion (λ (t : Slot). (v : Miss) → f t ≡ Some v → Q v.name) slots) [
       | None ↦ λ k. ((λ v e. cc), picked_back f Q slots k)
-      | Some w ↦ λ k. ((λ v e. let same : w ≡ v = cc in subst Q same k.0), picked_back f Q slots k.1)
+      | Some w ↦ λ k. ((λ v e. let same : w ≡ v = cc in subst (λ (m : Miss). Q m.name) same k.0), picked_back f Q slots k.1)
     ] h
 
-first_is_slot : (listing : List NameFacts) (s : Slot) → IsFirst listing s → ((v : NameFacts) → groom_of s ≡ Some v → not (is_in listing v) ≡ true) → IsSlot listing true s
-first_is_slot listing s (inl first) groomed = subst (IsSlot listing true) (sym first.0) (record { listed = sym first.1; place = refl; spare = refl })
+first_is_slot : (listing : List NameFacts) (s : Slot) → IsFirst listing s → ((v : Miss) → slot_at Groom s ≡ Some v → not (is_in listing v.name) ≡ true) → IsSlot listing true s
+first_is_slot listing s (inl first) groomed =
+    subst (IsSlot listing true) (sym first.0) (record { listed = sym first.1; place = refl; copy = refl; there = λ e. refl })
 first_is_slot listing s (inr first) groomed =
-    let absent_name : is_in listing s.name ≡ false = not-true (is_in listing s.name) (groomed s.name (ap groom_of first)) in
-    subst (IsSlot listing true) (sym first) (record { listed = sym absent_name; place = refl; spare = refl })
+    let absent_name : is_in listing s.miss.name ≡ false = not-true (is_in listing s.miss.name) (groomed (no_miss s.miss.name) (ap (slot_at Groom) first)) in
+    subst (IsSlot listing true) (sym first) (record { listed = sym absent_name; place = refl; copy = refl; there = λ e. refl })
 
 both : (P Q R : Slot → Type 0) → ((s : Slot) → P s → Q s → R s) → (slots : List Slot) → AllByRecursion P slots → AllByRecursion Q slots → AllByRecursion R slots
 both P Q R says [] p q = tt
@@ -254,24 +263,27 @@ pub merged_first : (listing current : List NameFacts) → IsByPath listing → I
 merged_first listing current by_path in_order =
     let slots = merged listing current in
     let groomed = groom_merged listing current (rises listing by_path) (rises current in_order) in
-    let unlisted : AllByRecursion (λ n. not (is_in listing n) ≡ true) (filter_map groom_of slots) =
+    let unlisted : AllByRecursion (λ n. not (is_in listing n) ≡ true) (names_at Groom slots) =
     subst (AllByRecursion (λ (n : NameFacts). not (is_in listing n) ≡ true)) (sym groomed)
     (recursion_from_All (λ (n : NameFacts). not (is_in listing n) ≡ true) (not_in listing current) (filter_passes (λ (n : NameFacts). not (is_in listing n)) current)) in record {
-      facts = same_pass listing (filter_map todo_of slots) (filter_map out_of slots) (filter_map groom_of slots) (not_in current listing) [] (not_in listing current) (filter_map miss_of slots) [] true
-          (todo_merged listing current (rises listing by_path) (rises current in_order))
-          (none_picked out_of slots (every (λ (s : Slot). out_of s ≡ None) listing current (hold (λ (n : NameFacts). out_of (listed_slot n) ≡ None) (λ n. refl) listing) (hold (λ (n : NameFacts). out_of (unlisted_slot n) ≡ None) (λ n. refl) current)))
-          groomed
-          (none_picked miss_of slots (every (λ (s : Slot). miss_of s ≡ None) listing current (hold (λ (n : NameFacts). miss_of (listed_slot n) ≡ None) (λ n. refl) listing) (hold (λ (n : NameFacts). miss_of (unlisted_slot n) ≡ None) (λ n. refl) current)));
+      facts = same_pass listing _ _ _ _ _ _ _ _ true (todo_merged listing current (rises listing by_path) (rises current in_order)) (ap missed_names (none_of Out refl refl)) groomed (none_of Missed refl refl);
       kept = record {
         order = order_merged listing current (rises listing by_path) (rises current in_order);
         each = All-from_recursion (IsSlot listing true) slots
-            (both (IsFirst listing) (λ (s : Slot). (v : NameFacts) → groom_of s ≡ Some v → not (is_in listing v) ≡ true) (IsSlot listing true) (first_is_slot listing) slots
+            (both (IsFirst listing) (λ (s : Slot). (v : Miss) → slot_at Groom s ≡ Some v → not (is_in listing v.name) ≡ true) (IsSlot listing true) (first_is_slot listing) slots
             (every (IsFirst listing) listing current
             (weaken (λ (n : NameFacts). is_in listing n ≡ true) (λ (n : NameFacts). IsFirst listing (listed_slot n)) (λ n h. inl (refl, h)) listing (members listing))
             (hold (λ (n : NameFacts). IsFirst listing (unlisted_slot n)) (λ n. inr refl) current))
-            (picked_back groom_of (λ (n : NameFacts). not (is_in listing n) ≡ true) slots unlisted));
+            (picked_back (slot_at Groom) (λ (n : NameFacts). not (is_in listing n) ≡ true) slots unlisted));
       };
     }
+  where
+    none_of : (place : Place) → same_place place Todo ≡ false → same_place place Groom ≡ false → list_at place (merged listing current) ≡ []
+    none_of place todo groom =
+        none_picked (slot_at place) (merged listing current)
+        (every (λ (s : Slot). slot_at place s ≡ None) listing current
+        (hold (λ (n : NameFacts). slot_at place (listed_slot n) ≡ None) (λ n. ap (λ (b : Bool). cond b (Some (no_miss n)) None) todo) listing)
+        (hold (λ (n : NameFacts). slot_at place (unlisted_slot n) ≡ None) (λ n. ap (λ (b : Bool). cond b (Some (no_miss n)) None) groom) current))
 
 -- with the names of one list left alone, their slots follow
 rest_split : (a b : List NameFacts) → (a ≡ []) ⊎ (b ≡ []) → merged a b ≡ map listed_slot a ++ map unlisted_slot b

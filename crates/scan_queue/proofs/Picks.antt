@@ -1,15 +1,15 @@
 -- What is picked from the slots, where one slot changes.
 use Rattle.std.proofs.Common.{◌≡◌, ℕ, ◌+◌, ◌<◌, Bool, true, false, cond, Option, Some, None, List, [], ◌∷◌, ◌++◌, length, take, drop, All, refl, sym, ◌∙◌, ap, arith, add-one, slice_index_or, slice_set}
-use Rattle.std.specs.Prelude.{count_by, is_some}
+use Rattle.std.specs.Prelude.{count_by}
 use Rattle.std.specs.List.{AllByRecursion, AllPairs, cons_option, filter_map}
-use Rattle.std.proofs.lemmas.List.{drop_more, set_split, take-append-drop, take_more}
+use Rattle.std.proofs.lemmas.List.{drop_more, map-append, set_split, take-append-drop, take_more}
 use Rattle.std.proofs.lemmas.List.Elements.{All-cons, All-nil, filter_map-append, recursion_from_All}
 use Rattle.std.proofs.lemmas.List.Kept.{AllPairs-cons}
 use Rattle.std.proofs.lemmas.List.Sums.{sum_by-cons}
-use Rattle.row_types.specs.Name.{NameFacts}
 pub use Rattle.row_types.proofs.AscendsLemmas.{first_related as head_pairs, rest_related as tail_pairs}
-use Rattle.scan_queue.specs.Pass.{Adds}
-use Rattle.scan_queue.specs.Slots.{at_todo, is_todo, todo_of}
+use Rattle.scan_queue.specs.Pass.{Adds, missed_names}
+use Rattle.scan_queue.specs.Slots.{held_at, list_at, same_place, slot_at}
+use Rattle.scan_queue.specs.declared.miss.Miss.{Miss}
 use Rattle.scan_queue.specs.declared.slot.Place.{Place}
 use Rattle.scan_queue.specs.declared.slot.Place.TheVariants.{Todo, Out, Groom, Missed, Done}
 use Rattle.scan_queue.specs.declared.slot.Slot.{Slot}
@@ -45,21 +45,39 @@ comes t b less whole p q v was' becomes' none some = record {
 pub stays : {X : Type 0} (t b old new : List X) (p q : Option X) → old ≡ t ++ cons_option p b → new ≡ t ++ cons_option q b → p ≡ q → new ≡ old
 stays t b old new p q was' becomes' same = rw (was', becomes', same) refl
 
-not_todo : (p : Place) (n : NameFacts) → is_todo p ≡ false → at_todo p n ≡ None
-not_todo Todo n h = cc
-not_todo Out n h = refl
-not_todo Groom n h = refl
-not_todo (Missed cause) n h = refl
-not_todo Done n h = refl
+-- a slot that stands elsewhere is passed
+pub passed_more : (place : Place) (slots : List Slot) (i : ℕ) (d : Slot) → i < length slots → same_place place (slice_index_or slots i d).place ≡ false → list_at place (take i slots) ≡ [] → list_at place (take (i + 1) slots) ≡ []
+passed_more place slots i d within other passed =
+    let x = slice_index_or slots i d in
+    ap (list_at place) (take_more slots i d within) ∙ filter_map-append (slot_at place) (take i slots) (x ∷ [])
+    ∙ none_before (list_at place (take i slots)) (slot_at place x) passed (ap (λ (b : Bool). cond b (Some x.miss) None) other)
+  where
+    none_before : (t : List Miss) (p : Option Miss) → t ≡ [] → p ≡ None → t ++ cons_option p [] ≡ []
+    none_before t p none gone = rw (none, gone) refl
 
-none_before : (t : List NameFacts) (p : Option NameFacts) → t ≡ [] → p ≡ None → t ++ cons_option p [] ≡ []
-none_before t p none gone = rw (none, gone) refl
+-- places that pass the test are one
+pub is_place : (place p : Place) → same_place place p ≡ true → p ≡ place
+is_place Todo Todo e = refl
+is_place Out Out e = refl
+is_place Groom Groom e = refl
+is_place Missed Missed e = refl
+is_place Done Done e = refl
+is_place _ _ e = cc
 
--- a slot that isn't to be read is passed
-pub passed_more : (slots : List Slot) (i : ℕ) (d : Slot) → i < length slots → is_todo (slice_index_or slots i d).place ≡ false → filter_map todo_of (take i slots) ≡ [] → filter_map todo_of (take (i + 1) slots) ≡ []
-passed_more slots i d within other passed =
-    ap (filter_map todo_of) (take_more slots i d within) ∙ filter_map-append todo_of (take i slots) (slice_index_or slots i d ∷ [])
-    ∙ none_before (filter_map todo_of (take i slots)) (todo_of (slice_index_or slots i d)) passed (not_todo (slice_index_or slots i d).place (slice_index_or slots i d).name other)
+-- a name that is picked for a place is that of its slot, which stands there
+pub place_found : (place p : Place) (m v : Miss) → held_at place p m ≡ Some v → p ≡ place
+place_found place p m v e = is_place place p (found (same_place place p) e)
+  where
+    found : (b : Bool) → cond b (Some m) None ≡ Some v → b ≡ true
+    found true e = refl
+    found false e = cc
+
+pub miss_found : (place p : Place) (m v : Miss) → held_at place p m ≡ Some v → v ≡ m
+miss_found place p m v e = found (same_place place p) e
+  where
+    found : (b : Bool) → cond b (Some m) None ≡ Some v → v ≡ m
+    found true e = cc
+    found false e = cc
 
 -- what holds of each, by another fact that holds of each
 pub weaken : {X : Type 0} (P Q : X → Type 0) → ((x : X) → P x → Q x) → (xs : List X) → AllByRecursion P xs → AllByRecursion Q xs
@@ -89,15 +107,37 @@ pairs_picked f S R says (s ∷ slots) h =
           (pairs_picked f S R says slots (tail_pairs S s slots h))
     ] refl
 
-length_one : {X : Type 0} (o : Option X) (xs : List X) (b : Bool) (n : ℕ) → is_some o ≡ b → length xs ≡ n → length (cons_option o xs) ≡ cond b 1 0 + n
-length_one None xs true n e h = cc
-length_one None xs false n e h = omega arith
-length_one (Some x) xs true n e h = omega arith
-length_one (Some x) xs false n e h = cc
+-- as many are picked as slots stand at the place
+pub length_at : (place : Place) (slots : List Slot) → length (list_at place slots) ≡ count_by (λ s. same_place place s.place) slots
+length_at place [] = refl
+length_at place (s ∷ slots) =
+    one (same_place place s.place) (list_at place slots) (count_by (λ (t : Slot). same_place place t.place) slots) (length_at place slots)
+    ∙ sym (sum_by-cons (λ (t : Slot). cond (same_place place t.place) 1 0) s slots)
+  where
+    one : (b : Bool) (ms : List Miss) (n : ℕ) → length ms ≡ n → length (cons_option (cond b (Some s.miss) None) ms) ≡ cond b 1 0 + n
+    one true ms n h = omega arith
+    one false ms n h = omega arith
 
--- as many are picked as slots pass the test
-pub length_picked : {X : Type 0} (f : Slot → Option X) (p : Slot → Bool) → ((s : Slot) → is_some (f s) ≡ p s) → (slots : List Slot) → length (filter_map f slots) ≡ count_by p slots
-length_picked f p agrees [] = refl
-length_picked f p agrees (s ∷ slots) =
-    length_one (f s) (filter_map f slots) (p s) (count_by p slots) (agrees s) (length_picked f p agrees slots)
-    ∙ sym (sum_by-cons (λ (t : Slot). cond (p t) 1 0) s slots)
+-- one slot changes: the list of a place at which it stands neither before nor after stays
+pub list_stays : (place : Place) (slots : List Slot) (i : ℕ) (d y : Slot) → i < length slots → slot_at place (slice_index_or slots i d) ≡ slot_at place y → list_at place (slice_set slots i y) ≡ list_at place slots
+list_stays place slots i d y within same =
+    stays (list_at place (take i slots)) _ _ _ (slot_at place (slice_index_or slots i d)) (slot_at place y) (was (slot_at place) slots i d within) (becomes (slot_at place) slots i y within) same
+
+-- the list of the place at which it stands from then on gains it
+pub list_adds : (place : Place) (slots : List Slot) (i : ℕ) (d y : Slot) (m : Miss) → i < length slots → slot_at place (slice_index_or slots i d) ≡ None → slot_at place y ≡ Some m → Adds m (list_at place slots) (list_at place (slice_set slots i y))
+list_adds place slots i d y m within none some =
+    comes (list_at place (take i slots)) _ _ _ (slot_at place (slice_index_or slots i d)) (slot_at place y) m (was (slot_at place) slots i d within) (becomes (slot_at place) slots i y within) none some
+
+-- the list of which it was the first loses it
+pub list_loses : (place : Place) (slots : List Slot) (i : ℕ) (d y : Slot) (m : Miss) → i < length slots → list_at place (take i slots) ≡ [] → slot_at place (slice_index_or slots i d) ≡ Some m → slot_at place y ≡ None → list_at place slots ≡ m ∷ list_at place (slice_set slots i y)
+list_loses place slots i d y m within passed some none =
+    first_goes (list_at place (take i slots)) _ _ _ (slot_at place (slice_index_or slots i d)) (slot_at place y) m (was (slot_at place) slots i d within) (becomes (slot_at place) slots i y within) passed some none
+
+-- what is put into a list is put into that of its names
+pub names_add : (m : Miss) (before after : List Miss) → Adds m before after → Adds m.name (missed_names before) (missed_names after)
+names_add m before after h = record {
+  front = missed_names h.front;
+  back = missed_names h.back;
+  old = ap missed_names h.old ∙ map-append (λ (n : Miss). n.name) h.front h.back;
+  new = ap missed_names h.new ∙ map-append (λ (n : Miss). n.name) h.front (m ∷ h.back);
+}

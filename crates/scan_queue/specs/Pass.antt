@@ -1,9 +1,10 @@
 -- A pass (this project's rule): a listing, and the names that are still to be looked at, each in one of four lists.
-use Rattle.std.specs.Prelude.{◌≡◌, ◌≤◌, Bool, true, false, not, List, [], ◌∷◌, ◌++◌, ◌⊎◌, map, filter, count_by}
+use Rattle.std.specs.Prelude.{◌≡◌, ◌≤◌, ◌&&◌, ◌||◌, Bool, true, false, not, List, [], ◌∷◌, ◌++◌, ◌⊎◌, Option, Some, None, map, filter, count_by}
 use Rattle.std.specs.List.{AllPairs, AllPass}
 use Rattle.row_types.specs.Ascends.{IsBefore}
 use Rattle.row_types.specs.Name.{NameFacts, same_name}
 use Rattle.scan_queue.specs.Names.{IsListing, is_in, not_in, without}
+use Rattle.scan_queue.specs.declared.miss.Cause.{Cause}
 use Rattle.scan_queue.specs.declared.miss.Miss.{Miss}
 
 -- the listing; the names to be read, those that were handed out, those to be looked for and those that were
@@ -68,6 +69,12 @@ pub record TakesName (old new : PassFacts) (name : NameFacts) : Type 0 where
   pub out : Adds name old.out new.out
   pub same : new ≡ record old { todo = new.todo; out = new.out; filled = false }
 
+-- the first name of groom is handed out, without its copy from then on
+pub record GroomsName (old new : PassFacts) (name : NameFacts) : Type 0 where
+  pub first : old.groom ≡ name ∷ new.groom
+  pub out : Adds name old.out new.out
+  pub same : new ≡ record old { groom = new.groom; out = new.out; filled = false }
+
 -- the list has no name to hand out, and the pass stays
 pub record TakesNone (names : List NameFacts) (old new : PassFacts) : Type 0 where
   pub none : names ≡ []
@@ -85,6 +92,27 @@ left name pass = record pass {
   groom = without name pass.groom;
   missed = misses_without name pass.missed;
 }
+
+-- a name that is out is missed by that cause
+pub record MissesName (old new : PassFacts) (name : NameFacts) (cause : Cause) : Type 0 where
+  pub missed : Adds (record { name = name; cause = cause }) old.missed new.missed
+  pub same : new ≡ record old { out = without name old.out; missed = new.missed }
+
+-- whether the name is out or missed
+abbrev pub is_away : PassFacts → NameFacts → Bool
+is_away pass name = is_in pass.out name || is_in (missed_names pass.missed) name
+
+-- the names that are out or missed are tried again: the listed ones are to be read, the others to be looked for.
+-- Both lists are in order, so this says what they are
+pub record TriesAgain (old new : PassFacts) : Type 0 where
+  pub todo : (name : NameFacts) → is_in new.todo name ≡ (is_in old.todo name || (is_in old.listing name && is_away old name))
+  pub groom : (name : NameFacts) → is_in new.groom name ≡ (is_in old.groom name || (not (is_in old.listing name) && is_away old name))
+  pub same : new ≡ record old { todo = new.todo; out = []; groom = new.groom; missed = [] }
+
+-- the first name that was missed, if any was
+abbrev pub first_missed : List Miss → Option Miss
+first_missed [] = None
+first_missed (m ∷ missed) = Some m
 
 -- no name is left to be looked at
 pub record IsWhole (pass : PassFacts) : Type 0 where

@@ -1,61 +1,52 @@
 -- How a pass is kept (this project's rule): one list of slots in order, of which each of the four lists is a part.
-use Rattle.std.specs.Prelude.{◌≡◌, ℕ, ◌≤◌, ◌<◌, Bool, true, false, List, [], ◌⊎◌, Option, Some, None, All, map, length, take}
+use Rattle.std.specs.Prelude.{◌≡◌, ℕ, ◌≤◌, ◌<◌, Bool, true, false, List, [], ◌++◌, ◌⊎◌, Option, Some, None, All, if◌then◌else◌, is_some, map, length, take, drop}
 use Rattle.std.specs.List.{AllPairs, HoldsAt, filter_map}
 use Rattle.row_types.specs.Ascends.{IsBefore}
 use Rattle.row_types.specs.Name.{NameFacts, same_name}
 use Rattle.scan_queue.specs.Names.{IsListing, is_in}
-use Rattle.scan_queue.specs.Pass.{PassFacts, begun}
+use Rattle.scan_queue.specs.Pass.{PassFacts, begun, missed_names}
+use Rattle.scan_queue.specs.declared.miss.Cause.TheVariants.{ReadFault}
 use Rattle.scan_queue.specs.declared.miss.Miss.{Miss}
 use Rattle.scan_queue.specs.declared.slot.Place.{Place}
 use Rattle.scan_queue.specs.declared.slot.Place.TheVariants.{Todo, Out, Groom, Missed, Done}
 use Rattle.scan_queue.specs.declared.slot.Slot.{Slot}
 
--- the name, where its place is todo
-abbrev pub at_todo : Place → NameFacts → Option NameFacts
-at_todo Todo name = Some name
-at_todo _ name = None
+-- whether two places are one
+abbrev pub same_place : Place → Place → Bool
+same_place Todo Todo = true
+same_place Out Out = true
+same_place Groom Groom = true
+same_place Missed Missed = true
+same_place Done Done = true
+same_place _ _ = false
 
--- the name, where its place is out
-abbrev pub at_out : Place → NameFacts → Option NameFacts
-at_out Out name = Some name
-at_out _ name = None
+-- the name with its cause, where the second place is the first
+abbrev pub held_at : Place → Place → Miss → Option Miss
+held_at place other miss = if same_place place other then Some miss else None
 
--- the name, where its place is groom
-abbrev pub at_groom : Place → NameFacts → Option NameFacts
-at_groom Groom name = Some name
-at_groom _ name = None
+-- the slot's name with its cause, where it stands at the place
+abbrev pub slot_at : Place → Slot → Option Miss
+slot_at place slot = held_at place slot.place slot.miss
 
--- the name with its cause, where its place is missed
-abbrev pub at_missed : Place → NameFacts → Option Miss
-at_missed (Missed cause) name = Some (record { name = name; cause = cause })
-at_missed _ name = None
+-- the names with their causes whose slots stand at the place, in order
+abbrev pub list_at : Place → List Slot → List Miss
+list_at place slots = filter_map (slot_at place) slots
 
--- the slot's name, where it is to be read
-abbrev pub todo_of : Slot → Option NameFacts
-todo_of slot = at_todo slot.place slot.name
-
--- the slot's name, where it was handed out
-abbrev pub out_of : Slot → Option NameFacts
-out_of slot = at_out slot.place slot.name
-
--- the slot's name, where it is to be looked for
-abbrev pub groom_of : Slot → Option NameFacts
-groom_of slot = at_groom slot.place slot.name
-
--- the slot's name and cause, where it was missed
-abbrev pub miss_of : Slot → Option Miss
-miss_of slot = at_missed slot.place slot.name
+-- the pass of a listing and four lists; a cause counts in the last alone
+abbrev pub pass_of : List NameFacts → List Miss → List Miss → List Miss → List Miss → Bool → PassFacts
+pass_of listing todo out groom missed filled = record {
+  listing = listing;
+  todo = missed_names todo;
+  out = missed_names out;
+  groom = missed_names groom;
+  missed = missed;
+  filled = filled;
+}
 
 -- the pass of a listing and its slots
 abbrev pub facts_of : List NameFacts → List Slot → Bool → PassFacts
-facts_of listing slots filled = record {
-  listing = listing;
-  todo = filter_map todo_of slots;
-  out = filter_map out_of slots;
-  groom = filter_map groom_of slots;
-  missed = filter_map miss_of slots;
-  filled = filled;
-}
+facts_of listing slots filled =
+    pass_of listing (list_at Todo slots) (list_at Out slots) (list_at Groom slots) (list_at Missed slots) filled
 
 -- a name to be read is listed, one to be looked for isn't
 abbrev pub PlaceFits : Place → Bool → Type 0
@@ -63,18 +54,24 @@ PlaceFits Todo listed = listed ≡ true
 PlaceFits Groom listed = listed ≡ false
 PlaceFits _ listed = Unit {0}
 
--- a name to be handed out has its copy, and where the pass is filled one that is out or missed has it too
-abbrev pub HasCopy : Bool → Place → NameFacts → Option NameFacts → Type 0
-HasCopy filled Todo name spare = spare ≡ Some name
-HasCopy filled Groom name spare = spare ≡ Some name
-HasCopy filled Done name spare = Unit {0}
-HasCopy filled _ name spare = filled ≡ true → spare ≡ Some name
+-- the copy, where there is one, is of the name
+abbrev pub IsCopy : NameFacts → Option NameFacts → Type 0
+IsCopy name None = Unit {0}
+IsCopy name (Some copy) = copy ≡ name
+
+-- whether a name has to have its copy: one to be handed out, and where the pass is filled one that is out or missed
+abbrev pub needs_copy : Bool → Place → Bool
+needs_copy filled Todo = true
+needs_copy filled Groom = true
+needs_copy filled Done = false
+needs_copy filled _ = filled
 
 -- what is true of each slot
 pub record IsSlot (listing : List NameFacts) (filled : Bool) (slot : Slot) : Type 0 where
-  pub listed : slot.listed ≡ is_in listing slot.name
+  pub listed : slot.listed ≡ is_in listing slot.miss.name
   pub place : PlaceFits slot.place slot.listed
-  pub spare : HasCopy filled slot.place slot.name slot.spare
+  pub copy : IsCopy slot.miss.name slot.spare
+  pub there : needs_copy filled slot.place ≡ true → is_some slot.spare ≡ true
 
 -- what the slots are ordered by
 pub record Key : Type 0 where
@@ -83,7 +80,7 @@ pub record Key : Type 0 where
 
 -- a slot's key
 abbrev pub key_of : Slot → Key
-key_of slot = record { name = slot.name; listed = slot.listed }
+key_of slot = record { name = slot.miss.name; listed = slot.listed }
 
 -- the first key comes first: its path does, or it is that of the listed one of two with one path
 abbrev pub KeyPrecedes : Key → Key → Type 0
@@ -98,16 +95,17 @@ pub record AreSlots (listing : List NameFacts) (slots : List Slot) (filled : Boo
   pub order : AreOrdered slots
   pub each : All (IsSlot listing filled) slots
 
--- no slot before the mark is to be read
-pub record IsMark (mark : ℕ) (slots : List Slot) : Type 0 where
+-- no slot before the mark stands at the place
+pub record IsMark (place : Place) (mark : ℕ) (slots : List Slot) : Type 0 where
   pub within : mark ≤ length slots
-  pub passed : filter_map todo_of (take mark slots) ≡ []
+  pub passed : list_at place (take mark slots) ≡ []
 
 -- what is true of the parts of a pass
-pub record IsLaidOut (listing : List NameFacts) (slots : List Slot) (mark : ℕ) (filled : Bool) : Type 0 where
+pub record IsLaidOut (listing : List NameFacts) (slots : List Slot) (taken groomed : ℕ) (filled : Bool) : Type 0 where
   pub names : IsListing listing
   pub kept : AreSlots listing slots filled
-  pub passed : IsMark mark slots
+  pub taken_to : IsMark Todo taken slots
+  pub groomed_to : IsMark Groom groomed slots
 
 -- the slots are those of the pass as it begins
 pub record AreFirst (listing current : List NameFacts) (slots : List Slot) : Type 0 where
@@ -117,41 +115,54 @@ pub record AreFirst (listing current : List NameFacts) (slots : List Slot) : Typ
 -- a slot stands there, and has the name
 pub record HasNameAt (name : NameFacts) (slots : List Slot) (at : ℕ) : Type 0 where
   pub within : at < length slots
-  pub named : HoldsAt (λ slot. same_name name slot.name ≡ true) slots at
+  pub named : HoldsAt (λ slot. same_name name slot.miss.name ≡ true) slots at
+
+-- a name that was not missed; its cause says nothing
+abbrev pub no_miss : NameFacts → Miss
+no_miss name = record { name = name; cause = ReadFault }
 
 -- the slot of a listed name that is to be read
 abbrev pub listed_slot : NameFacts → Slot
-listed_slot name = record { name = name; listed = true; place = Todo; spare = Some name }
+listed_slot name = record { miss = no_miss name; listed = true; place = Todo; spare = Some name }
 
 -- the slot of a name that isn't listed and is to be looked for
 abbrev pub unlisted_slot : NameFacts → Slot
-unlisted_slot name = record { name = name; listed = false; place = Groom; spare = Some name }
+unlisted_slot name = record { miss = no_miss name; listed = false; place = Groom; spare = Some name }
 
 -- the slot has another name, or is done
 abbrev pub IsNotHeld : NameFacts → Slot → Type 0
-IsNotHeld name slot = same_name name slot.name ≡ true → slot.place ≡ Done
+IsNotHeld name slot = same_name name slot.miss.name ≡ true → slot.place ≡ Done
 
--- whether the place is that of a name to be read
-abbrev pub is_todo : Place → Bool
-is_todo Todo = true
-is_todo _ = false
+-- whether a place is that of a name that was handed out and not done since
+abbrev pub is_away : Place → Bool
+is_away Out = true
+is_away Missed = true
+is_away _ = false
 
--- whether the place is that of a name that was handed out
-abbrev pub is_out : Place → Bool
-is_out Out = true
-is_out _ = false
+-- where a name stands again that was out or missed: a listed one is to be read, another to be looked for
+abbrev pub place_again : Place → Bool → Place
+place_again Out listed = if listed then Todo else Groom
+place_again Missed listed = if listed then Todo else Groom
+place_again place listed = place
 
--- whether the place is that of a name to be looked for
-abbrev pub is_groom : Place → Bool
-is_groom Groom = true
-is_groom _ = false
+-- the slot, where it is tried again
+abbrev pub tried_again : Slot → Slot
+tried_again slot = record slot { place = place_again slot.place slot.listed }
 
--- whether the place is that of a missed name
-abbrev pub is_missed : Place → Bool
-is_missed (Missed cause) = true
-is_missed _ = false
+-- the copy of a name that is out or missed and has none
+abbrev pub copy_again : Place → NameFacts → Option NameFacts → Option NameFacts
+copy_again place name None = if is_away place then Some name else None
+copy_again place name (Some copy) = Some copy
 
--- whether the place is in none of the four lists
-abbrev pub is_done : Place → Bool
-is_done Done = true
-is_done _ = false
+-- the slot with its missing copy
+abbrev pub filled_slot : Slot → Slot
+filled_slot slot = record slot { spare = copy_again slot.place slot.miss.name slot.spare }
+
+-- so many slots have their missing copies
+abbrev pub filled_to : ℕ → List Slot → List Slot
+filled_to n slots = map filled_slot (take n slots) ++ drop n slots
+
+-- the first slots have their missing copies, the others are as they were
+pub record IsFilledInPart (old new : List Slot) : Type 0 where
+  pub n : ℕ
+  pub after : new ≡ filled_to n old

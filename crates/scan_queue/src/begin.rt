@@ -9,7 +9,8 @@ use crate::slot::Slot;
 use row_types::Name;
 use std::alloc::{AllocError, Global};
 
-/// The slots of the listed names that aren't current and of the current ones that aren't listed, in order.
+/// The slots of the listed names that aren't current and of the current ones that aren't listed, in
+/// order.
 pub(crate) fn first_slots(
     alloc: Global,
     listing: &[Name],

@@ -1,5 +1,5 @@
-//! The names that a pass has to look at: what a walk listed, and which of them are still to be done. Reading
-//! files and keeping rows stand in the crates above.
+//! The names that a pass has to look at: what a walk listed, and which of them are still to be
+//! done. Reading files and keeping rows stand in the crates above.
 #![tactic(auto)]
 
 mod begin;
@@ -7,6 +7,7 @@ mod listing;
 mod miss;
 mod pass;
 mod slot;
+mod slots;
 #[cfg(test)]
 mod tests;
 

@@ -1,10 +1,10 @@
 //! What a walk found.
 
-ghost use Rattle.std.specs.Prelude.{◌≡◌, ◌↔◌, ◌≤◌, true, false, IsTrue, IsOk, IfOk, IfErr, length};
+ghost use Rattle.std.specs.Prelude.{◌≡◌, ◌↔◌, ◌^◌, ◌≤◌, true, false, IsTrue, IsOk, IfOk, IfErr};
+ghost use Rattle.std.specs.Prelude.{length};
 ghost use Rattle.std.specs.List.Sorted.{IsPartitionPoint};
 ghost use Rattle.row_types.specs.Ascends.{is_before};
-ghost use Rattle.row_types.specs.Name.{same_name};
-ghost use Rattle.row_types.specs.Name.{stamp_at};
+ghost use Rattle.row_types.specs.Name.{same_name, stamp_at};
 ghost use Rattle.scan_queue.specs.Names.{IsByPath, IsListing};
 
 use row_types::{CanonPath, Name, Stamp};
@@ -13,7 +13,8 @@ use std::marker::Model;
 /// The number of names of the longest listing, 2^20.
 pub const LISTING_LIMIT: usize = 0x10_0000;
 
-/// The names of files, by path, each path once, and at most 2^20. Contracts see it as the list of the names.
+/// The names of files, by path, each path once, and at most 2^20. Contracts see it as the list of
+/// the names.
 #[derive(Debug, Drop)]
 pub struct Listing {
     names: Vec<Name>,
@@ -37,6 +38,7 @@ impl Listing {
         ensures ok { IsOk result ↔ IsListing names.items }
         ensures value { IfOk result (λ listing. listing ≡ names.items) }
         ensures back { IfErr result (λ given. given ≡ names) }
+        ensures limit { LISTING_LIMIT ≡ 2 ^ 20 }
     {
         if is_listing(names.as_slice()) {
             Ok(Listing { names })
@@ -131,7 +133,8 @@ fn stamp_of(names: &[Name], path: &CanonPath) -> Option<Stamp>
 fn first_from(names: &[Name], path: &CanonPath) -> usize
     requires { IsByPath names.now }
     ensures within { result ≤ length names.now }
-    ensures parted { IsPartitionPoint (λ name. is_before name.path path.now ≡ true) (λ name. is_before name.path path.now ≡ false) names.now result }
+    ensures parted { IsPartitionPoint (λ name. is_before name.path path.now ≡ true)
+        (λ name. is_before name.path path.now ≡ false) names.now result }
 {
     names.partition_point(|name| is_before(&name.path, path))
 }

@@ -1,28 +1,32 @@
 //! A pass over what a walk listed.
 
-ghost use Rattle.std.specs.Prelude.{◌≡◌, ◌↔◌, [], ◌∷◌, false, length, IsTrue, IfOk, IfErr, MatchOption};
+ghost use Rattle.std.specs.Prelude.{◌≡◌, ◌+◌, ◌↔◌, [], ◌∷◌, true, false, length, IsTrue, IfOk, IfErr};
+ghost use Rattle.std.specs.Prelude.{MatchOption, OnOk};
+ghost use Rattle.std.specs.Option.{option_copied};
 ghost use Rattle.scan_queue.specs.Names.{IsByPath, is_in};
-ghost use Rattle.scan_queue.specs.Pass.{IsPass, IsWhole, TakesName, TakesNone, begun, left, names_left};
+ghost use Rattle.scan_queue.specs.Pass.{GroomsName, IsPass, IsWhole, MissesName, TakesName, TakesNone};
+ghost use Rattle.scan_queue.specs.Pass.{TriesAgain, begun, first_missed, left, names_left};
 
 use crate::begin::first_slots;
 use crate::listing::Listing;
-use crate::slot::{
-    Place, Slot, are_done, count_groom, count_missed, count_out, count_todo, is_done, next_todo,
-    place_of,
-};
+use crate::miss::{Cause, Miss};
+use crate::slot::{Place, Slot, next_at, place_of, same_place};
+use crate::slots::{are_done, count_at, count_away, fill, first_missed, try_again};
 use row_types::Name;
-use std::alloc::Global;
+use std::alloc::{AllocError, Global};
 use std::marker::Model;
 
-/// A listing, and the names that are still to be looked at, each in one of four lists: to be read, out, to be
-/// looked for, missed. Contracts see it as a record of the listing and the lists, and whether each name that
-/// is out or missed has its copy.
+/// A listing, and the names that are still to be looked at, each in one of four lists: to be read,
+/// out, to be looked for, missed. Contracts see it as a record of the listing and the lists, and
+/// whether each name that is out or missed has its copy.
 #[derive(Debug, Drop)]
 pub struct Pass {
     listing: Listing,
     slots: Vec<Slot>,
-    mark: usize,
+    taken: usize,
+    groomed: usize,
     filled: bool,
+    alloc: Global,
 }
 
 impl Model for Pass {
@@ -33,12 +37,12 @@ impl Model for Pass {
 
     ghost view = { λ p. facts_of p.listing p.slots.items p.filled };
 
-    ghost invariant = { λ p. IsLaidOut p.listing p.slots.items p.mark p.filled };
+    ghost invariant = { λ p. IsLaidOut p.listing p.slots.items p.taken p.groomed p.filled };
 }
 
 impl Pass {
-    /// The pass over a listing, where these names are current: those of the rows that are kept. All memory of
-    /// the pass is taken here. For want of it both are handed back.
+    /// The pass over a listing, where these names are current: those of the rows that are kept. All
+    /// memory of the pass is taken here. For want of it both are handed back.
     pub fn begin(
         alloc: Global,
         listing: Listing,
@@ -53,8 +57,10 @@ impl Pass {
             Ok(slots) => Ok(Pass {
                 listing,
                 slots,
-                mark: 0,
+                taken: 0,
+                groomed: 0,
                 filled: true,
+                alloc,
             }),
             Err(_) => Err((listing, current)),
         }
@@ -62,11 +68,12 @@ impl Pass {
 
     /// Hands out the first name that is to be read.
     pub fn take(&mut self) -> Option<Name>
-        ensures step { MatchOption result (TakesNone self.old.todo self.old self.new) (TakesName self.old self.new) }
+        ensures step { MatchOption result (TakesNone self.old.todo self.old self.new)
+            (TakesName self.old self.new) }
         ensures keeps { IsPass self.new }
     {
-        let at = next_todo(self.slots.as_slice(), self.mark);
-        self.mark = at;
+        let at = next_at(self.slots.as_slice(), Place::Todo, self.taken);
+        self.taken = at;
         if at == self.slots.len() {
             return None;
         }
@@ -74,7 +81,22 @@ impl Pass {
         Some(self.slots[at].take_out())
     }
 
-    /// TakesName a name off the pass, and says whether it stood in one of the four lists.
+    /// Hands out the first name that is to be looked for.
+    pub fn groom_take(&mut self) -> Option<Name>
+        ensures step { MatchOption result (TakesNone self.old.groom self.old self.new)
+            (GroomsName self.old self.new) }
+        ensures keeps { IsPass self.new }
+    {
+        let at = next_at(self.slots.as_slice(), Place::Groom, self.groomed);
+        self.groomed = at;
+        if at == self.slots.len() {
+            return None;
+        }
+        self.filled = false;
+        Some(self.slots[at].take_out())
+    }
+
+    /// Takes a name off the pass, and says whether it stood in one of the four lists.
     pub fn done(&mut self, name: &Name) -> bool
         ensures found { result ≡ is_in (names_left self.old) name.now }
         ensures after { self.new ≡ left name.now self.old }
@@ -84,11 +106,61 @@ impl Pass {
         let Some(at) = place_of(self.slots.as_slice(), name) else {
             return false;
         };
-        if is_done(self.slots[at].place) {
+        if same_place(Place::Done, self.slots[at].place) {
             return false;
         }
         self.slots[at].place = Place::Done;
         true
+    }
+
+    /// Notes that a name which is out was missed, and by which cause. It says whether the name was
+    /// out.
+    pub fn miss(&mut self, name: &Name, cause: Cause) -> bool
+        ensures found { result ≡ is_in self.old.out name.now }
+        ensures after { result ≡ true → MissesName self.old self.new name.now cause }
+        ensures same { result ≡ false → self.new ≡ self.old }
+        ensures keeps { IsPass self.new }
+    {
+        let Some(at) = place_of(self.slots.as_slice(), name) else {
+            return false;
+        };
+        if !same_place(Place::Out, self.slots[at].place) {
+            return false;
+        }
+        let slot = &mut self.slots[at];
+        slot.place = Place::Missed;
+        slot.miss.cause = cause;
+        true
+    }
+
+    /// Makes the missing copies of the names that are out or missed.
+    pub fn refill(&mut self) -> Result<(), AllocError>
+        ensures ok { OnOk result (self.new ≡ record self.old { filled = true }) }
+        ensures err { IfErr result (λ _. self.new ≡ self.old) }
+        ensures keeps { IsPass self.new }
+    {
+        match fill(self.slots.as_mut_slice(), self.alloc) {
+            Ok(()) => {
+                self.filled = true;
+                Ok(())
+            }
+            Err(refused) => Err(refused),
+        }
+    }
+
+    /// Lets the names that are out or missed be tried again, and gives their number: the listed
+    /// ones are to be read, the others to be looked for.
+    pub fn retry(&mut self) -> u64
+        requires { self.old.filled ≡ true }
+        ensures count { result ≡ length self.old.out + length self.old.missed }
+        ensures after { TriesAgain self.old self.new }
+        ensures keeps { IsPass self.new }
+    {
+        self.taken = 0;
+        self.groomed = 0;
+        let count = count_away(self.slots.as_slice());
+        try_again(self.slots.as_mut_slice());
+        count
     }
 
     /// Whether no name is left to be looked at.
@@ -98,16 +170,25 @@ impl Pass {
         are_done(self.slots.as_slice())
     }
 
+    /// The first name that was missed, by path; of two with one path the listed one comes first.
+    pub fn first_miss(&self) -> Option<&Miss>
+        ensures first { option_copied result ≡ first_missed self.now.missed }
+        ensures holds { IsPass self.now }
+    {
+        first_missed(self.slots.as_slice())
+    }
+
     /// The numbers of names that are to be read, out, to be looked for and missed.
     pub fn counts(&self) -> [u64; 4]
-        ensures { result ≡ length self.now.todo ∷ length self.now.out ∷ length self.now.groom ∷ length self.now.missed ∷ [] }
+        ensures { result ≡ length self.now.todo ∷ length self.now.out ∷ length self.now.groom ∷
+            length self.now.missed ∷ [] }
     {
         let slots = self.slots.as_slice();
         [
-            count_todo(slots),
-            count_out(slots),
-            count_groom(slots),
-            count_missed(slots),
+            count_at(slots, Place::Todo),
+            count_at(slots, Place::Out),
+            count_at(slots, Place::Groom),
+            count_at(slots, Place::Missed),
         ]
     }
 
@@ -117,5 +198,11 @@ impl Pass {
         ensures holds { IsPass self.now }
     {
         &self.listing
+    }
+
+    /// The slots, in order.
+    #[cfg(test)]
+    pub(crate) fn slots(&self) -> &[Slot] {
+        self.slots.as_slice()
     }
 }

@@ -18,7 +18,7 @@ use Rattle.row_types.proofs.CanonLemmas.{left_true, right_true}
 use Rattle.tree_trait.specs.Dir.{child, makes}
 use Rattle.tree_trait.specs.Entry.{EntryFacts, has_no_slash, is_entry_name}
 use Rattle.tree_trait.specs.Folder.{IsRest, first_piece, piece_under}
-use Rattle.tree_trait.specs.Found.{FoundFacts, name_of}
+use Rattle.tree_trait.specs.Found.{FoundFacts, found_name}
 use Rattle.row_types.specs.Under.{front_under, lies_under}
 use Rattle.tree_trait.specs.Present.{is_folder}
 use Rattle.tree_trait.specs.declared.entry.EntryKind.{EntryKind}
@@ -73,7 +73,7 @@ piece_of_rest folder path (Some x) h = sym (piece_at folder x.now h)
 
 -- a search among names is one among their files
 pub any_names : (path : List ℕ) (files : List FoundFacts)
-    → is_folder (map name_of files) path ≡ list_any (λ file. lies_under path file.path) files
+    → is_folder (map found_name files) path ≡ list_any (λ file. lies_under path file.path) files
 any_names path [] = refl
 any_names path (file ∷ rest) = ap (λ b. lies_under path file.path || b) (any_names path rest)
 

@@ -9,7 +9,7 @@ use Rattle.row_types.specs.Name.{NameFacts}
 use Rattle.row_types.proofs.CanonLemmas.{left_true, right_true}
 use Rattle.tree_trait.proofs.EntryLemmas.{entry_itself, entry_back}
 use Rattle.tree_trait.proofs.FolderLemmas.{piece_makes, made_is_piece}
-use Rattle.tree_trait.specs.Dir.{child, makes, is_there, are_once, IsListing}
+use Rattle.tree_trait.specs.Dir.{child, makes, is_there, are_once, IsFolderListing}
 use Rattle.tree_trait.specs.Entry.{EntryFacts, is_entry_name, same_entry, has_entry}
 use Rattle.tree_trait.specs.Folder.{piece_under, with_piece, with_pieces}
 
@@ -123,7 +123,7 @@ names_valid folder (file ∷ rest) known h =
 
 -- the pieces of all files are the folder's listing
 pub listing : (folder : List ℕ) (files : List NameFacts)
-    → IsListing files folder (with_pieces folder [] files)
+    → IsFolderListing files folder (with_pieces folder [] files)
 listing folder files = record {
   names = names_valid folder files [] refl;
   each = each_of folder files files [] (λ e h. h) refl;

@@ -5,18 +5,18 @@ use Rattle.std.specs.List.{find}
 use Rattle.std.specs.Option.{option_copied}
 use Rattle.std.specs.Str.{bytes_eq}
 use Rattle.std.proofs.lemmas.Slice.Eq.{bytes_eq-Decides}
-use Rattle.tree_trait.specs.Found.{FoundFacts, name_of}
+use Rattle.tree_trait.specs.Found.{FoundFacts, found_name}
 use Rattle.row_types.specs.Name.{stamp_at}
 use Rattle.tree_trait.specs.Present.{IsFileAt}
 
 -- the stamp at a path is that of the first file of the path
 pub stamp_at-names : (files : List FoundFacts) (path : List ℕ)
-    → stamp_at (map name_of files) path ≡ option_map (λ file. file.stamp)
+    → stamp_at (map found_name files) path ≡ option_map (λ file. file.stamp)
     (find (λ file. bytes_eq file.path path) files)
 stamp_at-names [] path = refl
 stamp_at-names (file ∷ rest) path =
     elim (bytes_eq file.path path) as (λ v. option_map (λ name. name.stamp)
-    (cond v (Some (name_of file)) (find (λ name. bytes_eq name.path path) (map name_of rest))) ≡ option_map
+    (cond v (Some (found_name file)) (find (λ name. bytes_eq name.path path) (map found_name rest))) ≡ option_map
     (λ f. f.stamp) (cond v (Some file) (find (λ f. bytes_eq f.path path) rest)))
     [ true ↦ refl | false ↦ stamp_at-names rest path ]
 

@@ -14,17 +14,14 @@ use Rattle.row_types.specs.Faults.{HasCause, Rose, raised}
 use Rattle.row_types.specs.Name.{NameFacts}
 use Rattle.row_types.proofs.CanonLemmas.{left_true, right_true}
 use Rattle.tree_trait.specs.Asks.{Asks, FitsAny, IsTold}
-use Rattle.tree_trait.specs.Dir.{dir_no_memory}
-use Rattle.tree_trait.specs.Found.{FoundFacts, IsFound, Versions, name_of}
-use Rattle.tree_trait.specs.Heard.{Heard, load, stat, read_dir, has_failed, wants_memory}
+use Rattle.tree_trait.specs.Found.{FoundFacts, IsFound, Versions, found_name}
+use Rattle.tree_trait.specs.Heard.{Heard, has_failed, wants_memory}
 use Rattle.tree_trait.specs.HeardCalls.{IsListedAs}
-use Rattle.tree_trait.specs.Load.{no_memory}
 use Rattle.tree_trait.specs.MemTree.{TreeFacts, IsScripted, IsStill, IsStageAnswer, answered, next_stage}
 use Rattle.tree_trait.specs.MemTree.{present_in, shown_by}
-use Rattle.tree_trait.specs.Present.{IsKnown, are_apart, are_distinct}
+use Rattle.tree_trait.specs.Present.{IsKnownName, are_apart, are_distinct}
 use Rattle.tree_trait.specs.Script.{ScriptFacts, is_script, is_stage, is_listed, stage_for, names_at}
 use Rattle.tree_trait.specs.Shown.{IsPresence, StaysStill}
-use Rattle.tree_trait.specs.declared.stat.StatAnswer.TheVariants.{OutOfMemory}
 
 -- a sound script's first stage is there
 pub scripted_first : {version : Versions} (script : ScriptFacts) → IsTrue (is_script script)
@@ -45,15 +42,15 @@ tree_known {version} tree scripted =
     let sound : IsTrue (is_stage files) =
     AllPass-from_list_all is_stage tree.script.stages all_sound tree.stage [] scripted.placed in
     record {
-      known = All-map (IsKnown version) name_of files
+      known = All-map (IsKnownName version) found_name files
           (λ k d h. inl ((slice_index_or files k d).bytes, (known k d h).known));
       canonical =
-          All-map (λ (name : NameFacts). IsTrue (is_canonical name.path)) name_of files
+          All-map (λ (name : NameFacts). IsTrue (is_canonical name.path)) found_name files
           (AllPass-from_list_all (λ (file : FoundFacts). is_canonical file.path) files
           (left_true (list_all (λ (file : FoundFacts). is_canonical file.path) files) _ sound));
       distinct =
           subst (λ (paths : List (List ℕ)). IsTrue (are_distinct paths))
-          (sym (map-map (λ (name : NameFacts). name.path) name_of files))
+          (sym (map-map (λ (name : NameFacts). name.path) found_name files))
           (right_true _ (are_distinct (map (λ file. file.path) files)) sound);
       apart = λ still. still.apart;
     }
@@ -68,24 +65,6 @@ next_placed moves call stage count placed =
       | true ↦ λ t. (omega arith, ltb-true (stage + 1) count (right_true (is_listed moves call) _ t))
       | false ↦ λ t. (omega arith, placed)
     ] refl
-
--- a call for which memory was refused says nothing
-memory_fits : (version : Versions) (asked : Heard) → wants_memory asked ≡ true → FitsAny version asked
-memory_fits version (load path limit no_memory) h = tt
-memory_fits version (load path limit _) h = absurd (false≢true h)
-memory_fits version _ h = tt
-
-memory_told : (present : List NameFacts) (asked : Heard) → wants_memory asked ≡ true → IsTold present asked
-memory_told present (load path limit no_memory) h = tt
-memory_told present (stat path OutOfMemory) h = tt
-memory_told present (read_dir path dir_no_memory) h = tt
-memory_told present _ h = absurd (false≢true h)
-
-memory_is_no_fault : (asked : Heard) → wants_memory asked ≡ true → has_failed asked ≡ false
-memory_is_no_fault (load path limit no_memory) h = refl
-memory_is_no_fault (stat path OutOfMemory) h = refl
-memory_is_no_fault (read_dir path dir_no_memory) h = refl
-memory_is_no_fault _ h = absurd (false≢true h)
 
 -- a call that is answered by the files of the next stage
 asks_answered : {version : Versions} (tree : TreeFacts) {next : TreeFacts} {asked : Heard} {bad : Bool}
@@ -153,20 +132,18 @@ asks_kept facts {version} tree next {asked} {bad} (Some kept) scripted files ans
     (ended ∙ ap (answered tree) listed.same) later
 asks_kept facts tree next None scripted files answer listed ended later = absurd ended
 
--- a call for which memory was refused
+-- a call for which memory was refused, which says nothing
 pub asks_nothing : {version : Versions} {tree next : TreeFacts} {asked : Heard}
-    → IsScripted version tree.script tree.stage → wants_memory asked ≡ true → next ≡ tree
+    → IsScripted version tree.script tree.stage → FitsAny version asked → IsTold (present_in tree) asked
+    → has_failed asked ≡ false → wants_memory asked ≡ true → next ≡ tree
     → Asks true version (shown_by tree) (shown_by next) asked
-asks_nothing {version} {tree} {asked} scripted wants e =
+asks_nothing {version} {tree} {asked} scripted fits tells fine wants e =
     subst (λ (t : TreeFacts). Asks true version (shown_by tree) (shown_by t) asked) (sym e) (record {
-      fits = memory_fits version asked wants;
-      tells = λ _. memory_told (present_in tree) asked wants;
+      fits = fits;
+      tells = λ _. tells;
       listed = rw wants refl;
       hands = record {
-        cause = record {
-          later = omega arith;
-          rose = λ failed. absurd (false≢true (sym (memory_is_no_fault asked wants) ∙ failed));
-        };
+        cause = record { later = omega arith; rose = λ failed. absurd (false≢true (sym fine ∙ failed)) };
         known = λ _ _. tree_known tree scripted;
         keeps = λ _ known. known;
         still = λ still. record { still = still; same = refl };

@@ -19,8 +19,8 @@ IsTold present (load path limit answer) = TellsLoad present path answer
 IsTold present (stat path answer) = TellsStat present path answer
 IsTold present (read_dir path answer) = TellsDir present path answer
 
--- the tree was asked once, and answered: by the names that are there as the call ends, where it is told; the question is
--- listed; and the tree is handed on
+-- the tree was asked once, and answered: by the names that are there as the call ends, where it is told; the
+-- question is listed; and the tree is handed on
 pub record Asks (told : Bool) (version : Versions) (before after : ShownTree) (asked : Heard) : Type 0 where
   pub fits : FitsAny version asked
   pub tells : IsTrue told → IsTold after.present asked

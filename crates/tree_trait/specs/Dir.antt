@@ -29,7 +29,8 @@ dir_facts OutOfMemory = dir_no_memory
 abbrev pub child : List ℕ → List ℕ → List ℕ
 child folder name = front_under folder ++ name
 
--- whether a file makes something of this kind stand at the path: a file by standing there, a folder by lying under it
+-- whether a file makes something of this kind stand at the path: a file by standing there, a folder by lying
+-- under it
 abbrev pub makes : EntryKind → List ℕ → List ℕ → Bool
 makes kind.Folder path file = lies_under path file
 makes kind.File path file = bytes_eq file path
@@ -45,7 +46,7 @@ are_once [] = true
 are_once (entry ∷ rest) = not (has_entry rest entry) && are_once rest
 
 -- the entries are those that stand in the folder, by their names, each once
-pub record IsListing (present : List NameFacts) (folder : List ℕ) (entries : List EntryFacts) : Type 0 where
+pub record IsFolderListing (present : List NameFacts) (folder : List ℕ) (entries : List EntryFacts) : Type 0 where
   pub names : list_all (λ entry. is_entry_name entry.name) entries ≡ true
   pub each : list_all (is_there present folder) entries ≡ true
   pub all : (entry : EntryFacts) → is_entry_name entry.name ≡ true → is_there present folder entry ≡ true
@@ -56,7 +57,7 @@ pub record IsListing (present : List NameFacts) (folder : List ℕ) (entries : L
 pub record IsListed (present : List NameFacts) (folder : List ℕ) (entries : List EntryFacts)
     (skipped : ℕ) : Type 0 where
   pub there : is_folder present folder ≡ true
-  pub listing : IsListing present folder entries
+  pub listing : IsFolderListing present folder entries
   pub whole : skipped ≡ 0
 
 -- what is answered of this folder, by the files that are there

@@ -23,5 +23,5 @@ pub record IsFound (version : Versions) (found : FoundFacts) : Type 0 where
   pub sized : found.stamp.size ≡ length found.bytes
 
 -- the name of a file
-abbrev pub name_of : FoundFacts → NameFacts
-name_of found = record { path = found.path; stamp = found.stamp }
+abbrev pub found_name : FoundFacts → NameFacts
+found_name found = record { path = found.path; stamp = found.stamp }

@@ -19,8 +19,8 @@ pub record TreeFacts : Type 0 where
   pub faults : ℕ
 
 -- a tree that was asked nothing yet
-abbrev pub fresh : ScriptFacts → TreeFacts
-fresh script = record { script = script; stage = 0; calls = 0; heard = []; faults = 0 }
+abbrev pub fresh_tree : ScriptFacts → TreeFacts
+fresh_tree script = record { script = script; stage = 0; calls = 0; heard = []; faults = 0 }
 
 -- the script is sound, the stage is one of its, and each file is a version of the world
 pub record IsScripted (version : Versions) (script : ScriptFacts) (stage : ℕ) : Type 0 where
@@ -66,21 +66,21 @@ abbrev pub tree_after : TreeFacts → Heard → TreeFacts
 tree_after tree asked = if wants_memory asked then tree else answered tree asked
 
 -- whether the next call's number is among those that fail
-abbrev pub is_bad : TreeFacts → Bool
-is_bad tree = is_listed tree.script.bad_calls tree.calls
+abbrev pub is_bad_call : TreeFacts → Bool
+is_bad_call tree = is_listed tree.script.bad_calls tree.calls
 
 -- the call fails exactly where its number is listed, want of memory apart
-abbrev pub FailsWhere : Bool → Heard → Type 0
-FailsWhere bad asked = wants_memory asked ≡ false → has_failed asked ≡ bad
+abbrev pub FailsAsListed : Bool → Heard → Type 0
+FailsAsListed bad asked = wants_memory asked ≡ false → has_failed asked ≡ bad
 
 -- the call is answered by the files of a stage
 pub record IsStageAnswer (version : Versions) (bad : Bool) (present : List NameFacts)
     (asked : Heard) : Type 0 where
   pub fits : FitsAny version asked
   pub tells : IsTold present asked
-  pub fails : FailsWhere bad asked
+  pub fails : FailsAsListed bad asked
 
 -- the call is answered by the script
 pub record RunsScript (before after : TreeFacts) (asked : Heard) : Type 0 where
-  pub fails : FailsWhere (is_bad before) asked
+  pub fails : FailsAsListed (is_bad_call before) asked
   pub ends : after ≡ tree_after before asked

@@ -7,7 +7,7 @@ use Rattle.std.specs.Str.{bytes_eq}
 use Rattle.row_types.specs.Name.{NameFacts, stamp_at}
 use Rattle.row_types.specs.Under.{lies_under}
 use Rattle.row_types.specs.declared.limits.TheConstants.{FILE_LIMIT}
-use Rattle.tree_trait.specs.Found.{FoundFacts, Versions, name_of}
+use Rattle.tree_trait.specs.Found.{FoundFacts, Versions, found_name}
 
 -- the file is the one at this path
 pub record IsAt (names : List NameFacts) (path : List ℕ) (file : NameFacts) : Type 0 where
@@ -17,8 +17,8 @@ pub record IsAt (names : List NameFacts) (path : List ℕ) (file : NameFacts) : 
 -- the file that is found at the path, if there is one
 abbrev pub IsFileAt : List FoundFacts → List ℕ → Option (Bor FoundFacts) → Type 0
 IsFileAt files path result =
-    let names = map name_of files in
-    MatchOption result (stamp_at names path ≡ None) (λ file. IsAt names path (name_of file.now))
+    let names = map found_name files in
+    MatchOption result (stamp_at names path ≡ None) (λ file. IsAt names path (found_name file.now))
 
 -- whether no path stands twice
 abbrev pub are_distinct : List (List ℕ) → Bool
@@ -35,6 +35,6 @@ abbrev pub are_apart : List (List ℕ) → Bool
 are_apart paths = list_all (λ folder. not (list_any (lies_under folder) paths)) paths
 
 -- some content is a version of the name, or the file is larger than a file that is read
-abbrev pub IsKnown : Versions → NameFacts → Type 0
-IsKnown version name =
+abbrev pub IsKnownName : Versions → NameFacts → Type 0
+IsKnownName version name =
     ((bytes : List ℕ) × version name.path name.stamp bytes) ⊎ (FILE_LIMIT < name.stamp.size)

@@ -4,7 +4,7 @@ use Rattle.std.specs.Prelude.{slice_index_or}
 use Rattle.std.specs.List.{list_any, list_all}
 use Rattle.row_types.specs.Canon.{is_canonical}
 use Rattle.row_types.specs.Name.{NameFacts}
-use Rattle.tree_trait.specs.Found.{FoundFacts, name_of}
+use Rattle.tree_trait.specs.Found.{FoundFacts, found_name}
 use Rattle.tree_trait.specs.Present.{are_distinct}
 
 -- the files at each stage, and the numbers of the calls before which the next stage begins, and that fail
@@ -31,4 +31,4 @@ stage_for moves call stage count = if is_listed moves call && nat_lt (stage + 1)
 
 -- the names of the files at a stage
 abbrev pub names_at : ScriptFacts → ℕ → List NameFacts
-names_at script stage = map name_of (slice_index_or script.stages stage [])
+names_at script stage = map found_name (slice_index_or script.stages stage [])

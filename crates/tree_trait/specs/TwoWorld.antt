@@ -1,5 +1,5 @@
--- A told world of one path with two versions, which their sizes tell apart (this project's example). The lemmas stand
--- here since the laws of the world cite them.
+-- A told world of one path with two versions, which their sizes tell apart (this project's example). The
+-- lemmas stand here since the laws of the world cite them.
 use Rattle.std.specs.Prelude.{◌≡◌, ℕ, ◌==◌, pos, ◌⊎◌, List, codes, true, Result, Err, refl}
 use Rattle.std.proofs.Common.{sym, ◌∙◌, ap, subst, inl, inr}
 use Rattle.std.proofs.lemmas.Bool.{false≢true}

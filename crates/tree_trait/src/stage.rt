@@ -1,11 +1,11 @@
 //! What is answered of the files of a stage.
 
-ghost use Rattle.std.specs.Prelude.{◌≡◌, ◌<◌, ◌≤◌, [], map, length, slice_index_or};
+ghost use Rattle.std.specs.Prelude.{◌≡◌, ◌<◌, [], map, length, slice_index_or};
 ghost use Rattle.std.specs.List.{find};
 ghost use Rattle.std.specs.Option.{option_copied};
 ghost use Rattle.std.specs.Str.{bytes_eq};
 ghost use Rattle.tree_trait.specs.Dir.{dir_facts};
-ghost use Rattle.tree_trait.specs.Found.{name_of};
+ghost use Rattle.tree_trait.specs.Found.{found_name};
 ghost use Rattle.tree_trait.specs.Heard.{load, stat, read_dir};
 ghost use Rattle.tree_trait.specs.Load.{load_facts};
 ghost use Rattle.tree_trait.specs.MemTree.{IsStageAnswer};
@@ -32,7 +32,6 @@ pub fn stage_for(moves: &[u64], call: u64, stage: usize, count: usize) -> usize
     requires { stage < count }
     ensures value { result ≡ stage_for moves.now call stage count }
     ensures placed { result < count }
-    ensures later { stage ≤ result }
 {
     if is_listed(moves, call) && stage + 1 < count {
         stage + 1
@@ -57,7 +56,7 @@ pub fn load_in<W: Truth>(
     path: &str,
     limit: u64,
 ) -> LoadAnswer<W>
-    ensures { IsStageAnswer W.version bad (map name_of files.now)
+    ensures { IsStageAnswer W.version bad (map found_name files.now)
         (load path.now limit (load_facts result)) }
 {
     if bad {
@@ -75,7 +74,7 @@ pub fn load_in<W: Truth>(
 
 /// What a look at a path answers, among the files of a stage.
 pub fn stat_in<W: Truth>(bad: bool, files: &[Found<W>], path: &str) -> StatAnswer
-    ensures { IsStageAnswer W.version bad (map name_of files.now) (stat path.now result) }
+    ensures { IsStageAnswer W.version bad (map found_name files.now) (stat path.now result) }
 {
     if bad {
         return StatAnswer::Failed;
@@ -89,7 +88,7 @@ pub fn stat_in<W: Truth>(bad: bool, files: &[Found<W>], path: &str) -> StatAnswe
 
 /// What the reading of a folder answers, among the files of a stage.
 pub fn dir_in<W: Truth>(alloc: Global, bad: bool, files: &[Found<W>], path: &str) -> DirAnswer
-    ensures { IsStageAnswer W.version bad (map name_of files.now)
+    ensures { IsStageAnswer W.version bad (map found_name files.now)
         (read_dir path.now (dir_facts result)) }
 {
     if bad {

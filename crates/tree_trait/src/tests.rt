@@ -44,20 +44,22 @@ fn load_word(answer: &LoadAnswer<TwoWorld>) -> &'static str {
     }
 }
 
+/// The limits of the calls of a load, and what they answer.
+static LOADS: [(u64, &str); 5] = [
+    (2, "yy"),
+    (1, "too large"),
+    (2, "failed"),
+    (2, "gone"),
+    (2, "gone"),
+];
+
 #[test]
 fn a_script_is_answered_call_by_call(rt: HostRuntime) -> Result<(), Fail> {
     let alloc = rt.alloc();
     let mut tree = changing_tree(alloc)?;
-    let calls = [
-        (2, "yy"),
-        (1, "too large"),
-        (2, "failed"),
-        (2, "gone"),
-        (2, "gone"),
-    ];
-    for (limit, word) in calls {
-        let answer = tree.load(alloc, "/w/a", limit);
-        assert_eq!(rt; load_word(&answer), word);
+    for (limit, word) in &LOADS {
+        let answer = tree.load(alloc, "/w/a", *limit);
+        assert_eq!(rt; load_word(&answer), *word);
     }
     Ok(())
 }
@@ -123,23 +125,29 @@ fn dir_word(answer: &DirAnswer) -> &'static str {
     }
 }
 
+/// The paths of the looks, and what they answer.
+static LOOKS: [(&str, &str); 3] = [
+    ("/srv/sub", "folder"),
+    ("/srv/a", "file"),
+    ("/srv/s", "gone"),
+];
+
+/// The folders that are read, and what is answered.
+static READINGS: [(&str, &str); 3] = [
+    ("/srv", "a and sub"),
+    ("/srv", "failed"),
+    ("/srv/a", "gone"),
+];
+
 #[test]
 fn a_folder_is_looked_at_and_listed(rt: HostRuntime) -> Result<(), Fail> {
     let alloc = rt.alloc();
     let mut tree = folder_tree(alloc)?;
-    for (path, word) in [
-        ("/srv/sub", "folder"),
-        ("/srv/a", "file"),
-        ("/srv/s", "gone"),
-    ] {
-        assert_eq!(rt; stat_word(tree.stat(alloc, path)), word, "{path}");
+    for (path, word) in &LOOKS {
+        assert_eq!(rt; stat_word(tree.stat(alloc, path)), *word, "{path}");
     }
-    for (path, word) in [
-        ("/srv", "a and sub"),
-        ("/srv", "failed"),
-        ("/srv/a", "gone"),
-    ] {
-        assert_eq!(rt; dir_word(&tree.read_dir(alloc, path)), word, "{path}");
+    for (path, word) in &READINGS {
+        assert_eq!(rt; dir_word(&tree.read_dir(alloc, path)), *word, "{path}");
     }
     Ok(())
 }

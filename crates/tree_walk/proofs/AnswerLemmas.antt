@@ -18,46 +18,12 @@ use Rattle.tree_trait.specs.declared.stat.StatAnswer.{StatAnswer}
 use Rattle.tree_walk.specs.Answers.{is_look_answer, is_dir_answer, look_at, reading_of, first_some}
 use Rattle.tree_walk.specs.Answers.{first_look, first_reading, entries_of, entries_in, reads, times_read}
 use Rattle.tree_walk.specs.Answers.{is_answered}
+use Rattle.tree_walk.proofs.FirstLemmas.{or_none, some_or, or_some, first_some-append}
 use Rattle.tree_walk.proofs.SetLemmas.{same, same-Decides}
 
 -- one, where a test passes
 abbrev pub one_if : Bool → ℕ
 one_if b = cond b 1 0
-
--- the first of several
-or_assoc : {Y : Type 0} (a b c : Option Y) → option_or a (option_or b c) ≡ option_or (option_or a b) c
-or_assoc None b c = refl
-or_assoc (Some y) b c = refl
-
-or_none : {Y : Type 0} (o : Option Y) → option_or o None ≡ o
-or_none None = refl
-or_none (Some y) = refl
-
-some_or : {Y : Type 0} (o r : Option Y) → IsSome o → IsSome (option_or o r)
-some_or None r h = absurd (false≢true h)
-some_or (Some y) r h = refl
-
-or_some : {Y : Type 0} (o r : Option Y) → IsSome r → IsSome (option_or o r)
-or_some None r h = h
-or_some (Some y) r h = refl
-
-first_some-append : {X Y : Type 0} (f : X → Option Y) (xs ys : List X)
-    → first_some f (xs ++ ys) ≡ option_or (first_some f xs) (first_some f ys)
-first_some-append f [] ys = refl
-first_some-append f (x ∷ xs) ys =
-    ap (option_or (f x)) (first_some-append f xs ys) ∙ or_assoc (f x) (first_some f xs) (first_some f ys)
-
--- what is given first is given by some element
-pub place_of_first : {X Y : Type 0} (f : X → Option Y) (xs : List X) {y : Y} → first_some f xs ≡ Some y
-    → (x : X) × Contains xs x × (f x ≡ Some y)
-place_of_first f [] {y} h = absurd (none-some y h)
-place_of_first {X} f (x ∷ xs) {y} h =
-    elim (f x) as (λ o. f x ≡ o → option_or o (first_some f xs) ≡ Some y
-    → (z : X) × Contains (x ∷ xs) z × (f z ≡ Some y)) [
-      | None ↦ λ e found. let deeper = place_of_first f xs found in
-          (deeper.0, Contains-append_right (x ∷ []) xs deeper.0 deeper.1, deeper.2)
-      | Some w ↦ λ e found. (x, (0, omega arith, refl), e ∙ found)
-    ] refl h
 
 -- later answers change no first answer
 pub look_stays : (answers more : List Heard) (path : List ℕ) {answer : StatAnswer}
@@ -231,25 +197,25 @@ was_read (x ∷ answers) p h some =
           (was_read answers p (and_parts (is_answered x) _ h).1 (omega (arith, some, all, none)))
     ] refl
 
--- what a look that was answered says, it was answered at that path
+-- an answer that is given at a path was asked at that path
+asked_there : {Y : Type 0} (asked path : List ℕ) (good : Y → Bool) (other answer : Y)
+    → (if bytes_eq asked path && good other then Some other else None) ≡ Some answer
+    → (asked ≡ path) × (other ≡ answer) × (good answer ≡ true)
+asked_there asked path good other answer e =
+    let parts = cond_some (bytes_eq asked path && good other) other answer e in
+    let both = and_parts (bytes_eq asked path) (good other) parts.0 in
+    ((bytes_eq-Decides asked path).0 both.0, parts.1, ap good (sym parts.1) ∙ both.1)
+
 pub look_says : (p : List ℕ) (h : Heard) {answer : StatAnswer} → look_at p h ≡ Some answer
     → (h ≡ stat p answer) × (is_look_answer answer ≡ true)
 look_says p (stat asked other) {answer} e =
-    let parts = cond_some (bytes_eq asked p && is_look_answer other) other answer e in
-    let both = and_parts (bytes_eq asked p) (is_look_answer other) parts.0 in (
-      ap (λ (q : List ℕ). stat q other) ((bytes_eq-Decides asked p).0 both.0)
-          ∙ ap (λ (a : StatAnswer). stat p a) parts.1,
-      ap is_look_answer (sym parts.1) ∙ both.1,
-    )
+    let there = asked_there asked p is_look_answer other answer e in
+    (ap (λ q. stat q other) there.0 ∙ ap (λ a. stat p a) there.1, there.2)
 look_says p _ {answer} e = absurd (none-some answer e)
 
 pub reading_says : (p : List ℕ) (h : Heard) {answer : DirFacts} → reading_of p h ≡ Some answer
     → (h ≡ read_dir p answer) × (is_dir_answer answer ≡ true)
 reading_says p (read_dir asked other) {answer} e =
-    let parts = cond_some (bytes_eq asked p && is_dir_answer other) other answer e in
-    let both = and_parts (bytes_eq asked p) (is_dir_answer other) parts.0 in (
-      ap (λ (q : List ℕ). read_dir q other) ((bytes_eq-Decides asked p).0 both.0)
-          ∙ ap (λ (d : DirFacts). read_dir p d) parts.1,
-      ap is_dir_answer (sym parts.1) ∙ both.1,
-    )
+    let there = asked_there asked p is_dir_answer other answer e in
+    (ap (λ q. read_dir q other) there.0 ∙ ap (λ d. read_dir p d) there.1, there.2)
 reading_says p _ {answer} e = absurd (none-some answer e)

@@ -18,9 +18,9 @@ use Rattle.tree_trait.specs.declared.entry.EntryKind.{EntryKind}
 use Rattle.tree_trait.specs.declared.stat.StatAnswer.{StatAnswer}
 use Rattle.tree_trait.specs.declared.stat.StatAnswer.TheVariants.{File}
 use Rattle.tree_walk.specs.Answers.{first_look, entries_in, times_read, entries_read, all_passed_over}
-use Rattle.tree_walk.specs.Ends.{IsCause, IsWithinLimits, IsWhole, IsTooMany, StopsAtLast}
-use Rattle.tree_walk.specs.Kept.{file_of, IsMet, IsSettled, IsSearch}
-use Rattle.tree_walk.specs.Search.{SearchFacts, Adds, has, found_names}
+use Rattle.tree_walk.specs.Ends.{IsCause, IsWithinLimits, IsWholeWalk, IsTooMany, StopsAtLast}
+use Rattle.tree_walk.specs.Kept.{file_of, IsMet, IsSeenTo, IsSearch}
+use Rattle.tree_walk.specs.Search.{SearchFacts, NotesAnswer, has, search_names}
 use Rattle.tree_walk.specs.Underway.{IsUnderway}
 use Rattle.tree_walk.specs.Walked.{IsReached, root, entry, IsEntry, IsFolder, IsWalked, IsWalkListing}
 use Rattle.tree_walk.specs.declared.fault.WalkFault.{WalkFault}
@@ -40,7 +40,7 @@ file_back _ {stamp} h = absurd (none-some stamp h)
 
 walked_from_file : {answers : List Heard} {roots : List (List ℕ)} {search : SearchFacts} {folder : List ℕ}
     {rest : List EntryFacts} → IsSearch answers roots search folder rest → (name : NameFacts)
-    → Contains (found_names search.files) name → IsWalked answers roots name
+    → Contains (search_names search.files) name → IsWalked answers roots name
 walked_from_file {answers} {roots} {search} s name c =
     let file : first_look answers name.path ≡ Some (File name.stamp) =
     file_back (first_look answers name.path)
@@ -51,7 +51,7 @@ walked_from_file {answers} {roots} {search} s name c =
 -- the files are the walk listing
 pub listing_is : {answers : List Heard} {roots : List (List ℕ)} {search : SearchFacts} {folder : List ℕ}
     {rest : List EntryFacts} → IsSearch answers roots search folder rest
-    → IsWalkListing answers roots (found_names search.files)
+    → IsWalkListing answers roots (search_names search.files)
 listing_is {search} s = record {
   by_path = by_path_from_sorted search.files s.looks.ordered;
   all = λ name. (
@@ -68,7 +68,7 @@ pub room_is : {answers : List Heard} {roots : List (List ℕ)} {search : SearchF
 room_is {answers} {search} s few =
     let was : search.left + entries_read answers ≡ ENTRY_LIMIT = s.paid.left in
     record {
-      names = found_names search.files;
+      names = search_names search.files;
       listing = listing_is s;
       few = subst (λ (n : ℕ). n ≤ LISTING_LIMIT) (sym (length_names search.files)) few;
       entries = omega (arith, was);
@@ -82,14 +82,14 @@ pub too_many_is : {answers : List Heard} {roots : List (List ℕ)} {search : Sea
     → IsTooMany answers roots
 too_many_is {search} last s many = record {
   last = last;
-  names = found_names search.files;
+  names = search_names search.files;
   listing = listing_is s;
   many = subst (λ (n : ℕ). LISTING_LIMIT < n) (sym (length_names search.files)) many;
 }
 
 -- how a call ends that adds to the search
 pub adds_ends : {V : Type 0} {answers : List Heard} {roots : List (List ℕ)} (result : Result V WalkFault)
-    (next now : SearchFacts) (Good : SearchFacts → Type 0) → Adds next now result
+    (next now : SearchFacts) (Good : SearchFacts → Type 0) → NotesAnswer next now result
     → (length next.files ≤ LISTING_LIMIT → Good next)
     → (LISTING_LIMIT < length next.files → IsTooMany answers roots)
     → MatchResult result (λ _. Good now) (IsCause answers roots)
@@ -102,7 +102,7 @@ adds_ends (Err _) next now Good added few many = absurd added
 settled_of : {answers : List Heard} {roots : List (List ℕ)} {search : SearchFacts}
     → IsSearch answers roots search [] [] → (at : List ℕ) (e : EntryFacts)
     → has_entry (entries_in answers at) e ≡ true
-    → IsSettled answers search.folders search.long (child at e.name) e.kind
+    → IsSeenTo answers search.folders search.long (child at e.name) e.kind
 settled_of s at e h = elim
     (s.closed.each at e h) [ inl done ↦ done | inr pending ↦ absurd (false≢true pending.among) ]
 
@@ -110,8 +110,8 @@ met_of : {answers : List Heard} {roots : List (List ℕ)} {search : SearchFacts}
     {path : List ℕ} → IsSearch answers roots search [] [] → IsEntry answers roots k path
     → length path ≤ PATH_LIMIT → IsMet answers search.folders path k
 met_of {answers} {search} {k} {path} s e short =
-    let settled : IsSettled answers search.folders search.long path k =
-    subst (λ (p : List ℕ). IsSettled answers search.folders search.long p k) (sym e.named.joined)
+    let settled : IsSeenTo answers search.folders search.long path k =
+    subst (λ (p : List ℕ). IsSeenTo answers search.folders search.long p k) (sym e.named.joined)
     (settled_of s e.folder (record { name = e.named.name; kind = k }) e.named.listed) in
     MatchBool-at_false (has search.long path ≡ true) (IsMet answers search.folders path k)
     (le-ltb PATH_LIMIT (length path) short) settled
@@ -123,13 +123,14 @@ long_of {answers} {roots} {search} u {path} (root p c) lt =
     elim (first_look answers path) as (λ o. first_look answers path ≡ o → IsSome o
     → has search.long path ≡ true) [
       | None ↦ λ e h. absurd (false≢true h)
-      | Some a ↦ λ e h. absurd
-          (let short : length path ≤ PATH_LIMIT = (look_was_due answers roots u.search_is.asked.due path e).1.short in
-          omega arith)
+      | Some a ↦ λ e h.
+          let due = look_was_due answers roots u.search_is.asked.due path e in
+          let short : length path ≤ PATH_LIMIT = due.1.short in
+          absurd (omega arith)
     ] refl (u.looked.looked path c)
 long_of {answers} {search} u {path} (entry folder p k r n) lt =
-    let settled : IsSettled answers search.folders search.long path k =
-    subst (λ (q : List ℕ). IsSettled answers search.folders search.long q k) (sym n.joined)
+    let settled : IsSeenTo answers search.folders search.long path k =
+    subst (λ (q : List ℕ). IsSeenTo answers search.folders search.long q k) (sym n.joined)
     (settled_of u.search_is folder (record { name = n.name; kind = k }) n.listed) in
     MatchBool-at_true (has search.long path ≡ true) (IsMet answers search.folders path k)
     (lt-ltb PATH_LIMIT (length path) lt) settled
@@ -166,8 +167,8 @@ never_of {answers} {search} u path lt =
 
 -- with nothing left to read the walk is whole
 pub whole_is : {answers : List Heard} {roots : List (List ℕ)} {search : SearchFacts} (walk : Walk)
-    → IsUnderway answers roots search [] [] → search.todo ≡ [] → walk.listing ≡ found_names search.files
-    → walk.skipped ≡ summed search.skipped (length search.long) → IsWhole answers roots walk
+    → IsUnderway answers roots search [] [] → search.todo ≡ [] → walk.listing ≡ search_names search.files
+    → walk.skipped ≡ summed search.skipped (length search.long) → IsWholeWalk answers roots walk
 whole_is {answers} {roots} {search} walk u empty found over =
     let s = u.search_is in
     let had : search.skipped ≡ min (all_passed_over answers) (2 ^ 64 - 1) = s.paid.skipped in

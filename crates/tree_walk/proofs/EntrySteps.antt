@@ -12,7 +12,7 @@ use Rattle.tree_trait.specs.Entry.{EntryFacts, has_entry, same_entry}
 use Rattle.tree_trait.specs.Heard.{Heard}
 use Rattle.tree_trait.proofs.EntryLemmas.{entries_same}
 use Rattle.tree_walk.specs.Answers.{times_read}
-use Rattle.tree_walk.specs.Kept.{IsSettled, AreFolders, AreSeenTo, IsSearch}
+use Rattle.tree_walk.specs.Kept.{IsSeenTo, AreFolders, AreSeenTo, IsSearch}
 use Rattle.tree_walk.specs.Search.{SearchFacts, has, with_path, with_folder, with_long}
 use Rattle.tree_walk.specs.Walked.{IsReached, IsFolder}
 use Rattle.tree_walk.proofs.AnswerLemmas.{one_if}
@@ -148,7 +148,7 @@ long_known search path = has_new search.long path
 -- one of the entries was seen to
 pub entry_step : {answers : List Heard} {roots : List (List ℕ)} {search : SearchFacts} {folder : List ℕ}
     {first : EntryFacts} {rest : List EntryFacts} → IsSearch answers roots search folder (first ∷ rest)
-    → IsSettled answers search.folders search.long (child folder first.name) first.kind
+    → IsSeenTo answers search.folders search.long (child folder first.name) first.kind
     → IsSearch answers roots search folder rest
 entry_step {answers} {search} {folder} {first} {rest} s settled =
     with_pending s (record {
@@ -157,9 +157,9 @@ entry_step {answers} {search} {folder} {first} {rest} s settled =
         | inr pending ↦ elim (or_cases (same_entry entry first) (has_entry rest entry) pending.among) [
           | inl one ↦
               let is_first : first ≡ entry = sym (entries_same entry first one) in
-              inl (subst (λ (z : List ℕ). IsSettled answers search.folders search.long
+              inl (subst (λ (z : List ℕ). IsSeenTo answers search.folders search.long
               (child z entry.name) entry.kind) (sym pending.here)
-              (subst (λ (e : EntryFacts). IsSettled answers search.folders search.long
+              (subst (λ (e : EntryFacts). IsSeenTo answers search.folders search.long
               (child folder e.name) e.kind) is_first settled))
           | inr later ↦ inr (record { here = pending.here; among = later })
         ]

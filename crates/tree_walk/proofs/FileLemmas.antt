@@ -10,12 +10,12 @@ use Rattle.tree_trait.specs.Heard.{Heard, stat, read_dir}
 use Rattle.tree_trait.specs.declared.entry.EntryKind.{EntryKind}
 use Rattle.tree_trait.specs.declared.entry.EntryKind.TheVariants as kind
 use Rattle.tree_trait.specs.declared.stat.StatAnswer.{StatAnswer}
-use Rattle.tree_walk.specs.Answers.{first_look, entries_of, entry_count, entries_read}
+use Rattle.tree_walk.specs.Answers.{first_look, entries_of, listed_count, entries_read}
 use Rattle.tree_walk.specs.Ends.{IsTooManyEntries, IsCause}
-use Rattle.tree_walk.specs.Calls.{IsLook, IsRead}
+use Rattle.tree_walk.specs.Calls.{HearsLook, HearsReading}
 use Rattle.tree_walk.specs.Kept.{IsMet}
-use Rattle.tree_walk.specs.Search.{SearchFacts, Adds, noted, with_last, paid, is_looked}
-use Rattle.tree_walk.specs.Underway.{IsEntered, IsNextAt, IsUnderway}
+use Rattle.tree_walk.specs.Search.{SearchFacts, NotesAnswer, noted, with_last, paid, is_looked}
+use Rattle.tree_walk.specs.Underway.{IsEntered, IsNextPath, IsUnderway}
 use Rattle.tree_walk.specs.declared.fault.WalkFault.{WalkFault}
 use Rattle.tree_walk.specs.Walked.{IsEntry, IsCandidate}
 use Rattle.tree_walk.specs.declared.walked.TheConstants.{ENTRY_LIMIT}
@@ -31,7 +31,7 @@ use Rattle.tree_walk.proofs.ReadLemmas.{read_step, read_entries, next_folder}
 -- a file that was looked at before
 pub known_file : {answers : List Heard} {roots : List (List ℕ)} {search : SearchFacts} {folder path : List ℕ}
     {entry : EntryFacts} {rest : List EntryFacts} → entry.kind ≡ kind.File
-    → IsNextAt answers roots search folder entry rest path
+    → IsNextPath answers roots search folder entry rest path
     → is_looked search path ≡ true → IsUnderway answers roots search folder rest
 known_file {answers} {search} {path} is n looked =
     let u = n.next.underway in
@@ -43,7 +43,7 @@ known_file {answers} {search} {path} is n looked =
 -- a file of a folder may be looked at
 pub file_candidate : {answers : List Heard} {roots : List (List ℕ)} {search : SearchFacts}
     {folder path : List ℕ} {entry : EntryFacts} {rest : List EntryFacts} → entry.kind ≡ kind.File
-    → IsNextAt answers roots search folder entry rest path → IsCandidate answers roots path
+    → IsNextPath answers roots search folder entry rest path → IsCandidate answers roots path
 file_candidate {answers} {roots} {path} is n =
     inr (subst (λ (k : EntryKind). IsEntry answers roots k path) is (entry_of n))
 
@@ -51,8 +51,8 @@ file_candidate {answers} {roots} {path} is n =
 pub file_ends : {V : Type 0} {answers more : List Heard} {roots : List (List ℕ)} {search : SearchFacts}
     {folder path : List ℕ} {answer : StatAnswer} {entry : EntryFacts} {rest : List EntryFacts}
     (result : Result V WalkFault) (now : SearchFacts)
-    → entry.kind ≡ kind.File → IsNextAt answers roots search folder entry rest path
-    → is_looked search path ≡ false → IsLook path more answer → Adds (noted search path answer) now result
+    → entry.kind ≡ kind.File → IsNextPath answers roots search folder entry rest path
+    → is_looked search path ≡ false → HearsLook path more answer → NotesAnswer (noted search path answer) now result
     → MatchResult result (λ _. IsUnderway (answers ++ more) roots now folder rest)
     (IsCause (answers ++ more) roots)
 file_ends {answers} {roots} {search} {folder} {path} {answer} {entry} {rest} result now is n new look added =
@@ -86,7 +86,7 @@ file_ends {answers} {roots} {search} {folder} {path} {answer} {entry} {rest} res
 -- a folder was read
 pub read_into : {answers more : List Heard} {roots : List (List ℕ)} (search : SearchFacts) {folder : List ℕ}
     {entries : List EntryFacts} {skipped : ℕ} → IsUnderway answers roots (with_last search folder) [] []
-    → IsRead folder more entries skipped → length entries ≤ search.left
+    → HearsReading folder more entries skipped → length entries ≤ search.left
     → IsEntered (answers ++ more) roots (paid search (length entries) skipped) folder entries
 read_into {answers} {roots} search {folder} {entries} {skipped} u r room =
     let d : DirFacts = r.answer in
@@ -107,13 +107,13 @@ read_into {answers} {roots} search {folder} {entries} {skipped} u r room =
 -- a folder has more entries than may be read
 pub read_over : {answers more : List Heard} {roots : List (List ℕ)} (search : SearchFacts) {folder : List ℕ}
     {entries : List EntryFacts} {skipped : ℕ} → IsUnderway answers roots (with_last search folder) [] []
-    → IsRead folder more entries skipped → search.left < length entries
+    → HearsReading folder more entries skipped → search.left < length entries
     → IsTooManyEntries (answers ++ more) roots
 read_over {answers} {roots} search {folder} {entries} u r over =
     let d : DirFacts = r.answer in
     let count : length entries ≡ length (entries_of (Some d)) = ap length r.entries_are in
     let read : entries_read (answers ++ read_dir folder d ∷ []) ≡ entries_read answers + length
-    (entries_of (Some d)) = sum_by_push entry_count answers (read_dir folder d) in
+    (entries_of (Some d)) = sum_by_push listed_count answers (read_dir folder d) in
     let was : search.left + entries_read answers ≡ ENTRY_LIMIT = u.search_is.paid.left in
     subst (λ (m : List Heard). IsTooManyEntries (answers ++ m) roots) (sym r.heard)
     (record {

@@ -15,8 +15,8 @@ use Rattle.tree_trait.specs.declared.entry.EntryKind.{EntryKind}
 use Rattle.tree_trait.specs.declared.entry.EntryKind.TheVariants as kind
 use Rattle.tree_trait.specs.declared.stat.StatAnswer.{StatAnswer}
 use Rattle.tree_trait.specs.declared.stat.StatAnswer.TheVariants.{Gone}
-use Rattle.tree_walk.specs.Answers.{is_answered, first_look, entries_in, entry_count, passed_over, times_read}
-use Rattle.tree_walk.specs.Kept.{IsMet, IsSettled, AreSeenTo, AreAnswered, AreFolders, AreLong, IsPaid}
+use Rattle.tree_walk.specs.Answers.{is_answered, first_look, entries_in, listed_count, passed_over, times_read}
+use Rattle.tree_walk.specs.Kept.{IsMet, IsSeenTo, AreSeenTo, AreAnswered, AreFolders, AreLong, IsPaid}
 use Rattle.tree_walk.specs.Search.{has}
 use Rattle.tree_walk.specs.Walked.{IsDue}
 use Rattle.tree_walk.proofs.AnswerLemmas.{one_if, times_past_look}
@@ -37,7 +37,7 @@ met_more path kind.Other g h = h
 
 pub settled_more : {answers later : List Heard} {known next long longer : List (List ℕ)} (path : List ℕ)
     (k : EntryKind) → Grows answers later known next long longer
-    → IsSettled answers known long path k → IsSettled later next longer path k
+    → IsSeenTo answers known long path k → IsSeenTo later next longer path k
 settled_more {answers} {later} {known} {next} {long} {longer} path k g h =
     elim (nat_lt PATH_LIMIT (length path)) as (λ v. MatchBool v (has long path ≡ true)
     (IsMet answers known path k) → MatchBool v (has longer path ≡ true) (IsMet later next path k))
@@ -94,10 +94,10 @@ long_more more l = record { each = λ p h. (reached_more more (l.each p h).0, (l
 
 -- one more answer is paid
 pub paid_push : {answers : List Heard} {spare over left skipped : ℕ} (h : Heard) → IsPaid answers spare over
-    → left + entry_count h ≡ spare → skipped ≡ min (over + passed_over h) (2 ^ 64 - 1)
+    → left + listed_count h ≡ spare → skipped ≡ min (over + passed_over h) (2 ^ 64 - 1)
     → IsPaid (answers ++ h ∷ []) left skipped
 paid_push {answers} h paid cost skip =
-    let read = sum_by_push entry_count answers h in
+    let read = sum_by_push listed_count answers h in
     let passed = sum_by_push passed_over answers h in
     let was = paid.left in
     let had = paid.skipped in

@@ -16,7 +16,7 @@ use Rattle.tree_trait.specs.Heard.{Heard, stat, read_dir}
 use Rattle.tree_trait.specs.Present.{are_distinct}
 use Rattle.tree_trait.specs.Shown.{ShownTree}
 use Rattle.tree_trait.specs.declared.stat.StatAnswer.TheVariants.{Gone}
-use Rattle.tree_walk.specs.Answers.{entry_count, entries_read, reads, times_read, looks}
+use Rattle.tree_walk.specs.Answers.{listed_count, entries_read, reads, times_read, looks}
 use Rattle.tree_walk.specs.Ends.{IsCause, IsRootGone, IsTooMany, IsTooManyEntries, Walks}
 use Rattle.tree_walk.specs.Files.{FolderFacts, FitsFault, HasManyEntries, HasManyFiles, IsFileUnder}
 use Rattle.tree_walk.specs.Files.{IsFolderUnder}
@@ -50,7 +50,7 @@ entries_of_all folders = sum_by (λ folder. length folder.entries) folders
 
 -- their entries are all that were read
 counted : (h : Heard) (folders : List FolderFacts)
-    → entries_of_all (with_listed h folders) ≡ entry_count h + entries_of_all folders
+    → entries_of_all (with_listed h folders) ≡ listed_count h + entries_of_all folders
 counted (read_dir path (listed entries skipped)) folders =
     sum_by-cons (λ (folder : FolderFacts). length folder.entries)
     (record { path = path; entries = entries }) folders
@@ -59,7 +59,7 @@ counted _ folders = omega arith
 all_counted : (answers : List Heard) → entries_of_all (folders_of answers) ≡ entries_read answers
 all_counted [] = refl
 all_counted (h ∷ rest) =
-    omega (arith, counted h (folders_of rest), sum_by-cons entry_count h rest, all_counted rest)
+    omega (arith, counted h (folders_of rest), sum_by-cons listed_count h rest, all_counted rest)
 
 -- a folder that was listed was asked
 times_more : (h : Heard) (rest : List Heard) (p : List ℕ)

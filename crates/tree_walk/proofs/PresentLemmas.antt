@@ -23,14 +23,14 @@ use Rattle.tree_trait.specs.declared.stat.StatAnswer.{StatAnswer}
 use Rattle.tree_trait.specs.declared.stat.StatAnswer.TheVariants.{Folder, File, Other, Gone}
 use Rattle.tree_trait.proofs.FolderLemmas.{front_of_child, name_long, starts_rest}
 use Rattle.tree_walk.specs.Answers.{is_look_answer, first_look, first_reading}
-use Rattle.tree_walk.specs.Ends.{IsWhole}
+use Rattle.tree_walk.specs.Ends.{IsWholeWalk}
 use Rattle.row_types.specs.Under.{is_within}
 use Rattle.tree_trait.specs.Asks.{IsTold}
 use Rattle.tree_trait.specs.Found.{Versions}
 use Rattle.tree_trait.specs.Shown.{ShownTree, IsPresence}
 use Rattle.tree_walk.specs.Files.{IsFileUnder, AreFilesUnder}
 use Rattle.tree_walk.specs.Walked.{IsNamed, IsReached, root, entry, IsEntry, IsFolder, IsCandidate, IsWalked}
-use Rattle.tree_walk.specs.Walked.{IsFull}
+use Rattle.tree_walk.specs.Walked.{AsksAll}
 use Rattle.tree_walk.specs.declared.walked.Walk.{Walk}
 use Rattle.tree_walk.proofs.PathLemmas.{under_from_front, names_after}
 use Rattle.tree_walk.proofs.ReachLemmas.{look_was_due}
@@ -49,7 +49,7 @@ joined_some name (next ∷ more) h =
     omega (arith, whole, name_long name h)
 
 down : (present : List NameFacts) {answers : List Heard} {roots : List (List ℕ)} (file : NameFacts)
-    → All (IsTold present) answers → IsFull answers roots → Contains present file
+    → All (IsTold present) answers → AsksAll answers roots → Contains present file
     → length file.path ≤ PATH_LIMIT
     → (folder name : List ℕ) (more : List (List ℕ)) → list_all is_entry_name (name ∷ more) ≡ true
     → file.path ≡ front_under folder ++ join_with_byte SEPARATOR (name ∷ more)
@@ -152,7 +152,7 @@ root_is_folder present path file _ apart there under t ok = absurd (false≢true
 
 -- each file under a root is reached
 candidate_from_under : (present : List NameFacts) {answers : List Heard} {roots : List (List ℕ)} {walk : Walk}
-    (file : NameFacts) → IsWhole answers roots walk → All (IsTold present) answers
+    (file : NameFacts) → IsWholeWalk answers roots walk → All (IsTold present) answers
     → are_apart (map (λ n. n.path) present) ≡ true → Contains present file → IsCanonPath file.path
     → (r : List ℕ) → Contains roots r → is_within r file.path ≡ true → IsCandidate answers roots file.path
 candidate_from_under present {answers} {roots} file w told apart there kept r at within =
@@ -190,7 +190,7 @@ walked_under present {answers} {roots} told {name} walked = record {
 
 -- the listing is the files under the roots
 pub files_are : {version : Versions} {tree : ShownTree} {answers : List Heard} {roots : List (List ℕ)}
-    {walk : Walk} → IsWhole answers roots walk → All (IsTold tree.present) answers
+    {walk : Walk} → IsWholeWalk answers roots walk → All (IsTold tree.present) answers
     → tree.Still → (0 < length roots → IsPresence version tree)
     → AreFilesUnder tree.present roots walk.listing
 files_are {tree} {answers} {roots} w told still known = record {
@@ -227,7 +227,8 @@ files_are {tree} {answers} {roots} w told still known = record {
         let facts = known some in
         let kept : IsCanonPath name.path = record {
           canonical = (bytes_eq-Decides (canon name.path) name.path).0
-              (All-contains (λ (n : NameFacts). is_canonical n.path ≡ true) tree.present name facts.canonical u.there);
+              (All-contains (λ (n : NameFacts). is_canonical n.path ≡ true) tree.present name
+              facts.canonical u.there);
           short = u.short;
         } in
         let candidate : IsCandidate answers roots name.path =

@@ -8,7 +8,8 @@ use Rattle.tree_trait.specs.declared.entry.EntryKind.TheVariants as kind
 use Rattle.tree_trait.specs.declared.stat.StatAnswer.{StatAnswer}
 use Rattle.tree_walk.specs.Answers.{first_look, look_at}
 use Rattle.tree_walk.specs.Walked.{IsNamed, IsReached, root, entry, IsEntry, IsFolder, IsCandidate, IsDue}
-use Rattle.tree_walk.proofs.AnswerLemmas.{entries_stay, look_stays, place_of_first, look_says}
+use Rattle.tree_walk.proofs.AnswerLemmas.{entries_stay, look_stays, look_says}
+use Rattle.tree_walk.proofs.FirstLemmas.{place_of_first}
 
 named_more : {answers : List Heard} (more : List Heard) {folder : List ℕ} {k : EntryKind} {path : List ℕ}
     → IsNamed answers folder k path → IsNamed (answers ++ more) folder k path

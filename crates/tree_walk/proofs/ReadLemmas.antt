@@ -13,7 +13,7 @@ use Rattle.tree_trait.specs.Heard.{Heard, read_dir}
 use Rattle.tree_trait.proofs.EntryLemmas.{bytes_back}
 use Rattle.tree_walk.specs.Answers.{is_dir_answer, first_reading, entries_of, entries_in, times_read}
 use Rattle.tree_walk.specs.Answers.{passed_over}
-use Rattle.tree_walk.specs.Kept.{IsSettled, IsPending, AreSeenTo, AreFolders, IsSearch}
+use Rattle.tree_walk.specs.Kept.{IsSeenTo, IsPending, AreSeenTo, AreFolders, IsSearch}
 use Rattle.tree_walk.specs.Search.{SearchFacts, has, with_last}
 use Rattle.tree_walk.specs.Walked.{IsFolder, IsDue}
 use Rattle.tree_walk.proofs.AnswerLemmas.{one_if, looked_stays, after_reading, times_after_reading, unread}
@@ -95,7 +95,7 @@ seen_read {answers} {known} {long} path answer seen ok fresh =
       each = λ at entry h.
           elim (same at path) as (λ v. same at path ≡ v
           → has_entry (entries_of (cond v (Some answer) (first_reading answers at))) entry ≡ true
-          → IsSettled (answers ++ more) known long (child at entry.name) entry.kind ⊎ IsPending path
+          → IsSeenTo (answers ++ more) known long (child at entry.name) entry.kind ⊎ IsPending path
           (entries_of (Some answer)) at entry) [
             | true ↦ λ e t. inr (record { here = (same-Decides at path).0 e; among = t })
             | false ↦ λ e t. elim (seen.each at entry t) [

@@ -13,9 +13,9 @@ use Rattle.tree_trait.specs.declared.stat.StatAnswer.{StatAnswer}
 use Rattle.tree_trait.specs.declared.stat.StatAnswer.TheVariants.{Folder, Gone, Failed, OutOfMemory}
 use Rattle.tree_walk.specs.Answers.{is_look_answer, first_look, is_found}
 use Rattle.tree_walk.specs.Ends.{IsWithinLimits, IsRootGone, IsCause}
-use Rattle.tree_walk.specs.Calls.{IsLook}
+use Rattle.tree_walk.specs.Calls.{HearsLook}
 use Rattle.tree_walk.specs.Kept.{IsSearch}
-use Rattle.tree_walk.specs.Search.{SearchFacts, has, is_looked, noted, with_root, with_new_root, Adds}
+use Rattle.tree_walk.specs.Search.{SearchFacts, has, is_looked, noted, with_root, with_new_root, NotesAnswer}
 use Rattle.tree_walk.specs.Underway.{AreLooked, IsBeginning}
 use Rattle.tree_walk.specs.declared.fault.WalkFault.{WalkFault}
 use Rattle.tree_walk.proofs.EndLemmas.{room_is, adds_ends, too_many_is}
@@ -132,7 +132,7 @@ pub root_ends : {V : Type 0} {answers more : List Heard} {roots seen : List (Lis
     {path : List ℕ} {answer : StatAnswer} (result : Result V WalkFault) (now : SearchFacts)
     (after : List (List ℕ))
     → IsBeginning answers roots seen search → roots ≡ seen ++ path ∷ after → IsCanonPath path
-    → IsLook path more answer → (answer ≡ Gone → ⊥) → Adds (with_new_root search path answer) now result
+    → HearsLook path more answer → (answer ≡ Gone → ⊥) → NotesAnswer (with_new_root search path answer) now result
     → MatchResult result (λ _. IsBeginning (answers ++ more) roots (seen ++ path ∷ []) now)
     (IsCause (answers ++ more) roots)
 root_ends {answers} {roots} {seen} {search} {path} {answer} result now after b split kept look there added =

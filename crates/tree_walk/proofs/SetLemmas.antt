@@ -22,7 +22,7 @@ use Rattle.row_types.specs.Name.{NameFacts}
 use Rattle.row_types.specs.Stamp.{StampFacts}
 use Rattle.scan_queue.specs.Names.{IsByPath}
 use Rattle.tree_trait.specs.Present.{are_distinct}
-use Rattle.tree_walk.specs.Search.{has, with_path, found_names}
+use Rattle.tree_walk.specs.Search.{has, with_path, search_names}
 
 -- a text that is put into a set puts its bytes into the set of the bytes
 pub bytes_of_added : {X : Type 0} (f : X → List ℕ) (xs : List X) (x : X)
@@ -173,17 +173,17 @@ name_from file = record { path = file.0; stamp = file.1 }
 
 -- a name is among those of the files where its path's file has its stamp
 pub name_from_lookup : (files : List (List ℕ × StampFacts)) (name : NameFacts)
-    → lookup (same name.path) files ≡ Some name.stamp → Contains (found_names files) name
+    → lookup (same name.path) files ≡ Some name.stamp → Contains (search_names files) name
 name_from_lookup files name h =
     let at : Contains files (name.path, name.stamp) =
     Contains-from_lookup {eq = eq_by_cmp (slice_cmp nat_cmp)}
     (λ x y. (same-Decides x y).0) name.path name.stamp files h in
-    let within : at.0 < length (found_names files) =
+    let within : at.0 < length (search_names files) =
     subst (λ (n : ℕ). at.0 < n) (sym (length-map files name_from)) at.1 in
     (at.0, within, get_or-map name_from files at.0 (name.path, name.stamp) name at.1 ∙ ap name_from at.2)
 
 pub lookup_from_name : (files : List (List ℕ × StampFacts)) (name : NameFacts)
-    → IsStrictlySortedBy (slice_cmp nat_cmp) (keys_of files) → Contains (found_names files) name
+    → IsStrictlySortedBy (slice_cmp nat_cmp) (keys_of files) → Contains (search_names files) name
     → lookup (same name.path) files ≡ Some name.stamp
 lookup_from_name files name sorted h =
     let within : h.0 < length files = subst (λ (n : ℕ). h.0 < n) (length-map files name_from) h.1 in
@@ -194,12 +194,12 @@ lookup_from_name files name sorted h =
     (IsDistinct-from_sorted (slice_cmp nat_cmp) (keys_of files) sorted) (h.0, within, there)
 
 -- as many names as files
-pub length_names : (files : List (List ℕ × StampFacts)) → length (found_names files) ≡ length files
+pub length_names : (files : List (List ℕ × StampFacts)) → length (search_names files) ≡ length files
 length_names files = length-map files name_from
 
 -- files in order have names by path
 pub by_path_from_sorted : (files : List (List ℕ × StampFacts))
-    → IsStrictlySortedBy (slice_cmp nat_cmp) (keys_of files) → IsByPath (found_names files)
+    → IsStrictlySortedBy (slice_cmp nat_cmp) (keys_of files) → IsByPath (search_names files)
 by_path_from_sorted files sorted i j d lt within =
     let inside : j < length files = subst (λ (n : ℕ). j < n) (length-map files name_from) within in
     let first : i < length files = omega arith in
@@ -207,11 +207,11 @@ by_path_from_sorted files sorted i j d lt within =
     Less-from_sorted (slice_cmp nat_cmp)
     (keys_of files) i j d.path sorted lt
     (subst (λ (n : ℕ). j < n) (sym (length-map files (λ e. e.0))) inside) in
-    subst (λ (p : List ℕ). IsBefore p (get_or (found_names files) j d).path) (path_at i d first)
+    subst (λ (p : List ℕ). IsBefore p (get_or (search_names files) j d).path) (path_at i d first)
     (subst (λ (p : List ℕ). IsBefore (get_or (keys_of files) i d.path) p) (path_at j d inside) less)
   where
     path_at : (k : ℕ) (d : NameFacts) → k < length files
-        → get_or (keys_of files) k d.path ≡ (get_or (found_names files) k d).path
+        → get_or (keys_of files) k d.path ≡ (get_or (search_names files) k d).path
     path_at k d h = get_or-map (λ (e : List ℕ × StampFacts). e.0) files k (d.path, d.stamp) d.path h
         ∙ ap (λ (n : NameFacts). n.path) (sym (get_or-map name_from files k (d.path, d.stamp) d h))
 

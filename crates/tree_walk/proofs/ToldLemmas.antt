@@ -1,5 +1,6 @@
 -- What the answers say of the files that are there.
-use Rattle.std.proofs.Common.{◌≡◌, ℕ, inl, inr, true, List, Some, None, IsSome, All, refl, sym, ◌∙◌, ap, subst}
+use Rattle.std.proofs.Common.{◌≡◌, ℕ, inl, inr, true, List, Option, Some, None, IsSome, All}
+use Rattle.std.proofs.Common.{refl, sym, ◌∙◌, ap, subst}
 use Rattle.std.specs.List.{list_any}
 use Rattle.std.specs.Str.{bytes_eq}
 use Rattle.std.proofs.lemmas.Bool.{false≢true, or_left}
@@ -18,31 +19,39 @@ use Rattle.tree_trait.specs.Stat.{TellsStat}
 use Rattle.tree_trait.specs.declared.entry.EntryKind.TheVariants as kind
 use Rattle.tree_trait.specs.declared.stat.StatAnswer.{StatAnswer}
 use Rattle.tree_trait.specs.declared.stat.StatAnswer.TheVariants.{Folder, File, Other, Gone}
-use Rattle.tree_walk.specs.Answers.{is_look_answer, is_dir_answer, look_at, reading_of, first_look}
+use Rattle.tree_walk.specs.Answers.{first_some, is_look_answer, is_dir_answer, look_at, reading_of, first_look}
 use Rattle.tree_walk.specs.Answers.{first_reading, entries_of, entries_in}
 use Rattle.row_types.specs.Under.{is_within}
 use Rattle.tree_trait.specs.Asks.{IsTold}
 use Rattle.tree_walk.specs.Walked.{IsReached, root, entry, IsCandidate}
-use Rattle.tree_walk.proofs.AnswerLemmas.{place_of_first, look_says, reading_says}
+use Rattle.tree_walk.proofs.AnswerLemmas.{look_says, reading_says}
+use Rattle.tree_walk.proofs.FirstLemmas.{place_of_first}
 use Rattle.tree_walk.proofs.PathLemmas.{within_child}
 use Rattle.tree_walk.proofs.ElementLemmas.{any_from_Contains, any_more}
 
 -- what the answers say of the tree
+told_first : {Y : Type 0} (f : Heard → Option Y) {y : Y} (present : List NameFacts) (answers : List Heard)
+    → All (IsTold present) answers → first_some f answers ≡ Some y
+    → (h : Heard) × IsTold present h × (f h ≡ Some y)
+told_first f present answers told h =
+    let at = place_of_first f answers h in
+    (at.0, All-contains (IsTold present) answers at.0 told at.1, at.2)
+
 pub told_look : (present : List NameFacts) (answers : List Heard) → All (IsTold present) answers
     → (path : List ℕ) {answer : StatAnswer} → first_look answers path ≡ Some answer
     → TellsStat present path answer × (is_look_answer answer ≡ true)
 told_look present answers told path h =
-    let at = place_of_first (look_at path) answers h in
+    let at = told_first (look_at path) present answers told h in
     let says = look_says path at.0 at.2 in
-    (subst (IsTold present) says.0 (All-contains (IsTold present) answers at.0 told at.1), says.1)
+    (subst (IsTold present) says.0 at.1, says.1)
 
 told_reading : (present : List NameFacts) (answers : List Heard) → All (IsTold present) answers
     → (path : List ℕ) {answer : DirFacts} → first_reading answers path ≡ Some answer
     → TellsDir present path answer × (is_dir_answer answer ≡ true)
 told_reading present answers told path h =
-    let at = place_of_first (reading_of path) answers h in
+    let at = told_first (reading_of path) present answers told h in
     let says = reading_says path at.0 at.2 in
-    (subst (IsTold present) says.0 (All-contains (IsTold present) answers at.0 told at.1), says.1)
+    (subst (IsTold present) says.0 at.1, says.1)
 
 -- a look at a file finds it
 pub look_finds : (present : List NameFacts) (path : List ℕ) {stamp : StampFacts} (answer : StatAnswer)

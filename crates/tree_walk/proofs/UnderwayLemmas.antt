@@ -14,9 +14,9 @@ use Rattle.tree_trait.specs.declared.entry.EntryKind.{EntryKind}
 use Rattle.tree_trait.specs.declared.entry.EntryKind.TheVariants as kind
 use Rattle.tree_trait.specs.declared.stat.StatAnswer.TheVariants.{Folder}
 use Rattle.tree_walk.specs.Answers.{first_look}
-use Rattle.tree_walk.specs.Kept.{IsMet, IsSettled, IsSearch}
+use Rattle.tree_walk.specs.Kept.{IsMet, IsSeenTo, IsSearch}
 use Rattle.tree_walk.specs.Search.{SearchFacts, has, with_folder, with_long}
-use Rattle.tree_walk.specs.Underway.{IsEntered, IsNext, IsNextAt, AreLooked, IsUnderway}
+use Rattle.tree_walk.specs.Underway.{IsEntered, IsNextEntry, IsNextPath, AreLooked, IsUnderway}
 use Rattle.tree_walk.specs.Walked.{IsNamed, IsEntry, entry as reached_entry}
 use Rattle.tree_trait.proofs.EntryLemmas.{entry_itself}
 use Rattle.tree_walk.proofs.AnswerLemmas.{looked_stays, look_stays, entries_stay}
@@ -72,7 +72,7 @@ underway_none u s few grows = record {
 
 -- an entry whose path isn't too long was seen to
 settled_short : (answers : List Heard) (known long : List (List ℕ)) (path : List ℕ) (k : EntryKind)
-    → length path ≤ PATH_LIMIT → IsMet answers known path k → IsSettled answers known long path k
+    → length path ≤ PATH_LIMIT → IsMet answers known path k → IsSeenTo answers known long path k
 settled_short answers known long path k short met =
     subst (λ (b : Bool). MatchBool b (has long path ≡ true) (IsMet answers known path k))
     (sym (le-ltb PATH_LIMIT (length path) short)) met
@@ -80,16 +80,16 @@ settled_short answers known long path k short met =
 -- an entry that is seen to at its path
 pub settled_at : {answers : List Heard} {roots : List (List ℕ)} {search : SearchFacts} {folder path : List ℕ}
     {entry : EntryFacts} {rest : List EntryFacts} (later : List Heard) (next : SearchFacts)
-    → IsNextAt answers roots search folder entry rest path
+    → IsNextPath answers roots search folder entry rest path
     → IsMet later next.folders path entry.kind
-    → IsSettled later next.folders next.long (child folder entry.name) entry.kind
+    → IsSeenTo later next.folders next.long (child folder entry.name) entry.kind
 settled_at {path} {entry} later next n met =
-    subst (λ (p : List ℕ). IsSettled later next.folders next.long p entry.kind) n.joined
+    subst (λ (p : List ℕ). IsSeenTo later next.folders next.long p entry.kind) n.joined
     (settled_short later next.folders next.long path entry.kind n.kept.short met)
 
 -- the path is that of an entry of the folder
 pub entry_of : {answers : List Heard} {roots : List (List ℕ)} {search : SearchFacts} {folder path : List ℕ}
-    {entry : EntryFacts} {rest : List EntryFacts} → IsNextAt answers roots search folder entry rest path
+    {entry : EntryFacts} {rest : List EntryFacts} → IsNextPath answers roots search folder entry rest path
     → IsEntry answers roots entry.kind path
 entry_of {folder} {entry} n =
     record {
@@ -101,7 +101,7 @@ entry_of {folder} {entry} n =
 -- an entry that is a folder
 pub folder_entry : {answers : List Heard} {roots : List (List ℕ)} {search : SearchFacts}
     {folder path : List ℕ} {entry : EntryFacts} {rest : List EntryFacts} → entry.kind ≡ kind.Folder
-    → IsNextAt answers roots search folder entry rest path
+    → IsNextPath answers roots search folder entry rest path
     → IsUnderway answers roots (with_folder search path) folder rest
 folder_entry {answers} {roots} {search} {path} {entry} is n =
     let next : SearchFacts = with_folder search path in
@@ -117,7 +117,7 @@ folder_entry {answers} {roots} {search} {path} {entry} is n =
 -- an entry that is neither a folder nor a file
 pub other_entry : {answers : List Heard} {roots : List (List ℕ)} {search : SearchFacts} {folder path : List ℕ}
     {entry : EntryFacts} {rest : List EntryFacts} → entry.kind ≡ kind.Other
-    → IsNextAt answers roots search folder entry rest path
+    → IsNextPath answers roots search folder entry rest path
     → IsUnderway answers roots search folder rest
 other_entry {answers} {search} {path} {entry} is n =
     let met : IsMet answers search.folders path entry.kind =
@@ -127,7 +127,7 @@ other_entry {answers} {search} {path} {entry} is n =
 
 -- an entry whose path is too long
 pub long_entry : {answers : List Heard} {roots : List (List ℕ)} {search : SearchFacts} {folder : List ℕ}
-    {entry : EntryFacts} {rest : List EntryFacts} → IsNext answers roots search folder entry rest
+    {entry : EntryFacts} {rest : List EntryFacts} → IsNextEntry answers roots search folder entry rest
     → PATH_LIMIT < length (child folder entry.name)
     → IsUnderway answers roots (with_long search (child folder entry.name)) folder rest
 long_entry {answers} {search} {folder} {entry} n long =
@@ -136,7 +136,7 @@ long_entry {answers} {search} {folder} {entry} n long =
     let named : IsNamed answers folder entry.kind path =
     record { name = entry.name; listed = n.listed; joined = refl } in
     let s = long_step n.underway.search_is (reached_entry folder path entry.kind n.reached named) long in
-    let settled : IsSettled answers next.folders next.long path entry.kind =
+    let settled : IsSeenTo answers next.folders next.long path entry.kind =
     subst (λ (b : Bool). MatchBool b (has next.long path ≡ true) (IsMet answers next.folders path entry.kind))
     (sym (lt-ltb PATH_LIMIT (length path) long)) (long_known search path) in
     underway_none n.underway (entry_step s settled) n.underway.few (λ p h. h)
@@ -154,7 +154,7 @@ pub next_from : {answers : List Heard} {roots : List (List ℕ)} {begun search :
     → IsEntered answers roots begun folder entries
     → i < length entries → e ≡ get_or entries i e
     → IsUnderway (answers ++ more) roots search folder (drop i entries)
-    → IsNext (answers ++ more) roots search folder e (drop (i + 1) entries)
+    → IsNextEntry (answers ++ more) roots search folder e (drop (i + 1) entries)
 next_from {answers} {roots} {search} {folder} {entries} more i {e} entered within here u = record {
   underway = subst (λ (es : List EntryFacts). IsUnderway (answers ++ more) roots search folder es)
       (drop_more entries i e within ∙ ap (λ (f : EntryFacts). f ∷ drop (i + 1) entries) (sym here)) u;

@@ -7,9 +7,9 @@ use Rattle.tree_trait.specs.Asks.{IsTold}
 use Rattle.tree_trait.specs.Found.{Versions}
 use Rattle.tree_trait.specs.Heard.{Heard}
 use Rattle.tree_trait.specs.Shown.{ShownTree, HandsOn, StaysStill}
-use Rattle.tree_walk.specs.Ends.{IsCause, IsWhole, Walks}
+use Rattle.tree_walk.specs.Ends.{IsCause, IsWholeWalk, Walks}
 use Rattle.tree_walk.specs.Files.{AreFilesUnder}
-use Rattle.tree_walk.specs.Search.{SearchFacts, found_names}
+use Rattle.tree_walk.specs.Search.{SearchFacts, search_names}
 use Rattle.tree_walk.specs.Underway.{IsUnderway}
 use Rattle.tree_walk.specs.declared.fault.WalkFault.{WalkFault}
 use Rattle.tree_walk.specs.declared.fault.WalkFault.TheVariants.{OutOfMemory}
@@ -20,10 +20,10 @@ use Rattle.tree_walk.proofs.PresentLemmas.{files_are}
 -- with all folders read
 pub walk_ended : {answers : List Heard} {roots : List (List ℕ)} {search : SearchFacts}
     (result : Result Walk WalkFault) → IsUnderway answers roots search [] [] → search.todo ≡ []
-    → IfOk result (λ walk. walk.listing ≡ found_names search.files)
+    → IfOk result (λ walk. walk.listing ≡ search_names search.files)
     → IfOk result (λ walk. walk.skipped ≡ summed search.skipped (length search.long))
     → IfErr result (λ fault. fault ≡ OutOfMemory)
-    → MatchResult result (IsWhole answers roots) (IsCause answers roots)
+    → MatchResult result (IsWholeWalk answers roots) (IsCause answers roots)
 walk_ended (Ok walk) u empty listing skipped memory = whole_is walk u empty listing skipped
 walk_ended {answers} {roots} (Err fault) u empty listing skipped memory =
     subst (IsCause answers roots) (sym memory) tt

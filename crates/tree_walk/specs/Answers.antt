@@ -1,5 +1,5 @@
--- The answers that a walk heard (this project's rule). The first answer of a path counts; a call that failed, and
--- one that met want of memory, answered nothing.
+-- The answers that a walk heard (this project's rule). The first answer of a path counts; a call that
+-- failed, and one that met want of memory, answered nothing.
 use Rattle.std.specs.Prelude.{ℕ, ◌&&◌, Bool, true, false, if◌then◌else◌, List, [], ◌∷◌, map, length}
 use Rattle.std.specs.Prelude.{sum_by, count_by, Option, Some, None}
 use Rattle.std.specs.List.{zip}
@@ -72,13 +72,13 @@ abbrev pub times_read : List Heard → List ℕ → ℕ
 times_read answers path = count_by (reads path) answers
 
 -- how many entries an answer lists
-abbrev pub entry_count : Heard → ℕ
-entry_count (read_dir asked answer) = length (entries_of (Some answer))
-entry_count _ = 0
+abbrev pub listed_count : Heard → ℕ
+listed_count (read_dir asked answer) = length (entries_of (Some answer))
+listed_count _ = 0
 
 -- how many entries were read
 abbrev pub entries_read : List Heard → ℕ
-entries_read answers = sum_by entry_count answers
+entries_read answers = sum_by listed_count answers
 
 -- how many entries a reading passed over
 abbrev pub passed_over : Heard → ℕ

@@ -10,12 +10,12 @@ use Rattle.tree_walk.specs.declared.fault.WalkFault.TheVariants.{Failed as Fault
 use Rattle.tree_walk.specs.declared.fault.WalkFault.TheVariants.{OutOfMemory as FaultMemory}
 
 -- one look was heard and answered
-pub record IsLook (path : List ℕ) (more : List Heard) (answer : StatAnswer) : Type 0 where
+pub record HearsLook (path : List ℕ) (more : List Heard) (answer : StatAnswer) : Type 0 where
   pub heard : more ≡ stat path answer ∷ []
   pub answered : is_look_answer answer ≡ true
 
 -- one reading was heard and answered, and these are its entries and how many were passed over
-pub record IsRead (folder : List ℕ) (more : List Heard) (entries : List EntryFacts) (skipped : ℕ) : Type 0 where
+pub record HearsReading (folder : List ℕ) (more : List Heard) (entries : List EntryFacts) (skipped : ℕ) : Type 0 where
   pub answer : DirFacts
   pub heard : more ≡ read_dir folder answer ∷ []
   pub answered : is_dir_answer answer ≡ true

@@ -10,7 +10,7 @@ use Rattle.tree_trait.specs.Shown.{ShownTree}
 use Rattle.tree_trait.specs.declared.stat.StatAnswer.{StatAnswer}
 use Rattle.tree_trait.specs.declared.stat.StatAnswer.TheVariants.{Gone}
 use Rattle.tree_walk.specs.Answers.{entries_read, looks, is_found}
-use Rattle.tree_walk.specs.Walked.{IsFull, IsWalkListing, AsksDue, AsksOnce, IsSkipped}
+use Rattle.tree_walk.specs.Walked.{AsksAll, IsWalkListing, AsksDue, AsksOnce, IsSkipped}
 use Rattle.tree_walk.specs.declared.fault.WalkFault.{WalkFault}
 use Rattle.tree_walk.specs.declared.fault.WalkFault.TheVariants.{Failed, TooMany, TooManyEntries, RootGone}
 use Rattle.tree_walk.specs.declared.fault.WalkFault.TheVariants.{OutOfMemory}
@@ -34,9 +34,9 @@ pub record BeginsWithRoots (answers : List Heard) (roots : List (List ℕ)) : Ty
   pub first : answers ≡ looks roots given ++ rest
 
 -- the walk was whole: everything due was asked, each folder once, and this is what it found
-pub record IsWhole (answers : List Heard) (roots : List (List ℕ)) (walk : Walk) : Type 0 where
+pub record IsWholeWalk (answers : List Heard) (roots : List (List ℕ)) (walk : Walk) : Type 0 where
   pub first : BeginsWithRoots answers roots
-  pub full : IsFull answers roots
+  pub full : AsksAll answers roots
   pub once : AsksOnce answers roots
   pub room : IsWithinLimits answers roots
   pub listing : IsWalkListing answers roots walk.listing
@@ -47,8 +47,8 @@ abbrev pub LooksAtRoots : List Heard → List (List ℕ) → Type 0
 LooksAtRoots answers roots =
     BeginsWithRoots answers roots ⊎ ((given : List StatAnswer) × (answers ≡ looks roots given))
 
--- the roots were looked at first, nothing was asked but what was due, no folder twice, and all went well up to the last
--- call
+-- the roots were looked at first, nothing was asked but what was due, no folder twice, and all went well up
+-- to the last call
 pub record StopsAtLast (answers : List Heard) (roots : List (List ℕ)) (Stops : Heard → Type 0) : Type 0 where
   pub first : LooksAtRoots answers roots
   pub asked : AsksDue answers roots
@@ -89,8 +89,9 @@ IsCause answers roots TooManyEntries = IsTooManyEntries answers roots
 IsCause answers roots (RootGone path) = IsRootGone answers roots path
 IsCause answers roots OutOfMemory = Unit {0}
 
--- some more answers were heard, which the list that the tree tells grew by; they are those of the files that are there,
--- where the tree is told and still; and by them, behind those that were heard before, a call ended so
+-- some more answers were heard, which the list that the tree tells grew by; they are those of the files that
+-- are there, where the tree is told and still; and by them, behind those that were heard before, a call
+-- ended so
 pub record Goes {V : Type 0} (told : Bool) (before after : ShownTree) (answers : List Heard)
     (Good : List Heard → V → Type 0) (Bad : List Heard → WalkFault → Type 0)
     (result : Result V WalkFault) : Type 0 where
@@ -102,5 +103,5 @@ pub record Goes {V : Type 0} (told : Bool) (before after : ShownTree) (answers :
 -- the walk ended by the answers that it heard
 abbrev pub Walks : Bool → ShownTree → ShownTree → List (List ℕ) → Result Walk WalkFault → Type 0
 Walks told before after roots result =
-    Goes told before after [] (λ answers walk. IsWhole answers roots walk)
+    Goes told before after [] (λ answers walk. IsWholeWalk answers roots walk)
     (λ answers fault. IsCause answers roots fault) result

@@ -6,7 +6,7 @@ use Rattle.row_types.specs.Under.{is_within}
 use Rattle.row_types.specs.declared.limits.TheConstants.{PATH_LIMIT}
 use Rattle.scan_queue.specs.Names.{IsByPath}
 use Rattle.scan_queue.specs.declared.listing.TheConstants.{LISTING_LIMIT}
-use Rattle.tree_trait.specs.Dir.{IsListing}
+use Rattle.tree_trait.specs.Dir.{IsFolderListing}
 use Rattle.tree_trait.specs.Entry.{EntryFacts}
 use Rattle.tree_trait.specs.Present.{are_distinct}
 use Rattle.tree_trait.specs.Stat.{IsNothingAt}
@@ -31,12 +31,13 @@ pub record FolderFacts : Type 0 where
   pub path : List ℕ
   pub entries : List EntryFacts
 
--- the folder is a root or lies under one, its path is no longer than a path that is kept, and these are its entries
+-- the folder is a root or lies under one, its path is no longer than a path that is kept, and these are its
+-- entries
 pub record IsFolderUnder (present : List NameFacts) (roots : List (List ℕ))
     (folder : FolderFacts) : Type 0 where
   pub under : list_any (λ root. is_within root folder.path) roots ≡ true
   pub short : length folder.path ≤ PATH_LIMIT
-  pub listing : IsListing present folder.path folder.entries
+  pub listing : IsFolderListing present folder.path folder.entries
 
 -- more files stand under the roots than a listing has
 pub record HasManyFiles (present : List NameFacts) (roots : List (List ℕ)) : Type 0 where
@@ -52,7 +53,8 @@ pub record HasManyEntries (present : List NameFacts) (roots : List (List ℕ)) :
   pub each : All (IsFolderUnder present roots) folders
   pub many : ENTRY_LIMIT < sum_by (λ folder. length folder.entries) folders
 
--- whether a walk of the files that are there may end with the fault; a failed call and want of memory say nothing of them
+-- whether a walk of the files that are there may end with the fault; a failed call and want of memory say
+-- nothing of them
 abbrev pub FitsFault : List NameFacts → List (List ℕ) → WalkFault → Type 0
 FitsFault present roots TooMany = HasManyFiles present roots
 FitsFault present roots TooManyEntries = HasManyEntries present roots

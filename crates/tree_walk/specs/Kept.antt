@@ -41,9 +41,10 @@ IsMet answers known path kind.Folder = has known path ≡ true
 IsMet answers known path kind.File = IsSome (first_look answers path)
 IsMet answers known path kind.Other = Unit {0}
 
--- an entry was seen to, by its path and its kind, with the folders that are known and the paths that are too long
-abbrev pub IsSettled : List Heard → List (List ℕ) → List (List ℕ) → List ℕ → EntryKind → Type 0
-IsSettled answers known long path k =
+-- an entry was seen to, by its path and its kind, with the folders that are known and the paths that are too
+-- long
+abbrev pub IsSeenTo : List Heard → List (List ℕ) → List (List ℕ) → List ℕ → EntryKind → Type 0
+IsSeenTo answers known long path k =
     MatchBool (nat_lt PATH_LIMIT (length path)) (has long path ≡ true) (IsMet answers known path k)
 
 -- the entry of this folder is among the entries that are still to be seen to
@@ -56,7 +57,7 @@ pub record IsPending (folder : List ℕ) (rest : List EntryFacts) (at : List ℕ
 pub record AreSeenTo (answers : List Heard) (known long : List (List ℕ)) (folder : List ℕ)
     (rest : List EntryFacts) : Type 0 where
   pub each : (at : List ℕ) (entry : EntryFacts) → has_entry (entries_in answers at) entry ≡ true
-      → IsSettled answers known long (child at entry.name) entry.kind ⊎ IsPending folder rest at entry
+      → IsSeenTo answers known long (child at entry.name) entry.kind ⊎ IsPending folder rest at entry
 
 -- the files that were found, and the other paths that were looked at, are those of the looks
 pub record AreLooks (answers : List Heard) (found : List (List ℕ × StampFacts))

@@ -16,8 +16,9 @@ use Rattle.tree_walk.specs.declared.fault.WalkFault.{WalkFault}
 use Rattle.tree_walk.specs.declared.fault.WalkFault.TheVariants.{TooMany, OutOfMemory as FaultMemory}
 use Rattle.tree_walk.specs.declared.walked.TheConstants.{ENTRY_LIMIT}
 
--- the files that were found, by path; the other paths that were looked at; the folders, and those of them that
--- aren't read yet; the paths that are too long; how many entries may still be read; and how many were passed over
+-- the files that were found, by path; the other paths that were looked at; the folders, and those of them
+-- that aren't read yet; the paths that are too long; how many entries may still be read; and how many were
+-- passed over
 pub record SearchFacts : Type 0 where
   pub files : List (List ℕ × StampFacts)
   pub others : List (List ℕ)
@@ -97,20 +98,20 @@ paid search count skipped =
     record search { left = search.left - count; skipped = min (search.skipped + skipped) (2 ^ 64 - 1) }
 
 -- the names of the files
-abbrev pub found_names : List (List ℕ × StampFacts) → List NameFacts
-found_names files = map (λ file. record { path = file.0; stamp = file.1 }) files
+abbrev pub search_names : List (List ℕ × StampFacts) → List NameFacts
+search_names files = map (λ file. record { path = file.0; stamp = file.1 }) files
 
 -- this is the search now, and it has no more files than a listing
-pub record IsAdded (next now : SearchFacts) : Type 0 where
+pub record IsNoted (next now : SearchFacts) : Type 0 where
   pub same : now ≡ next
   pub few : length next.files ≤ LISTING_LIMIT
 
 -- it would have more files than a listing, or memory was refused
-abbrev pub IsAddFault : SearchFacts → WalkFault → Type 0
-IsAddFault next TooMany = LISTING_LIMIT < length next.files
-IsAddFault next FaultMemory = Unit {0}
-IsAddFault next _ = ⊥
+abbrev pub IsNoteFault : SearchFacts → WalkFault → Type 0
+IsNoteFault next TooMany = LISTING_LIMIT < length next.files
+IsNoteFault next FaultMemory = Unit {0}
+IsNoteFault next _ = ⊥
 
 -- the search becomes the next one, if that has no more files than a listing
-abbrev pub Adds : {V : Type 0} → SearchFacts → SearchFacts → Result V WalkFault → Type 0
-Adds next now result = MatchResult result (λ _. IsAdded next now) (IsAddFault next)
+abbrev pub NotesAnswer : {V : Type 0} → SearchFacts → SearchFacts → Result V WalkFault → Type 0
+NotesAnswer next now result = MatchResult result (λ _. IsNoted next now) (IsNoteFault next)

@@ -47,15 +47,15 @@ pub record IsEntered (answers : List Heard) (roots : List (List ℕ)) (search : 
   pub listed : entries_in answers folder ≡ entries
 
 -- an entry of a folder is to be seen to, and then the rest
-pub record IsNext (answers : List Heard) (roots : List (List ℕ)) (search : SearchFacts) (folder : List ℕ)
+pub record IsNextEntry (answers : List Heard) (roots : List (List ℕ)) (search : SearchFacts) (folder : List ℕ)
     (entry : EntryFacts) (rest : List EntryFacts) : Type 0 where
   pub underway : IsUnderway answers roots search folder (entry ∷ rest)
   pub reached : IsReached answers roots folder
   pub listed : has_entry (entries_in answers folder) entry ≡ true
 
 -- its path is short enough to be kept
-pub record IsNextAt (answers : List Heard) (roots : List (List ℕ)) (search : SearchFacts) (folder : List ℕ)
+pub record IsNextPath (answers : List Heard) (roots : List (List ℕ)) (search : SearchFacts) (folder : List ℕ)
     (entry : EntryFacts) (rest : List EntryFacts) (path : List ℕ) : Type 0 where
-  pub next : IsNext answers roots search folder entry rest
+  pub next : IsNextEntry answers roots search folder entry rest
   pub joined : path ≡ child folder entry.name
   pub kept : IsCanonPath path

@@ -1,5 +1,5 @@
--- The walk listing (this project's rule): the files that the answers name under the roots. Links and other entries
--- that are neither a folder nor a file lead nowhere.
+-- The walk listing (this project's rule): the files that the answers name under the roots. Links and other
+-- entries that are neither a folder nor a file lead nowhere.
 use Rattle.std.specs.Prelude.{◌≡◌, ℕ, ◌≤◌, ◌<◌, ◌⊎◌, ◌↔◌, true, List, length, All, Contains, Some, IsSome}
 use Rattle.row_types.specs.Canon.{IsCanonPath}
 use Rattle.row_types.specs.Faults.{summed}
@@ -58,7 +58,7 @@ pub record IsWalkListing (answers : List Heard) (roots : List (List ℕ)) (names
   pub all : (name : NameFacts) → Contains names name ↔ IsWalked answers roots name
 
 -- nothing is left to ask: each root was looked at, each folder read, and each file looked at
-pub record IsFull (answers : List Heard) (roots : List (List ℕ)) : Type 0 where
+pub record AsksAll (answers : List Heard) (roots : List (List ℕ)) : Type 0 where
   pub looked : (path : List ℕ) → Contains roots path → IsSome (first_look answers path)
   pub folders : (path : List ℕ) → IsFolder answers roots path → length path ≤ PATH_LIMIT
       → IsSome (first_reading answers path)
@@ -83,8 +83,8 @@ pub record AsksOnce (answers : List Heard) (roots : List (List ℕ)) : Type 0 wh
       → times_read answers path ≡ 1
   pub never : (path : List ℕ) → PATH_LIMIT < length path → times_read answers path ≡ 0
 
--- what was passed over: entries that the readings passed over, and reached paths that are too long, whatever stands
--- there, each once; no more than the largest `u64`
+-- what was passed over: entries that the readings passed over, and reached paths that are too long, whatever
+-- stands there, each once; no more than the largest `u64`
 pub record IsSkipped (answers : List Heard) (roots : List (List ℕ)) (count : ℕ) : Type 0 where
   pub long : List (List ℕ)
   pub distinct : are_distinct long ≡ true

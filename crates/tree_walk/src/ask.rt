@@ -6,7 +6,7 @@ ghost use Rattle.tree_trait.specs.Dir.{dir_failed};
 ghost use Rattle.tree_trait.specs.Heard.{stat, read_dir};
 ghost use Rattle.tree_trait.specs.Shown.{HandsOn};
 ghost use Rattle.tree_walk.specs.Ends.{Goes};
-ghost use Rattle.tree_walk.specs.Calls.{IsCallFault, IsLook, IsRead};
+ghost use Rattle.tree_walk.specs.Calls.{IsCallFault, HearsLook, HearsReading};
 
 use crate::fault::WalkFault;
 use row_types::{CanonPath, Truth};
@@ -19,7 +19,7 @@ pub fn look<W: Truth, T: Tree<W>>(
     hand: &mut T,
     path: &CanonPath,
 ) -> Result<StatAnswer, WalkFault>
-    ensures goes { Goes T.told (T.shows hand.old) (T.shows hand.new) [] (IsLook path.now)
+    ensures goes { Goes T.told (T.shows hand.old) (T.shows hand.new) [] (HearsLook path.now)
         (IsCallFault (stat path.now StatAnswer.Failed)) result }
     ensures kept { IsCanonPath path.now }
     ensures hands { HandsOn T.told W.version (T.shows hand.old) (T.shows hand.new) (Unit {0})
@@ -48,7 +48,7 @@ pub fn read<W: Truth, T: Tree<W>>(
     folder: &CanonPath,
 ) -> Result<Content, WalkFault>
     ensures goes { Goes T.told (T.shows hand.old) (T.shows hand.new) []
-        (λ more content. IsRead folder.now more content.entries.items content.skipped)
+        (λ more content. HearsReading folder.now more content.entries.items content.skipped)
         (IsCallFault (read_dir folder.now dir_failed)) result }
     ensures hands { HandsOn T.told W.version (T.shows hand.old) (T.shows hand.new) (Unit {0})
         (result ≡ Err WalkFault.Failed) }

@@ -9,9 +9,9 @@ ghost use Rattle.std.specs.Map.{keys_of};
 ghost use Rattle.std.specs.Ordering.{nat_cmp};
 ghost use Rattle.std.specs.String.{string_bytes};
 ghost use Rattle.row_types.specs.Faults.{summed};
-ghost use Rattle.tree_walk.specs.Search.{Adds, found_names, is_looked, noted, paid, unasked};
-ghost use Rattle.tree_walk.specs.Search.{with_folder, with_last, with_long, with_new_root};
-ghost use Rattle.tree_walk.specs.Search.{with_path};
+ghost use Rattle.tree_walk.specs.Search.{NotesAnswer, is_looked, noted, paid, unasked};
+ghost use Rattle.tree_walk.specs.Search.{search_names, with_folder, with_last, with_long};
+ghost use Rattle.tree_walk.specs.Search.{with_new_root, with_path};
 
 use crate::fault::WalkFault;
 use crate::walked::{ENTRY_LIMIT, Walk};
@@ -78,7 +78,7 @@ impl Search {
 
     /// Notes what was found at a path, if there are no more files than a listing has.
     pub fn note_new(&mut self, path: CanonPath, answer: StatAnswer) -> Result<(), WalkFault>
-        ensures { Adds (noted self.old path answer) self.new result }
+        ensures { NotesAnswer (noted self.old path answer) self.new result }
     {
         self.note(path, answer)?;
         if self.is_over() {
@@ -94,7 +94,7 @@ impl Search {
         root: &CanonPath,
         answer: StatAnswer,
     ) -> Result<(), WalkFault>
-        ensures { Adds (with_new_root self.old root.now answer) self.new result }
+        ensures { NotesAnswer (with_new_root self.old root.now answer) self.new result }
     {
         self.add_root(alloc, root, answer)?;
         if self.is_over() {
@@ -189,7 +189,7 @@ impl Search {
     pub fn finish(self, alloc: Global) -> Result<Walk, WalkFault>
         requires few { length self.files ≤ LISTING_LIMIT }
         requires ordered { IsStrictlySortedBy (slice_cmp nat_cmp) (keys_of self.files) }
-        ensures listing { IfOk result (λ walk. walk.listing ≡ found_names self.files) }
+        ensures listing { IfOk result (λ walk. walk.listing ≡ search_names self.files) }
         ensures skipped { IfOk result (λ walk.
             walk.skipped ≡ summed self.skipped (length self.long)) }
         ensures memory { IfErr result (λ fault. fault ≡ WalkFault.OutOfMemory) }
@@ -210,7 +210,7 @@ impl Search {
     }
 }
 
-/// Adds a text to a set of texts.
+/// NotesAnswer a text to a set of texts.
 fn add_text(texts: &mut BTreeSet<String>, text: String) -> Result<(), AllocError>
     ensures { OnOk result (map string_bytes texts.new.keys
         ≡ with_path (map string_bytes texts.old.keys) (string_bytes text)) }
@@ -223,17 +223,17 @@ fn add_text(texts: &mut BTreeSet<String>, text: String) -> Result<(), AllocError
 fn listing_of(alloc: Global, files: BTreeMap<CanonPath, Stamp>) -> Result<Listing, AllocError>
     requires few { length files.entries ≤ LISTING_LIMIT }
     requires ordered { IsStrictlySortedBy (slice_cmp nat_cmp) (keys_of files.entries) }
-    ensures { IfOk result (λ listing. listing ≡ found_names files.entries) }
+    ensures { IfOk result (λ listing. listing ≡ search_names files.entries) }
 {
-    match Listing::new(found_names(alloc, files)?) {
+    match Listing::new(search_names(alloc, files)?) {
         Ok(listing) => Ok(listing),
         Err(_) => unreachable!(),
     }
 }
 
 /// The names of the files, by path.
-fn found_names(alloc: Global, files: BTreeMap<CanonPath, Stamp>) -> Result<Vec<Name>, AllocError>
-    ensures { IfOk result (λ names. names.items ≡ found_names files.entries) }
+fn search_names(alloc: Global, files: BTreeMap<CanonPath, Stamp>) -> Result<Vec<Name>, AllocError>
+    ensures { IfOk result (λ names. names.items ≡ search_names files.entries) }
 {
     files
         .into_iter()

@@ -111,7 +111,7 @@ fn fault_text(alloc: Global, fault: &WalkFault) -> Result<String, AllocError> {
 /// The roots, the number of the call that fails, and what the walk finds.
 type Case = (&'static [&'static str], u64, &'static str);
 
-const CASES: [Case; 5] = [
+static CASES: [Case; 5] = [
     (
         &["/srv/bin", "/srv/debug", "/w"],
         99,
@@ -132,9 +132,9 @@ const CASES: [Case; 5] = [
 
 #[test]
 fn a_walk_lists_the_files_under_its_roots_by_path(rt: HostRuntime) -> Result<(), Fail> {
-    for (roots, bad_call, text) in CASES {
-        let mut tree = three_folders(rt.alloc(), bad_call)?;
-        assert_eq!(rt; walk_text(rt.alloc(), &mut tree, roots)?.as_str(), text);
+    for (roots, bad_call, text) in &CASES {
+        let mut tree = three_folders(rt.alloc(), *bad_call)?;
+        assert_eq!(rt; walk_text(rt.alloc(), &mut tree, roots)?.as_str(), *text);
     }
     Ok(())
 }

@@ -11,7 +11,8 @@ ghost use Rattle.tree_trait.specs.Heard.{Heard};
 ghost use Rattle.tree_trait.specs.Shown.{HandsOn};
 ghost use Rattle.tree_walk.specs.Ends.{Goes, IsCause, Walks};
 ghost use Rattle.tree_walk.specs.Files.{AreFilesUnder, FitsFault};
-ghost use Rattle.tree_walk.specs.Underway.{IsBeginning, IsEntered, IsNext, IsNextAt, IsUnderway};
+ghost use Rattle.tree_walk.specs.Underway.{IsBeginning, IsEntered, IsUnderway};
+ghost use Rattle.tree_walk.specs.Underway.{IsNextEntry, IsNextPath};
 ghost use Rattle.tree_walk.specs.Search.{with_last};
 
 use crate::ask::{look, read};
@@ -167,7 +168,7 @@ fn enter<W: Truth, T: Tree<W>>(
     entry: &Entry,
 ) -> Result<(), WalkFault>
     ensures goes { (answers : List Heard) (roots : List (List ℕ)) (rest : List EntryFacts)
-        → IsNext answers roots search.old folder.now entry.now rest
+        → IsNextEntry answers roots search.old folder.now entry.now rest
         → Goes T.told (T.shows hand.old) (T.shows hand.new) answers
         (λ heard _. IsUnderway heard roots search.new folder.now rest)
         (λ heard. IsCause heard roots) result }
@@ -193,7 +194,7 @@ fn enter_path<W: Truth, T: Tree<W>>(
 ) -> Result<(), WalkFault>
     ensures goes { (answers : List Heard) (roots : List (List ℕ)) (folder : List ℕ)
         (entry : EntryFacts) (rest : List EntryFacts)
-        → entry.kind ≡ kind → IsNextAt answers roots search.old folder entry rest path
+        → entry.kind ≡ kind → IsNextPath answers roots search.old folder entry rest path
         → Goes T.told (T.shows hand.old) (T.shows hand.new) answers
         (λ heard _. IsUnderway heard roots search.new folder rest)
         (λ heard. IsCause heard roots) result }
@@ -218,7 +219,7 @@ fn look_at_file<W: Truth, T: Tree<W>>(
 ) -> Result<(), WalkFault>
     ensures goes { (answers : List Heard) (roots : List (List ℕ)) (folder : List ℕ)
         (entry : EntryFacts) (rest : List EntryFacts)
-        → entry.kind ≡ EntryKind.File → IsNextAt answers roots search.old folder entry rest path
+        → entry.kind ≡ EntryKind.File → IsNextPath answers roots search.old folder entry rest path
         → Goes T.told (T.shows hand.old) (T.shows hand.new) answers
         (λ heard _. IsUnderway heard roots search.new folder rest)
         (λ heard. IsCause heard roots) result }

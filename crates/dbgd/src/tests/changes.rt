@@ -11,28 +11,29 @@ use std::test::Fail;
 /// after a load that failed, and how often the tree has failed then.
 type Case = (Change, &'static str, &'static str, &'static str, u64);
 
+/// A look and a load are tried four times.
+static CASES: [Case; 2] = [
+    (Change::Grows, "grows", "file 5 100 7", "file 10 100 7", 1),
+    (Change::GivesWay, "gives-way", "failed", "failed", 3),
+];
+
 #[test]
 fn a_file_that_grows_is_seen_and_one_that_gives_way_is_not(rt: HostRuntime) -> Result<(), Fail> {
-    // A look and a load are tried four times.
-    let cases: [Case; 2] = [
-        (Change::Grows, "grows", "file 5 100 7", "file 10 100 7", 1),
-        (Change::GivesWay, "gives-way", "failed", "failed", 3),
-    ];
-    for (change, name, first, second, count) in cases {
+    for (change, name, first, second, count) in &CASES {
         let folder = make_folder(&rt, name)?;
         let path = format!(in rt.alloc(); "{folder}/own")?;
         let mut files = Refusing::nothing(rt);
-        files.change = Some(change);
+        files.change = Some(*change);
         let mut tree = RealTree::new(files);
         for (what, want) in [
-            (Question::Stat, first),
+            (Question::Stat, *first),
             (Question::Load, "failed"),
-            (Question::Stat, second),
+            (Question::Stat, *second),
         ] {
             let text = ask(rt.alloc(), &mut tree, what, path.as_str(), 100)?;
             assert_eq!(rt; text.as_str(), want, "{what:?} where it {name}");
         }
-        assert_eq!(rt; tree.count(), count, "faults where it {name}");
+        assert_eq!(rt; tree.count(), *count, "faults where it {name}");
         fs::remove_dir_all(&rt, folder.as_str())?;
     }
     Ok(())

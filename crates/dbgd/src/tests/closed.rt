@@ -16,6 +16,18 @@ type Case = (&'static str, &'static str, &'static str);
 /// What nothing leads to.
 const GONE: &str = "gone | gone | gone";
 
+/// The file, and a folder with it, to one who may read all.
+const FILE: &str = "file 4 100 7 | four | gone";
+
+const LISTED: &str = "folder | gone | in file, 0 skipped";
+
+static CLOSED: [Case; 4] = [
+    ("shut", FILE, "gone | failed | gone"),
+    ("closed", LISTED, "gone | gone | 1 skipped"),
+    ("closed/in", FILE, "gone | failed | 1 skipped"),
+    ("unsearched", LISTED, "gone | gone | 1 skipped"),
+];
+
 /// Makes a folder of this mode with a file `in`.
 fn make_closed(rt: &HostRuntime, folder: &str, mode: u32) -> Result<(), Fail> {
     fs::create_dir(rt, folder)?;
@@ -33,23 +45,15 @@ fn what_may_not_be_read_is_gone_to_a_look(rt: HostRuntime) -> Result<(), Fail> {
     // It may be read and not searched.
     let unsearched = format!(in rt.alloc(); "{folder}/unsearched")?;
     make_closed(&rt, unsearched.as_str(), 0o444)?;
-    let file = "file 4 100 7 | four | gone";
-    let listed = "folder | gone | in file, 0 skipped";
-    let cases: [Case; 4] = [
-        ("shut", file, "gone | failed | gone"),
-        ("closed", listed, "gone | gone | 1 skipped"),
-        ("closed/in", file, "gone | failed | 1 skipped"),
-        ("unsearched", listed, "gone | gone | 1 skipped"),
-    ];
     let reads_all = fs::read_to_string(&rt, shut.as_str()).is_ok();
     let mut tree = RealTree::new(Refusing::nothing(rt));
-    for (path, open, refused) in cases {
+    for (path, open, refused) in &CLOSED {
         let path = format!(in rt.alloc(); "{folder}/{path}")?;
         let text = ask_all(rt.alloc(), &mut tree, path.as_str())?;
         if reads_all {
-            assert_eq!(rt; text.as_str(), open, "{path}");
+            assert_eq!(rt; text.as_str(), *open, "{path}");
         } else {
-            assert_eq!(rt; text.as_str(), refused, "{path}");
+            assert_eq!(rt; text.as_str(), *refused, "{path}");
         }
     }
     assert_eq!(rt; tree.count(), if reads_all { 0 } else { 9 });

@@ -47,37 +47,41 @@ fn tree_of(rt: &HostRuntime, refusal: Refusal) -> RealTree<Refusing> {
 /// answer then, how often they have failed, and what a read of the folder above answers.
 type Refused = (i32, &'static str, u64, &'static str);
 
+/// What nothing leads to, and what may not be read.
+const GONE: &str = "gone | gone | gone";
+
+const DENIED: &str = "gone | failed | 1 skipped";
+
+static REFUSED: [Refused; 11] = [
+    (ENOENT, GONE, 0, "a file, 1 skipped"),
+    (ENOTDIR, GONE, 0, "a file, 1 skipped"),
+    (EACCES, DENIED, 3, "a file, 2 skipped"),
+    (EPERM, DENIED, 3, "a file, 2 skipped"),
+    (ESRCH, GONE, 3, "a file, 2 skipped"),
+    (ELOOP, GONE, 3, "a file, 2 skipped"),
+    (ENAMETOOLONG, GONE, 3, "a file, 2 skipped"),
+    (ESTALE, GONE, 3, "a file, 2 skipped"),
+    (
+        ENOMEM,
+        "out of memory | out of memory | out of memory",
+        0,
+        "out of memory",
+    ),
+    (EINVAL, "failed | failed | failed", 3, "failed"),
+    (EIO, "failed | failed | failed", 3, "failed"),
+];
+
 #[test]
 fn each_error_has_its_answers(rt: HostRuntime) -> Result<(), Fail> {
     let folder = make_folder(&rt, "errors")?;
     let path = format!(in rt.alloc(); "{folder}/inner")?;
-    let gone = "gone | gone | gone";
-    let denied = "gone | failed | 1 skipped";
-    let cases: [Refused; 11] = [
-        (ENOENT, gone, 0, "a file, 1 skipped"),
-        (ENOTDIR, gone, 0, "a file, 1 skipped"),
-        (EACCES, denied, 3, "a file, 2 skipped"),
-        (EPERM, denied, 3, "a file, 2 skipped"),
-        (ESRCH, gone, 3, "a file, 2 skipped"),
-        (ELOOP, gone, 3, "a file, 2 skipped"),
-        (ENAMETOOLONG, gone, 3, "a file, 2 skipped"),
-        (ESTALE, gone, 3, "a file, 2 skipped"),
-        (
-            ENOMEM,
-            "out of memory | out of memory | out of memory",
-            0,
-            "out of memory",
-        ),
-        (EINVAL, "failed | failed | failed", 3, "failed"),
-        (EIO, "failed | failed | failed", 3, "failed"),
-    ];
-    for (number, wanted, count, above) in cases {
-        let mut tree = tree_of(&rt, Refusal(Look, "/inner", number));
+    for (number, wanted, count, above) in &REFUSED {
+        let mut tree = tree_of(&rt, Refusal(Look, "/inner", *number));
         let text = ask_all(rt.alloc(), &mut tree, path.as_str())?;
-        assert_eq!(rt; text.as_str(), wanted, "error {number}");
-        assert_eq!(rt; tree.count(), count, "faults by error {number}");
+        assert_eq!(rt; text.as_str(), *wanted, "error {number}");
+        assert_eq!(rt; tree.count(), *count, "faults by error {number}");
         let text = ask(rt.alloc(), &mut tree, ReadDir, folder.as_str(), 4)?;
-        assert_eq!(rt; text.as_str(), above, "above error {number}");
+        assert_eq!(rt; text.as_str(), *above, "above error {number}");
         assert_eq!(rt; tree.count(), count / 3 * 4, "faults above error {number}");
     }
     fs::remove_dir_all(&rt, folder.as_str())?;
@@ -88,41 +92,46 @@ fn each_error_has_its_answers(rt: HostRuntime) -> Result<(), Fail> {
 /// that path, its answer, and how often the tree has failed then.
 type Case = (Call, &'static str, i32, Question, &'static str, u64);
 
+static LATER: [Case; 17] = [
+    // A file that everyone may read isn't opened by a look.
+    (Open, "/a", EACCES, Stat, "file 4 100 7", 0),
+    (Open, "/a", EACCES, Load, "failed", 1),
+    (Open, "/a", ENOENT, Load, "gone", 0),
+    (Open, "/a", ELOOP, Load, "gone", 1),
+    (Open, "/own", EACCES, Stat, "gone", 1),
+    (Open, "/own", ESRCH, Stat, "gone", 1),
+    (Open, "/own", ENOENT, Stat, "gone", 0),
+    (Open, "/own", EIO, Stat, "failed", 1),
+    // A look enters a folder by the way to itself.
+    (Enter, "/inner/.", EACCES, Stat, "gone", 1),
+    (Enter, "/inner/.", EIO, Stat, "failed", 1),
+    (Enter, "/inner/", EACCES, Stat, "folder", 0),
+    (Enter, "/inner/", EACCES, ReadDir, "1 skipped", 1),
+    (Enter, "/inner/", ESRCH, ReadDir, "gone", 1),
+    (Enter, "/inner/", ENOMEM, ReadDir, "out of memory", 0),
+    (List, "/inner/", EINVAL, ReadDir, "gone", 1),
+    (List, "/inner/", ESRCH, ReadDir, "gone", 1),
+    (List, "/inner/", EIO, ReadDir, "failed", 1),
+];
+
 #[test]
 fn an_error_after_the_look_has_its_answer(rt: HostRuntime) -> Result<(), Fail> {
     let folder = make_folder(&rt, "later")?;
-    let cases: [Case; 17] = [
-        // A file that everyone may read isn't opened by a look.
-        (Open, "/a", EACCES, Stat, "file 4 100 7", 0),
-        (Open, "/a", EACCES, Load, "failed", 1),
-        (Open, "/a", ENOENT, Load, "gone", 0),
-        (Open, "/a", ELOOP, Load, "gone", 1),
-        (Open, "/own", EACCES, Stat, "gone", 1),
-        (Open, "/own", ESRCH, Stat, "gone", 1),
-        (Open, "/own", ENOENT, Stat, "gone", 0),
-        (Open, "/own", EIO, Stat, "failed", 1),
-        // A look enters a folder by the way to itself.
-        (Enter, "/inner/.", EACCES, Stat, "gone", 1),
-        (Enter, "/inner/.", EIO, Stat, "failed", 1),
-        (Enter, "/inner/", EACCES, Stat, "folder", 0),
-        (Enter, "/inner/", EACCES, ReadDir, "1 skipped", 1),
-        (Enter, "/inner/", ESRCH, ReadDir, "gone", 1),
-        (Enter, "/inner/", ENOMEM, ReadDir, "out of memory", 0),
-        (List, "/inner/", EINVAL, ReadDir, "gone", 1),
-        (List, "/inner/", ESRCH, ReadDir, "gone", 1),
-        (List, "/inner/", EIO, ReadDir, "failed", 1),
-    ];
-    for (call, end, number, what, want, count) in cases {
-        let mut tree = tree_of(&rt, Refusal(call, end, number));
+    for (call, end, number, what, want, count) in &LATER {
+        let mut tree = tree_of(&rt, Refusal(*call, end, *number));
         let path = format!(in rt.alloc(); "{folder}{}", end.trim_end_matches('.'))?;
         let path = path.as_str().trim_end_matches('/');
-        let text = ask(rt.alloc(), &mut tree, what, path, 4)?;
+        let text = ask(rt.alloc(), &mut tree, *what, path, 4)?;
         assert_eq!(rt;
             text.as_str(),
-            want,
+            *want,
             "{what:?} after {call:?} {end} {number}"
         );
-        assert_eq!(rt; tree.count(), count, "faults after {call:?} {end} {number}");
+        assert_eq!(rt;
+            tree.count(),
+            *count,
+            "faults after {call:?} {end} {number}"
+        );
     }
     fs::remove_dir_all(&rt, folder.as_str())?;
     Ok(())

@@ -2,6 +2,7 @@
 
 use crate::scan_end::ScanEnd;
 use crate::scan_sayings::say_end;
+use crate::tests::rig::compare;
 use http_wire::MemSink;
 use row_types::{CanonPath, Name, Stamp};
 use scan_queue::Seen;
@@ -15,33 +16,20 @@ fn says(rt: &impl Abort, alloc: Global, end: &ScanEnd, line: &str, status: u8) -
     let mut out = MemSink::new(alloc, Vec::new(alloc));
     let mut err = MemSink::new(alloc, Vec::new(alloc));
     let said = say_end(alloc, end, &mut out, &mut err).code();
-    assert_eq!(rt;
-        out.written().ok_or("told")?,
-        b"".as_slice(),
-        "out of {line:?}"
-    );
-    assert_eq!(rt;
-        err.written().ok_or("told")?,
-        line.as_bytes(),
-        "err of {line:?}"
-    );
-    assert_eq!(rt; said, status, "status of {line:?}");
+    compare(rt, &out, b"", "out", &[line])?;
+    compare(rt, &err, line.as_bytes(), "err", &[line])?;
+    assert_eq!(rt; said, status, "status of {line}");
     Ok(())
 }
 
 #[test]
 fn each_limit_has_its_line(rt: HostRuntime) -> Result<(), Fail> {
-    for (end, line) in [
-        (ScanEnd::Unlisted(WalkFault::TooMany), "dbgd: limit files\n"),
-        (
-            ScanEnd::Unlisted(WalkFault::TooManyEntries),
-            "dbgd: limit entries\n",
-        ),
-        (ScanEnd::Full, "dbgd: limit changes\n"),
-    ] {
-        says(&rt, rt.alloc(), &end, line, 5)?;
-    }
-    Ok(())
+    let alloc = rt.alloc();
+    let files = ScanEnd::Unlisted(WalkFault::TooMany);
+    says(&rt, alloc, &files, "dbgd: limit files\n", 5)?;
+    let entries = ScanEnd::Unlisted(WalkFault::TooManyEntries);
+    says(&rt, alloc, &entries, "dbgd: limit entries\n", 5)?;
+    says(&rt, alloc, &ScanEnd::Full, "dbgd: limit changes\n", 5)
 }
 
 /// The largest stamp of a file, seven nanoseconds after 1970.
@@ -50,22 +38,6 @@ const LARGEST: Stamp = Stamp {
     secs: 0,
     nanos: 7,
 };
-
-/// What stood in the place of a file, and how it is said.
-const SEEN: [(Seen, &str); 3] = [
-    (
-        Seen::Gone,
-        "dbgd: altered /srv/a listed 0:-2:999999999 seen gone\n",
-    ),
-    (
-        Seen::Other,
-        "dbgd: altered /srv/a listed 0:-2:999999999 seen other\n",
-    ),
-    (
-        Seen::File(LARGEST),
-        "dbgd: altered /srv/a listed 0:-2:999999999 seen 18446744073709551615:0:000000007\n",
-    ),
-];
 
 /// The end at a file that was another: it was listed one second and one nanosecond before 1970.
 fn altered(alloc: Global, seen: Seen) -> Result<ScanEnd, Fail> {
@@ -85,8 +57,30 @@ fn altered(alloc: Global, seen: Seen) -> Result<ScanEnd, Fail> {
 
 #[test]
 fn what_stands_in_a_file_s_place_is_said(rt: HostRuntime) -> Result<(), Fail> {
-    for (seen, line) in SEEN {
-        says(&rt, rt.alloc(), &altered(rt.alloc(), seen)?, line, 4)?;
-    }
-    Ok(())
+    let alloc = rt.alloc();
+    let gone = altered(alloc, Seen::Gone)?;
+    says(
+        &rt,
+        alloc,
+        &gone,
+        "dbgd: altered /srv/a listed 0:-2:999999999 seen gone\n",
+        4,
+    )?;
+    let other = altered(alloc, Seen::Other)?;
+    says(
+        &rt,
+        alloc,
+        &other,
+        "dbgd: altered /srv/a listed 0:-2:999999999 seen other\n",
+        4,
+    )?;
+    let largest = altered(alloc, Seen::File(LARGEST))?;
+    says(
+        &rt,
+        alloc,
+        &largest,
+        "dbgd: altered /srv/a listed 0:-2:999999999 \
+        seen 18446744073709551615:0:000000007\n",
+        4,
+    )
 }

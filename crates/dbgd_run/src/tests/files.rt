@@ -15,11 +15,12 @@ const SECTION: &[&str] = &["section", "/w/a", ".text"];
 /// The line of the id A, and of an id of 64 bytes.
 const BOTH: &[u8] = b"000102030405060708090a0b0c0d0e0f10111213 both\n";
 
-const LONGEST: &[u8] =
-    b"11111111111111111111111111111111111111111111111111111111111111111111111111111111111111111111111111111111111111111111111111111111 executable\n";
+const LONGEST: &[u8] = b"\
+    1111111111111111111111111111111111111111111111111111111111111111\
+    1111111111111111111111111111111111111111111111111111111111111111 executable\n";
 
 /// Files, with the line of the identity or of why there is none.
-const IDENTITIES: [Case; 10] = [
+static IDENTITIES: [Case; 10] = [
     Case(One(Both), &[], SOUND, &[Run(IDENT, BOTH, "", 0)]),
     Case(
         One(EightAligned),
@@ -76,7 +77,7 @@ const NAMES: &[u8] = b"\0.note.gnu.build-id\0.text\0.shstrtab\0";
 
 /// Files, with sections that are there, and that aren't: of the companion, the first takes no bytes
 /// in the file, the second is compressed, the third isn't there.
-const SECTIONS: [Case; 7] = [
+static SECTIONS: [Case; 7] = [
     Case(
         One(Companion),
         &[],
@@ -151,7 +152,7 @@ const FILE_FAULT: &str = "dbgd: fault file\n";
 const OUTPUT_FAULT: &str = "dbgd: fault output\n";
 
 /// What is gone, and what fails.
-const MISHAPS: [Case; 10] = [
+static MISHAPS: [Case; 10] = [
     Case(
         One(Both),
         &[],

@@ -1,6 +1,7 @@
 //! The hands of the tests.
 
-ghost use Rattle.std.specs.Prelude.{◌≡◌, IfOk};
+ghost use Rattle.std.specs.Prelude.{◌≡◌, IfOk, IsTrue};
+ghost use Rattle.tree_trait.specs.Script.{is_stage};
 
 use row_types::{OpenWorld, Stamp};
 use sample_files::{
@@ -12,7 +13,6 @@ use std::test::Fail;
 use tree_trait::{DirAnswer, Found, LoadAnswer, MemTree, Script, StatAnswer, Tree, TwoWorld};
 
 /// What a file holds.
-#[derive(Clone, Copy, Debug)]
 pub enum File {
     Empty,
     /// An ELF header that is one byte short.
@@ -31,7 +31,6 @@ pub enum File {
 }
 
 /// The files of a hand of the open world.
-#[derive(Clone, Copy)]
 pub enum Files {
     /// `/w/a`.
     One(File),
@@ -40,7 +39,7 @@ pub enum Files {
 }
 
 /// A file's bytes.
-fn bytes_of(alloc: Global, file: File) -> Result<Vec<u8>, AllocError> {
+fn bytes_of(alloc: Global, file: &File) -> Result<Vec<u8>, AllocError> {
     match file {
         File::Empty => Ok(Vec::new(alloc)),
         File::Cut => cut_header(alloc),
@@ -76,35 +75,31 @@ fn file_of(alloc: Global, path: &str, bytes: Vec<u8>) -> Result<Found<OpenWorld>
     Ok(Found::new(String::from_str(alloc, path)?, stamp, bytes))
 }
 
-/// The tree of one file.
-fn one_file(alloc: Global, file: File, bad: &[u64]) -> Result<MemTree<OpenWorld>, Fail> {
-    let found = file_of(alloc, "/w/a", bytes_of(alloc, file)?)?;
-    let script = Script {
-        stages: vec![in alloc; vec![in alloc; found]?]?,
-        moves: Vec::new(alloc),
-        bad_calls: Vec::from_slice(alloc, bad)?,
-    };
-    Ok(MemTree::new(alloc, script))
-}
-
-/// The tree of two files.
-fn two_files(alloc: Global, bad: &[u64]) -> Result<MemTree<OpenWorld>, Fail> {
-    let first = file_of(alloc, "/srv/a", both_classes(alloc)?)?;
-    let second = file_of(alloc, "/srv/b", Vec::from_slice(alloc, b"hello\n")?)?;
-    let script = Script {
-        stages: vec![in alloc; vec![in alloc; first, second]?]?,
-        moves: Vec::new(alloc),
-        bad_calls: Vec::from_slice(alloc, bad)?,
-    };
-    Ok(MemTree::new(alloc, script))
+/// The files of a hand.
+fn files_of(alloc: Global, files: &Files) -> Result<Vec<Found<OpenWorld>>, Fail>
+    ensures { IfOk result (λ found. IsTrue (is_stage found.items)) }
+{
+    match files {
+        Files::One(file) => {
+            let found = file_of(alloc, "/w/a", bytes_of(alloc, file)?)?;
+            Ok(vec![in alloc; found]?)
+        }
+        Files::Two => {
+            let first = file_of(alloc, "/srv/a", both_classes(alloc)?)?;
+            let second = file_of(alloc, "/srv/b", Vec::from_slice(alloc, b"hello\n")?)?;
+            Ok(vec![in alloc; first, second]?)
+        }
+    }
 }
 
 /// A hand that has these files, and fails at these calls.
-pub fn hand_of(alloc: Global, files: Files, bad: &[u64]) -> Result<MemTree<OpenWorld>, Fail> {
-    match files {
-        Files::One(file) => one_file(alloc, file, bad),
-        Files::Two => two_files(alloc, bad),
-    }
+pub fn hand_of(alloc: Global, files: &Files, bad: &[u64]) -> Result<MemTree<OpenWorld>, Fail> {
+    let script = Script {
+        stages: vec![in alloc; files_of(alloc, files)?]?,
+        moves: Vec::new(alloc),
+        bad_calls: Vec::from_slice(alloc, bad)?,
+    };
+    Ok(MemTree::new(alloc, script))
 }
 
 /// A hand of the told world of one byte a file, which has `/w/a`.

@@ -17,7 +17,6 @@ use tree_trait::Tree;
 /// When the objects around a hand fail: the call of the store from which on it fails, until it is
 /// opened again, those of its calls that fail once, the writes that fail on out and on err, and how
 /// many bytes a write takes at most.
-#[derive(Clone, Copy)]
 pub struct Plan<'a> {
     pub stop_at: Option<u64>,
     pub bad_calls: &'a [u64],
@@ -40,7 +39,6 @@ pub const SOUND: Plan<'static> = Plan {
 pub struct Run<'a>(pub &'a [&'a str], pub &'a [u8], pub &'a str, pub u8);
 
 /// What a hand has, its calls that fail, what else fails, and runs over it, one after the other.
-#[derive(Clone, Copy)]
 pub struct Case<'a>(pub Files, pub &'a [u64], pub Plan<'a>, pub &'a [Run<'a>]);
 
 /// A sink in memory that takes so many bytes at most at a time.
@@ -101,6 +99,19 @@ pub fn outside_of<W: ElfTruth + Send, T: Tree<W>>(
     })
 }
 
+/// Compares what a sink got by the end of a run of these words.
+pub fn compare(
+    rt: &impl Abort,
+    sink: &MemSink,
+    want: &[u8],
+    name: &str,
+    words: &[&str],
+) -> Result<(), Fail> {
+    let got = sink.written().ok_or("told")?;
+    assert_eq!(rt; got, want, "{name} of {words:?}");
+    Ok(())
+}
+
 /// Runs once, and compares.
 fn run_once<W: ElfTruth + Send, T: Tree<W>>(
     rt: &impl Abort,
@@ -108,23 +119,15 @@ fn run_once<W: ElfTruth + Send, T: Tree<W>>(
     outside: &mut Memory<W, T>,
     case: &Run<'_>,
 ) -> Result<(), Fail> {
-    let Run(words, out, err, status) = *case;
+    let Run(words, out, err, status) = case;
     if outside.hands.is_empty() {
         return Err("a hand".into());
     }
     let texts = words_of(alloc, words)?;
     let ended = run(alloc, texts.as_slice(), outside);
-    assert_eq!(rt;
-        outside.out.sink.written().ok_or("told")?,
-        out,
-        "out of {words:?}"
-    );
-    assert_eq!(rt;
-        outside.err.sink.written().ok_or("told")?,
-        err.as_bytes(),
-        "err of {words:?}"
-    );
-    assert_eq!(rt; ended, status, "status of {words:?}");
+    compare(rt, &outside.out.sink, out, "out", words)?;
+    compare(rt, &outside.err.sink, err.as_bytes(), "err", words)?;
+    assert_eq!(rt; ended, *status, "status of {words:?}");
     Ok(())
 }
 
@@ -146,7 +149,7 @@ pub fn run_all<W: ElfTruth + Send, T: Tree<W>>(
 /// Runs each case over a hand of the open world.
 pub fn run_cases(rt: &impl Abort, alloc: Global, cases: &[Case<'_>]) -> Result<(), Fail> {
     for Case(files, bad_calls, plan, runs) in cases {
-        run_all(rt, alloc, hand_of(alloc, *files, bad_calls)?, plan, runs)?;
+        run_all(rt, alloc, hand_of(alloc, files, bad_calls)?, plan, runs)?;
     }
     Ok(())
 }

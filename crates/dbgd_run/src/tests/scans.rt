@@ -35,7 +35,7 @@ const NARROW_CUT: Plan = Plan {
 
 /// Scans of two files. Two looks at the files follow the call of number 1, which reads the folder,
 /// and then comes the first load.
-const TWO_FILES: [Case; 7] = [
+static TWO_FILES: [Case; 7] = [
     Case(Two, &[], SOUND, &[Run(SCAN, TWO, "", 0)]),
     Case(Two, &[], SOUND, &[Run(NOWHERE, b"", GONE, 3)]),
     Case(Two, &[1], SOUND, &[Run(SCAN, b"", FOLDER_FAULT, 1)]),
@@ -113,7 +113,7 @@ const FILLED: Run = Run(SCAN, b"", "dbgd: fault store\ndbgd: not built yet\n", 8
 
 /// Scans with a store that fails. Its calls are its opening, its rows, and two puts; a put at an
 /// even number isn't made. It is opened before a folder is looked at.
-const STORES: [Case; 9] = [
+static STORES: [Case; 9] = [
     Case(Two, &[], STOP_AT_0, &[FAULT, WHOLE]),
     Case(Two, &[], STOP_AT_1, &[FAULT, WHOLE]),
     Case(Two, &[], STOP_AT_2, &[FAULT, WHOLE]),

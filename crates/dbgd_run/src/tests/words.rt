@@ -7,11 +7,11 @@ use std::alloc::Global;
 use std::process::Abort;
 use std::test::Fail;
 
-const USAGE: &str =
-    "usage: dbgd ident FILE, sources FILE, section FILE NAME, query -d DB ID, scan -d DB DIR, serve -d DB DIR, trial SEED FILES WORKERS\n";
+const USAGE: &str = "usage: dbgd ident FILE, sources FILE, section FILE NAME, query -d DB ID, \
+    scan -d DB DIR, serve -d DB DIR, trial SEED FILES WORKERS\n";
 
 /// Lines that can't be read.
-const UNREADABLE: [&[&str]; 11] = [
+static UNREADABLE: [&[&str]; 11] = [
     &[],
     &[""],
     &["frobnicate"],
@@ -27,7 +27,7 @@ const UNREADABLE: [&[&str]; 11] = [
 
 /// Lines of commands, or of words of a scan, that aren't built yet. A later command isn't, whatever
 /// follows.
-const UNBUILT: [&[&str]; 17] = [
+static UNBUILT: [&[&str]; 17] = [
     &["sources"],
     &["sources", "--help", ""],
     &["query"],
@@ -56,7 +56,7 @@ fn each_says(
     status: u8,
 ) -> Result<(), Fail> {
     for words in lines {
-        let hand = hand_of(alloc, Files::One(File::Empty), &[])?;
+        let hand = hand_of(alloc, &Files::One(File::Empty), &[])?;
         run_all(rt, alloc, hand, &SOUND, &[Run(words, b"", err, status)])?;
     }
     Ok(())
@@ -71,7 +71,7 @@ fn words_that_ask_nothing_give_their_line(rt: HostRuntime) -> Result<(), Fail> {
 #[test]
 fn the_local_part_answers_every_line(rt: HostRuntime) -> Result<(), Fail> {
     let alloc = rt.alloc();
-    let hand = hand_of(alloc, Files::One(File::Empty), &[])?;
+    let hand = hand_of(alloc, &Files::One(File::Empty), &[])?;
     let mut outside = outside_of(alloc, hand, &SOUND)?;
     if outside.hands.is_empty() {
         return Err("a hand".into());

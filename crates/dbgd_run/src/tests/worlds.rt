@@ -15,7 +15,7 @@ const ONE: &[u8] =
     b"scan: 1 files, 1 added, 0 replaced, 0 dropped, 0 kept, 0 executables, 0 debuginfo\n";
 
 /// Runs over the reference tree. `/srv/bin/tool` has code of one byte.
-const REFERENCE: [Run; 5] = [
+static REFERENCE: [Run; 5] = [
     Run(
         &["ident", "/srv/debug/ppc.debug"],
         b"a0a1a2a3a4a5a6a7 debuginfo\n",
@@ -42,7 +42,8 @@ const REFERENCE: [Run; 5] = [
     ),
     Run(
         &["scan", "-d", "m", "/srv/bin", "/srv/debug", "/w"],
-        b"a0a1a2a3a4a5a6a7 debuginfo\nplain not-elf\n\xc3scan: 12 files, 12 added, 0 replaced, 0 dropped, 0 kept, 4 executables, 4 debuginfo\n",
+        b"a0a1a2a3a4a5a6a7 debuginfo\nplain not-elf\n\xc3scan: 12 files, 12 added, \
+            0 replaced, 0 dropped, 0 kept, 4 executables, 4 debuginfo\n",
         "dbgd: plain not-elf\n",
         0,
     ),
@@ -51,7 +52,7 @@ const REFERENCE: [Run; 5] = [
 const ALTERED: &str = "dbgd: altered /srv/a listed 6:100:000000000 seen 7:101:000000000\n";
 
 /// A scan of the file that changes, and another one after it.
-const CHANGED: [Run; 2] = [Run(SCAN, b"", ALTERED, 4), Run(SCAN, ONE, ALTERED, 0)];
+static CHANGED: [Run; 2] = [Run(SCAN, b"", ALTERED, 4), Run(SCAN, ONE, ALTERED, 0)];
 
 #[test]
 fn the_sample_world_is_read_and_scanned(rt: HostRuntime) -> Result<(), Fail> {
@@ -65,29 +66,31 @@ fn the_sample_world_is_read_and_scanned(rt: HostRuntime) -> Result<(), Fail> {
 }
 
 /// What is said of the file of one byte, in a told world.
-const BYTE: [Run; 2] = [
+static BYTE: [Run; 2] = [
     Run(IDENT, b"plain not-elf\n", "", 3),
     Run(
         &["scan", "-d", "m", "/w"],
-        b"plain not-elf\nscan: 1 files, 1 added, 0 replaced, 0 dropped, 0 kept, 0 executables, 0 debuginfo\n",
+        b"plain not-elf\nscan: 1 files, 1 added, 0 replaced, 0 dropped, 0 kept, \
+            0 executables, 0 debuginfo\n",
         "",
         0,
     ),
 ];
 
 /// What is said of a file above the size limit.
-const LARGE: [Run; 2] = [
+static LARGE: [Run; 2] = [
     Run(IDENT, b"plain too-large\n", "", 3),
     Run(
         &["scan", "-d", "m", "/large"],
-        b"plain too-large\nscan: 1 files, 1 added, 0 replaced, 0 dropped, 0 kept, 0 executables, 0 debuginfo\n",
+        b"plain too-large\nscan: 1 files, 1 added, 0 replaced, 0 dropped, 0 kept, \
+            0 executables, 0 debuginfo\n",
         "",
         0,
     ),
 ];
 
 /// What is said where there is no memory for any file.
-const WANTS: [Run; 2] = [
+static WANTS: [Run; 2] = [
     Run(IDENT, b"", "dbgd: out of memory\n", 6),
     Run(SCAN, b"", "dbgd: out of memory\ndbgd: out of memory\n", 6),
 ];

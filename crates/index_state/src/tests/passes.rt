@@ -1,87 +1,131 @@
 //! Passes in the open world, call by call.
 
-use crate::answer::{Begun, OpenFault, Published, Standing};
-use crate::tests::calls::{Call, End, run_calls};
-use crate::tests::helpers::{open, plan, stamp, standing, store_stopping_at};
+use crate::answer::{OpenFault, Standing};
+use crate::tests::calls::{Call, Case, run_case};
+use crate::tests::helpers::{NOTHING, open, store_stopping_at};
 use row_types::OpenWorld;
 use std::test::Fail;
 
-#[test]
-fn listed_files_are_taken_by_path_and_added(rt: HostRuntime) -> Result<(), Fail> {
-    let calls = [
-        Call::Begin(&[("/a", 1), ("/b", 2)], plan(2, 2, 0, 0, 0)),
-        Call::Take(Some(("/a", 1))),
-        Call::Publish("/a", 1, Published::Added),
-        Call::Publish("/a", 1, Published::Already),
-        Call::Take(Some(("/b", 2))),
-        Call::Publish("/b", 2, Published::Added),
-        Call::Take(None),
-    ];
-    let end = End {
-        rows: &[("/a", 1), ("/b", 2)],
-        standing: standing(0, 0, 2, 2),
-    };
-    let mut store = store_stopping_at(rt.alloc(), None);
-    run_calls(&rt, rt.alloc(), &mut store, calls.as_slice(), end)
-}
+/// A pass over one file, whose row is added.
+const ONE_ROW: Case = Case {
+    shows: "one row is added",
+    stop_at: None,
+    calls: &[
+        (
+            Call::Begin(&[("/a", 1)]),
+            "Begun(Plan { files: 1, add: 1, replace: 0, drop: 0, keep: 0 })",
+        ),
+        (Call::Publish("/a", 1), "Added"),
+    ],
+    rows: "/a 1, ",
+    standing: Standing {
+        log: 1,
+        rows: 1,
+        ..NOTHING
+    },
+};
 
-#[test]
-fn what_is_not_listed_is_refused_with_the_listed_stamp(rt: HostRuntime) -> Result<(), Fail> {
-    let other = Published::NotListed {
-        listed: Some(stamp(1)),
-    };
-    let calls = [
-        Call::Publish("/a", 1, Published::NotListed { listed: None }),
-        Call::Begin(&[("/a", 1)], plan(1, 1, 0, 0, 0)),
-        Call::Publish("/a", 2, other),
-        Call::Publish("/b", 1, Published::NotListed { listed: None }),
-    ];
-    let end = End {
-        rows: &[],
-        standing: standing(1, 0, 0, 0),
-    };
-    let mut store = store_stopping_at(rt.alloc(), None);
-    run_calls(&rt, rt.alloc(), &mut store, calls.as_slice(), end)
-}
-
-// Of three rows one is listed, one is listed with another stamp, and one isn't listed.
-#[test]
-fn a_second_pass_counts_against_the_rows(rt: HostRuntime) -> Result<(), Fail> {
-    let calls = [
-        Call::Begin(&[("/a", 1), ("/b", 2), ("/c", 3)], plan(3, 3, 0, 0, 0)),
-        Call::Publish("/a", 1, Published::Added),
-        Call::Publish("/b", 2, Published::Added),
-        Call::Publish("/c", 3, Published::Added),
-        Call::Begin(&[("/a", 1), ("/b", 9), ("/d", 4)], plan(3, 1, 1, 1, 1)),
-        Call::Publish("/b", 9, Published::Replaced),
-    ];
-    let end = End {
-        rows: &[("/a", 1), ("/b", 9), ("/c", 3)],
-        standing: standing(1, 2, 4, 3),
-    };
-    let mut store = store_stopping_at(rt.alloc(), None);
-    run_calls(&rt, rt.alloc(), &mut store, calls.as_slice(), end)
-}
-
-// The calls of the store: its opening, the reading of its rows, and a put for each row.
-#[test]
-fn a_store_that_stops_at_a_put_breaks_the_index(rt: HostRuntime) -> Result<(), Fail> {
-    let calls = [
-        Call::Begin(&[("/a", 1), ("/b", 2)], plan(2, 2, 0, 0, 0)),
-        Call::Publish("/a", 1, Published::Added),
-        Call::Publish("/b", 2, Published::KeeperFault),
-        Call::Publish("/b", 2, Published::Broken),
-        Call::Begin(&[("/b", 2)], Begun::Broken),
-    ];
-    let end = End {
-        rows: &[("/a", 1)],
+/// Passes, each on a store of its own.
+const CASES: &[Case] = &[
+    ONE_ROW,
+    Case {
+        shows: "listed files are taken by path and added",
+        stop_at: None,
+        calls: &[
+            (
+                Call::Begin(&[("/a", 1), ("/b", 2)]),
+                "Begun(Plan { files: 2, add: 2, replace: 0, drop: 0, keep: 0 })",
+            ),
+            (Call::Take, "/a 1, "),
+            (Call::Publish("/a", 1), "Added"),
+            (Call::Publish("/a", 1), "Already"),
+            (Call::Take, "/b 2, "),
+            (Call::Publish("/b", 2), "Added"),
+            (Call::Take, ""),
+        ],
+        rows: "/a 1, /b 2, ",
         standing: Standing {
-            broken: true,
-            ..standing(1, 0, 2, 1)
+            log: 2,
+            rows: 2,
+            ..NOTHING
         },
-    };
-    let mut store = store_stopping_at(rt.alloc(), Some(3));
-    run_calls(&rt, rt.alloc(), &mut store, calls.as_slice(), end)
+    },
+    Case {
+        shows: "what is not listed is refused with the listed stamp",
+        stop_at: None,
+        calls: &[
+            (Call::Publish("/a", 1), "NotListed { listed: None }"),
+            (
+                Call::Begin(&[("/a", 1)]),
+                "Begun(Plan { files: 1, add: 1, replace: 0, drop: 0, keep: 0 })",
+            ),
+            (
+                Call::Publish("/a", 2),
+                "NotListed { listed: Some(Stamp { size: 1, secs: 100, nanos: 0 }) }",
+            ),
+            (Call::Publish("/b", 1), "NotListed { listed: None }"),
+        ],
+        rows: "",
+        standing: Standing { todo: 1, ..NOTHING },
+    },
+    // Of three rows one is listed, one is listed with another stamp, and one isn't listed.
+    Case {
+        shows: "a second pass counts against the rows",
+        stop_at: None,
+        calls: &[
+            (
+                Call::Begin(&[("/a", 1), ("/b", 2), ("/c", 3)]),
+                "Begun(Plan { files: 3, add: 3, replace: 0, drop: 0, keep: 0 })",
+            ),
+            (Call::Publish("/a", 1), "Added"),
+            (Call::Publish("/b", 2), "Added"),
+            (Call::Publish("/c", 3), "Added"),
+            (
+                Call::Begin(&[("/a", 1), ("/b", 9), ("/d", 4)]),
+                "Begun(Plan { files: 3, add: 1, replace: 1, drop: 1, keep: 1 })",
+            ),
+            (Call::Publish("/b", 9), "Replaced"),
+        ],
+        rows: "/a 1, /b 9, /c 3, ",
+        standing: Standing {
+            todo: 1,
+            groom: 2,
+            log: 4,
+            rows: 3,
+            ..NOTHING
+        },
+    },
+    // The calls of the store: its opening, the reading of its rows, and a put for each row.
+    Case {
+        shows: "a store that stops at a put breaks the index",
+        stop_at: Some(3),
+        calls: &[
+            (
+                Call::Begin(&[("/a", 1), ("/b", 2)]),
+                "Begun(Plan { files: 2, add: 2, replace: 0, drop: 0, keep: 0 })",
+            ),
+            (Call::Publish("/a", 1), "Added"),
+            (Call::Publish("/b", 2), "KeeperFault"),
+            (Call::Publish("/b", 2), "Broken"),
+            (Call::Begin(&[("/b", 2)]), "Broken"),
+        ],
+        rows: "/a 1, ",
+        standing: Standing {
+            todo: 1,
+            log: 2,
+            rows: 1,
+            broken: true,
+            ..NOTHING
+        },
+    },
+];
+
+#[test]
+fn calls_are_answered_by_the_table(rt: HostRuntime) -> Result<(), Fail> {
+    for case in CASES {
+        let _store = run_case(&rt, rt.alloc(), case)?;
+    }
+    Ok(())
 }
 
 #[test]
@@ -94,16 +138,7 @@ fn an_opening_is_refused_where_the_store_stops(rt: HostRuntime) -> Result<(), Fa
 
 #[test]
 fn an_opening_is_refused_where_the_store_has_a_row(rt: HostRuntime) -> Result<(), Fail> {
-    let calls = [
-        Call::Begin(&[("/a", 1)], plan(1, 1, 0, 0, 0)),
-        Call::Publish("/a", 1, Published::Added),
-    ];
-    let end = End {
-        rows: &[("/a", 1)],
-        standing: standing(0, 0, 1, 1),
-    };
-    let mut store = store_stopping_at(rt.alloc(), None);
-    run_calls(&rt, rt.alloc(), &mut store, calls.as_slice(), end)?;
+    let mut store = run_case(&rt, rt.alloc(), &ONE_ROW)?;
     let refusal = open(rt.alloc(), &mut store)?.err();
     assert_eq!(rt; refusal, Some(OpenFault::NotBuilt));
     Ok(())

@@ -3,12 +3,11 @@
 ghost use Rattle.std.specs.Prelude.{◌≡◌, ◌⊎◌, IfOk};
 ghost use Rattle.tree_trait.specs.TwoWorld.{first_stamp, path as only_path, second_stamp};
 
-use crate::answer::{Begun, Published};
-use crate::tests::helpers::{
-    Index, assert_rows, assert_taken, opened, path, plan, standing, store_stopping_at,
-};
+use crate::answer::{Begun, Plan, Published, Standing};
+use crate::tests::helpers::{Index, NO_PLAN, NOTHING, opened, store_stopping_at, taken_text};
 use index_keeper::Store;
-use row_types::{CanonPath, EDITION, Name, Reading, Row, Stamp, TrueRow, Why};
+use row_types::{EDITION, Name, Reading, Row, Stamp, TrueRow, Why};
+use sample_rows::{path, paths, rows_text};
 use scan_queue::Listing;
 use std::alloc::Global;
 use std::process::Abort;
@@ -33,10 +32,10 @@ const SECOND: Stamp = Stamp {
 fn name_of(alloc: Global, stamp: Stamp) -> Result<Name, Fail>
     ensures { IfOk result (λ name. name ≡ record { path = only_path; stamp = stamp }) }
 {
-    let path = CanonPath::check(String::from_str(alloc, "/w/a")?)
-        .ok()
-        .ok_or("a canonical path")?;
-    Ok(Name { path, stamp })
+    Ok(Name {
+        path: path(alloc, "/w/a")?,
+        stamp,
+    })
 }
 
 /// The row of the version with this stamp.
@@ -48,40 +47,69 @@ fn row_of(alloc: Global, stamp: Stamp) -> Result<TrueRow<TwoWorld>, Fail>
     Ok(TrueRow::new(Row::new(name, EDITION, Reading::Plain(Why::NotElf))))
 }
 
-/// A pass over the file, which has this stamp: its name is taken, and its row is published.
+/// A pass over the file, which has this stamp: its name is taken, and its row is published. What
+/// was answered.
 fn scan(
-    rt: &impl Abort,
     alloc: Global,
     index: &mut Index<TwoWorld>,
     stamp: Stamp,
-    begun: Begun,
-    said: Published,
-) -> Result<(), Fail>
+) -> Result<(Begun, String, Published), Fail>
     requires { (stamp ≡ first_stamp) ⊎ (stamp ≡ second_stamp) }
 {
     let listing = Listing::new(vec![in alloc; name_of(alloc, stamp)?]?)
         .ok()
         .ok_or("one name is by path")?;
-    let roots = vec![in alloc; path(alloc, "/w")?]?;
-    assert_eq!(rt; index.begin(alloc, listing, roots), begun);
-    assert_taken(rt, index.take(), Some(("/w/a", stamp.size)));
-    assert_eq!(rt; index.publish(alloc, row_of(alloc, stamp)?), said);
+    let row = row_of(alloc, stamp)?;
+    let begun = index.begin(alloc, listing, paths(alloc, &["/w"])?);
+    let taken = taken_text(alloc, index.take())?;
+    Ok((begun, taken, index.publish(alloc, row)))
+}
+
+/// Both versions, one after the other. The first version's name isn't listed by the second pass,
+/// and stays to be looked for.
+fn scan_both(rt: &impl Abort, alloc: Global, index: &mut Index<TwoWorld>) -> Result<(), Fail> {
+    let (begun, taken, said) = scan(alloc, index, FIRST)?;
+    assert_eq!(rt;
+        begun,
+        Begun::Begun(Plan {
+            files: 1,
+            add: 1,
+            ..NO_PLAN
+        })
+    );
+    assert_eq!(rt; taken.as_str(), "/w/a 1, ");
+    assert_eq!(rt; said, Published::Added);
+    assert_eq!(rt; rows_text(alloc, index.rows())?.as_str(), "/w/a 1, ");
+    let (begun, taken, said) = scan(alloc, index, SECOND)?;
+    assert_eq!(rt;
+        begun,
+        Begun::Begun(Plan {
+            files: 1,
+            replace: 1,
+            ..NO_PLAN
+        })
+    );
+    assert_eq!(rt; taken.as_str(), "/w/a 2, ");
+    assert_eq!(rt; said, Published::Replaced);
+    assert_eq!(rt; rows_text(alloc, index.rows())?.as_str(), "/w/a 2, ");
+    assert_eq!(rt;
+        index.standing(),
+        Standing {
+            groom: 1,
+            log: 2,
+            rows: 1,
+            ..NOTHING
+        }
+    );
     Ok(())
 }
 
-// The first version's name isn't listed by the second pass, and stays to be looked for.
 #[test]
 fn a_second_version_replaces_the_first(rt: HostRuntime) -> Result<(), Fail> {
     let alloc = rt.alloc();
     let mut store = store_stopping_at(alloc, None);
     let mut index = opened(alloc, &mut store)?;
-    let first = plan(1, 1, 0, 0, 0);
-    scan(&rt, alloc, &mut index, FIRST, first, Published::Added)?;
-    assert_rows(&rt, index.rows(), &[("/w/a", 1)]);
-    let second = plan(1, 0, 1, 0, 0);
-    scan(&rt, alloc, &mut index, SECOND, second, Published::Replaced)?;
-    assert_rows(&rt, index.rows(), &[("/w/a", 2)]);
-    assert_eq!(rt; index.standing(), standing(0, 1, 2, 1));
+    let scanned = scan_both(&rt, alloc, &mut index);
     store.give_back(index.into_keeper());
-    Ok(())
+    scanned
 }

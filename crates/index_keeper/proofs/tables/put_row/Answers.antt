@@ -5,10 +5,10 @@ use Rattle.index_keeper.proofs.tables.put_row.Goals as goal
 pub returns-in-Ok-clause-ok : goal.returns-in-Ok-clause-ok
 returns-in-Ok-clause-ok c =
     let place = rw c.as_slice.ensures.value at c.in-Ok.ensures in
-    set_at c.args.path.now c.args.bytes.now c.args.rows.now.items c.in-Ok.i c.in_ok-row.row c.in_ok-row.ensures place
+    set_at c.in_ok-row.ensures place
 
 pub returns-in_ok-insert-in-Err-clause-ok : goal.returns-in_ok-insert-in-Err-clause-ok
 returns-in_ok-insert-in-Err-clause-ok c =
     let place = rw c.as_slice.ensures.value at c.in-Err.ensures in
     c.in_ok-insert-in-Err.ensures.items
-    ∙ insert_at c.args.path.now c.args.bytes.now c.args.rows.now.items c.in-Err.i c.in_ok-row.row c.in_ok-row.ensures place
+    ∙ insert_at c.in_ok-row.ensures place

@@ -7,7 +7,8 @@ use Rattle.tree_trait.proofs.folder.rest_under.Goals as goal
 pub returns-in-Some : goal.returns-in-Some
 returns-in-Some c =
     let cut = c.in-Some.ensures.cases in
-    let inner = strip_prefix_char 47 c.in-Some.rest.now c.strip_prefix-in-Some.result c.strip_prefix-in-Some.ensures.cases
-    (lit< tt) in
-    rest_of c.parent.result.now c.args.folder.now c.in-Some.rest.now c.strip_prefix-in-Some.result c.parent.ensures
+    let after = c.strip_prefix-in-Some.ensures.cases in
+    let inner = strip_prefix_char 47 c.in-Some.rest.now c.strip_prefix-in-Some.result after (lit< tt) in
+    rest_of c.parent.result.now c.args.folder.now c.in-Some.rest.now c.strip_prefix-in-Some.result
+    c.parent.ensures
     (cut.1.1 ∙ ap (λ t. c.parent.result.now ++ t) (sym cut.2)) inner

@@ -9,8 +9,8 @@ pub loop-stage-preserved : goal.loop-stage-preserved
 loop-stage-preserved g c =
     let Known : List FoundFacts → Type 0 = All (IsFound g.W.Truth.version) in
     let known : Known c.stage-item.result.items = subst Known c.as_slice.ensures.value c.know_files.ensures in
-    All-more (λ stage. Known stage.items) c.args.stages.now c.loop-stage.stage-index c.stage-item.result c.loop-stage-test.true c.loop-stage.invariant
-    (subst (λ stage. Known stage.items) c.stage-item.is known)
+    All-more (λ stage. Known stage.items) c.args.stages.now c.loop-stage.stage-index c.stage-item.result
+    c.loop-stage-test.true c.loop-stage.invariant (subst (λ stage. Known stage.items) c.stage-item.is known)
 
 pub returns : goal.returns
 returns g c =

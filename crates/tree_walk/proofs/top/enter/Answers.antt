@@ -31,7 +31,8 @@ returns-in_ok-add_long-in-Err-clause-goes g c = λ answers roots rest n.
     let joined : string_bytes c.in_ok-text.text ≡ path =
     c.in_ok-text.ensures.value ∙ ap (child c.args.folder.now) c.name.ensures.value in
     let canonical : IsCanonical path =
-    child_canonical c.args.folder.now c.args.entry.now.name c.in_ok-text.ensures.kept.canonical c.name.ensures.name in
+    child_canonical c.args.folder.now c.args.entry.now.name c.in_ok-text.ensures.kept.canonical
+    c.name.ensures.name in
     let given : string_bytes c.in-Err.text ≡ path = ap string_bytes c.in-Err.ensures.back ∙ joined in
     let long : PATH_LIMIT < length path = too_long c.args.folder.now c.args.entry.now.name PATH_LIMIT canonical
     (λ short. false≢true (c.in-Err.ensures.ok.1

@@ -17,7 +17,8 @@ returns-in_err-answer-clause-goes g c = λ answers roots seen after split b.
 pub returns-in_default-clause-goes : goal.returns-in_default-clause-goes
 returns-in_default-clause-goes g c = λ answers roots seen after split b.
     goes_on c.in_ok-answer.ensures.goes
-    (λ more look. root_ends c.note_root.result c.note_root.new.self after b split c.in_ok-answer.ensures.kept look c.in_default.not-Gone c.note_root.ensures)
+    (λ more look. root_ends c.note_root.result c.note_root.new.self after b split
+    c.in_ok-answer.ensures.kept look c.in_default.not-Gone c.note_root.ensures)
 
 pub returns-in_ok-copy-in-Gone-clause-goes : goal.returns-in_ok-copy-in-Gone-clause-goes
 returns-in_ok-copy-in-Gone-clause-goes g c = λ answers roots seen after split b.

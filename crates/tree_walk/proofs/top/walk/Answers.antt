@@ -16,7 +16,8 @@ returns-in_err-search-clause-refused g c =
 pub returns-in_err-read_folder-clause-walk : goal.returns-in_err-read_folder-clause-walk
 returns-in_err-read_folder-clause-walk g c =
     let roots : List (List ℕ) = c.args.roots.now in
-    goes_then_up c.from_residual-in_err-read_folder.ensures.1 c.loop-folder.invariant.goes c.loop-folder.invariant.hands.still
+    goes_then_up c.from_residual-in_err-read_folder.ensures.1 c.loop-folder.invariant.goes
+    c.loop-folder.invariant.hands.still
     (λ heard u. c.in_err-read_folder.ensures.goes heard roots
     (subst (λ (s : SearchFacts). IsUnderway heard roots s [] []) c.in-Some.ensures u))
 

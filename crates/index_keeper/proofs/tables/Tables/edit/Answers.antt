@@ -13,10 +13,10 @@ invariant_of-self-in-None c =
 
 pub returns-in_ok-put_row-in-Some-clause-back : goal.returns-in_ok-put_row-in-Some-clause-back
 returns-in_ok-put_row-in-Some-clause-back c =
-    undone_after c.self.inside.rows.items c.args.self.now c.put_row.new.rows.items (put_of c.as_str.result.now c.as_slice.result.now) c.args.edit.now.path
+    undone_after (put_of c.as_str.result.now c.as_slice.result.now)
     c.self.invariant c.self.view_is c.in_ok-put_row-in-Some.ensures.ok (c.as_str.ensures.value ∙ ap (λ (e : EditFacts). e.path) c.edit.view_is)
 
 pub returns-in-None-clause-back : goal.returns-in-None-clause-back
 returns-in-None-clause-back c =
-    undone_after c.self.inside.rows.items c.args.self.now c.remove_row.new.rows.items (removal_of c.as_str-in-None.result.now) c.args.edit.now.path
+    undone_after (removal_of c.as_str-in-None.result.now)
     c.self.invariant c.self.view_is c.remove_row.ensures (c.as_str-in-None.ensures.value ∙ ap (λ (e : EditFacts). e.path) c.edit.view_is)

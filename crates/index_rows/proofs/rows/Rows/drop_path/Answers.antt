@@ -6,14 +6,10 @@ use Rattle.index_rows.proofs.rows.Rows.drop_path.Goals as goal
 
 pub returns-clause-holds : goal.returns-clause-holds
 returns-clause-holds g c =
-    drop_index g.W.Truth.true_row c.args.self.now (facts_from c.self.inside.rows.items c.self.inside.log.items c.self.inside.prepared)
-    c.args.path.now c.in-Drop.name c.drop_row.new.rows.items c.list_change.new.log.items c.replace.new.dest
-    c.self.view_is c.self.invariant.index c.requires c.in-Drop.ensures.value c.drop_row.ensures c.list_change.ensures c.replace.ensures.after
+    drop_index c.args.path.now c.self.view_is c.self.invariant.index c.requires c.in-Drop.ensures.value c.drop_row.ensures c.list_change.ensures c.replace.ensures.after
 
 pub invariant_of-self : goal.invariant_of-self
 invariant_of-self g c =
     at_rest g.W.Truth.true_row (facts_from c.drop_row.new.rows.items c.list_change.new.log.items c.replace.new.dest)
     (vec_len c.drop_row.new.rows < vec_capacity c.drop_row.new.rows) (vec_len c.list_change.new.log < vec_capacity c.list_change.new.log) c.replace.ensures.after
-    (drop_index g.W.Truth.true_row c.args.self.now (facts_from c.self.inside.rows.items c.self.inside.log.items c.self.inside.prepared)
-    c.args.path.now c.in-Drop.name c.drop_row.new.rows.items c.list_change.new.log.items c.replace.new.dest
-    c.self.view_is c.self.invariant.index c.requires c.in-Drop.ensures.value c.drop_row.ensures c.list_change.ensures c.replace.ensures.after)
+    (drop_index c.args.path.now c.self.view_is c.self.invariant.index c.requires c.in-Drop.ensures.value c.drop_row.ensures c.list_change.ensures c.replace.ensures.after)

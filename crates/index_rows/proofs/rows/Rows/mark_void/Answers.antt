@@ -6,20 +6,14 @@ use Rattle.index_rows.proofs.rows.Rows.mark_void.Goals as goal
 
 pub returns-clause-void : goal.returns-clause-void
 returns-clause-void g c =
-    void_same g.W.Truth.true_row c.args.self.now (facts_from c.self.inside.rows.items c.self.inside.log.items c.self.inside.prepared)
-    c.replace-prepared.result c.void_change.result c.list_change.new.log.items
-    c.self.view_is c.self.invariant.index c.requires c.replace-prepared.ensures.value c.void_change.ensures c.list_change.ensures
+    void_same c.self.view_is c.self.invariant.index c.requires c.replace-prepared.ensures.value c.void_change.ensures c.list_change.ensures
 
 pub returns-clause-holds : goal.returns-clause-holds
 returns-clause-holds g c =
-    void_index g.W.Truth.true_row c.args.self.now (facts_from c.self.inside.rows.items c.self.inside.log.items c.self.inside.prepared)
-    c.replace-prepared.result c.void_change.result c.self.inside.rows.items c.list_change.new.log.items c.replace-prepared.new.dest
-    c.self.view_is c.self.invariant.index c.requires c.replace-prepared.ensures.value c.void_change.ensures refl c.list_change.ensures c.replace-prepared.ensures.after
+    void_index c.self.view_is c.self.invariant.index c.requires c.replace-prepared.ensures.value c.void_change.ensures refl c.list_change.ensures c.replace-prepared.ensures.after
 
 pub invariant_of-self : goal.invariant_of-self
 invariant_of-self g c =
     at_rest g.W.Truth.true_row (facts_from c.self.inside.rows.items c.list_change.new.log.items c.replace-prepared.new.dest)
     (vec_len c.self.inside.rows < vec_capacity c.self.inside.rows) (vec_len c.list_change.new.log < vec_capacity c.list_change.new.log) c.replace-prepared.ensures.after
-    (void_index g.W.Truth.true_row c.args.self.now (facts_from c.self.inside.rows.items c.self.inside.log.items c.self.inside.prepared)
-    c.replace-prepared.result c.void_change.result c.self.inside.rows.items c.list_change.new.log.items c.replace-prepared.new.dest
-    c.self.view_is c.self.invariant.index c.requires c.replace-prepared.ensures.value c.void_change.ensures refl c.list_change.ensures c.replace-prepared.ensures.after)
+    (void_index c.self.view_is c.self.invariant.index c.requires c.replace-prepared.ensures.value c.void_change.ensures refl c.list_change.ensures c.replace-prepared.ensures.after)

@@ -4,7 +4,7 @@ use Rattle.row_types.specs.Row.{RowFacts}
 use Rattle.row_types.specs.Name.{NameFacts}
 use Rattle.index_rows.specs.Rows.{row_at}
 use Rattle.index_rows.specs.declared.rows.TheConstants.{LOG_LIMIT}
-use Rattle.index_rows.proofs.KeptLemmas.{facts_from, drop_ready}
+use Rattle.index_rows.proofs.KeptLemmas.{drop_ready}
 use Rattle.index_rows.proofs.rows.Rows.reserve_drop.Goals as goal
 
 pub returns-clause-holds : goal.returns-clause-holds
@@ -13,8 +13,7 @@ returns-clause-holds g c =
     let less : length c.self.inside.log.items ≢ LOG_LIMIT = λ e. c.if-len-eq-LOG_LIMIT.false (c.len.ensures ∙ sym len_is ∙ e) in
     let there : row_at c.args.path.now c.self.inside.rows.items ≡ Some c.in-Some.row.now =
     ap (λ (rows : List RowFacts). row_at c.args.path.now rows) (sym c.as_slice.ensures.value) ∙ sym c.in-Some.ensures.value in
-    drop_ready g.W.Truth.true_row (facts_from c.self.inside.rows.items c.self.inside.log.items c.self.inside.prepared) c.args.path.now c.in-Some.row.now c.in_ok-name-in-Some.name c.reserve.new.self.items
-    c.self.invariant.index less there (c.in_ok-name-in-Some.ensures ∙ ap (λ (r : RowFacts). r.name) c.row.view_is) c.reserve.ensures.items
+    drop_ready c.args.path.now c.self.invariant.index less there (c.in_ok-name-in-Some.ensures ∙ ap (λ (r : RowFacts). r.name) c.row.view_is) c.reserve.ensures.items
 
 pub returns-clause-ready : goal.returns-clause-ready
 returns-clause-ready g c = ap (λ (n : NameFacts). n.path) (c.in_ok-name-in-Some.ensures ∙ ap (λ (r : RowFacts). r.name) c.row.view_is) ∙ c.in-Some.ensures.path
@@ -27,7 +26,6 @@ invariant_of-self-in-Some g c =
     ap (λ (rows : List RowFacts). row_at c.args.path.now rows) (sym c.as_slice.ensures.value) ∙ sym c.in-Some.ensures.value in
     record {
       index =
-          drop_ready g.W.Truth.true_row (facts_from c.self.inside.rows.items c.self.inside.log.items c.self.inside.prepared) c.args.path.now c.in-Some.row.now c.in_ok-name-in-Some.name c.reserve.new.self.items
-          c.self.invariant.index less there (c.in_ok-name-in-Some.ensures ∙ ap (λ (r : RowFacts). r.name) c.row.view_is) c.reserve.ensures.items;
+          drop_ready c.args.path.now c.self.invariant.index less there (c.in_ok-name-in-Some.ensures ∙ ap (λ (r : RowFacts). r.name) c.row.view_is) c.reserve.ensures.items;
       room = omega (arith, c.in_ok-reserve-in-Some.ensures.ok);
     }

@@ -6,4 +6,5 @@ use Rattle.scan_queue.proofs.pass.Pass.listing.Goals as goal
 
 pub returns-clause-holds : goal.returns-clause-holds
 returns-clause-holds c =
-    subst IsPass c.self.view_is (laid_out_is_pass c.self.inside.listing c.self.inside.slots.items c.self.inside.mark c.self.inside.filled c.self.invariant)
+    let before = c.self.inside in
+    subst IsPass c.self.view_is (laid_out_is_pass before.listing before.slots.items before.taken before.groomed before.filled c.self.invariant)

@@ -6,9 +6,10 @@ use Rattle.tree_trait.proofs.mem_tree.MemTreeTree.stat.Goals as goal
 
 pub returns-then-end_call-clause-asks : goal.returns-then-end_call-clause-asks
 returns-then-end_call-clause-asks g c =
-    asks_kept heard_facts c.args.self.now c.end_call.new.self c.heard_stat-call.result c.next_files.ensures.scripted c.next_files.ensures.files c.stat_in-answer.ensures
+    asks_kept heard_facts c.args.self.now c.end_call.new.self c.heard_stat-call.result
+    c.next_files.ensures.scripted c.next_files.ensures.files c.stat_in-answer.ensures
     c.heard_stat-call.ensures c.if-end_call.ensures.ended c.end_call.ensures.later
 
 pub returns-else-end_call-clause-asks : goal.returns-else-end_call-clause-asks
 returns-else-end_call-clause-asks g c =
-    asks_nothing c.next_files.ensures.scripted refl c.if-end_call.ensures.same
+    asks_nothing c.next_files.ensures.scripted tt tt refl refl c.if-end_call.ensures.same

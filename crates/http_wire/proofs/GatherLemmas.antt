@@ -1,0 +1,61 @@
+-- Bytes that come one after the other.
+use Rattle.std.proofs.Common.{◌≡◌, ℕ, ◌≤◌, List, [], ◌++◌, take, Option, Some, None, refl, sym, ap, ◌∙◌, arith, append_assoc}
+use Rattle.std.specs.Option.{option_map}
+use Rattle.std.proofs.lemmas.List.{append-nil}
+use Rattle.http_wire.specs.Find.{Gathers}
+use Rattle.http_wire.specs.Source.{Comes, Reads}
+use Rattle.http_wire.specs.Stream.{LeavesWriting, ShownStream}
+use Rattle.http_wire.specs.declared.source.ReadAnswer.{ReadAnswer}
+use Rattle.http_wire.specs.declared.source.ReadAnswer.TheVariants.{Bytes, End, Failed}
+
+-- bytes and then more
+pub comes-comes : (old mid new : Option (List ℕ)) (a b : List ℕ) → Comes old a mid → Comes mid b new
+    → Comes old (a ++ b) new
+comes-comes old mid None a b first then = first ∙ ap (option_map (λ left. a ++ left)) then
+comes-comes old mid (Some left) a b first then =
+    first ∙ ap (option_map (λ left'. a ++ left')) then ∙ ap Some (sym (append_assoc a b left))
+
+-- no bytes
+pub comes_none : (left : Option (List ℕ)) → Comes left [] left
+comes_none None = refl
+comes_none (Some left) = refl
+
+leaves_both : {before between after : ShownStream} → LeavesWriting before between
+    → LeavesWriting between after → LeavesWriting before after
+leaves_both first then = record { written = then.written ∙ first.written; write_faults = then.write_faults ∙ first.write_faults }
+
+-- nothing came yet
+pub gathers_none : (held : List ℕ) (shown : ShownStream) → Gathers held shown held shown
+gathers_none held shown = record {
+  came = [];
+  all = sym (append-nil held);
+  comes = comes_none shown.left;
+  later = omega arith;
+  writing = record { written = refl; write_faults = refl };
+}
+
+-- a read gave so many bytes more
+pub gathers_more : {held bytes more room : List ℕ} {before between after : ShownStream} (n : ℕ)
+    → Gathers held before bytes between → Reads room between after (Bytes n) → more ≡ bytes ++ take n room
+    → Gathers held before more after
+gathers_more {held} {bytes} {more} {room} {before} {between} {after} n had reads grown = record {
+  came = had.came ++ take n room;
+  all = grown ∙ ap (λ front. front ++ take n room) had.all ∙ append_assoc held had.came (take n room);
+  comes = comes-comes before.left between.left after.left had.came (take n room) had.comes reads.gives.2;
+  later = let first = had.later in let then = reads.cause.later in omega arith;
+  writing = leaves_both had.writing reads.writing;
+}
+
+-- a read gave none
+pub gathers_same : {held bytes room : List ℕ} {before between after : ShownStream} {answer : ReadAnswer}
+    → Gathers held before bytes between → Reads room between after answer → after.left ≡ between.left
+    → Gathers held before bytes after
+gathers_same {held} {bytes} {room} {before} {between} {after} had reads same = record {
+  came = had.came;
+  all = had.all;
+  comes = had.comes ∙ ap (option_map (λ left. had.came ++ left)) (sym same);
+  later = let first = had.later in let then = reads.cause.later in omega arith;
+  writing = leaves_both had.writing reads.writing;
+}
+
+pub ruleset gathering = (gathers_none, gathers_more, gathers_same)

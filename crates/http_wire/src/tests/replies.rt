@@ -1,0 +1,204 @@
+//! The bytes of replies.
+
+ghost use Rattle.std.specs.Prelude.{◌<◌, IsTrue};
+ghost use Rattle.http_wire.specs.Reply.{IsStatus};
+
+use crate::mem_sink::MemSink;
+use crate::reply::{ReplyFault, ReplyHead, write_reply};
+use crate::sink::{Sink, WriteAnswer};
+use crate::stream::Stream;
+use row_types::CanonPath;
+use std::alloc::Global;
+use std::test::Fail;
+
+/// A reply's status, whether it is a text, its file, whether it closes, its body, and its bytes.
+#[derive(Clone, Copy)]
+struct Case<'a>(u16, bool, &'a str, bool, &'a [u8], &'a [u8]);
+
+/// The reply of a section of one byte, as the documents print it.
+const SECTION: Case<'static> = Case(
+    200,
+    false,
+    "/srv/bin/tool",
+    false,
+    b"\xc3",
+    b"HTTP/1.1 200 OK\r\nContent-Type: application/octet-stream\r\nContent-Length: 1\r\nX-DEBUGINFOD-SIZE: 1\r\nX-DEBUGINFOD-FILE: /srv/bin/tool\r\nConnection: keep-alive\r\n\r\n\xc3",
+);
+
+/// A sink in memory that takes one byte at a time.
+#[derive(Drop)]
+struct Slow {
+    sink: MemSink,
+}
+
+impl Stream for Slow {
+    ghost use Rattle.http_wire.specs.MemSink.{shown_sink};
+
+    ghost shows = { λ s. shown_sink s.sink };
+}
+
+impl Sink for Slow {
+    fn write(&mut self, bytes: &[u8]) -> WriteAnswer {
+        self.sink.write(&bytes[..1])
+    }
+}
+
+/// Whether a status is one of replies.
+fn is_status(status: u16) -> bool
+    ensures { IsTrue result → IsStatus status }
+{
+    matches!(status, 200 | 400 | 404 | 405 | 431 | 502 | 503 | 507)
+}
+
+/// The file of a path, if there is one.
+fn file_of(alloc: Global, path: &str) -> Result<Option<CanonPath>, Fail> {
+    if path.is_empty() {
+        return Ok(None);
+    }
+    match CanonPath::check(String::from_str(alloc, path)?) {
+        Ok(path) => Ok(Some(path)),
+        Err(_) => Err("a canonical path")?,
+    }
+}
+
+/// Writes the reply of a case.
+fn reply<S: Sink>(
+    alloc: Global,
+    sink: &mut S,
+    case: &Case<'_>,
+    with_body: bool,
+) -> Result<Result<(), ReplyFault>, Fail> {
+    let Case(status, text, path, close, body, _) = *case;
+    let head = ReplyHead {
+        status,
+        text,
+        len: body.len() as u64,
+        file: file_of(alloc, path)?,
+        close,
+    };
+    if is_status(status) {
+        Ok(write_reply(alloc, sink, &head, body, with_body))
+    } else {
+        Err("a status of replies")?
+    }
+}
+
+#[test]
+fn replies_have_these_bytes(rt: HostRuntime) -> Result<(), Fail> {
+    let alloc = rt.alloc();
+    let cases = [
+        SECTION,
+        Case(
+            200,
+            false,
+            "",
+            true,
+            b"int",
+            b"HTTP/1.1 200 OK\r\nContent-Type: application/octet-stream\r\nContent-Length: 3\r\nX-DEBUGINFOD-SIZE: 3\r\nConnection: close\r\n\r\nint",
+        ),
+        Case(
+            200,
+            false,
+            "/a b%/\u{fc}~!\"",
+            false,
+            b"",
+            b"HTTP/1.1 200 OK\r\nContent-Type: application/octet-stream\r\nContent-Length: 0\r\nX-DEBUGINFOD-SIZE: 0\r\nX-DEBUGINFOD-FILE: /a%20b%25/%C3%BC~!\"\r\nConnection: keep-alive\r\n\r\n",
+        ),
+        Case(
+            200,
+            true,
+            "",
+            false,
+            b"dbgd 1\n",
+            b"HTTP/1.1 200 OK\r\nContent-Type: text/plain\r\nContent-Length: 7\r\nConnection: keep-alive\r\n\r\ndbgd 1\n",
+        ),
+        Case(
+            400,
+            true,
+            "",
+            true,
+            b"bad request\n",
+            b"HTTP/1.1 400 Bad Request\r\nContent-Type: text/plain\r\nContent-Length: 12\r\nConnection: close\r\n\r\nbad request\n",
+        ),
+        Case(
+            404,
+            true,
+            "",
+            false,
+            b"not found\n",
+            b"HTTP/1.1 404 Not Found\r\nContent-Type: text/plain\r\nContent-Length: 10\r\nConnection: keep-alive\r\n\r\nnot found\n",
+        ),
+        Case(
+            405,
+            true,
+            "",
+            false,
+            b"bad method\n",
+            b"HTTP/1.1 405 Method Not Allowed\r\nContent-Type: text/plain\r\nContent-Length: 11\r\nAllow: GET, HEAD\r\nConnection: keep-alive\r\n\r\nbad method\n",
+        ),
+        Case(
+            431,
+            true,
+            "",
+            true,
+            b"too large\n",
+            b"HTTP/1.1 431 Request Header Fields Too Large\r\nContent-Type: text/plain\r\nContent-Length: 10\r\nConnection: close\r\n\r\ntoo large\n",
+        ),
+        Case(
+            502,
+            true,
+            "",
+            false,
+            b"upstream fault\n",
+            b"HTTP/1.1 502 Bad Gateway\r\nContent-Type: text/plain\r\nContent-Length: 15\r\nConnection: keep-alive\r\n\r\nupstream fault\n",
+        ),
+        Case(
+            503,
+            true,
+            "",
+            false,
+            b"read fault\n",
+            b"HTTP/1.1 503 Service Unavailable\r\nContent-Type: text/plain\r\nContent-Length: 11\r\nConnection: keep-alive\r\n\r\nread fault\n",
+        ),
+        Case(
+            507,
+            true,
+            "",
+            false,
+            b"out of memory\n",
+            b"HTTP/1.1 507 Insufficient Storage\r\nContent-Type: text/plain\r\nContent-Length: 14\r\nConnection: keep-alive\r\n\r\nout of memory\n",
+        ),
+    ];
+    for case in cases {
+        let mut sink = MemSink::new(alloc, vec![in alloc; 1]?);
+        assert_eq!(rt; reply(alloc, &mut sink, &case, true)?, Ok(()));
+        assert_eq!(rt; sink.written().ok_or("told")?, case.5);
+        let mut bare = MemSink::new(alloc, vec![in alloc; 1]?);
+        assert_eq!(rt; reply(alloc, &mut bare, &case, false)?, Ok(()));
+        let head_len = case.5.len().saturating_sub(case.4.len());
+        assert_eq!(rt; bare.written().ok_or("told")?, &case.5[..head_len]);
+    }
+    Ok(())
+}
+
+#[test]
+fn a_reply_is_cut_where_a_write_fails(rt: HostRuntime) -> Result<(), Fail> {
+    let alloc = rt.alloc();
+    for (place, _) in SECTION.5.iter().enumerate() {
+        let mut slow = Slow {
+            sink: MemSink::new(alloc, vec![in alloc; place as u64]?),
+        };
+        let answer = reply(alloc, &mut slow, &SECTION, true)?;
+        assert_eq!(rt; answer, Err(ReplyFault::WriteFault), "at {place}");
+        assert_eq!(rt; slow.sink.written().ok_or("told")?, &SECTION.5[..place]);
+    }
+    let large = vec![in alloc; b'x'; 5000]?;
+    let mut sink = MemSink::new(alloc, vec![in alloc; 1]?);
+    let case = Case(200, false, "", false, large.as_slice(), b"");
+    assert_eq!(rt;
+        reply(alloc, &mut sink, &case, true)?,
+        Err(ReplyFault::WriteFault)
+    );
+    assert!(rt; sink.written().ok_or("told")?.ends_with(b"\r\n\r\n"));
+    Ok(())
+}

@@ -1,0 +1,10 @@
+-- What the parts of the pass are.
+use Rattle.std.proofs.Common.{subst}
+use Rattle.scan_queue.specs.Pass.{IsPass}
+use Rattle.scan_queue.proofs.Passes.{laid_out_is_pass}
+use Rattle.scan_queue.proofs.pass.Pass.first_miss.Goals as goal
+
+pub returns-clause-holds : goal.returns-clause-holds
+returns-clause-holds c =
+    let before = c.self.inside in
+    subst IsPass c.self.view_is (laid_out_is_pass before.listing before.slots.items before.taken before.groomed before.filled c.self.invariant)
