@@ -66,7 +66,7 @@ has_too_many bytes none more = record {
 }
 
 -- a head ends in a line feed
-ends_in_feed : (h : RequestHead) → (q : List ℕ) × (print_request h ≡ q ++ 10 ∷ [])
+pub ends_in_feed : (h : RequestHead) → (q : List ℕ) × (print_request h ≡ q ++ 10 ∷ [])
 unfolding print_request
 ends_in_feed h =
     let front = print_blank h.blank ++ h.method ++ 32 ∷ h.target ++ 32 ∷ print_version h.minor ++ print_end h.line_end in
@@ -82,7 +82,7 @@ ends_in_feed h =
     )
 
 -- a head that lies in the bytes in front is one of them
-within_front : (a b : List ℕ) (h : RequestHead) (rest : List ℕ) → ReadsRequest (a ++ b) h rest
+pub within_front : (a b : List ℕ) (h : RequestHead) (rest : List ℕ) → ReadsRequest (a ++ b) h rest
     → length (print_request h) ≤ length a → ReadsRequest a h (drop (length (print_request h)) a)
 within_front a b h rest reads fits =
     let front : take (length (print_request h)) a ≡ print_request h =

@@ -64,7 +64,12 @@ impl MemConn {
           bad_reads = bad_reads.items;
           reads = 0;
           read_faults = 0;
-          sink = record { written = Some []; bad_writes = bad_writes.items; writes = 0; faults = 0 };
+          sink = record {
+            written = Some [];
+            bad_writes = bad_writes.items;
+            writes = 0;
+            faults = 0;
+          };
         } }
     {
         MemConn {

@@ -1,5 +1,6 @@
 //! What no clause says: that memory suffices, and the printed bytes of replies.
 
 mod conns;
+mod heads;
 mod replies;
 mod sinks;

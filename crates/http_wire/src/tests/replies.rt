@@ -16,14 +16,21 @@ use std::test::Fail;
 struct Case<'a>(u16, bool, &'a str, bool, &'a [u8], &'a [u8]);
 
 /// The reply of a section of one byte, as the documents print it.
-const SECTION: Case<'static> = Case(
-    200,
-    false,
-    "/srv/bin/tool",
-    false,
-    b"\xc3",
-    b"HTTP/1.1 200 OK\r\nContent-Type: application/octet-stream\r\nContent-Length: 1\r\nX-DEBUGINFOD-SIZE: 1\r\nX-DEBUGINFOD-FILE: /srv/bin/tool\r\nConnection: keep-alive\r\n\r\n\xc3",
-);
+fn section() -> Case<'static> {
+    Case(
+        200,
+        false,
+        "/srv/bin/tool",
+        false,
+        b"\xc3",
+        b"HTTP/1.1 200 OK\r\n\
+          Content-Type: application/octet-stream\r\n\
+          Content-Length: 1\r\n\
+          X-DEBUGINFOD-SIZE: 1\r\n\
+          X-DEBUGINFOD-FILE: /srv/bin/tool\r\n\
+          Connection: keep-alive\r\n\r\n\xc3",
+    )
+}
 
 /// A sink in memory that takes one byte at a time.
 #[derive(Drop)]
@@ -83,18 +90,21 @@ fn reply<S: Sink>(
     }
 }
 
-#[test]
-fn replies_have_these_bytes(rt: HostRuntime) -> Result<(), Fail> {
-    let alloc = rt.alloc();
-    let cases = [
-        SECTION,
+/// Replies of each status, and of each kind.
+fn cases() -> [Case<'static>; 11] {
+    [
+        section(),
         Case(
             200,
             false,
             "",
             true,
             b"int",
-            b"HTTP/1.1 200 OK\r\nContent-Type: application/octet-stream\r\nContent-Length: 3\r\nX-DEBUGINFOD-SIZE: 3\r\nConnection: close\r\n\r\nint",
+            b"HTTP/1.1 200 OK\r\n\
+              Content-Type: application/octet-stream\r\n\
+              Content-Length: 3\r\n\
+              X-DEBUGINFOD-SIZE: 3\r\n\
+              Connection: close\r\n\r\nint",
         ),
         Case(
             200,
@@ -102,7 +112,12 @@ fn replies_have_these_bytes(rt: HostRuntime) -> Result<(), Fail> {
             "/a b%/\u{fc}~!\"",
             false,
             b"",
-            b"HTTP/1.1 200 OK\r\nContent-Type: application/octet-stream\r\nContent-Length: 0\r\nX-DEBUGINFOD-SIZE: 0\r\nX-DEBUGINFOD-FILE: /a%20b%25/%C3%BC~!\"\r\nConnection: keep-alive\r\n\r\n",
+            b"HTTP/1.1 200 OK\r\n\
+              Content-Type: application/octet-stream\r\n\
+              Content-Length: 0\r\n\
+              X-DEBUGINFOD-SIZE: 0\r\n\
+              X-DEBUGINFOD-FILE: /a%20b%25/%C3%BC~!\"\r\n\
+              Connection: keep-alive\r\n\r\n",
         ),
         Case(
             200,
@@ -110,7 +125,10 @@ fn replies_have_these_bytes(rt: HostRuntime) -> Result<(), Fail> {
             "",
             false,
             b"dbgd 1\n",
-            b"HTTP/1.1 200 OK\r\nContent-Type: text/plain\r\nContent-Length: 7\r\nConnection: keep-alive\r\n\r\ndbgd 1\n",
+            b"HTTP/1.1 200 OK\r\n\
+              Content-Type: text/plain\r\n\
+              Content-Length: 7\r\n\
+              Connection: keep-alive\r\n\r\ndbgd 1\n",
         ),
         Case(
             400,
@@ -118,7 +136,10 @@ fn replies_have_these_bytes(rt: HostRuntime) -> Result<(), Fail> {
             "",
             true,
             b"bad request\n",
-            b"HTTP/1.1 400 Bad Request\r\nContent-Type: text/plain\r\nContent-Length: 12\r\nConnection: close\r\n\r\nbad request\n",
+            b"HTTP/1.1 400 Bad Request\r\n\
+              Content-Type: text/plain\r\n\
+              Content-Length: 12\r\n\
+              Connection: close\r\n\r\nbad request\n",
         ),
         Case(
             404,
@@ -126,7 +147,10 @@ fn replies_have_these_bytes(rt: HostRuntime) -> Result<(), Fail> {
             "",
             false,
             b"not found\n",
-            b"HTTP/1.1 404 Not Found\r\nContent-Type: text/plain\r\nContent-Length: 10\r\nConnection: keep-alive\r\n\r\nnot found\n",
+            b"HTTP/1.1 404 Not Found\r\n\
+              Content-Type: text/plain\r\n\
+              Content-Length: 10\r\n\
+              Connection: keep-alive\r\n\r\nnot found\n",
         ),
         Case(
             405,
@@ -134,7 +158,11 @@ fn replies_have_these_bytes(rt: HostRuntime) -> Result<(), Fail> {
             "",
             false,
             b"bad method\n",
-            b"HTTP/1.1 405 Method Not Allowed\r\nContent-Type: text/plain\r\nContent-Length: 11\r\nAllow: GET, HEAD\r\nConnection: keep-alive\r\n\r\nbad method\n",
+            b"HTTP/1.1 405 Method Not Allowed\r\n\
+              Content-Type: text/plain\r\n\
+              Content-Length: 11\r\n\
+              Allow: GET, HEAD\r\n\
+              Connection: keep-alive\r\n\r\nbad method\n",
         ),
         Case(
             431,
@@ -142,7 +170,10 @@ fn replies_have_these_bytes(rt: HostRuntime) -> Result<(), Fail> {
             "",
             true,
             b"too large\n",
-            b"HTTP/1.1 431 Request Header Fields Too Large\r\nContent-Type: text/plain\r\nContent-Length: 10\r\nConnection: close\r\n\r\ntoo large\n",
+            b"HTTP/1.1 431 Request Header Fields Too Large\r\n\
+              Content-Type: text/plain\r\n\
+              Content-Length: 10\r\n\
+              Connection: close\r\n\r\ntoo large\n",
         ),
         Case(
             502,
@@ -150,7 +181,10 @@ fn replies_have_these_bytes(rt: HostRuntime) -> Result<(), Fail> {
             "",
             false,
             b"upstream fault\n",
-            b"HTTP/1.1 502 Bad Gateway\r\nContent-Type: text/plain\r\nContent-Length: 15\r\nConnection: keep-alive\r\n\r\nupstream fault\n",
+            b"HTTP/1.1 502 Bad Gateway\r\n\
+              Content-Type: text/plain\r\n\
+              Content-Length: 15\r\n\
+              Connection: keep-alive\r\n\r\nupstream fault\n",
         ),
         Case(
             503,
@@ -158,7 +192,10 @@ fn replies_have_these_bytes(rt: HostRuntime) -> Result<(), Fail> {
             "",
             false,
             b"read fault\n",
-            b"HTTP/1.1 503 Service Unavailable\r\nContent-Type: text/plain\r\nContent-Length: 11\r\nConnection: keep-alive\r\n\r\nread fault\n",
+            b"HTTP/1.1 503 Service Unavailable\r\n\
+              Content-Type: text/plain\r\n\
+              Content-Length: 11\r\n\
+              Connection: keep-alive\r\n\r\nread fault\n",
         ),
         Case(
             507,
@@ -166,10 +203,18 @@ fn replies_have_these_bytes(rt: HostRuntime) -> Result<(), Fail> {
             "",
             false,
             b"out of memory\n",
-            b"HTTP/1.1 507 Insufficient Storage\r\nContent-Type: text/plain\r\nContent-Length: 14\r\nConnection: keep-alive\r\n\r\nout of memory\n",
+            b"HTTP/1.1 507 Insufficient Storage\r\n\
+              Content-Type: text/plain\r\n\
+              Content-Length: 14\r\n\
+              Connection: keep-alive\r\n\r\nout of memory\n",
         ),
-    ];
-    for case in cases {
+    ]
+}
+
+#[test]
+fn replies_have_these_bytes(rt: HostRuntime) -> Result<(), Fail> {
+    let alloc = rt.alloc();
+    for case in cases() {
         let mut sink = MemSink::new(alloc, vec![in alloc; 1]?);
         assert_eq!(rt; reply(alloc, &mut sink, &case, true)?, Ok(()));
         assert_eq!(rt; sink.written().ok_or("told")?, case.5);
@@ -184,13 +229,14 @@ fn replies_have_these_bytes(rt: HostRuntime) -> Result<(), Fail> {
 #[test]
 fn a_reply_is_cut_where_a_write_fails(rt: HostRuntime) -> Result<(), Fail> {
     let alloc = rt.alloc();
-    for (place, _) in SECTION.5.iter().enumerate() {
+    let case = section();
+    for (place, _) in case.5.iter().enumerate() {
         let mut slow = Slow {
             sink: MemSink::new(alloc, vec![in alloc; place as u64]?),
         };
-        let answer = reply(alloc, &mut slow, &SECTION, true)?;
+        let answer = reply(alloc, &mut slow, &case, true)?;
         assert_eq!(rt; answer, Err(ReplyFault::WriteFault), "at {place}");
-        assert_eq!(rt; slow.sink.written().ok_or("told")?, &SECTION.5[..place]);
+        assert_eq!(rt; slow.sink.written().ok_or("told")?, &case.5[..place]);
     }
     let large = vec![in alloc; b'x'; 5000]?;
     let mut sink = MemSink::new(alloc, vec![in alloc; 1]?);
