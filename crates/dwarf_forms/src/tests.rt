@@ -17,7 +17,7 @@ fn strings(base: Option<u64>, wide: bool) -> Strings<'static> {
 
 // DWARF 5, section 7.5.6, table 7.6, and section 7.5.5: a form, and how many bytes the value takes
 // that begins with a byte 3 and goes on with bytes 0, in the 32-bit and in the 64-bit format.
-const SIZES: [(u64, usize, usize); 41] = [
+static SIZES: [(u64, usize, usize); 41] = [
     (0x01, 8, 8),
     (0x03, 5, 5),
     (0x04, 7, 7),

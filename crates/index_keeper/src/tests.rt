@@ -171,7 +171,7 @@ fn an_opening_that_fails_takes_no_number(rt: HostRuntime) -> Result<(), Fail> {
 }
 
 /// The calls of a store that stops at its second put, and in front of them one for its rows.
-const STOPS: [Call<'static>; 5] = [
+static STOPS: [Call<'static>; 5] = [
     Call::Rows(""),
     Call::Put("/a", KeepAnswer::Done),
     Call::Put("/b", KeepAnswer::Failed),

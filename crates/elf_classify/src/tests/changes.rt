@@ -27,7 +27,7 @@ fn changed(alloc: Global, file: &[u8], place: usize, bytes: &[u8]) -> Result<Vec
 
 /// The sample of both classes has its section table at 168: the header of its notes stands at 232,
 /// that of its names' section at 424.
-const WIDE: [Change; 16] = [
+static WIDE: [Change; 16] = [
     ("another beginning", 0, &[0x7e], Why::NotElf),
     ("an unknown class", 4, &[3], Why::BadElf),
     ("an unknown order", 5, &[0], Why::BadElf),
@@ -53,7 +53,7 @@ const WIDE: [Change; 16] = [
 
 /// The sample 32-bit big-endian file has its section table at 124: the header of its notes stands
 /// at 164, that of its names' section at 284.
-const NARROW: [Change; 10] = [
+static NARROW: [Change; 10] = [
     ("an unknown order", 5, &[3], Why::BadElf),
     ("an unknown version", 6, &[0], Why::BadElf),
     ("no section table", 35, &[0], Why::NoSections),
@@ -67,7 +67,7 @@ const NARROW: [Change; 10] = [
 ];
 
 /// In the sample with extended counts section 0's size stands at 200, its link at 208.
-const EXTENDED: [Change; 5] = [
+static EXTENDED: [Change; 5] = [
     ("section 0 past the end", 40, &[0xa9, 1], Why::BadElf),
     ("a count of 0", 200, &[0], Why::NoSections),
     ("a table past the end", 200, &[6], Why::BadElf),

@@ -26,7 +26,7 @@ const ONE_ROW: Case = Case {
 };
 
 /// Passes, each on a store of its own.
-const CASES: &[Case] = &[
+static CASES: &[Case] = &[
     ONE_ROW,
     Case {
         shows: "listed files are taken by path and added",
