@@ -1,6 +1,6 @@
 -- Names of sample files (this project's example): each is known by its path and its size.
 use Rattle.std.specs.Borrow.{Bor}
-use Rattle.std.specs.Prelude.{ℕ, List, map, pos}
+use Rattle.std.specs.Prelude.{ℕ, List, ◌++◌, map, pos, codes, decimal}
 use Rattle.row_types.specs.Canon.{IsCanonPath}
 use Rattle.row_types.specs.Name.{NameFacts}
 use Rattle.row_types.specs.Stamp.{StampFacts}
@@ -26,3 +26,7 @@ names_of files = map (λ file. name_of file.0.now file.1) files
 -- the text is no canonical path
 unfoldable pub IsNoPath : List ℕ → Type 0
 IsNoPath text = ¬ IsCanonPath text
+
+-- the path and the size of the name, each as it is written
+unfoldable pub name_text : NameFacts → List ℕ
+name_text name = name.path ++ codes " " ++ decimal name.stamp.size ++ codes ", "

@@ -1,11 +1,13 @@
 -- Rows of sample files (this project's example).
+use Rattle.std.specs.Borrow.{Bor}
+use Rattle.std.specs.List.{flat_map}
 use Rattle.std.specs.Prelude.{ℕ, Bool, List}
 use Rattle.file_formats.specs.declared.fault.Why.TheVariants.{NotElf}
 use Rattle.row_types.specs.Row.{RowFacts}
 use Rattle.row_types.specs.declared.limits.TheConstants.{EDITION}
 use Rattle.row_types.specs.declared.reading.Reading.{Reading}
 use Rattle.row_types.specs.declared.reading.Reading.TheVariants.{Elf, Plain}
-use Rattle.sample_rows.specs.Names.{name_of}
+use Rattle.sample_rows.specs.Names.{name_of, name_text}
 
 -- what a file with an id is found to be
 abbrev pub elf_of : List ℕ → Bool → Bool → List (List ℕ) → Reading
@@ -18,3 +20,7 @@ row_of path size reading = record { name = name_of path size; edition = EDITION;
 -- the row of a file of this path and size, which is no ELF file
 abbrev pub plain_of : List ℕ → ℕ → RowFacts
 plain_of path size = row_of path size (Plain NotElf)
+
+-- the texts of the rows' names, one behind the other
+unfoldable pub rows_text : List (Bor RowFacts) → List ℕ
+rows_text rows = flat_map (λ row. name_text row.now.name) rows
