@@ -13,7 +13,7 @@ use std::test::Fail;
 type Change = (&'static str, usize, &'static [u8], Why);
 
 /// The file with other bytes at a place.
-fn changed(alloc: Global, file: &[u8], place: usize, bytes: &[u8]) -> Result<Vec<u8>, Fail> {
+pub fn changed(alloc: Global, file: &[u8], place: usize, bytes: &[u8]) -> Result<Vec<u8>, Fail> {
     let before = file.get(..place).ok_or("the place is in the file")?;
     let rest = file.get(place..).ok_or("the place is in the file")?;
     let after = rest
