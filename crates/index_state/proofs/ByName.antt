@@ -2,7 +2,7 @@
 use Rattle.std.proofs.Common.{◌≡◌, ℕ, pos, map, ◌<◌, ◌&&◌, ◌||◌, Bool, true, false, cond, List, [], ◌∷◌, length, Option, Some, None, refl, sym, ◌∙◌, ap, subst, arith, slice_index_or}
 use Rattle.std.specs.List.{All, find}
 use Rattle.std.specs.Option.{option_map}
-use Rattle.std.specs.Prelude.{IsSomeAnd}
+use Rattle.std.specs.Prelude.{IsSome, IsSomeAnd}
 use Rattle.std.specs.Str.{bytes_eq}
 use Rattle.std.proofs.lemmas.Bool.{and_from, and_parts, false_from_ne_true, or_left, or_right, true≢false}
 use Rattle.std.proofs.lemmas.List.{get_or-map, length-map}
@@ -142,3 +142,24 @@ all_in P n (x ∷ names) all h =
       | true ↦ λ e _. subst P (sym ((same_name-Decides n x).0 e)) (All-head P x names all)
       | false ↦ λ _ later. all_in P n names (All-tail P x names all) later
     ] refl h
+
+-- and a name that is there is that of a row that stands
+pub is_in_stands : (name : NameFacts) (rows : List RowFacts) → AscendsBy row_path rows → is_in (row_names rows) name ≡ true → Stands name rows
+is_in_stands name rows ascends h =
+    let has : HasRow name rows = row_of_name name rows (names_by_path rows ascends) h in
+    subst (λ (o : Option RowFacts). IsSomeAnd o (λ r. r.name ≡ name)) (sym has.found) has.named
+
+-- a path has a row where a name of it is there
+pub has_row : (name : NameFacts) (rows : List RowFacts) → is_in (row_names rows) name ≡ true → IsSome (row_at name.path rows)
+has_row name [] h = absurd (true≢false (sym h))
+has_row name (row ∷ rows) h =
+    elim (bytes_eq row.name.path name.path) as (λ b. bytes_eq row.name.path name.path ≡ b → IsSome (cond b (Some row) (row_at name.path rows))) [
+      | true ↦ λ e. refl
+      | false ↦ λ e. has_row name rows (later_in row.name name (row_names rows) e h)
+    ] refl
+  where
+    later_in : (n m : NameFacts) (names : List NameFacts) → bytes_eq n.path m.path ≡ false → (same_name m n || is_in names m) ≡ true → is_in names m ≡ true
+    later_in n m names apart there =
+        let differs : same_name m n ≡ false = false_from_ne_true (same_name m n)
+        (λ same. true≢false (sym ((bytes_eq-Decides n.path m.path).1 (sym (ap (λ (x : NameFacts). x.path) ((same_name-Decides m n).0 same)))) ∙ apart)) in
+        sym (ap (λ b. b || is_in names m) differs) ∙ there

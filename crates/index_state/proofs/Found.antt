@@ -1,11 +1,13 @@
 -- What is found of a name.
-use Rattle.std.proofs.Common.{◌≡◌, Bool, true, false, not, List, Option, Some, None, refl, sym, ◌∙◌, ap, subst}
+use Rattle.std.proofs.Common.{◌≡◌, ℕ, Bool, true, false, not, List, Option, Some, None, refl, sym, ◌∙◌, ap, subst}
 use Rattle.std.specs.Prelude.{IsSome, is_some}
 use Rattle.std.proofs.lemmas.Bool.{true≢false}
 use Rattle.row_types.specs.Name.{NameFacts, stamp_at}
 use Rattle.row_types.specs.Stamp.{StampFacts}
 use Rattle.index_rows.specs.Rows.{row_names}
 use Rattle.scan_queue.specs.Names.{IsByPath, is_in}
+use Rattle.scan_queue.specs.declared.miss.Seen.{Seen}
+use Rattle.index_state.specs.Judge.{IsLeftOver, IsListed, IsMoved, is_kept, is_strange}
 use Rattle.index_state.specs.Plan.{has_stamp}
 use Rattle.index_state.specs.State.{StateFacts, pass_of}
 use Rattle.index_state.specs.Step.{IsAwaited, IsKnown, IsUnlisted}
@@ -38,6 +40,23 @@ module _ {K : Type 0} {state : StateFacts K} {name : NameFacts} {listed : Option
   -- it is listed, and has no row
   pub found_awaited : {stood : Option StampFacts} {b : Bool} → IsLooked (pass_of state.pass).listing name listed a → a ≡ true → IsLooked (row_names state.rows) name stood b → b ≡ false → IsAwaited name state
   found_awaited look is row_look so = record { listed = is_in_by look ∙ is; absent = is_in_by row_look ∙ so }
+
+module _ {K : Type 0} {state : StateFacts K} {name : NameFacts} {kept : Bool} (sound : state.broken ≡ false) (asked : kept ≡ is_kept state.pass name) where
+  -- it is listed, or no pass was begun
+  pub found_listed : kept ≡ true → IsListed name state
+  found_listed is = record { sound = sound; kept = sym asked ∙ is }
+
+  -- it isn't, and its row doesn't stand
+  pub found_moved : {now : Option StampFacts} {b : Bool} → kept ≡ false → IsLooked (row_names state.rows) name now b → b ≡ false → IsMoved name now state
+  found_moved is look so = record { sound = sound; unlisted = sym asked ∙ is; gone = is_in_by look ∙ so; stamp = look.there }
+
+  -- it isn't, and its row stands
+  pub found_left_over : {now : Option StampFacts} {b : Bool} → kept ≡ false → IsLooked (row_names state.rows) name now b → b ≡ true → IsLeftOver name state
+  found_left_over is look so = record { sound = sound; unlisted = sym asked ∙ is; stands = is_in_by look ∙ so }
+
+-- whether its file was seen under a root, as it was asked of the roots
+pub seen_strange : {roots asked : List (List ℕ)} {said b : Bool} (name : NameFacts) (seen : Seen) → asked ≡ roots → said ≡ is_strange asked name seen → said ≡ b → is_strange roots name seen ≡ b
+seen_strange name seen same says is = ap (λ (r : List (List ℕ)). is_strange r name seen) (sym same) ∙ sym says ∙ is
 
 none_of : (o : Option StampFacts) → is_some o ≡ false → o ≡ None
 none_of None e = refl

@@ -16,22 +16,23 @@ use Rattle.index_rows.proofs.PathLemmas.{put_ascends, put_holds}
 use Rattle.index_rows.proofs.RowLemmas.{put_replays, void_drop}
 use Rattle.scan_queue.specs.Names.{is_in}
 use Rattle.scan_queue.specs.Pass.{IsPass, PassFacts, TakesName, begun, left}
-use Rattle.index_keeper.specs.Keeper.{ShownKeeper}
-use Rattle.index_keeper.specs.Tables.{EditFacts}
+use Rattle.index_keeper.specs.Answers.{for_change}
+use Rattle.index_keeper.specs.Keeper.{Asks, ShownKeeper}
+use Rattle.index_keeper.specs.Tables.{EditFacts, edited}
 use Rattle.index_keeper.specs.declared.answer.KeepAnswer.TheVariants.{Done, Failed}
-use Rattle.index_state.specs.Changes.{HasOrigin}
-use Rattle.index_state.specs.Invariant.{IndexInvariant, ListedAccounted, RowsAccounted}
+use Rattle.index_state.specs.Changes.{HasOrigin, IsMadeBy}
+use Rattle.index_state.specs.Invariant.{AgreesWithStore, IndexInvariant, ListedAccounted, RowsAccounted}
 use Rattle.index_state.specs.Keeping.{IsPut, put_row}
-use Rattle.index_state.specs.Kept.{Agrees}
+use Rattle.index_state.specs.Kept.{Agrees, StandsFor, tables_of}
 use Rattle.index_state.specs.State.{StateFacts, pass_of}
 use Rattle.index_state.specs.Step.{IsAwaited, IsKnown, IsOpen, TakesFrom, after_fault, after_stored}
 use Rattle.index_state.proofs.ByName.{stands_is_in}
-use Rattle.index_state.proofs.LogSteps.{ends_void, lasting_marked, lasting_sound, origin_more, sound_put}
+use Rattle.index_state.proofs.LogSteps.{ends_void, lasting_marked, lasting_sound, origin_more, put_changes, sound_more}
 use Rattle.index_state.proofs.PassSteps.{begun_listed, begun_rows, known_listed, known_rows, put_listed, put_rows, taken_is_absent, taken_is_listed, taken_listed, taken_rows}
-use Rattle.index_state.proofs.StoreSteps.{in_store, stored_put, stored_torn}
+use Rattle.index_state.proofs.StoreSteps.{in_store, stored, stored_torn, tables_put}
 
 -- what holds of the pass holds of the one that is there
-there : (P : PassFacts → Type 0) {p : Option PassFacts} {from : PassFacts} → p ≡ Some from → IfSome p P → P from
+pub there : (P : PassFacts → Type 0) {p : Option PassFacts} {from : PassFacts} → p ≡ Some from → IfSome p P → P from
 there P e h = subst (λ (o : Option PassFacts). IfSome o P) e h
 
 -- what a taken name leaves true of the pass
@@ -44,13 +45,13 @@ after_leave : (P Q : PassFacts → Type 0) (name : NameFacts) (p : Option PassFa
 after_leave P Q name None listed place step h = tt
 after_leave P Q name (Some pass) listed place step h = step pass listed place h
 
-not_counted : {faults : ℕ} (broken : Bool) → broken ≡ false → IsTrue broken → 0 < faults
+pub not_counted : {faults : ℕ} (broken : Bool) → broken ≡ false → IsTrue broken → 0 < faults
 not_counted false sound h = absurd (true≢false (sym h))
 not_counted true broken h = absurd (true≢false broken)
 
 module _ {K : Type 0} {true_row : RowFacts → Type 0} {told : Bool} {shows : K → ShownKeeper} {old : StateFacts K} where
   -- with another pass
-  with_pass : {pass : Option PassFacts} {roots : List (List ℕ)} → IndexInvariant true_row told shows old → IfSome pass IsPass → IfSome pass (ListedAccounted old.rows) → IfSome pass (RowsAccounted old.rows) → IndexInvariant true_row told shows (record old { pass = pass; roots = roots })
+  pub with_pass : {pass : Option PassFacts} {roots : List (List ℕ)} → IndexInvariant true_row told shows old → IfSome pass IsPass → IfSome pass (ListedAccounted old.rows) → IfSome pass (RowsAccounted old.rows) → IndexInvariant true_row told shows (record old { pass = pass; roots = roots })
   with_pass h place listed rows = record {
     rows_sorted_and_true = h.rows_sorted_and_true;
     rows_replay_the_log = h.rows_replay_the_log;
@@ -94,27 +95,46 @@ module _ {K : Type 0} {true_row : RowFacts → Type 0} {told : Bool} {shows : K 
   since_opening : IndexInvariant true_row told shows old → old.broken ≡ false → HasOrigin true_row old.origin (shows old.keeper).made old.log
   since_opening h sound = subst (HasOrigin true_row old.origin (shows old.keeper).made) (lasting_sound old.broken old.log sound) h.store_agrees_with_rows.since
 
-  -- after a put that failed
-  pub fault_keeps : {keeper : K} (row : RowFacts) → IndexInvariant true_row told shows old → IsOpen row.name old → true_row row → IsPut told row (shows old.keeper) (shows keeper) Failed → IndexInvariant true_row told shows (after_fault row keeper old)
-  fault_keeps {keeper} row h can holds put =
-      let free : Stands row.name old.rows → ⊥ = λ stands. true≢false (sym (stands_is_in row.name old.rows stands) ∙ can.awaited.absent) in
-      let void : replay (old.log ++ drop_of row.name ∷ []) ≡ replay old.log = void_drop old.rows old.log row.name h.rows_sorted_and_true.ascend free h.rows_replay_the_log.names in
-      let room : length old.log < LOG_LIMIT = can.room in
-      let rose = put.asked.cause.rose refl in
+  -- after a change of the store that failed, for which a void one is listed
+  pub void_keeps : {keeper : K} (void : Change) {edit : EditFacts} → IndexInvariant true_row told shows old → old.broken ≡ false → length old.log < LOG_LIMIT → replay (old.log ++ void ∷ []) ≡ replay old.log → StandsFor true_row void edit → Asks told (shows old.keeper) (shows keeper) (for_change edit Failed) → IndexInvariant true_row told shows (record old { log = old.log ++ void ∷ []; broken = true; keeper = keeper })
+  void_keeps {keeper} void {edit} h sound room same meant asked =
+      let rose = asked.cause.rose refl in
       record {
         rows_sorted_and_true = h.rows_sorted_and_true;
-        rows_replay_the_log = record { names = h.rows_replay_the_log.names ∙ sym void; bounded = omega (arith, length_push old.log (drop_of row.name), room) };
-        broken_means_a_void_last_change = record { void = ends_void old.broken old.log row.name can.sound h.broken_means_a_void_last_change.void void; counted = λ _. omega (arith, rose) };
+        rows_replay_the_log = record { names = h.rows_replay_the_log.names ∙ sym same; bounded = omega (arith, length_push old.log void, room) };
+        broken_means_a_void_last_change = record { void = ends_void old.broken old.log void sound h.broken_means_a_void_last_change.void same; counted = λ _. omega (arith, rose) };
         store_agrees_with_rows = record {
-          tables = λ tells. stored_torn old.log put.spelled holds (in_store h can.sound tells) (put.asked.tells tells);
-          number = put.asked.number ∙ h.store_agrees_with_rows.number;
+          tables = λ tells. stored_torn old.log void meant (in_store h sound tells) (asked.tells tells);
+          number = asked.number ∙ h.store_agrees_with_rows.number;
           since =
-              subst (HasOrigin true_row old.origin (shows keeper).made) (sym (lasting_marked old.log (drop_of row.name)))
-              (subst (λ (o : Option (List EditFacts)). HasOrigin true_row old.origin o old.log) (sym put.asked.grows) (since_opening h can.sound));
+              subst (HasOrigin true_row old.origin (shows keeper).made) (sym (lasting_marked old.log void))
+              (subst (λ (o : Option (List EditFacts)). HasOrigin true_row old.origin o old.log) (sym asked.grows) (since_opening h sound));
         };
         each_name_in_one_place = h.each_name_in_one_place;
         listed_names_accounted_for = h.listed_names_accounted_for;
         rows_accounted_for = h.rows_accounted_for;
+      }
+
+  -- after a put that failed
+  pub fault_keeps : {keeper : K} (row : RowFacts) → IndexInvariant true_row told shows old → IsOpen row.name old → true_row row → IsPut told row (shows old.keeper) (shows keeper) Failed → IndexInvariant true_row told shows (after_fault row keeper old)
+  fault_keeps {keeper} row h can holds put =
+      let free : Stands row.name old.rows → ⊥ = λ stands. true≢false (sym (stands_is_in row.name old.rows stands) ∙ can.awaited.absent) in
+      void_keeps (drop_of row.name) {edit = put_row row} h can.sound can.room
+      (void_drop old.rows old.log row.name h.rows_sorted_and_true.ascend free h.rows_replay_the_log.names)
+      (record { row = row; named = refl; holds = holds; spelled = put.spelled; kept = refl }) put.asked
+
+  -- the store and the log after a change that the store made
+  pub made_agrees : {keeper : K} {pass : Option PassFacts} {rows : List RowFacts} (change : Change) {edit : EditFacts} → IndexInvariant true_row told shows old → old.broken ≡ false → IsMadeBy true_row change.put change.name edit → edited (tables_of old.rows) edit ≡ tables_of rows → Asks told (shows old.keeper) (shows keeper) (for_change edit Done) → AgreesWithStore true_row told (shows keeper) (record old { rows = rows; log = old.log ++ change ∷ []; pass = pass; keeper = keeper })
+  made_agrees {keeper} {pass} {rows} change {edit} h sound made same asked =
+      let log : List Change = old.log ++ change ∷ [] in
+      record {
+        tables = λ tells.
+            subst (λ (b : Bool). Agrees true_row b log rows (shows keeper)) (sym sound)
+            (stored same (in_store h sound tells) (asked.tells tells));
+        number = asked.number ∙ h.store_agrees_with_rows.number;
+        since =
+            subst (HasOrigin true_row old.origin (shows keeper).made) (sym (lasting_sound old.broken log sound))
+            (subst (λ (o : Option (List EditFacts)). HasOrigin true_row old.origin o log) (sym asked.grows) (origin_more change edit (since_opening h sound) made));
       }
 
   -- after a put that was made
@@ -122,9 +142,6 @@ module _ {K : Type 0} {true_row : RowFacts → Type 0} {told : Bool} {shows : K 
   put_keeps {keeper} row of_edition h can holds put place =
       let room : length old.log < LOG_LIMIT = can.room in
       let absent : is_in (replay old.log) row.name ≡ false = ap (λ (l : List NameFacts). is_in l row.name) (sym h.rows_replay_the_log.names) ∙ can.awaited.absent in
-      let log : List Change = old.log ++ put_of row.name ∷ [] in
-      let more : HasOrigin true_row old.origin (option_map (λ edits. edits ++ put_row row ∷ []) (shows old.keeper).made) log =
-      origin_more (put_of row.name) (put_row row) (since_opening h can.sound) (record { row = row; named = refl; holds = holds; spelled = put.spelled; kept = refl }) in
       record {
         rows_sorted_and_true = record {
           ascend = put_ascends row_path row old.rows h.rows_sorted_and_true.ascend;
@@ -137,18 +154,12 @@ module _ {K : Type 0} {true_row : RowFacts → Type 0} {told : Bool} {shows : K 
           bounded = omega (arith, length_push old.log (put_of row.name), room);
         };
         broken_means_a_void_last_change = record {
-          void = sound_put old.broken old.log row.name can.sound h.broken_means_a_void_last_change.void absent;
+          void = sound_more old.broken old.log (put_of row.name) can.sound h.broken_means_a_void_last_change.void (put_changes (replay old.log) row.name absent);
           counted = not_counted old.broken can.sound;
         };
-        store_agrees_with_rows = record {
-          tables = λ tells.
-              subst (λ (b : Bool). Agrees true_row b log (with_row row old.rows) (shows keeper)) (sym can.sound)
-              (stored_put row (in_store h can.sound tells) (put.asked.tells tells));
-          number = put.asked.number ∙ h.store_agrees_with_rows.number;
-          since =
-              subst (HasOrigin true_row old.origin (shows keeper).made) (sym (lasting_sound old.broken log can.sound))
-              (subst (λ (o : Option (List EditFacts)). HasOrigin true_row old.origin o log) (sym put.asked.grows) more);
-        };
+        store_agrees_with_rows =
+            made_agrees (put_of row.name) {edit = put_row row} h can.sound
+            (record { row = row; named = refl; holds = holds; spelled = put.spelled; kept = refl }) (tables_put row old.rows) put.asked;
         each_name_in_one_place = place;
         listed_names_accounted_for = after_leave (ListedAccounted old.rows) (ListedAccounted (with_row row old.rows)) row.name old.pass can.awaited.listed h.each_name_in_one_place
             (λ p listed is_pass. put_listed old.rows row p is_pass.listing.by_path listed) h.listed_names_accounted_for;

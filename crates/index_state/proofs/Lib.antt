@@ -1,4 +1,8 @@
+pub mod AwayKeeps
+pub mod AwaySteps
 pub mod ByName
+pub mod DropKeeps
+pub mod Drops
 pub mod Found
 pub mod Keeps
 pub mod Lasting

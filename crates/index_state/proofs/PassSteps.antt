@@ -21,7 +21,7 @@ use Rattle.index_state.proofs.ByName.{one_of_path}
 use Rattle.index_state.proofs.Members.{in_append, in_filter, in_put_other, in_put_self, in_put_stale, in_without_other, not_in_without, same_name_self}
 
 -- a name of three lists
-in_three : (xs ys zs : List NameFacts) (n : NameFacts) → is_in (xs ++ ys ++ zs) n ≡ ((is_in xs n || is_in ys n) || is_in zs n)
+pub in_three : (xs ys zs : List NameFacts) (n : NameFacts) → is_in (xs ++ ys ++ zs) n ≡ ((is_in xs n || is_in ys n) || is_in zs n)
 in_three xs ys zs n = in_append (xs ++ ys) zs n ∙ ap (λ b. b || is_in zs n) (in_append xs ys n)
 
 without_three : (name : NameFacts) (xs ys zs : List NameFacts) → without name xs ++ without name ys ++ without name zs ≡ without name (xs ++ ys ++ zs)
@@ -47,10 +47,10 @@ gone_from_read : (name : NameFacts) (pass : PassFacts) → is_in (to_read (left 
 gone_from_read name pass = ap (λ (l : List NameFacts). is_in l name) (to_read_left name pass) ∙ not_in_without name (to_read pass)
 
 -- the others are as before
-others_to_read : (name n : NameFacts) (pass : PassFacts) → same_name n name ≡ false → is_in (to_read (left name pass)) n ≡ is_in (to_read pass) n
+pub others_to_read : (name n : NameFacts) (pass : PassFacts) → same_name n name ≡ false → is_in (to_read (left name pass)) n ≡ is_in (to_read pass) n
 others_to_read name n pass e = ap (λ (l : List NameFacts). is_in l n) (to_read_left name pass) ∙ in_without_other name n (to_read pass) e
 
-others_to_look_for : (name n : NameFacts) (pass : PassFacts) → same_name n name ≡ false → is_in (to_look_for (left name pass)) n ≡ is_in (to_look_for pass) n
+pub others_to_look_for : (name n : NameFacts) (pass : PassFacts) → same_name n name ≡ false → is_in (to_look_for (left name pass)) n ≡ is_in (to_look_for pass) n
 others_to_look_for name n pass e = ap (λ (l : List NameFacts). is_in l n) (to_look_for_left name pass) ∙ in_without_other name n (to_look_for pass) e
 
 move_front : (f s b : Bool) → (f || (s || b)) ≡ (s || (f || b))
@@ -58,7 +58,7 @@ move_front true true b = refl
 move_front true false b = refl
 move_front false s b = refl
 
-in_added : (x n : NameFacts) (before after : List NameFacts) → Adds x before after → is_in after n ≡ (same_name n x || is_in before n)
+pub in_added : (x n : NameFacts) (before after : List NameFacts) → Adds x before after → is_in after n ≡ (same_name n x || is_in before n)
 in_added x n before after adds =
     ap (λ (l : List NameFacts). is_in l n) adds.new
     ∙ in_append adds.front (x ∷ adds.back) n
@@ -71,18 +71,37 @@ swap_taken true false o m = refl
 swap_taken false true o m = refl
 swap_taken false false o m = refl
 
-three_as : (a b c d e f : Bool) → a ≡ d → b ≡ e → c ≡ f → ((a || b) || c) ≡ ((d || e) || f)
+pub three_as : (a b c d e f : Bool) → a ≡ d → b ≡ e → c ≡ f → ((a || b) || c) ≡ ((d || e) || f)
 three_as a b c d e f p q r = cc
+
+-- the names of three lists, once the first of the first list stands in the second
+pub first_out : (n : NameFacts) {name : NameFacts} {first rest before after : List NameFacts} (missed : List NameFacts) → first ≡ name ∷ rest → Adds name before after → is_in (rest ++ after ++ missed) n ≡ is_in (first ++ before ++ missed) n
+first_out n {name} {first} {rest} {before} {after} missed e adds =
+    in_three rest after missed n
+    ∙ ap (λ b. (is_in rest n || b) || is_in missed n) (in_added name n before after adds)
+    ∙ swap_taken (is_in rest n) (same_name n name) (is_in before n) (is_in missed n)
+    ∙ ap (λ (l : List NameFacts). (is_in l n || is_in before n) || is_in missed n) (sym e)
+    ∙ sym (in_three first before missed n)
+
+move_out : (f s b m : Bool) → ((f || (s || b)) || m) ≡ (s || ((f || b) || m))
+move_out true true b m = refl
+move_out true false b m = refl
+move_out false true b m = refl
+move_out false false b m = refl
+
+-- the names of three lists, once one more stands in the second
+pub one_more_out : (n : NameFacts) {name : NameFacts} {before after : List NameFacts} (first missed : List NameFacts) → Adds name before after → is_in (first ++ after ++ missed) n ≡ (same_name n name || is_in (first ++ before ++ missed) n)
+one_more_out n {name} {before} {after} first missed adds =
+    in_three first after missed n
+    ∙ ap (λ b. (is_in first n || b) || is_in missed n) (in_added name n before after adds)
+    ∙ move_out (is_in first n) (same_name n name) (is_in before n) (is_in missed n)
+    ∙ ap (λ b. same_name n name || b) (sym (in_three first before missed n))
 
 -- a name that is taken is still to be read
 take_same_read : (n name : NameFacts) (from into : PassFacts) → TakesName from into name → is_in (to_read into) n ≡ is_in (to_read from) n
 take_same_read n name from into takes =
-    in_three into.todo into.out (missed_names into.missed) n
-    ∙ three_as (is_in into.todo n) (is_in into.out n) (is_in (missed_names into.missed) n) (is_in into.todo n) (same_name n name || is_in from.out n) (is_in (missed_names from.missed) n)
-    refl (in_added name n from.out into.out takes.out) (ap (λ (p : PassFacts). is_in (missed_names p.missed) n) takes.same)
-    ∙ swap_taken (is_in into.todo n) (same_name n name) (is_in from.out n) (is_in (missed_names from.missed) n)
-    ∙ ap (λ (l : List NameFacts). (is_in l n || is_in from.out n) || is_in (missed_names from.missed) n) (sym takes.first)
-    ∙ sym (in_three from.todo from.out (missed_names from.missed) n)
+    ap (λ (p : PassFacts). is_in (into.todo ++ into.out ++ missed_names p.missed) n) takes.same
+    ∙ first_out n (missed_names from.missed) takes.first takes.out
 
 -- a name that is taken is listed
 pub taken_is_listed : {name : NameFacts} {from into : PassFacts} → TakesName from into name → IsPass from → is_in into.listing name ≡ true
@@ -104,18 +123,11 @@ pub taken_is_absent : (rows : List RowFacts) {name : NameFacts} {from into : Pas
 taken_is_absent rows {name} {from} {into} takes place listed =
     listed name (taken_is_listed takes place) ∙ ap not (taken_is_out name from into takes)
 
-grown : (g o m s : Bool) → ((g || o) || m) ≡ true → ((g || (s || o)) || m) ≡ true
-grown true o m s h = refl
-grown false o m true h = refl
-grown false o m false h = h
-
 take_more_look : (n name : NameFacts) (from into : PassFacts) → TakesName from into name → is_in (to_look_for from) n ≡ true → is_in (to_look_for into) n ≡ true
 take_more_look n name from into takes h =
-    in_three into.groom into.out (missed_names into.missed) n
-    ∙ three_as (is_in into.groom n) (is_in into.out n) (is_in (missed_names into.missed) n) (is_in from.groom n) (same_name n name || is_in from.out n) (is_in (missed_names from.missed) n)
-    (ap (λ (p : PassFacts). is_in p.groom n) takes.same) (in_added name n from.out into.out takes.out) (ap (λ (p : PassFacts). is_in (missed_names p.missed) n) takes.same)
-    ∙ grown (is_in from.groom n) (is_in from.out n) (is_in (missed_names from.missed) n) (same_name n name)
-    (sym (in_three from.groom from.out (missed_names from.missed) n) ∙ h)
+    ap (λ (p : PassFacts). is_in (p.groom ++ into.out ++ missed_names p.missed) n) takes.same
+    ∙ one_more_out n from.groom (missed_names from.missed) takes.out
+    ∙ or_right (same_name n name) (is_in (to_look_for from) n) h
 
 either_grows : (l a b : Bool) → (a ≡ true → b ≡ true) → (l || a) ≡ true → (l || b) ≡ true
 either_grows true a b f h = refl
@@ -131,7 +143,7 @@ taken_rows rows {name} {from} {into} takes h = λ n stands.
     ap (λ (p : PassFacts). is_in p.listing n || is_in (to_look_for into) n) takes.same
     ∙ either_grows (is_in from.listing n) (is_in (to_look_for from) n) (is_in (to_look_for into) n) (take_more_look n name from into takes) (h n stands)
 
-nothing_more : (b : Bool) → ((b || false) || false) ≡ b
+pub nothing_more : (b : Bool) → ((b || false) || false) ≡ b
 nothing_more true = refl
 nothing_more false = refl
 

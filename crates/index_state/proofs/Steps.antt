@@ -5,6 +5,7 @@ use Rattle.std.specs.Prelude.{IfSome}
 use Rattle.row_types.specs.Name.{NameFacts}
 use Rattle.row_types.specs.Row.{RowFacts}
 use Rattle.row_types.specs.declared.limits.TheConstants.{EDITION}
+use Rattle.index_rows.specs.Log.{drop_of, put_of}
 use Rattle.index_rows.specs.Rows.{RowsFacts, after_put, row_names, with_row}
 use Rattle.index_rows.specs.declared.rows.TheConstants.{LOG_LIMIT}
 use Rattle.scan_queue.specs.Pass.{IsPass, PassFacts, begun, left}
@@ -20,7 +21,7 @@ use Rattle.index_state.specs.declared.answer.Published.{Published}
 use Rattle.index_state.specs.declared.answer.Published.TheVariants.{Added, Replaced}
 use Rattle.index_state.specs.declared.state.State.TheInside.{Inside}
 use Rattle.index_state.proofs.Keeps.{fault_keeps, put_keeps}
-use Rattle.index_state.proofs.Parts.{fault_state, put_state}
+use Rattle.index_state.proofs.Parts.{fault_state, made_state}
 
 -- a pass begins
 pub begin_step : {K : Type 0} {old : StateFacts K} {listing : List NameFacts} {roots : List (List ℕ)} {plan : Plan} {pass : PassFacts} → old.broken ≡ false → plan ≡ plan_of listing (row_names old.rows) → pass ≡ begun listing (row_names old.rows) → BeginsPass listing roots plan old (record old { pass = Some pass; roots = roots })
@@ -56,7 +57,7 @@ module _ {W K : Type 0} {true_row : RowFacts → Type 0} {told : Bool} {shows : 
   -- the fields after a put that was made
   done_is : {mid now : RowsFacts} {keeper : K} {pass : Option PassFacts} → IndexInvariant true_row told shows (state_of shows s) → SaysKept row.name state said → IsStored told row s.rows (shows s.keeper) mid (shows keeper) → now ≡ after_put row mid → pass ≡ option_map (left row.name) s.pass → state_of shows (record s { rows = now; keeper = keeper; pass = pass }) ≡ after_stored row keeper (state_of shows s)
   done_is {now = now} h says stored put_is pass_is =
-      put_state shows s now row (put_row row) (can shows s row.name said seen says stored.room).sound h.store_agrees_with_rows.since
+      made_state shows s now (put_of row.name) (put_row row) (can shows s row.name said seen says stored.room).sound h.store_agrees_with_rows.since
       (ap (λ (f : RowsFacts). f.rows) put_is ∙ ap (λ (f : RowsFacts). with_row row f.rows) stored.rows)
       (ap (λ (f : RowsFacts). f.log) put_is ∙ ap (λ (f : RowsFacts). (after_put row f).log) stored.rows)
       pass_is stored.kept.asked.grows
@@ -82,5 +83,5 @@ module _ {W K : Type 0} {true_row : RowFacts → Type 0} {told : Bool} {shows : 
   pub failed_keeps : {now : RowsFacts} {keeper : K} → IndexInvariant true_row told shows (state_of shows s) → SaysKept row.name state said → true_row row → IsMarked told row s.rows (shows s.keeper) now (shows keeper) → IndexInvariant true_row told shows (state_of shows (record s { rows = now; keeper = keeper; broken = true }))
   failed_keeps {now = now} h says holds marked =
       let P : StateFacts K → Type 0 = IndexInvariant true_row told shows in
-      subst P (sym (fault_state shows s now row (can shows s row.name said seen says marked.room).sound marked.rows marked.log marked.kept.asked.grows))
+      subst P (sym (fault_state shows s now (drop_of row.name) (can shows s row.name said seen says marked.room).sound marked.rows marked.log marked.kept.asked.grows))
       (fault_keeps row h (can shows s row.name said seen says marked.room) holds marked.kept)

@@ -1,11 +1,12 @@
--- What a keeper did when a row was to be kept (this project's rule).
+-- What a keeper did when a row was to be kept or removed (this project's rule).
 use Rattle.std.specs.Prelude.{Bool}
+use Rattle.row_types.specs.Name.{NameFacts}
 use Rattle.row_types.specs.Row.{RowFacts}
 use Rattle.row_codec.specs.RowBytes.{row_bytes}
 use Rattle.row_codec.specs.Spelled.{IsSpelled}
 use Rattle.index_keeper.specs.Answers.{for_change}
 use Rattle.index_keeper.specs.Keeper.{Asks, IsLeftAlone, ShownKeeper}
-use Rattle.index_keeper.specs.Tables.{EditFacts, put_of}
+use Rattle.index_keeper.specs.Tables.{EditFacts, put_of, removal_of}
 use Rattle.index_keeper.specs.declared.answer.KeepAnswer.{KeepAnswer}
 use Rattle.index_keeper.specs.declared.answer.KeepAnswer.TheVariants.{OutOfMemory}
 
@@ -22,3 +23,7 @@ pub record IsPut (told : Bool) (row : RowFacts) (before after : ShownKeeper) (an
 abbrev pub KeepsRow : Bool → RowFacts → ShownKeeper → ShownKeeper → KeepAnswer → Type 0
 KeepsRow told row before after OutOfMemory = IsLeftAlone told before after
 KeepsRow told row before after answer = IsPut told row before after answer
+
+-- the keeper was asked to keep nothing under the name's path
+abbrev pub IsRemoval : Bool → NameFacts → ShownKeeper → ShownKeeper → KeepAnswer → Type 0
+IsRemoval told name before after answer = Asks told before after (for_change (removal_of name.path) answer)

@@ -3,6 +3,7 @@ pub use Rattle.row_types.specs.Faults
 pub use Rattle.row_types.specs.Name
 pub use Rattle.row_types.specs.Row
 pub use Rattle.row_types.specs.Stamp
+pub use Rattle.row_types.specs.Under
 pub use Rattle.row_codec.specs.RowBytes
 pub use Rattle.row_codec.specs.Spelled
 pub use Rattle.index_rows.specs.ByPath
@@ -14,13 +15,17 @@ pub use Rattle.scan_queue.specs.Pass
 pub use Rattle.index_keeper.specs.Answers
 pub use Rattle.index_keeper.specs.Keeper
 pub use Rattle.index_keeper.specs.Tables
+pub mod Away
 pub mod Changes
 pub mod Complete
 pub mod Invariant
+pub mod Judge
 pub mod Kept
 pub mod Keeping
 pub mod Opening
 pub mod Plan
+pub mod Removed
 pub mod State
 pub mod Step
 pub mod Stored
+pub mod Weighed

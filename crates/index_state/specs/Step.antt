@@ -20,23 +20,40 @@ use Rattle.index_state.specs.Plan.{plan_of}
 use Rattle.index_state.specs.State.{StateFacts, pass_of}
 use Rattle.index_state.specs.declared.answer.Plan.{Plan}
 use Rattle.index_state.specs.declared.answer.Begun.{Begun}
+use Rattle.scan_queue.specs.declared.miss.Cause.{Cause}
+use Rattle.scan_queue.specs.declared.miss.Cause.TheVariants.{Appeared}
+use Rattle.scan_queue.specs.declared.miss.Seen.{Seen}
+use Rattle.index_state.specs.Away.{GroomsNext, MissesOut, TriesAll}
+use Rattle.index_state.specs.Judge.{DropIsShut, DropWantsMemory, IsGone, IsListed, IsStrange, MovesOff, Removes, Tears}
+use Rattle.index_state.specs.declared.answer.GroomTask.{GroomTask}
+use Rattle.index_state.specs.declared.answer.Judged.{Judged}
+use Rattle.index_state.specs.declared.answer.Judged.TheVariants.{Kept, Dropped, Moved, Strange, Broken as JudgedBroken, LogFull as JudgedFull, KeeperFault as JudgedFault, OutOfMemory as JudgedNoMemory}
 use Rattle.index_state.specs.declared.answer.Begun.TheVariants.{Begun as BegunBy, Broken as BegunBroken, OutOfMemory as BegunNoMemory}
 use Rattle.index_state.specs.declared.answer.Published.{Published}
 use Rattle.index_state.specs.declared.answer.Published.TheVariants.{Added, Replaced, Already, NotListed, Broken, LogFull, KeeperFault, OutOfMemory}
 
--- what happens: a pass over a listing with roots begins, a name is taken, a row is published, the files of an id and
--- a kind are looked up
+-- what happens: a pass over a listing with roots begins, a name is taken to be read, a row is published, a name is
+-- taken to be looked for, it is judged by what was seen at its path, a name is missed by a cause, those that are out
+-- or missed get their copies and are tried again, the files of an id and a kind are looked up
 pub data Event : Type 0 where
   begins : (listing : List NameFacts) (roots : List (List ℕ)) → Event
   takes : Event
   publishes : (row : RowFacts) → Event
+  grooms : Event
+  judges : (name : NameFacts) (seen : Seen) → Event
+  misses : (name : NameFacts) (cause : Cause) → Event
+  retries : Event
   looks : (id : List ℕ) (kind : Kind) → Event
 
--- the answer to each; to a look-up it is paths
+-- the answer to each; to a miss it is whether the name was out, to a trying again how many were, to a look-up paths
 pub data Answer : Type 0 where
   to_begin : Begun → Answer
   to_take : Option NameFacts → Answer
   to_publish : Published → Answer
+  to_groom : Option GroomTask → Answer
+  to_judge : Judged → Answer
+  to_miss : Bool → Answer
+  to_retry : ℕ → Answer
   to_look : List (List ℕ) → Answer
 
 -- the state stays, and this is why
@@ -165,6 +182,33 @@ Publishes told shows row old KeeperFault new = Breaks told shows row old new
 Publishes told shows row old Added new = Adds told shows row old new
 Publishes told shows row old Replaced new = Replaces told shows row old new
 
+-- the file of a row that is left over was seen under a root: its name is missed by that, if it is out
+pub record Appears {K : Type 0} (name : NameFacts) (seen : Seen) (old new : StateFacts K) : Type 0 where
+  pub strange : IsStrange name seen old
+  pub was_out : Bool
+  pub missed : MissesOut name Appeared old was_out new
+
+-- the row of the name is dropped, or not
+abbrev pub Drops : {K : Type 0} → Bool → (K → ShownKeeper) → NameFacts → StateFacts K → Judged → StateFacts K → Type 0
+Drops told shows name old JudgedFull new = Stays (DropIsShut name old) old new
+Drops told shows name old JudgedNoMemory new = DropWantsMemory told shows name old new
+Drops told shows name old JudgedFault new = Tears told shows name old new
+Drops told shows name old Dropped new = Removes told shows name old new
+Drops told shows name old _ new = ⊥
+
+-- the row is left over, and its file is gone
+pub record Condemns {K : Type 0} (told : Bool) (shows : K → ShownKeeper) (name : NameFacts) (seen : Seen) (old : StateFacts K) (answer : Judged) (new : StateFacts K) : Type 0 where
+  pub gone : IsGone name seen old
+  pub drops : Drops told shows name old answer new
+
+-- a name is judged by what was seen at its path
+abbrev pub Judges : {K : Type 0} → Bool → (K → ShownKeeper) → NameFacts → Seen → StateFacts K → Judged → StateFacts K → Type 0
+Judges told shows name seen old JudgedBroken new = Stays (old.broken ≡ true) old new
+Judges told shows name seen old Kept new = Stays (IsListed name old) old new
+Judges told shows name seen old (Moved now) new = MovesOff name now old new
+Judges told shows name seen old Strange new = Appears name seen old new
+Judges told shows name seen old answer new = Condemns told shows name seen old answer new
+
 -- the files are looked up: the paths of the rows with the id whose files are of the kind, in path order
 pub record LooksUp {K : Type 0} (id : List ℕ) (kind : Kind) (old : StateFacts K) (paths : List (List ℕ)) (new : StateFacts K) : Type 0 where
   pub found : paths ≡ map row_path (filter (λ row. has_class id kind row.reading) old.rows)
@@ -175,5 +219,9 @@ abbrev pub IndexStep : {K : Type 0} → Bool → (K → ShownKeeper) → StateFa
 IndexStep told shows old (begins listing roots) (to_begin answer) new = Begins listing roots old answer new
 IndexStep told shows old takes (to_take answer) new = TakesNext old answer new
 IndexStep told shows old (publishes row) (to_publish answer) new = Publishes told shows row old answer new
+IndexStep told shows old grooms (to_groom answer) new = GroomsNext old answer new
+IndexStep told shows old (judges name seen) (to_judge answer) new = Judges told shows name seen old answer new
+IndexStep told shows old (misses name cause) (to_miss answer) new = MissesOut name cause old answer new
+IndexStep told shows old retries (to_retry count) new = TriesAll old count new
 IndexStep told shows old (looks id kind) (to_look paths) new = LooksUp id kind old paths new
 IndexStep told shows old _ _ new = ⊥

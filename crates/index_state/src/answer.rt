@@ -1,6 +1,6 @@
 //! What an index answers.
 
-use row_types::Stamp;
+use row_types::{Name, Stamp};
 
 /// Why an index could not be opened. The keeper's own answer to the reading of its rows comes
 /// first, KeeperFault or OutOfMemory; where it gave the rows, NotBuilt is looked for.
@@ -55,6 +55,40 @@ pub enum Published {
         /// The stamp under which its path is listed.
         listed: Option<Stamp>,
     },
+    /// The index is broken.
+    Broken,
+    /// The log has no room.
+    LogFull,
+    /// The keeper failed, and the index is broken from now on.
+    KeeperFault,
+    /// There was not enough memory, and the index is as it was.
+    OutOfMemory,
+}
+
+/// A name that is to be looked for.
+#[derive(Debug, PartialEq, Eq, Drop)]
+pub struct GroomTask {
+    /// The name.
+    pub name: Name,
+    /// Whether its path is that of a root of the pass, or lies under one.
+    pub under: bool,
+}
+
+/// What came of judging a name by what was seen at its path. They are looked for in the order
+/// broken, kept, moved, strange, log full, memory, keeper; else the row is dropped.
+#[derive(Clone, Copy, Debug, PartialEq, Eq)]
+pub enum Judged {
+    /// The name is listed, or no pass was begun.
+    Kept,
+    /// The row of the name went.
+    Dropped,
+    /// The path has no row, or one of another stamp. The name leaves the pass.
+    Moved {
+        /// The stamp of the path's row.
+        now: Option<Stamp>,
+    },
+    /// The file of the row stands under a root, though it isn't listed.
+    Strange,
     /// The index is broken.
     Broken,
     /// The log has no room.

@@ -4,17 +4,20 @@
 #![tactic(auto)]
 
 mod answer;
+mod away;
 mod begin;
+mod judge;
 mod look;
 mod open_pass;
 mod opening;
 mod plan;
 mod publish;
+mod removed;
 mod state;
 mod stored;
 #[cfg(test)]
 mod tests;
 
-pub use answer::{Begun, OpenFault, Plan, Published, Standing};
+pub use answer::{Begun, GroomTask, Judged, OpenFault, Plan, Published, Standing};
 pub use opening::open_state;
 pub use state::State;

@@ -2,6 +2,8 @@
 
 mod calls;
 mod helpers;
+mod judged;
 mod looks;
+mod orders;
 mod passes;
 mod told;

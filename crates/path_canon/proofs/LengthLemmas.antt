@@ -8,7 +8,7 @@ use Rattle.std.proofs.lemmas.List.Splits.{join_with_byte-slice_split, length-sli
 use Rattle.row_types.specs.declared.limits.TheConstants.{SEPARATOR, PATH_LIMIT}
 use Rattle.row_types.specs.Canon.{IsCanonPath, pieces, keep, joined, path_of, canon}
 use Rattle.row_types.proofs.CanonLemmas.{canon_stays, joined_pieces}
-use Rattle.path_canon.specs.Absolute.{is_absolute}
+use Rattle.row_types.specs.Absolute.{is_absolute}
 
 pub joined-append : (xs ys : List (List ℕ)) → joined (xs ++ ys) ≡ joined xs ++ joined ys
 joined-append [] ys = refl

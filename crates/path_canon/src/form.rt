@@ -2,7 +2,8 @@
 
 ghost use Rattle.std.specs.Prelude.{◌≡◌, ◌↔◌, ◌<◌, [], length, map, fold, nat_eq, Err};
 ghost use Rattle.std.specs.Prelude.{IsTrue, IfOk, OnOk, string_bytes};
-ghost use Rattle.path_canon.specs.Absolute.{is_absolute, AskedFor};
+ghost use Rattle.path_canon.specs.Absolute.{AskedFor};
+ghost use Rattle.row_types.specs.Absolute.{is_absolute};
 ghost use Rattle.row_types.specs.Canon.{canon, joined, keep, path_of, pieces};
 ghost use Rattle.row_types.specs.Limits.{ArePinnedPathLimits};
 ghost use Rattle.row_types.specs.declared.limits.TheConstants.{PATH_LIMIT};

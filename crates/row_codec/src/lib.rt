@@ -2,9 +2,15 @@
 #![tactic(auto)]
 
 mod codes;
+mod fault;
+mod left;
+mod parts;
+mod read;
 #[cfg(test)]
 mod tests;
 mod write;
 
 pub use codes::{DEBUG_FLAG, ELF_TAG, EXEC_FLAG, PLAIN_TAG};
+pub use fault::CodecFault;
+pub use read::read_row;
 pub use write::write_row;

@@ -113,7 +113,7 @@ fn push_ident(bytes: &mut Vec<u8>, ident: Ident) -> Result<(), AllocError>
 }
 
 /// The sum of the flags of an identity.
-fn flags_byte(exec: bool, debug: bool) -> u8
+pub(crate) fn flags_byte(exec: bool, debug: bool) -> u8
     ensures { result ≡ flags_byte exec debug }
 {
     let exec_flag = if exec { EXEC_FLAG } else { 0 };

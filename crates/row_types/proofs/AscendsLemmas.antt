@@ -1,7 +1,10 @@
 -- Paths in order, and pairs of a list.
-use Rattle.std.proofs.Common.{◌≡◌, ℕ, suc, ◌+◌, ◌-◌, ◌≤◌, ◌<◌, true, false, List, ◌∷◌, length, All, slice_index_or, refl, sym, ◌∙◌, ap, subst, arith, below_more}
+use Rattle.std.proofs.Common.{◌≡◌, ℕ, suc, ◌+◌, ◌-◌, ◌≤◌, ◌<◌, ◌↔◌, Bool, true, false, List, [], ◌∷◌, length, All, Contains, slice_index_or, refl, sym, ◌∙◌, ap, subst, arith, below_more}
+use Rattle.std.specs.Prelude.{IsTrue}
+use Rattle.std.specs.BTreeSet.{BTreeSet, contains}
 use Rattle.std.specs.Cmp.Lexicographic.{slice_cmp}
 use Rattle.std.specs.List.{AllPairs}
+use Rattle.std.specs.List.Sorted.{IsStrictlySortedBy}
 use Rattle.std.specs.Ordering.{nat_cmp, is_lt, is_eq}
 use Rattle.std.specs.Str.{bytes_eq}
 use Rattle.std.specs.declared.cmp.Ordering.{Ordering}
@@ -9,7 +12,10 @@ use Rattle.std.specs.declared.cmp.Ordering.TheVariants.{Less, Equal, Greater}
 use Rattle.std.proofs.lemmas.Bool.{false≢true}
 use Rattle.std.proofs.lemmas.Cmp.{nat_list_cmp_total}
 use Rattle.std.proofs.lemmas.List.{get_or_read}
+use Rattle.std.proofs.lemmas.List.Elements.{recursion_from_All}
+use Rattle.std.proofs.lemmas.Map.Lookups.{btree_set_from_contains, exact_bytes}
 use Rattle.std.proofs.lemmas.Map.Text.{is_eq-slice_cmp}
+use Rattle.std.proofs.lemmas.Map.Views.{btree_set_contains_iff}
 use Rattle.row_types.specs.Ascends.{Ascends, IsBefore}
 
 -- each of the first elements stands after each one before it, by its path
@@ -56,3 +62,27 @@ first_related R x xs h = λ k d within. h 0 (suc k) d (omega arith) (omega (arit
 -- the later ones of a list are related
 pub rest_related : {X : Type 0} (R : X → X → Type 0) (x : X) (xs : List X) → AllPairs R (x ∷ xs) → AllPairs R xs
 rest_related R x xs h = λ i j d later within. h (suc i) (suc j) d (omega (arith, later)) (omega (arith, within))
+
+-- what ascends is sorted as the keys of a set are
+as_keys : (paths : List (List ℕ)) → Ascends paths → IsStrictlySortedBy (slice_cmp nat_cmp) paths
+unfolding IsStrictlySortedBy
+as_keys [] h = tt
+as_keys (path ∷ rest) h =
+    (recursion_from_All (IsBefore path) rest (first_related IsBefore path rest h), as_keys rest (rest_related IsBefore path rest h))
+
+-- a set of these paths has a path exactly where the list has it
+is_listed : (paths : List (List ℕ)) (path : List ℕ) → IsTrue (contains (slice_cmp nat_cmp) (record { keys = paths }) path) ↔ Contains paths path
+is_listed paths path = btree_set_contains_iff nat_list_cmp_total exact_bytes (record { keys = paths }) path
+
+one_truth : (a b : Bool) → (a ≡ true → b ≡ true) → (b ≡ true → a ≡ true) → a ≡ b
+one_truth true b to from = sym (to refl)
+one_truth false true to from = from refl
+one_truth false false to from = refl
+
+-- lists that ascend and have the same paths are the same
+pub same_paths : (paths others : List (List ℕ)) → Ascends paths → Ascends others
+    → ((path : List ℕ) → Contains paths path → Contains others path) → ((path : List ℕ) → Contains others path → Contains paths path) → paths ≡ others
+same_paths paths others p q to from =
+    btree_set_from_contains nat_list_cmp_total (record { keys = paths }) (record { keys = others }) (as_keys paths p) (as_keys others q)
+    (λ path. one_truth _ _ (λ h. (is_listed others path).1 (to path ((is_listed paths path).0 h))) (λ h. (is_listed paths path).1 (from path ((is_listed others path).0 h))))
+    exact_bytes

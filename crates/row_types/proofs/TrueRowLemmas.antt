@@ -1,5 +1,5 @@
 -- True rows of told worlds.
-use Rattle.std.proofs.Common.{◌≡◌, ℕ, ◌<◌, Bool, true, false, List, [], Result, Ok, Err, MatchBool, refl, sym, ◌∙◌, subst}
+use Rattle.std.proofs.Common.{◌≡◌, ℕ, ◌<◌, Bool, true, false, List, Result, Ok, Err, MatchBool, refl, sym, ◌∙◌, subst}
 use Rattle.std.specs.Prelude.{nat_lt}
 use Rattle.std.proofs.lemmas.Bool.{lt-ltb}
 use Rattle.file_formats.specs.Table.{table_of}
@@ -11,9 +11,11 @@ use Rattle.row_types.specs.Name.{NameFacts}
 use Rattle.row_types.specs.Row.{RowFacts, too_large_row}
 use Rattle.row_types.specs.Stamp.{StampFacts}
 use Rattle.row_types.specs.Reading.{ReadsBytes, IsReading, IsVersionRead, IsNameReading, IsTrueRow}
+use Rattle.row_types.specs.Sources.{AreSourcesOf}
 use Rattle.row_types.specs.declared.limits.TheConstants.{FILE_LIMIT}
 use Rattle.row_types.specs.declared.reading.Reading.{Reading}
 use Rattle.row_types.specs.declared.reading.Reading.TheVariants.{Plain, Elf}
+use Rattle.row_types.proofs.AscendsLemmas.{same_paths}
 use Rattle.row_types.proofs.PartLemmas.{rows_same}
 
 -- the row of a file above the limit is true
@@ -40,6 +42,11 @@ refused_is_one bytes fault e r (core t h p) = cc
 refused_is_one bytes fault e r (no_id t h p n) = cc
 refused_is_one bytes fault e r (found t i h p x f) = cc
 
+-- bytes have one list of sources
+sources_same : {bytes : List ℕ} (sources others : List (List ℕ)) → AreSourcesOf bytes sources → AreSourcesOf bytes others → sources ≡ others
+sources_same sources others p q = same_paths sources others p.ascends q.ascends
+    (λ path h. (q.exact path).1 ((p.exact path).0 h)) (λ path h. (p.exact path).1 ((q.exact path).0 h))
+
 -- bytes are found to be one thing
 bytes_read : (bytes : List ℕ) → IdentityIsOne bytes → (a b : Reading) → ReadsBytes bytes a → ReadsBytes bytes b → a ≡ b
 bytes_read bytes one (Plain why) (Plain other) p q =
@@ -50,8 +57,7 @@ bytes_read bytes one (Elf ident sources) (Plain why) p q =
     let same = one (Ok ident) (Err why) p.0 q in cc
 bytes_read bytes one (Elf ident sources) (Elf other others) p q =
     let same = one (Ok ident) (Ok other) p.0 q.0 in
-    let first : sources ≡ [] = p.1 in
-    let second : others ≡ [] = q.1 in
+    let listed = sources_same sources others p.1 q.1 in
     cc
 
 -- a name's file is found to be one thing, where it has at most one content

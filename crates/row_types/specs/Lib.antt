@@ -1,5 +1,7 @@
 pub use Rattle.file_formats.specs.Identity
+pub use Rattle.file_formats.specs.DwarfSections
 pub use Rattle.hex.specs.Hex
+pub mod Absolute
 pub mod Ascends
 pub mod BuildId
 pub mod Canon
@@ -10,5 +12,7 @@ pub mod Name
 pub mod Reading
 pub mod Row
 pub mod Rules
+pub mod SourcePaths
+pub mod Sources
 pub mod Stamp
 pub mod Under

@@ -1,10 +1,11 @@
--- What a file is found to be (this project's rule): by its size first, then by its identity. Its sources aren't
--- read yet, so none are listed.
-use Rattle.std.specs.Prelude.{◌≡◌, ℕ, List, [], nat_lt, MatchBool, Ok, Err}
+-- What a file is found to be (this project's rule): by its size first, then by its identity, and with it the source
+-- paths that its debug information names.
+use Rattle.std.specs.Prelude.{◌≡◌, ℕ, List, nat_lt, MatchBool, Ok, Err}
 use Rattle.file_formats.specs.Identity.{IsIdentity}
 use Rattle.file_formats.specs.declared.fault.Why.TheVariants.{TooLarge}
 use Rattle.row_types.specs.Name.{NameFacts}
 use Rattle.row_types.specs.Row.{RowFacts}
+use Rattle.row_types.specs.Sources.{AreSourcesOf}
 use Rattle.row_types.specs.Stamp.{StampFacts}
 use Rattle.row_types.specs.declared.limits.TheConstants.{EDITION, FILE_LIMIT}
 use Rattle.row_types.specs.declared.reading.Reading.{Reading}
@@ -13,7 +14,7 @@ use Rattle.row_types.specs.declared.reading.Reading.TheVariants.{Plain, Elf}
 -- what bytes are found to be
 abbrev pub ReadsBytes : List ℕ → Reading → Type 0
 ReadsBytes bytes (Plain why) = IsIdentity bytes (Err why)
-ReadsBytes bytes (Elf ident sources) = IsIdentity bytes (Ok ident) × (sources ≡ [])
+ReadsBytes bytes (Elf ident sources) = IsIdentity bytes (Ok ident) × AreSourcesOf bytes sources
 
 -- what the file of a stamp and its bytes is found to be
 abbrev pub IsReading : StampFacts → List ℕ → Reading → Type 0

@@ -1,7 +1,8 @@
 //! Paths, stamps and names.
 
-ghost use Rattle.std.specs.Prelude.{◌≡◌, IfOk};
-ghost use Rattle.sample_rows.specs.Names.{IsNoPath, name_of, names_of, stamp_of, texts_of};
+ghost use Rattle.std.specs.Prelude.{◌≡◌, ◌∷◌, [], IfOk, IfErr};
+ghost use Rattle.sample_rows.specs.Names.{RefusesPaths, name_of, names_of, paths_of};
+ghost use Rattle.sample_rows.specs.Names.{stamp_of, texts_of};
 
 use crate::fault::SampleFault;
 use row_types::{CanonPath, Name, Stamp};
@@ -11,10 +12,10 @@ use std::alloc::Global;
 pub const SECOND: i64 = 100;
 
 /// The canonical path of this text.
-#[tactic(auto, unfolding(crate::specs::Names::IsNoPath))]
+#[tactic(auto, unfolding(crate::specs::Names::RefusesPaths))]
 pub fn path(alloc: Global, text: &str) -> Result<CanonPath, SampleFault>
     ensures value { IfOk result (λ path. path ≡ text.now) }
-    ensures refused { result ≡ Err SampleFault.NotAPath → IsNoPath text.now }
+    ensures refused { IfErr result (RefusesPaths (text.now ∷ [])) }
 {
     match CanonPath::check(String::from_str(alloc, text)?) {
         Ok(path) => Ok(path),
@@ -23,9 +24,10 @@ pub fn path(alloc: Global, text: &str) -> Result<CanonPath, SampleFault>
 }
 
 /// The canonical paths of these texts.
-#[tactic(auto, unfolding(crate::specs::Names::texts_of))]
+#[tactic(auto, unfolding(crate::specs::Names::texts_of, crate::specs::Names::RefusesPaths))]
 pub fn paths(alloc: Global, texts: &[&str]) -> Result<Vec<CanonPath>, SampleFault>
-    ensures { IfOk result (λ paths. paths.items ≡ texts_of texts.now) }
+    ensures value { IfOk result (λ paths. paths.items ≡ texts_of texts.now) }
+    ensures refused { IfErr result (RefusesPaths (texts_of texts.now)) }
 {
     let mut paths = Vec::new(alloc);
     for text in texts {
@@ -47,7 +49,8 @@ pub fn stamp(size: u64) -> Stamp
 
 /// The name of a file of this path and size.
 pub fn name(alloc: Global, text: &str, size: u64) -> Result<Name, SampleFault>
-    ensures { IfOk result (λ name. name ≡ name_of text.now size) }
+    ensures value { IfOk result (λ name. name ≡ name_of text.now size) }
+    ensures refused { IfErr result (RefusesPaths (text.now ∷ [])) }
 {
     Ok(Name {
         path: path(alloc, text)?,
@@ -56,9 +59,10 @@ pub fn name(alloc: Global, text: &str, size: u64) -> Result<Name, SampleFault>
 }
 
 /// The names of files of these paths and sizes, in this order.
-#[tactic(auto, unfolding(crate::specs::Names::names_of))]
+#[tactic(auto, unfolding(crate::specs::Names::names_of, crate::specs::Names::RefusesPaths))]
 pub fn names(alloc: Global, files: &[(&str, u64)]) -> Result<Vec<Name>, SampleFault>
-    ensures { IfOk result (λ names. names.items ≡ names_of files.now) }
+    ensures value { IfOk result (λ names. names.items ≡ names_of files.now) }
+    ensures refused { IfErr result (RefusesPaths (paths_of files.now)) }
 {
     let mut names = Vec::new(alloc);
     for (text, size) in files {

@@ -1,9 +1,8 @@
 //! Rows, and what files are found to be.
 
-ghost use Rattle.std.specs.Prelude.{◌≡◌, length, map, IfOk};
-ghost use Rattle.row_types.specs.BuildId.{IsIdLength};
-ghost use Rattle.sample_rows.specs.Names.{texts_of};
-ghost use Rattle.sample_rows.specs.Rows.{elf_of, plain_of, row_of};
+ghost use Rattle.std.specs.Prelude.{◌≡◌, ◌∷◌, [], IfOk, IfErr};
+ghost use Rattle.sample_rows.specs.Names.{RefusesPaths, texts_of};
+ghost use Rattle.sample_rows.specs.Rows.{RefusesElf, elf_of, plain_of, row_of};
 
 use crate::fault::SampleFault;
 use crate::naming::{name, paths};
@@ -12,6 +11,7 @@ use std::alloc::Global;
 
 /// What a file with this id is found to be: it has code or not, debug information or not, and was
 /// made from these sources, which stand by path.
+#[tactic(auto, unfolding(crate::specs::Names::RefusesPaths, crate::specs::Rows::RefusesElf))]
 pub fn elf(
     alloc: Global,
     id: &[u8],
@@ -19,7 +19,9 @@ pub fn elf(
     debug: bool,
     sources: &[&str],
 ) -> Result<Reading, SampleFault>
-    ensures { IfOk result (λ found. found ≡ elf_of id.now exec debug (texts_of sources.now)) }
+    ensures value { IfOk result (λ found.
+        found ≡ elf_of id.now exec debug (texts_of sources.now)) }
+    ensures refused { IfErr result (RefusesElf id.now (texts_of sources.now)) }
 {
     let ident = Ident {
         id: BuildId::new(id).ok_or(SampleFault::NotAnId)?,
@@ -40,14 +42,16 @@ pub fn row(
     size: u64,
     reading: Reading,
 ) -> Result<TrueRow<OpenWorld>, SampleFault>
-    ensures { IfOk result (λ row. row ≡ row_of text.now size reading) }
+    ensures value { IfOk result (λ row. row ≡ row_of text.now size reading) }
+    ensures refused { IfErr result (RefusesPaths (text.now ∷ [])) }
 {
     Ok(TrueRow::new(Row::new(name(alloc, text, size)?, EDITION, reading)))
 }
 
 /// The row of a file of this path and size, which is no ELF file.
 pub fn plain(alloc: Global, text: &str, size: u64) -> Result<TrueRow<OpenWorld>, SampleFault>
-    ensures { IfOk result (λ row. row ≡ plain_of text.now size) }
+    ensures value { IfOk result (λ row. row ≡ plain_of text.now size) }
+    ensures refused { IfErr result (RefusesPaths (text.now ∷ [])) }
 {
     row(alloc, text, size, Reading::Plain(Why::NotElf))
 }

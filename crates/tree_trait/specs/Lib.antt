@@ -1,5 +1,6 @@
 pub use Rattle.row_types.specs.Faults
 pub use Rattle.row_types.specs.Name
+pub use Rattle.row_types.specs.Reading
 pub use Rattle.row_types.specs.Stamp
 pub mod Asks
 pub mod Dir
@@ -12,6 +13,7 @@ pub mod Load
 pub mod MemTree
 pub mod Pieces
 pub mod Present
+pub mod Reader
 pub mod Script
 pub mod Shown
 pub mod Stat

@@ -1,5 +1,6 @@
 //! The tree of files that a scan reads: the trait that stands for it, what it answers, and a form
-//! in memory that answers by a script. The real tree stands in the program.
+//! in memory that answers by a script; and the trait that stands for what reads a file. The real
+//! tree stands in the program.
 #![tactic(auto)]
 
 mod answer;
@@ -9,6 +10,7 @@ mod folder;
 mod found;
 mod heard;
 mod mem_tree;
+mod reader;
 mod script;
 mod stage;
 mod stat;
@@ -22,6 +24,7 @@ pub use dir::DirAnswer;
 pub use entry::{Entry, EntryKind, is_entry_name};
 pub use found::Found;
 pub use mem_tree::MemTree;
+pub use reader::Reader;
 pub use script::Script;
 pub use stat::StatAnswer;
 pub use tree::Tree;

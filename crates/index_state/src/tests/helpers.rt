@@ -22,6 +22,15 @@ pub fn listing(alloc: Global, files: &[(&str, u64)]) -> Result<Listing, Fail> {
     )
 }
 
+/// The listing of this name alone.
+pub fn listing_of(alloc: Global, name: Name) -> Result<Listing, Fail> {
+    Ok(
+        Listing::new(vec![in alloc; name]?)
+            .ok()
+            .ok_or("one name is by path")?,
+    )
+}
+
 /// A store without rows, which stops at this call.
 pub fn store_stopping_at<W: Truth>(alloc: Global, number: Option<u64>) -> MemStore<W> {
     MemStore::new(alloc, Vec::new(alloc), number, Vec::new(alloc))

@@ -13,7 +13,12 @@ use std::test::Fail;
 /// Begins a pass over four files, each of which is an executable or else has debug information, and
 /// has one source, and publishes their rows.
 fn publish_all(rt: &impl Abort, alloc: Global, index: &mut Index<OpenWorld>) -> Result<(), Fail> {
-    let begun = begin(alloc, index, &[("/a", 4), ("/b", 3), ("/c", 2), ("/d", 1)])?;
+    let begun = begin(
+        alloc,
+        index,
+        "/",
+        &[("/a", 4), ("/b", 3), ("/c", 2), ("/d", 1)],
+    )?;
     assert_eq!(rt;
         begun,
         Begun::Begun(Plan {

@@ -4,32 +4,33 @@ ghost use Rattle.std.specs.Prelude.{◌≡◌, ◌⊎◌, IfOk};
 ghost use Rattle.tree_trait.specs.TwoWorld.{first_stamp, path as only_path, second_stamp};
 
 use crate::answer::{Begun, Plan, Published, Standing};
-use crate::tests::helpers::{Index, NO_PLAN, NOTHING, opened, store_stopping_at, taken_text};
+use crate::tests::helpers::{
+    Index, NO_PLAN, NOTHING, listing_of, opened, store_stopping_at, taken_text,
+};
 use index_keeper::Store;
 use row_types::{EDITION, Name, Reading, Row, Stamp, TrueRow, Why};
 use sample_rows::{path, paths, rows_text};
-use scan_queue::Listing;
 use std::alloc::Global;
 use std::process::Abort;
 use std::test::Fail;
 use tree_trait::TwoWorld;
 
 /// The stamp of the first version, of one byte.
-const FIRST: Stamp = Stamp {
+pub const FIRST: Stamp = Stamp {
     size: 1,
     secs: 1,
     nanos: 0,
 };
 
 /// The stamp of the second version, of two bytes.
-const SECOND: Stamp = Stamp {
+pub const SECOND: Stamp = Stamp {
     size: 2,
     secs: 2,
     nanos: 0,
 };
 
 /// The name of the file with this stamp.
-fn name_of(alloc: Global, stamp: Stamp) -> Result<Name, Fail>
+pub fn name_of(alloc: Global, stamp: Stamp) -> Result<Name, Fail>
     ensures { IfOk result (λ name. name ≡ record { path = only_path; stamp = stamp }) }
 {
     Ok(Name {
@@ -40,7 +41,7 @@ fn name_of(alloc: Global, stamp: Stamp) -> Result<Name, Fail>
 
 /// The row of the version with this stamp.
 #[tactic(auto, using(crate::proofs::TwoWorldRows::version_is_true))]
-fn row_of(alloc: Global, stamp: Stamp) -> Result<TrueRow<TwoWorld>, Fail>
+pub fn row_of(alloc: Global, stamp: Stamp) -> Result<TrueRow<TwoWorld>, Fail>
     requires { (stamp ≡ first_stamp) ⊎ (stamp ≡ second_stamp) }
 {
     let name = name_of(alloc, stamp)?;
@@ -49,16 +50,14 @@ fn row_of(alloc: Global, stamp: Stamp) -> Result<TrueRow<TwoWorld>, Fail>
 
 /// A pass over the file, which has this stamp: its name is taken, and its row is published. What
 /// was answered.
-fn scan(
+pub fn scan(
     alloc: Global,
     index: &mut Index<TwoWorld>,
     stamp: Stamp,
 ) -> Result<(Begun, String, Published), Fail>
     requires { (stamp ≡ first_stamp) ⊎ (stamp ≡ second_stamp) }
 {
-    let listing = Listing::new(vec![in alloc; name_of(alloc, stamp)?]?)
-        .ok()
-        .ok_or("one name is by path")?;
+    let listing = listing_of(alloc, name_of(alloc, stamp)?)?;
     let row = row_of(alloc, stamp)?;
     let begun = index.begin(alloc, listing, paths(alloc, &["/w"])?);
     let taken = taken_text(alloc, index.take())?;

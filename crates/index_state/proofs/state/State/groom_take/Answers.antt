@@ -1,0 +1,11 @@
+-- A name that goes out to be looked for is still to be looked for.
+use Rattle.std.proofs.Common.{List, ℕ, subst}
+use Rattle.index_state.specs.Away.{GroomsFrom}
+use Rattle.index_state.proofs.AwayKeeps.{groom_keeps}
+use Rattle.index_state.proofs.state.State.groom_take.Goals as goal
+
+pub invariant_of-self : goal.invariant_of-self
+invariant_of-self g c =
+    groom_keeps c.self.invariant c.take_task.result
+    (subst (λ (roots : List (List ℕ)). GroomsFrom roots c.self.inside.pass c.take_task.result c.take_task.new.pass) c.as_slice.ensures.value c.take_task.ensures.step)
+    c.take_task.ensures.keeps

@@ -1,0 +1,119 @@
+-- Units and the line tables that they name.
+use Rattle.std.proofs.Common.{◌≡◌, ℕ, suc, inl, inr, Bool, true, false, List, [], ◌∷◌, All, Some, None, refl, sym, ◌∙◌, ap, subst, arith}
+use Rattle.std.specs.BTreeSet.{BTreeSet, insert_key, contains}
+use Rattle.std.specs.BTreeMap.{is_at}
+use Rattle.std.specs.List.{list_any}
+use Rattle.std.specs.Option.{option_copied}
+use Rattle.std.specs.declared.cmp.Ordering.{Ordering}
+use Rattle.std.proofs.lemmas.Bool.{false≢true, or_cases}
+use Rattle.std.proofs.lemmas.Map.Views.{All-insert_key}
+use Rattle.file_formats.specs.DwarfLengths.{Piece}
+use Rattle.file_formats.specs.DwarfLines.{LineTable, IsLineTable}
+use Rattle.file_formats.specs.DwarfUnits.{DebugSections, RootEntry, IsRootEntry, unit_texts}
+use Rattle.dwarf_forms.specs.Tells.{IsOnly}
+use Rattle.dwarf_units.specs.UnitList.{AreUnits}
+use Rattle.dwarf_units.proofs.CaseLemmas.{some_same}
+use Rattle.source_paths.specs.declared.tables.TableKey.{TableKey}
+use Rattle.source_paths.specs.Adds.{Adds, Has}
+use Rattle.source_paths.specs.Keys.{AreRead, IsRead, key_entry}
+use Rattle.row_types.specs.Sources.{IsEntrySource, IsFileSource, IsOfOne, IsSource, IsUnitSource}
+use Rattle.source_paths.proofs.AddLemmas.{adds-same, adds-had, has-nothing}
+
+module _ (s : DebugSections) where
+  -- a line table's own format counts, and not the unit's
+  any_wide : {wide : Bool} {entry : RootEntry} {path : List ℕ} (other : Bool) → IsEntrySource s wide entry path → IsEntrySource s other entry path
+  any_wide other h = record {
+    offset = h.offset;
+    named = h.named;
+    table = h.table;
+    stands = record {
+      piece = h.stands.piece;
+      stands = h.stands.stands;
+      head = h.stands.head;
+      header = h.stands.header;
+      lists = h.stands.lists;
+    };
+    file = h.file;
+  }
+
+  -- the line table of a key
+  abbrev pub IsKeyTable : TableKey → LineTable → Type 0
+  IsKeyTable key table = IsLineTable s.lines key.offset (unit_texts s false key.base) table
+
+  module _ (key : TableKey) where
+    key_table : {path : List ℕ} → (h : IsEntrySource s false (key_entry key) path) → IsKeyTable key h.table
+    key_table h = subst (λ n. IsLineTable s.lines n (unit_texts s false key.base) h.table) (sym (some_same h.named)) h.stands
+
+    pub table-nowhere : ((table : LineTable) → IsKeyTable key table → ⊥) → (path : List ℕ)
+        → IsEntrySource s false (key_entry key) path → ⊥
+    table-nowhere none path h = none h.table (key_table h)
+
+    pub table-adds : {table : LineTable} → IsOnly (IsKeyTable key) table → {old new : BTreeSet (List ℕ)}
+        → Adds (IsOfOne (IsFileSource (option_copied key.directory) table) table.files) old new
+        → Adds (IsEntrySource s false (key_entry key)) old new
+    table-adds {table} only a = adds-same
+        (λ path h. record { offset = key.offset; named = refl; table = table; stands = only.here; file = h })
+        (λ path h. subst (λ (t : LineTable). IsOfOne (IsFileSource (option_copied key.directory) t) t.files path)
+        (only.only h.table (key_table h)) h.file)
+        a
+
+  module _ (unit : Piece) where
+    pub unit-nowhere : ((entry : RootEntry) → IsRootEntry s unit entry → ⊥) → (path : List ℕ) → IsUnitSource s unit path → ⊥
+    unit-nowhere none path h = none h.entry h.root
+
+    pub unit-unnamed : {entry : RootEntry} → IsOnly (IsRootEntry s unit) entry → entry.stmt_list ≡ None
+        → (path : List ℕ) → IsUnitSource s unit path → ⊥
+    unit-unnamed {entry} only none path h =
+        let same : h.entry ≡ entry = only.only h.entry h.root in
+        let named : entry.stmt_list ≡ Some h.table.offset = sym (ap (λ (e : RootEntry). e.stmt_list) same) ∙ h.table.named in
+        cc
+
+    pub unit-adds : {entry : RootEntry} → IsOnly (IsRootEntry s unit) entry → (key : TableKey) → key_entry key ≡ entry
+        → {old new : BTreeSet (List ℕ)} → Adds (IsEntrySource s false (key_entry key)) old new → Adds (IsUnitSource s unit) old new
+    unit-adds {entry} only key e a = adds-same
+        (λ path h. record {
+          entry = entry;
+          root = only.here;
+          table = any_wide unit.wide (subst (λ x. IsEntrySource s false x path) e h);
+        })
+        (λ path h. any_wide false (subst (λ x. IsEntrySource s unit.wide x path) (only.only h.entry h.root ∙ sym e) h.table))
+        a
+
+  -- what was read stays read where paths are only added
+  still_read : {P : List ℕ → Type 0} (keys : List TableKey) {old new : BTreeSet (List ℕ)} → Adds P old new → All (IsRead s old) keys → All (IsRead s new) keys
+  still_read keys a h = λ k d within path source. a.kept path (h k d within path source)
+
+  -- the key's table is read too
+  pub read-more : (cmp : TableKey → TableKey → Ordering) (key : TableKey) {seen now : BTreeSet TableKey} {old new : BTreeSet (List ℕ)}
+      → now.keys ≡ insert_key cmp seen.keys key → Adds (IsEntrySource s false (key_entry key)) old new → AreRead s seen old → AreRead s now new
+  read-more cmp key {seen} {now} {old} {new} e a h = record {
+    all = subst (All (IsRead s new)) (sym e) (All-insert_key cmp key (IsRead s new) seen.keys (still_read seen.keys a h.all) a.added);
+  }
+
+  -- a key that a test finds
+  found : {K : Type 0} (test : K → Bool) {P : K → Type 0} {Q : Type 0} (keys : List K) → list_any test keys ≡ true → All P keys
+      → ((key : K) → test key ≡ true → P key → Q) → Q
+  found test [] e h to = absurd (false≢true e)
+  found test (key ∷ keys) e h to = elim (or_cases (test key) (list_any test keys) e) [
+    | inl here ↦ to key here (h 0 key (omega arith))
+    | inr later ↦ found test keys later (λ k d within. h (suc k) d (omega (arith, within))) to
+  ]
+
+  -- the key's table was read before
+  pub read-before : (cmp : TableKey → TableKey → Ordering) → ((key other : TableKey) → is_at (cmp key) other ≡ true → key_entry key ≡ key_entry other)
+      → (key : TableKey) {seen : BTreeSet TableKey} {paths : BTreeSet (List ℕ)} → contains cmp seen key ≡ true → AreRead s seen paths
+      → Adds (IsEntrySource s false (key_entry key)) paths paths
+  read-before cmp same key {seen} {paths} e h = adds-had paths
+      (found (is_at (cmp key)) {P = IsRead s paths} seen.keys e h.all
+      (λ other tied read path source. read path (subst (λ x. IsEntrySource s false x path) (same key other tied) source)))
+
+  -- the paths of all units are the file's sources
+  pub units-exact : {all done : List Piece} → AreUnits s.order s.info all → done ≡ all → {none paths : BTreeSet (List ℕ)} → none.keys ≡ []
+      → Adds (IsOfOne (IsUnitSource s) done) none paths → (path : List ℕ) → (Has paths path → IsSource s path) × (IsSource s path → Has paths path)
+  units-exact {all} {done} are e {none} empty a path = (
+    λ h. elim (a.only path h) [
+      | inl before ↦ absurd (has-nothing none path empty before)
+      | inr unit ↦ record { units = all; all = are.all; unit = subst (λ l. IsOfOne (IsUnitSource s) l path) e unit }
+    ],
+    λ h. a.added path (subst (λ l. IsOfOne (IsUnitSource s) l path) (are.only h.units h.all ∙ sym e) h.unit),
+  )

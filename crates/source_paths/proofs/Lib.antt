@@ -1,0 +1,5 @@
+pub mod AddLemmas
+pub mod KeyLemmas
+pub mod NameLemmas
+pub mod OrderLemmas
+pub mod ShortLemmas

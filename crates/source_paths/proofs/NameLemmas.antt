@@ -1,0 +1,37 @@
+-- The path that a text names.
+use Rattle.std.proofs.Common.{◌≡◌, ℕ, true, List, [], ◌∷◌, Option, Some, refl, sym, ◌∙◌, ap, subst}
+use Rattle.std.specs.BTreeSet.{BTreeSet, Updates}
+use Rattle.std.specs.Cmp.Lexicographic.{slice_cmp}
+use Rattle.std.specs.Ordering.{nat_cmp}
+use Rattle.std.specs.Str.{IsUtf8}
+use Rattle.dwarf_forms.specs.Tells.{IsOnly}
+use Rattle.row_types.specs.Canon.{IsCanonPath, path_of}
+use Rattle.row_types.specs.Absolute.{is_absolute}
+use Rattle.dwarf_units.proofs.CaseLemmas.{some_same}
+use Rattle.source_paths.specs.Adds.{Adds}
+use Rattle.row_types.specs.Sources.{MayName, Names}
+use Rattle.source_paths.proofs.AddLemmas.{adds-one}
+
+-- a path of pieces begins with a slash
+path_absolute : (kept : List (List ℕ)) → is_absolute (path_of kept) ≡ true
+path_absolute [] = refl
+path_absolute (piece ∷ rest) = refl
+
+-- a text that is its own canonical form names itself
+pub names_itself : {text path : List ℕ} → IsCanonPath text → IsUtf8 text → path ≡ text → IsOnly (Names text) path
+names_itself {text} h utf8 e = record {
+  here = record {
+    absolute = ap is_absolute (sym h.canonical) ∙ path_absolute _;
+    utf8 = utf8;
+    short = h.short;
+    says = e ∙ sym h.canonical;
+  };
+  only = λ other n. n.says ∙ h.canonical ∙ sym e;
+}
+
+-- the path that a text names is added
+pub adds-named : {there : Option (List ℕ)} {text path : List ℕ} {old new : BTreeSet (List ℕ)} → there ≡ Some text
+    → IsOnly (Names text) path → Updates (slice_cmp nat_cmp) old new path true → Adds (MayName there) old new
+adds-named {text = text} e only update =
+    adds-one (record { there = text; is = e; names = only.here })
+    (λ other h. only.only other (subst (λ t. Names t other) (some_same (sym h.is ∙ e)) h.names)) update

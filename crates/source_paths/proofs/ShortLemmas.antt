@@ -1,0 +1,134 @@
+-- Folders that are too long for a path to lie within may be left out.
+use Rattle.std.proofs.Common.{◌≡◌, ℕ, ◌≤◌, Bool, true, false, List, ◌∷◌, length, Option, Some, None, refl, sym, ◌∙◌, ap, subst, arith, length-append, le-leb}
+use Rattle.std.specs.Prelude.{◌==◌, nat_le, if◌then◌else◌}
+use Rattle.std.specs.Option.{option_map, option_and_then}
+use Rattle.std.proofs.lemmas.Bool.{leb-true, leb-false}
+use Rattle.std.specs.BTreeSet.{BTreeSet}
+use Rattle.std.specs.List.{slice_index_or}
+use Rattle.dwarf_units.proofs.CaseLemmas.{only_then}
+use Rattle.file_formats.specs.DwarfLines.{LineEntry, LineTable}
+use Rattle.row_types.specs.declared.limits.TheConstants.{SEPARATOR, PATH_LIMIT}
+use Rattle.row_types.specs.Absolute.{is_absolute}
+use Rattle.source_paths.proofs.AddLemmas.{adds-same}
+use Rattle.source_paths.specs.Adds.{Adds, IsFileFrom, short, where_short}
+use Rattle.row_types.specs.SourcePaths.{behind, within, directory_from, file_from, first_directory}
+use Rattle.row_types.specs.Sources.{IsFileSource, IsOfOne, MayName}
+
+-- a text within a folder that is too long is too long
+too_long : (text folder : List ℕ) → nat_le (length folder) PATH_LIMIT ≡ false → where_short (within text folder) ≡ None
+too_long text folder e =
+    elim (nat_le (length (within text folder)) PATH_LIMIT) as (λ v. nat_le (length (within text folder)) PATH_LIMIT ≡ v
+    → (if v then Some (within text folder) else None) ≡ None) [
+      | true ↦ λ fits. absurd (omega (arith, leb-false (length folder) PATH_LIMIT e, leb-true (length (within text folder)) PATH_LIMIT fits, length-append folder (SEPARATOR ∷ text)))
+      | false ↦ λ _. refl
+    ] refl
+
+short_again : (text : Option (List ℕ)) → short (short text) ≡ short text
+short_again None = refl
+short_again (Some text) =
+    elim (nat_le (length text) PATH_LIMIT) as (λ v. nat_le (length text) PATH_LIMIT ≡ v
+    → short (if v then Some text else None) ≡ (if v then Some text else None)) [
+      | true ↦ λ e. ap (λ (v : Bool). if v then Some text else None) e
+      | false ↦ λ e. refl
+    ] refl
+
+short_within : (text : List ℕ) (folder : Option (List ℕ)) → short (option_map (within text) (short folder)) ≡ short (option_map (within text) folder)
+short_within text None = refl
+short_within text (Some folder) =
+    elim (nat_le (length folder) PATH_LIMIT) as (λ v. nat_le (length folder) PATH_LIMIT ≡ v
+    → short (option_map (within text) (if v then Some folder else None)) ≡ where_short (within text folder)) [
+      | true ↦ λ e. refl
+      | false ↦ λ e. sym (too_long text folder e)
+    ] refl
+
+-- behind a folder that is too long nothing is but what stands by itself
+short_behind : (folder text : Option (List ℕ)) → short (behind (short folder) text) ≡ short (behind folder text)
+short_behind folder None = refl
+short_behind folder (Some text) =
+    elim (is_absolute text) as (λ v. short (if v then Some text else option_map (within text) (short folder))
+    ≡ short (if v then Some text else option_map (within text) folder))
+    [ true ↦ refl | false ↦ short_within text folder ]
+
+short_directory : (first : Option (List ℕ)) (directories : List (Option (List ℕ))) (index : ℕ)
+    → short (directory_from (short first) directories index) ≡ short (directory_from first directories index)
+short_directory first directories index =
+    elim (index == 0) as (λ v. short (if v then short first else behind (short first) (slice_index_or directories index None))
+    ≡ short (if v then first else behind first (slice_index_or directories index None)))
+    [ true ↦ short_again first | false ↦ short_behind first (slice_index_or directories index None) ]
+
+-- folders that are as short are as good
+same_behind : (text folder other : Option (List ℕ)) → short folder ≡ short other
+    → short (behind folder text) ≡ short (behind other text)
+same_behind text folder other e =
+    sym (short_behind folder text) ∙ ap (λ f. short (behind f text)) e ∙ short_behind other text
+
+short_file : (first : Option (List ℕ)) (directories : List (Option (List ℕ))) (file : LineEntry)
+    → short (file_from (short first) directories file) ≡ short (file_from first directories file)
+short_file first directories file =
+    same_behind file.path (option_and_then (directory_from (short first) directories) file.directory)
+    (option_and_then (directory_from first directories) file.directory) (in_folder file.directory)
+  where
+    in_folder : (index : Option ℕ) → short (option_and_then (directory_from (short first) directories) index)
+        ≡ short (option_and_then (directory_from first directories) index)
+    in_folder None = refl
+    in_folder (Some index) = short_directory first directories index
+
+-- a text that names a source is short enough
+where_named : (text : Option (List ℕ)) {path : List ℕ} → MayName text path → MayName (short text) path
+where_named text h = record {
+  there = h.there;
+  is = ap short h.is ∙ fits h.there h.names.short;
+  names = h.names;
+}
+  where
+    fits : (there : List ℕ) → length there ≤ PATH_LIMIT → where_short there ≡ Some there
+    fits there h = ap (λ (v : Bool). if v then Some there else None) (le-leb (length there) PATH_LIMIT h)
+
+where_short_named : (text : Option (List ℕ)) {path : List ℕ} → MayName (short text) path → MayName text path
+where_short_named None h = h
+where_short_named (Some text) h = record {
+  there = h.there;
+  is = ap Some (only_then (nat_le (length text) PATH_LIMIT) text h.there h.is).1;
+  names = h.names;
+}
+
+-- of two texts that are as short, both name the same
+pub same_named : (text other : Option (List ℕ)) → short text ≡ short other → {path : List ℕ} → MayName text path → MayName other path
+same_named text other e {path} h = where_short_named other (subst (λ t. MayName t path) e (where_named text h))
+
+-- each file has the path that it has where directory 0 is too long
+pub from_short : (first : Option (List ℕ)) (directories : List (Option (List ℕ))) (file : LineEntry) (path : List ℕ)
+    → IsFileFrom (short first) directories file path → IsFileFrom first directories file path
+from_short first directories file path =
+    same_named (file_from (short first) directories file) (file_from first directories file) (short_file first directories file)
+
+pub to_short : (first : Option (List ℕ)) (directories : List (Option (List ℕ))) (file : LineEntry) (path : List ℕ)
+    → IsFileFrom first directories file path → IsFileFrom (short first) directories file path
+to_short first directories file path =
+    same_named (file_from first directories file) (file_from (short first) directories file) (sym (short_file first directories file))
+
+-- the text is short, or it isn't
+pub adds_short : (text : Option (List ℕ)) {old new : BTreeSet (List ℕ)} → Adds (MayName (short text)) old new → Adds (MayName text) old new
+adds_short text a = adds-same (λ path h. where_short_named text h) (λ path h. where_named text h) a
+
+pub one_by_one : {A : Type 0} {P Q : A → List ℕ → Type 0} → ((one : A) (path : List ℕ) → P one path → Q one path)
+    → (list : List A) (path : List ℕ) → IsOfOne P list path → IsOfOne Q list path
+one_by_one to list path h = record { one = h.one; among = h.among; has = to h.one path h.has }
+
+-- the files' paths are the same where directory 0 is too long
+pub adds_files : (first : Option (List ℕ)) (directories : List (Option (List ℕ))) (files : List LineEntry) {old new : BTreeSet (List ℕ)}
+    → Adds (IsOfOne (IsFileFrom (short first) directories) files) old new
+    → Adds (IsOfOne (IsFileFrom first directories) files) old new
+adds_files first directories files a =
+    adds-same (one_by_one (from_short first directories) files) (one_by_one (to_short first directories) files) a
+
+-- the files of a table add their paths
+pub adds_table : (unit : Option (List ℕ)) (table : LineTable) {first : Option (List ℕ)} {directories : List (Option (List ℕ))}
+    {files : List LineEntry} {old new : BTreeSet (List ℕ)} → first ≡ short (first_directory unit table.directories)
+    → directories ≡ table.directories → files ≡ table.files → Adds (IsOfOne (IsFileFrom first directories) files) old new
+    → Adds (IsOfOne (IsFileSource unit table) table.files) old new
+adds_table unit table {first} {directories} {files} {old} {new} e d f a =
+    adds_files (first_directory unit table.directories) table.directories table.files
+    (subst (λ x. Adds (IsOfOne (IsFileFrom x table.directories) table.files) old new) e
+    (subst (λ x. Adds (IsOfOne (IsFileFrom first x) table.files) old new) d
+    (subst (λ x. Adds (IsOfOne (IsFileFrom first directories) x) old new) f a)))

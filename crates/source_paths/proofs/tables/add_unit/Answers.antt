@@ -1,0 +1,31 @@
+use Rattle.std.proofs.Common.{ℕ, Option, ap, sym}
+use Rattle.std.proofs.lemmas.Result.{on_ok_weaker}
+use Rattle.dwarf_forms.specs.Parts.{sections_of}
+use Rattle.dwarf_units.specs.UnitList.{unit_facts}
+use Rattle.source_paths.specs.declared.tables.TableKey.{TableKey}
+use Rattle.source_paths.specs.Keys.{key_entry}
+use Rattle.source_paths.proofs.AddLemmas.{adds-nothing}
+use Rattle.source_paths.proofs.KeyLemmas.{unit-nowhere, unit-unnamed, unit-adds}
+use Rattle.source_paths.proofs.tables.add_unit.Goals as goal
+
+pub returns-in_default-clause-adds : goal.returns-in_default-clause-adds
+returns-in_default-clause-adds c =
+    adds-nothing c.args.paths.now
+    (unit-nowhere (sections_of c.args.parts.now) (unit_facts c.args.unit.now) c.in_default.ensures.entry)
+
+pub returns-in_default-stmt_list-clause-adds : goal.returns-in_default-stmt_list-clause-adds
+returns-in_default-stmt_list-clause-adds c =
+    adds-nothing c.args.paths.now
+    (unit-unnamed (sections_of c.args.parts.now) (unit_facts c.args.unit.now) c.in-Some.ensures.entry c.in_default-stmt_list.is)
+
+pub returns-clause-adds : goal.returns-clause-adds
+returns-clause-adds c =
+    let key : TableKey = record {
+      offset = c.in-Some-stmt_list.offset;
+      base = c.in-Some.entry.base;
+      directory = c.in-Some.entry.comp_dir;
+    } in
+    on_ok_weaker c.add_new_table.result
+    (unit-adds (sections_of c.args.parts.now) (unit_facts c.args.unit.now) c.in-Some.ensures.entry key
+    (ap (λ (n : Option ℕ). record (key_entry key) { stmt_list = n }) (sym c.in-Some-stmt_list.is)))
+    c.add_new_table.ensures.adds

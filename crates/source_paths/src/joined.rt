@@ -1,0 +1,126 @@
+//! Paths of files, joined from their parts. DWARF 5, section 6.2.4.1.
+
+ghost use Rattle.std.specs.Prelude.{◌≡◌, map, None, IfOk};
+ghost use Rattle.std.specs.List.{slice_index_or};
+ghost use Rattle.std.specs.Option.{option_copied, option_map};
+ghost use Rattle.row_types.specs.Absolute.{is_absolute};
+ghost use Rattle.dwarf_lines.specs.Entries.{file_facts};
+ghost use Rattle.row_types.specs.SourcePaths.{behind, file_from, first_directory, within};
+ghost use Rattle.source_paths.specs.Adds.{short, where_short};
+
+use dwarf_lines::LineFile;
+use row_types::{PATH_LIMIT, SEPARATOR};
+use std::alloc::{AllocError, Global};
+
+/// Whether a text begins with a slash.
+fn is_absolute(text: &[u8]) -> bool
+    ensures { result ≡ is_absolute text.now }
+{
+    match text {
+        [first, ..] => *first == SEPARATOR,
+        [] => false,
+    }
+}
+
+/// A copy of a text, None where it is longer than a path may be.
+fn copied(alloc: Global, text: &[u8]) -> Result<Option<Vec<u8>>, AllocError>
+    ensures { IfOk result (λ copy. option_map (λ v. v.items) copy ≡ where_short text.now) }
+{
+    if text.len() > PATH_LIMIT {
+        return Ok(None);
+    }
+    Ok(Some(Vec::from_slice(alloc, text)?))
+}
+
+/// A text within a folder, None where it would be longer than a path may be.
+fn joined(alloc: Global, folder: &[u8], text: &[u8]) -> Result<Option<Vec<u8>>, AllocError>
+    ensures { IfOk result (λ path.
+        option_map (λ v. v.items) path ≡ where_short (within text.now folder.now)) }
+{
+    if folder.len() >= PATH_LIMIT || text.len() > PATH_LIMIT - 1 - folder.len() {
+        return Ok(None);
+    }
+    let mut path = Vec::with_capacity(alloc, folder.len() + 1 + text.len())?;
+    path.extend_from_slice(folder)?;
+    path.push(SEPARATOR)?;
+    path.extend_from_slice(text)?;
+    Ok(Some(path))
+}
+
+/// A text behind a folder, None where a part that is needed isn't there, or the path would be longer
+/// than a path may be.
+fn behind(
+    alloc: Global,
+    folder: Option<&[u8]>,
+    text: Option<&[u8]>,
+) -> Result<Option<Vec<u8>>, AllocError>
+    ensures { IfOk result (λ path.
+        option_map (λ v. v.items) path ≡ short (behind (option_copied folder.entry) (option_copied text.entry))) }
+{
+    let Some(text) = text else {
+        return Ok(None);
+    };
+    if is_absolute(text) {
+        return copied(alloc, text);
+    }
+    match folder {
+        Some(folder) => joined(alloc, folder, text),
+        None => Ok(None),
+    }
+}
+
+/// The path of directory 0 of a table, in a unit of this directory.
+pub(crate) fn first_directory(
+    alloc: Global,
+    unit: Option<&[u8]>,
+    dirs: &[Option<&[u8]>],
+) -> Result<Option<Vec<u8>>, AllocError>
+    ensures { IfOk result (λ path. option_map (λ v. v.items) path
+        ≡ short (first_directory (option_copied unit.entry) (map option_copied dirs.now))) }
+{
+    match dirs {
+        [] => unit.map_or(Ok(None), |unit| copied(alloc, unit)),
+        [first, ..] => behind(alloc, unit, *first),
+    }
+}
+
+/// The path that a table lists for a directory, None where it lists none.
+fn listed<'a>(dirs: &[Option<&'a [u8]>], index: u64) -> Option<&'a [u8]>
+    ensures { option_copied result ≡ slice_index_or (map option_copied dirs.now) index None }
+{
+    match dirs.get(index as usize) {
+        Some(path) => *path,
+        None => None,
+    }
+}
+
+/// A text that is lent.
+pub(crate) fn lent(text: &Option<Vec<u8>>) -> Option<&[u8]>
+    ensures { option_copied result ≡ option_map (λ v. v.items) text.now }
+{
+    match text {
+        Some(text) => Some(text.as_slice()),
+        None => None,
+    }
+}
+
+/// The path of a file, where directory 0 has this path.
+pub(crate) fn file_path(
+    alloc: Global,
+    first: Option<&[u8]>,
+    dirs: &[Option<&[u8]>],
+    file: &LineFile<'_>,
+) -> Result<Option<Vec<u8>>, AllocError>
+    ensures { IfOk result (λ path. option_map (λ v. v.items) path
+        ≡ short (file_from (option_copied first.entry) (map option_copied dirs.now)
+        (file_facts file.now))) }
+{
+    match file.dir {
+        None => behind(alloc, None, file.path),
+        Some(0) => behind(alloc, first, file.path),
+        Some(index) => {
+            let folder = behind(alloc, first, listed(dirs, index))?;
+            behind(alloc, lent(&folder), file.path)
+        }
+    }
+}

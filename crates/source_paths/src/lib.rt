@@ -1,0 +1,14 @@
+//! The source paths that a file's debug information names. The sections are read in the crates
+//! below. DWARF 5, sections 3.1.1 and 6.2.4.
+#![tactic(auto)]
+
+mod files;
+mod joined;
+mod named;
+mod paths;
+mod tables;
+
+pub use paths::sources;
+
+#[cfg(test)]
+mod tests;

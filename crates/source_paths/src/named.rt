@@ -1,0 +1,55 @@
+//! The path that a text names.
+
+ghost use Rattle.std.specs.Prelude.{IfOk, OnOk};
+ghost use Rattle.std.specs.Option.{option_map};
+ghost use Rattle.dwarf_forms.specs.Tells.{Tells};
+ghost use Rattle.dwarf_lines.specs.Finds.{as_it_is};
+ghost use Rattle.row_types.specs.Sources.{MayName, Names};
+ghost use Rattle.source_paths.specs.Adds.{Adds};
+
+use path_canon::{PathFault, canonical};
+use row_types::CanonPath;
+use std::alloc::{AllocError, Global};
+use std::collections::BTreeSet;
+
+/// The path that a text names, which isn't its own canonical form.
+fn canonical_path(alloc: Global, text: &str) -> Result<Option<CanonPath>, AllocError>
+    ensures { IfOk result (Tells as_it_is (Names text.now)) }
+{
+    match canonical(alloc, text) {
+        Ok(path) => Ok(Some(path)),
+        Err(PathFault::OutOfMemory) => Err(AllocError),
+        Err(_) => Ok(None),
+    }
+}
+
+/// The path that a text names.
+fn path_named(alloc: Global, text: Vec<u8>) -> Result<Option<CanonPath>, AllocError>
+    ensures { IfOk result (Tells as_it_is (Names text.items)) }
+{
+    let Ok(text) = String::from_utf8(text) else {
+        return Ok(None);
+    };
+    match CanonPath::check(text) {
+        Ok(path) => Ok(Some(path)),
+        Err(text) => canonical_path(alloc, text.as_str()),
+    }
+}
+
+/// Adds the path that a text names.
+pub(crate) fn add_named(
+    alloc: Global,
+    text: Option<Vec<u8>>,
+    paths: &mut BTreeSet<CanonPath>,
+) -> Result<(), AllocError>
+    ensures { OnOk result (Adds (MayName (option_map (λ v. v.items) text)) paths.old paths.new) }
+{
+    let Some(text) = text else {
+        return Ok(());
+    };
+    let Some(path) = path_named(alloc, text)? else {
+        return Ok(());
+    };
+    paths.insert(path)?;
+    Ok(())
+}

@@ -1,0 +1,49 @@
+//! The source paths of a file.
+
+ghost use Rattle.std.specs.Prelude.{◌≡◌, ◌↔◌, ℕ, List, IfOk, Contains};
+ghost use Rattle.dwarf_forms.specs.Parts.{sections_of};
+ghost use Rattle.row_types.specs.Ascends.{Ascends};
+ghost use Rattle.source_paths.specs.Adds.{Has};
+ghost use Rattle.row_types.specs.Sources.{IsSource};
+
+use crate::tables::add_unit;
+use dwarf_forms::DebugParts;
+use dwarf_units::units;
+use row_types::{CanonPath, Sources};
+use std::alloc::{AllocError, Global};
+use std::collections::BTreeSet;
+
+/// The paths of all units.
+fn all_paths(alloc: Global, parts: &DebugParts<'_>) -> Result<BTreeSet<CanonPath>, AllocError>
+    ensures { IfOk result (λ paths. (path : List ℕ)
+        → Has paths path ↔ IsSource (sections_of parts.now) path) }
+{
+    let mut seen = BTreeSet::new(alloc);
+    let mut paths = BTreeSet::new(alloc);
+    for unit in units(parts.info, parts.order) {
+        add_unit(alloc, parts, &unit, &mut seen, &mut paths)?;
+    }
+    Ok(paths)
+}
+
+/// The paths of a set, in order.
+fn in_order(alloc: Global, paths: BTreeSet<CanonPath>) -> Result<Vec<CanonPath>, AllocError>
+    ensures same { IfOk result (λ list. list.items ≡ paths.keys) }
+    ensures ascends { IfOk result (λ list. Ascends list.items) }
+{
+    paths.into_iter().collect(alloc)
+}
+
+/// The source paths that a file's debug information names, in order by bytes, each once. Memory is
+/// taken by the distinct paths and the distinct line tables, and not by the number of units.
+pub fn sources(alloc: Global, parts: &DebugParts<'_>) -> Result<Sources, AllocError>
+    ensures exact { IfOk result (λ found. (path : List ℕ)
+        → Contains found path ↔ IsSource (sections_of parts.now) path) }
+    ensures ascends { IfOk result (λ found. Ascends found) }
+{
+    let paths = in_order(alloc, all_paths(alloc, parts)?)?;
+    match Sources::check(paths) {
+        Ok(sources) => Ok(sources),
+        Err(_) => unreachable!(),
+    }
+}

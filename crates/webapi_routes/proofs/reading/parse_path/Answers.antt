@@ -1,0 +1,18 @@
+-- The path spells the text that is read.
+use Rattle.std.proofs.Common.{◌∙◌, ap, subst, sym}
+use Rattle.std.specs.Str.{IsUtf8}
+use Rattle.webapi_routes.specs.Said.{TextSays, UnlessMemory}
+use Rattle.webapi_routes.specs.Target.{SpellsText, holds_zero}
+use Rattle.webapi_routes.proofs.SaidLemmas.{path_says}
+use Rattle.webapi_routes.proofs.reading.parse_path.Goals as goal
+
+pub returns : goal.returns
+returns c =
+    let decoded = c.in-Ok.ensures.value ∙ c.percent_decode.ensures.bytes in
+    let spells : SpellsText c.args.path.now = record {
+      escapes = sym c.has_whole_escapes.ensures ∙ c.if-not-has_whole_escapes.false;
+      utf8 = subst IsUtf8 c.percent_decode.ensures.bytes c.in-Ok.ensures.ok_only_if_utf8;
+      no_zero = ap holds_zero (sym (c.as_bytes.ensures.value ∙ c.as_str.ensures.value ∙ decoded)) ∙ sym c.contains.ensures.value ∙ c.if-contains.false;
+    } in
+    path_says c.args.path.now c.parse_text.result spells
+    (subst (λ t. UnlessMemory c.parse_text.result (TextSays t c.parse_text.result)) (c.as_str-2.ensures.value ∙ decoded) c.parse_text.ensures)

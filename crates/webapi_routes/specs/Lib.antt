@@ -1,0 +1,11 @@
+pub use Rattle.row_types.specs.BuildId
+pub use Rattle.row_types.specs.Canon
+pub use Rattle.path_canon.specs.Absolute
+pub use Rattle.hex.specs.Hex
+pub use Rattle.percent_encoding.specs.Percent
+pub mod Asked
+pub mod Printed
+pub mod Said
+pub mod Seen
+pub mod Target
+pub mod Written

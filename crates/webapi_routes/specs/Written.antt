@@ -1,0 +1,37 @@
+-- How the text of a route's path is written (this project's rule): `/buildid/`, the text of an id, a slash, and what is asked of
+-- the id.
+use Rattle.std.specs.Prelude.{◌≡◌, ◌≢◌, ℕ, ◌<◌, true, All, List, ◌∷◌, ◌++◌, codes, length}
+use Rattle.path_canon.specs.Absolute.{is_absolute}
+use Rattle.row_types.specs.declared.limits.TheConstants.{SEPARATOR}
+
+-- what is asked of an id: a file of a class, a source file, or a section
+pub data Wanted : Type 0 where
+  debuginfo : Wanted
+  executable : Wanted
+  source : (path : List ℕ) → Wanted
+  section : (name : List ℕ) → Wanted
+
+-- its text
+abbrev pub wanted_text : Wanted → List ℕ
+wanted_text debuginfo = codes "debuginfo"
+wanted_text executable = codes "executable"
+wanted_text (source path) = codes "source" ++ path
+wanted_text (section name) = codes "section/" ++ name
+
+-- a source's path begins with a slash, and a section has a name
+abbrev pub IsWanted : Wanted → Type 0
+IsWanted debuginfo = Unit {0}
+IsWanted executable = Unit {0}
+IsWanted (source path) = is_absolute path ≡ true
+IsWanted (section name) = 0 < length name
+
+-- these bytes ask this of an id
+pub record Asks (bytes : List ℕ) (wanted : Wanted) : Type 0 where
+  pub text : bytes ≡ wanted_text wanted
+  pub valid : IsWanted wanted
+
+-- the path's text has this text of an id, which has no slash, and asks this of it
+pub record IsWritten (text hex : List ℕ) (wanted : Wanted) : Type 0 where
+  pub whole : text ≡ codes "/buildid/" ++ (hex ++ SEPARATOR ∷ wanted_text wanted)
+  pub one_piece : All (λ b. b ≢ SEPARATOR) hex
+  pub valid : IsWanted wanted

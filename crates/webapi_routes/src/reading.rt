@@ -1,0 +1,97 @@
+//! What a target asks for.
+
+ghost use Rattle.std.specs.Prelude.{◌≡◌, true, Result, IfOk};
+ghost use Rattle.path_canon.specs.Absolute.{is_absolute};
+ghost use Rattle.row_types.specs.Limits.{ArePinnedIdLengths, ArePinnedPathLimits};
+ghost use Rattle.webapi_routes.specs.Said.{PathSays, Says, TextSays, UnlessMemory};
+ghost use Rattle.webapi_routes.specs.Seen.{Makes, seen};
+ghost use Rattle.webapi_routes.specs.Written.{IsWanted, source};
+ghost use Rattle.webapi_routes.specs.declared.fault.RouteFault.{RouteFault};
+ghost use Rattle.webapi_routes.specs.declared.route.Route.{Route};
+
+use crate::fault::RouteFault;
+use crate::route::Route;
+use crate::section_name::SectionName;
+use crate::target::{has_whole_escapes, path_of};
+use crate::written::{Written, parts_of};
+use path_canon::{PathFault, canonical};
+use percent_encoding::{DecodeError, percent_decode};
+use row_types::BuildId;
+use std::alloc::{AllocError, Global};
+
+/// The route that a target asks for, or the first of its faults.
+pub fn parse(alloc: Global, target: &[u8]) -> Result<Route, RouteFault>
+    ensures says { UnlessMemory result (Says target.now result) }
+    ensures only { (answer : Result Route RouteFault) → Says target.now answer
+        → UnlessMemory result (result ≡ answer) }
+    ensures lengths { ArePinnedIdLengths }
+    ensures limits { ArePinnedPathLimits }
+{
+    parse_path(alloc, path_of(target))
+}
+
+/// The route that a path asks for.
+fn parse_path(alloc: Global, path: &[u8]) -> Result<Route, RouteFault>
+    ensures { UnlessMemory result (PathSays path.now result) }
+{
+    if !has_whole_escapes(path) {
+        return Err(RouteFault::BadEscape);
+    }
+    let text = match percent_decode(path).decode_utf8(alloc) {
+        Ok(text) => text,
+        Err(DecodeError::Utf8(_)) => return Err(RouteFault::BadEscape),
+        Err(DecodeError::OutOfMemory) => return Err(RouteFault::OutOfMemory),
+    };
+    if text.as_str().as_bytes().contains(&0) {
+        return Err(RouteFault::BadEscape);
+    }
+    parse_text(alloc, text.as_str())
+}
+
+/// The route that a path's text asks for.
+fn parse_text(alloc: Global, text: &str) -> Result<Route, RouteFault>
+    ensures { UnlessMemory result (TextSays text.now result) }
+{
+    let Some((hex, wanted)) = parts_of(text) else {
+        return Err(RouteFault::NoRoute);
+    };
+    let Some(id) = BuildId::parse(hex.as_bytes()) else {
+        return Err(RouteFault::BadId);
+    };
+    route_of(alloc, id, wanted)
+}
+
+/// The route of an id, and of what is asked of it.
+fn route_of(alloc: Global, id: BuildId, wanted: Written<'_>) -> Result<Route, RouteFault>
+    requires { IsWanted (seen wanted) }
+    ensures { Makes id (seen wanted.entry) result }
+{
+    match wanted {
+        Written::Debuginfo => Ok(Route::Debuginfo(id)),
+        Written::Executable => Ok(Route::Executable(id)),
+        Written::Source(path) => source_route(alloc, id, path),
+        Written::Section(name) => Ok(Route::Section(id, section_name(alloc, name)?)),
+    }
+}
+
+/// The route of a source.
+fn source_route(alloc: Global, id: BuildId, path: &str) -> Result<Route, RouteFault>
+    requires { is_absolute path.now ≡ true }
+    ensures { Makes id (source path.now) result }
+{
+    match canonical(alloc, path) {
+        Ok(path) => Ok(Route::Source(id, path)),
+        Err(PathFault::TooLong) => Err(RouteFault::BadPath),
+        Err(PathFault::OutOfMemory) => Err(RouteFault::OutOfMemory),
+        Err(PathFault::NotAbsolute) => unreachable!(),
+    }
+}
+
+/// The name of a section.
+fn section_name(alloc: Global, name: &str) -> Result<SectionName, AllocError>
+    ensures { IfOk result (λ same. same ≡ name.now) }
+{
+    let mut bytes = Vec::new(alloc);
+    bytes.extend_from_slice(name.as_bytes())?;
+    Ok(SectionName::new(bytes))
+}

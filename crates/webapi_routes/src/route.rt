@@ -1,0 +1,34 @@
+//! The routes of the web API.
+
+ghost use Rattle.std.specs.Prelude.{◌≡◌};
+ghost use Rattle.webapi_routes.specs.Asked.{id_of};
+
+use crate::section_name::SectionName;
+use row_types::{BuildId, CanonPath};
+
+/// What a target asks for, of a build-id.
+#[derive(Debug, PartialEq, Eq, Drop)]
+pub enum Route {
+    /// The file with debug information.
+    Debuginfo(BuildId),
+    /// The executable file.
+    Executable(BuildId),
+    /// The source file at this path.
+    Source(BuildId, CanonPath),
+    /// The section of this name.
+    Section(BuildId, SectionName),
+}
+
+impl Route {
+    /// The build-id that the route is of.
+    pub fn id(&self) -> &BuildId
+        ensures { result.now ≡ id_of self.now }
+    {
+        match self {
+            Route::Debuginfo(id)
+            | Route::Executable(id)
+            | Route::Source(id, _)
+            | Route::Section(id, _) => id,
+        }
+    }
+}
