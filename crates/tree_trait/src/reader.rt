@@ -12,12 +12,7 @@ use std::alloc::{AllocError, Global};
 pub trait Reader<W: Truth> {
     /// The row of a file that was found under this name, by the reading of its bytes. A file above
     /// 1 GiB has one too.
-    fn read(
-        &self,
-        alloc: Global,
-        name: Name,
-        found: &Found<W>,
-    ) -> Result<TrueRow<W>, AllocError>
+    fn read(&self, alloc: Global, name: Name, found: &Found<W>) -> Result<TrueRow<W>, AllocError>
         requires { found_name found.now ≡ name }
         ensures { IfOk result (IsRowOf name found.now.bytes) };
 }
