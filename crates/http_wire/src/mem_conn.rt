@@ -152,6 +152,8 @@ impl Sink for MemConn {
         ensures count { self.new.sink.faults ≡ next_faults self.old.sink }
         ensures number { self.new.sink.writes ≡ raised self.old.sink.writes }
         ensures bad { self.new.sink.bad_writes ≡ self.old.sink.bad_writes }
+        ensures kept { result ≡ WriteAnswer.Failed
+            → self.new.sink.written ≡ self.old.sink.written }
         ensures same { self.new ≡ record self.old { sink = self.new.sink } }
     {
         self.sink.write(bytes)

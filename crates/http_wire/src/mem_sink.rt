@@ -76,6 +76,7 @@ impl Sink for MemSink {
         ensures count { self.new.faults ≡ next_faults self.old }
         ensures number { self.new.writes ≡ raised self.old.writes }
         ensures bad { self.new.bad_writes ≡ self.old.bad_writes }
+        ensures kept { result ≡ WriteAnswer.Failed → self.new.written ≡ self.old.written }
     {
         let fails = self.bad_writes.contains(&self.writes);
         self.writes = self.writes.saturating_add(1);

@@ -1,8 +1,8 @@
 -- What a pass still has to do, after a name that isn't listed left, and after one went out to be looked for, was missed
 -- or was tried again.
-use Rattle.std.proofs.Common.{◌≡◌, ◌||◌, ◌&&◌, Bool, true, false, not, List, [], ◌∷◌, ◌++◌, Some, refl, sym, ◌∙◌, ap, subst}
+use Rattle.std.proofs.Common.{◌≡◌, ◌||◌, ◌&&◌, Bool, true, false, not, List, [], ◌++◌, Some, refl, sym, ◌∙◌, ap, subst}
 use Rattle.std.specs.List.{All}
-use Rattle.std.proofs.lemmas.Bool.{and_right, or_left, true≢false}
+use Rattle.std.proofs.lemmas.Bool.{true≢false}
 use Rattle.std.proofs.lemmas.List.Elements.{All-head}
 use Rattle.row_types.specs.Name.{NameFacts, same_name}
 use Rattle.row_types.specs.Row.{RowFacts}

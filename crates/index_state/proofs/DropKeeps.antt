@@ -1,6 +1,5 @@
 -- The index invariant after the row of a name was removed, and after its removal failed.
-use Rattle.std.proofs.Common.{◌≡◌, ◌<◌, ◌&&◌, Bool, true, false, not, List, [], ◌∷◌, ◌++◌, length, Option, refl, sym, ◌∙◌, ap, subst, arith}
-use Rattle.std.specs.List.{filter}
+use Rattle.std.proofs.Common.{◌≡◌, ◌<◌, ◌&&◌, Bool, true, not, List, [], ◌∷◌, ◌++◌, length, refl, sym, ◌∙◌, ap, arith}
 use Rattle.std.specs.Option.{option_map}
 use Rattle.std.specs.Prelude.{IfSome}
 use Rattle.std.proofs.lemmas.List.{length_push}
@@ -12,16 +11,15 @@ use Rattle.row_types.specs.declared.limits.TheConstants.{EDITION}
 use Rattle.row_codec.specs.Spelled.{IsSpelled}
 use Rattle.index_rows.specs.Log.{after_change, drop_of, put_of, replay}
 use Rattle.index_rows.specs.Rows.{Stands, row_names, row_path, without_row}
-use Rattle.index_rows.specs.declared.change.Change.{Change}
 use Rattle.index_rows.specs.declared.rows.TheConstants.{LOG_LIMIT}
 use Rattle.index_rows.proofs.PathLemmas.{without_ascends}
 use Rattle.index_rows.proofs.RowLemmas.{drop_replays, replay_more, void_put}
 use Rattle.scan_queue.specs.Names.{is_in}
-use Rattle.scan_queue.specs.Pass.{IsPass, PassFacts, left}
+use Rattle.scan_queue.specs.Pass.{IsPass, left}
 use Rattle.index_keeper.specs.Keeper.{ShownKeeper}
 use Rattle.index_keeper.specs.Tables.{removal_of}
 use Rattle.index_keeper.specs.declared.answer.KeepAnswer.TheVariants.{Done, Failed}
-use Rattle.index_state.specs.Invariant.{IndexInvariant, ListedAccounted, RowsAccounted}
+use Rattle.index_state.specs.Invariant.{IndexInvariant}
 use Rattle.index_state.specs.Judge.{DropIsOpen, after_removed, after_torn}
 use Rattle.index_state.specs.Keeping.{IsRemoval}
 use Rattle.index_state.specs.State.{StateFacts}
@@ -29,8 +27,10 @@ use Rattle.index_state.proofs.AwayKeeps.{off_pass_listed, off_pass_rows}
 use Rattle.index_state.proofs.AwaySteps.{LacksName}
 use Rattle.index_state.proofs.ByName.{is_in_stands}
 use Rattle.index_state.proofs.Keeps.{made_agrees, not_counted, void_keeps}
+use Rattle.index_state.proofs.Listed.{left_lists}
 use Rattle.index_state.proofs.LogSteps.{drop_changes, not_in_dropped, sound_more}
 use Rattle.index_state.proofs.Members.{and_true, in_filter}
+use Rattle.index_state.proofs.Spares.{kept_differs, spares_on}
 use Rattle.index_state.proofs.StoreSteps.{tables_without}
 
 -- names without one that is dropped
@@ -80,4 +80,7 @@ module _ {K : Type 0} {true_row : RowFacts → Type 0} {told : Bool} {shows : K 
         each_name_in_one_place = place;
         listed_names_accounted_for = off_pass_listed old.pass lacks can.left_over.unlisted h.listed_names_accounted_for;
         rows_accounted_for = off_pass_rows old.pass lacks h.rows_accounted_for;
+        skipped_names_stand =
+            spares_on (omega (arith, length_push old.log (drop_of name))) (left_lists name old.pass)
+            (λ n listed stands. lacks.others n (kept_differs old.pass n name can.left_over.unlisted listed) ∙ stands) h.skipped_names_stand;
       }

@@ -1,10 +1,9 @@
 -- The drop of the row of a name that is left over, from the fields of the state.
-use Rattle.std.proofs.Common.{◌≡◌, ◌<◌, Bool, true, false, List, length, Option, Some, None, refl, sym, ◌∙◌, ap, subst}
+use Rattle.std.proofs.Common.{◌≡◌, ◌<◌, Bool, true, List, length, Option, Some, None, refl, sym, ◌∙◌, ap, subst}
 use Rattle.std.specs.Option.{option_map}
-use Rattle.std.specs.Prelude.{IfSome, IsSome, IsSomeAnd, OnOk, Result, Ok, Err}
+use Rattle.std.specs.Prelude.{IfSome, IsSomeAnd, OnOk, Result, Ok, Err}
 use Rattle.row_types.specs.Name.{NameFacts}
 use Rattle.row_types.specs.Row.{RowFacts}
-use Rattle.row_types.specs.Stamp.{StampFacts}
 use Rattle.index_rows.specs.Log.{drop_of, put_of}
 use Rattle.index_rows.specs.Rows.{CanBeVoid, IsDropOf, IsIndex, IsReady, RowsFacts, Stands, after_drop, row_at, row_names, without_row}
 use Rattle.index_rows.specs.declared.prepared.Prepared.{Prepared}
@@ -16,15 +15,16 @@ use Rattle.scan_queue.specs.declared.miss.Seen.{Seen}
 use Rattle.index_keeper.specs.Keeper.{ShownKeeper}
 use Rattle.index_keeper.specs.Tables.{removal_of}
 use Rattle.index_state.specs.Invariant.{IndexInvariant}
-use Rattle.index_state.specs.Judge.{DropIsOpen, IsGone, IsLeftOver, Removes, after_removed}
+use Rattle.index_state.specs.Judge.{DropIsOpen, IsGone, IsLeftOver, Removes, Tears, after_removed}
 use Rattle.index_state.specs.Removed.{IsRemoved, IsTornOff}
 use Rattle.index_state.specs.State.{StateFacts, state_of}
 use Rattle.index_state.specs.Step.{Drops, Judges}
 use Rattle.index_state.specs.declared.answer.Judged.{Judged}
-use Rattle.index_state.specs.declared.answer.Judged.TheVariants.{Kept, Dropped, Moved, Strange, Broken, LogFull, KeeperFault, OutOfMemory}
+use Rattle.index_state.specs.declared.answer.Judged.TheVariants.{Dropped, LogFull, KeeperFault, OutOfMemory}
 use Rattle.index_state.specs.declared.state.State.TheInside.{Inside}
 use Rattle.index_state.proofs.ByName.{HasRow, names_by_path, row_of_name}
 use Rattle.index_state.proofs.DropKeeps.{removed_keeps, torn_keeps}
+use Rattle.index_state.proofs.Listed.{left_lists}
 use Rattle.index_state.proofs.Parts.{fault_state, made_state}
 
 -- room was made for the drop of the path's row, whichever it is
@@ -86,7 +86,7 @@ module _ {W K : Type 0} {true_row : RowFacts → Type 0} {told : Bool} {shows : 
   -- the fields after a removal that was made
   removed_is : {mid now : RowsFacts} {keeper : K} {pass : Option PassFacts} → IsRemoved told name s.rows (shows s.keeper) mid (shows keeper) → now ≡ after_drop name mid → pass ≡ option_map (left name) s.pass → state_of shows (record s { rows = now; keeper = keeper; pass = pass }) ≡ after_removed name keeper (state_of shows s)
   removed_is {now = now} removed drop_is pass_is =
-      made_state shows s now (drop_of name) (removal_of name.path) (can removed.room).left_over.sound h.store_agrees_with_rows.since
+      made_state shows s now (drop_of name) (removal_of name.path) (can removed.room).left_over.sound h.skipped_names_stand.within (left_lists name s.pass) h.store_agrees_with_rows.since
       (ap (λ (f : RowsFacts). f.rows) drop_is ∙ ap (λ (f : RowsFacts). without_row name.path f.rows) removed.rows)
       (ap (λ (f : RowsFacts). f.log) drop_is ∙ ap (λ (f : RowsFacts). (after_drop name f).log) removed.rows)
       pass_is removed.kept.grows
@@ -112,5 +112,16 @@ module _ {W K : Type 0} {true_row : RowFacts → Type 0} {told : Bool} {shows : 
   pub torn_holds : {now : RowsFacts} {keeper : K} → IsTornOff told name s.rows (shows s.keeper) now (shows keeper) → IndexInvariant true_row told shows (state_of shows (record s { rows = now; keeper = keeper; broken = true }))
   torn_holds {now = now} torn =
       let P : StateFacts K → Type 0 = IndexInvariant true_row told shows in
-      subst P (sym (fault_state shows s now (put_of name) (can torn.room).left_over.sound torn.rows torn.log torn.kept.grows))
+      subst P (sym (fault_state shows s now (put_of name) (can torn.room).left_over.sound h.skipped_names_stand.within torn.rows torn.log torn.kept.grows))
       (torn_keeps name h (can torn.room) torn.kept)
+
+  pub torn_step : {now : RowsFacts} {keeper : K} → IsTornOff told name s.rows (shows s.keeper) now (shows keeper) → Tears told shows name state (state_of shows (record s { rows = now; keeper = keeper; broken = true }))
+  torn_step {now = now} {keeper = keeper} torn =
+      let new : StateFacts K = state_of shows (record s { rows = now; keeper = keeper; broken = true }) in
+      let whole : Tears told shows name (state_of shows s) new = record {
+        can = can torn.room;
+        keeper = torn.kept;
+        after = fault_state shows s now (put_of name) (can torn.room).left_over.sound h.skipped_names_stand.within torn.rows torn.log torn.kept.grows;
+      } in
+      let P : StateFacts K → Type 0 = λ x. Tears told shows name x new in
+      subst P seen whole

@@ -4,7 +4,7 @@ use Rattle.std.specs.Option.{option_map}
 use Rattle.std.specs.Prelude.{IfSome, IsTrue}
 use Rattle.std.proofs.lemmas.Bool.{true≢false}
 use Rattle.std.proofs.lemmas.List.{length_push}
-use Rattle.row_types.specs.Name.{NameFacts}
+use Rattle.row_types.specs.Name.{NameFacts, stamp_at}
 use Rattle.row_types.specs.Row.{RowFacts}
 use Rattle.row_types.specs.declared.limits.TheConstants.{EDITION}
 use Rattle.row_codec.specs.Spelled.{IsSpelled}
@@ -24,11 +24,14 @@ use Rattle.index_state.specs.Changes.{HasOrigin, IsMadeBy}
 use Rattle.index_state.specs.Invariant.{AgreesWithStore, IndexInvariant, ListedAccounted, RowsAccounted}
 use Rattle.index_state.specs.Keeping.{IsPut, put_row}
 use Rattle.index_state.specs.Kept.{Agrees, StandsFor, tables_of}
+use Rattle.index_state.specs.Spare.{after_spare}
 use Rattle.index_state.specs.State.{StateFacts, pass_of}
 use Rattle.index_state.specs.Step.{IsAwaited, IsKnown, IsOpen, TakesFrom, after_fault, after_stored}
 use Rattle.index_state.proofs.ByName.{stands_is_in}
 use Rattle.index_state.proofs.LogSteps.{ends_void, lasting_marked, lasting_sound, origin_more, put_changes, sound_more}
+use Rattle.index_state.proofs.Listed.{left_lists, lists, take_lists}
 use Rattle.index_state.proofs.PassSteps.{begun_listed, begun_rows, known_listed, known_rows, put_listed, put_rows, taken_is_absent, taken_is_listed, taken_listed, taken_rows}
+use Rattle.index_state.proofs.Spares.{listing_path, not_spared, put_stands, spares_all, spares_none, spares_on, spares_same}
 use Rattle.index_state.proofs.StoreSteps.{in_store, stored, stored_torn, tables_put}
 
 -- what holds of the pass holds of the one that is there
@@ -49,10 +52,18 @@ pub not_counted : {faults : ℕ} (broken : Bool) → broken ≡ false → IsTrue
 not_counted false sound h = absurd (true≢false (sym h))
 not_counted true broken h = absurd (true≢false broken)
 
+-- where other names are skipped
+spared_agrees : {K : Type 0} {true_row : RowFacts → Type 0} {told : Bool} {shown : ShownKeeper} {old : StateFacts K} {pass : Option PassFacts} {roots : List (List ℕ)} {at : Option ℕ} {spared : List NameFacts} → AgreesWithStore true_row told shown old → AgreesWithStore true_row told shown (record old { pass = pass; roots = roots; spared_at = at; origin = record old.origin { spared = spared } })
+spared_agrees agrees = record {
+  tables = agrees.tables;
+  number = agrees.number;
+  since = record { first = agrees.since.first; since = agrees.since.since; parts = agrees.since.parts; count = agrees.since.count; puts = agrees.since.puts; told = agrees.since.told };
+}
+
 module _ {K : Type 0} {true_row : RowFacts → Type 0} {told : Bool} {shows : K → ShownKeeper} {old : StateFacts K} where
-  -- with another pass
-  pub with_pass : {pass : Option PassFacts} {roots : List (List ℕ)} → IndexInvariant true_row told shows old → IfSome pass IsPass → IfSome pass (ListedAccounted old.rows) → IfSome pass (RowsAccounted old.rows) → IndexInvariant true_row told shows (record old { pass = pass; roots = roots })
-  with_pass h place listed rows = record {
+  -- with another pass over the same listing
+  pub with_pass : {pass : Option PassFacts} → IndexInvariant true_row told shows old → lists pass ≡ lists old.pass → IfSome pass IsPass → IfSome pass (ListedAccounted old.rows) → IfSome pass (RowsAccounted old.rows) → IndexInvariant true_row told shows (record old { pass = pass })
+  with_pass h same place listed rows = record {
     rows_sorted_and_true = h.rows_sorted_and_true;
     rows_replay_the_log = h.rows_replay_the_log;
     broken_means_a_void_last_change = h.broken_means_a_void_last_change;
@@ -60,17 +71,39 @@ module _ {K : Type 0} {true_row : RowFacts → Type 0} {told : Bool} {shows : K 
     each_name_in_one_place = place;
     listed_names_accounted_for = listed;
     rows_accounted_for = rows;
+    skipped_names_stand = spares_same same h.skipped_names_stand;
   }
 
   -- as a pass begins
-  pub begin_keeps : {pass : PassFacts} {roots : List (List ℕ)} (listing : List NameFacts) → IndexInvariant true_row told shows old → pass ≡ begun listing (row_names old.rows) → IsPass pass → IndexInvariant true_row told shows (record old { pass = Some pass; roots = roots })
-  begin_keeps listing h e place =
-      with_pass h place (subst (ListedAccounted old.rows) (sym e) (begun_listed old.rows listing)) (subst (RowsAccounted old.rows) (sym e) (begun_rows old.rows listing))
+  pub begin_keeps : {pass : PassFacts} {roots : List (List ℕ)} (listing : List NameFacts) → IndexInvariant true_row told shows old → pass ≡ begun listing (row_names old.rows) → IsPass pass → IndexInvariant true_row told shows (record old { pass = Some pass; roots = roots; spared_at = None; origin = record old.origin { spared = [] } })
+  begin_keeps listing h e place = record {
+    rows_sorted_and_true = h.rows_sorted_and_true;
+    rows_replay_the_log = h.rows_replay_the_log;
+    broken_means_a_void_last_change = h.broken_means_a_void_last_change;
+    store_agrees_with_rows = spared_agrees h.store_agrees_with_rows;
+    each_name_in_one_place = place;
+    listed_names_accounted_for = subst (ListedAccounted old.rows) (sym e) (begun_listed old.rows listing);
+    rows_accounted_for = subst (RowsAccounted old.rows) (sym e) (begun_rows old.rows listing);
+    skipped_names_stand = spares_none;
+  }
+
+  -- once the names were spared
+  pub spare_keeps : IndexInvariant true_row told shows old → IndexInvariant true_row told shows (after_spare old)
+  spare_keeps h = record {
+    rows_sorted_and_true = h.rows_sorted_and_true;
+    rows_replay_the_log = h.rows_replay_the_log;
+    broken_means_a_void_last_change = h.broken_means_a_void_last_change;
+    store_agrees_with_rows = spared_agrees h.store_agrees_with_rows;
+    each_name_in_one_place = h.each_name_in_one_place;
+    listed_names_accounted_for = h.listed_names_accounted_for;
+    rows_accounted_for = h.rows_accounted_for;
+    skipped_names_stand = spares_all (lists old.pass) (row_names old.rows);
+  }
 
   -- after a name was taken, or none
   pub take_keeps : {pass : Option PassFacts} (answer : Option NameFacts) → IndexInvariant true_row told shows old → TakesFrom old.pass answer pass → IfSome pass IsPass → IndexInvariant true_row told shows (record old { pass = pass })
   take_keeps {pass} answer h t place =
-      with_pass h place (after_take (ListedAccounted old.rows) old.pass pass answer (λ _ _ _ step. taken_listed old.rows step) t h.listed_names_accounted_for) (after_take (RowsAccounted old.rows) old.pass pass answer (λ _ _ _ step. taken_rows old.rows step) t h.rows_accounted_for)
+      with_pass h (take_lists old.pass pass answer t) place (after_take (ListedAccounted old.rows) old.pass pass answer (λ _ _ _ step. taken_listed old.rows step) t h.listed_names_accounted_for) (after_take (RowsAccounted old.rows) old.pass pass answer (λ _ _ _ step. taken_rows old.rows step) t h.rows_accounted_for)
 
   -- a name that goes out is awaited
   pub take_awaits : (pass : Option PassFacts) (answer : Option NameFacts) → IndexInvariant true_row told shows old → TakesFrom old.pass answer pass → IfSome answer (λ name. IsAwaited name (record old { pass = pass }))
@@ -83,13 +116,21 @@ module _ {K : Type 0} {true_row : RowFacts → Type 0} {told : Bool} {shows : K 
         absent = taken_is_absent old.rows t.step place listed;
       }
 
+  -- and its path is that of no skipped name
+  pub take_spares : (pass : Option PassFacts) (answer : Option NameFacts) → IndexInvariant true_row told shows old → TakesFrom old.pass answer pass → IfSome answer (λ name. stamp_at old.origin.spared name.path ≡ None)
+  take_spares pass None h t = tt
+  take_spares pass (Some name) h t =
+      let awaited : IsAwaited name (record old { pass = pass }) = take_awaits pass (Some name) h t in
+      not_spared name h.skipped_names_stand (listing_path old.pass h.each_name_in_one_place)
+      (ap (λ (l : List NameFacts). is_in l name) (sym (take_lists old.pass pass (Some name) t)) ∙ awaited.listed) awaited.absent
+
   -- after the name of a row that stands left
   pub leave_keeps : {name : NameFacts} {pass : Option PassFacts} → IndexInvariant true_row told shows old → IsKnown name old → pass ≡ option_map (left name) old.pass → IfSome pass IsPass → IndexInvariant true_row told shows (record old { pass = pass })
   leave_keeps {name} {pass} h known e place =
       let P : (PassFacts → Type 0) → Type 0 = λ Q. IfSome (option_map (left name) old.pass) Q in
       let listed : P (ListedAccounted old.rows) = after_leave (ListedAccounted old.rows) (ListedAccounted old.rows) name old.pass known.listed h.each_name_in_one_place (λ p _ _. known_listed old.rows name p known.stands) h.listed_names_accounted_for in
       let rows : P (RowsAccounted old.rows) = after_leave (RowsAccounted old.rows) (RowsAccounted old.rows) name old.pass known.listed h.each_name_in_one_place (λ p is_listed _. known_rows old.rows name p is_listed) h.rows_accounted_for in
-      with_pass h place (subst (λ (o : Option PassFacts). IfSome o (ListedAccounted old.rows)) (sym e) listed) (subst (λ (o : Option PassFacts). IfSome o (RowsAccounted old.rows)) (sym e) rows)
+      with_pass h (ap lists e ∙ left_lists name old.pass) place (subst (λ (o : Option PassFacts). IfSome o (ListedAccounted old.rows)) (sym e) listed) (subst (λ (o : Option PassFacts). IfSome o (RowsAccounted old.rows)) (sym e) rows)
 
   -- the log of a sound index since its opening
   since_opening : IndexInvariant true_row told shows old → old.broken ≡ false → HasOrigin true_row old.origin (shows old.keeper).made old.log
@@ -113,6 +154,7 @@ module _ {K : Type 0} {true_row : RowFacts → Type 0} {told : Bool} {shows : K 
         each_name_in_one_place = h.each_name_in_one_place;
         listed_names_accounted_for = h.listed_names_accounted_for;
         rows_accounted_for = h.rows_accounted_for;
+        skipped_names_stand = spares_on (omega (arith, length_push old.log void)) refl (λ n listed stands. stands) h.skipped_names_stand;
       }
 
   -- after a put that failed
@@ -165,4 +207,7 @@ module _ {K : Type 0} {true_row : RowFacts → Type 0} {told : Bool} {shows : K 
             (λ p listed is_pass. put_listed old.rows row p is_pass.listing.by_path listed) h.listed_names_accounted_for;
         rows_accounted_for = after_leave (RowsAccounted old.rows) (RowsAccounted (with_row row old.rows)) row.name old.pass can.awaited.listed h.each_name_in_one_place
             (λ p listed _. put_rows old.rows row p listed) h.rows_accounted_for;
+        skipped_names_stand =
+            spares_on (omega (arith, length_push old.log (put_of row.name))) (left_lists row.name old.pass)
+            (put_stands old.rows row (lists old.pass) (listing_path old.pass h.each_name_in_one_place) can.awaited.listed) h.skipped_names_stand;
       }

@@ -1,5 +1,5 @@
 -- A row stands in whatever a crash leaves.
-use Rattle.std.proofs.Common.{◌≡◌, ℕ, Bool, true, false, not, cond, List, [], ◌∷◌, ◌⊎◌, inl, inr, Option, Some, None, refl, sym, ◌∙◌, ap, subst}
+use Rattle.std.proofs.Common.{◌≡◌, ℕ, Bool, true, false, not, cond, List, [], ◌∷◌, ◌⊎◌, inl, inr, Option, Some, None, refl, sym, ◌∙◌, ap}
 use Rattle.std.specs.Borrow.{Bor}
 use Rattle.std.specs.List.{find}
 use Rattle.std.specs.Option.{option_copied, option_map}

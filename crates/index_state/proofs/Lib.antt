@@ -6,12 +6,16 @@ pub mod Drops
 pub mod Found
 pub mod Keeps
 pub mod Lasting
+pub mod Listed
 pub mod LogSteps
 pub mod Members
 pub mod Parts
 pub mod PassSteps
+pub mod Passed
 pub mod Rooms
+pub mod Spares
 pub mod Steps
 pub mod StoreSteps
 pub mod TwoWorldRows
+pub mod VoidEnds
 pub mod Whole

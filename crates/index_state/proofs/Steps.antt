@@ -1,5 +1,5 @@
 -- Each step, from the fields of the state.
-use Rattle.std.proofs.Common.{◌≡◌, ℕ, ◌<◌, Bool, true, false, List, length, Option, Some, sym, ◌∙◌, ap, subst}
+use Rattle.std.proofs.Common.{◌≡◌, ℕ, ◌<◌, Bool, true, false, List, [], length, Option, Some, None, sym, ◌∙◌, ap, subst}
 use Rattle.std.specs.Option.{option_map}
 use Rattle.std.specs.Prelude.{IfSome}
 use Rattle.row_types.specs.Name.{NameFacts}
@@ -21,14 +21,15 @@ use Rattle.index_state.specs.declared.answer.Published.{Published}
 use Rattle.index_state.specs.declared.answer.Published.TheVariants.{Added, Replaced}
 use Rattle.index_state.specs.declared.state.State.TheInside.{Inside}
 use Rattle.index_state.proofs.Keeps.{fault_keeps, put_keeps}
+use Rattle.index_state.proofs.Listed.{left_lists}
 use Rattle.index_state.proofs.Parts.{fault_state, made_state}
 
 -- a pass begins
-pub begin_step : {K : Type 0} {old : StateFacts K} {listing : List NameFacts} {roots : List (List ℕ)} {plan : Plan} {pass : PassFacts} → old.broken ≡ false → plan ≡ plan_of listing (row_names old.rows) → pass ≡ begun listing (row_names old.rows) → BeginsPass listing roots plan old (record old { pass = Some pass; roots = roots })
+pub begin_step : {K : Type 0} {old : StateFacts K} {listing : List NameFacts} {roots : List (List ℕ)} {plan : Plan} {pass : PassFacts} → old.broken ≡ false → plan ≡ plan_of listing (row_names old.rows) → pass ≡ begun listing (row_names old.rows) → BeginsPass listing roots plan old (record old { pass = Some pass; roots = roots; spared_at = None; origin = record old.origin { spared = [] } })
 begin_step {K} {old} {listing} {roots} sound planned e = record {
   sound = sound;
   planned = planned;
-  after = ap (λ (p : PassFacts). record old { pass = Some p; roots = roots }) e;
+  after = ap (λ (p : PassFacts). record old { pass = Some p; roots = roots; spared_at = None; origin = record old.origin { spared = [] } }) e;
 }
 
 -- what is said of a row that is kept is said of one that was awaited
@@ -57,7 +58,7 @@ module _ {W K : Type 0} {true_row : RowFacts → Type 0} {told : Bool} {shows : 
   -- the fields after a put that was made
   done_is : {mid now : RowsFacts} {keeper : K} {pass : Option PassFacts} → IndexInvariant true_row told shows (state_of shows s) → SaysKept row.name state said → IsStored told row s.rows (shows s.keeper) mid (shows keeper) → now ≡ after_put row mid → pass ≡ option_map (left row.name) s.pass → state_of shows (record s { rows = now; keeper = keeper; pass = pass }) ≡ after_stored row keeper (state_of shows s)
   done_is {now = now} h says stored put_is pass_is =
-      made_state shows s now (put_of row.name) (put_row row) (can shows s row.name said seen says stored.room).sound h.store_agrees_with_rows.since
+      made_state shows s now (put_of row.name) (put_row row) (can shows s row.name said seen says stored.room).sound h.skipped_names_stand.within (left_lists row.name s.pass) h.store_agrees_with_rows.since
       (ap (λ (f : RowsFacts). f.rows) put_is ∙ ap (λ (f : RowsFacts). with_row row f.rows) stored.rows)
       (ap (λ (f : RowsFacts). f.log) put_is ∙ ap (λ (f : RowsFacts). (after_put row f).log) stored.rows)
       pass_is stored.kept.asked.grows
@@ -83,5 +84,5 @@ module _ {W K : Type 0} {true_row : RowFacts → Type 0} {told : Bool} {shows : 
   pub failed_keeps : {now : RowsFacts} {keeper : K} → IndexInvariant true_row told shows (state_of shows s) → SaysKept row.name state said → true_row row → IsMarked told row s.rows (shows s.keeper) now (shows keeper) → IndexInvariant true_row told shows (state_of shows (record s { rows = now; keeper = keeper; broken = true }))
   failed_keeps {now = now} h says holds marked =
       let P : StateFacts K → Type 0 = IndexInvariant true_row told shows in
-      subst P (sym (fault_state shows s now (drop_of row.name) (can shows s row.name said seen says marked.room).sound marked.rows marked.log marked.kept.asked.grows))
+      subst P (sym (fault_state shows s now (drop_of row.name) (can shows s row.name said seen says marked.room).sound h.skipped_names_stand.within marked.rows marked.log marked.kept.asked.grows))
       (fault_keeps row h (can shows s row.name said seen says marked.room) holds marked.kept)

@@ -14,7 +14,8 @@ use Rattle.scan_queue.specs.Pass.{IsPass, PassFacts, missed_names}
 use Rattle.index_keeper.specs.Keeper.{ShownKeeper}
 use Rattle.index_state.specs.Changes.{HasOrigin, VoidWhere}
 use Rattle.index_state.specs.Kept.{Agrees}
-use Rattle.index_state.specs.State.{StateFacts, lasting}
+use Rattle.index_state.specs.Spared.{AreSpared}
+use Rattle.index_state.specs.State.{StateFacts, lasting, pass_of}
 
 -- the rows stand strictly by path, are of the edition, true, and have row bytes
 pub record AreTrueRows (true_row : RowFacts → Type 0) (rows : List RowFacts) : Type 0 where
@@ -71,3 +72,5 @@ pub record IndexInvariant {K : Type 0} (true_row : RowFacts → Type 0) (told : 
   pub listed_names_accounted_for : IfSome state.pass (ListedAccounted state.rows)
   -- the row of a name that isn't listed is still to be looked for, out or missed
   pub rows_accounted_for : IfSome state.pass (RowsAccounted state.rows)
+  -- each skipped name is listed in the open pass, and is a row's name
+  pub skipped_names_stand : AreSpared state.spared_at (length state.log) state.origin.spared (pass_of state.pass).listing (row_names state.rows)

@@ -25,6 +25,8 @@ pub mod Keeping
 pub mod Opening
 pub mod Plan
 pub mod Removed
+pub mod Spare
+pub mod Spared
 pub mod State
 pub mod Step
 pub mod Stored

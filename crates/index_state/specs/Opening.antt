@@ -21,7 +21,8 @@ opened_on shows keeper = record {
   pass = None;
   roots = [];
   broken = false;
-  origin = record { epoch = (shows keeper).epoch; puts = 0; made = (shows keeper).made };
+  spared_at = None;
+  origin = record { epoch = (shows keeper).epoch; puts = 0; made = (shows keeper).made; spared = [] };
 }
 
 -- the keeper gave its rows, and there are none

@@ -2,22 +2,25 @@
 -- was begun, and what the opening left.
 use Rattle.std.specs.Prelude.{ℕ, ◌-◌, Bool, true, false, List, [], length, take, Option, Some, None}
 use Rattle.std.specs.Option.{option_map}
+use Rattle.row_types.specs.Name.{NameFacts}
 use Rattle.row_types.specs.Row.{RowFacts}
 use Rattle.index_rows.specs.declared.change.Change.{Change}
 use Rattle.scan_queue.specs.Pass.{PassFacts}
 use Rattle.index_keeper.specs.Keeper.{ShownKeeper}
 use Rattle.index_keeper.specs.Tables.{EditFacts}
+use Rattle.index_state.specs.Spared.{spared_by}
 use Rattle.index_state.specs.declared.state.State.TheInside.{Inside}
 
 -- what the opening left: the number of the keeper's opening, how many puts the log began with, and the changes of
--- the store by then, where the keeper tells them
+-- the store by then, where the keeper tells them; and beside these the skipped names
 pub record Origin : Type 0 where
   pub epoch : ℕ
   pub puts : ℕ
   pub made : Option (List EditFacts)
+  pub spared : List NameFacts
 
 -- the rows in path order, the changes that made their names, the keeper, the pass and its roots, whether the index
--- is broken, and its origin
+-- is broken, how long the log was as names were spared, if they were, and its origin
 pub record StateFacts (K : Type 0) : Type 0 where
   pub rows : List RowFacts
   pub log : List Change
@@ -25,6 +28,7 @@ pub record StateFacts (K : Type 0) : Type 0 where
   pub pass : Option PassFacts
   pub roots : List (List ℕ)
   pub broken : Bool
+  pub spared_at : Option ℕ
   pub origin : Origin
 
 -- the pass in which nothing is listed and no name stands
@@ -54,9 +58,11 @@ state_of shows s = record {
   pass = s.pass;
   roots = s.roots.items;
   broken = s.broken;
+  spared_at = s.spared_at;
   origin = record {
     epoch = s.epoch;
     puts = s.first_puts;
     made = made_first (length (lasting s.broken s.rows.log) - s.first_puts) (shows s.keeper).made;
+    spared = spared_by s.rows.log (pass_of s.pass).listing s.spared_at;
   };
 }

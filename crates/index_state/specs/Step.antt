@@ -61,11 +61,20 @@ pub record Stays {K : Type 0} (Why : Type 0) (old new : StateFacts K) : Type 0 w
   pub why : Why
   pub same : new ≡ old
 
+-- once a pass over the listing with these roots began: no name is skipped any more
+abbrev pub after_begin : {K : Type 0} → List NameFacts → List (List ℕ) → StateFacts K → StateFacts K
+after_begin listing roots old = record old {
+  pass = Some (begun listing (row_names old.rows));
+  roots = roots;
+  spared_at = None;
+  origin = record old.origin { spared = [] };
+}
+
 -- a pass begins, in place of an earlier one, and this is what it has to do
 pub record BeginsPass {K : Type 0} (listing : List NameFacts) (roots : List (List ℕ)) (plan : Plan) (old new : StateFacts K) : Type 0 where
   pub sound : old.broken ≡ false
   pub planned : plan ≡ plan_of listing (row_names old.rows)
-  pub after : new ≡ record old { pass = Some (begun listing (row_names old.rows)); roots = roots }
+  pub after : new ≡ after_begin listing roots old
 
 -- a pass begins, or not
 abbrev pub Begins : {K : Type 0} → List NameFacts → List (List ℕ) → StateFacts K → Begun → StateFacts K → Type 0

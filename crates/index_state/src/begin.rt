@@ -1,6 +1,7 @@
 //! Beginning a pass, and handing out its names.
 
-ghost use Rattle.std.specs.Prelude.{◌≡◌, IfOk, IfSome};
+ghost use Rattle.std.specs.Prelude.{◌≡◌, IfOk, IfSome, None};
+ghost use Rattle.row_types.specs.Name.{stamp_at};
 ghost use Rattle.index_rows.specs.Rows.{row_names};
 ghost use Rattle.scan_queue.specs.Pass.{IsPass, begun};
 ghost use Rattle.index_state.specs.Plan.{plan_of};
@@ -29,16 +30,19 @@ impl<W: Truth, K: Keeper<W>> State<W, K> {
             Ok((pass, plan)) => {
                 self.pass = Some(pass);
                 self.roots = roots;
+                self.spared_at = None;
                 Begun::Begun(plan)
             }
             Err(_) => Begun::OutOfMemory,
         }
     }
 
-    /// Hands out the first name that is to be read.
+    /// Hands out the first name that is to be read. Its path is that of no skipped name.
     pub fn take(&mut self) -> Option<Name>
         ensures step { IndexStep K.told K.shows self.old takes (to_take result) self.new }
         ensures awaited { IfSome result (λ name. IsAwaited name self.new) }
+        ensures spares { IfSome result (λ name. stamp_at self.old.origin.spared name.path
+            ≡ None) }
     {
         take_name(&mut self.pass)
     }

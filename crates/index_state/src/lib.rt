@@ -13,6 +13,7 @@ mod opening;
 mod plan;
 mod publish;
 mod removed;
+mod spare;
 mod state;
 mod stored;
 #[cfg(test)]
@@ -20,4 +21,5 @@ mod tests;
 
 pub use answer::{Begun, GroomTask, Judged, OpenFault, Plan, Published, Standing};
 pub use opening::open_state;
+pub use spare::{Opening, show_index};
 pub use state::State;

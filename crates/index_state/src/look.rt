@@ -100,6 +100,7 @@ impl<W: Truth, K: Keeper<W>> State<W, K> {
             broken: _,
             epoch: _,
             first_puts: _,
+            spared_at: _,
         } = self;
         keeper
     }

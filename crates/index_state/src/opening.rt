@@ -48,5 +48,6 @@ fn empty_state<W: Truth, K: Keeper<W>>(alloc: Global, keeper: K) -> State<W, K>
         broken: false,
         epoch,
         first_puts: 0,
+        spared_at: None,
     }
 }

@@ -25,6 +25,8 @@ pub struct State<W: Truth, K: Keeper<W>> {
     pub(crate) epoch: u64,
     /// How many puts the log began with.
     pub(crate) first_puts: u64,
+    /// How long the log was as names were spared.
+    pub(crate) spared_at: Option<u64>,
 }
 
 impl<W: Truth, K: Keeper<W>> Model for State<W, K> {

@@ -6,4 +6,5 @@ mod judged;
 mod looks;
 mod orders;
 mod passes;
+mod spared;
 mod told;

@@ -12,8 +12,8 @@ use Rattle.std.proofs.lemmas.List.Sums.{position_or_len_is}
 use Rattle.percent_encoding.specs.Percent.{percent_encode, percent_encode_byte, encode_byte}
 use Rattle.percent_encoding.specs.AsciiSet.{should_percent_encode}
 use Rattle.percent_encoding.proofs.PercentLemmas.{All-percent_encode, IsEscapeByte, percent_encode-nil, percent_encode_escaped, percent_encode_kept}
-use Rattle.webapi_routes.specs.Printed.{escaped, is_kept}
-use Rattle.webapi_routes.specs.Target.{begins_with_digits, has_whole_escapes, path_of}
+use Rattle.webapi_routes.specs.Printed.{escaped_target, is_kept}
+use Rattle.webapi_routes.specs.Path.{begins_with_digits, has_whole_escapes, before_query}
 use Rattle.webapi_routes.specs.declared.printing.TheConstants.{ESCAPED}
 
 -- a byte is escaped where it doesn't stand for itself
@@ -25,15 +25,15 @@ chosen : (kept : Bool) (a b : List ℕ) → if not kept then a else b ≡ if kep
 chosen true a b = refl
 chosen false a b = refl
 
-pub escaped_is : (bytes : List ℕ) → All (λ b. b < 256) bytes → percent_encode ESCAPED bytes ≡ escaped bytes
-unfolding percent_encode escaped
+pub escaped_is : (bytes : List ℕ) → All (λ b. b < 256) bytes → percent_encode ESCAPED bytes ≡ escaped_target bytes
+unfolding percent_encode escaped_target
 escaped_is [] small = refl
 escaped_is (b ∷ bytes) small =
     let here = escapes b (All-head (λ n. n < 256) b bytes small) in
     let rest = escaped_is bytes (All-tail (λ n. n < 256) b bytes small) in
     let one : encode_byte ESCAPED b ≡ (if is_kept b then b ∷ [] else percent_encode_byte b) =
     rw here (chosen (is_kept b) (percent_encode_byte b) (b ∷ [])) in
-    ap (λ tail. encode_byte ESCAPED b ++ tail) rest ∙ ap (λ front. front ++ escaped bytes) one
+    ap (λ tail. encode_byte ESCAPED b ++ tail) rest ∙ ap (λ front. front ++ escaped_target bytes) one
 
 -- the question mark and the percent sign are escaped
 mark_escaped : should_percent_encode ESCAPED 63 ≡ true
@@ -59,7 +59,7 @@ pub not_same : (b n : ℕ) → b ≢ n → (b == n) ≡ false
 not_same b n ne = grind (arith, nat_tests)
 
 -- the path of bytes without a question mark is all of them
-pub all_path : (bytes : List ℕ) → All (λ b. b ≢ 63) bytes → path_of bytes ≡ bytes
+pub all_path : (bytes : List ℕ) → All (λ b. b ≢ 63) bytes → before_query bytes ≡ bytes
 all_path bytes none =
     let end : position_or_len (λ b. b == 63) bytes ≡ length bytes =
     position_or_len_is (λ b. b == 63) bytes (length bytes) 0 (omega arith) (λ k within. not_same (get_or bytes k 0) 63 (none k 0 within)) (λ within. absurd (omega arith)) in

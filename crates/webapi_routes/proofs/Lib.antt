@@ -1,5 +1,5 @@
 pub mod Escapes
 pub mod PartLemmas
 pub mod PrintLemmas
-pub mod SaidLemmas
+pub mod TargetLemmas
 pub mod WrittenLemmas

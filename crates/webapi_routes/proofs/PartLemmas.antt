@@ -7,9 +7,9 @@ use Rattle.std.proofs.lemmas.Str.Pattern.{IsSplitOnceResult, split_after, split_
 use Rattle.hex.specs.Hex.{decode_of}
 use Rattle.row_types.specs.BuildId.{IsIdText}
 use Rattle.row_types.specs.declared.limits.TheConstants.{SEPARATOR}
-use Rattle.webapi_routes.specs.Said.{IsNoRoute, TextSays, UnlessMemory}
-use Rattle.webapi_routes.specs.Seen.{IsTooLong, Makes}
-use Rattle.webapi_routes.specs.Written.{Asks, IsWritten, Wanted, debuginfo, executable, section, source, wanted_text}
+use Rattle.webapi_routes.specs.Targets.{IsNoRoute, TextSays, UnlessMemory}
+use Rattle.webapi_routes.specs.Parts.{IsTooLong, Makes}
+use Rattle.webapi_routes.specs.Written.{IsWantedText, IsWritten, Wanted, debuginfo, executable, section, source, wanted_text}
 use Rattle.webapi_routes.specs.declared.fault.RouteFault.{RouteFault}
 use Rattle.webapi_routes.specs.declared.fault.RouteFault.TheVariants.{BadEscape, BadId, BadPath, NoRoute, OutOfMemory}
 use Rattle.webapi_routes.specs.declared.route.Route.{Route}
@@ -29,13 +29,13 @@ no_slash front splits hex wanted w = parts_there None front splits hex wanted w
 
 -- nor is one that asks for nothing that is known
 pub nothing_asked : {text tail : List ℕ} (x : Bor (List ℕ) × Bor (List ℕ)) → text ≡ codes "/buildid/" ++ tail → IsSplitOnceResult 47 tail (Some x)
-    → ((wanted : Wanted) → ¬ (Asks x.1.now wanted)) → IsNoRoute text
+    → ((wanted : Wanted) → ¬ (IsWantedText x.1.now wanted)) → IsNoRoute text
 nothing_asked x front splits none hex wanted w =
     none wanted (record { text = (parts_there (Some x) front splits hex wanted w).1; valid = w.valid })
 
 -- one that asks for something is written so
 pub something_asked : {text tail : List ℕ} {wanted : Wanted} (x : Bor (List ℕ) × Bor (List ℕ)) → text ≡ codes "/buildid/" ++ tail
-    → IsSplitOnceResult 47 tail (Some x) → Asks x.1.now wanted → IsWritten text x.0.now wanted
+    → IsSplitOnceResult 47 tail (Some x) → IsWantedText x.1.now wanted → IsWritten text x.0.now wanted
 something_asked x front splits asks =
     let parts = split_parts 47 _ (Some x) splits (lit< tt) in record {
       whole = front ∙ ap (λ l. codes "/buildid/" ++ l) (parts.0 ∙ ap (λ l. x.0.now ++ SEPARATOR ∷ l) asks.text);
@@ -45,8 +45,8 @@ something_asked x front splits asks =
 
 -- what asks for none of the four asks for nothing
 pub none_asked : {bytes : List ℕ} → (bytes ≡ codes "debuginfo" → ⊥) → (bytes ≡ codes "executable" → ⊥)
-    → ((path : List ℕ) → ¬ (Asks bytes (source path))) → ((name : List ℕ) → ¬ (Asks bytes (section name)))
-    → (wanted : Wanted) → ¬ (Asks bytes wanted)
+    → ((path : List ℕ) → ¬ (IsWantedText bytes (source path))) → ((name : List ℕ) → ¬ (IsWantedText bytes (section name)))
+    → (wanted : Wanted) → ¬ (IsWantedText bytes wanted)
 none_asked d e p n debuginfo asks = d asks.text
 none_asked d e p n executable asks = e asks.text
 none_asked d e p n (source path) asks = p path asks

@@ -17,10 +17,10 @@ use Rattle.path_canon.specs.Absolute.{is_absolute}
 use Rattle.row_types.specs.BuildId.{IsIdLength, IsIdText}
 use Rattle.row_types.specs.Canon.{IsCanonical, keep, path_of as joined_path, pieces}
 use Rattle.row_types.specs.declared.limits.TheConstants.{SEPARATOR}
-use Rattle.webapi_routes.specs.Asked.{IsShort, id_of, route_of, wanted_of}
-use Rattle.webapi_routes.specs.Printed.{CanBeAsked, HasPath, Writes, escaped, text_of}
-use Rattle.webapi_routes.specs.Said.{IsTextOf, PathSays, Says}
-use Rattle.webapi_routes.specs.Target.{holds_zero, path_of}
+use Rattle.webapi_routes.specs.Routes.{IsShort, id_of, route_of, wanted_of}
+use Rattle.webapi_routes.specs.Printed.{CanBeAsked, HasPath, IsRouteText, escaped_target, route_text}
+use Rattle.webapi_routes.specs.Targets.{IsTextOf, PathSays, TargetSays}
+use Rattle.webapi_routes.specs.Path.{holds_zero, before_query}
 use Rattle.webapi_routes.specs.Written.{IsWanted, wanted_text}
 use Rattle.webapi_routes.specs.declared.printing.TheConstants.{ESCAPED}
 use Rattle.webapi_routes.specs.declared.route.Route.{Route}
@@ -109,8 +109,8 @@ route_again (Source id path) known = ap (Source id) (sym known.0.canonical)
 route_again (Section id name) known = refl
 
 -- the text of a route is the route's
-text_is : (route : Route) {bytes : List ℕ} → Writes route bytes → CanBeAsked route → IsTextOf (text_of route) route
-unfolding text_of
+text_is : (route : Route) {bytes : List ℕ} → IsRouteText route bytes → CanBeAsked route → IsTextOf (route_text route) route
+unfolding route_text
 text_is route writes asked = record {
   hex = encode_lower (id_of route);
   wanted = wanted_of route;
@@ -126,16 +126,16 @@ text_is route writes asked = record {
   value = route_again route writes.path;
 }
 
-text_utf8 : (route : Route) {bytes : List ℕ} → Writes route bytes → CanBeAsked route → IsUtf8 (text_of route)
-unfolding text_of
+text_utf8 : (route : Route) {bytes : List ℕ} → IsRouteText route bytes → CanBeAsked route → IsUtf8 (route_text route)
+unfolding route_text
 text_utf8 route writes asked =
     utf8_parts (codes "/buildid/") (encode_lower (id_of route)) (SEPARATOR ∷ wanted_text (wanted_of route))
     (literal_utf8 (codes "/buildid/") refl)
     (IsUtf8-from_ascii (encode_lower (id_of route)) (IsAscii-encode_with lower_digits (id_of route) ascii_digits))
     (wanted_utf8 route writes.path asked)
 
-text_no_zero : (route : Route) {bytes : List ℕ} → Writes route bytes → CanBeAsked route → holds_zero (text_of route) ≡ false
-unfolding text_of
+text_no_zero : (route : Route) {bytes : List ℕ} → IsRouteText route bytes → CanBeAsked route → holds_zero (route_text route) ≡ false
+unfolding route_text
 text_no_zero route writes asked =
     no_zero_parts (codes "/buildid/") (encode_lower (id_of route)) (SEPARATOR ∷ wanted_text (wanted_of route))
     refl
@@ -144,10 +144,10 @@ text_no_zero route writes asked =
 
 -- what an encoding says, of a text that is read back
 encoded_says : (text : List ℕ) {route : Route} → All (λ b. b < 256) text → IsUtf8 text → holds_zero text ≡ false → IsTextOf text route
-    → Says (percent_encode ESCAPED text) (Ok route)
+    → TargetSays (percent_encode ESCAPED text) (Ok route)
 encoded_says text {route} small utf8 no_zero is =
     let back : percent_decode (percent_encode ESCAPED text) ≡ text = round_trip ESCAPED text refl small in
-    let path : path_of (percent_encode ESCAPED text) ≡ percent_encode ESCAPED text = all_path (percent_encode ESCAPED text) (no_query text) in
+    let path : before_query (percent_encode ESCAPED text) ≡ percent_encode ESCAPED text = all_path (percent_encode ESCAPED text) (no_query text) in
     subst (λ p. PathSays p (Ok route)) (sym path) (
       record {
         escapes = escapes_whole text;
@@ -158,13 +158,13 @@ encoded_says text {route} small utf8 no_zero is =
     )
 
 -- the target of a route says the route
-pub printed_says : (route : Route) {bytes target : List ℕ} → Writes route bytes → All (λ b. b < 256) bytes → target ≡ escaped bytes
-    → CanBeAsked route → Says target (Ok route)
+pub printed_says : (route : Route) {bytes target : List ℕ} → IsRouteText route bytes → All (λ b. b < 256) bytes → target ≡ escaped_target bytes
+    → CanBeAsked route → TargetSays target (Ok route)
 printed_says route {bytes} {target} writes small printed asked =
     let same = writes.text in
-    let says : Says (percent_encode ESCAPED bytes) (Ok route) =
+    let says : TargetSays (percent_encode ESCAPED bytes) (Ok route) =
     encoded_says bytes small
     (subst IsUtf8 (sym same) (text_utf8 route writes asked))
     (ap holds_zero same ∙ text_no_zero route writes asked)
     (subst (λ t. IsTextOf t route) (sym same) (text_is route writes asked)) in
-    subst (λ t. Says t (Ok route)) (sym (printed ∙ sym (escaped_is bytes small))) says
+    subst (λ t. TargetSays t (Ok route)) (sym (printed ∙ sym (escaped_is bytes small))) says

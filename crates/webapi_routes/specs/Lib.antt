@@ -3,9 +3,9 @@ pub use Rattle.row_types.specs.Canon
 pub use Rattle.path_canon.specs.Absolute
 pub use Rattle.hex.specs.Hex
 pub use Rattle.percent_encoding.specs.Percent
-pub mod Asked
+pub mod Parts
+pub mod Path
 pub mod Printed
-pub mod Said
-pub mod Seen
-pub mod Target
+pub mod Routes
+pub mod Targets
 pub mod Written

@@ -8,45 +8,42 @@ use Rattle.percent_encoding.specs.Percent.{percent_encode_byte}
 use Rattle.row_types.specs.BuildId.{IsIdLength}
 use Rattle.row_types.specs.Canon.{IsCanonPath}
 use Rattle.row_types.specs.declared.limits.TheConstants.{SEPARATOR}
-use Rattle.webapi_routes.specs.Asked.{id_of, wanted_of}
-use Rattle.webapi_routes.specs.Target.{holds_zero}
+use Rattle.webapi_routes.specs.Routes.{id_of, wanted_of}
+use Rattle.webapi_routes.specs.Path.{holds_zero}
 use Rattle.webapi_routes.specs.Written.{wanted_text}
 use Rattle.webapi_routes.specs.declared.route.Route.{Route}
-use Rattle.webapi_routes.specs.declared.route.Route.TheVariants.{Debuginfo, Executable, Source, Section}
+use Rattle.webapi_routes.specs.declared.route.Route.TheVariants.{Section, Source}
 
 -- whether a byte stands for itself: a letter, a digit, `-`, `.`, `_`, `~` or `/`
 abbrev pub is_kept : ℕ → Bool
 is_kept b = is_ascii_alphanumeric b || list_any (λ k. b == k) (codes "-._~/")
 
 -- the bytes, with `%` and two upper-case hexadecimal digits for each that doesn't stand for itself
-unfoldable pub escaped : List ℕ → List ℕ
-escaped bytes = flat_map (λ b. if is_kept b then b ∷ [] else percent_encode_byte b) bytes
+unfoldable pub escaped_target : List ℕ → List ℕ
+escaped_target bytes = flat_map (λ b. if is_kept b then b ∷ [] else percent_encode_byte b) bytes
 
 -- the text of a route's path, with the id in lower case
-unfoldable pub text_of : Route → List ℕ
-text_of route = codes "/buildid/" ++ (encode_lower (id_of route) ++ SEPARATOR ∷ wanted_text (wanted_of route))
+unfoldable pub route_text : Route → List ℕ
+route_text route = codes "/buildid/" ++ (encode_lower (id_of route) ++ SEPARATOR ∷ wanted_text (wanted_of route))
 
 -- the target of a route
 abbrev pub printed : Route → List ℕ
-printed route = escaped (text_of route)
+printed route = escaped_target (route_text route)
 
 -- a target can ask for the route: a source's path holds no zero, and a section has a name that is UTF-8 without a zero
 abbrev pub CanBeAsked : Route → Type 0
-CanBeAsked (Debuginfo id) = Unit {0}
-CanBeAsked (Executable id) = Unit {0}
 CanBeAsked (Source id path) = holds_zero path ≡ false
 CanBeAsked (Section id name) = IsUtf8 name × (0 < length name) × (holds_zero name ≡ false)
+CanBeAsked _ = Unit {0}
 
--- what the types of a route's parts say of them
+-- a source's path is one, as its type says
 abbrev pub HasPath : Route → Type 0
-HasPath (Debuginfo id) = Unit {0}
-HasPath (Executable id) = Unit {0}
 HasPath (Source id path) = IsCanonPath path × IsUtf8 path
-HasPath (Section id name) = Unit {0}
+HasPath _ = Unit {0}
 
--- the bytes are the text of the route's path, whose parts are an id and a path
-pub record Writes (route : Route) (bytes : List ℕ) : Type 0 where
-  pub text : bytes ≡ text_of route
+-- the bytes are the text of the route's path; its id and its path are such, as their types say
+pub record IsRouteText (route : Route) (bytes : List ℕ) : Type 0 where
+  pub text : bytes ≡ route_text route
   pub sized : IsIdLength (length (id_of route))
   pub small : IsBytes (id_of route)
   pub path : HasPath route

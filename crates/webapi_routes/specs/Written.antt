@@ -20,17 +20,16 @@ wanted_text (section name) = codes "section/" ++ name
 
 -- a source's path begins with a slash, and a section has a name
 abbrev pub IsWanted : Wanted → Type 0
-IsWanted debuginfo = Unit {0}
-IsWanted executable = Unit {0}
 IsWanted (source path) = is_absolute path ≡ true
 IsWanted (section name) = 0 < length name
+IsWanted _ = Unit {0}
 
--- these bytes ask this of an id
-pub record Asks (bytes : List ℕ) (wanted : Wanted) : Type 0 where
+-- the bytes are the text of what is asked of an id
+pub record IsWantedText (bytes : List ℕ) (wanted : Wanted) : Type 0 where
   pub text : bytes ≡ wanted_text wanted
   pub valid : IsWanted wanted
 
--- the path's text has this text of an id, which has no slash, and asks this of it
+-- a text is written as a route's path: the text of an id stands in it, which has no slash, and what is asked of the id
 pub record IsWritten (text hex : List ℕ) (wanted : Wanted) : Type 0 where
   pub whole : text ≡ codes "/buildid/" ++ (hex ++ SEPARATOR ∷ wanted_text wanted)
   pub one_piece : All (λ b. b ≢ SEPARATOR) hex

@@ -5,8 +5,8 @@ use std::alloc::AllocError;
 /// Why a target has no route, in the order in which it is tested.
 #[derive(Clone, Copy, Debug, PartialEq, Eq)]
 pub enum RouteFault {
-    /// A percent sign has no two hexadecimal digits behind it, or what the escapes leave isn't UTF-8
-    /// or holds a zero.
+    /// A percent sign has no two hexadecimal digits behind it, or what the escapes leave isn't
+    /// UTF-8, or holds a zero.
     BadEscape,
     /// The path is none of those that routes have.
     NoRoute,

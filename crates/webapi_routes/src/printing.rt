@@ -4,9 +4,10 @@ ghost use Rattle.std.specs.Prelude.{◌≡◌, ◌++◌, ◌<◌, All, IfOk, OnO
 ghost use Rattle.std.specs.String.{string_bytes};
 ghost use Rattle.hex.specs.Hex.{IsBytes, encode_lower};
 ghost use Rattle.row_types.specs.BuildId.{IsIdLength};
-ghost use Rattle.webapi_routes.specs.Asked.{wanted_of};
-ghost use Rattle.webapi_routes.specs.Printed.{CanBeAsked, HasPath, Writes, escaped, printed};
-ghost use Rattle.webapi_routes.specs.Said.{Says};
+ghost use Rattle.webapi_routes.specs.Routes.{wanted_of};
+ghost use Rattle.webapi_routes.specs.Printed.{CanBeAsked, HasPath, IsRouteText};
+ghost use Rattle.webapi_routes.specs.Printed.{escaped_target, printed};
+ghost use Rattle.webapi_routes.specs.Targets.{TargetSays};
 ghost use Rattle.webapi_routes.specs.Written.{wanted_text};
 
 use crate::route::Route;
@@ -28,9 +29,9 @@ const ESCAPED: AsciiSet = ascii_set!(
 pub fn print(alloc: Global, route: &Route) -> Result<Vec<u8>, AllocError>
     ensures text { IfOk result (λ target. target.items ≡ printed route.now) }
     ensures back { IfOk result (λ target. CanBeAsked route.now
-        → Says target.items (Ok route.now)) }
+        → TargetSays target.items (Ok route.now)) }
 {
-    let text = text_of(alloc, route)?;
+    let text = route_text(alloc, route)?;
     let mut target = String::new(alloc);
     push_escaped(&mut target, text.as_slice())?;
     Ok(target.into_bytes())
@@ -39,7 +40,7 @@ pub fn print(alloc: Global, route: &Route) -> Result<Vec<u8>, AllocError>
 /// Adds the bytes of a text, with an escape for each that doesn't stand for itself.
 fn push_escaped(target: &mut String, text: &[u8]) -> Result<(), AllocError>
     ensures value { OnOk result
-        (string_bytes target.new ≡ string_bytes target.old ++ escaped text.now) }
+        (string_bytes target.new ≡ string_bytes target.old ++ escaped_target text.now) }
     ensures small { OnOk result (All (λ b. b < 256) text.now) }
 {
     percent_encode(text, ESCAPED).append_to(target)?;
@@ -47,9 +48,9 @@ fn push_escaped(target: &mut String, text: &[u8]) -> Result<(), AllocError>
 }
 
 /// The text of a route's path.
-#[tactic(auto, unfolding(crate::specs::Printed::text_of))]
-fn text_of(alloc: Global, route: &Route) -> Result<Vec<u8>, AllocError>
-    ensures { IfOk result (λ text. Writes route.now text.items) }
+#[tactic(auto, unfolding(crate::specs::Printed::route_text))]
+fn route_text(alloc: Global, route: &Route) -> Result<Vec<u8>, AllocError>
+    ensures { IfOk result (λ text. IsRouteText route.now text.items) }
 {
     let mut text = Vec::new(alloc);
     text.extend_from_slice(b"/buildid/")?;

@@ -3,8 +3,9 @@
 ghost use Rattle.std.specs.Prelude.{◌≡◌, true, Result, IfOk};
 ghost use Rattle.path_canon.specs.Absolute.{is_absolute};
 ghost use Rattle.row_types.specs.Limits.{ArePinnedIdLengths, ArePinnedPathLimits};
-ghost use Rattle.webapi_routes.specs.Said.{PathSays, Says, TextSays, UnlessMemory};
-ghost use Rattle.webapi_routes.specs.Seen.{Makes, seen};
+ghost use Rattle.webapi_routes.specs.Targets.{IsSaidBy, PathSays, TargetSays, TextSays};
+ghost use Rattle.webapi_routes.specs.Targets.{UnlessMemory};
+ghost use Rattle.webapi_routes.specs.Parts.{Makes, seen};
 ghost use Rattle.webapi_routes.specs.Written.{IsWanted, source};
 ghost use Rattle.webapi_routes.specs.declared.fault.RouteFault.{RouteFault};
 ghost use Rattle.webapi_routes.specs.declared.route.Route.{Route};
@@ -12,7 +13,7 @@ ghost use Rattle.webapi_routes.specs.declared.route.Route.{Route};
 use crate::fault::RouteFault;
 use crate::route::Route;
 use crate::section_name::SectionName;
-use crate::target::{has_whole_escapes, path_of};
+use crate::target::{before_query, has_whole_escapes};
 use crate::written::{Written, parts_of};
 use path_canon::{PathFault, canonical};
 use percent_encoding::{DecodeError, percent_decode};
@@ -21,13 +22,13 @@ use std::alloc::{AllocError, Global};
 
 /// The route that a target asks for, or the first of its faults.
 pub fn parse(alloc: Global, target: &[u8]) -> Result<Route, RouteFault>
-    ensures says { UnlessMemory result (Says target.now result) }
-    ensures only { (answer : Result Route RouteFault) → Says target.now answer
+    ensures says { IsSaidBy target.now result }
+    ensures only { (answer : Result Route RouteFault) → TargetSays target.now answer
         → UnlessMemory result (result ≡ answer) }
     ensures lengths { ArePinnedIdLengths }
     ensures limits { ArePinnedPathLimits }
 {
-    parse_path(alloc, path_of(target))
+    parse_path(alloc, before_query(target))
 }
 
 /// The route that a path asks for.

@@ -1,7 +1,7 @@
 //! The routes of the web API.
 
 ghost use Rattle.std.specs.Prelude.{◌≡◌};
-ghost use Rattle.webapi_routes.specs.Asked.{id_of};
+ghost use Rattle.webapi_routes.specs.Routes.{id_of};
 
 use crate::section_name::SectionName;
 use row_types::{BuildId, CanonPath};

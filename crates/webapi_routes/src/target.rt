@@ -1,11 +1,11 @@
 //! The path of a target, and the text that it spells.
 
 ghost use Rattle.std.specs.Prelude.{◌≡◌, ◌==◌, position};
-ghost use Rattle.webapi_routes.specs.Target.{begins_with_digits, has_whole_escapes, path_of};
+ghost use Rattle.webapi_routes.specs.Path.{begins_with_digits, has_whole_escapes, before_query};
 
 /// The bytes of a target before its query.
-pub(crate) fn path_of(target: &[u8]) -> &[u8]
-    ensures { result.now ≡ path_of target.now }
+pub(crate) fn before_query(target: &[u8]) -> &[u8]
+    ensures { result.now ≡ before_query target.now }
 {
     match query_at(target) {
         Some(at) => &target[..at],

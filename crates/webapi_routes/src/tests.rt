@@ -2,7 +2,7 @@
 
 ghost use Rattle.std.specs.Prelude.{◌≡◌, Ok};
 ghost use Rattle.webapi_routes.specs.Printed.{CanBeAsked};
-ghost use Rattle.webapi_routes.specs.Said.{UnlessMemory};
+ghost use Rattle.webapi_routes.specs.Targets.{UnlessMemory};
 
 use crate::fault::RouteFault;
 use crate::printing::print;

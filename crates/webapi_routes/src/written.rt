@@ -2,9 +2,9 @@
 
 ghost use Rattle.std.specs.Prelude.{◌≡◌, List, ℕ, true, MatchOption};
 ghost use Rattle.path_canon.specs.Absolute.{is_absolute};
-ghost use Rattle.webapi_routes.specs.Said.{IsNoRoute};
-ghost use Rattle.webapi_routes.specs.Seen.{seen};
-ghost use Rattle.webapi_routes.specs.Written.{Asks, IsWritten, Wanted, section, source};
+ghost use Rattle.webapi_routes.specs.Targets.{IsNoRoute};
+ghost use Rattle.webapi_routes.specs.Parts.{seen};
+ghost use Rattle.webapi_routes.specs.Written.{IsWantedText, IsWritten, Wanted, section, source};
 
 /// What is asked of an id, as it is written.
 #[derive(Clone, Copy)]
@@ -34,8 +34,8 @@ pub(crate) fn parts_of(text: &str) -> Option<(&str, Written<'_>)>
 
 /// What is asked behind an id.
 fn wanted(behind: &str) -> Option<Written<'_>>
-    ensures { MatchOption result ((wanted : Wanted) → ¬ (Asks behind.now wanted))
-        (λ x. Asks behind.now (seen x)) }
+    ensures { MatchOption result ((wanted : Wanted) → ¬ (IsWantedText behind.now wanted))
+        (λ x. IsWantedText behind.now (seen x)) }
 {
     match behind {
         "debuginfo" => Some(Written::Debuginfo),
@@ -52,8 +52,8 @@ fn wanted(behind: &str) -> Option<Written<'_>>
 
 /// The path of a source that is asked for.
 fn source(behind: &str) -> Option<&str>
-    ensures { MatchOption result ((path : List ℕ) → ¬ (Asks behind.now (source path)))
-        (λ path. Asks behind.now (source path.now)) }
+    ensures { MatchOption result ((path : List ℕ) → ¬ (IsWantedText behind.now (source path)))
+        (λ path. IsWantedText behind.now (source path.now)) }
 {
     match behind.strip_prefix("source") {
         Some(path) => absolute(path),
@@ -75,8 +75,8 @@ fn absolute(path: &str) -> Option<&str>
 
 /// The name of a section that is asked for.
 fn section(behind: &str) -> Option<&str>
-    ensures { MatchOption result ((name : List ℕ) → ¬ (Asks behind.now (section name)))
-        (λ name. Asks behind.now (section name.now)) }
+    ensures { MatchOption result ((name : List ℕ) → ¬ (IsWantedText behind.now (section name)))
+        (λ name. IsWantedText behind.now (section name.now)) }
 {
     match behind.strip_prefix("section/") {
         Some("") => None,

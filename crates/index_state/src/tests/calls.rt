@@ -68,6 +68,8 @@ pub enum Call {
     FirstMiss,
     /// The names that are out or missed get their copies, and are tried again.
     Retry,
+    /// The listed names that are rows' names are spared.
+    Spare,
 }
 
 /// Calls of a new index, and what they come to.
@@ -158,6 +160,10 @@ fn answer_to(alloc: Global, index: &mut Index<OpenWorld>, call: Call) -> Result<
             index.refill()?;
             let count = index.retry();
             Ok(format!(in alloc; "{count:?}")?)
+        }
+        Call::Spare => {
+            index.spare();
+            Ok(String::new(alloc))
         }
     }
 }

@@ -95,6 +95,34 @@ static CASES: &[Case] = &[
             ..NOTHING
         },
     },
+    // The row of one of two listed files stands, and its name is spared.
+    Case {
+        shows: "a spared name is not taken, and its row stands",
+        stop_at: None,
+        calls: &[
+            (Call::Spare, ""),
+            (
+                Call::Begin(&[("/a", 1)]),
+                "Begun(Plan { files: 1, add: 1, replace: 0, drop: 0, keep: 0 })",
+            ),
+            (Call::Publish("/a", 1), "Added"),
+            (
+                Call::Begin(&[("/a", 1), ("/b", 2)]),
+                "Begun(Plan { files: 2, add: 1, replace: 0, drop: 0, keep: 1 })",
+            ),
+            (Call::Spare, ""),
+            (Call::Take, "/b 2, "),
+            (Call::Publish("/b", 2), "Added"),
+            (Call::Publish("/a", 1), "Already"),
+            (Call::Take, ""),
+        ],
+        rows: "/a 1, /b 2, ",
+        standing: Standing {
+            log: 2,
+            rows: 2,
+            ..NOTHING
+        },
+    },
     // The calls of the store: its opening, the reading of its rows, and a put for each row.
     Case {
         shows: "a store that stops at a put breaks the index",

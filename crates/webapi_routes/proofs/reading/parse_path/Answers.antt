@@ -1,9 +1,9 @@
 -- The path spells the text that is read.
 use Rattle.std.proofs.Common.{◌∙◌, ap, subst, sym}
 use Rattle.std.specs.Str.{IsUtf8}
-use Rattle.webapi_routes.specs.Said.{TextSays, UnlessMemory}
-use Rattle.webapi_routes.specs.Target.{SpellsText, holds_zero}
-use Rattle.webapi_routes.proofs.SaidLemmas.{path_says}
+use Rattle.webapi_routes.specs.Targets.{TextSays, UnlessMemory}
+use Rattle.webapi_routes.specs.Path.{SpellsText, holds_zero}
+use Rattle.webapi_routes.proofs.TargetLemmas.{path_says}
 use Rattle.webapi_routes.proofs.reading.parse_path.Goals as goal
 
 pub returns : goal.returns

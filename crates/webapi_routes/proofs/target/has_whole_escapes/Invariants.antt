@@ -1,5 +1,5 @@
 use Rattle.std.proofs.Common.{◌≡◌, length}
-use Rattle.webapi_routes.specs.Target.{has_whole_escapes}
+use Rattle.webapi_routes.specs.Path.{has_whole_escapes}
 use Rattle.webapi_routes.proofs.target.has_whole_escapes.Given as goal
 
 abbrev pub invariant-loop-rest : goal.invariant-loop-rest
