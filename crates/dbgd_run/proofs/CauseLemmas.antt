@@ -18,7 +18,9 @@ use Rattle.dbgd_run.specs.Scan.{EndsBy, Scans}
 use Rattle.dbgd_run.specs.ScanSaid.{SaysEnd, scan_saying}
 use Rattle.dbgd_run.specs.Scene.{Scene, Setting}
 use Rattle.dbgd_run.specs.Section.{SaysNamed, SaysSection}
-use Rattle.dbgd_run.specs.Words.{Line, asks_ident, asks_section, asks_scan, unbuilt, unreadable}
+use Rattle.dbgd_run.specs.Sources.{SaysListed, SaysSources}
+use Rattle.dbgd_run.specs.Words.{Line, asks_ident, asks_scan, asks_section, asks_sources, unbuilt}
+use Rattle.dbgd_run.specs.Words.{unreadable}
 use Rattle.dbgd_run.specs.declared.scan_end.ScanEnd.{ScanEnd}
 use Rattle.dbgd_run.specs.declared.scan_end.ScanEnd.TheVariants.{Unopened, Filled, Unlisted, Unread}
 use Rattle.dbgd_run.specs.declared.scan_end.ScanEnd.TheVariants.{Altered, Unkept, Full, OutOfMemory}
@@ -71,6 +73,21 @@ section_status before after path name (too_large stamp) end hand said = subst (F
 section_status before after path name gone end hand said = subst (FileStatus before after) (sym said.ends) tt
 section_status before after path name failed end hand said = subst (FileStatus before after) (sym said.ends) (inl (hand refl))
 section_status before after path name no_memory end hand said = subst (FileStatus before after) (sym said.ends) tt
+
+listed_status : (before after : Scene) (bytes : List ℕ) (r : Result Identity Why) (end : Status)
+    → SaysListed bytes r before.streams after.streams end → FileStatus before after end
+listed_status before after bytes (Ok i) end (inl said) = file_ends before after tt said.ends
+listed_status before after bytes (Ok i) end (inr said) = subst (FileStatus before after) (sym said.ends) tt
+listed_status before after bytes (Err why) end said = subst (FileStatus before after) (sym said.ends) tt
+
+sources_status : (before after : Scene) (path : List ℕ) (answer : LoadFacts) (end : Status)
+    → (IsTrue (has_failed (load path FILE_LIMIT answer)) → Rose before.hand.faults after.hand.faults)
+    → SaysSources path answer before.streams after.streams end → FileStatus before after end
+sources_status before after path (loaded found) end hand said = listed_status before after found.bytes said.0 end said.2
+sources_status before after path (too_large stamp) end hand said = subst (FileStatus before after) (sym said.ends) tt
+sources_status before after path gone end hand said = subst (FileStatus before after) (sym said.ends) tt
+sources_status before after path failed end hand said = subst (FileStatus before after) (sym said.ends) (inl (hand refl))
+sources_status before after path no_memory end hand said = subst (FileStatus before after) (sym said.ends) tt
 
 -- what the status of a scan's end says
 end_status : (s : Setting) {path : List ℕ} {roots : List (List ℕ)} (before after : Scene)
@@ -161,6 +178,8 @@ pub has_status : (s : Setting) (line : Line) (before after : Scene) (end : Statu
     → Runs s line before after end → HasStatus s line before after end
 has_status s (asks_ident path) before after end run =
     ident_status before after path run.does.answer end (λ f. run.does.asks.hands.cause.rose f) run.does.said
+has_status s (asks_sources path) before after end run =
+    sources_status before after path run.does.answer end (λ f. run.does.asks.hands.cause.rose f) run.does.said
 has_status s (asks_section path name) before after end run =
     section_status before after path name run.does.answer end (λ f. run.does.asks.hands.cause.rose f) run.does.said
 has_status s (asks_scan path roots) before after end run =

@@ -2,7 +2,6 @@ pub mod AlteredLemmas
 pub mod CauseLemmas
 pub mod Codes
 pub mod Heard
-pub mod ReadLemmas
 pub mod RootLemmas
 pub mod ScanEnds
 pub mod ScanFiles

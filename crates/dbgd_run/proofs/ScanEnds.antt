@@ -26,7 +26,7 @@ ends_open world walk read keep tear (Altered name met) h =
 ends_open world walk read keep tear Unkept h =
     record { files = h.files; last = h.last; left = h.left; reads = read _ _ _ h.reads; read = h.read; tears = tear _ _ h.tears }
 ends_open world walk read keep tear OutOfMemory h =
-    record { files = h.files; last = h.last; left = h.left; few = h.few; reads = read _ _ _ h.reads; read = h.read; keeps = keep _ h.keeps }
+    record { files = h.files; last = h.last; left = h.left; few = h.few; reads = read _ _ _ h.reads; loaded = h.loaded; keeps = keep _ h.keeps }
 ends_open world walk read keep tear (Whole summary) h = record {
   files = h.files;
   reads = read _ _ _ h.reads;

@@ -24,15 +24,16 @@ use Rattle.tree_trait.specs.Found.{Versions}
 use Rattle.tree_trait.specs.Heard.{Heard, after_asked, wants_memory}
 use Rattle.tree_trait.specs.Load.{LoadFacts, loaded, too_large, gone}
 use Rattle.tree_trait.specs.Shown.{ShownTree, StaysStill}
-use Rattle.dbgd_run.specs.Scan.{FileRead, FindsOther, IsFileRead, Reads, load_of, names_read}
-use Rattle.dbgd_run.specs.Scan.{rows_read}
+use Rattle.dbgd_run.specs.Scan.{EndsWanting, FileRead, FindsListed, FindsOther, IsFileLoaded, IsFileRead}
+use Rattle.dbgd_run.specs.Scan.{Reads, load_of, names_read, rows_read}
 use Rattle.dbgd_run.specs.ScanSteps.{DoesNext, EndsListed, HasRead, IsBegun, IsPassOver, KeepsFiles}
 use Rattle.dbgd_run.specs.ScanSteps.{LoadsFiles}
 use Rattle.dbgd_run.specs.declared.scan_end.ScanEnd.{ScanEnd}
 use Rattle.dbgd_run.specs.declared.scan_end.ScanEnd.TheVariants.{Unread, Altered, Unkept, Full}
 use Rattle.dbgd_run.specs.declared.scan_end.ScanEnd.TheVariants.{OutOfMemory}
-use Rattle.dbgd_run.proofs.ScanLemmas.{loads_last, loads_none, loads_read_more, loads_unheard}
-use Rattle.dbgd_run.proofs.ScanLemmas.{reads_heard, reads_named, rows_before, rows_more}
+use Rattle.dbgd_run.proofs.ScanLemmas.{finds_heard, loads_last, loads_none, loads_read_more}
+use Rattle.dbgd_run.proofs.ScanLemmas.{loads_unheard, reads_finds, reads_heard, reads_named}
+use Rattle.dbgd_run.proofs.ScanLemmas.{rows_before, rows_more}
 use Rattle.dbgd_run.proofs.ScanLists.{pairs_after, pairs_before, put_last}
 use Rattle.dbgd_run.proofs.ScanState.{TakesFirst, keeps_more, keeps_none, keeps_pass, keeps_wanting}
 use Rattle.dbgd_run.proofs.ScanState.{leaves_pass, takes_first, tears_last}
@@ -180,6 +181,26 @@ has_room {listing = listing} {new = new} {name = name} {files = files} {left = l
       length-map files (λ (f : FileRead). f.name),
     )
 
+-- memory was refused for the row of the file
+wants_row : {K : Type 0} (world : Rules) {told : Bool} {shows : K → ShownKeeper}
+    {listing : List NameFacts} {before between after : ShownTree} {old mid new : StateFacts K}
+    {name : NameFacts} (answer : LoadFacts) {files : List FileRead} {left : List NameFacts}
+    → IsOut told world.version shows listing before between old mid name files left
+    → Asks told world.version between after (load_of name answer) → FindsListed name answer
+    → KeepsFiles shows old new (rows_read files)
+    → EndsWanting world.version (LoadsFiles told world.version listing before after) (KeepsFiles shows old new)
+wants_row world {name = name} answer {files = files} {left = left} out asks finds keeps = record {
+  files = files;
+  last = record { name = name; answer = answer } ∷ [];
+  left = left;
+  few = omega arith;
+  reads = loads_last out.still (finds_heard name answer finds) out.loads asks;
+  loaded =
+      All-cons (IsFileLoaded world.version) (record { name = name; answer = answer }) []
+      (record { asked = asks.fits; finds = finds }) (All-nil (IsFileLoaded world.version));
+  keeps = keeps;
+}
+
 -- the scan stops at the file
 pub stops : {K : Type 0} (world : Rules) {tells told : Bool} {shows : K → ShownKeeper}
     {listing : List NameFacts} {before between after : ShownTree} {old mid : StateFacts K}
@@ -217,26 +238,22 @@ stops world new {name = name} answer {files = files} {left = left} Unkept holds 
   tears = tears_last holds out.keeps does.next;
 }
 stops world new answer Full holds out asks does = absurd (has_room out does.next.why.full)
-stops world {shows = shows} {between = between} {old = old} new {name = name} answer {files = files} {left = left} OutOfMemory holds out asks (inl does) = record {
-  files = files;
-  last = [];
-  left = name ∷ left;
-  few = omega arith;
-  reads = loads_unheard (asks.listed ∙ ap (λ a. after_asked between.heard (load_of name a)) does.why) out.loads;
-  read = All-nil (IsFileRead world.version);
-  keeps = subst (λ (s : StateFacts _). KeepsFiles shows old s (rows_read files)) (sym does.same) out.keeps;
-}
-stops world new {name = name} answer {files = files} {left = left} OutOfMemory holds out asks (inr does) = record {
-  files = files;
-  last = file_of name answer does.row ∷ [];
-  left = left;
-  few = omega arith;
-  reads = loads_last out.still (reads_heard name answer does.row does.reads) out.loads asks;
-  read =
-      All-cons (IsFileRead world.version) (file_of name answer does.row) []
-      (record { asked = asks.fits; read = does.reads }) (All-nil (IsFileRead world.version));
-  keeps = keeps_wanting out.keeps does.next;
-}
+stops world {shows = shows} {between = between} {old = old} new {name = name} answer {files = files} {left = left} OutOfMemory holds out asks (inl does) =
+    let keeps = subst (λ (s : StateFacts _). KeepsFiles shows old s (rows_read files)) (sym does.same) out.keeps in
+    elim does.why [
+      | inl unheard ↦ record {
+        files = files;
+        last = [];
+        left = name ∷ left;
+        few = omega arith;
+        reads = loads_unheard (asks.listed ∙ ap (λ a. after_asked between.heard (load_of name a)) unheard) out.loads;
+        loaded = All-nil (IsFileLoaded world.version);
+        keeps = keeps;
+      }
+      | inr finds ↦ wants_row world answer out asks finds keeps
+    ]
+stops world new {name = name} answer OutOfMemory holds out asks (inr does) =
+    wants_row world answer out asks (reads_finds name answer does.row does.reads) (keeps_wanting out.keeps does.next)
 stops world new answer _ holds out asks does = absurd does
 
 -- the next file was read and its row kept: so far one file more was read

@@ -12,7 +12,8 @@ use Rattle.tree_trait.specs.Found.{Versions}
 use Rattle.tree_trait.specs.Heard.{Heard, wants_memory, with_answers}
 use Rattle.tree_trait.specs.Load.{LoadFacts, loaded, too_large}
 use Rattle.tree_trait.specs.Shown.{ShownTree, StaysStill}
-use Rattle.dbgd_run.specs.Scan.{FileRead, IsFileRead, Reads, load_of, loads_read, names_read}
+use Rattle.dbgd_run.specs.Scan.{FileRead, FindsListed, IsFileRead, Reads, load_of, loads_read}
+use Rattle.dbgd_run.specs.Scan.{names_read}
 use Rattle.dbgd_run.specs.Scan.{rows_read}
 use Rattle.dbgd_run.specs.ScanSteps.{LoadsFiles}
 use Rattle.dbgd_run.proofs.Heard.{hears_asked, hears_both, hears_nothing}
@@ -30,6 +31,20 @@ pub reads_heard : (name : NameFacts) (answer : LoadFacts) (row : RowFacts) → R
 reads_heard name (loaded found) row h = refl
 reads_heard name (too_large stamp) row h = refl
 reads_heard name _ row h = absurd h
+
+-- nor one that found the listed file
+pub finds_heard : (name : NameFacts) (answer : LoadFacts) → FindsListed name answer
+    → wants_memory (load_of name answer) ≡ false
+finds_heard name (loaded found) h = refl
+finds_heard name (too_large stamp) h = refl
+finds_heard name _ h = absurd h
+
+-- a load that gave a row found the listed file
+pub reads_finds : (name : NameFacts) (answer : LoadFacts) (row : RowFacts) → Reads name answer row
+    → FindsListed name answer
+reads_finds name (loaded found) row h = h.0
+reads_finds name (too_large stamp) row h = h.0
+reads_finds name _ row h = absurd h
 
 -- so has the row of a file that was read
 pub file_named : {version : Versions} {file : FileRead} → IsFileRead version file

@@ -13,7 +13,7 @@ use Rattle.index_state.specs.Step.{BeginsPass}
 use Rattle.index_state.specs.declared.answer.Plan.{Plan}
 use Rattle.tree_trait.specs.Shown.{ShownTree}
 use Rattle.dbgd_run.specs.Kept.{with_puts}
-use Rattle.dbgd_run.specs.Scan.{IsFileRead}
+use Rattle.dbgd_run.specs.Scan.{IsFileLoaded}
 use Rattle.dbgd_run.specs.ScanSteps.{EndsListed, IsBegun, IsNew, IsPassOver, KeepsFiles, LoadsFiles}
 use Rattle.dbgd_run.specs.declared.scan_end.ScanEnd.{ScanEnd}
 use Rattle.dbgd_run.specs.declared.scan_end.ScanEnd.TheVariants.{OutOfMemory}
@@ -85,6 +85,6 @@ ends_unbegun world tells {shows = shows} {listing = listing} {old = old} fresh s
   left = listing;
   few = omega arith;
   reads = loads_none;
-  read = All-nil (IsFileRead world.version);
+  loaded = All-nil (IsFileLoaded world.version);
   keeps = subst (λ (s : StateFacts _). KeepsFiles shows old s []) (sym same) (keeps_none fresh);
 }

@@ -15,7 +15,8 @@ use Rattle.http_wire.specs.Sink.{GetsAll}
 use Rattle.dbgd_run.specs.Scan.{EndsBy, FindsOther, load_of}
 use Rattle.dbgd_run.specs.Scene.{Scene, Setting, TellsStill}
 use Rattle.dbgd_run.specs.Texts.{summary_line}
-use Rattle.dbgd_run.specs.Words.{Line, asks_ident, asks_section, asks_scan, unbuilt, unreadable}
+use Rattle.dbgd_run.specs.Words.{Line, asks_ident, asks_scan, asks_section, asks_sources, unbuilt}
+use Rattle.dbgd_run.specs.Words.{unreadable}
 use Rattle.dbgd_run.specs.declared.scan_end.ScanEnd.TheVariants.{Whole}
 use Rattle.dbgd_run.specs.declared.status.Status.{Status}
 use Rattle.dbgd_run.specs.declared.status.Status.TheVariants.{Done, Fault, Usage, Absent, Altered}
@@ -96,6 +97,7 @@ ScanStatus s roots before after _ = ⊥
 -- always so
 abbrev pub HasStatus : Setting → Line → Scene → Scene → Status → Type 0
 HasStatus s (asks_ident path) before after status = FileStatus before after status
+HasStatus s (asks_sources path) before after status = FileStatus before after status
 HasStatus s (asks_section path name) before after status = FileStatus before after status
 HasStatus s (asks_scan path roots) before after status = ScanStatus s roots before after status
 HasStatus s unbuilt before after status = status ≡ NotBuilt

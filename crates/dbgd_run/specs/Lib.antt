@@ -5,7 +5,6 @@ pub mod Ident
 pub mod Kept
 pub mod Lines
 pub mod Numbers
-pub mod Read
 pub mod Roots
 pub mod Runs
 pub mod Scan
@@ -13,6 +12,7 @@ pub mod ScanSaid
 pub mod ScanSteps
 pub mod Scene
 pub mod Section
+pub mod Sources
 pub mod Statuses
 pub mod Texts
 pub mod Words

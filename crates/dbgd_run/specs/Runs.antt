@@ -8,9 +8,11 @@ use Rattle.dbgd_run.specs.Ident.{SaysIdent}
 use Rattle.dbgd_run.specs.Scan.{RunsScan}
 use Rattle.dbgd_run.specs.Scene.{LeavesHand, Scene, Setting}
 use Rattle.dbgd_run.specs.Section.{SaysSection}
+use Rattle.dbgd_run.specs.Sources.{SaysSources}
 use Rattle.dbgd_run.specs.Statuses.{code_of}
 use Rattle.dbgd_run.specs.Texts.{usage_text}
-use Rattle.dbgd_run.specs.Words.{Line, asks_ident, asks_section, asks_scan, unbuilt, unreadable}
+use Rattle.dbgd_run.specs.Words.{Line, asks_ident, asks_scan, asks_section, asks_sources, unbuilt}
+use Rattle.dbgd_run.specs.Words.{unreadable}
 use Rattle.dbgd_run.specs.declared.status.Status.{Status}
 use Rattle.dbgd_run.specs.declared.status.Status.TheVariants.{Usage}
 
@@ -33,6 +35,9 @@ pub record SaysAlone (saying : Saying) (before after : Scene) (status : Status) 
 abbrev pub Runs : Setting → Line → Scene → Scene → Status → Type 0
 Runs s (asks_ident path) before after status =
     LeavesStore (RunsOn (SaysIdent path) s.tells_files s.world.version path
+    before.hand after.hand before.streams after.streams status) before.store after.store
+Runs s (asks_sources path) before after status =
+    LeavesStore (RunsOn (SaysSources path) s.tells_files s.world.version path
     before.hand after.hand before.streams after.streams status) before.store after.store
 Runs s (asks_section path name) before after status =
     LeavesStore (RunsOn (SaysSection path name) s.tells_files s.world.version path

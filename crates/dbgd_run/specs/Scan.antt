@@ -18,6 +18,7 @@ use Rattle.tree_trait.specs.Asks.{IsTold}
 use Rattle.tree_trait.specs.Found.{Versions}
 use Rattle.tree_trait.specs.Heard.{Heard, load, with_answers}
 use Rattle.tree_trait.specs.Load.{LoadFacts, loaded, too_large, gone, failed, FitsLoad}
+use Rattle.tree_trait.specs.Reader.{IsRowOf}
 use Rattle.tree_trait.specs.Shown.{ShownTree}
 use Rattle.tree_walk.specs.Ends.{IsWholeWalk, Walks}
 use Rattle.tree_walk.specs.Files.{AreFilesUnder, FitsFault}
@@ -25,7 +26,6 @@ use Rattle.tree_walk.specs.declared.fault.WalkFault.{WalkFault}
 use Rattle.tree_walk.specs.declared.walked.Walk.{Walk}
 use Rattle.dbgd_run.specs.Kept.{HasKept, HasTorn, KeepsAll}
 use Rattle.dbgd_run.specs.Numbers.{summary_of}
-use Rattle.dbgd_run.specs.Read.{IsRowOf}
 use Rattle.dbgd_run.specs.ScanSaid.{SaysEnd, is_hand_fault, is_open, is_store_fault}
 use Rattle.dbgd_run.specs.Scene.{LeavesHand, Scene, Setting, TellsStill}
 use Rattle.dbgd_run.specs.declared.scan_end.ScanEnd.{ScanEnd}
@@ -47,6 +47,12 @@ Reads name (loaded found) row = (found.stamp ≡ name.stamp) × IsRowOf name fou
 Reads name (too_large stamp) row = (stamp ≡ name.stamp) × (row ≡ too_large_row name)
 Reads name _ row = ⊥
 
+-- the load found the file that was listed
+abbrev pub FindsListed : NameFacts → LoadFacts → Type 0
+FindsListed name (loaded found) = found.stamp ≡ name.stamp
+FindsListed name (too_large stamp) = stamp ≡ name.stamp
+FindsListed name _ = ⊥
+
 -- the load found this in place of the file that was listed
 abbrev pub FindsOther : NameFacts → LoadFacts → Seen → Type 0
 FindsOther name (loaded found) met = (found.stamp ≢ name.stamp) × (met ≡ seen.File found.stamp)
@@ -66,6 +72,16 @@ names_read files = map (λ file. file.name) files
 -- the rows of the files, in order
 abbrev pub rows_read : List FileRead → List RowFacts
 rows_read files = map (λ file. file.row) files
+
+-- a listed file that was loaded: its name, and what its load answered
+pub record FileLoaded : Type 0 where
+  pub name : NameFacts
+  pub answer : LoadFacts
+
+-- the file was loaded, as it was listed
+pub record IsFileLoaded (version : Versions) (file : FileLoaded) : Type 0 where
+  pub asked : FitsLoad version file.name.path FILE_LIMIT file.answer
+  pub finds : FindsListed file.name file.answer
 
 -- the load of a listed file, as a tree tells it
 abbrev pub load_of : NameFacts → LoadFacts → Heard
@@ -123,16 +139,18 @@ pub record EndsUnkept (version : Versions)
   pub read : IsFileRead version last
   pub tears : Torn (rows_read files) last.row
 
--- memory was refused before the next file was loaded, or for the row of the file that was read last
+-- memory was refused before the next file was loaded, or for the row of the file that was loaded last
 pub record EndsWanting (version : Versions)
     (Read : List FileRead → List NameFacts → List Heard → Type 0)
     (Kept : List RowFacts → Type 0) : Type 0 where
   pub files : List FileRead
-  pub last : List FileRead
+  pub last : List FileLoaded
   pub left : List NameFacts
   pub few : length last ≤ 1
-  pub reads : Read files (names_read last ++ left) (loads_read last)
-  pub read : All (IsFileRead version) last
+  pub reads :
+      Read files (map (λ file. file.name) last ++ left)
+      (map (λ file. load_of file.name file.answer) last)
+  pub loaded : All (IsFileLoaded version) last
   pub keeps : Kept (rows_read files)
 
 -- each listed file was read and its row kept: the rows are true and have the listed names; in a told world they are one

@@ -20,8 +20,8 @@ use Rattle.tree_walk.specs.Ends.{Walks}
 use Rattle.tree_walk.specs.Files.{FitsFault}
 use Rattle.tree_walk.specs.declared.fault.WalkFault.{WalkFault}
 use Rattle.dbgd_run.specs.Kept.{with_puts}
-use Rattle.dbgd_run.specs.Scan.{EndsOpen, FileRead, FindsOther, IsFileRead, Reads, loads_read}
-use Rattle.dbgd_run.specs.Scan.{names_read, rows_read}
+use Rattle.dbgd_run.specs.Scan.{EndsOpen, FileRead, FindsListed, FindsOther, IsFileRead, Reads}
+use Rattle.dbgd_run.specs.Scan.{loads_read, names_read, rows_read}
 use Rattle.dbgd_run.specs.Scene.{TellsStill}
 use Rattle.dbgd_run.specs.declared.scan_end.ScanEnd.{ScanEnd}
 use Rattle.dbgd_run.specs.declared.scan_end.ScanEnd.TheVariants.{Unread, Altered, Unkept, Full}
@@ -32,7 +32,7 @@ abbrev pub LeadsTo : NameFacts → LoadFacts → Result RowFacts ScanEnd → Typ
 LeadsTo name answer (Ok row) = Reads name answer row
 LeadsTo name answer (Err Unread) = answer ≡ failed
 LeadsTo name answer (Err (Altered listed met)) = (listed ≡ name) × FindsOther name answer met
-LeadsTo name answer (Err OutOfMemory) = answer ≡ no_memory
+LeadsTo name answer (Err OutOfMemory) = (answer ≡ no_memory) ⊎ FindsListed name answer
 LeadsTo name answer (Err _) = ⊥
 
 -- what comes of a row that is awaited: it is kept, or the scan ends
@@ -64,7 +64,7 @@ DoesNext tells shows name answer old new (Some Unkept) =
 DoesNext tells shows name answer old new (Some Full) =
     ReadsThen name answer (λ row. Stays (IsShut row.name old) old new)
 DoesNext tells shows name answer old new (Some OutOfMemory) =
-    Stays (answer ≡ no_memory) old new
+    Stays ((answer ≡ no_memory) ⊎ FindsListed name answer) old new
     ⊎ ReadsThen name answer (λ row. FindsNoMemory tells shows row old new)
 DoesNext tells shows name answer old new (Some _) = ⊥
 

@@ -2,18 +2,17 @@
 //! are handed in. Real files and streams stand in the program's own crate.
 #![tactic(auto)]
 
-mod elf_truth;
 mod ident;
 mod listed;
 mod outside;
 mod pass;
-mod reading;
 mod roots;
 mod scan;
 mod scan_end;
 mod scan_sayings;
 mod scan_texts;
 mod section;
+mod sources;
 mod speech;
 mod status;
 mod summary;
@@ -22,7 +21,7 @@ mod tests;
 mod texts;
 mod words;
 
-pub use elf_truth::ElfTruth;
+pub use elf_reading::ElfTruth;
 pub use http_wire::{MemSink, Sink, Stream, WriteAnswer, WriteFault, write_all};
 pub use outside::{Outside, run, run_local};
 pub use status::Status;

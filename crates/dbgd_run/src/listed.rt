@@ -1,20 +1,18 @@
 //! A listed file: it is loaded, and its row is made.
 
-ghost use Rattle.std.specs.Prelude.{◌≡◌, ◌<◌, IfOk};
-ghost use Rattle.row_types.specs.Row.{too_large_row};
+ghost use Rattle.std.specs.Prelude.{◌≡◌, IfOk};
 ghost use Rattle.row_types.specs.declared.limits.TheConstants.{FILE_LIMIT};
 ghost use Rattle.tree_trait.specs.Asks.{Asks};
 ghost use Rattle.tree_trait.specs.Load.{LoadFacts, load_facts, loaded, FitsLoad, IsAskedFile};
 ghost use Rattle.dbgd_run.specs.Scan.{load_of};
 ghost use Rattle.dbgd_run.specs.ScanSteps.{LeadsTo};
 
-use crate::elf_truth::ElfTruth;
-use crate::reading::read_row;
 use crate::scan_end::ScanEnd;
+use elf_reading::{ElfReader, ElfTruth, large_row};
 use row_types::{FILE_LIMIT, Name, TrueRow};
 use scan_queue::Seen;
 use std::alloc::Global;
-use tree_trait::{Found, LoadAnswer, Tree};
+use tree_trait::{Found, LoadAnswer, Reader, Tree};
 
 /// Loads a listed file, and gives its row, or how the scan ends.
 pub fn load_row<W: ElfTruth, T: Tree<W>>(
@@ -73,22 +71,14 @@ fn found_row<W: ElfTruth>(
     ensures named { IfOk result (λ row. row.name ≡ name) }
 {
     if found.stamp == name.stamp {
-        Ok(read_row(alloc, name, found))
+        match ElfReader.read(alloc, name, found) {
+            Ok(row) => Ok(row),
+            Err(_) => Err(ScanEnd::OutOfMemory),
+        }
     } else {
         Err(ScanEnd::Altered {
             name,
             seen: Seen::File(found.stamp),
         })
-    }
-}
-
-/// The row of a listed file that is larger than a file that is read.
-fn large_row<W: ElfTruth>(name: Name) -> TrueRow<W>
-    requires { FILE_LIMIT < name.stamp.size }
-    ensures { result ≡ too_large_row name }
-{
-    match TrueRow::too_large(name) {
-        Ok(row) => row,
-        Err(_) => unreachable!(),
     }
 }

@@ -9,13 +9,14 @@ ghost use Rattle.dbgd_run.specs.Runs.{IsRun, Runs, usage_saying};
 ghost use Rattle.dbgd_run.specs.Scene.{scene, setting};
 ghost use Rattle.dbgd_run.specs.Words.{line_of};
 
-use crate::elf_truth::ElfTruth;
 use crate::ident::run_ident;
 use crate::scan::run_scan;
 use crate::section::run_section;
+use crate::sources::run_sources;
 use crate::speech::{say_error, say_not_built};
 use crate::status::Status;
 use crate::words::{Line, read_line};
+use elf_reading::ElfTruth;
 use http_wire::Sink;
 use index_keeper::Store;
 use std::alloc::Global;
@@ -67,6 +68,7 @@ fn run_line<W: ElfTruth, T: Tree<W>, S: Store<W>, O: Sink>(
     let err = &mut outside.err;
     match line {
         Line::Ident { path } => run_ident(alloc, path, &mut outside.hands[0], out, err),
+        Line::Sources { path } => run_sources(alloc, path, &mut outside.hands[0], out, err),
         Line::Section { path, name } => {
             run_section(alloc, path, name, &mut outside.hands[0], out, err)
         }

@@ -14,10 +14,10 @@ ghost use Rattle.dbgd_run.specs.ScanSaid.{is_hand_fault, is_store_fault};
 ghost use Rattle.dbgd_run.specs.ScanSteps.{DoesNext, EndsListed, FilesEnd, IsBegun, IsNew};
 ghost use Rattle.dbgd_run.specs.ScanSteps.{KeepsNext};
 
-use crate::elf_truth::ElfTruth;
 use crate::listed::load_row;
 use crate::scan_end::ScanEnd;
 use crate::summary::summary_of;
+use elf_reading::ElfTruth;
 use index_keeper::Keeper;
 use index_state::{Begun, Plan, Published, State};
 use row_types::{CanonPath, Name, TrueRow};

@@ -11,12 +11,12 @@ ghost use Rattle.dbgd_run.specs.ScanSaid.{is_hand_fault, is_store_fault};
 ghost use Rattle.dbgd_run.specs.ScanSteps.{EndsUnlisted, IsNew, KeepsFiles, TearsFiles};
 ghost use Rattle.dbgd_run.specs.Scene.{scene, setting};
 
-use crate::elf_truth::ElfTruth;
 use crate::pass::scan_listing;
 use crate::roots::Roots;
 use crate::scan_end::ScanEnd;
 use crate::scan_sayings::say_end;
 use crate::status::Status;
+use elf_reading::ElfTruth;
 use http_wire::Sink;
 use index_keeper::{Keeper, Store, StoreAnswer};
 use index_state::{OpenFault, State, open_state};

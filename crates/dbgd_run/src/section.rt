@@ -6,26 +6,17 @@ ghost use Rattle.file_formats.specs.Identity.{Identity, IsIdentity};
 ghost use Rattle.file_formats.specs.Table.{IsSectionAnswer};
 ghost use Rattle.file_formats.specs.declared.fault.Why.{Why};
 ghost use Rattle.tree_trait.specs.Load.{load_facts};
-ghost use Rattle.dbgd_run.specs.Endings.{EndsWhole, streams};
+ghost use Rattle.dbgd_run.specs.Endings.{streams};
 ghost use Rattle.dbgd_run.specs.File.{RunsOn};
-ghost use Rattle.dbgd_run.specs.Section.{SaysBytes, SaysNamed, SaysSection, plain_fault_saying};
+ghost use Rattle.dbgd_run.specs.Section.{SaysBytes, SaysNamed, SaysSection};
 
-use crate::speech::{say, say_error, say_fault, say_gone, say_no_memory};
+use crate::speech::{say, say_error, say_fault, say_gone, say_no_memory, say_plain};
 use crate::status::Status;
-use crate::texts::why_word;
 use elf_classify::{ident, section_of};
 use http_wire::Sink;
 use row_types::{FILE_LIMIT, Truth, Why};
 use std::alloc::Global;
 use tree_trait::{LoadAnswer, Tree};
-
-/// Says why a file has no identity.
-fn say_plain<O: Sink>(why: Why, out: &mut O, err: &mut O) -> Status
-    ensures { EndsWhole (plain_fault_saying why)
-        (streams O.shows out.old err.old) (streams O.shows out.new err.new) result }
-{
-    say_error("dbgd: plain ", why_word(why), Status::Absent, out, err)
-}
 
 /// Says a section's bytes as they stand, or that there is none.
 fn say_bytes<O: Sink>(section: Option<&[u8]>, out: &mut O, err: &mut O) -> Status

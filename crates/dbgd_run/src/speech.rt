@@ -5,10 +5,13 @@ ghost use Rattle.http_wire.specs.Sink.{GetsAll, GetsPart};
 ghost use Rattle.dbgd_run.specs.Endings.{Ends, EndsWhole, Gets, WantsMemory};
 ghost use Rattle.dbgd_run.specs.Endings.{error_saying, fault_saying, gone_saying, limit_saying};
 ghost use Rattle.dbgd_run.specs.Endings.{not_built_saying, out_saying, streams};
+ghost use Rattle.dbgd_run.specs.Section.{plain_fault_saying};
 ghost use Rattle.dbgd_run.specs.Texts.{line};
 
 use crate::status::Status;
+use crate::texts::why_word;
 use http_wire::{Sink, WriteFault, write_all};
+use row_types::Why;
 
 /// Writes two pieces, one after the other.
 #[tactic(auto, using(http_wire::proofs::Pieces::in_a_row))]
@@ -108,4 +111,12 @@ pub fn say_not_built<O: Sink>(out: &mut O, err: &mut O) -> Status
         (streams O.shows out.old err.old) (streams O.shows out.new err.new) result }
 {
     say_error("dbgd: not built yet", "", Status::NotBuilt, out, err)
+}
+
+/// Says why a file has no identity, on the standard error.
+pub fn say_plain<O: Sink>(why: Why, out: &mut O, err: &mut O) -> Status
+    ensures { EndsWhole (plain_fault_saying why)
+        (streams O.shows out.old err.old) (streams O.shows out.new err.new) result }
+{
+    say_error("dbgd: plain ", why_word(why), Status::Absent, out, err)
 }

@@ -3,7 +3,7 @@
 ghost use Rattle.std.specs.Prelude.{◌≡◌, count_by};
 ghost use Rattle.dbgd_run.specs.Numbers.{is_of, summary_of};
 
-use crate::elf_truth::ElfTruth;
+use elf_reading::ElfTruth;
 use index_keeper::Keeper;
 use index_state::{Plan, State};
 use row_types::{Kind, Reading};

@@ -1,5 +1,6 @@
 //! The sample world.
 
+use elf_reading::ElfTruth;
 use row_types::Truth;
 
 /// The told world in which the samples are the files, and no other file has a content. A row is
@@ -27,4 +28,10 @@ impl Truth for SampleWorld {
     ghost one_row = { λ _. one_true_row };
 
     ghost of_edition = { λ _ h. h.edition };
+}
+
+impl ElfTruth for SampleWorld {
+    ghost read_rows = { λ _ h. h };
+
+    ghost only_read = { λ _ _ h. h };
 }

@@ -1,14 +1,16 @@
-//! What `ident` and `section` say of a file.
+//! What `ident`, `sources` and `section` say of a file.
 
 use crate::tests::hands::File::{
-    BigEndian, Both, Companion, Cut, EightAligned, Empty, Executable, Extended, LongestId,
-    SecondId, TooLongId, TwoIds,
+    BigEndian, Both, Companion, Cut, DwarfFive, EarlyEnd, EightAligned, Empty, Executable, Extended,
+    LongestId, ManyDirectories, SecondId, TooLongId, TwoIds,
 };
 use crate::tests::hands::Files::One;
 use crate::tests::rig::{Case, Plan, Run, SOUND, run_cases};
 use std::test::Fail;
 
 const IDENT: &[&str] = &["ident", "/w/a"];
+
+const SOURCES: &[&str] = &["sources", "/w/a"];
 
 const SECTION: &[&str] = &["section", "/w/a", ".text"];
 
@@ -122,6 +124,46 @@ fn a_section_is_written_as_it_stands(rt: HostRuntime) -> Result<(), Fail> {
     run_cases(&rt, rt.alloc(), &SECTIONS)
 }
 
+/// The paths that the sample's line table lists.
+const PATHS: &[u8] = b"/w/src/inc/util.h\n/w/src/main.c\n";
+
+/// Files, with the source paths that they name: of a line table that can't be read none, and none of
+/// a file without debug information.
+static PATHS_OF: [Case; 7] = [
+    Case(One(DwarfFive), &[], SOUND, &[Run(SOURCES, PATHS, "", 0)]),
+    Case(
+        One(ManyDirectories),
+        &[],
+        SOUND,
+        &[Run(SOURCES, b"", "", 0)],
+    ),
+    Case(One(EarlyEnd), &[], SOUND, &[Run(SOURCES, b"", "", 0)]),
+    Case(One(Executable), &[], SOUND, &[Run(SOURCES, b"", "", 0)]),
+    Case(
+        One(Empty),
+        &[],
+        SOUND,
+        &[Run(SOURCES, b"", "dbgd: plain not-elf\n", 3)],
+    ),
+    Case(
+        One(Cut),
+        &[],
+        SOUND,
+        &[Run(SOURCES, b"", "dbgd: plain bad-elf\n", 3)],
+    ),
+    Case(
+        One(TooLongId),
+        &[],
+        SOUND,
+        &[Run(SOURCES, b"", "dbgd: plain no-build-id\n", 3)],
+    ),
+];
+
+#[test]
+fn the_source_paths_are_printed(rt: HostRuntime) -> Result<(), Fail> {
+    run_cases(&rt, rt.alloc(), &PATHS_OF)
+}
+
 /// The plans in which a sink fails, or takes three bytes at a time.
 const BAD_OUT: Plan = Plan {
     bad_out: &[0],
@@ -152,7 +194,7 @@ const FILE_FAULT: &str = "dbgd: fault file\n";
 const OUTPUT_FAULT: &str = "dbgd: fault output\n";
 
 /// What is gone, and what fails.
-static MISHAPS: [Case; 10] = [
+static MISHAPS: [Case; 14] = [
     Case(
         One(Both),
         &[],
@@ -164,6 +206,25 @@ static MISHAPS: [Case; 10] = [
         &[],
         SOUND,
         &[Run(&["section", "/b", ".text"], b"", "dbgd: gone /b\n", 3)],
+    ),
+    Case(
+        One(Both),
+        &[],
+        SOUND,
+        &[Run(&["sources", "/w/a/"], b"", "dbgd: gone /w/a/\n", 3)],
+    ),
+    Case(One(Both), &[0], SOUND, &[Run(SOURCES, b"", FILE_FAULT, 1)]),
+    Case(
+        One(DwarfFive),
+        &[],
+        BAD_OUT,
+        &[Run(SOURCES, b"", OUTPUT_FAULT, 1)],
+    ),
+    Case(
+        One(DwarfFive),
+        &[],
+        NARROW_CUT,
+        &[Run(SOURCES, b"/w/src/inc/u", OUTPUT_FAULT, 1)],
     ),
     Case(One(Both), &[0], SOUND, &[Run(IDENT, b"", FILE_FAULT, 1)]),
     Case(One(Both), &[0], SOUND, &[Run(SECTION, b"", FILE_FAULT, 1)]),

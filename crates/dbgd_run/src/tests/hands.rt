@@ -5,8 +5,8 @@ ghost use Rattle.tree_trait.specs.Script.{is_stage};
 
 use row_types::{OpenWorld, Stamp};
 use sample_files::{
-    ID_A, ID_B, big_endian_debug, both_classes, chosen_ids, debug_companion, eight_aligned_notes,
-    executable, extended_counts,
+    ID_A, ID_B, big_endian_debug, both_classes, chosen_ids, debug_companion, dwarf_five,
+    eight_aligned_notes, executable, extended_counts,
 };
 use std::alloc::{AllocError, Global};
 use std::test::Fail;
@@ -28,6 +28,12 @@ pub enum File {
     Extended,
     Executable,
     Companion,
+    /// Debug information of DWARF 5.
+    DwarfFive,
+    /// The same with a line table of 2 to the power of 63 directories.
+    ManyDirectories,
+    /// The same with a line table whose header ends a byte early.
+    EarlyEnd,
 }
 
 /// The files of a hand of the open world.
@@ -53,7 +59,20 @@ fn bytes_of(alloc: Global, file: &File) -> Result<Vec<u8>, AllocError> {
         File::Extended => extended_counts(alloc),
         File::Executable => executable(alloc),
         File::Companion => debug_companion(alloc),
+        File::DwarfFive => dwarf_five(alloc),
+        File::ManyDirectories => changed(alloc, 177, b"\0\x80\x80\x80\x80\x80\x80\x80\x80\x80\x01"),
+        File::EarlyEnd => changed(alloc, 155, b"\x38"),
     }
+}
+
+/// The sample with DWARF 5, with other bytes at a place. Its section .debug_line begins at 147.
+fn changed(alloc: Global, place: usize, bytes: &[u8]) -> Result<Vec<u8>, AllocError> {
+    let file = dwarf_five(alloc)?;
+    let mut other = Vec::new(alloc);
+    other.extend_from_slice(file.get(..place).unwrap_or(&[]))?;
+    other.extend_from_slice(bytes)?;
+    other.extend_from_slice(file.get(other.len()..).unwrap_or(&[]))?;
+    Ok(other)
 }
 
 /// 51 bytes that begin as a 32-bit header, which has 52.

@@ -3,9 +3,9 @@
 
 ghost use Rattle.std.specs.Prelude.{◌<◌};
 
-use crate::elf_truth::ElfTruth;
 use crate::outside::{Outside, run};
 use crate::tests::hands::{Files, hand_of};
+use elf_reading::ElfTruth;
 use http_wire::{MemSink, Sink, Stream, WriteAnswer};
 use index_keeper::MemStore;
 use std::alloc::Global;

@@ -8,6 +8,11 @@ const SCAN: &[&str] = &["scan", "-d", "m", "/srv"];
 
 const NOWHERE: &[&str] = &["scan", "-d", "m", "/none"];
 
+/// The same folders in other words.
+const LONG_WAY: &[&str] = &["scan", "-d", "m", "//srv/./b/..", "/../srv/"];
+
+const LONG_WAY_NOWHERE: &[&str] = &["scan", "-d", "m", "/srv/../none/."];
+
 /// The line of a scan of the two files.
 const TWO: &[u8] =
     b"scan: 2 files, 2 added, 0 replaced, 0 dropped, 0 kept, 1 executables, 1 debuginfo\n";
@@ -35,9 +40,11 @@ const NARROW_CUT: Plan = Plan {
 
 /// Scans of two files. Two looks at the files follow the call of number 1, which reads the folder,
 /// and then comes the first load.
-static TWO_FILES: [Case; 7] = [
+static TWO_FILES: [Case; 9] = [
     Case(Two, &[], SOUND, &[Run(SCAN, TWO, "", 0)]),
     Case(Two, &[], SOUND, &[Run(NOWHERE, b"", GONE, 3)]),
+    Case(Two, &[], SOUND, &[Run(LONG_WAY, TWO, "", 0)]),
+    Case(Two, &[], SOUND, &[Run(LONG_WAY_NOWHERE, b"", GONE, 3)]),
     Case(Two, &[1], SOUND, &[Run(SCAN, b"", FOLDER_FAULT, 1)]),
     Case(Two, &[4], SOUND, &[Run(SCAN, b"", FILE_FAULT, 1)]),
     Case(Two, &[], BAD_OUT, &[Run(SCAN, b"", OUTPUT_FAULT, 1)]),

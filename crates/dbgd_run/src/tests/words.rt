@@ -11,7 +11,7 @@ const USAGE: &str = "usage: dbgd ident FILE, sources FILE, section FILE NAME, qu
     scan -d DB DIR, serve -d DB DIR, trial SEED FILES WORKERS\n";
 
 /// Lines that can't be read.
-static UNREADABLE: [&[&str]; 11] = [
+static UNREADABLE: [&[&str]; 17] = [
     &[],
     &[""],
     &["frobnicate"],
@@ -20,16 +20,20 @@ static UNREADABLE: [&[&str]; 11] = [
     &["find", "/w/a"],
     &["ident"],
     &["ident", "/w/a", "/w/a"],
+    &["sources"],
+    &["sources", "/w/a", "/w/a"],
     &["section", "/w/a"],
     &["section", "/w/a", ".text", ".text"],
     &["scan"],
+    &["scan", "-d", "m", "w"],
+    &["scan", "-d", "m", ""],
+    &["scan", "-d", "m", "/w", "./w"],
+    &["scan", "-d", "m", "../w", "/w"],
 ];
 
 /// Lines of commands, or of words of a scan, that aren't built yet. A later command isn't, whatever
-/// follows.
-static UNBUILT: [&[&str]; 17] = [
-    &["sources"],
-    &["sources", "--help", ""],
+/// follows, nor a scan with a word behind the store that begins with `-`.
+static UNBUILT: [&[&str]; 13] = [
     &["query"],
     &["query", "--help", ""],
     &["serve"],
@@ -41,9 +45,7 @@ static UNBUILT: [&[&str]; 17] = [
     &["scan", "/w"],
     &["scan", "--help"],
     &["scan", "-d", "m", "-c", "2", "/w"],
-    &["scan", "-d", "m", "w"],
-    &["scan", "-d", "m", "/w/"],
-    &["scan", "-d", "m", "/w", "/w/../v"],
+    &["scan", "-d", "m", "w", "-c"],
     &["scan", "--database", "m", "/w"],
 ];
 
@@ -66,6 +68,22 @@ fn each_says(
 fn words_that_ask_nothing_give_their_line(rt: HostRuntime) -> Result<(), Fail> {
     each_says(&rt, rt.alloc(), &UNREADABLE, USAGE, 2)?;
     each_says(&rt, rt.alloc(), &UNBUILT, "dbgd: not built yet\n", 8)
+}
+
+// 4096 bytes are the most that a folder's word may have. The longer one ends with the usage, the other
+// is walked, and nothing is there.
+#[test]
+fn a_folder_has_at_most_4096_bytes(rt: HostRuntime) -> Result<(), Fail> {
+    let alloc = rt.alloc();
+    let mut long = String::from_str(alloc, "/none")?;
+    for _ in 0..4091 {
+        long.push('/')?;
+    }
+    let gone = [Run(&["scan", "-d", "m", long.as_str()], b"", "dbgd: gone /none\n", 3)];
+    run_all(&rt, alloc, hand_of(alloc, &Files::One(File::Empty), &[])?, &SOUND, &gone)?;
+    long.push('/')?;
+    let refused = [Run(&["scan", "-d", "m", long.as_str()], b"", USAGE, 2)];
+    run_all(&rt, alloc, hand_of(alloc, &Files::One(File::Empty), &[])?, &SOUND, &refused)
 }
 
 #[test]

@@ -8,6 +8,8 @@ use tree_trait::MemTree;
 
 const IDENT: &[&str] = &["ident", "/w/a"];
 
+const SOURCES: &[&str] = &["sources", "/w/a"];
+
 const SCAN: &[&str] = &["scan", "-d", "m", "/srv"];
 
 /// The line of a scan of one file.
@@ -15,7 +17,7 @@ const ONE: &[u8] =
     b"scan: 1 files, 1 added, 0 replaced, 0 dropped, 0 kept, 0 executables, 0 debuginfo\n";
 
 /// Runs over the reference tree. `/srv/bin/tool` has code of one byte.
-static REFERENCE: [Run; 5] = [
+static REFERENCE: [Run; 6] = [
     Run(
         &["ident", "/srv/debug/ppc.debug"],
         b"a0a1a2a3a4a5a6a7 debuginfo\n",
@@ -47,6 +49,14 @@ static REFERENCE: [Run; 5] = [
         "dbgd: plain not-elf\n",
         0,
     ),
+    Run(
+        &["sources", "/srv/bin/prog"],
+        b"a0a1a2a3a4a5a6a7 debuginfo\nplain not-elf\n\xc3scan: 12 files, 12 added, \
+            0 replaced, 0 dropped, 0 kept, 4 executables, 4 debuginfo\n\
+            /w/src/inc/util.h\n/w/src/main.c\n",
+        "dbgd: plain not-elf\n",
+        0,
+    ),
 ];
 
 const ALTERED: &str = "dbgd: altered /srv/a listed 6:100:000000000 seen 7:101:000000000\n";
@@ -66,7 +76,7 @@ fn the_sample_world_is_read_and_scanned(rt: HostRuntime) -> Result<(), Fail> {
 }
 
 /// What is said of the file of one byte, in a told world.
-static BYTE: [Run; 2] = [
+static BYTE: [Run; 3] = [
     Run(IDENT, b"plain not-elf\n", "", 3),
     Run(
         &["scan", "-d", "m", "/w"],
@@ -75,10 +85,17 @@ static BYTE: [Run; 2] = [
         "",
         0,
     ),
+    Run(
+        SOURCES,
+        b"plain not-elf\nscan: 1 files, 1 added, 0 replaced, 0 dropped, 0 kept, \
+            0 executables, 0 debuginfo\n",
+        "dbgd: plain not-elf\n",
+        3,
+    ),
 ];
 
 /// What is said of a file above the size limit.
-static LARGE: [Run; 2] = [
+static LARGE: [Run; 3] = [
     Run(IDENT, b"plain too-large\n", "", 3),
     Run(
         &["scan", "-d", "m", "/large"],
@@ -87,12 +104,25 @@ static LARGE: [Run; 2] = [
         "",
         0,
     ),
+    Run(
+        SOURCES,
+        b"plain too-large\nscan: 1 files, 1 added, 0 replaced, 0 dropped, 0 kept, \
+            0 executables, 0 debuginfo\n",
+        "dbgd: plain too-large\n",
+        3,
+    ),
 ];
 
 /// What is said where there is no memory for any file.
-static WANTS: [Run; 2] = [
+static WANTS: [Run; 3] = [
     Run(IDENT, b"", "dbgd: out of memory\n", 6),
     Run(SCAN, b"", "dbgd: out of memory\ndbgd: out of memory\n", 6),
+    Run(
+        SOURCES,
+        b"",
+        "dbgd: out of memory\ndbgd: out of memory\ndbgd: out of memory\n",
+        6,
+    ),
 ];
 
 #[test]

@@ -1,0 +1,3 @@
+pub use Rattle.row_types.specs.Reading
+pub use Rattle.row_types.specs.Sources
+pub use Rattle.tree_trait.specs.Reader

@@ -1,0 +1,74 @@
+//! The reader of ELF files.
+
+ghost use Rattle.std.specs.Prelude.{◌≡◌, ◌≤◌, ◌<◌, IfOk};
+ghost use Rattle.row_types.specs.Reading.{ReadsBytes};
+ghost use Rattle.row_types.specs.Row.{too_large_row};
+ghost use Rattle.tree_trait.specs.Found.{found_name};
+ghost use Rattle.tree_trait.specs.Reader.{IsRowOf};
+
+use crate::elf_truth::ElfTruth;
+use crate::sources::file_sources;
+use elf_classify::ident;
+use row_types::{EDITION, FILE_LIMIT, Name, Reading, Row, TrueRow, Truth};
+use std::alloc::{AllocError, Global};
+use tree_trait::{Found, Reader};
+
+/// Makes the row of a file by its identity and the source paths that its DWARF 5 names.
+#[derive(Clone, Copy, Debug)]
+pub struct ElfReader;
+
+impl<W: ElfTruth> Reader<W> for ElfReader {
+    #[tactic(auto, using(crate::proofs::ReadLemmas::large_is_read))]
+    fn read(
+        &self,
+        alloc: Global,
+        name: Name,
+        found: &Found<W>,
+    ) -> Result<TrueRow<W>, AllocError> {
+        if name.stamp.size > FILE_LIMIT {
+            Ok(large_row(name))
+        } else {
+            small_row(alloc, name, found)
+        }
+    }
+}
+
+/// The row of a file above 1 GiB, whatever its bytes. No memory is taken.
+pub fn large_row<W: Truth>(name: Name) -> TrueRow<W>
+    requires { FILE_LIMIT < name.stamp.size }
+    ensures { result ≡ too_large_row name }
+{
+    match TrueRow::too_large(name) {
+        Ok(row) => row,
+        Err(_) => unreachable!(),
+    }
+}
+
+/// The row of a file of at most 1 GiB that was found under its name.
+#[tactic(auto, using(crate::proofs::ReadLemmas::rows_read))]
+fn small_row<W: ElfTruth>(
+    alloc: Global,
+    name: Name,
+    found: &Found<W>,
+) -> Result<TrueRow<W>, AllocError>
+    requires found { found_name found.now ≡ name }
+    requires small { name.stamp.size ≤ FILE_LIMIT }
+    ensures { IfOk result (IsRowOf name found.now.bytes) }
+{
+    found.is_version();
+    let reading = reading_of(alloc, found.bytes.as_slice())?;
+    Ok(TrueRow::new(Row::new(name, EDITION, reading)))
+}
+
+/// What bytes are found to be.
+fn reading_of(alloc: Global, bytes: &[u8]) -> Result<Reading, AllocError>
+    ensures { IfOk result (ReadsBytes bytes.now) }
+{
+    Ok(match ident(bytes) {
+        Ok(ident) => Reading::Elf {
+            ident,
+            sources: file_sources(alloc, bytes)?,
+        },
+        Err(why) => Reading::Plain(why),
+    })
+}
