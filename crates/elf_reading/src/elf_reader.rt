@@ -19,12 +19,7 @@ pub struct ElfReader;
 
 impl<W: ElfTruth> Reader<W> for ElfReader {
     #[tactic(auto, using(crate::proofs::ReadLemmas::large_is_read))]
-    fn read(
-        &self,
-        alloc: Global,
-        name: Name,
-        found: &Found<W>,
-    ) -> Result<TrueRow<W>, AllocError> {
+    fn read(&self, alloc: Global, name: Name, found: &Found<W>) -> Result<TrueRow<W>, AllocError> {
         if name.stamp.size > FILE_LIMIT {
             Ok(large_row(name))
         } else {

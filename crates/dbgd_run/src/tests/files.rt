@@ -1,8 +1,8 @@
 //! What `ident`, `sources` and `section` say of a file.
 
 use crate::tests::hands::File::{
-    BigEndian, Both, Companion, Cut, DwarfFive, EarlyEnd, EightAligned, Empty, Executable, Extended,
-    LongestId, ManyDirectories, SecondId, TooLongId, TwoIds,
+    BigEndian, Both, Companion, Cut, DwarfFive, EarlyEnd, EightAligned, Empty, Executable,
+    Extended, LongestId, ManyDirectories, SecondId, TooLongId, TwoIds,
 };
 use crate::tests::hands::Files::One;
 use crate::tests::rig::{Case, Plan, Run, SOUND, run_cases};

@@ -79,11 +79,28 @@ fn a_folder_has_at_most_4096_bytes(rt: HostRuntime) -> Result<(), Fail> {
     for _ in 0..4091 {
         long.push('/')?;
     }
-    let gone = [Run(&["scan", "-d", "m", long.as_str()], b"", "dbgd: gone /none\n", 3)];
-    run_all(&rt, alloc, hand_of(alloc, &Files::One(File::Empty), &[])?, &SOUND, &gone)?;
+    let gone = [Run(
+        &["scan", "-d", "m", long.as_str()],
+        b"",
+        "dbgd: gone /none\n",
+        3,
+    )];
+    run_all(
+        &rt,
+        alloc,
+        hand_of(alloc, &Files::One(File::Empty), &[])?,
+        &SOUND,
+        &gone,
+    )?;
     long.push('/')?;
     let refused = [Run(&["scan", "-d", "m", long.as_str()], b"", USAGE, 2)];
-    run_all(&rt, alloc, hand_of(alloc, &Files::One(File::Empty), &[])?, &SOUND, &refused)
+    run_all(
+        &rt,
+        alloc,
+        hand_of(alloc, &Files::One(File::Empty), &[])?,
+        &SOUND,
+        &refused,
+    )
 }
 
 #[test]
