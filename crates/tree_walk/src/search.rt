@@ -2,7 +2,7 @@
 
 ghost use Rattle.std.specs.Prelude.{◌≡◌, ◌≤◌, ◌<◌, ◌↔◌, [], map, length, IsTrue};
 ghost use Rattle.std.specs.Prelude.{OnOk, IfOk, IfErr, MatchOption};
-ghost use Rattle.std.specs.Bool.{OnTrue};
+ghost use Rattle.std.specs.Bool.{OnFalse, OnTrue};
 ghost use Rattle.std.specs.Cmp.Lexicographic.{slice_cmp};
 ghost use Rattle.std.specs.List.Sorted.{IsStrictlySortedBy};
 ghost use Rattle.std.specs.Map.{keys_of};
@@ -167,6 +167,7 @@ impl Search {
     pub fn pay(&mut self, entries: &[Entry], skipped: u64) -> bool
         ensures room { IsTrue result ↔ (length entries.now ≤ self.old.left) }
         ensures value { OnTrue result (self.new ≡ paid self.old (length entries.now) skipped) }
+        ensures same { OnFalse result (self.new ≡ self.old) }
     {
         match self.left.checked_sub(entries.len() as u64) {
             Some(left) => {
