@@ -94,10 +94,17 @@ fn the_row_of_the_sample_has_its_identity_and_its_sources(rt: HostRuntime) -> Re
 #[test]
 fn the_row_of_a_told_file_is_read(rt: HostRuntime) -> Result<(), Fail> {
     let alloc = rt.alloc();
-    let name = name_of(alloc, 1)?;
+    let stamp = Stamp {
+        size: 1,
+        secs: 1,
+        nanos: 0,
+    };
     let path = String::from_str(alloc, "/w/a")?;
-    let found: Found<TwoWorld> = Found::new(path, name.stamp, vec![in alloc; b'x']?);
-    let row = ElfReader.read(alloc, name, &found)?;
+    let found: Found<TwoWorld> = Found::new(path, stamp, vec![in alloc; b'x']?);
+    let Ok(path) = CanonPath::check(String::from_str(alloc, found.path.as_str())?) else {
+        return Err("a path".into());
+    };
+    let row = ElfReader.read(alloc, Name { path, stamp }, &found)?;
     assert!(rt; matches!(&row.row().reading, Reading::Plain(Why::NotElf)));
     Ok(())
 }
