@@ -13,7 +13,7 @@ use Rattle.hex.specs.Hex.{IsBytes, encode_lower, is_hex_digit, lower_digits}
 use Rattle.hex.proofs.HexLemmas.{IsAscii-encode_with, decode_of-encode_lower, decode_of-ok, length-encode_with}
 use Rattle.percent_encoding.specs.Percent.{percent_decode, percent_encode}
 use Rattle.percent_encoding.proofs.PercentLemmas.{round_trip}
-use Rattle.path_canon.specs.Absolute.{is_absolute}
+use Rattle.row_types.specs.Absolute.{is_absolute}
 use Rattle.row_types.specs.BuildId.{IsIdLength, IsIdText}
 use Rattle.row_types.specs.Canon.{IsCanonical, keep, path_of as joined_path, pieces}
 use Rattle.row_types.specs.declared.limits.TheConstants.{SEPARATOR}

@@ -1,6 +1,6 @@
 pub use Rattle.row_types.specs.BuildId
 pub use Rattle.row_types.specs.Canon
-pub use Rattle.path_canon.specs.Absolute
+pub use Rattle.row_types.specs.Absolute
 pub use Rattle.hex.specs.Hex
 pub use Rattle.percent_encoding.specs.Percent
 pub mod Parts

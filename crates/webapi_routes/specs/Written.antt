@@ -1,7 +1,7 @@
 -- How the text of a route's path is written (this project's rule): `/buildid/`, the text of an id, a slash, and what is asked of
 -- the id.
 use Rattle.std.specs.Prelude.{◌≡◌, ◌≢◌, ℕ, ◌<◌, true, All, List, ◌∷◌, ◌++◌, codes, length}
-use Rattle.path_canon.specs.Absolute.{is_absolute}
+use Rattle.row_types.specs.Absolute.{is_absolute}
 use Rattle.row_types.specs.declared.limits.TheConstants.{SEPARATOR}
 
 -- what is asked of an id: a file of a class, a source file, or a section

@@ -1,7 +1,7 @@
 //! What a target asks for.
 
 ghost use Rattle.std.specs.Prelude.{◌≡◌, true, Result, IfOk};
-ghost use Rattle.path_canon.specs.Absolute.{is_absolute};
+ghost use Rattle.row_types.specs.Absolute.{is_absolute};
 ghost use Rattle.row_types.specs.Limits.{ArePinnedIdLengths, ArePinnedPathLimits};
 ghost use Rattle.webapi_routes.specs.Targets.{IsSaidBy, PathSays, TargetSays, TextSays};
 ghost use Rattle.webapi_routes.specs.Targets.{UnlessMemory};

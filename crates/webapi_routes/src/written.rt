@@ -1,7 +1,7 @@
 //! The parts that the text of a route's path is written from.
 
 ghost use Rattle.std.specs.Prelude.{◌≡◌, List, ℕ, true, MatchOption};
-ghost use Rattle.path_canon.specs.Absolute.{is_absolute};
+ghost use Rattle.row_types.specs.Absolute.{is_absolute};
 ghost use Rattle.webapi_routes.specs.Targets.{IsNoRoute};
 ghost use Rattle.webapi_routes.specs.Parts.{seen};
 ghost use Rattle.webapi_routes.specs.Written.{IsWantedText, IsWritten, Wanted, section, source};
