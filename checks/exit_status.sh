@@ -28,13 +28,14 @@ judge() { # WANTED STATUS OUT ERR WHAT
 }
 
 # Words that can't be read, and commands that aren't built yet.
-for words in '' 'frobnicate' '--help' 'ident' 'ident a b' 'section a' 'section a b c' 'scan'; do
+for words in '' 'frobnicate' '--help' 'ident' 'ident a b' 'sources' 'sources a b' 'section a' 'section a b c' 'scan' \
+  'scan -d m usr' 'scan -d m /usr usr'; do
   # shellcheck disable=SC2086
   ends 2 '' "$usage"$'\n' "$program" $words
 done
 ends 2 '' "$usage"$'\n' "$program" ident $'a\xffb'
 ends 2 '' "$usage"$'\n' "$program" $'ident\xff' a
-for words in 'sources a' 'query -d m 00ff' 'serve -d m /usr' 'trial 1 2 3' 'scan /usr' 'scan -d m usr' 'scan -d m /usr/'; do
+for words in 'query -d m 00ff' 'serve -d m /usr' 'trial 1 2 3' 'scan /usr' 'scan -d m' 'scan -d m /usr -c 2'; do
   # shellcheck disable=SC2086
   ends 8 '' $'dbgd: not built yet\n' "$program" $words
 done
@@ -49,10 +50,17 @@ ends 3 $'plain not-elf\n' '' "$program" ident "$work/text"
 ends 3 $'plain bad-elf\n' '' "$program" ident "$work/cut"
 ends 3 '' $'dbgd: plain not-elf\n' "$program" section "$work/text" .text
 ends 3 '' $'dbgd: no section\n' "$program" section "$elf" .none
+ends 0 $'/sample/start.c\n' '' "$program" sources "$elf"
+ends 3 '' $'dbgd: plain not-elf\n' "$program" sources "$work/text"
 for path in "$work/none" "$work" "$work/text/none" "$work/round" "$work/round/none" "$long" ''; do
   ends 3 '' "dbgd: gone $path"$'\n' "$program" ident "$path"
 done
+ends 3 '' "dbgd: gone $work/none"$'\n' "$program" sources "$work/none"
 ends 3 '' "dbgd: gone $work/none"$'\n' "$program" scan -d m "$work/none"
+mkdir "$work/one"
+printf 'text\n' >"$work/one/text"
+ends 0 $'scan: 1 files, 1 added, 0 replaced, 0 dropped, 0 kept, 0 executables, 0 debuginfo\n' '' \
+  "$program" scan -d m "$work/one/" "$work/.//one"
 
 # An output that takes nothing; where the standard error takes nothing either, the status says it all.
 if [ -c /dev/full ]; then
