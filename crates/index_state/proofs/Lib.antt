@@ -9,6 +9,12 @@ pub mod Lasting
 pub mod Listed
 pub mod LogSteps
 pub mod Members
+pub mod OpenLists
+pub mod Opened
+pub mod Sorted
+pub mod Sweeps
+pub mod OpenSteps
+pub mod OpenEnds
 pub mod Parts
 pub mod PassSteps
 pub mod Passed

@@ -4,6 +4,7 @@ pub use Rattle.row_types.specs.Name
 pub use Rattle.row_types.specs.Row
 pub use Rattle.row_types.specs.Stamp
 pub use Rattle.row_types.specs.Under
+pub use Rattle.row_codec.specs.Read
 pub use Rattle.row_codec.specs.RowBytes
 pub use Rattle.row_codec.specs.Spelled
 pub use Rattle.index_rows.specs.ByPath
@@ -23,6 +24,7 @@ pub mod Judge
 pub mod Kept
 pub mod Keeping
 pub mod Opening
+pub mod OpenParts
 pub mod Plan
 pub mod Removed
 pub mod Spare

@@ -8,18 +8,22 @@ mod away;
 mod begin;
 mod judge;
 mod look;
+mod open_fault;
 mod open_pass;
 mod opening;
 mod plan;
 mod publish;
+mod read;
 mod removed;
 mod spare;
 mod state;
 mod stored;
+mod sweep;
 #[cfg(test)]
 mod tests;
 
-pub use answer::{Begun, GroomTask, Judged, OpenFault, Plan, Published, Standing};
+pub use answer::{Begun, GroomTask, Judged, Plan, Published, Standing};
+pub use open_fault::OpenFault;
 pub use opening::open_state;
 pub use spare::{Opening, show_index};
 pub use state::State;

@@ -4,6 +4,7 @@ mod calls;
 mod helpers;
 mod judged;
 mod looks;
+mod opens;
 mod orders;
 mod passes;
 mod spared;
