@@ -1,5 +1,5 @@
 -- What comes of an opening, by its steps.
-use Rattle.std.proofs.Common.{◌≡◌, ◌⊎◌, inl, inr, ℕ, suc, ◌<◌, ◌≤◌, Bool, true, false, List, [], ◌∷◌, ◌++◌, length, take, drop, Option, refl, sym, ◌∙◌, ap, subst, arith, slice_index_or}
+use Rattle.std.proofs.Common.{◌≡◌, ℕ, suc, ◌<◌, ◌≤◌, Bool, true, false, List, [], ◌∷◌, ◌++◌, length, take, drop, Option, sym, ◌∙◌, ap, subst, arith, slice_index_or}
 use Rattle.std.specs.List.{All}
 use Rattle.std.specs.Prelude.{Result, Ok, Err, IsTrue, OnOk}
 use Rattle.std.specs.Result.{is_err}
@@ -20,7 +20,7 @@ use Rattle.index_keeper.specs.Tables.{AscendsByPath, KeptFacts}
 use Rattle.index_keeper.specs.declared.answer.KeepAnswer.{KeepAnswer}
 use Rattle.index_state.specs.Kept.{IsInStore, kept_of, tables_of}
 use Rattle.index_state.specs.OpenParts.{CannotRead, HasSorted, HoldsOrOver, HoldsRows, IsCleared, IsHeld, IsOfOpening, IsRowOf, SaysBad, StopsAtPath}
-use Rattle.index_state.specs.Opening.{CanOpen, IsBad, IsFirstBad, IsOverfull, IsSwept, OpensOn, StopsSweeping, current, is_current, opened_on, puts_of}
+use Rattle.index_state.specs.Opening.{CanOpen, IsBad, IsOverfull, IsSwept, OpensOn, StopsSweeping, current, is_current, opened_on, puts_of}
 use Rattle.index_state.specs.State.{StateFacts}
 use Rattle.index_state.specs.declared.open_fault.OpenFault.{OpenFault}
 use Rattle.index_state.specs.declared.open_fault.OpenFault.TheVariants.{KeeperFault, BadRow, LogFull, OutOfMemory}

@@ -1,5 +1,5 @@
 -- The removal of what is kept under paths, one after the other, and of the rows of other editions.
-use Rattle.std.proofs.Common.{◌≡◌, ◌⊎◌, inl, inr, ℕ, suc, ◌<◌, Bool, true, false, List, [], ◌∷◌, ◌++◌, length, map, take, drop, Option, Some, None, refl, sym, ◌∙◌, ap, subst, arith, append_assoc, slice_index_or}
+use Rattle.std.proofs.Common.{◌≡◌, ℕ, suc, ◌<◌, Bool, List, [], ◌∷◌, ◌++◌, length, map, take, drop, Option, Some, None, refl, sym, ◌∙◌, ap, subst, append_assoc, slice_index_or}
 use Rattle.std.specs.List.{fold}
 use Rattle.std.specs.Option.{option_map}
 use Rattle.std.specs.Prelude.{IsTrue}
@@ -15,8 +15,8 @@ use Rattle.index_keeper.specs.Tables.{EditFacts, KeptFacts, removal_of}
 use Rattle.index_keeper.specs.declared.answer.KeepAnswer.{KeepAnswer}
 use Rattle.index_keeper.specs.declared.answer.KeepAnswer.TheVariants.{Done}
 use Rattle.index_state.specs.Kept.{tables_of}
-use Rattle.index_state.specs.OpenParts.{IsCleared, IsHeld, StopsAtPath, without_path}
-use Rattle.index_state.specs.Opening.{CanOpen, IsSwept, StopsAt, current, made_swept, stray_paths}
+use Rattle.index_state.specs.OpenParts.{IsCleared, StopsAtPath, without_path}
+use Rattle.index_state.specs.Opening.{CanOpen, IsSwept, StopsAt, stray_paths}
 use Rattle.index_state.proofs.OpenLists.{IsNextStray, next_stray, swept_tables}
 
 made_none : (made : Option (List EditFacts)) → made ≡ option_map (λ edits. edits ++ []) made

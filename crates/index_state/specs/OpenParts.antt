@@ -10,7 +10,7 @@ use Rattle.index_rows.specs.declared.rows.TheConstants.{LOG_LIMIT}
 use Rattle.scan_queue.specs.Names.{is_in}
 use Rattle.index_keeper.specs.Answers.{for_change}
 use Rattle.index_keeper.specs.Keeper.{Asks, IsSettled, ShownKeeper}
-use Rattle.index_keeper.specs.Tables.{EditFacts, KeptFacts, edited, removal_of}
+use Rattle.index_keeper.specs.Tables.{KeptFacts, edited, removal_of}
 use Rattle.index_keeper.specs.declared.answer.KeepAnswer.{KeepAnswer}
 use Rattle.index_keeper.specs.declared.answer.KeepAnswer.TheVariants.{Done}
 use Rattle.index_state.specs.Changes.{EachChanges}

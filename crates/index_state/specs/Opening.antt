@@ -21,7 +21,7 @@ use Rattle.index_keeper.specs.declared.answer.KeepAnswer.{KeepAnswer}
 use Rattle.index_keeper.specs.declared.answer.KeepAnswer.TheVariants.{Failed as RemoveFailed, OutOfMemory as RemoveNoMemory}
 use Rattle.index_keeper.specs.declared.answer.KeptAnswer.{KeptAnswer}
 use Rattle.index_keeper.specs.declared.answer.KeptAnswer.TheVariants.{Failed as RowsFailed, OutOfMemory as RowsNoMemory}
-use Rattle.index_state.specs.Kept.{IsInStore, kept_of, tables_of}
+use Rattle.index_state.specs.Kept.{IsInStore, tables_of}
 use Rattle.index_state.specs.State.{StateFacts}
 use Rattle.index_state.specs.declared.open_fault.OpenFault.{OpenFault}
 use Rattle.index_state.specs.declared.open_fault.OpenFault.TheVariants.{KeeperFault, BadRow, LogFull, OutOfMemory}
