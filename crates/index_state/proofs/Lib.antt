@@ -18,7 +18,9 @@ pub mod OpenEnds
 pub mod Parts
 pub mod PassSteps
 pub mod Passed
+pub mod PutsStand
 pub mod Rooms
+pub mod Runs
 pub mod Spares
 pub mod Steps
 pub mod StoreSteps

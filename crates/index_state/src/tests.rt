@@ -1,6 +1,7 @@
 //! What no clause says: that memory suffices, and what an index answers, call by call.
 
 mod calls;
+mod events;
 mod helpers;
 mod judged;
 mod looks;
@@ -8,4 +9,5 @@ mod opens;
 mod orders;
 mod passes;
 mod spared;
+mod stops;
 mod told;
