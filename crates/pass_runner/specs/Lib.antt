@@ -1,0 +1,5 @@
+pub use Rattle.scan_worker.specs.Read
+pub use Rattle.index_state.specs.State
+pub mod Ends
+pub mod Settled
+pub mod Turns

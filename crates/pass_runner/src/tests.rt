@@ -1,0 +1,4 @@
+//! What no clause says: that memory suffices, and what the settling of a pass comes to.
+
+mod cases;
+mod helpers;
