@@ -15,7 +15,7 @@ use Rattle.tree_trait.specs.Heard.{Heard, load, stat, read_dir}
 use Rattle.tree_trait.specs.Shown.{ShownTree}
 use Rattle.pass_runner.specs.Settled.{IsNew, IsPassOn, IsWanted, Settles}
 use Rattle.pass_runner.specs.Turns.{Advances, Listens}
-use Rattle.pass_runner.proofs.Moves.{advances_as, advances_then, listens_none, listens_then, pass_then, rose_after, rose_before, same_listing, still_missed}
+use Rattle.pass_runner.proofs.Moves.{advances_as, advances_then, listens_none, listens_then, pass_then, rose_after, rose_before, same_listing, still_brought, still_missed}
 use Rattle.pass_runner.proofs.NameLists.{in_by_stamp}
 
 module _ {K : Type 0} {told : Bool} {version : Versions} {shows : K → ShownKeeper} where
@@ -38,6 +38,7 @@ module _ {K : Type 0} {told : Bool} {version : Versions} {shows : K → ShownKee
     origin = on.origin;
     stays = on.stays;
     goes = on.goes;
+    brings = on.brings;
     missed = on.missed;
   }
 
@@ -54,6 +55,7 @@ module _ {K : Type 0} {told : Bool} {version : Versions} {shows : K → ShownKee
     origin = settles.origin;
     stays = settles.stays;
     goes = settles.goes;
+    brings = settles.brings;
     missed = settles.missed;
   }
 
@@ -69,6 +71,7 @@ module _ {K : Type 0} {told : Bool} {version : Versions} {shows : K → ShownKee
         origin = refl;
         stays = λ name listed there. there;
         goes = λ name there gone none under. absurd (true≢false (sym there ∙ gone));
+        brings = still_brought state.rows [];
         missed = still_missed (pass_of state.pass).listing (pass_of state.pass).missed [] (Rose hand.faults hand.faults);
       })
 

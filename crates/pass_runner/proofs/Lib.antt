@@ -4,3 +4,6 @@ pub mod NameLists
 pub mod Composed
 pub mod Steps
 pub mod Turning
+pub mod PassEnds
+pub mod PassHands
+pub mod PassWalks

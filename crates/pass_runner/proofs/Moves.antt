@@ -7,6 +7,7 @@ use Rattle.std.proofs.lemmas.List.{append-nil}
 use Rattle.std.proofs.lemmas.List.Elements.{All-nil, All-cons, All-append, All-contains, All-contains_itself, All-weaker, Contains-append_left, Contains-append_right, Contains-push}
 use Rattle.row_types.specs.Faults.{HasCause, Rose}
 use Rattle.row_types.specs.Name.{NameFacts, stamp_at}
+use Rattle.row_types.specs.Row.{RowFacts}
 use Rattle.index_keeper.specs.Keeper.{ShownKeeper}
 use Rattle.index_rows.specs.Rows.{row_names}
 use Rattle.index_state.specs.Judge.{is_under}
@@ -20,15 +21,15 @@ use Rattle.tree_trait.specs.Asks.{Asks, FitsAny, IsTold}
 use Rattle.tree_trait.specs.Found.{Versions}
 use Rattle.tree_trait.specs.Heard.{Heard, after_asked, wants_memory, with_answers}
 use Rattle.tree_trait.specs.Shown.{HandsOn, ShownTree, StaysStill}
-use Rattle.pass_runner.specs.Settled.{IsBacked, IsMissBy, IsPassOn, IsSeenGone, MayGo}
+use Rattle.pass_runner.specs.Settled.{IsBacked, IsBrought, IsMissBy, IsPassOn, IsSeenGone, MayGo}
 use Rattle.pass_runner.specs.Turns.{Advances, Listens, heard_of}
 
 -- nothing was heard
-heard_none : (told : Option (List Heard)) → told ≡ with_answers told []
+pub heard_none : (told : Option (List Heard)) → told ≡ with_answers told []
 heard_none None = refl
 heard_none (Some heard) = ap Some (sym (append-nil heard))
 
-heard_both : (told mid new : Option (List Heard)) (xs ys : List Heard)
+pub heard_both : (told mid new : Option (List Heard)) (xs ys : List Heard)
     → mid ≡ with_answers told xs → new ≡ with_answers mid ys → new ≡ with_answers told (xs ++ ys)
 heard_both None mid new xs ys m n = n ∙ ap (λ t. with_answers t ys) m
 heard_both (Some heard) mid new xs ys m n = n ∙ ap (λ t. with_answers t ys) m ∙ ap Some (append_assoc heard xs ys)
@@ -153,6 +154,10 @@ module _ (some more : List Heard) {Failed Fails : Type 0} (among : (h : Heard) �
   miss_as listing missed miss (inl before) = inl before
   miss_as listing missed miss (inr why) = inr (backed_as listing miss.name miss.cause why)
 
+  brought_as : (rows : List RowFacts) (row : RowFacts) → IsBrought rows some row → IsBrought rows more row
+  brought_as rows row (inl before) = inl before
+  brought_as rows row (inr read) = inr (record { answer = read.answer; heard = among _ read.heard; reads = read.reads })
+
   pub advances_as : {K : Type 0} {shows : K → ShownKeeper} {old new : StateFacts K} → Advances shows some Failed old new
       → Advances shows more Fails old new
   advances_as {old = old} {new = new} on = record {
@@ -162,6 +167,7 @@ module _ (some more : List Heard) {Failed Fails : Type 0} (among : (h : Heard) �
     origin = on.origin;
     stays = on.stays;
     goes = λ name there gone none under. gone_as (on.goes name there gone none under);
+    brings = All-weaker (IsBrought old.rows some) (IsBrought old.rows more) (brought_as old.rows) new.rows on.brings;
     missed =
         All-weaker (IsMissBy (pass_of old.pass).listing (pass_of old.pass).missed some Failed)
         (IsMissBy (pass_of old.pass).listing (pass_of old.pass).missed more Fails)
@@ -174,6 +180,11 @@ pub still_missed : (listing : List NameFacts) (missed : List Miss) (answers : Li
 still_missed listing missed answers Failed =
     All-weaker (Contains missed) (IsMissBy listing missed answers Failed) (λ m before. inl before) missed
     (All-contains_itself missed)
+
+-- the rows that were there before
+pub still_brought : (rows : List RowFacts) (answers : List Heard) → All (IsBrought rows answers) rows
+still_brought rows answers =
+    All-weaker (Contains rows) (IsBrought rows answers) (λ row before. inl before) rows (All-contains_itself rows)
 
 -- one after the other
 pub advances_then : {K : Type 0} {shows : K → ShownKeeper} {xs ys : List Heard} {First Second Failed : Type 0}
@@ -197,12 +208,19 @@ advances_then {K} {shows} {xs} {ys} {First} {Second} {Failed} {old} {mid} {new} 
                 (ap (λ (r : List (List ℕ)). is_under r name.path) p.roots ∙ under)
             | false ↦ λ went. a.goes name there went none under
           ] refl;
+      brings = All-weaker (IsBrought mid.rows (xs ++ ys)) (IsBrought old.rows (xs ++ ys)) brought new.rows b.brings;
       missed =
           All-weaker (Later (pass_of old.pass).listing) (Sooner (pass_of old.pass).listing) (λ m why. before m why)
           (pass_of new.pass).missed
           (subst (λ (l : List NameFacts). All (Later l) (pass_of new.pass).missed) listing b.missed);
     }
   where
+    brought : (row : RowFacts) → IsBrought mid.rows (xs ++ ys) row → IsBrought old.rows (xs ++ ys) row
+    brought row (inl there) =
+        All-contains (IsBrought old.rows (xs ++ ys)) mid.rows row
+        (advances_as xs (xs ++ ys) (λ h. Contains-append_left xs ys h) first p).brings there
+    brought row (inr read) = inr read
+
     Later : List NameFacts → Miss → Type 0
     Later l m = IsMissBy l (pass_of mid.pass).missed (xs ++ ys) Failed m
 

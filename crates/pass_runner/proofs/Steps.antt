@@ -10,7 +10,9 @@ use Rattle.row_types.specs.Name.{NameFacts, same_name}
 use Rattle.row_types.specs.Row.{RowFacts}
 use Rattle.row_types.specs.Stamp.{StampFacts, same_stamp}
 use Rattle.index_keeper.specs.Keeper.{ShownKeeper}
-use Rattle.index_rows.specs.Rows.{row_names}
+use Rattle.std.specs.Str.{bytes_eq}
+use Rattle.index_rows.specs.Rows.{row_names, row_path}
+use Rattle.index_rows.proofs.PathLemmas.{put_holds}
 use Rattle.scan_queue.specs.Names.{IsByPath, is_in, without}
 use Rattle.scan_queue.specs.Pass.{Adds, IsPass, MissesName, PassFacts, left, misses_without}
 use Rattle.scan_queue.specs.declared.miss.Cause.{Cause}
@@ -29,11 +31,11 @@ use Rattle.tree_trait.specs.Heard.{Heard, stat}
 use Rattle.tree_trait.specs.declared.stat.StatAnswer.{StatAnswer}
 use Rattle.tree_trait.specs.declared.stat.StatAnswer.TheVariants.{Folder, File, Other, Gone, Failed, OutOfMemory}
 use Rattle.pass_runner.specs.Ends.{IsOver}
-use Rattle.pass_runner.specs.Settled.{IsBacked, IsMissBy, IsMissing, IsPassOn, IsSeenGone}
+use Rattle.pass_runner.specs.Settled.{IsBacked, IsBrought, IsMissBy, IsMissing, IsPassOn, IsReadOf, IsSeenGone}
 use Rattle.pass_runner.specs.Turns.{Advances, HasSeen, looked_of}
 use Rattle.pass_runner.specs.declared.look_for.Looked.{Looked}
 use Rattle.pass_runner.specs.declared.look_for.Looked.TheVariants as looked
-use Rattle.pass_runner.proofs.Moves.{still_missed}
+use Rattle.pass_runner.proofs.Moves.{still_brought, still_missed}
 use Rattle.pass_runner.proofs.NameLists.{drop_goes, drop_stays, put_goes, put_stays}
 
 -- a pass was begun, where a name is listed in it, out of it or known not to be listed
@@ -93,6 +95,7 @@ module _ {K : Type 0} {shows : K → ShownKeeper} {old new : StateFacts K} where
     stays = λ name listed stood. ap (λ (r : List RowFacts). is_in (row_names r) name) rows ∙ stood;
     goes = λ name stood gone none under.
         absurd (true≢false (sym stood ∙ sym (ap (λ (r : List RowFacts). is_in (row_names r) name) rows) ∙ gone));
+    brings = subst (λ (r : List RowFacts). All (IsBrought old.rows answers) r) (sym rows) (still_brought old.rows answers);
     missed =
         subst (λ (o : Option PassFacts). All (IsMissBy (pass_of old.pass).listing (pass_of old.pass).missed answers F) (pass_of o).missed)
         (sym pass) (still_missed (pass_of old.pass).listing (pass_of old.pass).missed answers F);
@@ -110,6 +113,9 @@ module _ {K : Type 0} {shows : K → ShownKeeper} {old new : StateFacts K} where
     stays = λ name listed stood. ap (λ (s : StateFacts K). is_in (row_names s.rows) name) same ∙ stood;
     goes = λ name stood gone none under.
         absurd (true≢false (sym stood ∙ sym (ap (λ (s : StateFacts K). is_in (row_names s.rows) name) same) ∙ gone));
+    brings =
+        subst (λ (r : List RowFacts). All (IsBrought old.rows answers) r) (sym (ap (λ (s : StateFacts K). s.rows) same))
+        (still_brought old.rows answers);
     missed =
         subst (λ (ms : List Miss). All (IsMissBy (pass_of old.pass).listing (pass_of old.pass).missed answers F) ms) (sym missed)
         (still_missed (pass_of old.pass).listing (pass_of old.pass).missed answers F);
@@ -126,13 +132,15 @@ module _ {K : Type 0} {shows : K → ShownKeeper} {old new : StateFacts K} where
         origin = refl;
         stays = λ n listed stood. stood;
         goes = λ n stood gone none under. absurd (true≢false (sym stood ∙ gone));
+        brings = still_brought old.rows answers;
         missed = left_missed name old.pass answers F;
       })
 
   -- the row of a listed name was put
   pub stored_on : {F : Type 0} {answers : List Heard} {true_row : RowFacts → Type 0} {tells : Bool} {row : RowFacts}
-      → IndexInvariant true_row tells shows old → Stores tells shows row old new → Advances shows answers F old new
-  stored_on {F} {answers} {row = row} holds stored =
+      → IndexInvariant true_row tells shows old → IsReadOf answers row → Stores tells shows row old new
+      → Advances shows answers F old new
+  stored_on {F} {answers} {row = row} holds read stored =
       let awaited : IsAwaited row.name old = stored.can.awaited in
       let opened : IsPassOn old.pass old.pass = listed_open old.pass row.name awaited.listed in
       let by_path : IsByPath (pass_of old.pass).listing = listing_by_path old.pass holds.each_name_in_one_place opened in
@@ -144,6 +152,7 @@ module _ {K : Type 0} {shows : K → ShownKeeper} {old new : StateFacts K} where
         stays = put_stays row (pass_of old.pass).listing old.rows by_path awaited.listed awaited.absent;
         goes = λ n stood gone none under.
             absurd (put_goes row (pass_of old.pass).listing old.rows by_path awaited.listed n stood gone none);
+        brings = put_holds (IsBrought old.rows answers) row_path row old.rows (still_brought old.rows answers) (inr read);
         missed = left_missed row.name old.pass answers F;
       })
 
@@ -242,6 +251,9 @@ module _ {K : Type 0} {shows : K → ShownKeeper} {old new : StateFacts K} where
         stays = λ n listed stood. ap (λ (s : StateFacts K). is_in (row_names s.rows) n) same ∙ stood;
         goes = λ n stood gone none under.
             absurd (true≢false (sym stood ∙ sym (ap (λ (s : StateFacts K). is_in (row_names s.rows) n) same) ∙ gone));
+        brings =
+            subst (λ (r : List RowFacts). All (IsBrought old.rows answers) r) (sym (ap (λ (s : StateFacts K). s.rows) same))
+            (still_brought old.rows answers);
         missed =
             subst (λ (o : Option PassFacts). All (IsMissBy (pass_of old.pass).listing (pass_of old.pass).missed answers F) (pass_of o).missed)
             (sym misses.missed.is)
@@ -275,6 +287,9 @@ module _ {K : Type 0} {shows : K → ShownKeeper} {old new : StateFacts K} where
             let same : n ≡ name = drop_goes name old.rows ascend left_over.stands n stood went in
             subst (λ (m : NameFacts). IsSeenGone answers m) (sym same)
             (seen_gone old.roots sees gone.gone (ap (λ (m : NameFacts). is_under old.roots m.path) (sym same) ∙ under));
+        brings =
+            All-filter (λ (r : RowFacts). not (bytes_eq (row_path r) name.path)) (IsBrought old.rows answers) old.rows
+            (still_brought old.rows answers);
         missed = left_missed name old.pass answers F;
       })
 

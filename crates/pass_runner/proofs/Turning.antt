@@ -34,7 +34,7 @@ use Rattle.tree_trait.specs.Shown.{ShownTree}
 use Rattle.tree_trait.specs.declared.stat.StatAnswer.{StatAnswer}
 use Rattle.tree_trait.specs.declared.stat.StatAnswer.TheVariants as said
 use Rattle.pass_runner.specs.Ends.{IsOutOfRoom, TurnsBy}
-use Rattle.pass_runner.specs.Settled.{IsBacked, IsNew, IsPassOn, IsWanted}
+use Rattle.pass_runner.specs.Settled.{IsBacked, IsNew, IsPassOn, IsReadOf, IsWanted}
 use Rattle.pass_runner.specs.Turns.{Advances, HasSeen, IsLookUnder, JudgesLeft, Listens, Looks, LooksTo, PublishesNew, TurnsOver, after_judged, heard_of, looked_of}
 use Rattle.pass_runner.specs.declared.look_for.Looked.{Looked}
 use Rattle.pass_runner.specs.declared.look_for.Looked.TheVariants as looked
@@ -54,22 +54,22 @@ false≢true e = true≢false (sym e)
 module _ {K : Type 0} (tells : Bool) (shows : K → ShownKeeper) (old new : StateFacts K) where
   -- where a row is published
   published_on : {F : Type 0} {true_row : RowFacts → Type 0} {answers : List Heard} (row : RowFacts) (end : Option WorkEnd) → IndexInvariant true_row tells shows old
-      → IsAwaited row.name old → PublishesNew tells shows row old new end → Advances shows answers F old new
-  published_on row None holds awaited h = stored_on holds h
-  published_on row (Some KeeperFault) holds awaited h =
+      → IsReadOf answers row → IsAwaited row.name old → PublishesNew tells shows row old new end → Advances shows answers F old new
+  published_on row None holds read awaited h = stored_on holds read h
+  published_on row (Some KeeperFault) holds read awaited h =
       same_on (listed_open old.pass row.name awaited.listed) h.keeper.asked.cause.later
       (ap (λ (s : StateFacts K). s.pass) h.after) (ap (λ (s : StateFacts K). s.rows) h.after)
       (ap (λ (s : StateFacts K). s.roots) h.after) (ap (λ (s : StateFacts K). s.origin) h.after)
-  published_on row (Some LogFull) holds awaited h =
+  published_on row (Some LogFull) holds read awaited h =
       same_on (listed_open old.pass row.name awaited.listed)
       (let e = ap (λ (s : StateFacts K). (shows s.keeper).faults) h.same in omega (arith, e))
       (ap (λ (s : StateFacts K). s.pass) h.same) (ap (λ (s : StateFacts K). s.rows) h.same)
       (ap (λ (s : StateFacts K). s.roots) h.same) (ap (λ (s : StateFacts K). s.origin) h.same)
-  published_on row (Some OutOfMemory) holds awaited h =
+  published_on row (Some OutOfMemory) holds read awaited h =
       same_on (listed_open old.pass row.name awaited.listed) (let e = h.keeper.faultless in omega (arith, e))
       (ap (λ (s : StateFacts K). s.pass) h.same) (ap (λ (s : StateFacts K). s.rows) h.same)
       (ap (λ (s : StateFacts K). s.roots) h.same) (ap (λ (s : StateFacts K). s.origin) h.same)
-  published_on row (Some _) holds awaited h = absurd h
+  published_on row (Some _) holds read awaited h = absurd h
 
   published_ends : (row : RowFacts) (end : Option WorkEnd) → old.broken ≡ false → IsAwaited row.name old
       → PublishesNew tells shows row old new end → TurnsBy row.name old new end
@@ -198,6 +198,24 @@ other_heard name (too_large stamp) met h = refl
 other_heard name gone met h = refl
 other_heard name _ met h = absurd h
 
+-- nor was one that gave the file
+read_heard : (name : NameFacts) (answer : LoadFacts) (row : RowFacts) → Reads name answer row
+    → wants_memory (load_of name answer) ≡ false
+read_heard name (loaded found) row h = refl
+read_heard name (too_large stamp) row h = refl
+read_heard name _ row h = absurd h
+
+-- what the row says is what the load found
+read_of : (name : NameFacts) (answer : LoadFacts) (row : RowFacts) → Reads name answer row → row.name ≡ name
+    → IsReadOf (heard_of (load_of name answer)) row
+read_of name answer row reads named = record {
+  answer = answer;
+  heard =
+      subst (λ (n : NameFacts). Contains (heard_of (load_of name answer)) (load_of n answer)) (sym named)
+      (is_heard (load_of name answer) (read_heard name answer row reads));
+  reads = subst (λ (n : NameFacts). Reads n answer row) (sym named) reads;
+}
+
 module _ {K : Type 0} {told : Bool} {version : Versions} {shows : K → ShownKeeper}
     {before after : ShownTree} {old new : StateFacts K} {name : NameFacts} where
   -- the file was read, and its row is published
@@ -209,7 +227,7 @@ module _ {K : Type 0} {told : Bool} {version : Versions} {shows : K → ShownKee
       let named : row.name ≡ name = read_named name answer row reads in
       let waits : IsAwaited row.name old = subst (λ (n : NameFacts). IsAwaited n old) (sym named) awaited in
       let on : Advances shows (heard_of (load_of name answer)) (Rose before.faults after.faults) old new
-      = published_on tells shows old new row end holds waits h in
+      = published_on tells shows old new row end holds (read_of name answer row reads named) waits h in
       record {
         settles =
             settles_by (listens_one (load_of name answer) asks)

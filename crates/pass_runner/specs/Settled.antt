@@ -4,6 +4,7 @@
 use Rattle.std.specs.Prelude.{◌≡◌, ◌≢◌, ◌⊎◌, ℕ, ◌≤◌, Bool, true, false, List, All, Contains, Option, Some, None, IsTrue}
 use Rattle.row_types.specs.Faults.{Rose}
 use Rattle.row_types.specs.Name.{NameFacts, stamp_at}
+use Rattle.row_types.specs.Row.{RowFacts}
 use Rattle.row_types.specs.Stamp.{StampFacts}
 use Rattle.row_types.specs.declared.limits.TheConstants.{FILE_LIMIT}
 use Rattle.index_keeper.specs.Keeper.{ShownKeeper}
@@ -16,7 +17,7 @@ use Rattle.scan_queue.specs.declared.miss.Cause.{Cause}
 use Rattle.scan_queue.specs.declared.miss.Cause.TheVariants.{ReadFault, Altered, Appeared}
 use Rattle.scan_queue.specs.declared.miss.Miss.{Miss}
 use Rattle.scan_queue.specs.declared.miss.Seen.{Seen}
-use Rattle.scan_worker.specs.Read.{FindsOther, load_of}
+use Rattle.scan_worker.specs.Read.{FindsOther, Reads, load_of}
 use Rattle.tree_trait.specs.Asks.{FitsAny, IsTold}
 use Rattle.tree_trait.specs.Found.{Versions}
 use Rattle.tree_trait.specs.Heard.{Heard, load, stat, read_dir, with_answers}
@@ -78,6 +79,16 @@ abbrev pub IsMissBy : List NameFacts → List Miss → List Heard → Type 0 →
 IsMissBy listing missed answers Failed miss =
     Contains missed miss ⊎ IsBacked listing answers Failed miss.name miss.cause
 
+-- a load found the file of the row's name, and the row says what it is
+pub record IsReadOf (answers : List Heard) (row : RowFacts) : Type 0 where
+  pub answer : LoadFacts
+  pub heard : Contains answers (load_of row.name answer)
+  pub reads : Reads row.name answer row
+
+-- the row was there before, or says what a load found
+abbrev pub IsBrought : List RowFacts → List Heard → RowFacts → Type 0
+IsBrought rows answers row = Contains rows row ⊎ IsReadOf answers row
+
 -- the pass is open all the while, over the same listing
 pub record IsPassOn (old new : Option PassFacts) : Type 0 where
   pub from : PassFacts
@@ -88,7 +99,7 @@ pub record IsPassOn (old new : Option PassFacts) : Type 0 where
 
 -- what the settling did from one moment to a later one: nothing else was heard; the pass goes on, over the same listing
 -- and roots; no row of a listed name went; a row whose path isn't listed and lies under a root went only where a look
--- did not find its file; a name is missed only for a reason
+-- did not find its file; a row that wasn't there says what a load found; a name is missed only for a reason
 pub record Settles {K : Type 0} (told : Bool) (version : Versions) (shows : K → ShownKeeper)
     (before after : ShownTree) (old new : StateFacts K) : Type 0 where
   pub answers : List Heard
@@ -106,5 +117,6 @@ pub record Settles {K : Type 0} (told : Bool) (version : Versions) (shows : K �
   pub goes : (name : NameFacts) → is_in (row_names old.rows) name ≡ true
       → is_in (row_names new.rows) name ≡ false
       → MayGo (pass_of old.pass).listing old.roots answers name
+  pub brings : All (IsBrought old.rows answers) new.rows
   pub missed : All (IsMissBy (pass_of old.pass).listing (pass_of old.pass).missed answers
       (Rose before.faults after.faults)) (pass_of new.pass).missed

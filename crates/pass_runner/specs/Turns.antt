@@ -22,7 +22,7 @@ use Rattle.tree_trait.specs.Shown.{HandsOn, ShownTree}
 use Rattle.tree_trait.specs.declared.stat.StatAnswer.{StatAnswer}
 use Rattle.tree_trait.specs.declared.stat.StatAnswer.TheVariants as said
 use Rattle.pass_runner.specs.Ends.{TurnsBy}
-use Rattle.pass_runner.specs.Settled.{IsMissBy, IsPassOn, MayGo, Settles}
+use Rattle.pass_runner.specs.Settled.{IsBrought, IsMissBy, IsPassOn, MayGo, Settles}
 use Rattle.pass_runner.specs.declared.look_for.Looked.{Looked}
 use Rattle.pass_runner.specs.declared.look_for.Looked.TheVariants as looked
 
@@ -45,6 +45,7 @@ pub record Advances {K : Type 0} (shows : K → ShownKeeper) (answers : List Hea
   pub goes : (name : NameFacts) → is_in (row_names old.rows) name ≡ true
       → is_in (row_names new.rows) name ≡ false
       → MayGo (pass_of old.pass).listing old.roots answers name
+  pub brings : All (IsBrought old.rows answers) new.rows
   pub missed : All (IsMissBy (pass_of old.pass).listing (pass_of old.pass).missed answers Failed) (pass_of new.pass).missed
 
 -- what is heard of a question, which is nothing where memory was refused

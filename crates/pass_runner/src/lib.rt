@@ -3,9 +3,15 @@
 #![tactic(auto)]
 
 mod look_for;
+mod owned;
+mod pass_end;
 mod read_new;
 mod settling;
+mod summary;
 #[cfg(test)]
 mod tests;
 
+pub use owned::scan_state;
+pub use pass_end::PassEnd;
 pub use settling::settle;
+pub use summary::Summary;

@@ -2,3 +2,5 @@
 
 mod cases;
 mod helpers;
+mod passes;
+mod trees;
