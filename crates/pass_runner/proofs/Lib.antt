@@ -7,3 +7,4 @@ pub mod Turning
 pub mod PassEnds
 pub mod PassHands
 pub mod PassWalks
+pub mod FullAnswers

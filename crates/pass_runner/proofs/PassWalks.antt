@@ -30,6 +30,7 @@ use Rattle.pass_runner.specs.Settled.{IsBacked, IsWanted, MayGo, Settles}
 use Rattle.pass_runner.specs.declared.pass_end.PassEnd.{PassEnd}
 use Rattle.pass_runner.specs.declared.pass_end.PassEnd.TheVariants.{Whole, Missed, Walk, Broken}
 use Rattle.pass_runner.specs.declared.pass_end.PassEnd.TheVariants.{KeeperFault, LogFull, OutOfMemory}
+use Rattle.pass_runner.proofs.FullAnswers.{full_stays, listing_stays}
 use Rattle.pass_runner.proofs.Moves.{heard_both, heard_none, same_listing}
 use Rattle.pass_runner.proofs.PassEnds.{all_backed, first_is}
 use Rattle.pass_runner.proofs.PassHands.{rose_later}
@@ -51,6 +52,10 @@ module _ {K : Type 0} (world : Rules) (old : StateFacts K) {told : Bool} {shows 
   heard_pass = record {
     heard = heard_both before.heard met.heard after.heard walks.more settles.answers walks.heard settles.heard;
     whole = walks.ends;
+    full = full_stays walk.listing roots (row_names old.rows) walks.more settles.answers settles.wanted walks.ends.full;
+    listing =
+        listing_stays walk.listing roots (row_names old.rows) walks.more settles.answers settles.wanted walks.ends.full
+        walk.listing walks.ends.listing;
     wanted = settles.wanted;
     fits = settles.fits;
     tells = λ t.

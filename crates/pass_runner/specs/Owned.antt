@@ -23,6 +23,7 @@ use Rattle.tree_trait.specs.Heard.{Heard, with_answers}
 use Rattle.tree_trait.specs.Shown.{ShownTree}
 use Rattle.tree_walk.specs.Ends.{IsWholeWalk, Walks}
 use Rattle.tree_walk.specs.Files.{AreFilesUnder, FitsFault}
+use Rattle.tree_walk.specs.Walked.{AsksAll, IsWalkListing}
 use Rattle.tree_walk.specs.declared.fault.WalkFault.{WalkFault}
 use Rattle.tree_walk.specs.declared.fault.WalkFault.TheVariants as stop
 use Rattle.tree_walk.specs.declared.walked.Walk.{Walk}
@@ -39,12 +40,14 @@ abbrev pub TellsStill : Bool → ShownTree → Type 0
 TellsStill told hand = IsTrue told × hand.Still
 
 -- what the first hand heard: a whole walk of the roots, and then nothing but loads of listed files whose names had no row
--- and looks at paths under a root. Where it tells files that never change, these are the answers that it tells of them,
--- and the listing is the files under the roots
+-- and looks at paths under a root. All of it is full, and leads to the listing. Where the hand tells files that never
+-- change, these are the answers that it tells of them, and the listing is the files under the roots
 pub record HearsPass (told : Bool) (version : Versions) (roots : List (List ℕ)) (names : List NameFacts) (walk : Walk)
     (walked more : List Heard) (before after : ShownTree) : Type 0 where
   pub heard : after.heard ≡ with_answers before.heard (walked ++ more)
   pub whole : IsWholeWalk walked roots walk
+  pub full : AsksAll (walked ++ more) roots
+  pub listing : IsWalkListing (walked ++ more) roots walk.listing
   pub wanted : All (IsWanted walk.listing roots names) more
   pub fits : All (FitsAny version) more
   pub tells : TellsStill told before → All (IsTold before.present) (walked ++ more)

@@ -3,7 +3,6 @@
 ghost use Rattle.std.specs.Prelude.{◌≡◌, count_by};
 ghost use Rattle.pass_runner.specs.Numbers.{is_of, summary_of};
 
-
 use index_keeper::Keeper;
 use index_state::{Plan, State};
 use row_types::{Kind, Reading, Truth};
