@@ -1,7 +1,5 @@
 //! Passes over one index, one after the other.
 
-ghost use Rattle.std.specs.Prelude.{◌≡◌, false};
-
 use crate::owned::scan_state;
 use crate::pass_end::PassEnd;
 use crate::summary::Summary;
@@ -21,21 +19,21 @@ use tree_walk::WalkFault;
 type Index = State<SampleWorld, MemKeeper<SampleWorld>>;
 
 /// A pass, and what it comes to.
-struct Step {
+pub struct Step {
     /// What it shows.
-    shows: &'static str,
+    pub shows: &'static str,
     /// The files of the first hand's tree.
-    files: Files,
+    pub files: Files,
     /// The call from which on the tree has other files.
-    later: Option<(u64, Files)>,
+    pub later: Option<(u64, Files)>,
     /// The first hand's calls that fail. One that must not be made is among them.
-    bad_calls: &'static [u64],
+    pub bad_calls: &'static [u64],
     /// The folders.
-    roots: &'static [&'static str],
+    pub roots: &'static [&'static str],
     /// How it ends.
-    end: &'static str,
+    pub end: &'static str,
     /// The rows by then, one after the other.
-    rows: &'static [&'static str],
+    pub rows: &'static [&'static str],
 }
 
 /// What was seen, in words.
@@ -136,7 +134,7 @@ fn run_step(alloc: Global, index: Index, step: &Step) -> Result<(Index, String),
 }
 
 /// The passes of a test, over one index.
-fn run_steps(
+pub fn run_steps(
     rt: &impl Abort,
     alloc: Global,
     stop_at: Option<u64>,
@@ -153,188 +151,4 @@ fn run_steps(
     }
     store.give_back(index.into_keeper());
     Ok(())
-}
-
-/// The rows of the reference tree under `/srv/bin`.
-const BIN: &str =
-    "/srv/bin/empty 0, /srv/bin/libx.so 488, /srv/bin/liby.so 408, /srv/bin/prog 1016, ";
-
-/// Those behind them.
-const TOOLS: &str = "/srv/bin/run.sh 10, /srv/bin/tool 408, ";
-
-/// Those under `/srv/debug`.
-const DEBUG: &str = "/srv/debug/notes.txt 0, /srv/debug/ppc.debug 324, /srv/debug/tool.debug 584, ";
-
-/// Those of the sources.
-const SOURCES: &str = "/w/src/inc/util.h 0, /w/src/main.c 26, ";
-
-/// A walk of the three folders makes 20 calls: a look at each root, at the three of them and two below
-/// them a reading, and a look at each of the twelve files.
-static WHOLE: [Step; 7] = [
-    Step {
-        shows: "the first pass reads all files",
-        files: Files::Reference,
-        later: None,
-        bad_calls: &[32],
-        roots: &["/srv/bin", "/srv/debug", "/w"],
-        end: "12 12 0 0 0 4 4",
-        rows: &[BIN, TOOLS, DEBUG, "/w/README 0, ", SOURCES],
-    },
-    Step {
-        shows: "the second one loads nothing",
-        files: Files::Reference,
-        later: None,
-        bad_calls: &[20],
-        roots: &["/srv/bin", "/srv/debug", "/w"],
-        end: "12 0 0 0 12 4 4",
-        rows: &[BIN, TOOLS, DEBUG, "/w/README 0, ", SOURCES],
-    },
-    Step {
-        shows: "the row of a file that went is dropped after one look",
-        files: Files::NoReadme,
-        later: None,
-        bad_calls: &[20],
-        roots: &["/srv/bin", "/srv/debug", "/w"],
-        end: "11 0 0 1 11 4 4",
-        rows: &[BIN, TOOLS, DEBUG, SOURCES],
-    },
-    Step {
-        shows: "a file that came is loaded, and no other",
-        files: Files::Reference,
-        later: None,
-        bad_calls: &[21],
-        roots: &["/srv/bin", "/srv/debug", "/w"],
-        end: "12 1 0 0 11 4 4",
-        rows: &[BIN, TOOLS, DEBUG, "/w/README 0, ", SOURCES],
-    },
-    Step {
-        shows: "rows under no root any more are dropped without a look",
-        files: Files::Reference,
-        later: None,
-        bad_calls: &[13],
-        roots: &["/srv/bin", "/srv/debug"],
-        end: "9 0 0 3 9 4 4",
-        rows: &[BIN, TOOLS, DEBUG],
-    },
-    Step {
-        shows: "a root that is gone leaves all rows",
-        files: Files::Script,
-        later: None,
-        bad_calls: &[],
-        roots: &["/srv/bin", "/srv/debug"],
-        end: "/srv/debug is gone",
-        rows: &[BIN, TOOLS, DEBUG],
-    },
-    Step {
-        shows: "so does a walk that fails",
-        files: Files::Reference,
-        later: None,
-        bad_calls: &[12],
-        roots: &["/srv/bin", "/srv/debug"],
-        end: "a call of the walk failed",
-        rows: &[BIN, TOOLS, DEBUG],
-    },
-];
-
-// The numbers are those of the worked rows of the scan of this tree.
-#[test]
-fn each_pass_does_what_changed(rt: HostRuntime) -> Result<(), Fail> {
-    run_steps(&rt, rt.alloc(), None, &WHOLE)
-}
-
-/// A walk of `/srv` with one file makes three calls.
-static MISSED: [Step; 8] = [
-    Step {
-        shows: "a file is read",
-        files: Files::Before,
-        later: None,
-        bad_calls: &[4],
-        roots: &["/srv"],
-        end: "1 1 0 0 0 0 0",
-        rows: &["/srv/a 6, "],
-    },
-    Step {
-        shows: "a file that changed is read again",
-        files: Files::After,
-        later: None,
-        bad_calls: &[5],
-        roots: &["/srv"],
-        end: "1 0 1 0 0 0 0",
-        rows: &["/srv/a 7, "],
-    },
-    Step {
-        shows: "of two missed names of one path the listed one is told",
-        files: Files::Before,
-        later: Some((3, Files::After)),
-        bad_calls: &[],
-        roots: &["/srv"],
-        end: "missed /srv/a 6, another file",
-        rows: &["/srv/a 7, "],
-    },
-    Step {
-        shows: "a file that can't be read is missed, though the row of another is dropped",
-        files: Files::Before,
-        later: None,
-        bad_calls: &[3],
-        roots: &["/srv"],
-        end: "missed /srv/a 6, can't be read",
-        rows: &[],
-    },
-    Step {
-        shows: "a file that is gone as it is read is missed",
-        files: Files::Before,
-        later: Some((3, Files::Nothing)),
-        bad_calls: &[],
-        roots: &["/srv"],
-        end: "missed /srv/a 6, gone",
-        rows: &[],
-    },
-    Step {
-        shows: "it is read once it is there again",
-        files: Files::After,
-        later: None,
-        bad_calls: &[4],
-        roots: &["/srv"],
-        end: "1 1 0 0 0 0 0",
-        rows: &["/srv/a 7, "],
-    },
-    Step {
-        shows: "a row whose file appeared after the walk stays",
-        files: Files::Script,
-        later: Some((4, Files::ScriptAndAfter)),
-        bad_calls: &[],
-        roots: &["/srv"],
-        end: "missed /srv/a 7, stands there",
-        rows: &["/srv/a 7, ", "/srv/bin/run.sh 10, "],
-    },
-    Step {
-        shows: "and goes when it is gone",
-        files: Files::Script,
-        later: None,
-        bad_calls: &[5],
-        roots: &["/srv"],
-        end: "1 0 0 1 1 0 0",
-        rows: &["/srv/bin/run.sh 10, "],
-    },
-];
-
-#[test]
-fn the_first_miss_is_told(rt: HostRuntime) -> Result<(), Fail> {
-    run_steps(&rt, rt.alloc(), None, &MISSED)
-}
-
-/// The store's calls are the opening, the rows, and a put for each file.
-static STOPPED: [Step; 1] = [Step {
-    shows: "a store that stops at the third put",
-    files: Files::Reference,
-    later: None,
-    bad_calls: &[],
-    roots: &["/srv/debug", "/w"],
-    end: "the store failed",
-    rows: &["/srv/debug/notes.txt 0, ", "/srv/debug/ppc.debug 324, "],
-}];
-
-#[test]
-fn a_store_that_fails_ends_the_pass(rt: HostRuntime) -> Result<(), Fail> {
-    run_steps(&rt, rt.alloc(), Some(4), &STOPPED)
 }
