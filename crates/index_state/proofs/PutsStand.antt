@@ -22,7 +22,7 @@ use Rattle.index_keeper.specs.Tables.{AscendsByPath, KeptFacts, bytes_at, edited
 use Rattle.index_keeper.specs.declared.answer.KeptAnswer.{KeptAnswer}
 use Rattle.index_keeper.specs.declared.answer.KeptAnswer.TheVariants.{All as AllRows, Failed as RowsFailed, OutOfMemory as RowsNoMemory}
 use Rattle.index_keeper.proofs.CutLemmas.{IsCut, after_here, cut_of, edited_cut, other_bytes, row_bytes_at}
-use Rattle.index_state.specs.Events.{Calls, EventStep, Happens, IsReopening, Reopens, RunsTo, StoredIndex}
+use Rattle.index_state.specs.Events.{Calls, EventStep, Happens, IsReopening, Reopens, RunsFirst, RunsTo, StoredIndex, WantsMemory}
 use Rattle.index_state.specs.Invariant.{IndexInvariant}
 use Rattle.index_state.specs.Keeping.{put_row}
 use Rattle.index_state.specs.Kept.{IsDoubted, tables_of}
@@ -271,3 +271,8 @@ module _ {W K : Type 0} (true_row : RowFacts → Type 0) (told : Bool) (shows : 
       subst (λ (given : List EventAnswer). P (is.first ++ is.put ∷ is.later) given) is.answers_are (subst (λ (es : List (Event W)). P es answers) is.events_are run) in
       let rests : Rests row new.index = last_put W true_row told shows path tells row old is.first is.put is.later is.early is.said is.late new is.one_each h split is.has_put is.left in
       image_bytes now new.index.broken refl (now.store_agrees_with_rows.tables tells) row.name.path rests.free image left ∙ rests.here
+
+  -- the same, where memory was wanting after the first events
+  pub first_lasts : (old : StoredIndex K) (events : List (Event W)) (answers : List EventAnswer) (rest : List (Event W)) (middle : StoredIndex K) (new : StateFacts K) → IndexInvariant true_row told shows old.index → (h : RunsFirst true_row told shows path old events answers rest middle) → WantsMemory told shows middle.index new → IsTrue told → PutsLast shows h.first answers new
+  first_lasts old events answers rest middle new holds h wants tells = λ row is image left.
+      puts_last old h.first answers middle holds h.run tells row is image (((wants.keeper.tells tells).left image).0 left)
