@@ -1,8 +1,8 @@
 -- A row that was put stands until its path is changed.
-use Rattle.std.proofs.Common.{◌≡◌, ◌⊎◌, inl, inr, ℕ, Bool, true, false, cond, eq-eqb, List, [], ◌∷◌, ◌++◌, length, Option, Some, None, refl, sym, ◌∙◌, ap, subst, arith, slice_index_or}
+use Rattle.std.proofs.Common.{◌≡◌, ◌⊎◌, inl, inr, ℕ, Bool, true, false, cond, eq-eqb, List, [], ◌∷◌, ◌++◌, length, Option, Some, None, refl, sym, ◌∙◌, ap, subst, arith}
 use Rattle.std.specs.List.{All, filter, find}
 use Rattle.std.specs.Option.{option_map}
-use Rattle.std.specs.Prelude.{◌==◌, IsTrue}
+use Rattle.std.specs.Prelude.{IsTrue}
 use Rattle.std.specs.Str.{bytes_eq}
 use Rattle.std.proofs.lemmas.Bool.{true≢false}
 use Rattle.row_types.specs.Name.{NameFacts}
@@ -12,7 +12,7 @@ use Rattle.row_codec.specs.RowBytes.{row_bytes}
 use Rattle.row_codec.specs.Spelled.{IsSpelled}
 use Rattle.row_codec.proofs.OneSpelling.{one_row}
 use Rattle.index_rows.specs.Log.{drop_of, put_of}
-use Rattle.index_rows.specs.Rows.{row_at, row_path, with_row}
+use Rattle.index_rows.specs.Rows.{row_at, row_path}
 use Rattle.index_rows.specs.declared.change.Change.{Change}
 use Rattle.index_rows.proofs.Lists.{IsFound, found_there}
 use Rattle.scan_queue.specs.declared.miss.Seen.{Seen}
@@ -37,9 +37,9 @@ use Rattle.index_state.specs.declared.answer.Judged.TheVariants.{Kept, Dropped, 
 use Rattle.index_state.specs.declared.answer.Published.{Published}
 use Rattle.index_state.specs.declared.answer.Published.TheVariants.{Added, Replaced, Already, NotListed, Broken, LogFull, KeeperFault, OutOfMemory}
 use Rattle.index_state.specs.declared.events.Event.{Event}
-use Rattle.index_state.specs.declared.events.Event.TheVariants.{Begin, Take, Publish, GroomTake, Judge, Miss, Retry, Look, Reopen}
+use Rattle.index_state.specs.declared.events.Event.TheVariants.{Begin, Take, Publish, GroomTake, Judge, Miss, Retry, Look}
 use Rattle.index_state.specs.declared.events.EventAnswer.{EventAnswer}
-use Rattle.index_state.specs.declared.events.EventAnswer.TheVariants.{Begin as BeginSaid, Take as TakeSaid, Publish as PublishSaid, GroomTake as GroomSaid, Judge as JudgeSaid, Miss as MissSaid, Retry as RetrySaid, Look as LookSaid, Opened}
+use Rattle.index_state.specs.declared.events.EventAnswer.TheVariants.{Begin as BeginSaid, Take as TakeSaid, Publish as PublishSaid, GroomTake as GroomSaid, Judge as JudgeSaid, Miss as MissSaid, Retry as RetrySaid, Look as LookSaid}
 use Rattle.index_state.proofs.ByName.{tables_by_path}
 use Rattle.index_state.proofs.Lasting.{image_bytes, table_bytes}
 use Rattle.index_state.proofs.StoreSteps.{tables_put, tables_without}

@@ -7,7 +7,7 @@ use Rattle.row_types.specs.Row.{RowFacts}
 use Rattle.index_keeper.specs.Keeper.{IsLeftAlone, ShownKeeper}
 use Rattle.index_keeper.specs.Store.{OpensStore, ShownStore}
 use Rattle.index_keeper.specs.declared.answer.StoreAnswer.{StoreAnswer}
-use Rattle.index_keeper.specs.declared.answer.StoreAnswer.TheVariants.{Opened as StoreOpened, Failed as StoreFailed, OutOfMemory as StoreNoMemory}
+use Rattle.index_keeper.specs.declared.answer.StoreAnswer.TheVariants.{Failed as StoreFailed, OutOfMemory as StoreNoMemory}
 use Rattle.index_state.specs.EventParts.{Closes, Waits}
 use Rattle.index_state.specs.Events.{Calls, ClosesAfter, EventStep, IsRefused, IsReopening, IsStoreFault, MeetsFault, RunsFirst, RunsTo, StaysClosed, StaysShut, StopsAfter, StoredIndex, WantsMemory}
 use Rattle.index_state.specs.Puts.{PutsLast}

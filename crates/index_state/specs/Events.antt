@@ -1,7 +1,6 @@
 -- What comes of a list of events (this project's rule): each is a case of the index step, or a reopening, in which
 -- the keeper is given back, the store is opened again, and the index on it.
 use Rattle.std.specs.Prelude.{◌≡◌, ◌≢◌, ◌⊎◌, ℕ, Bool, List, [], ◌∷◌, ◌++◌, length, IsTrue}
-use Rattle.row_types.specs.Faults.{HasCause}
 use Rattle.row_types.specs.Row.{RowFacts}
 use Rattle.index_keeper.specs.Keeper.{IsLeftAlone, ShownKeeper}
 use Rattle.index_keeper.specs.Store.{OpensStore, ShownStore, TakesBack}

@@ -1,7 +1,7 @@
 -- The events so far, and the next one.
-use Rattle.std.proofs.Common.{◌≡◌, ℕ, List, [], length, refl, sym, subst, arith, rules}
+use Rattle.std.proofs.Common.{◌≡◌, List, [], length, refl, sym, subst, arith, rules}
 use Rattle.std.specs.Prelude.{reverse}
-use Rattle.index_state.specs.Events.{RunsFirst, RunsTo, StoredIndex}
+use Rattle.index_state.specs.Events.{RunsFirst, StoredIndex}
 use Rattle.index_state.specs.declared.events.EventAnswer.{EventAnswer}
 use Rattle.index_state.proofs.PutsStand.{first_lasts, puts_last}
 use Rattle.index_state.proofs.Runs.{closes_after, closes_later, first_ends, first_later, first_more, first_none, first_popped, stops_after, waits_later, wants_self}
