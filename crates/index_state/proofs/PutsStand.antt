@@ -1,8 +1,8 @@
 -- A row that was put stands until its path is changed.
-use Rattle.std.proofs.Common.{◌≡◌, ◌⊎◌, inl, inr, ℕ, Bool, true, false, cond, eq-eqb, List, [], ◌∷◌, ◌++◌, length, Option, Some, None, refl, sym, ◌∙◌, ap, subst, arith, slice_index_or}
+use Rattle.std.proofs.Common.{◌≡◌, ◌⊎◌, inl, inr, ℕ, Bool, true, false, cond, eq-eqb, List, [], ◌∷◌, ◌++◌, length, Option, Some, None, refl, sym, ◌∙◌, ap, subst, arith}
 use Rattle.std.specs.List.{All, filter, find}
 use Rattle.std.specs.Option.{option_map}
-use Rattle.std.specs.Prelude.{◌==◌, IsTrue}
+use Rattle.std.specs.Prelude.{IsTrue}
 use Rattle.std.specs.Str.{bytes_eq}
 use Rattle.std.proofs.lemmas.Bool.{true≢false}
 use Rattle.row_types.specs.Name.{NameFacts}
@@ -12,7 +12,7 @@ use Rattle.row_codec.specs.RowBytes.{row_bytes}
 use Rattle.row_codec.specs.Spelled.{IsSpelled}
 use Rattle.row_codec.proofs.OneSpelling.{one_row}
 use Rattle.index_rows.specs.Log.{drop_of, put_of}
-use Rattle.index_rows.specs.Rows.{row_at, row_path, with_row}
+use Rattle.index_rows.specs.Rows.{row_at, row_path}
 use Rattle.index_rows.specs.declared.change.Change.{Change}
 use Rattle.index_rows.proofs.Lists.{IsFound, found_there}
 use Rattle.scan_queue.specs.declared.miss.Seen.{Seen}
@@ -22,7 +22,7 @@ use Rattle.index_keeper.specs.Tables.{AscendsByPath, KeptFacts, bytes_at, edited
 use Rattle.index_keeper.specs.declared.answer.KeptAnswer.{KeptAnswer}
 use Rattle.index_keeper.specs.declared.answer.KeptAnswer.TheVariants.{All as AllRows, Failed as RowsFailed, OutOfMemory as RowsNoMemory}
 use Rattle.index_keeper.proofs.CutLemmas.{IsCut, after_here, cut_of, edited_cut, other_bytes, row_bytes_at}
-use Rattle.index_state.specs.Events.{Calls, EventStep, Happens, IsReopening, Reopens, RunsTo, StoredIndex}
+use Rattle.index_state.specs.Events.{Calls, EventStep, Happens, IsReopening, Reopens, RunsFirst, RunsTo, StoredIndex, WantsMemory}
 use Rattle.index_state.specs.Invariant.{IndexInvariant}
 use Rattle.index_state.specs.Keeping.{put_row}
 use Rattle.index_state.specs.Kept.{IsDoubted, tables_of}
@@ -37,9 +37,9 @@ use Rattle.index_state.specs.declared.answer.Judged.TheVariants.{Kept, Dropped, 
 use Rattle.index_state.specs.declared.answer.Published.{Published}
 use Rattle.index_state.specs.declared.answer.Published.TheVariants.{Added, Replaced, Already, NotListed, Broken, LogFull, KeeperFault, OutOfMemory}
 use Rattle.index_state.specs.declared.events.Event.{Event}
-use Rattle.index_state.specs.declared.events.Event.TheVariants.{Begin, Take, Publish, GroomTake, Judge, Miss, Retry, Look, Reopen}
+use Rattle.index_state.specs.declared.events.Event.TheVariants.{Begin, Take, Publish, GroomTake, Judge, Miss, Retry, Look}
 use Rattle.index_state.specs.declared.events.EventAnswer.{EventAnswer}
-use Rattle.index_state.specs.declared.events.EventAnswer.TheVariants.{Begin as BeginSaid, Take as TakeSaid, Publish as PublishSaid, GroomTake as GroomSaid, Judge as JudgeSaid, Miss as MissSaid, Retry as RetrySaid, Look as LookSaid, Opened}
+use Rattle.index_state.specs.declared.events.EventAnswer.TheVariants.{Begin as BeginSaid, Take as TakeSaid, Publish as PublishSaid, GroomTake as GroomSaid, Judge as JudgeSaid, Miss as MissSaid, Retry as RetrySaid, Look as LookSaid}
 use Rattle.index_state.proofs.ByName.{tables_by_path}
 use Rattle.index_state.proofs.Lasting.{image_bytes, table_bytes}
 use Rattle.index_state.proofs.StoreSteps.{tables_put, tables_without}
@@ -271,3 +271,8 @@ module _ {W K : Type 0} (true_row : RowFacts → Type 0) (told : Bool) (shows : 
       subst (λ (given : List EventAnswer). P (is.first ++ is.put ∷ is.later) given) is.answers_are (subst (λ (es : List (Event W)). P es answers) is.events_are run) in
       let rests : Rests row new.index = last_put W true_row told shows path tells row old is.first is.put is.later is.early is.said is.late new is.one_each h split is.has_put is.left in
       image_bytes now new.index.broken refl (now.store_agrees_with_rows.tables tells) row.name.path rests.free image left ∙ rests.here
+
+  -- the same, where memory was wanting after the first events
+  pub first_lasts : (old : StoredIndex K) (events : List (Event W)) (answers : List EventAnswer) (rest : List (Event W)) (middle : StoredIndex K) (new : StateFacts K) → IndexInvariant true_row told shows old.index → (h : RunsFirst true_row told shows path old events answers rest middle) → WantsMemory told shows middle.index new → IsTrue told → PutsLast shows h.first answers new
+  first_lasts old events answers rest middle new holds h wants tells = λ row is image left.
+      puts_last old h.first answers middle holds h.run tells row is image (((wants.keeper.tells tells).left image).0 left)

@@ -1,15 +1,16 @@
 -- Events one after the other.
 use Rattle.std.proofs.Common.{◌≡◌, ◌⊎◌, inl, inr, ℕ, ◌≤◌, Bool, List, [], ◌∷◌, ◌++◌, length, refl, sym, ◌∙◌, ap, subst, arith, append_assoc}
-use Rattle.std.specs.Prelude.{reverse}
+use Rattle.std.specs.Prelude.{reverse, IsTrue}
 use Rattle.std.proofs.lemmas.List.{append-nil, reverse-append}
 use Rattle.row_types.specs.Faults.{HasCause, Rose, summed}
 use Rattle.row_types.specs.Row.{RowFacts}
 use Rattle.index_keeper.specs.Keeper.{IsLeftAlone, ShownKeeper}
 use Rattle.index_keeper.specs.Store.{OpensStore, ShownStore}
 use Rattle.index_keeper.specs.declared.answer.StoreAnswer.{StoreAnswer}
-use Rattle.index_keeper.specs.declared.answer.StoreAnswer.TheVariants.{Opened as StoreOpened, Failed as StoreFailed, OutOfMemory as StoreNoMemory}
+use Rattle.index_keeper.specs.declared.answer.StoreAnswer.TheVariants.{Failed as StoreFailed, OutOfMemory as StoreNoMemory}
 use Rattle.index_state.specs.EventParts.{Closes, Waits}
 use Rattle.index_state.specs.Events.{Calls, ClosesAfter, EventStep, IsRefused, IsReopening, IsStoreFault, MeetsFault, RunsFirst, RunsTo, StaysClosed, StaysShut, StopsAfter, StoredIndex, WantsMemory}
+use Rattle.index_state.specs.Puts.{PutsLast}
 use Rattle.index_state.specs.State.{StateFacts}
 use Rattle.index_state.specs.declared.events.Event.{Event}
 use Rattle.index_state.specs.declared.events.EventAnswer.{EventAnswer}
@@ -143,14 +144,19 @@ module _ {W K : Type 0} (true_row : RowFacts → Type 0) (told : Bool) (shows : 
   first_ends left h e = first_all (subst (λ (l : List (Event W)). RunsFirst true_row told shows path old events answers l middle) (none_left left e) h)
 
   -- memory was wanting for the next one
-  pub stops_after : {rest : List (Event W)} {new : StoredIndex K} {done : ℕ} → RunsFirst true_row told shows path old events answers rest middle → done ≡ length answers → Waits told shows middle new → StopsAfter true_row told shows path old events done new
-  stops_after {rest} {new} {done} h count waits = record {
+  pub stops_after : {rest : List (Event W)} {new : StoredIndex K} {done : ℕ} (h : RunsFirst true_row told shows path old events answers rest middle) → done ≡ length answers → Waits told shows middle new → (IsTrue told → PutsLast shows h.first answers new.index) → StopsAfter true_row told shows path old events done new
+  stops_after {rest} {new} {done} h count waits lasts = record {
     answers = answers;
     rest = rest;
     count = count;
     last = middle.index;
-    runs = subst (λ (s : ShownStore). RunsFirst true_row told shows path old events answers rest (record { index = middle.index; store = s })) (sym waits.store) h;
+    runs = record {
+      first = h.first;
+      parts = h.parts;
+      run = subst (λ (s : ShownStore). RunsTo true_row told shows path old h.first answers (record { index = middle.index; store = s })) (sym waits.store) h.run;
+    };
     wants = waits.wants;
+    lasts = lasts;
   }
 
   pub waits_later : {rest : List (Event W)} {new : StoredIndex K} → RunsFirst true_row told shows path old events answers rest middle → Waits told shows middle new → HasCause old.store.faults new.store.faults ⊥

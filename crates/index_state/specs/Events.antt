@@ -1,7 +1,6 @@
 -- What comes of a list of events (this project's rule): each is a case of the index step, or a reopening, in which
 -- the keeper is given back, the store is opened again, and the index on it.
-use Rattle.std.specs.Prelude.{◌≡◌, ◌≢◌, ◌⊎◌, ℕ, Bool, List, [], ◌∷◌, ◌++◌, length}
-use Rattle.row_types.specs.Faults.{HasCause}
+use Rattle.std.specs.Prelude.{◌≡◌, ◌≢◌, ◌⊎◌, ℕ, Bool, List, [], ◌∷◌, ◌++◌, length, IsTrue}
 use Rattle.row_types.specs.Row.{RowFacts}
 use Rattle.index_keeper.specs.Keeper.{IsLeftAlone, ShownKeeper}
 use Rattle.index_keeper.specs.Store.{OpensStore, ShownStore, TakesBack}
@@ -9,6 +8,7 @@ use Rattle.index_keeper.specs.declared.answer.StoreAnswer.{StoreAnswer}
 use Rattle.index_keeper.specs.declared.answer.StoreAnswer.TheVariants.{Opened as StoreOpened, Failed as StoreFailed, OutOfMemory as StoreNoMemory}
 use Rattle.index_state.specs.Invariant.{IndexInvariant}
 use Rattle.index_state.specs.Opening.{CountsFault, Opens, Refuses}
+use Rattle.index_state.specs.Puts.{PutsLast}
 use Rattle.index_state.specs.State.{StateFacts}
 use Rattle.index_state.specs.Step.{IndexStep, begins, grooms, judges, looks, misses, publishes, retries, takes, to_begin, to_groom, to_judge, to_look, to_miss, to_publish, to_retry, to_take}
 use Rattle.index_state.specs.declared.answer.Begun.TheVariants.{OutOfMemory as BegunNoMemory}
@@ -94,7 +94,7 @@ pub record RunsFirst {W K : Type 0} (true_row : RowFacts → Type 0) (told : Boo
   pub parts : events ≡ first ++ rest
   pub run : RunsTo true_row told shows path old first answers new
 
--- the first events happened, so many; then memory was wanting
+-- the first events happened, so many; then memory was wanting; rows that were put last
 pub record StopsAfter {W K : Type 0} (true_row : RowFacts → Type 0) (told : Bool) (shows : K → ShownKeeper) (path : List ℕ) (old : StoredIndex K) (events : List (Event W)) (done : ℕ) (new : StoredIndex K) : Type 0 where
   pub answers : List EventAnswer
   pub rest : List (Event W)
@@ -102,6 +102,7 @@ pub record StopsAfter {W K : Type 0} (true_row : RowFacts → Type 0) (told : Bo
   pub last : StateFacts K
   pub runs : RunsFirst true_row told shows path old events answers rest (record { index = last; store = new.store })
   pub wants : WantsMemory told shows last new.index
+  pub lasts : IsTrue told → PutsLast shows runs.first answers new.index
 
 -- the fault that stands for a store's answer
 abbrev pub IsStoreFault : {K : Type 0} → OpenFault → StoreAnswer K → Type 0

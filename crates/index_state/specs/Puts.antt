@@ -1,6 +1,6 @@
 -- Rows that last (this project's rule): a row whose put was answered stands in whatever a crash leaves, until a later
 -- event changes its path.
-use Rattle.std.specs.Prelude.{◌≡◌, ℕ, List, [], ◌∷◌, ◌++◌, length, Some, Bool, IsTrue}
+use Rattle.std.specs.Prelude.{◌≡◌, ℕ, List, ◌∷◌, ◌++◌, length, Some, Bool, IsTrue}
 use Rattle.row_types.specs.Row.{RowFacts}
 use Rattle.row_codec.specs.RowBytes.{row_bytes}
 use Rattle.index_keeper.specs.Keeper.{ShownKeeper}

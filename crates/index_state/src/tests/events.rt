@@ -144,24 +144,38 @@ fn each_event_is_answered(rt: HostRuntime) -> Result<(), Fail> {
     Ok(())
 }
 
-#[test]
-fn a_reopening_forgets_the_pass(rt: HostRuntime) -> Result<(), Fail> {
-    let alloc = rt.alloc();
-    let mut store = store_stopping_at(alloc, None);
-    let mut index = opened(alloc, &mut store)?;
-    let _scanned = scan(alloc, &mut index, FIRST)?;
+/// A pass over the second version begins, its name is taken, and the index is opened again.
+fn passes_and_reopens(alloc: Global) -> Result<Vec<Happening>, Fail> {
     let mut events = Vec::new(alloc);
     events.push(begin(alloc, SECOND)?)?;
     events.push(Event::Take)?;
     events.push(Event::Reopen)?;
     events.push(look()?)?;
-    let want = [
-        "Begun(Plan { files: 1, add: 0, replace: 1, drop: 0, keep: 0 })",
-        "/w/a 2, ",
-        "Opened",
-        "",
-    ];
-    let index = run(&rt, alloc, &mut store, index, events, &want)?;
+    Ok(events)
+}
+
+/// What is answered to each of them, where the first version's row stands.
+static FORGOTTEN: &[&str] = &[
+    "Begun(Plan { files: 1, add: 0, replace: 1, drop: 0, keep: 0 })",
+    "/w/a 2, ",
+    "Opened",
+    "",
+];
+
+/// An index with the first version's row.
+fn with_first(alloc: Global, store: &mut MemStore<TwoWorld>) -> Result<Index<TwoWorld>, Fail> {
+    let mut index = opened(alloc, store)?;
+    let _scanned = scan(alloc, &mut index, FIRST)?;
+    Ok(index)
+}
+
+#[test]
+fn a_reopening_forgets_the_pass(rt: HostRuntime) -> Result<(), Fail> {
+    let alloc = rt.alloc();
+    let mut store = store_stopping_at(alloc, None);
+    let index = with_first(alloc, &mut store)?;
+    let events = passes_and_reopens(alloc)?;
+    let index = run(&rt, alloc, &mut store, index, events, FORGOTTEN)?;
     let standing = index.standing();
     store.give_back(index.into_keeper());
     assert_eq!(rt;
@@ -175,28 +189,79 @@ fn a_reopening_forgets_the_pass(rt: HostRuntime) -> Result<(), Fail> {
     Ok(())
 }
 
+/// The row of an executable of this path and size is published.
+fn publishes(alloc: Global, text: &str, size: u64) -> Result<Event<OpenWorld>, Fail> {
+    let reading = elf(alloc, b"ab", true, false, &["/x.c"])?;
+    Ok(Event::Publish(row(alloc, text, size, reading)?))
+}
+
+/// Two executables of one id are published, and looked up.
+fn publishes_and_looks(alloc: Global) -> Result<Vec<Event<OpenWorld>>, Fail> {
+    let files = listing(alloc, &[("/a", 4), ("/b", 3)])?;
+    let id = BuildId::new(b"ab").ok_or("two bytes are an id")?;
+    let mut events = Vec::new(alloc);
+    events.push(Event::Begin(files, paths(alloc, &["/"])?))?;
+    events.push(publishes(alloc, "/b", 3)?)?;
+    events.push(publishes(alloc, "/a", 4)?)?;
+    events.push(Event::Look(id, Kind::Executable))?;
+    Ok(events)
+}
+
+/// What is answered to each of them.
+static FOUND: &[&str] = &[
+    "Begun(Plan { files: 2, add: 2, replace: 0, drop: 0, keep: 0 })",
+    "Added",
+    "Added",
+    "/a /b ",
+];
+
 #[test]
 fn a_look_up_finds_the_paths_of_an_id(rt: HostRuntime) -> Result<(), Fail> {
     let alloc = rt.alloc();
     let mut store = store_stopping_at::<OpenWorld>(alloc, None);
     let index = opened(alloc, &mut store)?;
-    let mut events = Vec::new(alloc);
-    let files = listing(alloc, &[("/a", 4), ("/b", 3)])?;
-    events.push(Event::Begin(files, paths(alloc, &["/"])?))?;
-    for (text, size) in [("/b", 3), ("/a", 4)] {
-        let reading = elf(alloc, b"ab", true, false, &["/x.c"])?;
-        events.push(Event::Publish(row(alloc, text, size, reading)?))?;
-    }
-    let id = BuildId::new(b"ab").ok_or("two bytes are an id")?;
-    events.push(Event::Look(id, Kind::Executable))?;
-    let want = [
-        "Begun(Plan { files: 2, add: 2, replace: 0, drop: 0, keep: 0 })",
-        "Added",
-        "Added",
-        "/a /b ",
-    ];
-    let index = run(&rt, alloc, &mut store, index, events, &want)?;
+    let events = publishes_and_looks(alloc)?;
+    let index = run(&rt, alloc, &mut store, index, events, FOUND)?;
     store.give_back(index.into_keeper());
+    Ok(())
+}
+
+/// Asks for a name, and reopens, which is refused. How many events happened, and why.
+fn refused(
+    alloc: Global,
+    store: &mut MemStore<TwoWorld>,
+    index: Index<TwoWorld>,
+) -> Result<(u64, OpenFault), Fail> {
+    let mut events = Vec::new(alloc);
+    events.push(Event::Take)?;
+    events.push(Event::Reopen)?;
+    events.push(Event::Take)?;
+    match run_events(alloc, index, store, "m", events) {
+        EventsEnd::Unopened { done, fault } => Ok((done, fault)),
+        _ => Err("the reopening is refused".into()),
+    }
+}
+
+/// The rows that an opening finds.
+fn found_rows(alloc: Global, store: &mut MemStore<TwoWorld>) -> Result<String, Fail> {
+    let index = opened(alloc, store)?;
+    let rows = rows_text(alloc, index.rows())?;
+    store.give_back(index.into_keeper());
+    Ok(rows)
+}
+
+/// The store stops at this call, one of the reopening's; the next opening finds the row.
+fn ends_at(rt: &impl Abort, alloc: Global, stop_at: u64) -> Result<(), Fail> {
+    let mut store = store_stopping_at(alloc, Some(stop_at));
+    let index = with_first(alloc, &mut store)?;
+    let (done, fault) = refused(alloc, &mut store, index)?;
+    assert_eq!(rt; done, 1, "{stop_at}");
+    assert!(rt; matches!(fault, OpenFault::KeeperFault), "{stop_at}");
+    assert_eq!(rt;
+        found_rows(alloc, &mut store)?.as_str(),
+        "/w/a 1, ",
+        "{stop_at}"
+    );
     Ok(())
 }
 
@@ -204,25 +269,6 @@ fn a_look_up_finds_the_paths_of_an_id(rt: HostRuntime) -> Result<(), Fail> {
 // reopening.
 #[test]
 fn a_reopening_that_is_refused_ends_the_events(rt: HostRuntime) -> Result<(), Fail> {
-    let alloc = rt.alloc();
-    for stop_at in [3, 4] {
-        let mut store = store_stopping_at(alloc, Some(stop_at));
-        let mut index = opened(alloc, &mut store)?;
-        let _scanned = scan(alloc, &mut index, FIRST)?;
-        let mut events = Vec::new(alloc);
-        events.push(Event::Take)?;
-        events.push(Event::Reopen)?;
-        events.push(Event::Take)?;
-        let EventsEnd::Unopened { done, fault } = run_events(alloc, index, &mut store, "m", events)
-        else {
-            return Err("the reopening is refused".into());
-        };
-        assert_eq!(rt; done, 1, "{stop_at}");
-        assert!(rt; matches!(fault, OpenFault::KeeperFault), "{stop_at}");
-        let index: Index<TwoWorld> = opened(alloc, &mut store)?;
-        let rows = rows_text(alloc, index.rows())?;
-        store.give_back(index.into_keeper());
-        assert_eq!(rt; rows.as_str(), "/w/a 1, ", "{stop_at}");
-    }
-    Ok(())
+    ends_at(&rt, rt.alloc(), 3)?;
+    ends_at(&rt, rt.alloc(), 4)
 }

@@ -88,17 +88,28 @@ fn pass_twice(
     }
 }
 
+/// The rows that the next opening finds.
+fn found_rows(alloc: Global, store: &mut MemStore<OpenWorld>) -> Result<String, Fail> {
+    let index = opened(alloc, store)?;
+    let rows = rows_text(alloc, index.rows())?;
+    store.give_back(index.into_keeper());
+    Ok(rows)
+}
+
+/// Makes both passes on a store that stops at the call, and compares the rows.
+fn stops_at(rt: &impl Abort, alloc: Global, stop: &Stop) -> Result<(), Fail> {
+    let (call, what) = stop.call;
+    let mut store = store_stopping_at(alloc, Some(call));
+    pass_twice(rt, alloc, &mut store, what)?;
+    let rows = found_rows(alloc, &mut store)?;
+    assert_eq!(rt; rows.as_str(), stop.rows, "{what}");
+    Ok(())
+}
+
 #[test]
 fn a_stop_at_any_call_leaves_the_rows_before_it_or_after_it(rt: HostRuntime) -> Result<(), Fail> {
-    let alloc = rt.alloc();
     for stop in STOPS {
-        let (call, what) = stop.call;
-        let mut store = store_stopping_at(alloc, Some(call));
-        pass_twice(&rt, alloc, &mut store, what)?;
-        let index = opened(alloc, &mut store)?;
-        let rows = rows_text(alloc, index.rows())?;
-        store.give_back(index.into_keeper());
-        assert_eq!(rt; rows.as_str(), stop.rows, "{what}");
+        stops_at(&rt, rt.alloc(), stop)?;
     }
     Ok(())
 }
