@@ -67,7 +67,8 @@ pub record Goes {K : Type 0} (told : Bool) (version : Versions) (shows : K → S
   pub out : (pass_of start.pass).out ≡ [] → (pass_of now.pass).out ≡ []
 
 -- what comes of a row that is awaited
-abbrev pub PublishesNew : {K : Type 0} → Bool → (K → ShownKeeper) → RowFacts → StateFacts K → StateFacts K → Option WorkEnd → Type 0
+abbrev pub PublishesNew : {K : Type 0} → Bool → (K → ShownKeeper) → RowFacts → StateFacts K → StateFacts K
+    → Option WorkEnd → Type 0
 PublishesNew tells shows row old new None = Stores tells shows row old new
 PublishesNew tells shows row old new (Some KeeperFault) = Breaks tells shows row old new
 PublishesNew tells shows row old new (Some LogFull) = Stays (IsShut row.name old) old new

@@ -1,13 +1,15 @@
 //! What the settling of a pass comes to, case by case.
 
 use crate::settle;
-use crate::tests::helpers::{Version, opened, passing, store_of, tree_of};
+use crate::tests::helpers::{Index, Version, opened, passing, store_of, tree_of};
 use elf_reading::ElfReader;
-use index_keeper::Store;
+use index_keeper::{MemStore, Store};
 use sample_rows::rows_text;
 use scan_queue::{Cause, Miss, Seen};
 use scan_worker::WorkEnd;
+use std::alloc::Global;
 use std::test::Fail;
+use tree_trait::{MemTree, TwoWorld};
 
 /// A pass that is settled, and what it comes to.
 struct Case {
@@ -197,30 +199,54 @@ static CASES: [Case; 12] = [
     },
 ];
 
+/// The index in the state in which a case begins: with the row of a version, or without rows.
+fn begun(
+    alloc: Global,
+    store: &mut MemStore<TwoWorld>,
+    stood: Option<Version>,
+) -> Result<Index, Fail> {
+    let index = opened(alloc, store)?;
+    if stood.is_none() {
+        return Ok(index);
+    }
+    let tree = tree_of(alloc, stood, false)?;
+    let (index, _) = settled(alloc, index, "/w", stood, tree)?;
+    Ok(index)
+}
+
+/// The index after a pass over the version, or over nothing, under this root, and how the pass was
+/// settled.
+fn settled(
+    alloc: Global,
+    index: Index,
+    root: &str,
+    listed: Option<Version>,
+    tree: MemTree<TwoWorld>,
+) -> Result<(Index, WorkEnd), Fail> {
+    let begun = passing(alloc, index, root, listed)?;
+    let (index, _, end) = settle(alloc, begun, tree, &ElfReader);
+    Ok((index, end))
+}
+
+/// What a case comes to: how it ends, the rows, and why the first missed name was missed.
+fn run_case(alloc: Global, case: &Case) -> Result<(WorkEnd, String, &'static str), Fail> {
+    let mut store = store_of(alloc, case.stop_at);
+    let index = begun(alloc, &mut store, case.stood)?;
+    let tree = tree_of(alloc, case.there, case.fails)?;
+    let (index, end) = settled(alloc, index, case.root, case.listed, tree)?;
+    let rows = rows_text(alloc, index.rows())?;
+    let missed = words_of(index.first_miss());
+    store.give_back(index.into_keeper());
+    Ok((end, rows, missed))
+}
+
 #[test]
 fn a_pass_is_settled(rt: HostRuntime) -> Result<(), Fail> {
-    let alloc = rt.alloc();
     for case in &CASES {
-        let mut store = store_of(alloc, case.stop_at);
-        let mut index = opened(alloc, &mut store)?;
-        if let Some(version) = case.stood {
-            let tree = tree_of(alloc, Some(version), false)?;
-            let fresh = passing(alloc, index, "/w", Some(version))?;
-            let (state, _, _) = settle(alloc, fresh, tree, &ElfReader);
-            index = state;
-        }
-        let tree = tree_of(alloc, case.there, case.fails)?;
-        let begun = passing(alloc, index, case.root, case.listed)?;
-        let (index, _, end) = settle(alloc, begun, tree, &ElfReader);
+        let (end, rows, missed) = run_case(rt.alloc(), case)?;
         assert_eq!(rt; end, case.end, "{}", case.shows);
-        assert_eq!(rt;
-            rows_text(alloc, index.rows())?.as_str(),
-            case.rows,
-            "{}",
-            case.shows
-        );
-        assert_eq!(rt; words_of(index.first_miss()), case.missed, "{}", case.shows);
-        store.give_back(index.into_keeper());
+        assert_eq!(rt; rows.as_str(), case.rows, "{}", case.shows);
+        assert_eq!(rt; missed, case.missed, "{}", case.shows);
     }
     Ok(())
 }
