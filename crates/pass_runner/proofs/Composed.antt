@@ -1,5 +1,5 @@
 -- What the settling did, from nothing and one after the other.
-use Rattle.std.proofs.Common.{◌≡◌, ℕ, ◌≤◌, Bool, true, false, List, [], ◌∷◌, ◌++◌, Option, Some, None, refl, sym, ◌∙◌, ap, subst, arith}
+use Rattle.std.proofs.Common.{◌≡◌, ℕ, Bool, List, [], refl, sym, ◌∙◌, ap, subst, arith}
 use Rattle.std.specs.List.{All}
 use Rattle.std.proofs.lemmas.Bool.{false_from_ne_true, true≢false}
 use Rattle.std.proofs.lemmas.List.Elements.{All-nil, All-append, All-weaker}
@@ -15,7 +15,7 @@ use Rattle.tree_trait.specs.Heard.{Heard, load, stat, read_dir}
 use Rattle.tree_trait.specs.Shown.{ShownTree}
 use Rattle.pass_runner.specs.Settled.{IsNew, IsPassOn, IsWanted, Settles}
 use Rattle.pass_runner.specs.Turns.{Advances, Listens}
-use Rattle.pass_runner.proofs.Moves.{advances_as, advances_then, listens_none, listens_then, pass_then, rose_after, rose_before, same_listing, still_brought, still_missed}
+use Rattle.pass_runner.proofs.Moves.{advances_then, listens_none, listens_then, rose_after, rose_before, same_listing, still_brought, still_missed}
 use Rattle.pass_runner.proofs.NameLists.{in_by_stamp}
 
 module _ {K : Type 0} {told : Bool} {version : Versions} {shows : K → ShownKeeper} where

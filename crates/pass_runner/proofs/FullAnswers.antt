@@ -1,19 +1,18 @@
 -- What a walk heard stays full, and leads to the same listing, where only loads and looks follow it.
-use Rattle.std.proofs.Common.{◌≡◌, ℕ, ◌≤◌, inl, inr, true, false, List, [], ◌∷◌, ◌++◌, length, Option, Some, None, IsSome, refl, sym, ◌∙◌, ap, subst}
-use Rattle.std.specs.List.{All, Contains}
+use Rattle.std.proofs.Common.{◌≡◌, ℕ, inl, inr, true, List, [], ◌∷◌, ◌++◌, Option, Some, None, IsSome, refl, sym, ◌∙◌, ap, subst}
+use Rattle.std.specs.List.{All}
 use Rattle.std.specs.Option.{option_or}
 use Rattle.std.proofs.lemmas.List.Elements.{All-head, All-tail}
 use Rattle.row_types.specs.Name.{NameFacts}
 use Rattle.tree_trait.specs.Dir.{DirFacts}
-use Rattle.tree_trait.specs.Entry.{EntryFacts, has_entry}
+use Rattle.tree_trait.specs.Entry.{has_entry}
 use Rattle.tree_trait.specs.Heard.{Heard, load, stat, read_dir}
 use Rattle.tree_trait.specs.declared.entry.EntryKind.{EntryKind}
 use Rattle.tree_trait.specs.declared.entry.EntryKind.TheVariants as kind
 use Rattle.tree_trait.specs.declared.stat.StatAnswer.{StatAnswer}
-use Rattle.tree_trait.specs.declared.stat.StatAnswer.TheVariants.{File, Folder}
 use Rattle.tree_walk.specs.Answers.{entries_of, first_look, first_reading, first_some, look_at, reading_of}
 use Rattle.tree_walk.specs.Walked.{AsksAll, IsCandidate, IsEntry, IsFolder, IsNamed, IsReached, IsWalkListing, IsWalked, root, entry}
-use Rattle.tree_walk.proofs.FirstLemmas.{first_some-append, or_none, some_or}
+use Rattle.tree_walk.proofs.FirstLemmas.{first_some-append, or_none}
 use Rattle.tree_walk.proofs.ReachLemmas.{candidate_more}
 use Rattle.pass_runner.specs.Settled.{IsWanted}
 

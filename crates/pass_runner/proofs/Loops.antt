@@ -1,10 +1,9 @@
 -- The names of a pass, one after the other.
 use Rattle.std.proofs.Common.{◌≡◌, ℕ, ◌≤◌, ◌<◌, Bool, true, false, not, cond, List, [], ◌∷◌, ◌++◌, ◌||◌, length, suc, Option, Some, None, refl, sym, ◌∙◌, ap, subst, arith}
-use Rattle.std.specs.List.{filter}
 use Rattle.std.specs.Prelude.{IfSome}
 use Rattle.std.proofs.lemmas.List.Elements.{All-nil}
 use Rattle.row_types.specs.Faults.{HasCause}
-use Rattle.row_types.specs.Name.{NameFacts, same_name}
+use Rattle.row_types.specs.Name.{NameFacts}
 use Rattle.row_types.specs.Row.{RowFacts}
 use Rattle.index_keeper.specs.Keeper.{ShownKeeper}
 use Rattle.index_rows.specs.Rows.{row_names}
@@ -24,12 +23,12 @@ use Rattle.scan_worker.specs.declared.work_end.WorkEnd.{WorkEnd}
 use Rattle.scan_worker.specs.declared.work_end.WorkEnd.TheVariants.{Empty, Broken, KeeperFault, LogFull, OutOfMemory}
 use Rattle.tree_trait.specs.Found.{Versions}
 use Rattle.tree_trait.specs.Shown.{ShownTree}
-use Rattle.pass_runner.specs.Ends.{IsOver, IsRead, IsSettled, ReadsBy, SettlesBy, TurnsBy}
+use Rattle.pass_runner.specs.Ends.{IsOver, IsRead, IsSettled, ReadsBy, SettlesBy}
 use Rattle.pass_runner.specs.Settled.{IsPassOn, IsWanted, Settles}
 use Rattle.pass_runner.specs.Turns.{Goes, TurnsOver}
 use Rattle.pass_runner.proofs.Moves.{listens_none, rose_after}
 use Rattle.pass_runner.proofs.Composed.{settles_by, settles_none, settles_then}
-use Rattle.pass_runner.proofs.Steps.{pass_on, same_on}
+use Rattle.pass_runner.proofs.Steps.{pass_on}
 
 nothing_before : {X : Type 0} (x : X) (front back : List X) → front ++ back ≡ [] → front ++ x ∷ back ≡ x ∷ []
 nothing_before x [] [] e = refl

@@ -1,11 +1,10 @@
 -- What the hand heard and where the index went, one after the other.
-use Rattle.std.proofs.Common.{◌≡◌, ℕ, ◌≤◌, ◌+◌, ◌⊎◌, inl, inr, Bool, true, false, List, [], ◌∷◌, ◌++◌, Option, Some, None, refl, sym, ◌∙◌, ap, subst, arith, append_assoc, IsTrue}
+use Rattle.std.proofs.Common.{◌≡◌, ℕ, ◌≤◌, inl, inr, Bool, true, false, List, [], ◌∷◌, ◌++◌, Option, Some, None, refl, sym, ◌∙◌, ap, subst, arith, append_assoc}
 use Rattle.std.specs.Prelude.{if◌then◌else◌}
 use Rattle.std.specs.List.{All, Contains}
-use Rattle.std.proofs.lemmas.Bool.{true≢false}
 use Rattle.std.proofs.lemmas.List.{append-nil}
 use Rattle.std.proofs.lemmas.List.Elements.{All-nil, All-cons, All-append, All-contains, All-contains_itself, All-weaker, Contains-append_left, Contains-append_right, Contains-push}
-use Rattle.row_types.specs.Faults.{HasCause, Rose}
+use Rattle.row_types.specs.Faults.{Rose}
 use Rattle.row_types.specs.Name.{NameFacts, stamp_at}
 use Rattle.row_types.specs.Row.{RowFacts}
 use Rattle.index_keeper.specs.Keeper.{ShownKeeper}
@@ -20,8 +19,8 @@ use Rattle.scan_queue.specs.declared.miss.Miss.{Miss}
 use Rattle.tree_trait.specs.Asks.{Asks, FitsAny, IsTold}
 use Rattle.tree_trait.specs.Found.{Versions}
 use Rattle.tree_trait.specs.Heard.{Heard, after_asked, wants_memory, with_answers}
-use Rattle.tree_trait.specs.Shown.{HandsOn, ShownTree, StaysStill}
-use Rattle.pass_runner.specs.Settled.{IsBacked, IsBrought, IsMissBy, IsPassOn, IsSeenGone, MayGo}
+use Rattle.tree_trait.specs.Shown.{ShownTree, StaysStill}
+use Rattle.pass_runner.specs.Settled.{IsBacked, IsBrought, IsMissBy, IsPassOn, IsSeenGone}
 use Rattle.pass_runner.specs.Turns.{Advances, Listens, heard_of}
 
 -- nothing was heard

@@ -1,14 +1,14 @@
 -- Names of listings and of rows, before and after a row is put or goes.
-use Rattle.std.proofs.Common.{◌≡◌, ℕ, ◌&&◌, ◌||◌, Bool, true, false, not, cond, List, [], ◌∷◌, Option, Some, None, refl, sym, ◌∙◌, ap, subst}
+use Rattle.std.proofs.Common.{◌≡◌, ℕ, ◌&&◌, true, false, not, cond, List, [], ◌∷◌, Option, Some, None, refl, sym, ◌∙◌, ap}
 use Rattle.std.specs.List.{filter, find}
 use Rattle.std.specs.Option.{option_map}
 use Rattle.std.specs.Str.{bytes_eq}
 use Rattle.std.proofs.lemmas.Bool.{and_from, false_from_ne_true, or_left, or_right, true≢false, not_from_false}
 use Rattle.std.proofs.lemmas.Slice.Eq.{bytes_eq-Decides}
 use Rattle.row_types.specs.Ascends.{AscendsBy}
-use Rattle.row_types.specs.Name.{NameFacts, same_name, stamp_at}
+use Rattle.row_types.specs.Name.{NameFacts, stamp_at}
 use Rattle.row_types.specs.Row.{RowFacts}
-use Rattle.row_types.specs.Stamp.{StampFacts, same_stamp}
+use Rattle.row_types.specs.Stamp.{StampFacts}
 use Rattle.row_types.proofs.PartLemmas.{names_same}
 use Rattle.index_rows.specs.ByPath.{put_at}
 use Rattle.index_rows.specs.Rows.{row_names, row_path, with_row, without_row}

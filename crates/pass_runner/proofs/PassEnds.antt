@@ -1,10 +1,10 @@
 -- A pass that was begun, and how it ends.
-use Rattle.std.proofs.Common.{◌≡◌, ℕ, ◌≤◌, ◌⊎◌, inl, inr, Bool, true, false, List, [], ◌∷◌, ◌++◌, length, Option, Some, None, refl, sym, ◌∙◌, ap, subst, arith, IsTrue, Ok, Err}
-use Rattle.std.specs.List.{All, Contains}
+use Rattle.std.proofs.Common.{◌≡◌, ℕ, inl, inr, Bool, false, List, [], ◌∷◌, length, Option, Some, None, refl, sym, ◌∙◌, ap, subst, arith, IsTrue}
+use Rattle.std.specs.List.{All}
 use Rattle.std.specs.Prelude.{IfSome}
 use Rattle.std.proofs.lemmas.Bool.{true≢false}
-use Rattle.std.proofs.lemmas.List.Elements.{All-append, All-head, All-weaker}
-use Rattle.row_types.specs.Faults.{HasCause, Rose}
+use Rattle.std.proofs.lemmas.List.Elements.{All-head, All-weaker}
+use Rattle.row_types.specs.Faults.{Rose}
 use Rattle.row_types.specs.Name.{NameFacts}
 use Rattle.row_types.specs.Rules.{Rules}
 use Rattle.index_keeper.specs.Keeper.{ShownKeeper}
@@ -16,7 +16,7 @@ use Rattle.index_state.specs.Step.{BeginsPass, after_begin}
 use Rattle.index_state.specs.declared.answer.Plan.{Plan}
 use Rattle.index_state.specs.declared.answer.Standing.{Standing}
 use Rattle.index_state.proofs.Keeps.{there}
-use Rattle.scan_queue.specs.Pass.{IsWhole, PassFacts, begun, first_missed}
+use Rattle.scan_queue.specs.Pass.{PassFacts, begun, first_missed}
 use Rattle.scan_queue.specs.declared.miss.Cause.{Cause}
 use Rattle.scan_queue.specs.declared.miss.Cause.TheVariants.{ReadFault, Altered, Appeared}
 use Rattle.scan_queue.specs.declared.miss.Miss.{Miss}
@@ -26,7 +26,7 @@ use Rattle.tree_trait.specs.Shown.{ShownTree}
 use Rattle.pass_runner.specs.Ends.{IsSettled}
 use Rattle.pass_runner.specs.Numbers.{summary_of}
 use Rattle.pass_runner.specs.Owned.{is_hand_fault, is_read_fault}
-use Rattle.pass_runner.specs.Passes.{EndsBegun, EndsOf, EndsOver, IsDone, IsFirstMiss, IsFresh, IsHandedOut, StaysSame}
+use Rattle.pass_runner.specs.Passes.{EndsBegun, EndsOf, EndsOver, IsDone, IsFresh, IsHandedOut}
 use Rattle.pass_runner.specs.Settled.{IsBacked, IsMissBy, Settles}
 use Rattle.pass_runner.specs.declared.pass_end.PassEnd.{PassEnd}
 use Rattle.pass_runner.specs.declared.pass_end.PassEnd.TheVariants.{Whole, Missed, Walk, Broken}

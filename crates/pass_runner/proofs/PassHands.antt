@@ -1,9 +1,9 @@
 -- What a pass leaves of a hand.
-use Rattle.std.proofs.Common.{◌≡◌, ℕ, ◌≤◌, ◌<◌, Bool, true, false, List, [], ◌∷◌, length, slice_index_or, slice_set, subst, Option, Some, None, refl, sym, ◌∙◌, ap, arith, IsTrue, Err}
+use Rattle.std.proofs.Common.{◌≡◌, ℕ, ◌≤◌, ◌<◌, Bool, List, [], ◌∷◌, length, slice_index_or, slice_set, subst, refl, sym, ◌∙◌, ap, arith, IsTrue, Err}
 use Rattle.std.specs.Prelude.{Result}
 use Rattle.std.specs.List.{AllZip}
 use Rattle.std.proofs.lemmas.Bool.{true≢false}
-use Rattle.row_types.specs.Faults.{HasCause, Rose}
+use Rattle.row_types.specs.Faults.{Rose}
 use Rattle.tree_trait.specs.Found.{Versions}
 use Rattle.tree_trait.specs.Shown.{HandsOn, ShownTree}
 use Rattle.tree_walk.specs.declared.fault.WalkFault.{WalkFault}

@@ -1,32 +1,29 @@
 -- A pass whose listing was walked.
-use Rattle.std.proofs.Common.{◌≡◌, ℕ, ◌≤◌, ◌<◌, ◌⊎◌, inl, inr, Bool, true, false, List, [], ◌∷◌, ◌++◌, length, Option, Some, None, refl, sym, ◌∙◌, ap, subst, arith, IsTrue, Ok, Err, append_assoc}
-use Rattle.std.specs.List.{All, AllZip}
-use Rattle.std.proofs.lemmas.Bool.{true≢false}
+use Rattle.std.proofs.Common.{◌≡◌, ℕ, inl, inr, Bool, true, false, List, [], Option, refl, sym, ◌∙◌, ap, subst, Ok}
+use Rattle.std.specs.List.{All}
 use Rattle.std.proofs.lemmas.List.Elements.{All-append, All-nil, All-weaker}
-use Rattle.row_types.specs.Faults.{HasCause, Rose}
+use Rattle.row_types.specs.Faults.{Rose}
 use Rattle.row_types.specs.Name.{NameFacts}
 use Rattle.row_types.specs.Rules.{Rules}
 use Rattle.index_keeper.specs.Keeper.{ShownKeeper}
 use Rattle.index_rows.specs.Rows.{row_names}
 use Rattle.index_state.specs.State.{StateFacts, pass_of}
 use Rattle.index_state.specs.Step.{after_begin}
-use Rattle.scan_queue.specs.Pass.{PassFacts, begun}
+use Rattle.scan_queue.specs.Pass.{PassFacts}
 use Rattle.scan_queue.specs.declared.miss.Cause.{Cause}
 use Rattle.scan_queue.specs.declared.miss.Cause.TheVariants.{ReadFault, Altered, Appeared}
 use Rattle.scan_queue.specs.declared.miss.Miss.{Miss}
 use Rattle.tree_trait.specs.Asks.{FitsAny, IsTold}
 use Rattle.tree_trait.specs.Found.{Versions}
-use Rattle.tree_trait.specs.Heard.{Heard, with_answers}
+use Rattle.tree_trait.specs.Heard.{Heard}
 use Rattle.tree_trait.specs.Shown.{HandsOn, ShownTree}
-use Rattle.tree_walk.specs.Ends.{IsWholeWalk, Walks}
+use Rattle.tree_walk.specs.Ends.{Walks}
 use Rattle.tree_walk.specs.Files.{AreFilesUnder}
-use Rattle.tree_walk.specs.declared.fault.WalkFault.{WalkFault}
-use Rattle.tree_walk.specs.declared.fault.WalkFault.TheVariants as stop
 use Rattle.tree_walk.specs.declared.walked.Walk.{Walk as WalkFacts}
 use Rattle.pass_runner.specs.Ends.{IsOutOfRoom}
-use Rattle.pass_runner.specs.Owned.{EndsEarly, EndsPass, HasMissed, HearsPass, Helps, IsWholePass, LeavesIndex, RunsPass, TellsStill, is_hand_fault}
-use Rattle.pass_runner.specs.Passes.{EndsOver, IsFirstMiss, SettlesTo}
-use Rattle.pass_runner.specs.Settled.{IsBacked, IsWanted, MayGo, Settles}
+use Rattle.pass_runner.specs.Owned.{EndsPass, HasMissed, HearsPass, Helps, IsWholePass, LeavesIndex, RunsPass, TellsStill}
+use Rattle.pass_runner.specs.Passes.{EndsOver, IsFirstMiss}
+use Rattle.pass_runner.specs.Settled.{IsBacked, IsWanted, Settles}
 use Rattle.pass_runner.specs.declared.pass_end.PassEnd.{PassEnd}
 use Rattle.pass_runner.specs.declared.pass_end.PassEnd.TheVariants.{Whole, Missed, Walk, Broken}
 use Rattle.pass_runner.specs.declared.pass_end.PassEnd.TheVariants.{KeeperFault, LogFull, OutOfMemory}

@@ -1,31 +1,29 @@
 -- Where the index goes in each of its steps.
-use Rattle.std.proofs.Common.{◌≡◌, ℕ, ◌≤◌, ◌<◌, ◌⊎◌, inl, inr, ◌&&◌, Bool, true, false, not, cond, List, [], ◌∷◌, ◌++◌, length, Option, Some, None, refl, sym, ◌∙◌, ap, subst, arith}
+use Rattle.std.proofs.Common.{◌≡◌, ℕ, ◌≤◌, ◌⊎◌, inl, inr, ◌&&◌, Bool, true, false, not, cond, List, [], ◌∷◌, ◌++◌, length, Option, Some, None, refl, sym, ◌∙◌, ap, subst, arith}
 use Rattle.std.specs.List.{All, Contains, filter}
 use Rattle.std.specs.Option.{option_map}
 use Rattle.std.specs.Prelude.{IfSome}
 use Rattle.std.proofs.lemmas.Bool.{and_parts, true≢false}
 use Rattle.std.proofs.lemmas.List.Elements.{All-nil, All-contains_itself, All-filter, All-weaker, Contains-append_cases, Contains-append_left, Contains-append_right, Contains-push_cases}
-use Rattle.row_types.specs.Faults.{HasCause}
 use Rattle.row_types.specs.Name.{NameFacts, same_name}
 use Rattle.row_types.specs.Row.{RowFacts}
-use Rattle.row_types.specs.Stamp.{StampFacts, same_stamp}
+use Rattle.row_types.specs.Stamp.{StampFacts}
 use Rattle.index_keeper.specs.Keeper.{ShownKeeper}
 use Rattle.std.specs.Str.{bytes_eq}
 use Rattle.index_rows.specs.Rows.{row_names, row_path}
 use Rattle.index_rows.proofs.PathLemmas.{put_holds}
 use Rattle.scan_queue.specs.Names.{IsByPath, is_in, without}
-use Rattle.scan_queue.specs.Pass.{Adds, IsPass, MissesName, PassFacts, left, misses_without}
+use Rattle.scan_queue.specs.Pass.{Adds, IsPass, MissesName, PassFacts, left}
 use Rattle.scan_queue.specs.declared.miss.Cause.{Cause}
-use Rattle.scan_queue.specs.declared.miss.Cause.TheVariants.{Appeared}
 use Rattle.scan_queue.specs.declared.miss.Miss.{Miss}
 use Rattle.scan_queue.specs.declared.miss.Seen.{Seen}
 use Rattle.scan_queue.specs.declared.miss.Seen.TheVariants as seen
 use Rattle.scan_queue.proofs.NameTests.{same_stamp-Decides}
-use Rattle.index_state.specs.Away.{MissesFrom, MissesOut}
+use Rattle.index_state.specs.Away.{MissesOut}
 use Rattle.index_state.specs.Invariant.{IndexInvariant}
-use Rattle.index_state.specs.Judge.{IsGone, IsLeftOver, MovesOff, Removes, is_file, is_kept, is_strange, is_under}
+use Rattle.index_state.specs.Judge.{IsGone, IsLeftOver, Removes, is_file, is_kept, is_strange, is_under}
 use Rattle.index_state.specs.State.{StateFacts, pass_of}
-use Rattle.index_state.specs.Step.{Appears, IsAwaited, Stores}
+use Rattle.index_state.specs.Step.{IsAwaited, Stores}
 use Rattle.index_state.proofs.Keeps.{there}
 use Rattle.tree_trait.specs.Heard.{Heard, stat}
 use Rattle.tree_trait.specs.declared.stat.StatAnswer.{StatAnswer}
@@ -33,7 +31,6 @@ use Rattle.tree_trait.specs.declared.stat.StatAnswer.TheVariants.{Folder, File, 
 use Rattle.pass_runner.specs.Ends.{IsOver}
 use Rattle.pass_runner.specs.Settled.{IsBacked, IsBrought, IsMissBy, IsMissing, IsPassOn, IsReadOf, IsSeenGone}
 use Rattle.pass_runner.specs.Turns.{Advances, HasSeen, looked_of}
-use Rattle.pass_runner.specs.declared.look_for.Looked.{Looked}
 use Rattle.pass_runner.specs.declared.look_for.Looked.TheVariants as looked
 use Rattle.pass_runner.proofs.Moves.{still_brought, still_missed}
 use Rattle.pass_runner.proofs.NameLists.{drop_goes, drop_stays, put_goes, put_stays}

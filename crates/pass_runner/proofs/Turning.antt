@@ -1,18 +1,14 @@
 -- What becomes of a name that was handed out.
-use Rattle.std.proofs.Common.{◌≡◌, ◌≢◌, ℕ, ◌≤◌, ◌<◌, Bool, true, false, not, List, [], ◌∷◌, ◌++◌, length, Option, Some, None, refl, sym, ◌∙◌, ap, subst, arith, IsTrue}
+use Rattle.std.proofs.Common.{◌≡◌, ◌≢◌, ℕ, Bool, true, false, List, [], Option, Some, None, refl, sym, ◌∙◌, ap, subst, arith, IsTrue}
 use Rattle.std.specs.List.{All, Contains}
-use Rattle.std.specs.Option.{option_map}
 use Rattle.std.proofs.lemmas.Bool.{true≢false}
 use Rattle.std.proofs.lemmas.List.Elements.{All-nil, All-weaker}
-use Rattle.row_types.specs.Faults.{HasCause, Rose}
-use Rattle.row_types.specs.Name.{NameFacts, stamp_at}
+use Rattle.row_types.specs.Faults.{Rose}
+use Rattle.row_types.specs.Name.{NameFacts}
 use Rattle.row_types.specs.Row.{RowFacts}
-use Rattle.row_types.specs.declared.limits.TheConstants.{FILE_LIMIT}
 use Rattle.index_keeper.specs.Keeper.{ShownKeeper}
 use Rattle.index_rows.specs.Rows.{row_names}
-use Rattle.index_rows.specs.declared.rows.TheConstants.{LOG_LIMIT}
 use Rattle.scan_queue.specs.Names.{is_in}
-use Rattle.scan_queue.specs.Pass.{PassFacts, left}
 use Rattle.scan_queue.specs.declared.miss.Cause.{Cause}
 use Rattle.scan_queue.specs.declared.miss.Cause.TheVariants.{ReadFault, Altered, Appeared}
 use Rattle.scan_queue.specs.declared.miss.Seen.{Seen}
@@ -20,23 +16,22 @@ use Rattle.index_state.specs.Away.{MissesOut}
 use Rattle.index_state.specs.Invariant.{IndexInvariant}
 use Rattle.index_state.specs.Judge.{is_kept, is_under}
 use Rattle.index_state.specs.State.{StateFacts, pass_of}
-use Rattle.index_state.specs.Step.{IsAwaited, IsShut, Judges, Stays}
+use Rattle.index_state.specs.Step.{IsAwaited, Judges}
 use Rattle.index_state.specs.declared.answer.Judged.{Judged}
 use Rattle.index_state.specs.declared.answer.Judged.TheVariants as judged
-use Rattle.scan_worker.specs.Read.{FindsOther, LeadsTo, MayWant, Reads, load_of}
+use Rattle.scan_worker.specs.Read.{FindsOther, Reads, load_of}
 use Rattle.scan_worker.specs.declared.work_end.WorkEnd.{WorkEnd}
-use Rattle.scan_worker.specs.declared.work_end.WorkEnd.TheVariants.{Empty, Broken, KeeperFault, LogFull, OutOfMemory}
+use Rattle.scan_worker.specs.declared.work_end.WorkEnd.TheVariants.{KeeperFault, LogFull, OutOfMemory}
 use Rattle.tree_trait.specs.Asks.{Asks}
 use Rattle.tree_trait.specs.Found.{Versions}
 use Rattle.tree_trait.specs.Heard.{Heard, load, stat, read_dir, has_failed, wants_memory}
-use Rattle.tree_trait.specs.Load.{LoadFacts, loaded, too_large, gone, failed, no_memory}
+use Rattle.tree_trait.specs.Load.{LoadFacts, loaded, too_large, gone, failed}
 use Rattle.tree_trait.specs.Shown.{ShownTree}
 use Rattle.tree_trait.specs.declared.stat.StatAnswer.{StatAnswer}
 use Rattle.tree_trait.specs.declared.stat.StatAnswer.TheVariants as said
 use Rattle.pass_runner.specs.Ends.{IsOutOfRoom, TurnsBy}
-use Rattle.pass_runner.specs.Settled.{IsBacked, IsNew, IsPassOn, IsReadOf, IsWanted}
+use Rattle.pass_runner.specs.Settled.{IsBacked, IsPassOn, IsReadOf, IsWanted}
 use Rattle.pass_runner.specs.Turns.{Advances, HasSeen, IsLookUnder, JudgesLeft, Listens, Looks, LooksTo, PublishesNew, TurnsOver, after_judged, heard_of, looked_of}
-use Rattle.pass_runner.specs.declared.look_for.Looked.{Looked}
 use Rattle.pass_runner.specs.declared.look_for.Looked.TheVariants as looked
 use Rattle.pass_runner.proofs.Moves.{all_heard, is_heard, listens_none, listens_one}
 use Rattle.pass_runner.proofs.NameLists.{stamp_listed}

@@ -1,17 +1,16 @@
 -- The pass over an index that is owned (this project's rule): the roots are walked, a pass over the walk listing begins,
 -- and it is settled. Whole: the index is one scan of the walk listing, and the numbers are those of its plan against the
 -- rows that the index brought. The first hand walks and settles; what another hand may ask is said of each.
-use Rattle.std.specs.Prelude.{◌≡◌, ◌⊎◌, ℕ, Bool, true, false, List, [], ◌∷◌, ◌++◌, All, Option, Some, IsTrue, Ok, Err}
+use Rattle.std.specs.Prelude.{◌≡◌, ◌⊎◌, ℕ, Bool, true, false, List, [], ◌∷◌, ◌++◌, All, Some, IsTrue, Ok, Err}
 use Rattle.std.specs.List.{AllZip}
 use Rattle.row_types.specs.Faults.{Rose}
 use Rattle.row_types.specs.Name.{NameFacts}
-use Rattle.row_types.specs.Row.{RowFacts}
 use Rattle.row_types.specs.Rules.{Rules}
 use Rattle.index_keeper.specs.Keeper.{ShownKeeper}
 use Rattle.index_rows.specs.Rows.{row_names}
 use Rattle.index_state.specs.Complete.{CompletePass}
 use Rattle.index_state.specs.Plan.{plan_of}
-use Rattle.index_state.specs.State.{Origin, StateFacts, pass_of}
+use Rattle.index_state.specs.State.{StateFacts, pass_of}
 use Rattle.scan_queue.specs.Names.{is_in}
 use Rattle.scan_queue.specs.Pass.{IsWhole, PassFacts, first_missed}
 use Rattle.scan_queue.specs.declared.miss.Cause.{Cause}

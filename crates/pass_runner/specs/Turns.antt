@@ -6,7 +6,7 @@ use Rattle.row_types.specs.Row.{RowFacts}
 use Rattle.index_keeper.specs.Keeper.{ShownKeeper}
 use Rattle.index_rows.specs.Rows.{row_names}
 use Rattle.index_state.specs.Judge.{is_under}
-use Rattle.index_state.specs.State.{Origin, StateFacts, pass_of}
+use Rattle.index_state.specs.State.{StateFacts, pass_of}
 use Rattle.index_state.specs.Step.{Breaks, FindsNoMemory, IsShut, Judges, Stays, Stores}
 use Rattle.index_state.specs.declared.answer.Judged.{Judged}
 use Rattle.index_state.specs.declared.answer.Judged.TheVariants.{Broken as JudgedBroken, LogFull as JudgedFull, KeeperFault as JudgedFault, OutOfMemory as JudgedNoMemory}
@@ -14,7 +14,7 @@ use Rattle.scan_queue.specs.Names.{is_in}
 use Rattle.scan_queue.specs.declared.miss.Seen.{Seen}
 use Rattle.scan_queue.specs.declared.miss.Seen.TheVariants as seen
 use Rattle.scan_worker.specs.declared.work_end.WorkEnd.{WorkEnd}
-use Rattle.scan_worker.specs.declared.work_end.WorkEnd.TheVariants.{Empty, Broken, KeeperFault, LogFull, OutOfMemory}
+use Rattle.scan_worker.specs.declared.work_end.WorkEnd.TheVariants.{Broken, KeeperFault, LogFull, OutOfMemory}
 use Rattle.tree_trait.specs.Asks.{FitsAny, IsTold}
 use Rattle.tree_trait.specs.Found.{Versions}
 use Rattle.tree_trait.specs.Heard.{Heard, stat, wants_memory, with_answers}

@@ -1,4 +1,4 @@
-use Rattle.std.proofs.Common.{ℕ, List, sym, ◌∙◌, subst, inl, refl}
+use Rattle.std.proofs.Common.{ℕ, List, subst}
 use Rattle.row_types.specs.Rules.{rules}
 use Rattle.index_state.specs.Step.{BeginsPass}
 use Rattle.pass_runner.proofs.PassEnds.{fresh_after, over_begun, plan_after}

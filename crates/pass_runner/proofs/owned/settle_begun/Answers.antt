@@ -1,5 +1,3 @@
-use Rattle.std.proofs.Common.{◌∙◌}
-use Rattle.row_types.specs.Faults.{HasCause}
 use Rattle.row_types.specs.Rules.{rules}
 use Rattle.pass_runner.proofs.PassEnds.{begun_done, begun_fault, handed_out, never_fault}
 use Rattle.pass_runner.proofs.PassHands.{hands_so}
