@@ -1,3 +1,4 @@
 pub mod InHand
+pub mod Later
 pub mod Prefixes
 pub mod Steps

@@ -19,7 +19,7 @@ use Rattle.index_state.specs.State.{StateFacts}
 use Rattle.index_state.proofs.ByName.{tables_by_path}
 
 -- the tables of rows have the bytes of a path's row
-table_bytes : (path : List ℕ) (rows : List RowFacts) → bytes_at path (tables_of rows) ≡ option_map row_bytes (row_at path rows)
+pub table_bytes : (path : List ℕ) (rows : List RowFacts) → bytes_at path (tables_of rows) ≡ option_map row_bytes (row_at path rows)
 table_bytes path [] = refl
 table_bytes path (row ∷ rows) =
     elim (bytes_eq row.name.path path) as (λ b. option_map (λ (r : KeptFacts). r.bytes) (cond b (Some (kept_of row)) (find (λ (r : KeptFacts). bytes_eq r.path path) (tables_of rows))) ≡ option_map row_bytes (cond b (Some row) (row_at path rows)))
@@ -40,7 +40,7 @@ module _ {K : Type 0} {true_row : RowFacts → Type 0} {told : Bool} {shows : K 
       (λ same. apart (sym (made_path true_row (not void.put) void next.edit next.meant) ∙ same))
 
   -- so are those of each image, but for that path
-  image_bytes : (b : Bool) → state.broken ≡ b → Agrees true_row b state.log state.rows (shows state.keeper) → (path : List ℕ) → ¬ IsDoubted state path → (image : List KeptFacts) → (shows state.keeper).images image → bytes_at path image ≡ bytes_at path (tables_of state.rows)
+  pub image_bytes : (b : Bool) → state.broken ≡ b → Agrees true_row b state.log state.rows (shows state.keeper) → (path : List ℕ) → ¬ IsDoubted state path → (image : List KeptFacts) → (shows state.keeper).images image → bytes_at path image ≡ bytes_at path (tables_of state.rows)
   image_bytes false sound agrees path free image is = ap (bytes_at path) (agrees.settled.only image is ∙ agrees.same)
   image_bytes true broken agrees path free image is =
       doubted path agrees.void image

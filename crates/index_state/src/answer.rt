@@ -2,18 +2,6 @@
 
 use row_types::{Name, Stamp};
 
-/// Why an index could not be opened. The keeper's own answer to the reading of its rows comes
-/// first, KeeperFault or OutOfMemory; where it gave the rows, NotBuilt is looked for.
-#[derive(Clone, Copy, Debug, PartialEq, Eq)]
-pub enum OpenFault {
-    /// The keeper failed.
-    KeeperFault,
-    /// The store gives a value. Reading it isn't built yet.
-    NotBuilt,
-    /// There was not enough memory.
-    OutOfMemory,
-}
-
 /// What a pass has to do, counted against the rows as it begins.
 #[derive(Clone, Copy, Debug, PartialEq, Eq)]
 pub struct Plan {

@@ -1,10 +1,11 @@
 //! Look-ups in an index, and how it stands.
 
-ghost use Rattle.std.specs.Prelude.{◌≡◌, filter, map, IfSome, IsTrue};
+ghost use Rattle.std.specs.Prelude.{◌≡◌, ◌↔◌, filter, map, IfSome, IsTrue};
 ghost use Rattle.std.specs.List.{list_any};
 ghost use Rattle.std.specs.Option.{option_copied};
 ghost use Rattle.index_rows.specs.Classes.{has_class, has_id, lists_source};
 ghost use Rattle.index_rows.specs.Rows.{row_path, row_at};
+ghost use Rattle.index_state.specs.Changes.{EndsVoid};
 ghost use Rattle.index_state.specs.Complete.{CompletePass, LeavesNone, standing_of};
 ghost use Rattle.index_state.specs.Invariant.{IndexInvariant};
 ghost use Rattle.index_state.specs.Kept.{Lasts};
@@ -61,11 +62,12 @@ impl<W: Truth, K: Keeper<W>> State<W, K> {
     }
 
     /// How the index stands. Where no name of a pass is left, the index is complete: its rows are
-    /// those of the listing.
+    /// those of the listing. No log is that of a sound index and of a broken one.
     pub fn standing(&self) -> Standing
         ensures value { result ≡ standing_of self.now }
         ensures whole { IfSome self.now.pass (λ pass. LeavesNone result → CompletePass W.told
             W.true_row K.told K.shows pass.listing self.now) }
+        ensures void { IsTrue result.broken ↔ EndsVoid self.now.log }
     {
         self.counted()
     }

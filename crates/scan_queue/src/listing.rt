@@ -8,6 +8,7 @@ ghost use Rattle.row_types.specs.Name.{same_name, stamp_at};
 ghost use Rattle.scan_queue.specs.Names.{IsByPath, IsListing};
 
 use row_types::{CanonPath, Name, Stamp};
+use std::alloc::{AllocError, Global};
 use std::marker::Model;
 
 /// The number of names of the longest listing, 2^20.
@@ -64,6 +65,15 @@ impl Listing {
         names
     }
 
+    /// A copy.
+    pub fn copy(&self, alloc: Global) -> Result<Listing, AllocError>
+        ensures { IfOk result (λ copy. copy ≡ self.now) }
+    {
+        Ok(Listing {
+            names: copy_names(alloc, self.names.as_slice())?,
+        })
+    }
+
     /// The stamp under which a path is listed.
     pub fn stamp_of(&self, path: &CanonPath) -> Option<Stamp>
         ensures { result ≡ stamp_at self.now path.now }
@@ -77,6 +87,17 @@ impl Listing {
     {
         self.names.len() as u64
     }
+}
+
+/// Copies of the names, in order.
+fn copy_names(alloc: Global, names: &[Name]) -> Result<Vec<Name>, AllocError>
+    ensures { IfOk result (λ copies. copies.items ≡ names.now) }
+{
+    let mut copies = Vec::with_capacity(alloc, names.len())?;
+    for name in names {
+        copies.push(name.copy(alloc)?)?;
+    }
+    Ok(copies)
 }
 
 /// Whether the names may be a listing.

@@ -174,5 +174,6 @@ fn a_listing_has_its_names_by_path(rt: HostRuntime) -> Result<(), Fail> {
     for (text, listed) in [("/b", Some(stamp(2))), ("/c", None)] {
         assert_eq!(rt; listing.stamp_of(&path(alloc, text)?), listed, "{text}");
     }
+    assert_eq!(rt; listing.copy(alloc)?.names(), listing.names());
     Ok(())
 }

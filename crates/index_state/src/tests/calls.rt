@@ -112,7 +112,7 @@ fn begun_text(
 }
 
 /// The name that is to be looked for, with whether it is under a root, or nothing.
-fn task_text(alloc: Global, task: Option<GroomTask>) -> Result<String, Fail> {
+pub fn task_text(alloc: Global, task: &Option<GroomTask>) -> Result<String, Fail> {
     let Some(task) = task else {
         return Ok(String::new(alloc));
     };
@@ -146,7 +146,7 @@ fn answer_to(alloc: Global, index: &mut Index<OpenWorld>, call: Call) -> Result<
             let said = index.publish(alloc, plain(alloc, text, size)?);
             Ok(format!(in alloc; "{said:?}")?)
         }
-        Call::GroomTake => task_text(alloc, index.groom_take()),
+        Call::GroomTake => task_text(alloc, &index.groom_take()),
         Call::Judge(text, size, sight) => {
             let judged = index.judge(alloc, &name(alloc, text, size)?, seen_of(sight));
             Ok(format!(in alloc; "{judged:?}")?)

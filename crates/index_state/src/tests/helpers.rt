@@ -1,6 +1,7 @@
 //! What the tests share: stores, listings, and what an index is to answer.
 
-use crate::answer::{OpenFault, Plan, Standing};
+use crate::answer::{Plan, Standing};
+use crate::open_fault::OpenFault;
 use crate::opening::open_state;
 use crate::state::State;
 use index_keeper::{MemKeeper, MemStore, Store, StoreAnswer};
@@ -55,7 +56,11 @@ pub fn open<W: Truth + Send>(
 
 /// The index on a store without rows.
 pub fn opened<W: Truth + Send>(alloc: Global, store: &mut MemStore<W>) -> Result<Index<W>, Fail> {
-    Ok(open(alloc, store)?.ok().ok_or("the store gives no value")?)
+    Ok(
+        open(alloc, store)?
+            .ok()
+            .ok_or("the store opens with its index")?,
+    )
 }
 
 /// The path and the size of the name that is handed out, or nothing.

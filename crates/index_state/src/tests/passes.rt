@@ -1,9 +1,8 @@
 //! Passes in the open world, call by call.
 
-use crate::answer::{OpenFault, Standing};
+use crate::answer::Standing;
 use crate::tests::calls::{Call, Case, run_case};
-use crate::tests::helpers::{NOTHING, open, store_stopping_at};
-use row_types::OpenWorld;
+use crate::tests::helpers::NOTHING;
 use std::test::Fail;
 
 /// A pass over one file, whose row is added.
@@ -153,21 +152,5 @@ fn calls_are_answered_by_the_table(rt: HostRuntime) -> Result<(), Fail> {
     for case in CASES {
         let _store = run_case(&rt, rt.alloc(), case)?;
     }
-    Ok(())
-}
-
-#[test]
-fn an_opening_is_refused_where_the_store_stops(rt: HostRuntime) -> Result<(), Fail> {
-    let mut store = store_stopping_at::<OpenWorld>(rt.alloc(), Some(1));
-    let refusal = open(rt.alloc(), &mut store)?.err();
-    assert_eq!(rt; refusal, Some(OpenFault::KeeperFault));
-    Ok(())
-}
-
-#[test]
-fn an_opening_is_refused_where_the_store_has_a_row(rt: HostRuntime) -> Result<(), Fail> {
-    let mut store = run_case(&rt, rt.alloc(), &ONE_ROW)?;
-    let refusal = open(rt.alloc(), &mut store)?.err();
-    assert_eq!(rt; refusal, Some(OpenFault::NotBuilt));
     Ok(())
 }

@@ -110,5 +110,10 @@ fn a_second_version_replaces_the_first(rt: HostRuntime) -> Result<(), Fail> {
     let mut index = opened(alloc, &mut store)?;
     let scanned = scan_both(&rt, alloc, &mut index);
     store.give_back(index.into_keeper());
-    scanned
+    scanned?;
+    let again = opened(alloc, &mut store)?;
+    let rows = rows_text(alloc, again.rows())?;
+    store.give_back(again.into_keeper());
+    assert_eq!(rt; rows.as_str(), "/w/a 2, ", "opened again");
+    Ok(())
 }

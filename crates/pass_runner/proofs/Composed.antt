@@ -1,0 +1,109 @@
+-- What the settling did, from nothing and one after the other.
+use Rattle.std.proofs.Common.{◌≡◌, ℕ, ◌≤◌, Bool, true, false, List, [], ◌∷◌, ◌++◌, Option, Some, None, refl, sym, ◌∙◌, ap, subst, arith}
+use Rattle.std.specs.List.{All}
+use Rattle.std.proofs.lemmas.Bool.{false_from_ne_true, true≢false}
+use Rattle.std.proofs.lemmas.List.Elements.{All-nil, All-append, All-weaker}
+use Rattle.row_types.specs.Faults.{Rose}
+use Rattle.row_types.specs.Name.{NameFacts}
+use Rattle.index_keeper.specs.Keeper.{ShownKeeper}
+use Rattle.index_rows.specs.Rows.{row_names}
+use Rattle.index_state.specs.Judge.{is_under}
+use Rattle.index_state.specs.State.{StateFacts, pass_of}
+use Rattle.scan_queue.specs.Names.{is_in}
+use Rattle.tree_trait.specs.Found.{Versions}
+use Rattle.tree_trait.specs.Heard.{Heard, load, stat, read_dir}
+use Rattle.tree_trait.specs.Shown.{ShownTree}
+use Rattle.pass_runner.specs.Settled.{IsNew, IsPassOn, IsWanted, Settles}
+use Rattle.pass_runner.specs.Turns.{Advances, Listens}
+use Rattle.pass_runner.proofs.Moves.{advances_as, advances_then, listens_none, listens_then, pass_then, rose_after, rose_before, same_listing, still_brought, still_missed}
+use Rattle.pass_runner.proofs.NameLists.{in_by_stamp}
+
+module _ {K : Type 0} {told : Bool} {version : Versions} {shows : K → ShownKeeper} where
+  -- by what was heard, and where the index went
+  pub settles_by : {before after : ShownTree} {old new : StateFacts K} {answers : List Heard}
+      → Listens told version before after answers
+      → All (IsWanted (pass_of old.pass).listing old.roots (row_names old.rows)) answers
+      → Advances shows answers (Rose before.faults after.faults) old new
+      → Settles told version shows before after old new
+  settles_by {answers = answers} listens wanted on = record {
+    answers = answers;
+    heard = listens.heard;
+    fits = listens.fits;
+    tells = listens.tells;
+    wanted = wanted;
+    hand = listens.hand;
+    keeper = on.keeper;
+    pass = on.pass;
+    roots = on.roots;
+    origin = on.origin;
+    stays = on.stays;
+    goes = on.goes;
+    brings = on.brings;
+    missed = on.missed;
+  }
+
+  listens_in : {before after : ShownTree} {old new : StateFacts K} (settles : Settles told version shows before after old new)
+      → Listens told version before after settles.answers
+  listens_in settles = record { heard = settles.heard; fits = settles.fits; tells = settles.tells; hand = settles.hand }
+
+  advances_in : {before after : ShownTree} {old new : StateFacts K} (settles : Settles told version shows before after old new)
+      → Advances shows settles.answers (Rose before.faults after.faults) old new
+  advances_in settles = record {
+    keeper = settles.keeper;
+    pass = settles.pass;
+    roots = settles.roots;
+    origin = settles.origin;
+    stays = settles.stays;
+    goes = settles.goes;
+    brings = settles.brings;
+    missed = settles.missed;
+  }
+
+  -- nothing was done
+  pub settles_none : {hand : ShownTree} {state : StateFacts K} → IsPassOn state.pass state.pass
+      → Settles told version shows hand hand state state
+  settles_none {hand} {state} opened =
+      settles_by listens_none (All-nil (IsWanted (pass_of state.pass).listing state.roots (row_names state.rows)))
+      (record {
+        keeper = omega arith;
+        pass = opened;
+        roots = refl;
+        origin = refl;
+        stays = λ name listed there. there;
+        goes = λ name there gone none under. absurd (true≢false (sym there ∙ gone));
+        brings = still_brought state.rows [];
+        missed = still_missed (pass_of state.pass).listing (pass_of state.pass).missed [] (Rose hand.faults hand.faults);
+      })
+
+  -- what may be asked later might be asked before
+  wanted_before : {before after : ShownTree} {old mid : StateFacts K} → Settles told version shows before after old mid
+      → (asked : Heard) → IsWanted (pass_of mid.pass).listing mid.roots (row_names mid.rows) asked
+      → IsWanted (pass_of old.pass).listing old.roots (row_names old.rows) asked
+  wanted_before {old = old} {mid = mid} p (load path limit answer) h =
+      let same : (pass_of mid.pass).listing ≡ (pass_of old.pass).listing = same_listing p.pass in
+      let new : IsNew (pass_of old.pass).listing (row_names mid.rows) path
+      = subst (λ (l : List NameFacts). IsNew l (row_names mid.rows) path) same h.1 in
+      let name : NameFacts = record { path = path; stamp = new.stamp } in (
+        h.0,
+        record {
+          stamp = new.stamp;
+          listed = new.listed;
+          absent =
+              false_from_ne_true (is_in (row_names old.rows) name)
+              (λ there. true≢false (sym (p.stays name (in_by_stamp path new.stamp (pass_of old.pass).listing new.listed) there) ∙ new.absent));
+        },
+      )
+  wanted_before p (stat path answer) h = ap (λ (r : List (List ℕ)). is_under r path) (sym p.roots) ∙ h
+  wanted_before p (read_dir path answer) h = absurd h
+
+  -- one after the other
+  pub settles_then : {before between after : ShownTree} {old mid new : StateFacts K}
+      → Settles told version shows before between old mid → Settles told version shows between after mid new
+      → Settles told version shows before after old new
+  settles_then {before} {between} {after} {old} {mid} {new} p q =
+      settles_by (listens_then (listens_in p) (listens_in q))
+      (All-append (IsWanted (pass_of old.pass).listing old.roots (row_names old.rows)) p.answers q.answers p.wanted
+      (All-weaker (IsWanted (pass_of mid.pass).listing mid.roots (row_names mid.rows))
+      (IsWanted (pass_of old.pass).listing old.roots (row_names old.rows)) (wanted_before p) q.answers q.wanted))
+      (advances_then (λ rose. rose_before before.faults rose q.hand.cause.later) (λ rose. rose_after p.hand.cause.later rose)
+      (advances_in p) (advances_in q))

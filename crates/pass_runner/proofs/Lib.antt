@@ -1,0 +1,10 @@
+pub mod Loops
+pub mod Moves
+pub mod NameLists
+pub mod Composed
+pub mod Steps
+pub mod Turning
+pub mod PassEnds
+pub mod PassHands
+pub mod PassWalks
+pub mod FullAnswers

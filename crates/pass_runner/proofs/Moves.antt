@@ -1,0 +1,234 @@
+-- What the hand heard and where the index went, one after the other.
+use Rattle.std.proofs.Common.{◌≡◌, ℕ, ◌≤◌, ◌+◌, ◌⊎◌, inl, inr, Bool, true, false, List, [], ◌∷◌, ◌++◌, Option, Some, None, refl, sym, ◌∙◌, ap, subst, arith, append_assoc, IsTrue}
+use Rattle.std.specs.Prelude.{if◌then◌else◌}
+use Rattle.std.specs.List.{All, Contains}
+use Rattle.std.proofs.lemmas.Bool.{true≢false}
+use Rattle.std.proofs.lemmas.List.{append-nil}
+use Rattle.std.proofs.lemmas.List.Elements.{All-nil, All-cons, All-append, All-contains, All-contains_itself, All-weaker, Contains-append_left, Contains-append_right, Contains-push}
+use Rattle.row_types.specs.Faults.{HasCause, Rose}
+use Rattle.row_types.specs.Name.{NameFacts, stamp_at}
+use Rattle.row_types.specs.Row.{RowFacts}
+use Rattle.index_keeper.specs.Keeper.{ShownKeeper}
+use Rattle.index_rows.specs.Rows.{row_names}
+use Rattle.index_state.specs.Judge.{is_under}
+use Rattle.index_state.specs.State.{StateFacts, pass_of}
+use Rattle.scan_queue.specs.Names.{is_in}
+use Rattle.scan_queue.specs.Pass.{PassFacts}
+use Rattle.scan_queue.specs.declared.miss.Cause.{Cause}
+use Rattle.scan_queue.specs.declared.miss.Cause.TheVariants.{ReadFault, Altered, Appeared}
+use Rattle.scan_queue.specs.declared.miss.Miss.{Miss}
+use Rattle.tree_trait.specs.Asks.{Asks, FitsAny, IsTold}
+use Rattle.tree_trait.specs.Found.{Versions}
+use Rattle.tree_trait.specs.Heard.{Heard, after_asked, wants_memory, with_answers}
+use Rattle.tree_trait.specs.Shown.{HandsOn, ShownTree, StaysStill}
+use Rattle.pass_runner.specs.Settled.{IsBacked, IsBrought, IsMissBy, IsPassOn, IsSeenGone, MayGo}
+use Rattle.pass_runner.specs.Turns.{Advances, Listens, heard_of}
+
+-- nothing was heard
+pub heard_none : (told : Option (List Heard)) → told ≡ with_answers told []
+heard_none None = refl
+heard_none (Some heard) = ap Some (sym (append-nil heard))
+
+pub heard_both : (told mid new : Option (List Heard)) (xs ys : List Heard)
+    → mid ≡ with_answers told xs → new ≡ with_answers mid ys → new ≡ with_answers told (xs ++ ys)
+heard_both None mid new xs ys m n = n ∙ ap (λ t. with_answers t ys) m
+heard_both (Some heard) mid new xs ys m n = n ∙ ap (λ t. with_answers t ys) m ∙ ap Some (append_assoc heard xs ys)
+
+heard_one : (told : Option (List Heard)) {new : Option (List Heard)} (asked : Heard)
+    → new ≡ after_asked told asked → new ≡ with_answers told (heard_of asked)
+heard_one told {new} asked h =
+    elim (wants_memory asked) as (λ b. new ≡ (if b then told else with_answers told (asked ∷ []))
+    → new ≡ with_answers told (if b then [] else asked ∷ [])) [
+      | true ↦ λ same. same ∙ heard_none told
+      | false ↦ λ more. more
+    ] h
+
+-- what holds of the question holds of what was heard of it
+pub all_heard : (P : Heard → Type 0) (asked : Heard) → P asked → All P (heard_of asked)
+all_heard P asked h =
+    elim (wants_memory asked) as (λ b. All P (if b then [] else asked ∷ [])) [
+      | true ↦ All-nil P
+      | false ↦ All-cons P asked [] h (All-nil P)
+    ]
+
+-- and it was heard, where memory wasn't refused
+pub is_heard : (asked : Heard) → wants_memory asked ≡ false → Contains (heard_of asked) asked
+is_heard asked e =
+    subst (λ b. Contains (if b then [] else asked ∷ []) asked) (sym e) (Contains-push [] asked)
+
+-- a count that rose before or after has risen
+pub rose_before : (a : ℕ) {b c : ℕ} → Rose a b → b ≤ c → Rose a c
+rose_before a {b} {c} rose later = omega (arith, rose, later)
+
+pub rose_after : {a b c : ℕ} → a ≤ b → Rose b c → Rose a c
+rose_after {a} {b} {c} later rose = omega (arith, rose, later)
+
+stays_on : {before mid after : ShownTree} → (before.Still → StaysStill before mid)
+    → (mid.Still → StaysStill mid after) → before.Still → StaysStill before after
+stays_on p q still = record { still = (q (p still).still).still; same = (q (p still).still).same ∙ (p still).same }
+
+module _ {told : Bool} {version : Versions} where
+  -- nothing was heard
+  pub listens_none : {hand : ShownTree} → Listens told version hand hand []
+  listens_none {hand} = record {
+    heard = heard_none hand.heard;
+    fits = All-nil (FitsAny version);
+    tells = λ _ _. All-nil (IsTold hand.present);
+    hand = record {
+      cause = record { later = omega arith; rose = λ never. absurd never };
+      known = λ _ never. absurd never;
+      keeps = λ _ known. known;
+      still = λ still. record { still = still; same = refl };
+    };
+  }
+
+  -- what was heard of one question
+  pub listens_one : {before after : ShownTree} (asked : Heard) → Asks told version before after asked
+      → Listens told version before after (heard_of asked)
+  listens_one {before} {after} asked asks = record {
+    heard = heard_one before.heard asked asks.listed;
+    fits = all_heard (FitsAny version) asked asks.fits;
+    tells = λ t still.
+        all_heard (IsTold before.present) asked
+        (subst (λ (names : List NameFacts). IsTold names asked) (asks.hands.still still).same (asks.tells t));
+    hand = record {
+      cause = record { later = asks.hands.cause.later; rose = λ never. absurd never };
+      known = λ _ never. absurd never;
+      keeps = asks.hands.keeps;
+      still = asks.hands.still;
+    };
+  }
+
+  -- one after the other
+  pub listens_then : {before mid after : ShownTree} {xs ys : List Heard} → Listens told version before mid xs
+      → Listens told version mid after ys → Listens told version before after (xs ++ ys)
+  listens_then {before} {mid} {after} {xs} {ys} p q = record {
+    heard = heard_both before.heard mid.heard after.heard xs ys p.heard q.heard;
+    fits = All-append (FitsAny version) xs ys p.fits q.fits;
+    tells = λ t still.
+        All-append (IsTold before.present) xs ys (p.tells t still)
+        (subst (λ (names : List NameFacts). All (IsTold names) ys) (p.hand.still still).same
+        (q.tells t (p.hand.still still).still));
+    hand = record {
+      cause = record { later = omega (arith, p.hand.cause.later, q.hand.cause.later); rose = λ never. absurd never };
+      known = λ _ never. absurd never;
+      keeps = λ t known. q.hand.keeps t (p.hand.keeps t known);
+      still = stays_on p.hand.still q.hand.still;
+    };
+  }
+
+some_same : {a b : PassFacts} → Some a ≡ Some b → a ≡ b
+some_same e = cc
+
+one_pass : {a b : PassFacts} {o : Option PassFacts} → o ≡ Some a → o ≡ Some b → a ≡ b
+one_pass p q = some_same (sym p ∙ q)
+
+-- the listing stays
+pub same_listing : {old new : Option PassFacts} → IsPassOn old new → (pass_of new).listing ≡ (pass_of old).listing
+same_listing on =
+    ap (λ (o : Option PassFacts). (pass_of o).listing) on.is ∙ on.over
+    ∙ sym (ap (λ (o : Option PassFacts). (pass_of o).listing) on.was)
+
+pub pass_then : {old mid new : Option PassFacts} → IsPassOn old mid → IsPassOn mid new → IsPassOn old new
+pass_then p q = record {
+  from = p.from;
+  into = q.into;
+  was = p.was;
+  is = q.is;
+  over = q.over ∙ ap (λ (a : PassFacts). a.listing) (one_pass q.was p.is) ∙ p.over;
+}
+
+-- what was heard is among more
+module _ (some more : List Heard) {Failed Fails : Type 0} (among : (h : Heard) → Contains some h → Contains more h) (so : Failed → Fails) where
+  gone_as : {name : NameFacts} → IsSeenGone some name → IsSeenGone more name
+  gone_as {name} gone = record { answer = gone.answer; heard = among _ gone.heard; missing = gone.missing }
+
+  backed_as : (listing : List NameFacts) (name : NameFacts) (cause : Cause) → IsBacked listing some Failed name cause
+      → IsBacked listing more Fails name cause
+  backed_as listing name ReadFault h = so h
+  backed_as listing name (Altered met) h = record { listed = h.listed; answer = h.answer; heard = among _ h.heard; other = h.other }
+  backed_as listing name Appeared h = record { unlisted = h.unlisted; heard = among _ h.heard }
+
+  miss_as : (listing : List NameFacts) (missed : List Miss) (miss : Miss) → IsMissBy listing missed some Failed miss
+      → IsMissBy listing missed more Fails miss
+  miss_as listing missed miss (inl before) = inl before
+  miss_as listing missed miss (inr why) = inr (backed_as listing miss.name miss.cause why)
+
+  brought_as : (rows : List RowFacts) (row : RowFacts) → IsBrought rows some row → IsBrought rows more row
+  brought_as rows row (inl before) = inl before
+  brought_as rows row (inr read) = inr (record { answer = read.answer; heard = among _ read.heard; reads = read.reads })
+
+  pub advances_as : {K : Type 0} {shows : K → ShownKeeper} {old new : StateFacts K} → Advances shows some Failed old new
+      → Advances shows more Fails old new
+  advances_as {old = old} {new = new} on = record {
+    keeper = on.keeper;
+    pass = on.pass;
+    roots = on.roots;
+    origin = on.origin;
+    stays = on.stays;
+    goes = λ name there gone none under. gone_as (on.goes name there gone none under);
+    brings = All-weaker (IsBrought old.rows some) (IsBrought old.rows more) (brought_as old.rows) new.rows on.brings;
+    missed =
+        All-weaker (IsMissBy (pass_of old.pass).listing (pass_of old.pass).missed some Failed)
+        (IsMissBy (pass_of old.pass).listing (pass_of old.pass).missed more Fails)
+        (miss_as (pass_of old.pass).listing (pass_of old.pass).missed) (pass_of new.pass).missed on.missed;
+  }
+
+-- the names that were missed before
+pub still_missed : (listing : List NameFacts) (missed : List Miss) (answers : List Heard) (Failed : Type 0)
+    → All (IsMissBy listing missed answers Failed) missed
+still_missed listing missed answers Failed =
+    All-weaker (Contains missed) (IsMissBy listing missed answers Failed) (λ m before. inl before) missed
+    (All-contains_itself missed)
+
+-- the rows that were there before
+pub still_brought : (rows : List RowFacts) (answers : List Heard) → All (IsBrought rows answers) rows
+still_brought rows answers =
+    All-weaker (Contains rows) (IsBrought rows answers) (λ row before. inl before) rows (All-contains_itself rows)
+
+-- one after the other
+pub advances_then : {K : Type 0} {shows : K → ShownKeeper} {xs ys : List Heard} {First Second Failed : Type 0}
+    {old mid new : StateFacts K} → (First → Failed) → (Second → Failed) → Advances shows xs First old mid
+    → Advances shows ys Second mid new → Advances shows (xs ++ ys) Failed old new
+advances_then {K} {shows} {xs} {ys} {First} {Second} {Failed} {old} {mid} {new} first second p q =
+    let a : Advances shows (xs ++ ys) Failed old mid = advances_as xs (xs ++ ys) (λ h. Contains-append_left xs ys h) first p in
+    let b : Advances shows (xs ++ ys) Failed mid new = advances_as ys (xs ++ ys) (λ h. Contains-append_right xs ys h) second q in
+    let listing : (pass_of mid.pass).listing ≡ (pass_of old.pass).listing = same_listing p.pass in
+    record {
+      keeper = omega (arith, p.keeper, q.keeper);
+      pass = pass_then p.pass q.pass;
+      roots = q.roots ∙ p.roots;
+      origin = q.origin ∙ p.origin;
+      stays = λ name listed there.
+          q.stays name (ap (λ (l : List NameFacts). is_in l name) listing ∙ listed) (p.stays name listed there);
+      goes = λ name there gone none under.
+          elim (is_in (row_names mid.rows) name) as (λ v. is_in (row_names mid.rows) name ≡ v → IsSeenGone (xs ++ ys) name) [
+            | true ↦ λ stood.
+                b.goes name stood gone (ap (λ (l : List NameFacts). stamp_at l name.path) listing ∙ none)
+                (ap (λ (r : List (List ℕ)). is_under r name.path) p.roots ∙ under)
+            | false ↦ λ went. a.goes name there went none under
+          ] refl;
+      brings = All-weaker (IsBrought mid.rows (xs ++ ys)) (IsBrought old.rows (xs ++ ys)) brought new.rows b.brings;
+      missed =
+          All-weaker (Later (pass_of old.pass).listing) (Sooner (pass_of old.pass).listing) (λ m why. before m why)
+          (pass_of new.pass).missed
+          (subst (λ (l : List NameFacts). All (Later l) (pass_of new.pass).missed) listing b.missed);
+    }
+  where
+    brought : (row : RowFacts) → IsBrought mid.rows (xs ++ ys) row → IsBrought old.rows (xs ++ ys) row
+    brought row (inl there) =
+        All-contains (IsBrought old.rows (xs ++ ys)) mid.rows row
+        (advances_as xs (xs ++ ys) (λ h. Contains-append_left xs ys h) first p).brings there
+    brought row (inr read) = inr read
+
+    Later : List NameFacts → Miss → Type 0
+    Later l m = IsMissBy l (pass_of mid.pass).missed (xs ++ ys) Failed m
+
+    Sooner : List NameFacts → Miss → Type 0
+    Sooner l m = IsMissBy l (pass_of old.pass).missed (xs ++ ys) Failed m
+
+    before : (m : Miss) → Later (pass_of old.pass).listing m → Sooner (pass_of old.pass).listing m
+    before m (inl there) =
+        All-contains (Sooner (pass_of old.pass).listing) (pass_of mid.pass).missed m
+        (advances_as xs (xs ++ ys) (λ h. Contains-append_left xs ys h) first p).missed there
+    before m (inr why) = inr why

@@ -1,0 +1,191 @@
+-- A pass that was begun, and how it ends.
+use Rattle.std.proofs.Common.{◌≡◌, ℕ, ◌≤◌, ◌⊎◌, inl, inr, Bool, true, false, List, [], ◌∷◌, ◌++◌, length, Option, Some, None, refl, sym, ◌∙◌, ap, subst, arith, IsTrue, Ok, Err}
+use Rattle.std.specs.List.{All, Contains}
+use Rattle.std.specs.Prelude.{IfSome}
+use Rattle.std.proofs.lemmas.Bool.{true≢false}
+use Rattle.std.proofs.lemmas.List.Elements.{All-append, All-head, All-weaker}
+use Rattle.row_types.specs.Faults.{HasCause, Rose}
+use Rattle.row_types.specs.Name.{NameFacts}
+use Rattle.row_types.specs.Rules.{Rules}
+use Rattle.index_keeper.specs.Keeper.{ShownKeeper}
+use Rattle.index_rows.specs.Rows.{row_names}
+use Rattle.index_state.specs.Complete.{CompletePass, LeavesNone, standing_of}
+use Rattle.index_state.specs.Plan.{plan_of}
+use Rattle.index_state.specs.State.{StateFacts, pass_of}
+use Rattle.index_state.specs.Step.{BeginsPass, after_begin}
+use Rattle.index_state.specs.declared.answer.Plan.{Plan}
+use Rattle.index_state.specs.declared.answer.Standing.{Standing}
+use Rattle.index_state.proofs.Keeps.{there}
+use Rattle.scan_queue.specs.Pass.{IsWhole, PassFacts, begun, first_missed}
+use Rattle.scan_queue.specs.declared.miss.Cause.{Cause}
+use Rattle.scan_queue.specs.declared.miss.Cause.TheVariants.{ReadFault, Altered, Appeared}
+use Rattle.scan_queue.specs.declared.miss.Miss.{Miss}
+use Rattle.tree_trait.specs.Found.{Versions}
+use Rattle.tree_trait.specs.Heard.{Heard}
+use Rattle.tree_trait.specs.Shown.{ShownTree}
+use Rattle.pass_runner.specs.Ends.{IsSettled}
+use Rattle.pass_runner.specs.Numbers.{summary_of}
+use Rattle.pass_runner.specs.Owned.{is_hand_fault, is_read_fault}
+use Rattle.pass_runner.specs.Passes.{EndsBegun, EndsOf, EndsOver, IsDone, IsFirstMiss, IsFresh, IsHandedOut, StaysSame}
+use Rattle.pass_runner.specs.Settled.{IsBacked, IsMissBy, Settles}
+use Rattle.pass_runner.specs.declared.pass_end.PassEnd.{PassEnd}
+use Rattle.pass_runner.specs.declared.pass_end.PassEnd.TheVariants.{Whole, Missed, Walk, Broken}
+use Rattle.pass_runner.specs.declared.pass_end.PassEnd.TheVariants.{KeeperFault, LogFull, OutOfMemory}
+use Rattle.pass_runner.specs.declared.summary.Summary.{Summary}
+use Rattle.pass_runner.proofs.Moves.{same_listing}
+
+module _ {K : Type 0} {listing : List NameFacts} {roots : List (List ℕ)} {plan : Plan} {old mid : StateFacts K} (begins : BeginsPass listing roots plan old mid) where
+  fresh_begun : IsFresh (after_begin listing roots old)
+  fresh_begun = record {
+    sound = begins.sound;
+    is_open = record { from = begun listing (row_names old.rows); into = begun listing (row_names old.rows); was = refl; is = refl; over = refl };
+    out = refl;
+    missed = refl;
+  }
+
+  -- the pass that was begun is fresh
+  pub fresh_after : IsFresh mid
+  fresh_after = subst (λ (s : StateFacts K). IsFresh s) (sym begins.after) fresh_begun
+
+  -- and this is its plan
+  pub plan_after : plan ≡ plan_of (pass_of mid.pass).listing (row_names mid.rows)
+  plan_after =
+      subst (λ (s : StateFacts K). plan ≡ plan_of (pass_of s.pass).listing (row_names s.rows)) (sym begins.after) begins.planned
+
+-- of a pass that was begun over a listing
+pub over_begun : {K T : Type 0} (world : Rules) (told tells : Bool) (shows : K → ShownKeeper) (sees : T → ShownTree)
+    {listing : List NameFacts} {roots : List (List ℕ)} (before after : T) {plan : Plan} {old mid : StateFacts K} (new : StateFacts K)
+    (end : PassEnd) → BeginsPass listing roots plan old mid
+    → EndsBegun world told tells shows (sees before) (sees after) mid new end
+    → EndsOver world told tells shows sees listing roots before after old new end
+over_begun {K} {T} world told tells shows sees {listing} {roots} before after {plan} {old} {mid} new end begins ends =
+    each end (subst (λ (s : StateFacts K). EndsBegun world told tells shows (sees before) (sees after) s new end) begins.after ends)
+  where
+    each : (e : PassEnd) → EndsBegun world told tells shows (sees before) (sees after) (after_begin listing roots old) new e
+        → EndsOver world told tells shows sees listing roots before after old new e
+    each OutOfMemory h = inr h
+    each (Whole summary) h = h
+    each (Missed miss) h = h
+    each KeeperFault h = h
+    each LogFull h = h
+    each (Walk fault) h = absurd h
+    each Broken h = absurd h
+
+pub none_missed : (missed : List Miss) → None ≡ first_missed missed → missed ≡ []
+none_missed [] e = refl
+none_missed (m ∷ ms) e = absurd (cc)
+
+-- a first miss is one of those that were missed
+pub first_is : (P : Miss → Type 0) (missed : List Miss) (miss : Miss) → All P missed → first_missed missed ≡ Some miss → P miss
+first_is P [] miss all e = absurd (cc)
+first_is P (m ∷ ms) miss all e = subst P (some m miss e) (All-head P m ms all)
+  where
+    some : (a b : Miss) → Some a ≡ Some b → a ≡ b
+    some a b h = cc
+
+-- where nothing was missed before, each miss has its reason
+backed_alone : (listing : List NameFacts) (answers : List Heard) (Failed : Type 0) (miss : Miss)
+    → IsMissBy listing [] answers Failed miss → IsBacked listing answers Failed miss.name miss.cause
+backed_alone listing answers Failed miss (inl none) = absurd (omega (arith, none.1))
+backed_alone listing answers Failed miss (inr why) = why
+
+backed_fault : (listing : List NameFacts) (answers : List Heard) (Failed : Type 0) (name : NameFacts) (cause : Cause)
+    → IsBacked listing answers Failed name cause → IsTrue (is_read_fault cause) → Failed
+backed_fault listing answers Failed name ReadFault h fault = h
+backed_fault listing answers Failed name (Altered met) h fault = absurd (true≢false (sym fault))
+backed_fault listing answers Failed name Appeared h fault = absurd (true≢false (sym fault))
+
+module _ {K : Type 0} {told : Bool} {version : Versions} {shows : K → ShownKeeper} {before after : ShownTree} {old new : StateFacts K} where
+  -- no name is left to be handed out
+  pub handed_out : IsFresh old → Settles told version shows before after old new → IsSettled old new → IsHandedOut new
+  handed_out fresh settles ends = record {
+    sound = ends.sound;
+    is_open = record { from = settles.pass.into; into = settles.pass.into; was = settles.pass.is; is = settles.pass.is; over = refl };
+    todo = ends.todo;
+    out = ends.out fresh.out;
+    groom = ends.groom;
+  }
+
+  -- each name that was missed has its reason
+  pub all_backed : (pass_of old.pass).missed ≡ [] → (settles : Settles told version shows before after old new)
+      → All (λ (miss : Miss). IsBacked (pass_of old.pass).listing settles.answers (Rose before.faults after.faults) miss.name miss.cause)
+      (pass_of new.pass).missed
+  all_backed none settles =
+      All-weaker (IsMissBy (pass_of old.pass).listing [] settles.answers (Rose before.faults after.faults))
+      (λ (miss : Miss). IsBacked (pass_of old.pass).listing settles.answers (Rose before.faults after.faults) miss.name miss.cause)
+      (backed_alone (pass_of old.pass).listing settles.answers (Rose before.faults after.faults)) (pass_of new.pass).missed
+      (subst (λ (ms : List Miss). All (IsMissBy (pass_of old.pass).listing ms settles.answers (Rose before.faults after.faults)) (pass_of new.pass).missed)
+      none settles.missed)
+
+-- the end by what is left
+pub begun_done : {K : Type 0} {told : Bool} {shows : K → ShownKeeper} {before after : ShownTree} {old new : StateFacts K}
+    (world : Rules) (tells : Bool) {plan : Plan} (end : PassEnd) → plan ≡ plan_of (pass_of old.pass).listing (row_names old.rows)
+    → Settles told world.version shows before after old new → new.broken ≡ false → EndsOf world tells shows plan new end
+    → EndsBegun world told tells shows before after old new end
+begun_done {shows = shows} {new = new} world tells {plan} (Whole summary) planned settles sound h = record {
+  settles = settles;
+  ends = record {
+    complete =
+        subst (λ (l : List NameFacts). CompletePass world.told world.true_row tells shows l new) (same_listing settles.pass) h.complete;
+    whole = h.whole;
+    sound = sound;
+    numbers = h.numbers ∙ ap (λ (p : Plan). summary_of p new.rows) planned;
+  };
+}
+begun_done world tells (Missed miss) planned settles sound h =
+    record { settles = settles; ends = record { first = h; sound = sound } }
+begun_done world tells OutOfMemory planned settles sound h = record { settles = settles; ends = sound }
+begun_done world tells (Walk fault) planned settles sound h = absurd h
+begun_done world tells Broken planned settles sound h = absurd h
+begun_done world tells KeeperFault planned settles sound h = absurd h
+begun_done world tells LogFull planned settles sound h = absurd h
+
+-- a failed call of the hand ends it only where its count rose
+pub begun_fault : {K : Type 0} (world : Rules) (told tells : Bool) (shows : K → ShownKeeper) (before after : ShownTree)
+    (old new : StateFacts K) (end : PassEnd) → IsFresh old → EndsBegun world told tells shows before after old new end
+    → IsTrue (is_hand_fault end) → Rose before.faults after.faults
+begun_fault world told tells shows before after old new (Missed miss) fresh h fault =
+    backed_fault (pass_of old.pass).listing h.settles.answers (Rose before.faults after.faults) miss.name miss.cause
+    (first_is (λ (m : Miss). IsBacked (pass_of old.pass).listing h.settles.answers (Rose before.faults after.faults) m.name m.cause)
+    (pass_of new.pass).missed miss (all_backed fresh.missed h.settles) h.ends.first) fault
+begun_fault world told tells shows before after old new (Walk fault) fresh h f = absurd h
+begun_fault world told tells shows before after old new (Whole summary) fresh h f = absurd (true≢false (sym f))
+begun_fault world told tells shows before after old new Broken fresh h f = absurd h
+begun_fault world told tells shows before after old new KeeperFault fresh h f = absurd (true≢false (sym f))
+begun_fault world told tells shows before after old new LogFull fresh h f = absurd (true≢false (sym f))
+begun_fault world told tells shows before after old new OutOfMemory fresh h f = absurd (true≢false (sym f))
+
+-- where no name is left the keeper didn't fail
+pub never_fault : {K : Type 0} (world : Rules) (tells : Bool) (shows : K → ShownKeeper) (plan : Plan) (state : StateFacts K)
+    (end : PassEnd) → EndsOf world tells shows plan state end → end ≡ KeeperFault → ⊥
+never_fault world tells shows plan state KeeperFault h is = h
+never_fault world tells shows plan state (Whole summary) h is = cc
+never_fault world tells shows plan state (Missed miss) h is = cc
+never_fault world tells shows plan state OutOfMemory h is = cc
+never_fault world tells shows plan state (Walk fault) h is = h
+never_fault world tells shows plan state Broken h is = h
+never_fault world tells shows plan state LogFull h is = h
+
+-- where no name was missed either, the pass is whole
+pub whole_done : {K : Type 0} (world : Rules) (tells : Bool) (shows : K → ShownKeeper) {state : StateFacts K} {plan : Plan}
+    {summary : Summary} {standing : Standing} → IsHandedOut state → None ≡ first_missed (pass_of state.pass).missed
+    → standing ≡ standing_of state
+    → IfSome state.pass (λ pass. LeavesNone standing → CompletePass world.told world.true_row tells shows pass.listing state)
+    → summary ≡ summary_of plan state.rows → IsDone world tells shows plan summary state
+whole_done {K} world tells shows {state} {plan} {summary} {standing} handed first value complete numbers =
+    let missed = none_missed (pass_of state.pass).missed first in
+    let leaves : LeavesNone standing
+    = subst (λ (s : Standing). LeavesNone s) (sym value) (record {
+      todo = ap (λ (xs : List NameFacts). length xs) handed.todo;
+      out = ap (λ (xs : List NameFacts). length xs) handed.out;
+      groom = ap (λ (xs : List NameFacts). length xs) handed.groom;
+      missed = ap (λ (xs : List Miss). length xs) missed;
+    }) in
+    record {
+      complete =
+          subst (λ (o : Option PassFacts). CompletePass world.told world.true_row tells shows (pass_of o).listing state) (sym handed.is_open.was)
+          (there (λ (pass : PassFacts). LeavesNone standing → CompletePass world.told world.true_row tells shows pass.listing state)
+          handed.is_open.was complete leaves);
+      whole = record { todo = handed.todo; out = handed.out; groom = handed.groom; missed = missed };
+      numbers = numbers;
+    }

@@ -1,0 +1,155 @@
+-- A pass whose listing was walked.
+use Rattle.std.proofs.Common.{◌≡◌, ℕ, ◌≤◌, ◌<◌, ◌⊎◌, inl, inr, Bool, true, false, List, [], ◌∷◌, ◌++◌, length, Option, Some, None, refl, sym, ◌∙◌, ap, subst, arith, IsTrue, Ok, Err, append_assoc}
+use Rattle.std.specs.List.{All, AllZip}
+use Rattle.std.proofs.lemmas.Bool.{true≢false}
+use Rattle.std.proofs.lemmas.List.Elements.{All-append, All-nil, All-weaker}
+use Rattle.row_types.specs.Faults.{HasCause, Rose}
+use Rattle.row_types.specs.Name.{NameFacts}
+use Rattle.row_types.specs.Rules.{Rules}
+use Rattle.index_keeper.specs.Keeper.{ShownKeeper}
+use Rattle.index_rows.specs.Rows.{row_names}
+use Rattle.index_state.specs.State.{StateFacts, pass_of}
+use Rattle.index_state.specs.Step.{after_begin}
+use Rattle.scan_queue.specs.Pass.{PassFacts, begun}
+use Rattle.scan_queue.specs.declared.miss.Cause.{Cause}
+use Rattle.scan_queue.specs.declared.miss.Cause.TheVariants.{ReadFault, Altered, Appeared}
+use Rattle.scan_queue.specs.declared.miss.Miss.{Miss}
+use Rattle.tree_trait.specs.Asks.{FitsAny, IsTold}
+use Rattle.tree_trait.specs.Found.{Versions}
+use Rattle.tree_trait.specs.Heard.{Heard, with_answers}
+use Rattle.tree_trait.specs.Shown.{HandsOn, ShownTree}
+use Rattle.tree_walk.specs.Ends.{IsWholeWalk, Walks}
+use Rattle.tree_walk.specs.Files.{AreFilesUnder}
+use Rattle.tree_walk.specs.declared.fault.WalkFault.{WalkFault}
+use Rattle.tree_walk.specs.declared.fault.WalkFault.TheVariants as stop
+use Rattle.tree_walk.specs.declared.walked.Walk.{Walk as WalkFacts}
+use Rattle.pass_runner.specs.Ends.{IsOutOfRoom}
+use Rattle.pass_runner.specs.Owned.{EndsEarly, EndsPass, HasMissed, HearsPass, Helps, IsWholePass, LeavesIndex, RunsPass, TellsStill, is_hand_fault}
+use Rattle.pass_runner.specs.Passes.{EndsOver, IsFirstMiss, SettlesTo}
+use Rattle.pass_runner.specs.Settled.{IsBacked, IsWanted, MayGo, Settles}
+use Rattle.pass_runner.specs.declared.pass_end.PassEnd.{PassEnd}
+use Rattle.pass_runner.specs.declared.pass_end.PassEnd.TheVariants.{Whole, Missed, Walk, Broken}
+use Rattle.pass_runner.specs.declared.pass_end.PassEnd.TheVariants.{KeeperFault, LogFull, OutOfMemory}
+use Rattle.pass_runner.proofs.FullAnswers.{full_stays, listing_stays}
+use Rattle.pass_runner.proofs.Moves.{heard_both, heard_none, same_listing}
+use Rattle.pass_runner.proofs.PassEnds.{all_backed, first_is}
+use Rattle.pass_runner.proofs.PassHands.{rose_later}
+
+backed_so : (listing : List NameFacts) (answers : List Heard) {Failed Fails : Type 0} → (Failed → Fails)
+    → (name : NameFacts) (cause : Cause) → IsBacked listing answers Failed name cause → IsBacked listing answers Fails name cause
+backed_so listing answers so name ReadFault h = so h
+backed_so listing answers so name (Altered met) h = h
+backed_so listing answers so name Appeared h = h
+
+module _ {K : Type 0} (world : Rules) (old : StateFacts K) {told : Bool} {shows : K → ShownKeeper} {roots : List (List ℕ)}
+    {before met after : ShownTree} {new : StateFacts K} {walk : WalkFacts} {Asked Fails : Type 0}
+    (walks : Walks told before met roots (Ok walk))
+    (under : TellsStill told before → AreFilesUnder before.present roots walk.listing)
+    (hands : HandsOn told world.version before met Asked Fails)
+    (settles : Settles told world.version shows met after (after_begin walk.listing roots old) new) where
+  -- what the hand heard, of the walk and of the settling
+  heard_pass : HearsPass told world.version roots (row_names old.rows) walk walks.more settles.answers before after
+  heard_pass = record {
+    heard = heard_both before.heard met.heard after.heard walks.more settles.answers walks.heard settles.heard;
+    whole = walks.ends;
+    full = full_stays walk.listing roots (row_names old.rows) walks.more settles.answers settles.wanted walks.ends.full;
+    listing =
+        listing_stays walk.listing roots (row_names old.rows) walks.more settles.answers settles.wanted walks.ends.full
+        walk.listing walks.ends.listing;
+    wanted = settles.wanted;
+    fits = settles.fits;
+    tells = λ t.
+        All-append (IsTold before.present) walks.more settles.answers (walks.tells t.0 t.1)
+        (subst (λ (names : List NameFacts). All (IsTold names) settles.answers) (hands.still t.1).same
+        (settles.tells t.0 (hands.still t.1).still));
+    under = under;
+  }
+
+  -- a count that rose in the settling rose in the pass
+  fault_late : (miss : Miss) → IsBacked walk.listing settles.answers (Rose met.faults after.faults) miss.name miss.cause
+      → IsBacked walk.listing settles.answers (Rose before.faults after.faults) miss.name miss.cause
+  fault_late miss why = backed_so walk.listing settles.answers (rose_later before.faults met.faults after.faults hands.cause.later) miss.name miss.cause why
+
+  backed_new : All (λ (miss : Miss). IsBacked walk.listing settles.answers (Rose before.faults after.faults) miss.name miss.cause)
+      (pass_of new.pass).missed
+  backed_new =
+      All-weaker (λ (miss : Miss). IsBacked walk.listing settles.answers (Rose met.faults after.faults) miss.name miss.cause)
+      (λ (miss : Miss). IsBacked walk.listing settles.answers (Rose before.faults after.faults) miss.name miss.cause)
+      fault_late (pass_of new.pass).missed (all_backed refl settles)
+
+  -- what it left of the index
+  left_index : LeavesIndex roots walk.listing settles.answers (Rose before.faults after.faults) old new
+  left_index = record {
+    pass = settles.pass.into;
+    is_open = settles.pass.is;
+    over = sym (ap (λ (o : Option PassFacts). (pass_of o).listing) settles.pass.is) ∙ same_listing settles.pass;
+    roots = settles.roots;
+    origin = settles.origin;
+    stays = settles.stays;
+    goes = settles.goes;
+    brings = settles.brings;
+    missed =
+        subst (λ (o : Option PassFacts). All (λ (miss : Miss). IsBacked walk.listing settles.answers (Rose before.faults after.faults) miss.name miss.cause) (pass_of o).missed)
+        settles.pass.is backed_new;
+  }
+
+  -- and both, with the end
+  pub runs_pass : (Ends : List NameFacts → List Heard → Type 0) → Ends walk.listing settles.answers
+      → RunsPass world told roots before after old new Ends
+  runs_pass Ends ends = record {
+    walk = walk;
+    walked = walks.more;
+    more = settles.answers;
+    hears = heard_pass;
+    leaves = left_index;
+    ends = ends;
+  }
+
+  pub runs_to_miss : (miss : Miss) → IsFirstMiss miss new
+      → HasMissed miss (Rose before.faults after.faults) new walk.listing settles.answers
+  runs_to_miss miss h = record {
+    first = h.first;
+    why =
+        first_is (λ (m : Miss). IsBacked walk.listing settles.answers (Rose before.faults after.faults) m.name m.cause)
+        (pass_of new.pass).missed miss backed_new h.first;
+    sound = h.sound;
+  }
+
+-- the pass whose listing was walked
+pub ends_walked : {K T : Type 0} (world : Rules) (told tells : Bool) (shows : K → ShownKeeper) (sees : T → ShownTree)
+    (roots : List (List ℕ)) (before met after : T) (old new : StateFacts K) (walk : WalkFacts) {Asked Fails : Type 0} (end : PassEnd)
+    → Walks told (sees before) (sees met) roots (Ok walk)
+    → (TellsStill told (sees before) → AreFilesUnder (sees before).present roots walk.listing)
+    → HandsOn told world.version (sees before) (sees met) Asked Fails
+    → EndsOver world told tells shows sees walk.listing roots met after old new end
+    → EndsPass world told tells shows roots (sees before) (sees after) old new end
+ends_walked world told tells shows sees roots before met after old new walk (Whole summary) walks under hands h =
+    runs_pass world old walks under hands h.settles (λ listing more. IsWholePass world tells shows summary old new listing)
+    (record { complete = h.ends.complete; whole = h.ends.whole; sound = h.ends.sound; numbers = h.ends.numbers })
+ends_walked world told tells shows sees roots before met after old new walk (Missed miss) walks under hands h =
+    runs_pass world old walks under hands h.settles (HasMissed miss (Rose (sees before).faults (sees after).faults) new)
+    (runs_to_miss world old walks under hands h.settles miss h.ends)
+ends_walked world told tells shows sees roots before met after old new walk KeeperFault walks under hands h =
+    runs_pass world old walks under hands h.settles (λ listing more. new.broken ≡ true) h.ends
+ends_walked world told tells shows sees roots before met after old new walk LogFull walks under hands h =
+    runs_pass world old walks under hands h.settles (λ listing more. IsOutOfRoom new) h.ends
+ends_walked {K} {T} world told tells shows sees roots before met after old new walk OutOfMemory walks under hands (inl early) =
+    inl (record {
+      walk = walk;
+      walks = subst (λ (t : T). Walks told (sees before) (sees t) roots (Ok walk)) (sym early.hand) walks;
+      same = early.state;
+    })
+ends_walked world told tells shows sees roots before met after old new walk OutOfMemory walks under hands (inr h) =
+    inr (runs_pass world old walks under hands h.settles (λ listing more. new.broken ≡ false) h.ends)
+ends_walked world told tells shows sees roots before met after old new walk (Walk fault) walks under hands h = absurd h
+ends_walked world told tells shows sees roots before met after old new walk Broken walks under hands h = absurd h
+
+-- a hand that heard nothing more
+pub helps_none : {T : Type 0} (sees : T → ShownTree) (version : Versions) (listing : List NameFacts) (roots : List (List ℕ))
+    (names : List NameFacts) (hand : T) → Helps version listing roots names (sees hand) (sees hand)
+helps_none sees version listing roots names hand = record {
+  more = [];
+  heard = heard_none (sees hand).heard;
+  wanted = All-nil (IsWanted listing roots names);
+  fits = All-nil (FitsAny version);
+}

@@ -1,0 +1,335 @@
+-- Where the index goes in each of its steps.
+use Rattle.std.proofs.Common.{◌≡◌, ℕ, ◌≤◌, ◌<◌, ◌⊎◌, inl, inr, ◌&&◌, Bool, true, false, not, cond, List, [], ◌∷◌, ◌++◌, length, Option, Some, None, refl, sym, ◌∙◌, ap, subst, arith}
+use Rattle.std.specs.List.{All, Contains, filter}
+use Rattle.std.specs.Option.{option_map}
+use Rattle.std.specs.Prelude.{IfSome}
+use Rattle.std.proofs.lemmas.Bool.{and_parts, true≢false}
+use Rattle.std.proofs.lemmas.List.Elements.{All-nil, All-contains_itself, All-filter, All-weaker, Contains-append_cases, Contains-append_left, Contains-append_right, Contains-push_cases}
+use Rattle.row_types.specs.Faults.{HasCause}
+use Rattle.row_types.specs.Name.{NameFacts, same_name}
+use Rattle.row_types.specs.Row.{RowFacts}
+use Rattle.row_types.specs.Stamp.{StampFacts, same_stamp}
+use Rattle.index_keeper.specs.Keeper.{ShownKeeper}
+use Rattle.std.specs.Str.{bytes_eq}
+use Rattle.index_rows.specs.Rows.{row_names, row_path}
+use Rattle.index_rows.proofs.PathLemmas.{put_holds}
+use Rattle.scan_queue.specs.Names.{IsByPath, is_in, without}
+use Rattle.scan_queue.specs.Pass.{Adds, IsPass, MissesName, PassFacts, left, misses_without}
+use Rattle.scan_queue.specs.declared.miss.Cause.{Cause}
+use Rattle.scan_queue.specs.declared.miss.Cause.TheVariants.{Appeared}
+use Rattle.scan_queue.specs.declared.miss.Miss.{Miss}
+use Rattle.scan_queue.specs.declared.miss.Seen.{Seen}
+use Rattle.scan_queue.specs.declared.miss.Seen.TheVariants as seen
+use Rattle.scan_queue.proofs.NameTests.{same_stamp-Decides}
+use Rattle.index_state.specs.Away.{MissesFrom, MissesOut}
+use Rattle.index_state.specs.Invariant.{IndexInvariant}
+use Rattle.index_state.specs.Judge.{IsGone, IsLeftOver, MovesOff, Removes, is_file, is_kept, is_strange, is_under}
+use Rattle.index_state.specs.State.{StateFacts, pass_of}
+use Rattle.index_state.specs.Step.{Appears, IsAwaited, Stores}
+use Rattle.index_state.proofs.Keeps.{there}
+use Rattle.tree_trait.specs.Heard.{Heard, stat}
+use Rattle.tree_trait.specs.declared.stat.StatAnswer.{StatAnswer}
+use Rattle.tree_trait.specs.declared.stat.StatAnswer.TheVariants.{Folder, File, Other, Gone, Failed, OutOfMemory}
+use Rattle.pass_runner.specs.Ends.{IsOver}
+use Rattle.pass_runner.specs.Settled.{IsBacked, IsBrought, IsMissBy, IsMissing, IsPassOn, IsReadOf, IsSeenGone}
+use Rattle.pass_runner.specs.Turns.{Advances, HasSeen, looked_of}
+use Rattle.pass_runner.specs.declared.look_for.Looked.{Looked}
+use Rattle.pass_runner.specs.declared.look_for.Looked.TheVariants as looked
+use Rattle.pass_runner.proofs.Moves.{still_brought, still_missed}
+use Rattle.pass_runner.proofs.NameLists.{drop_goes, drop_stays, put_goes, put_stays}
+
+-- a pass was begun, where a name is listed in it, out of it or known not to be listed
+pub listed_open : (pass : Option PassFacts) (name : NameFacts) → is_in (pass_of pass).listing name ≡ true → IsPassOn pass pass
+listed_open None name h = absurd (true≢false (sym h))
+listed_open (Some p) name h = record { from = p; into = p; was = refl; is = refl; over = refl }
+
+pub out_open : (pass : Option PassFacts) (name : NameFacts) → is_in (pass_of pass).out name ≡ true → IsPassOn pass pass
+out_open None name h = absurd (true≢false (sym h))
+out_open (Some p) name h = record { from = p; into = p; was = refl; is = refl; over = refl }
+
+-- a name that isn't to stay as it is isn't listed
+pub kept_listed : (pass : Option PassFacts) (name : NameFacts) → is_kept pass name ≡ false → is_in (pass_of pass).listing name ≡ false
+kept_listed None name h = absurd (true≢false h)
+kept_listed (Some p) name h = h
+
+-- the listing of an index is by path
+pub listing_by_path : (pass : Option PassFacts) → IfSome pass IsPass → IsPassOn pass pass → IsByPath (pass_of pass).listing
+listing_by_path pass place opened =
+    subst (λ (o : Option PassFacts). IsByPath (pass_of o).listing) (sym opened.was) (there IsPass opened.was place).listing.by_path
+
+-- a pass that a name leaves goes on
+left_on : (name : NameFacts) {pass : Option PassFacts} → IsPassOn pass pass → IsPassOn pass (option_map (left name) pass)
+left_on name opened = record {
+  from = opened.from;
+  into = left name opened.from;
+  was = opened.was;
+  is = ap (option_map (left name)) opened.was;
+  over = refl;
+}
+
+left_missed : (name : NameFacts) (pass : Option PassFacts) (answers : List Heard) (Fails : Type 0)
+    → All (IsMissBy (pass_of pass).listing (pass_of pass).missed answers Fails) (pass_of (option_map (left name) pass)).missed
+left_missed name None answers Fails = All-nil (IsMissBy [] [] answers Fails)
+left_missed name (Some p) answers Fails =
+    All-filter (λ (m : Miss). not (same_name name m.name)) (IsMissBy p.listing p.missed answers Fails) p.missed
+    (still_missed p.listing p.missed answers Fails)
+
+filter_short : {X : Type 0} (p : X → Bool) (xs : List X) → length (filter p xs) ≤ length xs
+filter_short p [] = omega arith
+filter_short p (x ∷ xs) =
+    elim (p x) as (λ b. length (cond b (x ∷ filter p xs) (filter p xs)) ≤ length (x ∷ xs)) [
+      | true ↦ let h = filter_short p xs in omega arith
+      | false ↦ let h = filter_short p xs in omega arith
+    ]
+
+module _ {K : Type 0} {shows : K → ShownKeeper} {old new : StateFacts K} where
+  -- nothing but the keeper changed
+  pub same_on : {F : Type 0} {answers : List Heard} → IsPassOn old.pass old.pass
+      → (shows old.keeper).faults ≤ (shows new.keeper).faults → new.pass ≡ old.pass → new.rows ≡ old.rows
+      → new.roots ≡ old.roots → new.origin ≡ old.origin → Advances shows answers F old new
+  same_on {F} {answers} opened keeper pass rows roots origin = record {
+    keeper = keeper;
+    pass = subst (λ (o : Option PassFacts). IsPassOn old.pass o) (sym pass) opened;
+    roots = roots;
+    origin = origin;
+    stays = λ name listed stood. ap (λ (r : List RowFacts). is_in (row_names r) name) rows ∙ stood;
+    goes = λ name stood gone none under.
+        absurd (true≢false (sym stood ∙ sym (ap (λ (r : List RowFacts). is_in (row_names r) name) rows) ∙ gone));
+    brings = subst (λ (r : List RowFacts). All (IsBrought old.rows answers) r) (sym rows) (still_brought old.rows answers);
+    missed =
+        subst (λ (o : Option PassFacts). All (IsMissBy (pass_of old.pass).listing (pass_of old.pass).missed answers F) (pass_of o).missed)
+        (sym pass) (still_missed (pass_of old.pass).listing (pass_of old.pass).missed answers F);
+  }
+
+  -- the pass alone changed, and no name was missed
+  pub pass_on : {F : Type 0} {answers : List Heard} → IsPassOn old.pass new.pass
+      → (pass_of new.pass).missed ≡ (pass_of old.pass).missed → new ≡ record old { pass = new.pass }
+      → Advances shows answers F old new
+  pass_on {F} {answers} on missed same = record {
+    keeper = let e = ap (λ (s : StateFacts K). (shows s.keeper).faults) same in omega (arith, e);
+    pass = on;
+    roots = ap (λ (s : StateFacts K). s.roots) same;
+    origin = ap (λ (s : StateFacts K). s.origin) same;
+    stays = λ name listed stood. ap (λ (s : StateFacts K). is_in (row_names s.rows) name) same ∙ stood;
+    goes = λ name stood gone none under.
+        absurd (true≢false (sym stood ∙ sym (ap (λ (s : StateFacts K). is_in (row_names s.rows) name) same) ∙ gone));
+    brings =
+        subst (λ (r : List RowFacts). All (IsBrought old.rows answers) r) (sym (ap (λ (s : StateFacts K). s.rows) same))
+        (still_brought old.rows answers);
+    missed =
+        subst (λ (ms : List Miss). All (IsMissBy (pass_of old.pass).listing (pass_of old.pass).missed answers F) ms) (sym missed)
+        (still_missed (pass_of old.pass).listing (pass_of old.pass).missed answers F);
+  }
+
+  -- a name whose row stands no more, or by another stamp, left
+  pub moved_on : {F : Type 0} {answers : List Heard} (name : NameFacts) → IsPassOn old.pass old.pass
+      → new ≡ record old { pass = option_map (left name) old.pass } → Advances shows answers F old new
+  moved_on {F} {answers} name opened after =
+      subst (λ (s : StateFacts K). Advances shows answers F old s) (sym after) (record {
+        keeper = omega arith;
+        pass = left_on name opened;
+        roots = refl;
+        origin = refl;
+        stays = λ n listed stood. stood;
+        goes = λ n stood gone none under. absurd (true≢false (sym stood ∙ gone));
+        brings = still_brought old.rows answers;
+        missed = left_missed name old.pass answers F;
+      })
+
+  -- the row of a listed name was put
+  pub stored_on : {F : Type 0} {answers : List Heard} {true_row : RowFacts → Type 0} {tells : Bool} {row : RowFacts}
+      → IndexInvariant true_row tells shows old → IsReadOf answers row → Stores tells shows row old new
+      → Advances shows answers F old new
+  stored_on {F} {answers} {row = row} holds read stored =
+      let awaited : IsAwaited row.name old = stored.can.awaited in
+      let opened : IsPassOn old.pass old.pass = listed_open old.pass row.name awaited.listed in
+      let by_path : IsByPath (pass_of old.pass).listing = listing_by_path old.pass holds.each_name_in_one_place opened in
+      subst (λ (s : StateFacts K). Advances shows answers F old s) (sym stored.after) (record {
+        keeper = stored.keeper.asked.cause.later;
+        pass = left_on row.name opened;
+        roots = refl;
+        origin = refl;
+        stays = put_stays row (pass_of old.pass).listing old.rows by_path awaited.listed awaited.absent;
+        goes = λ n stood gone none under.
+            absurd (put_goes row (pass_of old.pass).listing old.rows by_path awaited.listed n stood gone none);
+        brings = put_holds (IsBrought old.rows answers) row_path row old.rows (still_brought old.rows answers) (inr read);
+        missed = left_missed row.name old.pass answers F;
+      })
+
+-- what was seen shows that the file is gone
+missing_by : (answer : StatAnswer) (met : Seen) (stamp : StampFacts) → looked_of answer ≡ looked.Saw met
+    → is_file met stamp ≡ false → IsMissing stamp answer
+missing_by Folder met stamp saw gone = tt
+missing_by Other met stamp saw gone = tt
+missing_by Gone met stamp saw gone = tt
+missing_by (File at) met stamp saw gone = λ same.
+    let met_is : met ≡ seen.File at = cc in
+    true≢false (sym ((same_stamp-Decides stamp at).1 (sym same)) ∙ sym (ap (λ (m : Seen). is_file m stamp) met_is) ∙ gone)
+missing_by Failed met stamp saw gone = absurd (cc)
+missing_by OutOfMemory met stamp saw gone = absurd (cc)
+
+-- what was seen was the file
+file_by : (answer : StatAnswer) (met : Seen) (stamp : StampFacts) → looked_of answer ≡ looked.Saw met
+    → is_file met stamp ≡ true → answer ≡ File stamp
+file_by (File at) met stamp saw there =
+    let met_is : met ≡ seen.File at = cc in
+    ap File (sym ((same_stamp-Decides stamp at).0 (ap (λ (m : Seen). is_file m stamp) (sym met_is) ∙ there)))
+file_by Folder met stamp saw there =
+    let met_is : met ≡ seen.Other = cc in
+    absurd (true≢false (sym there ∙ ap (λ (m : Seen). is_file m stamp) met_is))
+file_by Other met stamp saw there =
+    let met_is : met ≡ seen.Other = cc in
+    absurd (true≢false (sym there ∙ ap (λ (m : Seen). is_file m stamp) met_is))
+file_by Gone met stamp saw there =
+    let met_is : met ≡ seen.Gone = cc in
+    absurd (true≢false (sym there ∙ ap (λ (m : Seen). is_file m stamp) met_is))
+file_by Failed met stamp saw there = absurd (cc)
+file_by OutOfMemory met stamp saw there = absurd (cc)
+
+module _ {answers : List Heard} (roots : List (List ℕ)) {name : NameFacts} {met : Seen} (sees : is_under roots name.path ≡ true → HasSeen answers name met) where
+  -- a file that is gone was looked for
+  pub seen_gone : is_strange roots name met ≡ false → is_under roots name.path ≡ true → IsSeenGone answers name
+  seen_gone gone under =
+      let saw : HasSeen answers name met = sees under in
+      record {
+        answer = saw.answer;
+        heard = saw.heard;
+        missing = missing_by saw.answer met name.stamp saw.saw (ap (λ b. b && is_file met name.stamp) (sym under) ∙ gone);
+      }
+
+  -- and so was one that is there
+  pub seen_there : is_strange roots name met ≡ true → Contains answers (stat name.path (File name.stamp))
+  seen_there strange =
+      let both = and_parts (is_under roots name.path) (is_file met name.stamp) strange in
+      let saw : HasSeen answers name met = sees both.0 in
+      subst (λ (a : StatAnswer). Contains answers (stat name.path a)) (file_by saw.answer met name.stamp saw.saw both.1) saw.heard
+
+-- of a name that is put among those that were missed
+added_miss : (listing : List NameFacts) (m : Miss) (before after : List Miss) (answers : List Heard) (F : Type 0)
+    → Adds m before after → IsBacked listing answers F m.name m.cause → All (IsMissBy listing before answers F) after
+added_miss listing m before after answers F adds why =
+    All-weaker (Contains after) (IsMissBy listing before answers F) each after (All-contains_itself after)
+  where
+    was : (x : Miss) → Contains (adds.front ++ adds.back) x → Contains before x
+    was x h = subst (λ (ms : List Miss). Contains ms x) (sym adds.old) h
+
+    one : (x : Miss) → Contains [] x ⊎ (m ≡ x) → IsMissBy listing before answers F x
+    one x (inl none) = absurd (omega (arith, none.1))
+    one x (inr same) = subst (λ (y : Miss). IsMissBy listing before answers F y) same (inr why)
+
+    behind : (x : Miss) → Contains (m ∷ []) x ⊎ Contains adds.back x → IsMissBy listing before answers F x
+    behind x (inl here) = one x (Contains-push_cases [] m x here)
+    behind x (inr later) = inl (was x (Contains-append_right adds.front adds.back x later))
+
+    parts : (x : Miss) → Contains adds.front x ⊎ Contains (m ∷ adds.back) x → IsMissBy listing before answers F x
+    parts x (inl first) = inl (was x (Contains-append_left adds.front adds.back x first))
+    parts x (inr rest) = behind x (Contains-append_cases (m ∷ []) adds.back x rest)
+
+    each : (x : Miss) → Contains after x → IsMissBy listing before answers F x
+    each x h = parts x (Contains-append_cases adds.front (m ∷ adds.back) x (subst (λ (ms : List Miss). Contains ms x) adds.new h))
+
+module _ {K : Type 0} {shows : K → ShownKeeper} {old new : StateFacts K} where
+  -- a name was missed, if it was out
+  pub missed_on : {F : Type 0} {answers : List Heard} {name : NameFacts} {cause : Cause} (was_out : Bool)
+      → IsPassOn old.pass old.pass → MissesOut name cause old was_out new
+      → IsBacked (pass_of old.pass).listing answers F name cause
+      → Advances shows answers F old new
+  missed_on {F} {answers} {name} {cause} true opened misses why =
+      let on : IsPassOn old.pass new.pass = record {
+        from = misses.missed.from;
+        into = misses.missed.into;
+        was = misses.missed.was;
+        is = misses.missed.is;
+        over = ap (λ (p : PassFacts). p.listing) misses.missed.step.same;
+      } in
+      let same : new ≡ record old { pass = new.pass } = misses.same in
+      record {
+        keeper = let e = ap (λ (s : StateFacts K). (shows s.keeper).faults) same in omega (arith, e);
+        pass = on;
+        roots = ap (λ (s : StateFacts K). s.roots) same;
+        origin = ap (λ (s : StateFacts K). s.origin) same;
+        stays = λ n listed stood. ap (λ (s : StateFacts K). is_in (row_names s.rows) n) same ∙ stood;
+        goes = λ n stood gone none under.
+            absurd (true≢false (sym stood ∙ sym (ap (λ (s : StateFacts K). is_in (row_names s.rows) n) same) ∙ gone));
+        brings =
+            subst (λ (r : List RowFacts). All (IsBrought old.rows answers) r) (sym (ap (λ (s : StateFacts K). s.rows) same))
+            (still_brought old.rows answers);
+        missed =
+            subst (λ (o : Option PassFacts). All (IsMissBy (pass_of old.pass).listing (pass_of old.pass).missed answers F) (pass_of o).missed)
+            (sym misses.missed.is)
+            (subst (λ (o : Option PassFacts). All (IsMissBy (pass_of old.pass).listing (pass_of o).missed answers F) misses.missed.into.missed)
+            (sym misses.missed.was)
+            (added_miss (pass_of old.pass).listing (record { name = name; cause = cause }) misses.missed.from.missed misses.missed.into.missed answers F
+            misses.missed.step.missed why));
+      }
+  missed_on {F} {answers} false opened misses why =
+      pass_on (subst (λ (o : Option PassFacts). IsPassOn old.pass o) (sym misses.missed.same) opened)
+      (ap (λ (o : Option PassFacts). (pass_of o).missed) misses.missed.same) misses.same
+
+  -- the row of a name that isn't listed was dropped
+  pub removed_on : {F : Type 0} {answers : List Heard} {true_row : RowFacts → Type 0} {tells : Bool} {name : NameFacts} {met : Seen}
+      → IndexInvariant true_row tells shows old → IsPassOn old.pass old.pass
+      → (is_under old.roots name.path ≡ true → HasSeen answers name met)
+      → IsGone name met old → Removes tells shows name old new → Advances shows answers F old new
+  removed_on {F} {answers} {name = name} {met = met} holds opened sees gone removes =
+      let left_over : IsLeftOver name old = gone.left_over in
+      let unlisted : is_in (pass_of old.pass).listing name ≡ false = kept_listed old.pass name left_over.unlisted in
+      let ascend = holds.rows_sorted_and_true.ascend in
+      subst (λ (s : StateFacts K). Advances shows answers F old s) (sym removes.after) (record {
+        keeper = removes.keeper.cause.later;
+        pass = left_on name opened;
+        roots = refl;
+        origin = refl;
+        stays = λ n listed stood.
+            drop_stays name old.rows ascend left_over.stands n
+            (λ same. true≢false (sym listed ∙ ap (is_in (pass_of old.pass).listing) same ∙ unlisted)) stood;
+        goes = λ n stood went none under.
+            let same : n ≡ name = drop_goes name old.rows ascend left_over.stands n stood went in
+            subst (λ (m : NameFacts). IsSeenGone answers m) (sym same)
+            (seen_gone old.roots sees gone.gone (ap (λ (m : NameFacts). is_under old.roots m.path) (sym same) ∙ under));
+        brings =
+            All-filter (λ (r : RowFacts). not (bytes_eq (row_path r) name.path)) (IsBrought old.rows answers) old.rows
+            (still_brought old.rows answers);
+        missed = left_missed name old.pass answers F;
+      })
+
+module _ {K : Type 0} {old new : StateFacts K} where
+  -- the name is out no more
+  pub left_over_pass : {name : NameFacts} → IsPassOn old.pass old.pass → new.broken ≡ false
+      → new.pass ≡ option_map (left name) old.pass → IsOver name old new
+  left_over_pass {name} opened sound pass =
+      let is : pass_of new.pass ≡ left name (pass_of old.pass)
+      = ap (λ (o : Option PassFacts). pass_of o) pass
+      ∙ subst (λ (o : Option PassFacts). pass_of (option_map (left name) o) ≡ left name (pass_of o)) (sym opened.was) refl in
+      let todo : length (pass_of new.pass).todo ≡ length (filter (λ (n : NameFacts). not (same_name name n)) (pass_of old.pass).todo)
+      = ap (λ (p : PassFacts). length p.todo) is in
+      let groom : length (pass_of new.pass).groom ≡ length (filter (λ (n : NameFacts). not (same_name name n)) (pass_of old.pass).groom)
+      = ap (λ (p : PassFacts). length p.groom) is in
+      record {
+        sound = sound;
+        out = ap (λ (p : PassFacts). p.out) is;
+        todo = omega (arith, todo, filter_short (λ (n : NameFacts). not (same_name name n)) (pass_of old.pass).todo);
+        groom = omega (arith, groom, filter_short (λ (n : NameFacts). not (same_name name n)) (pass_of old.pass).groom);
+      }
+
+  pub missed_over : {name : NameFacts} {cause : Cause} (was_out : Bool) → is_in (pass_of old.pass).out name ≡ true
+      → old.broken ≡ false → MissesOut name cause old was_out new → IsOver name old new
+  missed_over {name} {cause} true out sound misses =
+      let step : MissesName misses.missed.from misses.missed.into name cause = misses.missed.step in
+      let now : pass_of new.pass ≡ misses.missed.into = ap (λ (o : Option PassFacts). pass_of o) misses.missed.is in
+      let was : misses.missed.from ≡ pass_of old.pass = ap (λ (o : Option PassFacts). pass_of o) (sym misses.missed.was) in
+      let todo : length (pass_of new.pass).todo ≡ length (pass_of old.pass).todo
+      = ap (λ (p : PassFacts). length p.todo) now ∙ ap (λ (p : PassFacts). length p.todo) step.same
+      ∙ ap (λ (p : PassFacts). length p.todo) was in
+      let groom : length (pass_of new.pass).groom ≡ length (pass_of old.pass).groom
+      = ap (λ (p : PassFacts). length p.groom) now ∙ ap (λ (p : PassFacts). length p.groom) step.same
+      ∙ ap (λ (p : PassFacts). length p.groom) was in
+      record {
+        sound = ap (λ (s : StateFacts K). s.broken) misses.same ∙ sound;
+        out =
+            ap (λ (p : PassFacts). p.out) now ∙ ap (λ (p : PassFacts). p.out) step.same
+            ∙ ap (λ (p : PassFacts). without name p.out) was;
+        todo = omega (arith, todo);
+        groom = omega (arith, groom);
+      }
+  missed_over false out sound misses = absurd (true≢false (sym out ∙ misses.missed.absent))

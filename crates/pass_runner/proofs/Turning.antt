@@ -1,0 +1,361 @@
+-- What becomes of a name that was handed out.
+use Rattle.std.proofs.Common.{◌≡◌, ◌≢◌, ℕ, ◌≤◌, ◌<◌, Bool, true, false, not, List, [], ◌∷◌, ◌++◌, length, Option, Some, None, refl, sym, ◌∙◌, ap, subst, arith, IsTrue}
+use Rattle.std.specs.List.{All, Contains}
+use Rattle.std.specs.Option.{option_map}
+use Rattle.std.proofs.lemmas.Bool.{true≢false}
+use Rattle.std.proofs.lemmas.List.Elements.{All-nil, All-weaker}
+use Rattle.row_types.specs.Faults.{HasCause, Rose}
+use Rattle.row_types.specs.Name.{NameFacts, stamp_at}
+use Rattle.row_types.specs.Row.{RowFacts}
+use Rattle.row_types.specs.declared.limits.TheConstants.{FILE_LIMIT}
+use Rattle.index_keeper.specs.Keeper.{ShownKeeper}
+use Rattle.index_rows.specs.Rows.{row_names}
+use Rattle.index_rows.specs.declared.rows.TheConstants.{LOG_LIMIT}
+use Rattle.scan_queue.specs.Names.{is_in}
+use Rattle.scan_queue.specs.Pass.{PassFacts, left}
+use Rattle.scan_queue.specs.declared.miss.Cause.{Cause}
+use Rattle.scan_queue.specs.declared.miss.Cause.TheVariants.{ReadFault, Altered, Appeared}
+use Rattle.scan_queue.specs.declared.miss.Seen.{Seen}
+use Rattle.index_state.specs.Away.{MissesOut}
+use Rattle.index_state.specs.Invariant.{IndexInvariant}
+use Rattle.index_state.specs.Judge.{is_kept, is_under}
+use Rattle.index_state.specs.State.{StateFacts, pass_of}
+use Rattle.index_state.specs.Step.{IsAwaited, IsShut, Judges, Stays}
+use Rattle.index_state.specs.declared.answer.Judged.{Judged}
+use Rattle.index_state.specs.declared.answer.Judged.TheVariants as judged
+use Rattle.scan_worker.specs.Read.{FindsOther, LeadsTo, MayWant, Reads, load_of}
+use Rattle.scan_worker.specs.declared.work_end.WorkEnd.{WorkEnd}
+use Rattle.scan_worker.specs.declared.work_end.WorkEnd.TheVariants.{Empty, Broken, KeeperFault, LogFull, OutOfMemory}
+use Rattle.tree_trait.specs.Asks.{Asks}
+use Rattle.tree_trait.specs.Found.{Versions}
+use Rattle.tree_trait.specs.Heard.{Heard, load, stat, read_dir, has_failed, wants_memory}
+use Rattle.tree_trait.specs.Load.{LoadFacts, loaded, too_large, gone, failed, no_memory}
+use Rattle.tree_trait.specs.Shown.{ShownTree}
+use Rattle.tree_trait.specs.declared.stat.StatAnswer.{StatAnswer}
+use Rattle.tree_trait.specs.declared.stat.StatAnswer.TheVariants as said
+use Rattle.pass_runner.specs.Ends.{IsOutOfRoom, TurnsBy}
+use Rattle.pass_runner.specs.Settled.{IsBacked, IsNew, IsPassOn, IsReadOf, IsWanted}
+use Rattle.pass_runner.specs.Turns.{Advances, HasSeen, IsLookUnder, JudgesLeft, Listens, Looks, LooksTo, PublishesNew, TurnsOver, after_judged, heard_of, looked_of}
+use Rattle.pass_runner.specs.declared.look_for.Looked.{Looked}
+use Rattle.pass_runner.specs.declared.look_for.Looked.TheVariants as looked
+use Rattle.pass_runner.proofs.Moves.{all_heard, is_heard, listens_none, listens_one}
+use Rattle.pass_runner.proofs.NameLists.{stamp_listed}
+use Rattle.pass_runner.proofs.Composed.{settles_by}
+use Rattle.pass_runner.proofs.Steps.{kept_listed, left_over_pass, listed_open, listing_by_path, missed_on, missed_over, moved_on, out_open, removed_on, same_on, seen_there, stored_on}
+
+-- where a name is in the one list and not in the other, they differ
+apart_by : (names listing : List NameFacts) (name : NameFacts) (a b : Bool) → (a ≡ b → ⊥) → is_in names name ≡ a
+    → is_in listing name ≡ b → names ≢ listing
+apart_by names listing name a b differs p q same = differs (sym p ∙ ap (λ (l : List NameFacts). is_in l name) same ∙ q)
+
+false≢true : false ≡ true → ⊥
+false≢true e = true≢false (sym e)
+
+module _ {K : Type 0} (tells : Bool) (shows : K → ShownKeeper) (old new : StateFacts K) where
+  -- where a row is published
+  published_on : {F : Type 0} {true_row : RowFacts → Type 0} {answers : List Heard} (row : RowFacts) (end : Option WorkEnd) → IndexInvariant true_row tells shows old
+      → IsReadOf answers row → IsAwaited row.name old → PublishesNew tells shows row old new end → Advances shows answers F old new
+  published_on row None holds read awaited h = stored_on holds read h
+  published_on row (Some KeeperFault) holds read awaited h =
+      same_on (listed_open old.pass row.name awaited.listed) h.keeper.asked.cause.later
+      (ap (λ (s : StateFacts K). s.pass) h.after) (ap (λ (s : StateFacts K). s.rows) h.after)
+      (ap (λ (s : StateFacts K). s.roots) h.after) (ap (λ (s : StateFacts K). s.origin) h.after)
+  published_on row (Some LogFull) holds read awaited h =
+      same_on (listed_open old.pass row.name awaited.listed)
+      (let e = ap (λ (s : StateFacts K). (shows s.keeper).faults) h.same in omega (arith, e))
+      (ap (λ (s : StateFacts K). s.pass) h.same) (ap (λ (s : StateFacts K). s.rows) h.same)
+      (ap (λ (s : StateFacts K). s.roots) h.same) (ap (λ (s : StateFacts K). s.origin) h.same)
+  published_on row (Some OutOfMemory) holds read awaited h =
+      same_on (listed_open old.pass row.name awaited.listed) (let e = h.keeper.faultless in omega (arith, e))
+      (ap (λ (s : StateFacts K). s.pass) h.same) (ap (λ (s : StateFacts K). s.rows) h.same)
+      (ap (λ (s : StateFacts K). s.roots) h.same) (ap (λ (s : StateFacts K). s.origin) h.same)
+  published_on row (Some _) holds read awaited h = absurd h
+
+  published_ends : (row : RowFacts) (end : Option WorkEnd) → old.broken ≡ false → IsAwaited row.name old
+      → PublishesNew tells shows row old new end → TurnsBy row.name old new end
+  published_ends row None sound awaited h =
+      left_over_pass (listed_open old.pass row.name awaited.listed) (ap (λ (s : StateFacts K). s.broken) h.after ∙ sound)
+      (ap (λ (s : StateFacts K). s.pass) h.after)
+  published_ends row (Some KeeperFault) sound awaited h = ap (λ (s : StateFacts K). s.broken) h.after
+  published_ends row (Some LogFull) sound awaited h =
+      subst (λ (s : StateFacts K). IsOutOfRoom s) (sym h.same) (record {
+        sound = sound;
+        full = h.why.full;
+        apart = apart_by (row_names old.rows) (pass_of old.pass).listing row.name false true false≢true awaited.absent awaited.listed;
+      })
+  published_ends row (Some OutOfMemory) sound awaited h = ap (λ (s : StateFacts K). s.broken) h.same ∙ sound
+  published_ends row (Some _) sound awaited h = absurd h
+
+  published_cause : (row : RowFacts) (end : Option WorkEnd) → PublishesNew tells shows row old new end
+      → end ≡ Some KeeperFault → Rose (shows old.keeper).faults (shows new.keeper).faults
+  published_cause row None h is = absurd (cc)
+  published_cause row (Some KeeperFault) h is = h.keeper.asked.cause.rose refl
+  published_cause row (Some LogFull) h is = absurd (cc)
+  published_cause row (Some OutOfMemory) h is = absurd (cc)
+  published_cause row (Some _) h is = absurd h
+
+  -- where a name that isn't listed is judged
+  module _ (name : NameFacts) (met : Seen) (sound : old.broken ≡ false) (unlisted : is_kept old.pass name ≡ false) (out : is_in (pass_of old.pass).out name ≡ true) where
+    judged_on : {F : Type 0} {true_row : RowFacts → Type 0} {answers : List Heard} (answer : Judged) → IndexInvariant true_row tells shows old
+        → (is_under old.roots name.path ≡ true → HasSeen answers name met)
+        → Judges tells shows name met old answer new → Advances shows answers F old new
+    judged_on judged.Broken holds sees h = absurd (true≢false (sym h.why ∙ sound))
+    judged_on judged.Kept holds sees h = absurd (true≢false (sym h.why.kept ∙ unlisted))
+    judged_on (judged.Moved now) holds sees h = moved_on name (out_open old.pass name out) h.after
+    judged_on judged.Strange holds sees h =
+        missed_on {cause = Appeared} h.was_out (out_open old.pass name out) h.missed
+        (record { unlisted = kept_listed old.pass name unlisted; heard = seen_there old.roots sees h.strange.strange })
+    judged_on judged.LogFull holds sees h =
+        same_on (out_open old.pass name out)
+        (let e = ap (λ (s : StateFacts K). (shows s.keeper).faults) h.drops.same in omega (arith, e))
+        (ap (λ (s : StateFacts K). s.pass) h.drops.same) (ap (λ (s : StateFacts K). s.rows) h.drops.same)
+        (ap (λ (s : StateFacts K). s.roots) h.drops.same) (ap (λ (s : StateFacts K). s.origin) h.drops.same)
+    judged_on judged.OutOfMemory holds sees h =
+        same_on (out_open old.pass name out) (let e = h.drops.keeper.faultless in omega (arith, e))
+        (ap (λ (s : StateFacts K). s.pass) h.drops.same) (ap (λ (s : StateFacts K). s.rows) h.drops.same)
+        (ap (λ (s : StateFacts K). s.roots) h.drops.same) (ap (λ (s : StateFacts K). s.origin) h.drops.same)
+    judged_on judged.KeeperFault holds sees h =
+        same_on (out_open old.pass name out) h.drops.keeper.cause.later
+        (ap (λ (s : StateFacts K). s.pass) h.drops.after) (ap (λ (s : StateFacts K). s.rows) h.drops.after)
+        (ap (λ (s : StateFacts K). s.roots) h.drops.after) (ap (λ (s : StateFacts K). s.origin) h.drops.after)
+    judged_on judged.Dropped holds sees h = removed_on holds (out_open old.pass name out) sees h.gone h.drops
+
+    judged_ends : (answer : Judged) → Judges tells shows name met old answer new → TurnsBy name old new (after_judged answer)
+    judged_ends judged.Broken h = absurd (true≢false (sym h.why ∙ sound))
+    judged_ends judged.Kept h = absurd (true≢false (sym h.why.kept ∙ unlisted))
+    judged_ends (judged.Moved now) h =
+        left_over_pass (out_open old.pass name out) (ap (λ (s : StateFacts K). s.broken) h.after ∙ sound)
+        (ap (λ (s : StateFacts K). s.pass) h.after)
+    judged_ends judged.Strange h = missed_over h.was_out out sound h.missed
+    judged_ends judged.LogFull h =
+        subst (λ (s : StateFacts K). IsOutOfRoom s) (sym h.drops.same) (record {
+          sound = sound;
+          full = h.drops.why.full;
+          apart =
+              apart_by (row_names old.rows) (pass_of old.pass).listing name true false true≢false h.gone.left_over.stands
+              (kept_listed old.pass name unlisted);
+        })
+    judged_ends judged.OutOfMemory h = ap (λ (s : StateFacts K). s.broken) h.drops.same ∙ sound
+    judged_ends judged.KeeperFault h = ap (λ (s : StateFacts K). s.broken) h.drops.after
+    judged_ends judged.Dropped h =
+        left_over_pass (out_open old.pass name out) (ap (λ (s : StateFacts K). s.broken) h.drops.after ∙ sound)
+        (ap (λ (s : StateFacts K). s.pass) h.drops.after)
+
+    judged_cause : (answer : Judged) → Judges tells shows name met old answer new → after_judged answer ≡ Some KeeperFault
+        → Rose (shows old.keeper).faults (shows new.keeper).faults
+    judged_cause judged.KeeperFault h is = h.drops.keeper.cause.rose refl
+    judged_cause judged.Broken h is = absurd (cc)
+    judged_cause judged.Kept h is = absurd (cc)
+    judged_cause (judged.Moved now) h is = absurd (cc)
+    judged_cause judged.Strange h is = absurd (cc)
+    judged_cause judged.LogFull h is = absurd (cc)
+    judged_cause judged.OutOfMemory h is = absurd (cc)
+    judged_cause judged.Dropped h is = absurd (cc)
+
+-- looks at paths under a root may be asked
+wanted_looks : (listing : List NameFacts) (roots : List (List ℕ)) (names : List NameFacts) (answers : List Heard)
+    → All (IsLookUnder roots) answers → All (IsWanted listing roots names) answers
+wanted_looks listing roots names answers asked =
+    All-weaker (IsLookUnder roots) (IsWanted listing roots names) each answers asked
+  where
+    each : (asked : Heard) → IsLookUnder roots asked → IsWanted listing roots names asked
+    each (stat path answer) h = h
+    each (load path limit answer) h = absurd h
+    each (read_dir path answer) h = absurd h
+
+-- the load of a name that is awaited may be asked
+wanted_load : {K : Type 0} {true_row : RowFacts → Type 0} {tells : Bool} {shows : K → ShownKeeper} {state : StateFacts K}
+    (name : NameFacts) (answer : LoadFacts) → IndexInvariant true_row tells shows state → IsAwaited name state
+    → IsWanted (pass_of state.pass).listing state.roots (row_names state.rows) (load_of name answer)
+wanted_load {state = state} name answer holds awaited = (
+  refl,
+  record {
+    stamp = name.stamp;
+    listed =
+        stamp_listed name (pass_of state.pass).listing
+        (listing_by_path state.pass holds.each_name_in_one_place (listed_open state.pass name awaited.listed)) awaited.listed;
+    absent = awaited.absent;
+  },
+)
+
+-- a row that was read has the listed name
+read_named : (name : NameFacts) (answer : LoadFacts) (row : RowFacts) → Reads name answer row → row.name ≡ name
+read_named name (loaded found) row h = h.1.named
+read_named name (too_large stamp) row h = ap (λ (r : RowFacts). r.name) h.1
+read_named name _ row h = absurd h
+
+-- and the name of the row is awaited, where that name is
+pub reads_awaited : {K : Type 0} {state : StateFacts K} {name : NameFacts} (row : RowFacts) (answer : LoadFacts)
+    → Reads name answer row → IsAwaited name state → IsAwaited row.name state
+reads_awaited {state = state} {name = name} row answer reads awaited =
+    subst (λ (n : NameFacts). IsAwaited n state) (sym (read_named name answer row reads)) awaited
+
+-- a load that gave another file wasn't refused memory
+other_heard : (name : NameFacts) (answer : LoadFacts) (met : Seen) → FindsOther name answer met
+    → wants_memory (load_of name answer) ≡ false
+other_heard name (loaded found) met h = refl
+other_heard name (too_large stamp) met h = refl
+other_heard name gone met h = refl
+other_heard name _ met h = absurd h
+
+-- nor was one that gave the file
+read_heard : (name : NameFacts) (answer : LoadFacts) (row : RowFacts) → Reads name answer row
+    → wants_memory (load_of name answer) ≡ false
+read_heard name (loaded found) row h = refl
+read_heard name (too_large stamp) row h = refl
+read_heard name _ row h = absurd h
+
+-- what the row says is what the load found
+read_of : (name : NameFacts) (answer : LoadFacts) (row : RowFacts) → Reads name answer row → row.name ≡ name
+    → IsReadOf (heard_of (load_of name answer)) row
+read_of name answer row reads named = record {
+  answer = answer;
+  heard =
+      subst (λ (n : NameFacts). Contains (heard_of (load_of name answer)) (load_of n answer)) (sym named)
+      (is_heard (load_of name answer) (read_heard name answer row reads));
+  reads = subst (λ (n : NameFacts). Reads n answer row) (sym named) reads;
+}
+
+module _ {K : Type 0} {told : Bool} {version : Versions} {shows : K → ShownKeeper}
+    {before after : ShownTree} {old new : StateFacts K} {name : NameFacts} where
+  -- the file was read, and its row is published
+  pub turns_read : {true_row : RowFacts → Type 0} {tells : Bool} (row : RowFacts) {end : Option WorkEnd} (answer : LoadFacts) → IndexInvariant true_row tells shows old
+      → old.broken ≡ false → IsAwaited name old → Asks told version before after (load_of name answer)
+      → Reads name answer row → PublishesNew tells shows row old new end
+      → TurnsOver told version shows name before after old new end
+  turns_read {tells = tells} row {end = end} answer holds sound awaited asks reads h =
+      let named : row.name ≡ name = read_named name answer row reads in
+      let waits : IsAwaited row.name old = subst (λ (n : NameFacts). IsAwaited n old) (sym named) awaited in
+      let on : Advances shows (heard_of (load_of name answer)) (Rose before.faults after.faults) old new
+      = published_on tells shows old new row end holds (read_of name answer row reads named) waits h in
+      record {
+        settles =
+            settles_by (listens_one (load_of name answer) asks)
+            (all_heard (IsWanted (pass_of old.pass).listing old.roots (row_names old.rows)) (load_of name answer)
+            (wanted_load name answer holds awaited)) on;
+        ends = subst (λ (n : NameFacts). TurnsBy n old new end) named (published_ends tells shows old new row end sound waits h);
+        keeper = record { later = on.keeper; rose = published_cause tells shows old new row end h };
+      }
+
+  -- it was missed
+  missed_so : {cause : Cause} {answers : List Heard} (was_out : Bool) → old.broken ≡ false
+      → is_in (pass_of old.pass).out name ≡ true → Listens told version before after answers
+      → All (IsWanted (pass_of old.pass).listing old.roots (row_names old.rows)) answers
+      → IsBacked (pass_of old.pass).listing answers (Rose before.faults after.faults) name cause
+      → MissesOut name cause old was_out new
+      → TurnsOver told version shows name before after old new None
+  missed_so {answers = answers} was_out sound out listens wanted why misses =
+      let on : Advances shows answers (Rose before.faults after.faults) old new
+      = missed_on was_out (out_open old.pass name out) misses why in
+      record {
+        settles = settles_by listens wanted on;
+        ends = missed_over was_out out sound misses;
+        keeper = record { later = on.keeper; rose = λ is. absurd (cc) };
+      }
+
+  -- another file stood there
+  pub turns_altered : {true_row : RowFacts → Type 0} {tells : Bool} {met : Seen} (was_out : Bool) (answer : LoadFacts) → IndexInvariant true_row tells shows old
+      → old.broken ≡ false → IsAwaited name old → is_in (pass_of old.pass).out name ≡ true
+      → Asks told version before after (load_of name answer) → FindsOther name answer met
+      → MissesOut name (Altered met) old was_out new → TurnsOver told version shows name before after old new None
+  turns_altered {met = met} was_out answer holds sound awaited out asks other misses =
+      missed_so {cause = Altered met} was_out sound out (listens_one (load_of name answer) asks)
+      (all_heard (IsWanted (pass_of old.pass).listing old.roots (row_names old.rows)) (load_of name answer)
+      (wanted_load name answer holds awaited))
+      (record {
+        listed = awaited.listed;
+        answer = answer;
+        heard = is_heard (load_of name answer) (other_heard name answer met other);
+        other = other;
+      }) misses
+
+  -- the load failed
+  pub turns_unread : {true_row : RowFacts → Type 0} {tells : Bool} (was_out : Bool) (answer : LoadFacts) → IndexInvariant true_row tells shows old → old.broken ≡ false
+      → IsAwaited name old → is_in (pass_of old.pass).out name ≡ true → Asks told version before after (load_of name answer)
+      → answer ≡ failed → MissesOut name ReadFault old was_out new
+      → TurnsOver told version shows name before after old new None
+  turns_unread was_out answer holds sound awaited out asks is misses =
+      missed_so {cause = ReadFault} was_out sound out (listens_one (load_of name answer) asks)
+      (all_heard (IsWanted (pass_of old.pass).listing old.roots (row_names old.rows)) (load_of name answer)
+      (wanted_load name answer holds awaited))
+      (asks.hands.cause.rose (subst (λ (a : LoadFacts). IsTrue (has_failed (load_of name a))) (sym is) refl)) misses
+
+  -- the look failed
+  pub turns_unseen : (was_out : Bool) → old.broken ≡ false → is_in (pass_of old.pass).out name ≡ true
+      → Looks told version old.roots name before after looked.Failed → MissesOut name ReadFault old was_out new
+      → TurnsOver told version shows name before after old new None
+  turns_unseen was_out sound out looks misses =
+      missed_so {cause = ReadFault} was_out sound out looks.listens (wanted_looks (pass_of old.pass).listing old.roots (row_names old.rows) looks.answers looks.asked) looks.leads misses
+
+  -- and the row is judged by what was seen
+  pub turns_judged : {true_row : RowFacts → Type 0} {tells : Bool} {met : Seen} {end : Option WorkEnd} → IndexInvariant true_row tells shows old → old.broken ≡ false
+      → is_kept old.pass name ≡ false → is_in (pass_of old.pass).out name ≡ true
+      → Looks told version old.roots name before after (looked.Saw met) → JudgesLeft tells shows name met old new end
+      → TurnsOver told version shows name before after old new end
+  turns_judged {tells = tells} {met = met} {end = end} holds sound unlisted out looks h =
+      let on : Advances shows looks.answers (Rose before.faults after.faults) old new
+      = judged_on tells shows old new name met sound unlisted out h.answer holds looks.leads h.judged in
+      record {
+        settles = settles_by looks.listens (wanted_looks (pass_of old.pass).listing old.roots (row_names old.rows) looks.answers looks.asked) on;
+        ends = subst (λ (e : Option WorkEnd). TurnsBy name old new e) (sym h.ends) (judged_ends tells shows old new name met sound unlisted out h.answer h.judged);
+        keeper = record {
+          later = on.keeper;
+          rose = λ is. judged_cause tells shows old new name met sound unlisted out h.answer h.judged (sym h.ends ∙ is);
+        };
+      }
+
+module _ {K : Type 0} {told : Bool} {version : Versions} {shows : K → ShownKeeper} {before after : ShownTree} {state : StateFacts K} {name : NameFacts} where
+  wanting : {answers : List Heard} → IsPassOn state.pass state.pass → state.broken ≡ false → Listens told version before after answers
+      → All (IsWanted (pass_of state.pass).listing state.roots (row_names state.rows)) answers
+      → TurnsOver told version shows name before after state state (Some OutOfMemory)
+  wanting opened sound listens wanted = record {
+    settles = settles_by listens wanted (same_on opened (omega arith) refl refl refl refl);
+    ends = sound;
+    keeper = record { later = omega arith; rose = λ is. absurd (cc) };
+  }
+
+  -- memory was refused for the load, or for the row
+  pub turns_wanting : {true_row : RowFacts → Type 0} {tells : Bool} (answer : LoadFacts) → IndexInvariant true_row tells shows state
+      → state.broken ≡ false → IsAwaited name state → Asks told version before after (load_of name answer)
+      → TurnsOver told version shows name before after state state (Some OutOfMemory)
+  turns_wanting answer holds sound awaited asks =
+      wanting (listed_open state.pass name awaited.listed) sound (listens_one (load_of name answer) asks)
+      (all_heard (IsWanted (pass_of state.pass).listing state.roots (row_names state.rows)) (load_of name answer)
+      (wanted_load name answer holds awaited))
+
+  -- or for the look
+  pub turns_blind : state.broken ≡ false → is_in (pass_of state.pass).out name ≡ true
+      → Looks told version state.roots name before after looked.OutOfMemory
+      → TurnsOver told version shows name before after state state (Some OutOfMemory)
+  turns_blind sound out looks =
+      wanting (out_open state.pass name out) sound looks.listens (wanted_looks (pass_of state.pass).listing state.roots (row_names state.rows) looks.answers looks.asked)
+
+-- a look that was made
+module _ {told : Bool} {version : Versions} {before after : ShownTree} (roots : List (List ℕ)) (name : NameFacts) where
+  looks_lead : (answer : StatAnswer) → Asks told version before after (stat name.path answer)
+      → LooksTo (is_under roots name.path) (heard_of (stat name.path answer)) name (Rose before.faults after.faults) (looked_of answer)
+  looks_lead said.Folder asks = λ under. record { answer = said.Folder; heard = is_heard (stat name.path said.Folder) refl; saw = refl }
+  looks_lead (said.File stamp) asks = λ under. record { answer = said.File stamp; heard = is_heard (stat name.path (said.File stamp)) refl; saw = refl }
+  looks_lead said.Other asks = λ under. record { answer = said.Other; heard = is_heard (stat name.path said.Other) refl; saw = refl }
+  looks_lead said.Gone asks = λ under. record { answer = said.Gone; heard = is_heard (stat name.path said.Gone) refl; saw = refl }
+  looks_lead said.Failed asks = asks.hands.cause.rose refl
+  looks_lead said.OutOfMemory asks = tt
+
+  pub looks_by : (answer : StatAnswer) → is_under roots name.path ≡ true → Asks told version before after (stat name.path answer)
+      → Looks told version roots name before after (looked_of answer)
+  looks_by answer under asks = record {
+    answers = heard_of (stat name.path answer);
+    listens = listens_one (stat name.path answer) asks;
+    asked = all_heard (IsLookUnder roots) (stat name.path answer) under;
+    leads = looks_lead answer asks;
+  }
+
+-- no look was made
+pub looks_none : {told : Bool} {version : Versions} {hand : ShownTree} (roots : List (List ℕ)) (name : NameFacts) {met : Seen}
+    → is_under roots name.path ≡ false → Looks told version roots name hand hand (looked.Saw met)
+looks_none roots name apart = record {
+  answers = [];
+  listens = listens_none;
+  asked = All-nil (IsLookUnder roots);
+  leads = λ under. absurd (true≢false (sym under ∙ apart));
+}

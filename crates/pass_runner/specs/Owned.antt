@@ -1,0 +1,154 @@
+-- The pass over an index that is owned (this project's rule): the roots are walked, a pass over the walk listing begins,
+-- and it is settled. Whole: the index is one scan of the walk listing, and the numbers are those of its plan against the
+-- rows that the index brought. The first hand walks and settles; what another hand may ask is said of each.
+use Rattle.std.specs.Prelude.{◌≡◌, ◌⊎◌, ℕ, Bool, true, false, List, [], ◌∷◌, ◌++◌, All, Option, Some, IsTrue, Ok, Err}
+use Rattle.std.specs.List.{AllZip}
+use Rattle.row_types.specs.Faults.{Rose}
+use Rattle.row_types.specs.Name.{NameFacts}
+use Rattle.row_types.specs.Row.{RowFacts}
+use Rattle.row_types.specs.Rules.{Rules}
+use Rattle.index_keeper.specs.Keeper.{ShownKeeper}
+use Rattle.index_rows.specs.Rows.{row_names}
+use Rattle.index_state.specs.Complete.{CompletePass}
+use Rattle.index_state.specs.Plan.{plan_of}
+use Rattle.index_state.specs.State.{Origin, StateFacts, pass_of}
+use Rattle.scan_queue.specs.Names.{is_in}
+use Rattle.scan_queue.specs.Pass.{IsWhole, PassFacts, first_missed}
+use Rattle.scan_queue.specs.declared.miss.Cause.{Cause}
+use Rattle.scan_queue.specs.declared.miss.Cause.TheVariants.{ReadFault}
+use Rattle.scan_queue.specs.declared.miss.Miss.{Miss}
+use Rattle.tree_trait.specs.Asks.{FitsAny, IsTold}
+use Rattle.tree_trait.specs.Found.{Versions}
+use Rattle.tree_trait.specs.Heard.{Heard, with_answers}
+use Rattle.tree_trait.specs.Shown.{ShownTree}
+use Rattle.tree_walk.specs.Ends.{IsWholeWalk, Walks}
+use Rattle.tree_walk.specs.Files.{AreFilesUnder, FitsFault}
+use Rattle.tree_walk.specs.Walked.{AsksAll, IsWalkListing}
+use Rattle.tree_walk.specs.declared.fault.WalkFault.{WalkFault}
+use Rattle.tree_walk.specs.declared.fault.WalkFault.TheVariants as stop
+use Rattle.tree_walk.specs.declared.walked.Walk.{Walk}
+use Rattle.pass_runner.specs.Ends.{IsOutOfRoom}
+use Rattle.pass_runner.specs.Numbers.{summary_of}
+use Rattle.pass_runner.specs.Settled.{IsBacked, IsBrought, IsWanted, MayGo}
+use Rattle.pass_runner.specs.declared.pass_end.PassEnd.{PassEnd}
+use Rattle.pass_runner.specs.declared.pass_end.PassEnd.TheVariants.{Whole, Missed, Walk as Unwalked, Broken}
+use Rattle.pass_runner.specs.declared.pass_end.PassEnd.TheVariants.{KeeperFault, LogFull, OutOfMemory}
+use Rattle.pass_runner.specs.declared.summary.Summary.{Summary}
+
+-- the hand tells the files that are there, and they never change
+abbrev pub TellsStill : Bool → ShownTree → Type 0
+TellsStill told hand = IsTrue told × hand.Still
+
+-- what the first hand heard: a whole walk of the roots, and then nothing but loads of listed files whose names had no row
+-- and looks at paths under a root. All of it is full, and leads to the listing. Where the hand tells files that never
+-- change, these are the answers that it tells of them, and the listing is the files under the roots
+pub record HearsPass (told : Bool) (version : Versions) (roots : List (List ℕ)) (names : List NameFacts) (walk : Walk)
+    (walked more : List Heard) (before after : ShownTree) : Type 0 where
+  pub heard : after.heard ≡ with_answers before.heard (walked ++ more)
+  pub whole : IsWholeWalk walked roots walk
+  pub full : AsksAll (walked ++ more) roots
+  pub listing : IsWalkListing (walked ++ more) roots walk.listing
+  pub wanted : All (IsWanted walk.listing roots names) more
+  pub fits : All (FitsAny version) more
+  pub tells : TellsStill told before → All (IsTold before.present) (walked ++ more)
+  pub under : TellsStill told before → AreFilesUnder before.present roots walk.listing
+
+-- what the pass left of the index, however it ended: a pass over the listing is open; no row of a listed name went; a row
+-- whose path isn't listed and lies under a root went only where a look did not find its file; a row that wasn't there says
+-- what a load found; a name is missed only for a reason; no name is skipped, and else the origin is as it was
+pub record LeavesIndex {K : Type 0} (folders : List (List ℕ)) (listing : List NameFacts) (more : List Heard)
+    (Failed : Type 0) (old new : StateFacts K) : Type 0 where
+  pub pass : PassFacts
+  pub is_open : new.pass ≡ Some pass
+  pub over : pass.listing ≡ listing
+  pub roots : new.roots ≡ folders
+  pub origin : new.origin ≡ record old.origin { spared = [] }
+  pub stays : (name : NameFacts) → is_in listing name ≡ true
+      → is_in (row_names old.rows) name ≡ true → is_in (row_names new.rows) name ≡ true
+  pub goes : (name : NameFacts) → is_in (row_names old.rows) name ≡ true
+      → is_in (row_names new.rows) name ≡ false → MayGo listing folders more name
+  pub brings : All (IsBrought old.rows more) new.rows
+  pub missed : All (λ miss. IsBacked listing more Failed miss.name miss.cause) pass.missed
+
+-- the roots were walked, a pass over what was listed began, and this came of it
+pub record RunsPass {K : Type 0} (world : Rules) (told : Bool) (roots : List (List ℕ)) (before after : ShownTree)
+    (old new : StateFacts K) (Ends : List NameFacts → List Heard → Type 0) : Type 0 where
+  pub walk : Walk
+  pub walked : List Heard
+  pub more : List Heard
+  pub hears : HearsPass told world.version roots (row_names old.rows) walk walked more before after
+  pub leaves : LeavesIndex roots walk.listing more (Rose before.faults after.faults) old new
+  pub ends : Ends walk.listing more
+
+-- the roots could not be walked, and the index stays as it is
+pub record EndsUnwalked {K : Type 0} (told : Bool) (roots : List (List ℕ)) (before after : ShownTree)
+    (old new : StateFacts K) (fault : WalkFault) : Type 0 where
+  pub walks : Walks told before after roots (Err fault)
+  pub fits : TellsStill told before → FitsFault before.present roots fault
+  pub same : new ≡ old
+
+-- the index is one scan of the listing: the rows' names are the listed ones, in a told world the rows are its scan, and a
+-- keeper that tells has their tables
+pub record IsWholePass {K : Type 0} (world : Rules) (tells : Bool) (shows : K → ShownKeeper) (summary : Summary)
+    (old new : StateFacts K) (listing : List NameFacts) : Type 0 where
+  pub complete : CompletePass world.told world.true_row tells shows listing new
+  pub whole : IsWhole (pass_of new.pass)
+  pub sound : new.broken ≡ false
+  pub numbers : summary ≡ summary_of (plan_of listing (row_names old.rows)) new.rows
+
+-- a name was missed for a reason, and this was the first
+pub record HasMissed {K : Type 0} (miss : Miss) (Failed : Type 0) (new : StateFacts K) (listing : List NameFacts)
+    (more : List Heard) : Type 0 where
+  pub first : first_missed (pass_of new.pass).missed ≡ Some miss
+  pub why : IsBacked listing more Failed miss.name miss.cause
+  pub sound : new.broken ≡ false
+
+-- memory was refused before the pass began, and the index stays as it is
+pub record EndsEarly {K : Type 0} (told : Bool) (roots : List (List ℕ)) (before after : ShownTree)
+    (old new : StateFacts K) : Type 0 where
+  pub walk : Walk
+  pub walks : Walks told before after roots (Ok walk)
+  pub same : new ≡ old
+
+-- how the pass ended, and what it left
+abbrev pub EndsPass : {K : Type 0} → Rules → Bool → Bool → (K → ShownKeeper) → List (List ℕ) → ShownTree → ShownTree
+    → StateFacts K → StateFacts K → PassEnd → Type 0
+EndsPass world told tells shows roots before after old new (Whole summary) =
+    RunsPass world told roots before after old new (λ listing more. IsWholePass world tells shows summary old new listing)
+EndsPass world told tells shows roots before after old new (Missed miss) =
+    RunsPass world told roots before after old new (HasMissed miss (Rose before.faults after.faults) new)
+EndsPass world told tells shows roots before after old new (Unwalked fault) =
+    EndsUnwalked told roots before after old new fault
+EndsPass world told tells shows roots before after old new Broken = ⊥
+EndsPass world told tells shows roots before after old new KeeperFault =
+    RunsPass world told roots before after old new (λ listing more. new.broken ≡ true)
+EndsPass world told tells shows roots before after old new LogFull =
+    RunsPass world told roots before after old new (λ listing more. IsOutOfRoom new)
+EndsPass world told tells shows roots before after old new OutOfMemory =
+    EndsEarly told roots before after old new
+    ⊎ RunsPass world told roots before after old new (λ listing more. new.broken ≡ false)
+
+-- whether a name was missed since its file could not be read
+abbrev pub is_read_fault : Cause → Bool
+is_read_fault ReadFault = true
+is_read_fault _ = false
+
+-- whether the end comes of a failed call of the hand
+abbrev pub is_hand_fault : PassEnd → Bool
+is_hand_fault (Unwalked stop.Failed) = true
+is_hand_fault (Missed miss) = is_read_fault miss.cause
+is_hand_fault _ = false
+
+-- a hand that helps heard nothing but what a pass over the listing wants, against the rows of these names: so no load
+-- of a listed file whose name had a row
+pub record Helps (version : Versions) (listing : List NameFacts) (roots : List (List ℕ)) (names : List NameFacts)
+    (before after : ShownTree) : Type 0 where
+  pub more : List Heard
+  pub heard : after.heard ≡ with_answers before.heard more
+  pub wanted : All (IsWanted listing roots names) more
+  pub fits : All (FitsAny version) more
+
+-- the first hand went so, and each other one so
+abbrev pub HandsGo : {T : Type 0} → (T → T → Type 0) → (T → T → Type 0) → List T → List T → Type 0
+HandsGo First Other (hand ∷ hands) (later ∷ left) = First hand later × AllZip Other hands left
+HandsGo First Other _ _ = ⊥

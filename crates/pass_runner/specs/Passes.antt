@@ -1,0 +1,90 @@
+-- A pass that was begun, and how it ends (this crate's bookkeeping, which no public clause cites).
+use Rattle.std.specs.Prelude.{◌≡◌, ◌⊎◌, ℕ, Bool, true, false, List, [], Option, Some, None}
+use Rattle.row_types.specs.Name.{NameFacts}
+use Rattle.row_types.specs.Rules.{Rules}
+use Rattle.index_keeper.specs.Keeper.{ShownKeeper}
+use Rattle.index_state.specs.Complete.{CompletePass}
+use Rattle.index_state.specs.State.{StateFacts, pass_of}
+use Rattle.index_state.specs.Step.{after_begin}
+use Rattle.index_state.specs.declared.answer.Plan.{Plan}
+use Rattle.scan_queue.specs.Pass.{IsWhole, first_missed}
+use Rattle.scan_queue.specs.declared.miss.Miss.{Miss}
+use Rattle.tree_trait.specs.Shown.{ShownTree}
+use Rattle.pass_runner.specs.Ends.{IsOutOfRoom}
+use Rattle.pass_runner.specs.Numbers.{summary_of}
+use Rattle.pass_runner.specs.Owned.{IsWholePass}
+use Rattle.pass_runner.specs.Settled.{IsPassOn, Settles}
+use Rattle.pass_runner.specs.declared.pass_end.PassEnd.{PassEnd}
+use Rattle.pass_runner.specs.declared.pass_end.PassEnd.TheVariants.{Whole, Missed, Walk, Broken}
+use Rattle.pass_runner.specs.declared.pass_end.PassEnd.TheVariants.{KeeperFault, LogFull, OutOfMemory}
+use Rattle.pass_runner.specs.declared.summary.Summary.{Summary}
+
+-- a pass was begun, and nothing was done of it yet
+pub record IsFresh {K : Type 0} (state : StateFacts K) : Type 0 where
+  pub sound : state.broken ≡ false
+  pub is_open : IsPassOn state.pass state.pass
+  pub out : (pass_of state.pass).out ≡ []
+  pub missed : (pass_of state.pass).missed ≡ []
+
+-- no name of the pass is left to be handed out, and none is out
+pub record IsHandedOut {K : Type 0} (state : StateFacts K) : Type 0 where
+  pub sound : state.broken ≡ false
+  pub is_open : IsPassOn state.pass state.pass
+  pub todo : (pass_of state.pass).todo ≡ []
+  pub out : (pass_of state.pass).out ≡ []
+  pub groom : (pass_of state.pass).groom ≡ []
+
+-- the pass is whole, and these are its numbers
+pub record IsDone {K : Type 0} (world : Rules) (tells : Bool) (shows : K → ShownKeeper) (plan : Plan) (summary : Summary)
+    (state : StateFacts K) : Type 0 where
+  pub complete : CompletePass world.told world.true_row tells shows (pass_of state.pass).listing state
+  pub whole : IsWhole (pass_of state.pass)
+  pub numbers : summary ≡ summary_of plan state.rows
+
+-- the end of a pass of which no name is left to be handed out
+abbrev pub EndsOf : {K : Type 0} → Rules → Bool → (K → ShownKeeper) → Plan → StateFacts K → PassEnd → Type 0
+EndsOf world tells shows plan state (Whole summary) = IsDone world tells shows plan summary state
+EndsOf world tells shows plan state (Missed miss) = first_missed (pass_of state.pass).missed ≡ Some miss
+EndsOf world tells shows plan state OutOfMemory = Unit {0}
+EndsOf world tells shows plan state _ = ⊥
+
+-- a name was missed, and this was the first
+pub record IsFirstMiss {K : Type 0} (miss : Miss) (new : StateFacts K) : Type 0 where
+  pub first : first_missed (pass_of new.pass).missed ≡ Some miss
+  pub sound : new.broken ≡ false
+
+-- the pass that was begun was settled, and this came of it
+pub record SettlesTo {K : Type 0} (world : Rules) (told : Bool) (shows : K → ShownKeeper) (before after : ShownTree)
+    (old new : StateFacts K) (Ends : Type 0) : Type 0 where
+  pub settles : Settles told world.version shows before after old new
+  pub ends : Ends
+
+-- how a pass that was begun ended
+abbrev pub EndsBegun : {K : Type 0} → Rules → Bool → Bool → (K → ShownKeeper) → ShownTree → ShownTree
+    → StateFacts K → StateFacts K → PassEnd → Type 0
+EndsBegun world told tells shows before after old new (Whole summary) =
+    SettlesTo world told shows before after old new
+    (IsWholePass world tells shows summary old new (pass_of old.pass).listing)
+EndsBegun world told tells shows before after old new (Missed miss) =
+    SettlesTo world told shows before after old new (IsFirstMiss miss new)
+EndsBegun world told tells shows before after old new KeeperFault =
+    SettlesTo world told shows before after old new (new.broken ≡ true)
+EndsBegun world told tells shows before after old new LogFull =
+    SettlesTo world told shows before after old new (IsOutOfRoom new)
+EndsBegun world told tells shows before after old new OutOfMemory =
+    SettlesTo world told shows before after old new (new.broken ≡ false)
+EndsBegun world told tells shows before after old new _ = ⊥
+
+-- nothing changed
+pub record StaysSame {K T : Type 0} (before after : T) (old new : StateFacts K) : Type 0 where
+  pub hand : after ≡ before
+  pub state : new ≡ old
+
+-- how a pass over the listing ended; memory may be refused before it begins
+abbrev pub EndsOver : {K T : Type 0} → Rules → Bool → Bool → (K → ShownKeeper) → (T → ShownTree) → List NameFacts
+    → List (List ℕ) → T → T → StateFacts K → StateFacts K → PassEnd → Type 0
+EndsOver world told tells shows sees listing roots before after old new OutOfMemory =
+    StaysSame before after old new
+    ⊎ EndsBegun world told tells shows (sees before) (sees after) (after_begin listing roots old) new OutOfMemory
+EndsOver world told tells shows sees listing roots before after old new end =
+    EndsBegun world told tells shows (sees before) (sees after) (after_begin listing roots old) new end

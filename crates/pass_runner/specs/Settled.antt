@@ -1,0 +1,122 @@
+-- Settling (this project's rule): with one hand the names of a pass that are to be read are loaded and their rows
+-- published, then the names that are to be looked for are looked for and judged. What is said here holds from one moment
+-- of it to any later one.
+use Rattle.std.specs.Prelude.{◌≡◌, ◌≢◌, ◌⊎◌, ℕ, ◌≤◌, Bool, true, false, List, All, Contains, Option, Some, None, IsTrue}
+use Rattle.row_types.specs.Faults.{Rose}
+use Rattle.row_types.specs.Name.{NameFacts, stamp_at}
+use Rattle.row_types.specs.Row.{RowFacts}
+use Rattle.row_types.specs.Stamp.{StampFacts}
+use Rattle.row_types.specs.declared.limits.TheConstants.{FILE_LIMIT}
+use Rattle.index_keeper.specs.Keeper.{ShownKeeper}
+use Rattle.index_rows.specs.Rows.{row_names}
+use Rattle.index_state.specs.Judge.{is_under}
+use Rattle.index_state.specs.State.{StateFacts, pass_of}
+use Rattle.scan_queue.specs.Names.{is_in}
+use Rattle.scan_queue.specs.Pass.{PassFacts}
+use Rattle.scan_queue.specs.declared.miss.Cause.{Cause}
+use Rattle.scan_queue.specs.declared.miss.Cause.TheVariants.{ReadFault, Altered, Appeared}
+use Rattle.scan_queue.specs.declared.miss.Miss.{Miss}
+use Rattle.scan_queue.specs.declared.miss.Seen.{Seen}
+use Rattle.scan_worker.specs.Read.{FindsOther, Reads, load_of}
+use Rattle.tree_trait.specs.Asks.{FitsAny, IsTold}
+use Rattle.tree_trait.specs.Found.{Versions}
+use Rattle.tree_trait.specs.Heard.{Heard, load, stat, read_dir, with_answers}
+use Rattle.tree_trait.specs.Load.{LoadFacts}
+use Rattle.tree_trait.specs.Shown.{HandsOn, ShownTree}
+use Rattle.tree_trait.specs.declared.stat.StatAnswer.{StatAnswer}
+use Rattle.tree_trait.specs.declared.stat.StatAnswer.TheVariants.{Folder, File, Other, Gone}
+
+-- the path is listed, and its name had no row
+pub record IsNew (listing names : List NameFacts) (path : List ℕ) : Type 0 where
+  pub stamp : StampFacts
+  pub listed : stamp_at listing path ≡ Some stamp
+  pub absent : is_in names (record { path = path; stamp = stamp }) ≡ false
+
+-- what may be asked: the load of a listed file whose name had no row, and a look at a path under a root
+abbrev pub IsWanted : List NameFacts → List (List ℕ) → List NameFacts → Heard → Type 0
+IsWanted listing roots names (load path limit answer) = (limit ≡ FILE_LIMIT) × IsNew listing names path
+IsWanted listing roots names (stat path answer) = is_under roots path ≡ true
+IsWanted listing roots names (read_dir path answer) = ⊥
+
+-- the look did not find the file with the stamp
+abbrev pub IsMissing : StampFacts → StatAnswer → Type 0
+IsMissing stamp Folder = Unit {0}
+IsMissing stamp Other = Unit {0}
+IsMissing stamp Gone = Unit {0}
+IsMissing stamp (File seen) = seen ≢ stamp
+IsMissing stamp _ = ⊥
+
+-- a look at the path of the name did not find its file
+pub record IsSeenGone (answers : List Heard) (name : NameFacts) : Type 0 where
+  pub answer : StatAnswer
+  pub heard : Contains answers (stat name.path answer)
+  pub missing : IsMissing name.stamp answer
+
+-- the row of the name may go where its path isn't listed and lies under a root: a look did not find its file
+abbrev pub MayGo : List NameFacts → List (List ℕ) → List Heard → NameFacts → Type 0
+MayGo listing roots answers name = stamp_at listing name.path ≡ None → is_under roots name.path ≡ true → IsSeenGone answers name
+
+-- a load found another file in place of the listed name's
+pub record IsHeardAltered (listing : List NameFacts) (answers : List Heard) (name : NameFacts) (met : Seen) : Type 0 where
+  pub listed : is_in listing name ≡ true
+  pub answer : LoadFacts
+  pub heard : Contains answers (load_of name answer)
+  pub other : FindsOther name answer met
+
+-- a look found the file of a name that isn't listed
+pub record IsHeardThere (listing : List NameFacts) (answers : List Heard) (name : NameFacts) : Type 0 where
+  pub unlisted : is_in listing name ≡ false
+  pub heard : Contains answers (stat name.path (File name.stamp))
+
+-- by what a name was missed: the count of faults rose, or this was heard
+abbrev pub IsBacked : List NameFacts → List Heard → Type 0 → NameFacts → Cause → Type 0
+IsBacked listing answers Failed name ReadFault = Failed
+IsBacked listing answers Failed name (Altered met) = IsHeardAltered listing answers name met
+IsBacked listing answers Failed name Appeared = IsHeardThere listing answers name
+
+-- the name was missed before, or this is why
+abbrev pub IsMissBy : List NameFacts → List Miss → List Heard → Type 0 → Miss → Type 0
+IsMissBy listing missed answers Failed miss =
+    Contains missed miss ⊎ IsBacked listing answers Failed miss.name miss.cause
+
+-- a load found the file of the row's name, and the row says what it is
+pub record IsReadOf (answers : List Heard) (row : RowFacts) : Type 0 where
+  pub answer : LoadFacts
+  pub heard : Contains answers (load_of row.name answer)
+  pub reads : Reads row.name answer row
+
+-- the row was there before, or says what a load found
+abbrev pub IsBrought : List RowFacts → List Heard → RowFacts → Type 0
+IsBrought rows answers row = Contains rows row ⊎ IsReadOf answers row
+
+-- the pass is open all the while, over the same listing
+pub record IsPassOn (old new : Option PassFacts) : Type 0 where
+  pub from : PassFacts
+  pub into : PassFacts
+  pub was : old ≡ Some from
+  pub is : new ≡ Some into
+  pub over : into.listing ≡ from.listing
+
+-- what the settling did from one moment to a later one: nothing else was heard; the pass goes on, over the same listing
+-- and roots; no row of a listed name went; a row whose path isn't listed and lies under a root went only where a look
+-- did not find its file; a row that wasn't there says what a load found; a name is missed only for a reason
+pub record Settles {K : Type 0} (told : Bool) (version : Versions) (shows : K → ShownKeeper)
+    (before after : ShownTree) (old new : StateFacts K) : Type 0 where
+  pub answers : List Heard
+  pub heard : after.heard ≡ with_answers before.heard answers
+  pub fits : All (FitsAny version) answers
+  pub tells : IsTrue told → before.Still → All (IsTold before.present) answers
+  pub wanted : All (IsWanted (pass_of old.pass).listing old.roots (row_names old.rows)) answers
+  pub hand : HandsOn told version before after ⊥ ⊥
+  pub keeper : (shows old.keeper).faults ≤ (shows new.keeper).faults
+  pub pass : IsPassOn old.pass new.pass
+  pub roots : new.roots ≡ old.roots
+  pub origin : new.origin ≡ old.origin
+  pub stays : (name : NameFacts) → is_in (pass_of old.pass).listing name ≡ true
+      → is_in (row_names old.rows) name ≡ true → is_in (row_names new.rows) name ≡ true
+  pub goes : (name : NameFacts) → is_in (row_names old.rows) name ≡ true
+      → is_in (row_names new.rows) name ≡ false
+      → MayGo (pass_of old.pass).listing old.roots answers name
+  pub brings : All (IsBrought old.rows answers) new.rows
+  pub missed : All (IsMissBy (pass_of old.pass).listing (pass_of old.pass).missed answers
+      (Rose before.faults after.faults)) (pass_of new.pass).missed

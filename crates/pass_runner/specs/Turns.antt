@@ -1,0 +1,124 @@
+-- What becomes of a name that was handed out (this crate's bookkeeping, which no public clause cites).
+use Rattle.std.specs.Prelude.{◌≡◌, ℕ, ◌≤◌, Bool, true, false, if◌then◌else◌, List, [], ◌∷◌, All, Contains, Option, Some, None, IsTrue}
+use Rattle.row_types.specs.Faults.{HasCause, Rose}
+use Rattle.row_types.specs.Name.{NameFacts}
+use Rattle.row_types.specs.Row.{RowFacts}
+use Rattle.index_keeper.specs.Keeper.{ShownKeeper}
+use Rattle.index_rows.specs.Rows.{row_names}
+use Rattle.index_state.specs.Judge.{is_under}
+use Rattle.index_state.specs.State.{Origin, StateFacts, pass_of}
+use Rattle.index_state.specs.Step.{Breaks, FindsNoMemory, IsShut, Judges, Stays, Stores}
+use Rattle.index_state.specs.declared.answer.Judged.{Judged}
+use Rattle.index_state.specs.declared.answer.Judged.TheVariants.{Broken as JudgedBroken, LogFull as JudgedFull, KeeperFault as JudgedFault, OutOfMemory as JudgedNoMemory}
+use Rattle.scan_queue.specs.Names.{is_in}
+use Rattle.scan_queue.specs.declared.miss.Seen.{Seen}
+use Rattle.scan_queue.specs.declared.miss.Seen.TheVariants as seen
+use Rattle.scan_worker.specs.declared.work_end.WorkEnd.{WorkEnd}
+use Rattle.scan_worker.specs.declared.work_end.WorkEnd.TheVariants.{Empty, Broken, KeeperFault, LogFull, OutOfMemory}
+use Rattle.tree_trait.specs.Asks.{FitsAny, IsTold}
+use Rattle.tree_trait.specs.Found.{Versions}
+use Rattle.tree_trait.specs.Heard.{Heard, stat, wants_memory, with_answers}
+use Rattle.tree_trait.specs.Shown.{HandsOn, ShownTree}
+use Rattle.tree_trait.specs.declared.stat.StatAnswer.{StatAnswer}
+use Rattle.tree_trait.specs.declared.stat.StatAnswer.TheVariants as said
+use Rattle.pass_runner.specs.Ends.{TurnsBy}
+use Rattle.pass_runner.specs.Settled.{IsBrought, IsMissBy, IsPassOn, MayGo, Settles}
+use Rattle.pass_runner.specs.declared.look_for.Looked.{Looked}
+use Rattle.pass_runner.specs.declared.look_for.Looked.TheVariants as looked
+
+-- the hand heard this, and no more
+pub record Listens (told : Bool) (version : Versions) (before after : ShownTree) (answers : List Heard) : Type 0 where
+  pub heard : after.heard ≡ with_answers before.heard answers
+  pub fits : All (FitsAny version) answers
+  pub tells : IsTrue told → before.Still → All (IsTold before.present) answers
+  pub hand : HandsOn told version before after ⊥ ⊥
+
+-- the index went on, while this was heard and calls of the hand failed only so
+pub record Advances {K : Type 0} (shows : K → ShownKeeper) (answers : List Heard) (Failed : Type 0)
+    (old new : StateFacts K) : Type 0 where
+  pub keeper : (shows old.keeper).faults ≤ (shows new.keeper).faults
+  pub pass : IsPassOn old.pass new.pass
+  pub roots : new.roots ≡ old.roots
+  pub origin : new.origin ≡ old.origin
+  pub stays : (name : NameFacts) → is_in (pass_of old.pass).listing name ≡ true
+      → is_in (row_names old.rows) name ≡ true → is_in (row_names new.rows) name ≡ true
+  pub goes : (name : NameFacts) → is_in (row_names old.rows) name ≡ true
+      → is_in (row_names new.rows) name ≡ false
+      → MayGo (pass_of old.pass).listing old.roots answers name
+  pub brings : All (IsBrought old.rows answers) new.rows
+  pub missed : All (IsMissBy (pass_of old.pass).listing (pass_of old.pass).missed answers Failed) (pass_of new.pass).missed
+
+-- what is heard of a question, which is nothing where memory was refused
+abbrev pub heard_of : Heard → List Heard
+heard_of asked = if wants_memory asked then [] else asked ∷ []
+
+-- what became of a name that was handed out, and how the settling goes on
+pub record TurnsOver {K : Type 0} (told : Bool) (version : Versions) (shows : K → ShownKeeper) (name : NameFacts)
+    (before after : ShownTree) (old new : StateFacts K) (end : Option WorkEnd) : Type 0 where
+  pub settles : Settles told version shows before after old new
+  pub ends : TurnsBy name old new end
+  pub keeper : HasCause (shows old.keeper).faults (shows new.keeper).faults (end ≡ Some KeeperFault)
+
+-- the settling goes on from the start: the index isn't broken, and where no name was out, none is
+pub record Goes {K : Type 0} (told : Bool) (version : Versions) (shows : K → ShownKeeper) (before after : ShownTree)
+    (start now : StateFacts K) : Type 0 where
+  pub settles : Settles told version shows before after start now
+  pub sound : now.broken ≡ false
+  pub out : (pass_of start.pass).out ≡ [] → (pass_of now.pass).out ≡ []
+
+-- what comes of a row that is awaited
+abbrev pub PublishesNew : {K : Type 0} → Bool → (K → ShownKeeper) → RowFacts → StateFacts K → StateFacts K → Option WorkEnd → Type 0
+PublishesNew tells shows row old new None = Stores tells shows row old new
+PublishesNew tells shows row old new (Some KeeperFault) = Breaks tells shows row old new
+PublishesNew tells shows row old new (Some LogFull) = Stays (IsShut row.name old) old new
+PublishesNew tells shows row old new (Some OutOfMemory) = FindsNoMemory tells shows row old new
+PublishesNew tells shows row old new (Some _) = ⊥
+
+-- how the settling goes on after a judgement
+abbrev pub after_judged : Judged → Option WorkEnd
+after_judged JudgedFault = Some KeeperFault
+after_judged JudgedFull = Some LogFull
+after_judged JudgedNoMemory = Some OutOfMemory
+after_judged JudgedBroken = Some Broken
+after_judged _ = None
+
+-- what comes of a judgement
+pub record JudgesLeft {K : Type 0} (tells : Bool) (shows : K → ShownKeeper) (name : NameFacts) (met : Seen)
+    (old new : StateFacts K) (end : Option WorkEnd) : Type 0 where
+  pub answer : Judged
+  pub judged : Judges tells shows name met old answer new
+  pub ends : end ≡ after_judged answer
+
+-- what a look saw
+abbrev pub looked_of : StatAnswer → Looked
+looked_of said.Folder = looked.Saw seen.Other
+looked_of (said.File stamp) = looked.Saw (seen.File stamp)
+looked_of said.Other = looked.Saw seen.Other
+looked_of said.Gone = looked.Saw seen.Gone
+looked_of said.Failed = looked.Failed
+looked_of said.OutOfMemory = looked.OutOfMemory
+
+-- a look at the path of the name that was heard saw this
+pub record HasSeen (answers : List Heard) (name : NameFacts) (met : Seen) : Type 0 where
+  pub answer : StatAnswer
+  pub heard : Contains answers (stat name.path answer)
+  pub saw : looked_of answer ≡ looked.Saw met
+
+-- what a look leads to; at a path under no root none was made
+abbrev pub LooksTo : Bool → List Heard → NameFacts → Type 0 → Looked → Type 0
+LooksTo under answers name Failed (looked.Saw met) = under ≡ true → HasSeen answers name met
+LooksTo under answers name Failed looked.Failed = Failed
+LooksTo under answers name Failed looked.OutOfMemory = Unit {0}
+
+-- a look at a path under a root
+abbrev pub IsLookUnder : List (List ℕ) → Heard → Type 0
+IsLookUnder roots (stat path answer) = is_under roots path ≡ true
+IsLookUnder roots _ = ⊥
+
+-- the file of a row was looked for
+pub record Looks (told : Bool) (version : Versions) (roots : List (List ℕ)) (name : NameFacts)
+    (before after : ShownTree) (end : Looked) : Type 0 where
+  pub answers : List Heard
+  pub listens : Listens told version before after answers
+  pub asked : All (IsLookUnder roots) answers
+  pub leads : LooksTo (is_under roots name.path) answers name (Rose before.faults after.faults) end

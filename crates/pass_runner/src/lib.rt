@@ -1,0 +1,17 @@
+//! One pass over the folders of a scan: the walk, the reading of what is new, and the dropping of
+//! what is gone. What an index does with a row or a name stands in the crates below.
+#![tactic(auto)]
+
+mod look_for;
+mod owned;
+mod pass_end;
+mod read_new;
+mod settling;
+mod summary;
+#[cfg(test)]
+mod tests;
+
+pub use owned::scan_state;
+pub use pass_end::PassEnd;
+pub use settling::settle;
+pub use summary::Summary;

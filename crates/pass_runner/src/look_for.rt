@@ -1,0 +1,139 @@
+//! Looking for the files of rows that are no longer listed.
+
+ghost use Rattle.std.specs.Prelude.{◌≡◌, ℕ, List, [], false, true, IfSome};
+ghost use Rattle.row_types.specs.Faults.{HasCause};
+ghost use Rattle.index_state.specs.Away.{GroomsNext};
+ghost use Rattle.index_state.specs.Judge.{is_kept, is_under};
+ghost use Rattle.index_state.specs.State.{pass_of};
+ghost use Rattle.scan_queue.specs.Names.{is_in};
+ghost use Rattle.pass_runner.specs.Ends.{SettlesBy};
+ghost use Rattle.pass_runner.specs.Settled.{IsPassOn, Settles};
+ghost use Rattle.pass_runner.specs.Turns.{JudgesLeft, Looks, TurnsOver, after_judged, looked_of};
+
+use index_keeper::Keeper;
+use index_state::{GroomTask, Judged, State, show_index};
+use row_types::{Name, Truth};
+use scan_queue::{Cause, Seen};
+use scan_worker::WorkEnd;
+use std::alloc::Global;
+use tree_trait::{StatAnswer, Tree};
+
+/// What a look for the file of a row gives.
+#[derive(Clone, Copy, Debug, PartialEq, Eq)]
+pub(crate) enum Looked {
+    /// What stands at its path.
+    Saw(Seen),
+    /// The look failed, and the hand's count of faults rose.
+    Failed,
+    /// Memory was refused.
+    OutOfMemory,
+}
+
+/// Looks for the files of the rows that are no longer listed, in path order, and drops those rows
+/// whose files are gone. No look is made at a path under no root.
+pub(crate) fn look_for_all<W: Truth, K: Keeper<W>, T: Tree<W>>(
+    alloc: Global,
+    state: &mut State<W, K>,
+    hand: &mut T,
+) -> WorkEnd
+    requires sound { state.old.broken ≡ false }
+    requires open { IsPassOn state.old.pass state.old.pass }
+    requires read { (pass_of state.old.pass).todo ≡ [] }
+    ensures settles { Settles T.told W.version K.shows (T.shows hand.old) (T.shows hand.new)
+        state.old state.new }
+    ensures ends { SettlesBy state.old state.new result }
+    ensures keeper { HasCause (K.shows state.old.keeper).faults (K.shows state.new.keeper).faults
+        (result ≡ WorkEnd.KeeperFault) }
+{
+    while let Some(task) = next_task(state) {
+        if let Some(end) = look_for(alloc, state, hand, &task) {
+            return end;
+        }
+    }
+    WorkEnd::Empty
+}
+
+/// Hands out the next name to be looked for, which isn't listed.
+fn next_task<W: Truth, K: Keeper<W>>(state: &mut State<W, K>) -> Option<GroomTask>
+    ensures step { GroomsNext state.old result state.new }
+    ensures unlisted { IfSome result (λ task. is_kept state.new.pass task.name ≡ false) }
+{
+    show_index(state);
+    state.groom_take()
+}
+
+/// Looks for the file of a row that is no longer listed, and judges the row.
+fn look_for<W: Truth, K: Keeper<W>, T: Tree<W>>(
+    alloc: Global,
+    state: &mut State<W, K>,
+    hand: &mut T,
+    task: &GroomTask,
+) -> Option<WorkEnd>
+    requires sound { state.old.broken ≡ false }
+    requires unlisted { is_kept state.old.pass task.now.name ≡ false }
+    requires out { is_in (pass_of state.old.pass).out task.now.name ≡ true }
+    requires under { task.now.under ≡ is_under state.old.roots task.now.name.path }
+    ensures { TurnsOver T.told W.version K.shows task.now.name (T.shows hand.old)
+        (T.shows hand.new) state.old state.new result }
+{
+    show_index(state);
+    match look(alloc, hand, task) {
+        Looked::Saw(seen) => judge_name(alloc, state, &task.name, seen),
+        Looked::Failed => {
+            state.miss(&task.name, Cause::ReadFault);
+            None
+        }
+        Looked::OutOfMemory => Some(WorkEnd::OutOfMemory),
+    }
+}
+
+/// Looks for the file of a row, if its path is under a root.
+#[tactic(auto, using(crate::proofs::Turning::looks_none, crate::proofs::Turning::looks_by))]
+fn look<W: Truth, T: Tree<W>>(alloc: Global, hand: &mut T, task: &GroomTask) -> Looked
+    ensures { (roots : List (List ℕ)) → task.now.under ≡ is_under roots task.now.name.path
+        → Looks T.told W.version roots task.now.name (T.shows hand.old) (T.shows hand.new) result }
+{
+    if !task.under {
+        return Looked::Saw(Seen::Gone);
+    }
+    looked_of(hand.stat(alloc, task.name.path.text()))
+}
+
+/// What a look saw.
+fn looked_of(answer: StatAnswer) -> Looked
+    ensures { result ≡ looked_of answer }
+{
+    match answer {
+        StatAnswer::File(stamp) => Looked::Saw(Seen::File(stamp)),
+        StatAnswer::Folder | StatAnswer::Other => Looked::Saw(Seen::Other),
+        StatAnswer::Gone => Looked::Saw(Seen::Gone),
+        StatAnswer::Failed => Looked::Failed,
+        StatAnswer::OutOfMemory => Looked::OutOfMemory,
+    }
+}
+
+/// Judges a name.
+fn judge_name<W: Truth, K: Keeper<W>>(
+    alloc: Global,
+    state: &mut State<W, K>,
+    name: &Name,
+    seen: Seen,
+) -> Option<WorkEnd>
+    ensures { JudgesLeft K.told K.shows name.now seen state.old state.new result }
+{
+    let answer = state.judge(alloc, name, seen);
+    after_judged(answer)
+}
+
+/// How the settling goes on after a judgement.
+fn after_judged(answer: Judged) -> Option<WorkEnd>
+    ensures { result ≡ after_judged answer }
+{
+    match answer {
+        Judged::Dropped | Judged::Moved { .. } | Judged::Strange | Judged::Kept => None,
+        Judged::LogFull => Some(WorkEnd::LogFull),
+        Judged::KeeperFault => Some(WorkEnd::KeeperFault),
+        Judged::OutOfMemory => Some(WorkEnd::OutOfMemory),
+        Judged::Broken => Some(WorkEnd::Broken),
+    }
+}

@@ -1,0 +1,176 @@
+//! A pass over an index that is owned.
+
+ghost use Rattle.std.specs.Prelude.{◌≡◌, ◌<◌, drop, false, length, vec_len, IfOk, IsTrue};
+ghost use Rattle.row_types.specs.Faults.{HasCause};
+ghost use Rattle.row_types.specs.Rules.{rules};
+ghost use Rattle.index_rows.specs.Rows.{row_names};
+ghost use Rattle.index_state.specs.Plan.{plan_of};
+ghost use Rattle.index_state.specs.State.{pass_of};
+ghost use Rattle.tree_trait.specs.Shown.{HandsOn};
+ghost use Rattle.pass_runner.specs.Owned.{EndsPass, HandsGo, Helps, is_hand_fault};
+ghost use Rattle.pass_runner.specs.Passes.{EndsBegun, EndsOf, EndsOver, IsFresh, IsHandedOut};
+
+use crate::pass_end::PassEnd;
+use crate::settling::settle_pass;
+use crate::summary::summary_of;
+use index_keeper::Keeper;
+use index_state::{Begun, Plan, State};
+use row_types::{CanonPath, Truth};
+use scan_queue::{Listing, Miss};
+use scan_worker::WorkEnd;
+use std::alloc::{AllocError, Global};
+use tree_trait::{Reader, Tree};
+use tree_walk::{Walk, walk};
+
+/// Makes one pass over the roots: walks them, begins a pass over what was listed, and settles it.
+/// The hands come back in their order. The first one walks and settles.
+pub fn scan_state<W: Truth, K: Keeper<W>, T: Tree<W>, R: Reader<W>>(
+    alloc: Global,
+    state: State<W, K>,
+    hands: Vec<T>,
+    roots: &[CanonPath],
+    reader: &R,
+) -> (State<W, K>, Vec<T>, PassEnd)
+    requires hand { 0 < vec_len hands }
+    requires sound { state.broken ≡ false }
+    ensures pass { HandsGo
+        (λ hand later. EndsPass (rules W.version W.true_row W.told) T.told K.told K.shows
+        roots.now (T.shows hand) (T.shows later) state result.0 result.2)
+        (λ hand later. Helps W.version (pass_of result.0.pass).listing roots.now
+        (row_names state.rows) (T.shows hand) (T.shows later))
+        hands.items result.1.items }
+    ensures hands { HandsGo
+        (λ hand later. HandsOn T.told W.version (T.shows hand) (T.shows later)
+        (0 < length roots.now) (IsTrue (is_hand_fault result.2)))
+        (λ hand later. HandsOn T.told W.version (T.shows hand) (T.shows later) ⊥ ⊥)
+        hands.items result.1.items }
+    ensures keeper { HasCause (K.shows state.keeper).faults (K.shows result.0.keeper).faults
+        (result.2 ≡ PassEnd.KeeperFault) }
+
+    // One thread works, with the first hand.
+    ensures others { drop 1 result.1.items ≡ drop 1 hands.items }
+{
+    let mut state = state;
+    let mut hands = hands;
+    let end = run_owned(alloc, &mut state, &mut hands[0], roots, reader);
+    (state, hands, end)
+}
+
+/// Makes one pass over the roots with one hand.
+fn run_owned<W: Truth, K: Keeper<W>, T: Tree<W>, R: Reader<W>>(
+    alloc: Global,
+    state: &mut State<W, K>,
+    hand: &mut T,
+    roots: &[CanonPath],
+    reader: &R,
+) -> PassEnd
+    requires sound { state.old.broken ≡ false }
+    ensures pass { EndsPass (rules W.version W.true_row W.told) T.told K.told K.shows
+        roots.now (T.shows hand.old) (T.shows hand.new) state.old state.new result }
+    ensures hand { HandsOn T.told W.version (T.shows hand.old) (T.shows hand.new)
+        (0 < length roots.now) (IsTrue (is_hand_fault result)) }
+    ensures keeper { HasCause (K.shows state.old.keeper).faults (K.shows state.new.keeper).faults
+        (result ≡ PassEnd.KeeperFault) }
+{
+    match walk(alloc, hand, roots) {
+        Ok(
+            Walk {
+                listing,
+                skipped: _,
+            },
+        ) => run_over(alloc, state, hand, listing, roots, reader),
+        Err(fault) => PassEnd::Walk(fault),
+    }
+}
+
+/// Begins a pass over a listing, and settles it.
+fn run_over<W: Truth, K: Keeper<W>, T: Tree<W>, R: Reader<W>>(
+    alloc: Global,
+    state: &mut State<W, K>,
+    hand: &mut T,
+    listing: Listing,
+    roots: &[CanonPath],
+    reader: &R,
+) -> PassEnd
+    requires sound { state.old.broken ≡ false }
+    ensures over { EndsOver (rules W.version W.true_row W.told) T.told K.told K.shows T.shows
+        listing roots.now hand.old hand.new state.old state.new result }
+    ensures hand { HandsOn T.told W.version (T.shows hand.old) (T.shows hand.new)
+        ⊥ (IsTrue (is_hand_fault result)) }
+    ensures keeper { HasCause (K.shows state.old.keeper).faults (K.shows state.new.keeper).faults
+        (result ≡ PassEnd.KeeperFault) }
+{
+    let Ok(own) = copies(alloc, roots) else {
+        return PassEnd::OutOfMemory;
+    };
+    match state.begin(alloc, listing, own) {
+        Begun::Begun(plan) => settle_begun(alloc, state, hand, &plan, reader),
+        Begun::OutOfMemory => PassEnd::OutOfMemory,
+        Begun::Broken => unreachable!(),
+    }
+}
+
+/// Settles the pass that was begun, and says how it ended.
+fn settle_begun<W: Truth, K: Keeper<W>, T: Tree<W>, R: Reader<W>>(
+    alloc: Global,
+    state: &mut State<W, K>,
+    hand: &mut T,
+    plan: &Plan,
+    reader: &R,
+) -> PassEnd
+    requires fresh { IsFresh state.old }
+    requires planned { plan.now ≡ plan_of (pass_of state.old.pass).listing
+        (row_names state.old.rows) }
+    ensures ends { EndsBegun (rules W.version W.true_row W.told) T.told K.told K.shows
+        (T.shows hand.old) (T.shows hand.new) state.old state.new result }
+    ensures hand { HandsOn T.told W.version (T.shows hand.old) (T.shows hand.new)
+        ⊥ (IsTrue (is_hand_fault result)) }
+    ensures keeper { HasCause (K.shows state.old.keeper).faults (K.shows state.new.keeper).faults
+        (result ≡ PassEnd.KeeperFault) }
+{
+    match settle_pass(alloc, state, hand, reader) {
+        WorkEnd::Empty => end_of(alloc, state, plan),
+        WorkEnd::KeeperFault => PassEnd::KeeperFault,
+        WorkEnd::LogFull => PassEnd::LogFull,
+        WorkEnd::OutOfMemory => PassEnd::OutOfMemory,
+        WorkEnd::Broken => unreachable!(),
+    }
+}
+
+/// The end of a pass of which no name is left to be handed out.
+fn end_of<W: Truth, K: Keeper<W>>(alloc: Global, state: &State<W, K>, plan: &Plan) -> PassEnd
+    requires handed { IsHandedOut state.now }
+    ensures { EndsOf (rules W.version W.true_row W.told) K.told K.shows plan.now state.now result }
+{
+    match state.first_miss() {
+        Some(miss) => match copy_miss(alloc, miss) {
+            Ok(miss) => PassEnd::Missed(miss),
+            Err(_) => PassEnd::OutOfMemory,
+        },
+        None => {
+            let _standing = state.standing();
+            PassEnd::Whole(summary_of(state, plan))
+        }
+    }
+}
+
+/// A copy of a miss.
+fn copy_miss(alloc: Global, miss: &Miss) -> Result<Miss, AllocError>
+    ensures { IfOk result (λ copy. copy ≡ miss.now) }
+{
+    Ok(Miss {
+        name: miss.name.copy(alloc)?,
+        cause: miss.cause,
+    })
+}
+
+/// Copies of paths, in order.
+fn copies(alloc: Global, paths: &[CanonPath]) -> Result<Vec<CanonPath>, AllocError>
+    ensures { IfOk result (λ copies. copies.items ≡ paths.now) }
+{
+    let mut copies = Vec::with_capacity(alloc, paths.len())?;
+    for path in paths {
+        copies.push(path.copy(alloc)?)?;
+    }
+    Ok(copies)
+}

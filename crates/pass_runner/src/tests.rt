@@ -1,0 +1,8 @@
+//! What no clause says: that memory suffices, and what settlings and passes come to.
+
+mod cases;
+mod helpers;
+mod missed;
+mod passes;
+mod trees;
+mod whole;

@@ -1,0 +1,2 @@
+pub use Rattle.tree_trait.specs.Reader
+pub mod Read
