@@ -1,17 +1,15 @@
 -- A scan that ends at a file that was another, or at one that appeared.
-use Rattle.std.proofs.Common.{◌≡◌, ℕ, ◌||◌, Bool, true, false, cond, List, [], ◌∷◌, ◌++◌, refl, sym, ◌∙◌, ap, subst, Option, Some, None, arith}
+use Rattle.std.proofs.Common.{◌≡◌, ℕ, ◌||◌, Bool, true, false, List, [], ◌∷◌, ◌++◌, refl, sym, ◌∙◌, subst, Some, None, arith}
 use Rattle.std.specs.Prelude.{◌&&◌, if◌then◌else◌}
-use Rattle.std.specs.List.{All, Contains, find}
-use Rattle.std.specs.Option.{option_map, option_or}
+use Rattle.std.specs.List.{All, Contains}
+use Rattle.std.specs.Option.{option_or}
 use Rattle.std.specs.Str.{bytes_eq}
-use Rattle.std.proofs.lemmas.Bool.{or_left, or_right, true≢false}
+use Rattle.std.proofs.lemmas.Bool.{true≢false}
 use Rattle.std.proofs.lemmas.List.Elements.{All-head, All-tail, All-nil, All-cons, All-contains, Contains-append_right}
 use Rattle.std.proofs.lemmas.List.Folds.{list_any_at}
 use Rattle.std.proofs.lemmas.Slice.Eq.{bytes_eq-Decides}
 use Rattle.row_types.specs.Canon.{IsCanonPath}
 use Rattle.row_types.specs.Name.{NameFacts, same_name, stamp_at}
-use Rattle.row_types.specs.Stamp.{StampFacts}
-use Rattle.row_types.proofs.PartLemmas.{names_same}
 use Rattle.scan_queue.specs.Names.{is_in}
 use Rattle.scan_queue.specs.declared.miss.Cause.{Cause}
 use Rattle.scan_queue.specs.declared.miss.Cause.TheVariants.{ReadFault, Altered, Appeared}
@@ -29,6 +27,7 @@ use Rattle.tree_trait.specs.declared.stat.StatAnswer.{StatAnswer}
 use Rattle.tree_trait.specs.declared.stat.StatAnswer.TheVariants.{File}
 use Rattle.tree_walk.specs.Answers.{first_look, is_look_answer}
 use Rattle.tree_walk.specs.declared.walked.Walk.{Walk}
+use Rattle.pass_runner.proofs.NameLists.{in_by_stamp}
 use Rattle.pass_runner.specs.Owned.{HearsPass, TellsStill}
 use Rattle.pass_runner.specs.Settled.{IsBacked, IsHeardAltered, IsHeardThere, IsWanted}
 use Rattle.dbgd_run.specs.Causes.{IsChange}
@@ -40,9 +39,6 @@ all_front P (x ∷ xs) ys h = All-cons P x xs (All-head P x (xs ++ ys) h) (all_f
 
 some_one : {a b : StatAnswer} → Some a ≡ Some b → a ≡ b
 some_one e = cc
-
-some_stamp : (s t : StampFacts) → Some s ≡ Some t → s ≡ t
-some_stamp s t e = cc
 
 -- the first look of told answers at a path is told
 first_told : (present : List NameFacts) (path : List ℕ) (answers : List Heard) (answer : StatAnswer)
@@ -91,21 +87,6 @@ is_contained : (names : List NameFacts) (name : NameFacts) → Contains names na
 is_contained names name h =
     list_any_at (same_name name) names h.0 name h.1
     (subst (λ (n : NameFacts). same_name name n ≡ true) (sym h.2) ((same_name-Decides name name).1 refl))
-
--- a path with a stamp is in the list by that
-in_by_stamp : (path : List ℕ) (s : StampFacts) (names : List NameFacts) → stamp_at names path ≡ Some s
-    → is_in names (record { path = path; stamp = s }) ≡ true
-in_by_stamp path s [] e = absurd (cc)
-in_by_stamp path s (n ∷ names) e =
-    elim (bytes_eq n.path path) as (λ b. bytes_eq n.path path ≡ b
-        → option_map (λ (m : NameFacts). m.stamp) (cond b (Some n) (find (λ (m : NameFacts). bytes_eq m.path path) names)) ≡ Some s
-        → is_in (n ∷ names) (record { path = path; stamp = s }) ≡ true) [
-      | true ↦ λ same here.
-          or_left _ _
-          ((same_name-Decides (record { path = path; stamp = s }) n).1
-          (names_same path n.path s n.stamp (sym ((bytes_eq-Decides n.path path).0 same)) (sym (some_stamp n.stamp s here))))
-      | false ↦ λ differs later. or_right _ _ (in_by_stamp path s names later)
-    ] refl e
 
 -- where the hand tells files that never change, no listed file is another, and no file stands that isn't listed
 pub never_changed : {told : Bool} {version : Versions} {roots : List (List ℕ)} {names : List NameFacts} {walk : Walk}
