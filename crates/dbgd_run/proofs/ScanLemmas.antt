@@ -1,134 +1,317 @@
--- Files that were read, one after the other.
-use Rattle.std.proofs.Common.{◌≡◌, ℕ, Bool, false, List, [], ◌∷◌, ◌++◌, refl, sym, ◌∙◌, ap, subst}
-use Rattle.std.proofs.Common.{append_assoc}
-use Rattle.std.specs.List.{All}
-use Rattle.std.proofs.lemmas.List.{append-nil, map-append}
-use Rattle.std.proofs.lemmas.List.Elements.{All-nil, All-cons, All-head, All-tail, All-push}
-use Rattle.row_types.specs.Ascends.{IsBefore}
+-- What the status of a scan says, by how it ended.
+use Rattle.std.proofs.Common.{◌≡◌, ◌⊎◌, inl, inr, ℕ, List, [], ◌∷◌, Bool, true, false, sym, refl, subst, IsTrue, ap, ◌∙◌}
+use Rattle.std.specs.List.{Contains}
+use Rattle.row_types.specs.Canon.{IsCanonPath}
+use Rattle.row_types.specs.Faults.{Rose}
 use Rattle.row_types.specs.Name.{NameFacts}
 use Rattle.row_types.specs.Row.{RowFacts}
-use Rattle.tree_trait.specs.Asks.{Asks, IsTold}
+use Rattle.scan_queue.specs.declared.miss.Cause.{Cause}
+use Rattle.scan_queue.specs.declared.miss.Cause.TheVariants as cause
+use Rattle.http_wire.specs.Sink.{GetsAll}
+use Rattle.index_keeper.specs.Store.{ShownStore}
+use Rattle.index_keeper.specs.Tables.{KeptFacts}
+use Rattle.index_rows.specs.Rows.{row_names}
+use Rattle.index_state.specs.Opening.{AreRows, IsOverfull, current}
+use Rattle.index_state.specs.declared.open_fault.OpenFault.TheVariants as refusal
 use Rattle.tree_trait.specs.Found.{Versions}
-use Rattle.tree_trait.specs.Heard.{Heard, wants_memory, with_answers}
-use Rattle.tree_trait.specs.Load.{LoadFacts, loaded, too_large}
-use Rattle.tree_trait.specs.Shown.{ShownTree, StaysStill}
-use Rattle.dbgd_run.specs.Scan.{FileRead, FindsListed, IsFileRead, Reads, load_of, loads_read}
-use Rattle.dbgd_run.specs.Scan.{names_read}
-use Rattle.dbgd_run.specs.Scan.{rows_read}
-use Rattle.dbgd_run.specs.ScanSteps.{LoadsFiles}
-use Rattle.dbgd_run.proofs.Heard.{hears_asked, hears_both, hears_nothing}
+use Rattle.tree_trait.specs.Heard.{Heard}
+use Rattle.tree_trait.specs.Shown.{HandsOn, ShownTree}
+use Rattle.tree_walk.specs.Files.{FitsFault}
+use Rattle.tree_walk.specs.declared.fault.WalkFault.{WalkFault}
+use Rattle.tree_walk.specs.declared.walked.Walk.{Walk}
+use Rattle.tree_walk.specs.declared.fault.WalkFault.TheVariants as stop
+use Rattle.pass_runner.specs.Owned.{HearsPass, Helps}
+use Rattle.pass_runner.specs.Settled.{IsBacked}
+use Rattle.pass_runner.specs.declared.pass_end.PassEnd.{PassEnd}
+use Rattle.pass_runner.specs.declared.pass_end.PassEnd.TheVariants as ended
+use Rattle.pass_runner.specs.declared.summary.Summary.{Summary}
+use Rattle.dbgd_run.specs.Causes.{EndsOnlyWith, HasSomeBad, HeardGone, HeardMany, HeardOther, IsChange, IsComplete, IsFreeHand}
+use Rattle.dbgd_run.specs.Causes.{IsUnhindered, MeetsLimit, ScanEnds, ScanStatus, of_changes, of_rows, of_walk}
+use Rattle.dbgd_run.specs.Endings.{Streams}
+use Rattle.dbgd_run.specs.Kept.{HoldsRows}
+use Rattle.dbgd_run.specs.Scan.{EndsPassed, MakesPass, RunsScan, Scans, WalksInto}
+use Rattle.dbgd_run.specs.ScanSaid.{SaysEnd, SaysMiss, is_hand_fault, miss_saying, scan_saying}
+use Rattle.dbgd_run.specs.Scene.{FirstRose, OfFirst, Scene, Setting}
+use Rattle.dbgd_run.specs.declared.scan_end.ScanEnd.{ScanEnd}
+use Rattle.dbgd_run.specs.declared.scan_end.ScanEnd.TheVariants.{Refused, Passed}
+use Rattle.dbgd_run.specs.declared.status.Status.{Status}
+use Rattle.dbgd_run.specs.declared.status.Status.TheVariants as status
+use Rattle.dbgd_run.proofs.ChangedLemmas.{never_changed}
+use Rattle.dbgd_run.proofs.HandLemmas.{both_first, of_first}
+use Rattle.dbgd_run.proofs.RowLemmas.{first_held, none_bad, none_overfull}
 
--- a row that was read has the listed name
-pub reads_named : (name : NameFacts) (answer : LoadFacts) (row : RowFacts) → Reads name answer row
-    → row.name ≡ name
-reads_named name (loaded found) row h = h.1.named
-reads_named name (too_large stamp) row h = ap (λ (r : RowFacts). r.name) h.1
-reads_named name _ row h = absurd h
+-- what the status of the end says is said, or that memory was wanted, or that the standard output failed
+by_end : (P : Status → Type 0) (how : ScanEnd) (old new : Streams) (end : Status)
+    → (GetsAll (scan_saying how).out old.out new.out → P (scan_saying how).status)
+    → P status.OutOfMemory
+    → ((summary : Summary) → how ≡ Passed (ended.Whole summary) → Rose old.out.write_faults new.out.write_faults → P status.Fault)
+    → SaysEnd how old new end → P end
+by_end P (Refused refusal.KeeperFault) old new end said wants out whole = subst P (sym whole.ends) (said whole.out)
+by_end P (Refused (refusal.BadRow kept fault)) old new end said wants out whole = subst P (sym whole.ends) (said whole.out)
+by_end P (Refused refusal.LogFull) old new end said wants out whole = subst P (sym whole.ends) (said whole.out)
+by_end P (Refused refusal.OutOfMemory) old new end said wants out whole = subst P (sym whole.ends) (said whole.out)
+by_end P (Passed (ended.Whole summary)) old new end said wants out (inl (inl whole)) = subst P (sym whole.ends) (said whole.out)
+by_end P (Passed (ended.Whole summary)) old new end said wants out (inl (inr cut)) = subst P (sym cut.ends) (out summary refl cut.out.rose)
+by_end P (Passed (ended.Whole summary)) old new end said wants out (inr short) = subst P (sym short.ends) wants
+by_end P (Passed (ended.Missed miss)) old new end said wants out told = missed miss.cause said told
+  where
+    missed : (why : Cause)
+        → (GetsAll (scan_saying (Passed (ended.Missed (record { name = miss.name; cause = why })))).out old.out new.out
+            → P (scan_saying (Passed (ended.Missed (record { name = miss.name; cause = why })))).status)
+        → SaysMiss miss.name why old new end → P end
+    missed cause.ReadFault so whole = subst P (sym whole.ends) (so whole.out)
+    missed (cause.Altered met) so (inl whole) = subst P (sym whole.ends) (so whole.out)
+    missed (cause.Altered met) so (inr short) = subst P (sym short.ends) wants
+    missed cause.Appeared so (inl whole) = subst P (sym whole.ends) (so whole.out)
+    missed cause.Appeared so (inr short) = subst P (sym short.ends) wants
+by_end P (Passed (ended.Walk stop.Failed)) old new end said wants out whole = subst P (sym whole.ends) (said whole.out)
+by_end P (Passed (ended.Walk stop.TooMany)) old new end said wants out whole = subst P (sym whole.ends) (said whole.out)
+by_end P (Passed (ended.Walk stop.TooManyEntries)) old new end said wants out whole = subst P (sym whole.ends) (said whole.out)
+by_end P (Passed (ended.Walk (stop.RootGone path))) old new end said wants out whole = subst P (sym whole.ends) (said whole.out)
+by_end P (Passed (ended.Walk stop.OutOfMemory)) old new end said wants out whole = subst P (sym whole.ends) (said whole.out)
+by_end P (Passed ended.Broken) old new end said wants out whole = subst P (sym whole.ends) (said whole.out)
+by_end P (Passed ended.KeeperFault) old new end said wants out whole = subst P (sym whole.ends) (said whole.out)
+by_end P (Passed ended.LogFull) old new end said wants out whole = subst P (sym whole.ends) (said whole.out)
+by_end P (Passed ended.OutOfMemory) old new end said wants out whole = subst P (sym whole.ends) (said whole.out)
 
--- a load that gave a row wasn't refused memory
-pub reads_heard : (name : NameFacts) (answer : LoadFacts) (row : RowFacts) → Reads name answer row
-    → wants_memory (load_of name answer) ≡ false
-reads_heard name (loaded found) row h = refl
-reads_heard name (too_large stamp) row h = refl
-reads_heard name _ row h = absurd h
-
--- nor one that found the listed file
-pub finds_heard : (name : NameFacts) (answer : LoadFacts) → FindsListed name answer
-    → wants_memory (load_of name answer) ≡ false
-finds_heard name (loaded found) h = refl
-finds_heard name (too_large stamp) h = refl
-finds_heard name _ h = absurd h
-
--- a load that gave a row found the listed file
-pub reads_finds : (name : NameFacts) (answer : LoadFacts) (row : RowFacts) → Reads name answer row
-    → FindsListed name answer
-reads_finds name (loaded found) row h = h.0
-reads_finds name (too_large stamp) row h = h.0
-reads_finds name _ row h = absurd h
-
--- so has the row of a file that was read
-pub file_named : {version : Versions} {file : FileRead} → IsFileRead version file
-    → file.row.name ≡ file.name
-file_named {version} {file} read = reads_named file.name file.answer file.row read.read
-
--- the rows of files that stand before a path do so too
-pub rows_before : {version : Versions} (path : List ℕ) (files : List FileRead)
-    → All (IsFileRead version) files → All (λ name. IsBefore name.path path) (names_read files)
-    → All (λ row. IsBefore row.name.path path) (rows_read files)
-rows_before {version} path [] read before = All-nil (λ row. IsBefore row.name.path path)
-rows_before {version} path (file ∷ files) read before =
-    All-cons (λ row. IsBefore row.name.path path) file.row (rows_read files)
-    (subst (λ (n : NameFacts). IsBefore n.path path) (sym (file_named (All-head (IsFileRead version) file files read)))
-    (All-head (λ name. IsBefore name.path path) file.name (names_read files) before))
-    (rows_before path files (All-tail (IsFileRead version) file files read)
-    (All-tail (λ name. IsBefore name.path path) file.name (names_read files) before))
-
--- one more file, at the end
-pub names_more : (files : List FileRead) (file : FileRead) (left : List NameFacts)
-    → names_read files ++ file.name ∷ left ≡ names_read (files ++ file ∷ []) ++ left
-names_more files file left =
-    sym (append_assoc (names_read files) (file.name ∷ []) left)
-    ∙ ap (λ xs. xs ++ left) (sym (map-append (λ (f : FileRead). f.name) files (file ∷ [])))
-
-pub rows_more : (files : List FileRead) (file : FileRead)
-    → rows_read files ++ file.row ∷ [] ≡ rows_read (files ++ file ∷ [])
-rows_more files file = sym (map-append (λ (f : FileRead). f.row) files (file ∷ []))
-
-loads_more : (files : List FileRead) (file : FileRead)
-    → loads_read files ++ load_of file.name file.answer ∷ [] ≡ loads_read (files ++ file ∷ []) ++ []
-loads_more files file =
-    sym (map-append (λ (f : FileRead). load_of f.name f.answer) files (file ∷ []))
-    ∙ sym (append-nil (loads_read (files ++ file ∷ [])))
-
--- nothing was loaded yet
-pub loads_none : {told : Bool} {version : Versions} {listing : List NameFacts} {hand : ShownTree}
-    → LoadsFiles told version listing hand hand [] listing []
-loads_none {told} {version} {listing} {hand} = record {
-  listed = refl;
-  read = All-nil (IsFileRead version);
-  heard = hears_nothing hand.heard;
-  tells = λ t. All-nil _;
+-- of a name that was missed, as it was heard
+heard_other : {told : Bool} {version : Versions} {roots : List (List ℕ)} {names : List NameFacts} {walk : Walk} {walked more : List Heard}
+    {before after : ShownTree} (Failed : Type 0) (name : NameFacts) (why : Cause)
+    → HearsPass told version roots names walk walked more before after → IsChange why → IsCanonPath name.path
+    → IsBacked walk.listing more Failed name why → HeardOther told roots before after
+heard_other {walk = walk} {walked = walked} {more = more} Failed name cause.ReadFault hears change path backed = absurd change
+heard_other {walk = walk} {walked = walked} {more = more} Failed name (cause.Altered met) hears change path backed = record {
+  walk = walk;
+  walked = walked;
+  more = more;
+  heard = hears.heard;
+  whole = hears.whole;
+  name = name;
+  cause = cause.Altered met;
+  changed = tt;
+  why = backed;
+  still = never_changed Failed name (cause.Altered met) hears tt path backed;
+}
+heard_other {walk = walk} {walked = walked} {more = more} Failed name cause.Appeared hears change path backed = record {
+  walk = walk;
+  walked = walked;
+  more = more;
+  heard = hears.heard;
+  whole = hears.whole;
+  name = name;
+  cause = cause.Appeared;
+  changed = tt;
+  why = backed;
+  still = never_changed Failed name cause.Appeared hears tt path backed;
 }
 
--- the load of the next file was heard last
-pub loads_last : {told : Bool} {version : Versions} {listing : List NameFacts}
-    {before between after : ShownTree} {files : List FileRead} {left : List NameFacts}
-    {name : NameFacts} {answer : LoadFacts} → (before.Still → StaysStill before between)
-    → wants_memory (load_of name answer) ≡ false
-    → LoadsFiles told version listing before between files (name ∷ left) []
-    → Asks told version between after (load_of name answer)
-    → LoadsFiles told version listing before after files (name ∷ left) (load_of name answer ∷ [])
-loads_last {before = before} {between = between} {after = after} {files = files} {name = name} {answer = answer} stays said had asks = record {
-  listed = had.listed;
-  read = had.read;
-  heard =
-      hears_both before.heard between.heard after.heard (loads_read files) (load_of name answer ∷ [])
-      (had.heard ∙ ap (λ xs. with_answers before.heard xs) (append-nil (loads_read files)))
-      (hears_asked between.heard (load_of name answer) said asks.listed);
-  tells = λ t.
-      let still = stays t.1 in
-      All-push (IsTold before.present) (loads_read files) (load_of name answer)
-      (subst (λ (xs : List Heard). All (IsTold before.present) xs) (append-nil (loads_read files)) (had.tells t))
-      (subst (λ (present : List NameFacts). IsTold present (load_of name answer))
-      ((asks.hands.still still.still).same ∙ still.same) (asks.tells t.0));
-}
+module _ {T : Type 0} (s : Setting T) (path : List ℕ) (roots : List (List ℕ)) (before after : Scene T) where
+  abbrev ScansTo : ScanEnd → Type 0
+  ScansTo end = Scans s path roots before.hands after.hands before.store after.store end
 
--- a load that was refused memory wasn't heard
-pub loads_unheard : {told : Bool} {version : Versions} {listing : List NameFacts}
-    {before between after : ShownTree} {files : List FileRead} {left : List NameFacts}
-    → after.heard ≡ between.heard → LoadsFiles told version listing before between files left []
-    → LoadsFiles told version listing before after files left []
-loads_unheard same had = record { listed = had.listed; read = had.read; heard = same ∙ had.heard; tells = had.tells }
+  -- the first hand's call failed
+  hand_rose : (end : ScanEnd) → ScansTo end → IsTrue (is_hand_fault end) → FirstRose s before.hands after.hands
+  hand_rose end scans fails =
+      of_first s
+      (λ hand later. HandsOn s.tells_files s.world.version (s.sees hand) (s.sees later) ⊥ (IsTrue (is_hand_fault end)))
+      (λ hand later. HandsOn s.tells_files s.world.version (s.sees hand) (s.sees later) ⊥ ⊥)
+      (λ b a. Rose b.faults a.faults) before.hands after.hands (λ hand later on. on.cause.rose fails) scans.hands
 
--- the next file was read
-pub loads_read_more : {told : Bool} {version : Versions} {listing : List NameFacts}
-    {before after : ShownTree} {files : List FileRead} {left : List NameFacts} {file : FileRead}
-    → IsFileRead version file
-    → LoadsFiles told version listing before after files (file.name ∷ left) (load_of file.name file.answer ∷ [])
-    → LoadsFiles told version listing before after (files ++ file ∷ []) left []
-loads_read_more {version = version} {before = before} {files = files} {left = left} {file = file} read had = record {
-  listed = had.listed ∙ names_more files file left;
-  read = All-push (IsFileRead version) files file had.read read;
-  heard = had.heard ∙ ap (λ xs. with_answers before.heard xs) (loads_more files file);
-  tells = λ t. subst (λ (xs : List Heard). All (IsTold before.present) xs) (loads_more files file) (had.tells t);
-}
+  -- what the first hand heard of a walk that ended with a fault
+  walk_heard : (fault : WalkFault) (Holds : ShownTree → ShownTree → Type 0) → ScansTo (Passed (ended.Walk fault))
+      → ((b a : ShownTree) → WalksInto s.tells_files roots fault b a → Holds b a)
+      → OfFirst s Holds before.hands after.hands
+  walk_heard fault Holds scans each =
+      of_first s (λ hand later. WalksInto s.tells_files roots fault (s.sees hand) (s.sees later))
+      (λ hand left. left ≡ hand) Holds before.hands after.hands
+      (λ hand later walked. each (s.sees hand) (s.sees later) walked) scans.ends.hands
+
+  -- what it heard of a file that is another by now
+  other_heard : (name : NameFacts) (why : Cause) → IsChange why
+      → {Ends : List NameFacts → List Heard → List RowFacts → List RowFacts → Type 0}
+      → (pass : MakesPass s roots before.hands after.hands before.store after.store Ends) → IsCanonPath name.path
+      → IsBacked pass.walk.listing pass.more (FirstRose s before.hands after.hands) name why
+      → OfFirst s (HeardOther s.tells_files roots) before.hands after.hands
+  other_heard name why change pass path backed =
+      of_first s
+      (λ hand later. HearsPass s.tells_files s.world.version roots (row_names (current pass.found)) pass.walk pass.walked pass.more (s.sees hand) (s.sees later))
+      (λ hand later. Helps s.world.version pass.walk.listing roots (row_names (current pass.found)) (s.sees hand) (s.sees later))
+      (HeardOther s.tells_files roots) before.hands after.hands
+      (λ hand later hears. heard_other (FirstRose s before.hands after.hands) name why hears change path backed) pass.hands
+
+  -- what the status of a missed name says
+  miss_status : (name : NameFacts) (why : Cause) → ScansTo (Passed (ended.Missed (record { name = name; cause = why })))
+      → ScanStatus s roots before after (miss_saying name why).status
+  miss_status name cause.ReadFault scans = inr (inl scans.ends.ends.why)
+  miss_status name (cause.Altered met) scans =
+      other_heard name (cause.Altered met) tt scans.ends scans.ends.ends.path scans.ends.ends.why
+  miss_status name cause.Appeared scans = other_heard name cause.Appeared tt scans.ends scans.ends.ends.path scans.ends.ends.why
+
+  -- what the status of a scan's end says
+  end_status : (end : ScanEnd) → ScansTo end → GetsAll (scan_saying end).out before.streams.out after.streams.out
+      → ScanStatus s roots before after (scan_saying end).status
+  end_status (Refused refusal.KeeperFault) scans said = inl (scans.store.rose refl)
+  end_status (Refused (refusal.BadRow kept fault)) scans said = record {
+    opened = scans.opened refl;
+    values = scans.ends.store.values;
+    gave = scans.ends.store.gave;
+    so = record { kept = kept; fault = fault; first = scans.ends.store.why };
+  }
+  end_status (Refused refusal.LogFull) scans said =
+      of_rows (record {
+        opened = scans.opened refl;
+        values = scans.ends.store.values;
+        gave = scans.ends.store.gave;
+        so = scans.ends.store.why;
+      })
+  end_status (Refused refusal.OutOfMemory) scans said = tt
+  end_status (Passed (ended.Whole summary)) scans said = record { summary = summary; ends = scans.ends; line = said }
+  end_status (Passed (ended.Missed miss)) scans said = miss_status miss.name miss.cause scans
+  end_status (Passed (ended.Walk stop.Failed)) scans said =
+      inr (inl (hand_rose (Passed (ended.Walk stop.Failed)) scans refl))
+  end_status (Passed (ended.Walk stop.TooMany)) scans said =
+      of_walk (walk_heard stop.TooMany (HeardMany s.tells_files roots) scans (λ b a w. record {
+        answers = w.walks.more;
+        heard = w.walks.heard;
+        many = inl w.walks.ends;
+        still = λ still. inl (w.fits still);
+      }))
+  end_status (Passed (ended.Walk stop.TooManyEntries)) scans said =
+      of_walk (walk_heard stop.TooManyEntries (HeardMany s.tells_files roots) scans (λ b a w. record {
+        answers = w.walks.more;
+        heard = w.walks.heard;
+        many = inr w.walks.ends;
+        still = λ still. inr (w.fits still);
+      }))
+  end_status (Passed (ended.Walk (stop.RootGone root))) scans said =
+      walk_heard (stop.RootGone root) (HeardGone s.tells_files roots) scans (λ b a w. record {
+        answers = w.walks.more;
+        path = root;
+        heard = w.walks.heard;
+        gone = w.walks.ends;
+        still = λ still. let fits = w.fits still in record { path = root; root = fits.0; nothing = fits.1 };
+      })
+  end_status (Passed (ended.Walk stop.OutOfMemory)) scans said = tt
+  end_status (Passed ended.Broken) scans said = absurd scans.ends
+  end_status (Passed ended.KeeperFault) scans said = inl (scans.store.rose refl)
+  end_status (Passed ended.LogFull) scans said = of_changes scans.ends
+  end_status (Passed ended.OutOfMemory) scans said = tt
+
+  pub scan_status : (end : Status) → RunsScan s path roots before after end → ScanStatus s roots before after end
+  scan_status end run =
+      by_end (ScanStatus s roots before after) run.end before.streams after.streams end (end_status run.end run.scans) tt
+      (λ summary whole rose. inr (inr rose)) run.said
+
+  -- the rows that were found
+  found_rows : (end : PassEnd) → EndsPassed s roots before.hands after.hands before.store after.store end
+      → (rows : List RowFacts) × HoldsRows s.tells_tables before.store rows
+  found_rows (ended.Whole summary) ends = (ends.found, ends.held)
+  found_rows (ended.Missed miss) ends = (ends.found, ends.held)
+  found_rows (ended.Walk fault) ends = (ends.found, ends.held)
+  found_rows ended.Broken ends = absurd ends
+  found_rows ended.KeeperFault ends = (ends.found, ends.held)
+  found_rows ended.LogFull ends = (ends.found, ends.held)
+  found_rows ended.OutOfMemory (inl ends) = (ends.found, ends.held)
+  found_rows ended.OutOfMemory (inr ends) = (ends.found, ends.held)
+
+  -- where the store tells, they are its tables
+  told_rows : (end : PassEnd) → IsTrue s.tells_tables
+      → (ends : EndsPassed s roots before.hands after.hands before.store after.store end)
+      → AreRows (found_rows end ends).0 before.store.tables
+  told_rows end tells ends =
+      subst (λ values. AreRows (found_rows end ends).0 values) ((found_rows end ends).1.gave.tells tells) (found_rows end ends).1.sound
+
+  -- a store that tells a bad value ends the scan so
+  bad_end : (end : ScanEnd) → IsTrue s.tells_tables → HasSomeBad before.store.tables → ScansTo end
+      → EndsOnlyWith status.BadRow before.store after.store (scan_saying end).status
+  bad_end (Refused refusal.KeeperFault) tells bad scans = inr (inl (refl, scans.store.rose refl))
+  bad_end (Refused (refusal.BadRow kept fault)) tells bad scans = inl refl
+  bad_end (Refused refusal.LogFull) tells bad scans =
+      absurd (none_bad bad.fault scans.ends.store.why.sound
+      (subst (λ values. Contains values bad.kept) (sym (scans.ends.store.gave.tells tells)) bad.held) bad.bad)
+  bad_end (Refused refusal.OutOfMemory) tells bad scans = inr (inr refl)
+  bad_end (Passed end) tells bad scans = absurd (none_bad bad.fault (told_rows end tells scans.ends) bad.held bad.bad)
+
+  -- one that tells too many rows ends it so
+  full_end : (end : ScanEnd) → IsTrue s.tells_tables → IsOverfull before.store.tables → ScansTo end
+      → EndsOnlyWith status.Limit before.store after.store (scan_saying end).status
+  full_end (Refused refusal.KeeperFault) tells full scans = inr (inl (refl, scans.store.rose refl))
+  full_end (Refused (refusal.BadRow kept fault)) tells full scans =
+      absurd (none_bad fault (subst (λ values. AreRows full.rows values) (sym (scans.ends.store.gave.tells tells)) full.sound)
+      (first_held scans.ends.store.why) scans.ends.store.why.bad)
+  full_end (Refused refusal.LogFull) tells full scans = inl refl
+  full_end (Refused refusal.OutOfMemory) tells full scans = inr (inr refl)
+  full_end (Passed end) tells full scans =
+      absurd (none_overfull (told_rows end tells scans.ends) (found_rows end scans.ends).1.few full)
+
+  -- where nothing stands against it a name is missed by nothing
+  never_missed : (name : NameFacts) (why : Cause) → IsUnhindered s roots before after
+      → ScansTo (Passed (ended.Missed (record { name = name; cause = why }))) → ⊥
+  never_missed name cause.ReadFault free scans =
+      both_first s (IsFreeHand s.tells_files roots) (λ b a. Rose b.faults a.faults) before.hands after.hands free.hand scans.ends.ends.why
+      (λ b a hand rose. hand.faultless rose)
+  never_missed name (cause.Altered met) free scans =
+      both_first s (IsFreeHand s.tells_files roots) (HeardOther s.tells_files roots) before.hands after.hands free.hand
+      (other_heard name (cause.Altered met) tt scans.ends scans.ends.ends.path scans.ends.ends.why)
+      (λ b a hand heard. heard.still hand.still)
+  never_missed name cause.Appeared free scans =
+      both_first s (IsFreeHand s.tells_files roots) (HeardOther s.tells_files roots) before.hands after.hands free.hand
+      (other_heard name cause.Appeared tt scans.ends scans.ends.ends.path scans.ends.ends.why)
+      (λ b a hand heard. heard.still hand.still)
+
+  -- nor does a walk end with a fault
+  never_walk : (fault : WalkFault) → IsUnhindered s roots before after → ScansTo (Passed (ended.Walk fault))
+      → ((b a : ShownTree) → IsFreeHand s.tells_files roots b a → FitsFault b.present roots fault → ⊥) → ⊥
+  never_walk fault free scans never =
+      both_first s (IsFreeHand s.tells_files roots) (WalksInto s.tells_files roots fault) before.hands after.hands free.hand
+      (walk_heard fault (WalksInto s.tells_files roots fault) scans (λ b a w. w))
+      (λ b a hand w. never b a hand (w.fits hand.still))
+
+  -- so it is done, or memory is wanted, or its log has no room
+  complete_end : (end : ScanEnd) → IsUnhindered s roots before after → ScansTo end
+      → IsComplete s roots before after (scan_saying end).status
+  complete_end (Refused refusal.KeeperFault) free scans = absurd (free.store (scans.store.rose refl))
+  complete_end (Refused (refusal.BadRow kept fault)) free scans =
+      absurd (none_bad fault (subst (λ values. AreRows free.rows values) (sym (scans.ends.store.gave.tells free.tells)) free.held)
+      (first_held scans.ends.store.why) scans.ends.store.why.bad)
+  complete_end (Refused refusal.LogFull) free scans =
+      absurd (none_overfull free.held free.few
+      (subst (λ values. IsOverfull values) (scans.ends.store.gave.tells free.tells) scans.ends.store.why))
+  complete_end (Refused refusal.OutOfMemory) free scans = tt
+  complete_end (Passed (ended.Whole summary)) free scans = tt
+  complete_end (Passed (ended.Missed miss)) free scans = absurd (never_missed miss.name miss.cause free scans)
+  complete_end (Passed (ended.Walk stop.Failed)) free scans =
+      absurd (both_first s (IsFreeHand s.tells_files roots) (λ b a. Rose b.faults a.faults) before.hands after.hands free.hand
+      (hand_rose (Passed (ended.Walk stop.Failed)) scans refl) (λ b a hand rose. hand.faultless rose))
+  complete_end (Passed (ended.Walk stop.TooMany)) free scans =
+      absurd (never_walk stop.TooMany free scans (λ b a hand fits. hand.files fits))
+  complete_end (Passed (ended.Walk stop.TooManyEntries)) free scans =
+      absurd (never_walk stop.TooManyEntries free scans (λ b a hand fits. hand.entries fits))
+  complete_end (Passed (ended.Walk (stop.RootGone root))) free scans =
+      absurd (never_walk (stop.RootGone root) free scans
+      (λ b a hand fits. hand.there (record { path = root; root = fits.0; nothing = fits.1 })))
+  complete_end (Passed (ended.Walk stop.OutOfMemory)) free scans = tt
+  complete_end (Passed ended.Broken) free scans = absurd scans.ends
+  complete_end (Passed ended.KeeperFault) free scans = absurd (free.store (scans.store.rose refl))
+  complete_end (Passed ended.LogFull) free scans = scans.ends
+  complete_end (Passed ended.OutOfMemory) free scans = tt
+
+  -- how a scan ends when
+  pub scan_ends : (end : Status) → RunsScan s path roots before after end → ScanEnds s roots before after end
+  unfolding found_rows
+  scan_ends end run = record {
+    bad = λ tells bad.
+        by_end (EndsOnlyWith status.BadRow before.store after.store) run.end before.streams after.streams end
+        (λ _. bad_end run.end tells bad run.scans) (inr (inr refl))
+        (λ summary whole rose.
+        absurd (none_bad bad.fault (told_rows (ended.Whole summary) tells (subst ScansTo whole run.scans).ends) bad.held bad.bad)) run.said;
+    overfull = λ tells full.
+        by_end (EndsOnlyWith status.Limit before.store after.store) run.end before.streams after.streams end
+        (λ _. full_end run.end tells full run.scans) (inr (inr refl))
+        (λ summary whole rose.
+        let ends = (subst ScansTo whole run.scans).ends in
+        absurd (none_overfull (told_rows (ended.Whole summary) tells ends) ends.held.few full)) run.said;
+    complete = λ free.
+        by_end (IsComplete s roots before after) run.end before.streams after.streams end
+        (λ _. complete_end run.end free run.scans) tt (λ summary whole rose. absurd (free.out rose)) run.said;
+  }

@@ -1,46 +1,60 @@
 -- When a status comes (this project's rule): what each says, by the line.
-use Rattle.std.specs.Prelude.{◌≡◌, ◌≢◌, ◌⊎◌, ℕ, List, [], ◌∷◌, ◌++◌, Contains, IsTrue}
+use Rattle.std.specs.Prelude.{◌≡◌, ◌⊎◌, ℕ, ◌≤◌, Bool, List, ◌++◌, length, Contains, IsTrue, Option}
 use Rattle.row_types.specs.Faults.{Rose}
 use Rattle.row_types.specs.Name.{NameFacts}
-use Rattle.scan_queue.specs.declared.miss.Seen.{Seen}
+use Rattle.row_types.specs.Row.{RowFacts}
+use Rattle.scan_queue.specs.declared.miss.Cause.{Cause}
+use Rattle.scan_queue.specs.declared.miss.Cause.TheVariants.{ReadFault, Altered as WasAltered, Appeared}
 use Rattle.index_keeper.specs.Store.{ShownStore}
-use Rattle.tree_trait.specs.Heard.{Heard, with_answers}
+use Rattle.index_keeper.specs.Tables.{KeptFacts}
+use Rattle.index_rows.specs.declared.rows.TheConstants.{LOG_LIMIT}
+use Rattle.index_state.specs.Judge.{is_under}
+use Rattle.index_state.specs.Opening.{AreRows, IsBad, IsFirstBad, IsOverfull, current}
+use Rattle.row_codec.specs.declared.fault.CodecFault.{CodecFault}
+use Rattle.tree_trait.specs.Heard.{Heard, stat, with_answers}
 use Rattle.tree_trait.specs.Load.{LoadFacts}
 use Rattle.tree_trait.specs.Shown.{ShownTree}
 use Rattle.tree_trait.specs.Stat.{IsNothingAt}
-use Rattle.tree_walk.specs.Ends.{IsRootGone, IsTooMany, IsTooManyEntries}
+use Rattle.tree_trait.specs.declared.stat.StatAnswer.TheVariants.{File}
+use Rattle.tree_walk.specs.Ends.{IsRootGone, IsTooMany, IsTooManyEntries, IsWholeWalk}
 use Rattle.tree_walk.specs.Files.{HasManyEntries, HasManyFiles}
 use Rattle.tree_walk.specs.Walked.{IsWalked}
+use Rattle.tree_walk.specs.declared.walked.Walk.{Walk}
 use Rattle.http_wire.specs.Sink.{GetsAll}
-use Rattle.dbgd_run.specs.Scan.{EndsBy, FindsOther, load_of}
-use Rattle.dbgd_run.specs.Scene.{Scene, Setting, TellsStill}
+use Rattle.pass_runner.specs.Owned.{TellsStill}
+use Rattle.pass_runner.specs.Settled.{IsBacked}
+use Rattle.pass_runner.specs.declared.pass_end.PassEnd.TheVariants as pass
+use Rattle.pass_runner.specs.declared.summary.Summary.{Summary}
+use Rattle.dbgd_run.specs.Kept.{GivesValues}
+use Rattle.dbgd_run.specs.Scan.{EndsPassed}
+use Rattle.dbgd_run.specs.Scene.{FirstRose, OfFirst, Scene, Setting}
 use Rattle.dbgd_run.specs.Texts.{summary_line}
 use Rattle.dbgd_run.specs.Words.{Line, asks_ident, asks_scan, asks_section, asks_sources, unbuilt}
 use Rattle.dbgd_run.specs.Words.{unreadable}
-use Rattle.dbgd_run.specs.declared.scan_end.ScanEnd.TheVariants.{Whole}
 use Rattle.dbgd_run.specs.declared.status.Status.{Status}
 use Rattle.dbgd_run.specs.declared.status.Status.TheVariants.{Done, Fault, Usage, Absent, Altered}
-use Rattle.dbgd_run.specs.declared.status.Status.TheVariants.{Limit, OutOfMemory, NotBuilt}
-use Rattle.dbgd_run.specs.declared.summary.Summary.{Summary}
+use Rattle.dbgd_run.specs.declared.status.Status.TheVariants.{Limit, OutOfMemory, BadRow, NotBuilt}
 
--- the hand's count of faults rose, or that of the standard output
-abbrev pub HandOrOutRose : Scene → Scene → Type 0
-HandOrOutRose before after =
-    Rose before.hand.faults after.hand.faults
+-- the first hand's count of faults rose, or that of the standard output
+abbrev pub HandOrOutRose : {T : Type 0} → Setting T → Scene T → Scene T → Type 0
+HandOrOutRose s before after =
+    FirstRose s before.hands after.hands
     ⊎ Rose before.streams.out.write_faults after.streams.out.write_faults
 
 -- of a command on one file: no file is altered or meets a limit, no value is no row, and nothing isn't built
-abbrev pub FileStatus : Scene → Scene → Status → Type 0
-FileStatus before after Done = Unit {0}
-FileStatus before after Fault = HandOrOutRose before after
-FileStatus before after Absent = Unit {0}
-FileStatus before after OutOfMemory = Unit {0}
-FileStatus before after _ = ⊥
+abbrev pub FileStatus : {T : Type 0} → Setting T → Scene T → Scene T → Status → Type 0
+FileStatus s before after Done = Unit {0}
+FileStatus s before after Fault = HandOrOutRose s before after
+FileStatus s before after Absent = Unit {0}
+FileStatus s before after OutOfMemory = Unit {0}
+FileStatus s before after _ = ⊥
 
 -- the scan was whole, and the standard output got exactly its line
-pub record IsScanned (s : Setting) (roots : List (List ℕ)) (before after : Scene) : Type 0 where
+pub record IsScanned {T : Type 0} (s : Setting T) (roots : List (List ℕ))
+    (before after : Scene T) : Type 0 where
   pub summary : Summary
-  pub ends : EndsBy s roots before.hand after.hand before.store after.store (Whole summary)
+  pub ends :
+      EndsPassed s roots before.hands after.hands before.store after.store (pass.Whole summary)
   pub line : GetsAll (summary_line summary) before.streams.out after.streams.out
 
 -- nothing is at some root
@@ -50,92 +64,139 @@ pub record HasRootGone (present : List NameFacts) (roots : List (List ℕ)) : Ty
   pub nothing : IsNothingAt present path
 
 -- the hand heard that nothing is at a root; where the files never change, nothing is
-pub record HeardGone (s : Setting) (roots : List (List ℕ)) (before after : ShownTree) : Type 0 where
+pub record HeardGone (told : Bool) (roots : List (List ℕ)) (before after : ShownTree) : Type 0 where
   pub answers : List Heard
   pub path : List ℕ
   pub heard : after.heard ≡ with_answers before.heard answers
   pub gone : IsRootGone answers roots path
-  pub still : TellsStill s.tells_files before → HasRootGone before.present roots
+  pub still : TellsStill told before → HasRootGone before.present roots
 
--- the hand heard a walk, then loads, and last that a listed file was another; files that never change are none
-pub record HeardOther (s : Setting) (roots : List (List ℕ))
-    (before after : ShownTree) : Type 0 where
+-- by what a file was found to be another: a listed one was, or one that isn't listed stands
+abbrev pub IsChange : Cause → Type 0
+IsChange ReadFault = ⊥
+IsChange (WasAltered met) = Unit {0}
+IsChange Appeared = Unit {0}
+
+-- the hand heard a whole walk, and behind it that a listed file is another by now, or that a file stands which isn't
+-- listed; files that never change are neither
+pub record HeardOther (told : Bool) (roots : List (List ℕ)) (before after : ShownTree) : Type 0 where
+  pub walk : Walk
   pub walked : List Heard
-  pub loads : List Heard
+  pub more : List Heard
+  pub heard : after.heard ≡ with_answers before.heard (walked ++ more)
+  pub whole : IsWholeWalk walked roots walk
   pub name : NameFacts
-  pub answer : LoadFacts
-  pub met : Seen
-  pub heard :
-      after.heard ≡ with_answers before.heard (walked ++ (loads ++ load_of name answer ∷ []))
-  pub listed : IsWalked walked roots name
-  pub finds : FindsOther name answer met
-  pub still : ¬ TellsStill s.tells_files before
+  pub cause : Cause
+  pub changed : IsChange cause
+  pub why : IsBacked walk.listing more (Rose before.faults after.faults) name cause
+  pub still : ¬ TellsStill told before
 
 -- the hand heard of more files than a listing has, or of more entries than a walk reads; files that never change are so
 -- many
-pub record HeardMany (s : Setting) (roots : List (List ℕ)) (before after : ShownTree) : Type 0 where
+pub record HeardMany (told : Bool) (roots : List (List ℕ)) (before after : ShownTree) : Type 0 where
   pub answers : List Heard
   pub heard : after.heard ≡ with_answers before.heard answers
   pub many : IsTooMany answers roots ⊎ IsTooManyEntries answers roots
   pub still :
-      TellsStill s.tells_files before
+      TellsStill told before
       → HasManyFiles before.present roots ⊎ HasManyEntries before.present roots
 
--- of a scan: the words were read, no value is no row, and it isn't built only into a store that holds something
-abbrev pub ScanStatus : Setting → List (List ℕ) → Scene → Scene → Status → Type 0
+-- the store was opened and gave values, of which this is so
+pub record OpensOn (told : Bool) (old new : ShownStore) (Of : List KeptFacts → Type 0) : Type 0 where
+  pub opened : Rose old.epoch new.epoch
+  pub values : List KeptFacts
+  pub gave : GivesValues told old values
+  pub so : Of values
+
+-- the first value by path that isn't a row under its path, and why
+pub record HasBad (values : List KeptFacts) : Type 0 where
+  pub kept : KeptFacts
+  pub fault : Option CodecFault
+  pub first : IsFirstBad values kept fault
+
+-- a limit was met: of what was heard, of the rows that the store held, or of the changes of the log
+pub data MeetsLimit {T : Type 0} (s : Setting T) (roots : List (List ℕ))
+    (before after : Scene T) : Type 0 where
+  of_walk : OfFirst s (HeardMany s.tells_files roots) before.hands after.hands
+      → MeetsLimit s roots before after
+  of_rows : OpensOn s.tells_tables before.store after.store IsOverfull
+      → MeetsLimit s roots before after
+  of_changes : EndsPassed s roots before.hands after.hands before.store after.store pass.LogFull
+      → MeetsLimit s roots before after
+
+-- of a scan: the words were read, and it is built
+abbrev pub ScanStatus : {T : Type 0} → Setting T → List (List ℕ) → Scene T → Scene T → Status → Type 0
 ScanStatus s roots before after Done = IsScanned s roots before after
 ScanStatus s roots before after Fault =
-    Rose before.store.faults after.store.faults ⊎ HandOrOutRose before after
-ScanStatus s roots before after Absent = HeardGone s roots before.hand after.hand
-ScanStatus s roots before after Altered = HeardOther s roots before.hand after.hand
-ScanStatus s roots before after Limit = HeardMany s roots before.hand after.hand
+    Rose before.store.faults after.store.faults ⊎ HandOrOutRose s before after
+ScanStatus s roots before after Absent =
+    OfFirst s (HeardGone s.tells_files roots) before.hands after.hands
+ScanStatus s roots before after Altered =
+    OfFirst s (HeardOther s.tells_files roots) before.hands after.hands
+ScanStatus s roots before after Limit = MeetsLimit s roots before after
 ScanStatus s roots before after OutOfMemory = Unit {0}
-ScanStatus s roots before after NotBuilt = IsTrue s.tells_tables → before.store.tables ≢ []
+ScanStatus s roots before after BadRow = OpensOn s.tells_tables before.store after.store HasBad
 ScanStatus s roots before after _ = ⊥
 
 -- what the status says, by the line; words that can't be read alone end with the usage, a command that isn't built
 -- always so
-abbrev pub HasStatus : Setting → Line → Scene → Scene → Status → Type 0
-HasStatus s (asks_ident path) before after status = FileStatus before after status
-HasStatus s (asks_sources path) before after status = FileStatus before after status
-HasStatus s (asks_section path name) before after status = FileStatus before after status
+abbrev pub HasStatus : {T : Type 0} → Setting T → Line → Scene T → Scene T → Status → Type 0
+HasStatus s (asks_ident path) before after status = FileStatus s before after status
+HasStatus s (asks_sources path) before after status = FileStatus s before after status
+HasStatus s (asks_section path name) before after status = FileStatus s before after status
 HasStatus s (asks_scan path roots) before after status = ScanStatus s roots before after status
 HasStatus s unbuilt before after status = status ≡ NotBuilt
 HasStatus s unreadable before after status = status ≡ Usage
 
--- a store that holds something isn't scanned into: it isn't built yet, or the store failed, or memory was refused
-abbrev pub IsTurnedAway : ShownStore → ShownStore → Status → Type 0
-IsTurnedAway old new NotBuilt = Unit {0}
-IsTurnedAway old new Fault = Rose old.faults new.faults
-IsTurnedAway old new OutOfMemory = Unit {0}
-IsTurnedAway old new _ = ⊥
+-- a scan ends with this status, or the store failed, or memory was refused
+abbrev pub EndsOnlyWith : Status → ShownStore → ShownStore → Status → Type 0
+EndsOnlyWith only old new status =
+    (status ≡ only) ⊎ (((status ≡ Fault) × Rose old.faults new.faults) ⊎ (status ≡ OutOfMemory))
 
--- nothing stands against a scan: the hand tells files that never change, something is at each root, there is not too
--- much, the store tells that it holds nothing, and no count rose
-pub record IsUnhindered (s : Setting) (roots : List (List ℕ)) (before after : Scene) : Type 0 where
-  pub still : TellsStill s.tells_files before.hand
-  pub there : ¬ HasRootGone before.hand.present roots
-  pub files : ¬ HasManyFiles before.hand.present roots
-  pub entries : ¬ HasManyEntries before.hand.present roots
+-- some value isn't a row under its path
+pub record HasSomeBad (values : List KeptFacts) : Type 0 where
+  pub kept : KeptFacts
+  pub fault : Option CodecFault
+  pub held : Contains values kept
+  pub bad : IsBad kept fault
+
+-- nothing stands against a walk and what follows it: the hand tells files that never change, something is at each root,
+-- there is not too much, and the hand's count didn't rise
+pub record IsFreeHand (told : Bool) (roots : List (List ℕ)) (before after : ShownTree) : Type 0 where
+  pub still : TellsStill told before
+  pub there : ¬ HasRootGone before.present roots
+  pub files : ¬ HasManyFiles before.present roots
+  pub entries : ¬ HasManyEntries before.present roots
+  pub faultless : ¬ Rose before.faults after.faults
+
+-- nothing stands against a scan: so it is of the first hand, the store tells that each of its values is a row, not too
+-- many of them of the edition, and neither its count nor that of the standard output rose
+pub record IsUnhindered {T : Type 0} (s : Setting T) (roots : List (List ℕ))
+    (before after : Scene T) : Type 0 where
+  pub hand : OfFirst s (IsFreeHand s.tells_files roots) before.hands after.hands
   pub tells : IsTrue s.tells_tables
-  pub empty : before.store.tables ≡ []
+  pub rows : List RowFacts
+  pub held : AreRows rows before.store.tables
+  pub few : length (current rows) ≤ LOG_LIMIT
   pub store : ¬ Rose before.store.faults after.store.faults
-  pub faultless : ¬ HandOrOutRose before after
+  pub out : ¬ Rose before.streams.out.write_faults after.streams.out.write_faults
 
--- what a scan that nothing stands against ends with
-abbrev pub IsComplete : Status → Type 0
-IsComplete Done = Unit {0}
-IsComplete OutOfMemory = Unit {0}
-IsComplete _ = ⊥
+-- what a scan that nothing stands against ends with: it is done, its log has no room for a change, or memory was refused
+abbrev pub IsComplete : {T : Type 0} → Setting T → List (List ℕ) → Scene T → Scene T → Status → Type 0
+IsComplete s roots before after Done = Unit {0}
+IsComplete s roots before after Limit =
+    EndsPassed s roots before.hands after.hands before.store after.store pass.LogFull
+IsComplete s roots before after OutOfMemory = Unit {0}
+IsComplete s roots before after _ = ⊥
 
--- a store that holds something is turned away; and a scan that nothing stands against is done, or wants memory
-pub record ScanEnds (s : Setting) (roots : List (List ℕ)) (before after : Scene)
+-- how a scan ends when: a store that tells a value which isn't a row ends it with the status for that, one that tells
+-- too many rows of the edition with that of a limit, and one that nothing stands against is done
+pub record ScanEnds {T : Type 0} (s : Setting T) (roots : List (List ℕ)) (before after : Scene T)
     (status : Status) : Type 0 where
-  pub filled :
-      IsTrue s.tells_tables → before.store.tables ≢ [] → IsTurnedAway before.store after.store status
-  pub complete : IsUnhindered s roots before after → IsComplete status
-
--- the same of a line of words, if it asks for a scan
-abbrev pub IfScan : Setting → Line → Scene → Scene → Status → Type 0
-IfScan s (asks_scan path roots) before after status = ScanEnds s roots before after status
-IfScan s _ before after status = Unit {0}
+  pub bad :
+      IsTrue s.tells_tables → HasSomeBad before.store.tables
+      → EndsOnlyWith BadRow before.store after.store status
+  pub overfull :
+      IsTrue s.tells_tables → IsOverfull before.store.tables
+      → EndsOnlyWith Limit before.store after.store status
+  pub complete : IsUnhindered s roots before after → IsComplete s roots before after status

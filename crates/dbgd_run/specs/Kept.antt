@@ -1,31 +1,55 @@
--- What a scan leaves in the store (this project's rule).
-use Rattle.std.specs.Prelude.{◌≡◌, ◌⊎◌, Bool, List, [], ◌++◌, map, IsTrue, Option, option_map}
+-- What a scan finds in the store and leaves in it (this project's rule), by rows.
+use Rattle.std.specs.Prelude.{◌≡◌, ◌⊎◌, ℕ, ◌≤◌, Bool, List, [], ◌++◌, length, Option, IsTrue}
 use Rattle.row_types.specs.Row.{RowFacts}
 use Rattle.index_keeper.specs.Store.{ShownStore}
-use Rattle.index_keeper.specs.Tables.{EditFacts, edited}
-use Rattle.index_state.specs.Keeping.{put_row}
-use Rattle.index_state.specs.Kept.{tables_of}
+use Rattle.index_keeper.specs.Tables.{AscendsByPath, EditFacts, KeptFacts}
+use Rattle.index_rows.specs.declared.change.Change.{Change}
+use Rattle.index_rows.specs.declared.rows.TheConstants.{LOG_LIMIT}
+use Rattle.index_state.specs.Changes.{TellsSince}
+use Rattle.index_state.specs.Kept.{IsNext, tables_of}
+use Rattle.index_state.specs.Opening.{AreRows, LacksStrays, current, made_swept}
 
--- the changes of a store, with those that keep the rows
-abbrev pub with_puts : Option (List EditFacts) → List RowFacts → Option (List EditFacts)
-with_puts made rows = option_map (λ edits. edits ++ map put_row rows) made
+-- the values that the store gave as it was opened, by path; where it tells they are its tables
+pub record GivesValues (told : Bool) (before : ShownStore) (values : List KeptFacts) : Type 0 where
+  pub by_path : AscendsByPath values
+  pub tells : IsTrue told → values ≡ before.tables
+
+-- the store held these rows, of whatever edition, and nothing else; not too many are of the edition
+pub record HoldsRows (told : Bool) (before : ShownStore) (rows : List RowFacts) : Type 0 where
+  pub values : List KeptFacts
+  pub gave : GivesValues told before values
+  pub sound : AreRows rows values
+  pub few : length (current rows) ≤ LOG_LIMIT
 
 -- the store has what it had
 pub record KeepsAll (told : Bool) (before after : ShownStore) : Type 0 where
   pub tables : IsTrue told → after.tables ≡ before.tables
   pub made : after.made ≡ before.made
 
--- the store had nothing, and these rows were kept, one after the other
-pub record HasKept (told : Bool) (before after : ShownStore) (rows : List RowFacts) : Type 0 where
-  pub empty : IsTrue told → before.tables ≡ []
-  pub tables : IsTrue told → after.tables ≡ tables_of rows
-  pub made : after.made ≡ with_puts before.made rows
+-- of what the store had only rows of other editions may be missing, the first by path, and nothing else was done
+pub record LacksFirst (told : Bool) (before after : ShownStore) : Type 0 where
+  pub tables : IsTrue told → (after.tables ≡ before.tables) ⊎ LacksStrays before.tables after.tables
+  pub removed : List RowFacts
+  pub made : after.made ≡ made_swept removed before.made
 
--- the store had nothing, these rows were kept, and then this one or not
-pub record HasTorn (told : Bool) (before after : ShownStore) (rows : List RowFacts)
-    (row : RowFacts) : Type 0 where
-  pub empty : IsTrue told → before.tables ≡ []
-  pub tables :
-      IsTrue told
-      → (after.tables ≡ tables_of rows) ⊎ (after.tables ≡ edited (tables_of rows) (put_row row))
-  pub made : after.made ≡ with_puts before.made rows
+-- the store has these rows, and nothing else
+abbrev pub HasRows : Bool → ShownStore → List RowFacts → Type 0
+HasRows told after rows = IsTrue told → after.tables ≡ tables_of rows
+
+-- the tables are those of the rows with one change: a put of a true row, or a removal
+pub record HasOneChange (true_row : RowFacts → Type 0) (tables : List KeptFacts)
+    (rows : List RowFacts) : Type 0 where
+  pub change : Change
+  pub next : IsNext true_row change rows tables
+
+-- the store has these rows, with or without the one change that a failed call was to make
+abbrev pub MayHaveRows : (RowFacts → Type 0) → Bool → ShownStore → List RowFacts → Type 0
+MayHaveRows true_row told after rows =
+    IsTrue told → (after.tables ≡ tables_of rows) ⊎ HasOneChange true_row after.tables rows
+
+-- the store made these changes: the removals of the rows of other editions that were found, by path, and then puts of
+-- true rows and removals, one for each of these
+pub record MakesChanges (true_row : RowFacts → Type 0) (found : List RowFacts)
+    (before after : Option (List EditFacts)) : Type 0 where
+  pub changes : List Change
+  pub each : TellsSince true_row changes (made_swept found before) after

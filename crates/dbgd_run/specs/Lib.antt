@@ -4,12 +4,11 @@ pub mod File
 pub mod Ident
 pub mod Kept
 pub mod Lines
-pub mod Numbers
+pub mod Passing
 pub mod Roots
 pub mod Runs
 pub mod Scan
 pub mod ScanSaid
-pub mod ScanSteps
 pub mod Scene
 pub mod Section
 pub mod Sources

@@ -1,12 +1,11 @@
 -- What a run does, by its words (this project's rule).
-use Rattle.std.specs.Prelude.{◌≡◌, ℕ}
-use Rattle.index_keeper.specs.Store.{ShownStore}
-use Rattle.dbgd_run.specs.Causes.{HasStatus, IfScan}
+use Rattle.std.specs.Prelude.{◌≡◌, ℕ, List}
+use Rattle.dbgd_run.specs.Causes.{HasStatus, ScanEnds}
 use Rattle.dbgd_run.specs.Endings.{EndsWhole, Saying, error_saying, not_built_saying}
-use Rattle.dbgd_run.specs.File.{RunsOn}
+use Rattle.dbgd_run.specs.File.{RunsFile}
 use Rattle.dbgd_run.specs.Ident.{SaysIdent}
 use Rattle.dbgd_run.specs.Scan.{RunsScan}
-use Rattle.dbgd_run.specs.Scene.{LeavesHand, Scene, Setting}
+use Rattle.dbgd_run.specs.Scene.{Scene, Setting}
 use Rattle.dbgd_run.specs.Section.{SaysSection}
 use Rattle.dbgd_run.specs.Sources.{SaysSources}
 use Rattle.dbgd_run.specs.Statuses.{code_of}
@@ -20,36 +19,45 @@ use Rattle.dbgd_run.specs.declared.status.Status.TheVariants.{Usage}
 abbrev pub usage_saying : Saying
 usage_saying = error_saying usage_text Usage
 
--- what is done without the store
-pub record LeavesStore (Does : Type 0) (before after : ShownStore) : Type 0 where
-  pub does : Does
-  pub store : after ≡ before
-
--- what is said without a look at the hand or the store
-pub record SaysAlone (saying : Saying) (before after : Scene) (status : Status) : Type 0 where
+-- what is said without a look at the hands or the store
+pub record SaysAlone {T : Type 0} (saying : Saying) (before after : Scene T)
+    (status : Status) : Type 0 where
   pub says : EndsWhole saying before.streams after.streams status
-  pub hand : LeavesHand before.hand after.hand
+  pub hands : after.hands ≡ before.hands
   pub store : after.store ≡ before.store
 
--- what a line of words does with the first hand, the store and the two sinks, and how it ends
-abbrev pub Runs : Setting → Line → Scene → Scene → Status → Type 0
+-- a scan: what it does, and how it ends when
+pub record IsScan {T : Type 0} (s : Setting T) (path : List ℕ) (roots : List (List ℕ))
+    (before after : Scene T) (status : Status) : Type 0 where
+  pub does : RunsScan s path roots before after status
+  pub ends : ScanEnds s roots before after status
+
+-- what a line of words does, by what it asks
+abbrev pub Runs : {T : Type 0} → Setting T → Line → Scene T → Scene T → Status → Type 0
 Runs s (asks_ident path) before after status =
-    LeavesStore (RunsOn (SaysIdent path) s.tells_files s.world.version path
-    before.hand after.hand before.streams after.streams status) before.store after.store
+    RunsFile s path (SaysIdent path) before after status
 Runs s (asks_sources path) before after status =
-    LeavesStore (RunsOn (SaysSources path) s.tells_files s.world.version path
-    before.hand after.hand before.streams after.streams status) before.store after.store
+    RunsFile s path (SaysSources path) before after status
 Runs s (asks_section path name) before after status =
-    LeavesStore (RunsOn (SaysSection path name) s.tells_files s.world.version path
-    before.hand after.hand before.streams after.streams status) before.store after.store
+    RunsFile s path (SaysSection path name) before after status
 Runs s (asks_scan path roots) before after status = RunsScan s path roots before after status
 Runs s unbuilt before after status = SaysAlone not_built_saying before after status
 Runs s unreadable before after status = SaysAlone usage_saying before after status
 
--- all that is promised of a run: what it does, what its status says, and of a scan, how it ends when
-pub record IsRun (s : Setting) (line : Line) (before after : Scene) (code : ℕ) : Type 0 where
+-- all that is promised of a run: the status and its number, what it does, a part for each command, and what its status
+-- says
+pub record IsRun {T : Type 0} (s : Setting T) (line : Line) (before after : Scene T)
+    (code : ℕ) : Type 0 where
   pub status : Status
-  pub ends : code ≡ code_of status
-  pub law : Runs s line before after status
+  pub number : code ≡ code_of status
+  pub ident : (path : List ℕ) → line ≡ asks_ident path
+      → RunsFile s path (SaysIdent path) before after status
+  pub sources : (path : List ℕ) → line ≡ asks_sources path
+      → RunsFile s path (SaysSources path) before after status
+  pub section : (path name : List ℕ) → line ≡ asks_section path name
+      → RunsFile s path (SaysSection path name) before after status
+  pub scan : (path : List ℕ) (roots : List (List ℕ)) → line ≡ asks_scan path roots
+      → IsScan s path roots before after status
+  pub not_built : line ≡ unbuilt → SaysAlone not_built_saying before after status
+  pub usage : line ≡ unreadable → SaysAlone usage_saying before after status
   pub causes : HasStatus s line before after status
-  pub scan : IfScan s line before after status

@@ -1,234 +1,196 @@
--- The command `scan` (this project's rule): the store is opened, the folders are walked, and the listed files are read
--- and their rows kept, in path order, up to the first that isn't as it was listed. The store holds what was kept,
--- however the scan ended.
-use Rattle.std.specs.Prelude.{◌≡◌, ◌≢◌, ◌⊎◌, ℕ, ◌≤◌, true, List, [], ◌∷◌, ◌++◌, map, length, All}
-use Rattle.std.specs.Prelude.{IsTrue, Err}
+-- The command `scan` (this project's rule): the store is opened, the index on it makes one pass over the folders, and
+-- the store has its keeper back. The rows that the store held and those that it has in the end are what the pass is
+-- said of.
+use Rattle.std.specs.Prelude.{◌≡◌, ◌≢◌, ◌⊎◌, ℕ, ◌≤◌, Bool, true, false, List, All, Contains, length, IsTrue, Ok, Err}
+use Rattle.row_types.specs.Canon.{IsCanonPath}
 use Rattle.row_types.specs.Faults.{HasCause, Rose}
 use Rattle.row_types.specs.Name.{NameFacts}
-use Rattle.row_types.specs.Row.{RowFacts, too_large_row}
+use Rattle.row_types.specs.Row.{RowFacts}
 use Rattle.row_types.specs.Rules.{Rules}
-use Rattle.row_types.specs.declared.limits.TheConstants.{FILE_LIMIT}
-use Rattle.scan_queue.specs.declared.miss.Seen.{Seen}
-use Rattle.scan_queue.specs.declared.miss.Seen.TheVariants as seen
+use Rattle.scan_queue.specs.Names.{is_in}
+use Rattle.scan_queue.specs.declared.miss.Miss.{Miss}
 use Rattle.index_keeper.specs.Store.{ShownStore, with_path}
+use Rattle.index_keeper.specs.Tables.{KeptFacts}
+use Rattle.index_rows.specs.Log.{replay}
 use Rattle.index_rows.specs.Rows.{row_names}
+use Rattle.index_rows.specs.declared.change.Change.{Change}
+use Rattle.index_rows.specs.declared.rows.TheConstants.{LOG_LIMIT}
 use Rattle.index_state.specs.Complete.{IsScan}
+use Rattle.index_state.specs.Invariant.{AreTrueRows}
+use Rattle.index_state.specs.Opening.{IsFirstBad, IsOverfull, current, made_swept}
 use Rattle.index_state.specs.Plan.{plan_of}
-use Rattle.tree_trait.specs.Asks.{IsTold}
-use Rattle.tree_trait.specs.Found.{Versions}
-use Rattle.tree_trait.specs.Heard.{Heard, load, with_answers}
-use Rattle.tree_trait.specs.Load.{LoadFacts, loaded, too_large, gone, failed, FitsLoad}
-use Rattle.tree_trait.specs.Reader.{IsRowOf}
-use Rattle.tree_trait.specs.Shown.{ShownTree}
-use Rattle.tree_walk.specs.Ends.{IsWholeWalk, Walks}
-use Rattle.tree_walk.specs.Files.{AreFilesUnder, FitsFault}
+use Rattle.index_state.specs.declared.open_fault.OpenFault.{OpenFault}
+use Rattle.index_state.specs.declared.open_fault.OpenFault.TheVariants as refusal
+use Rattle.tree_trait.specs.Heard.{Heard}
+use Rattle.tree_trait.specs.Shown.{HandsOn, ShownTree}
+use Rattle.tree_walk.specs.Ends.{Walks}
+use Rattle.tree_walk.specs.Files.{FitsFault}
 use Rattle.tree_walk.specs.declared.fault.WalkFault.{WalkFault}
 use Rattle.tree_walk.specs.declared.walked.Walk.{Walk}
-use Rattle.dbgd_run.specs.Kept.{HasKept, HasTorn, KeepsAll}
-use Rattle.dbgd_run.specs.Numbers.{summary_of}
+use Rattle.pass_runner.specs.Numbers.{summary_of}
+use Rattle.pass_runner.specs.Owned.{HandsGo, HearsPass, Helps, TellsStill}
+use Rattle.pass_runner.specs.Settled.{IsBacked, IsReadOf, MayGo}
+use Rattle.pass_runner.specs.declared.pass_end.PassEnd.{PassEnd}
+use Rattle.pass_runner.specs.declared.pass_end.PassEnd.TheVariants as pass
+use Rattle.pass_runner.specs.declared.summary.Summary.{Summary}
+use Rattle.dbgd_run.specs.Kept.{GivesValues, HasRows, HoldsRows, KeepsAll, LacksFirst, MakesChanges}
+use Rattle.dbgd_run.specs.Kept.{MayHaveRows}
 use Rattle.dbgd_run.specs.ScanSaid.{SaysEnd, is_hand_fault, is_open, is_store_fault}
-use Rattle.dbgd_run.specs.Scene.{LeavesHand, Scene, Setting, TellsStill}
+use Rattle.dbgd_run.specs.Scene.{FirstGoes, FirstRose, Scene, Setting}
 use Rattle.dbgd_run.specs.declared.scan_end.ScanEnd.{ScanEnd}
-use Rattle.dbgd_run.specs.declared.scan_end.ScanEnd.TheVariants.{Unopened, Filled, Unlisted, Unread}
-use Rattle.dbgd_run.specs.declared.scan_end.ScanEnd.TheVariants.{Altered, Unkept, OutOfMemory}
-use Rattle.dbgd_run.specs.declared.scan_end.ScanEnd.TheVariants.{Whole}
+use Rattle.dbgd_run.specs.declared.scan_end.ScanEnd.TheVariants.{Refused, Passed}
 use Rattle.dbgd_run.specs.declared.status.Status.{Status}
-use Rattle.dbgd_run.specs.declared.summary.Summary.{Summary}
 
--- a listed file that was read: its name, what its load answered, and its row
-pub record FileRead : Type 0 where
-  pub name : NameFacts
-  pub answer : LoadFacts
-  pub row : RowFacts
+-- the store gave these values, no index is opened on them, and all is as it was
+pub record RefusesValues (told : Bool) (old new : ShownStore)
+    (Why : List KeptFacts → Type 0) : Type 0 where
+  pub values : List KeptFacts
+  pub gave : GivesValues told old values
+  pub why : Why values
+  pub keeps : KeepsAll told old new
 
--- the load found the file that was listed, and the row says what it is
-abbrev pub Reads : NameFacts → LoadFacts → RowFacts → Type 0
-Reads name (loaded found) row = (found.stamp ≡ name.stamp) × IsRowOf name found.bytes row
-Reads name (too_large stamp) row = (stamp ≡ name.stamp) × (row ≡ too_large_row name)
-Reads name _ row = ⊥
-
--- the load found the file that was listed
-abbrev pub FindsListed : NameFacts → LoadFacts → Type 0
-FindsListed name (loaded found) = found.stamp ≡ name.stamp
-FindsListed name (too_large stamp) = stamp ≡ name.stamp
-FindsListed name _ = ⊥
-
--- the load found this in place of the file that was listed
-abbrev pub FindsOther : NameFacts → LoadFacts → Seen → Type 0
-FindsOther name (loaded found) met = (found.stamp ≢ name.stamp) × (met ≡ seen.File found.stamp)
-FindsOther name (too_large stamp) met = (stamp ≢ name.stamp) × (met ≡ seen.File stamp)
-FindsOther name gone met = met ≡ seen.Gone
-FindsOther name _ met = ⊥
-
--- the file was read
-pub record IsFileRead (version : Versions) (file : FileRead) : Type 0 where
-  pub asked : FitsLoad version file.name.path FILE_LIMIT file.answer
-  pub read : Reads file.name file.answer file.row
-
--- the names of the files, in order
-abbrev pub names_read : List FileRead → List NameFacts
-names_read files = map (λ file. file.name) files
-
--- the rows of the files, in order
-abbrev pub rows_read : List FileRead → List RowFacts
-rows_read files = map (λ file. file.row) files
-
--- a listed file that was loaded: its name, and what its load answered
-pub record FileLoaded : Type 0 where
-  pub name : NameFacts
-  pub answer : LoadFacts
-
--- the file was loaded, as it was listed
-pub record IsFileLoaded (version : Versions) (file : FileLoaded) : Type 0 where
-  pub asked : FitsLoad version file.name.path FILE_LIMIT file.answer
-  pub finds : FindsListed file.name file.answer
-
--- the load of a listed file, as a tree tells it
-abbrev pub load_of : NameFacts → LoadFacts → Heard
-load_of name answer = load name.path FILE_LIMIT answer
-
--- the loads of the files, in order
-abbrev pub loads_read : List FileRead → List Heard
-loads_read files = map (λ file. load_of file.name file.answer) files
-
--- the walk was whole, and then the files of its listing were loaded and read, in its order; these names are left of it,
--- and this was heard last; of a hand that tells files which never change, these are the files under the roots
-pub record ReadsFiles (s : Setting) (roots : List (List ℕ)) (before after : ShownTree)
-    (files : List FileRead) (left : List NameFacts) (last : List Heard) : Type 0 where
-  pub walk : Walk
-  pub walked : List Heard
-  pub whole : IsWholeWalk walked roots walk
-  pub listed : walk.listing ≡ names_read files ++ left
-  pub read : All (IsFileRead s.world.version) files
-  pub heard : after.heard ≡ with_answers before.heard (walked ++ (loads_read files ++ last))
-  pub told :
-      TellsStill s.tells_files before
-      → All (IsTold before.present) (walked ++ (loads_read files ++ last))
-  pub under : TellsStill s.tells_files before → AreFilesUnder before.present roots walk.listing
-
--- the ends of a scan whose walk was whole. Read says which files were read, which names are left, and what was heard
--- last; Kept, which rows the store has kept
-
--- the load of the next file failed
-pub record EndsUnread (Read : List FileRead → List NameFacts → List Heard → Type 0)
-    (Kept : List RowFacts → Type 0) : Type 0 where
-  pub files : List FileRead
-  pub name : NameFacts
-  pub left : List NameFacts
-  pub reads : Read files (name ∷ left) (load_of name failed ∷ [])
-  pub keeps : Kept (rows_read files)
-
--- the next file was another by the time that it was loaded
-pub record EndsAltered (Read : List FileRead → List NameFacts → List Heard → Type 0)
-    (Kept : List RowFacts → Type 0) (name : NameFacts) (met : Seen) : Type 0 where
-  pub files : List FileRead
-  pub answer : LoadFacts
-  pub left : List NameFacts
-  pub reads : Read files (name ∷ left) (load_of name answer ∷ [])
-  pub finds : FindsOther name answer met
-  pub keeps : Kept (rows_read files)
-
--- the next file was read, and the store failed to keep its row
-pub record EndsUnkept (version : Versions)
-    (Read : List FileRead → List NameFacts → List Heard → Type 0)
-    (Torn : List RowFacts → RowFacts → Type 0) : Type 0 where
-  pub files : List FileRead
-  pub last : FileRead
-  pub left : List NameFacts
-  pub reads : Read files (last.name ∷ left) (loads_read (last ∷ []))
-  pub read : IsFileRead version last
-  pub tears : Torn (rows_read files) last.row
-
--- memory was refused before the next file was loaded, or for the row of the file that was loaded last
-pub record EndsWanting (version : Versions)
-    (Read : List FileRead → List NameFacts → List Heard → Type 0)
-    (Kept : List RowFacts → Type 0) : Type 0 where
-  pub files : List FileRead
-  pub last : List FileLoaded
-  pub left : List NameFacts
-  pub few : length last ≤ 1
-  pub reads :
-      Read files (map (λ file. file.name) last ++ left)
-      (map (λ file. load_of file.name file.answer) last)
-  pub loaded : All (IsFileLoaded version) last
-  pub keeps : Kept (rows_read files)
-
--- each listed file was read and its row kept: the rows are true and have the listed names; in a told world they are one
--- scan of the listing. The numbers are those of the plan against the rows before, of which there were none
-pub record EndsScanned (world : Rules) (Read : List FileRead → List NameFacts → List Heard → Type 0)
-    (Kept : List RowFacts → Type 0) (summary : Summary) : Type 0 where
-  pub files : List FileRead
-  pub reads : Read files [] []
-  pub keeps : Kept (rows_read files)
-  pub names : row_names (rows_read files) ≡ names_read files
-  pub holds : All world.true_row (rows_read files)
-  pub scan : world.told ≡ true → IsScan world.true_row (names_read files) (rows_read files)
-  pub numbers : summary ≡ summary_of (plan_of (names_read files) []) (rows_read files)
-
--- how the scan of an open store came to its end; Walk says it of a walk that ended with a fault. A log that was empty has
--- room for a whole listing
-abbrev pub EndsOpen : Rules → (WalkFault → Type 0)
-    → (List FileRead → List NameFacts → List Heard → Type 0)
-    → (List RowFacts → Type 0) → (List RowFacts → RowFacts → Type 0) → ScanEnd → Type 0
-EndsOpen world Walk Read Kept Torn (Unlisted fault) = Walk fault
-EndsOpen world Walk Read Kept Torn Unread = EndsUnread Read Kept
-EndsOpen world Walk Read Kept Torn (Altered name met) = EndsAltered Read Kept name met
-EndsOpen world Walk Read Kept Torn Unkept = EndsUnkept world.version Read Torn
-EndsOpen world Walk Read Kept Torn OutOfMemory = EndsWanting world.version Read Kept
-EndsOpen world Walk Read Kept Torn (Whole summary) = EndsScanned world Read Kept summary
-EndsOpen world Walk Read Kept Torn _ = ⊥
-
--- the walk ended with a fault, which files that never change explain, and nothing was kept
-pub record EndsInWalk (s : Setting) (roots : List (List ℕ)) (before after : ShownTree)
-    (old new : ShownStore) (fault : WalkFault) : Type 0 where
-  pub walks : Walks s.tells_files before after roots (Err fault)
-  pub fits : TellsStill s.tells_files before → FitsFault before.present roots fault
-  pub keeps : HasKept s.tells_tables old new []
+-- why no index was opened, and what the store has then
+abbrev pub RefusesBy : Bool → ShownStore → ShownStore → OpenFault → Type 0
+RefusesBy told old new refusal.KeeperFault = LacksFirst told old new
+RefusesBy told old new (refusal.BadRow kept fault) =
+    RefusesValues told old new (λ values. IsFirstBad values kept fault)
+RefusesBy told old new refusal.LogFull = RefusesValues told old new IsOverfull
+RefusesBy told old new refusal.OutOfMemory = LacksFirst told old new
 
 -- the scan ended before a folder was looked at
-pub record EndsEarly (s : Setting) (before after : ShownTree) (old new : ShownStore) : Type 0 where
-  pub hand : LeavesHand before after
-  pub keeps : KeepsAll s.tells_tables old new
+pub record EndsEarly {T : Type 0} (s : Setting T) (before after : List T) (old new : ShownStore)
+    (fault : OpenFault) : Type 0 where
+  pub hands : after ≡ before
+  pub store : RefusesBy s.tells_tables old new fault
 
--- it ended there since the store held something
-pub record EndsFilled (s : Setting) (before after : ShownTree) (old new : ShownStore) : Type 0 where
-  pub early : EndsEarly s before after old new
-  pub filled : IsTrue s.tells_tables → old.tables ≢ []
+-- the walk ended so, and the store has the rows of the edition that it held
+pub record EndsInWalk {T : Type 0} (s : Setting T) (before after : List T) (old new : ShownStore)
+    (Walked : ShownTree → ShownTree → Type 0) : Type 0 where
+  pub found : List RowFacts
+  pub held : HoldsRows s.tells_tables old found
+  pub hands : FirstGoes (λ hand later. Walked (s.sees hand) (s.sees later)) before after
+  pub has : HasRows s.tells_tables new (current found)
+  pub made : new.made ≡ made_swept found old.made
 
--- how the scan of an open store came to its end, and what it left
-abbrev pub EndsOver : Setting → List (List ℕ) → ShownTree → ShownTree → ShownStore → ShownStore
-    → ScanEnd → Type 0
-EndsOver s roots before after old new end =
-    EndsOpen s.world (EndsInWalk s roots before after old new) (ReadsFiles s roots before after)
-    (HasKept s.tells_tables old new) (HasTorn s.tells_tables old new) end
+-- the walk ended with a fault, which files that never change explain
+pub record WalksInto (told : Bool) (roots : List (List ℕ)) (fault : WalkFault)
+    (before after : ShownTree) : Type 0 where
+  pub walks : Walks told before after roots (Err fault)
+  pub fits : TellsStill told before → FitsFault before.present roots fault
+
+-- the walk was whole
+pub record WalksWhole (told : Bool) (roots : List (List ℕ)) (before after : ShownTree) : Type 0 where
+  pub walk : Walk
+  pub walks : Walks told before after roots (Ok walk)
+
+-- the pass was made: the store held the rows that were found, and those that are left are true. The first hand heard a
+-- whole walk, and then nothing but loads of listed files whose names had no row of the edition and looks under the
+-- folders; no other hand heard anything else than these loads and looks. No row of a listed name went; a row whose path
+-- isn't listed and lies under a folder went only where the first hand heard a look that did not find its file; a row that
+-- wasn't there says what a load found
+pub record MakesPass {T : Type 0} (s : Setting T) (roots : List (List ℕ)) (before after : List T)
+    (old new : ShownStore)
+    (Ends : List NameFacts → List Heard → List RowFacts → List RowFacts → Type 0) : Type 0 where
+  pub found : List RowFacts
+  pub held : HoldsRows s.tells_tables old found
+  pub left : List RowFacts
+  pub sound : AreTrueRows s.world.true_row left
+  pub made : MakesChanges s.world.true_row found old.made new.made
+  pub walk : Walk
+  pub walked : List Heard
+  pub more : List Heard
+  pub hands :
+      HandsGo
+      (λ hand later. HearsPass s.tells_files s.world.version roots (row_names (current found)) walk
+      walked more (s.sees hand) (s.sees later))
+      (λ hand later. Helps s.world.version walk.listing roots (row_names (current found))
+      (s.sees hand) (s.sees later)) before after
+  pub stays : (name : NameFacts) → is_in walk.listing name ≡ true
+      → is_in (row_names (current found)) name ≡ true → is_in (row_names left) name ≡ true
+  pub goes : (name : NameFacts) → is_in (row_names (current found)) name ≡ true
+      → is_in (row_names left) name ≡ false → MayGo walk.listing roots more name
+  pub brings : All (λ row. Contains (current found) row ⊎ IsReadOf more row) left
+  pub ends : Ends walk.listing more (current found) left
+
+-- the scan is whole: the rows have the listed names, in a told world they are one scan of the listing, the store has
+-- them and nothing else, and the numbers are those of the plan against the rows of the edition that it held
+pub record IsWholeScan (world : Rules) (told : Bool) (new : ShownStore) (summary : Summary)
+    (listing : List NameFacts) (found left : List RowFacts) : Type 0 where
+  pub names : row_names left ≡ listing
+  pub scan : world.told ≡ true → IsScan world.true_row listing left
+  pub has : HasRows told new left
+  pub numbers : summary ≡ summary_of (plan_of listing (row_names found)) left
+
+-- a name was missed for a reason, and the store has the rows that are left
+pub record MissesName (told : Bool) (new : ShownStore) (Failed : Type 0) (miss : Miss)
+    (listing : List NameFacts) (more : List Heard) (left : List RowFacts) : Type 0 where
+  pub path : IsCanonPath miss.name.path
+  pub why : IsBacked listing more Failed miss.name miss.cause
+  pub has : HasRows told new left
+
+-- the log of the changes that lead to the rows has no room, and they aren't those of the listing
+pub record IsOutOfChanges (told : Bool) (new : ShownStore) (listing : List NameFacts)
+    (left : List RowFacts) : Type 0 where
+  pub log : List Change
+  pub names : row_names left ≡ replay log
+  pub full : length log ≡ LOG_LIMIT
+  pub apart : row_names left ≢ listing
+  pub has : HasRows told new left
+
+-- how the pass of a scan ended, and what it left
+abbrev pub EndsPassed : {T : Type 0} → Setting T → List (List ℕ) → List T → List T → ShownStore
+    → ShownStore → PassEnd → Type 0
+EndsPassed s roots before after old new (pass.Whole summary) =
+    MakesPass s roots before after old new
+    (λ listing more found left. IsWholeScan s.world s.tells_tables new summary listing found left)
+EndsPassed s roots before after old new (pass.Missed miss) =
+    MakesPass s roots before after old new
+    (λ listing more found left. MissesName s.tells_tables new (FirstRose s before after) miss
+    listing more left)
+EndsPassed s roots before after old new (pass.Walk fault) =
+    EndsInWalk s before after old new (WalksInto s.tells_files roots fault)
+EndsPassed s roots before after old new pass.Broken = ⊥
+EndsPassed s roots before after old new pass.KeeperFault =
+    MakesPass s roots before after old new
+    (λ listing more found left. MayHaveRows s.world.true_row s.tells_tables new left)
+EndsPassed s roots before after old new pass.LogFull =
+    MakesPass s roots before after old new
+    (λ listing more found left. IsOutOfChanges s.tells_tables new listing left)
+EndsPassed s roots before after old new pass.OutOfMemory =
+    EndsInWalk s before after old new (WalksWhole s.tells_files roots)
+    ⊎ MakesPass s roots before after old new
+    (λ listing more found left. HasRows s.tells_tables new left)
 
 -- how the scan came to its end, and what it left
-abbrev pub EndsBy : Setting → List (List ℕ) → ShownTree → ShownTree → ShownStore → ShownStore
-    → ScanEnd → Type 0
-EndsBy s roots before after old new Unopened = EndsEarly s before after old new
-EndsBy s roots before after old new Filled = EndsFilled s before after old new
-EndsBy s roots before after old new OutOfMemory =
-    EndsEarly s before after old new ⊎ EndsOver s roots before after old new OutOfMemory
-EndsBy s roots before after old new end = EndsOver s roots before after old new end
+abbrev pub EndsBy : {T : Type 0} → Setting T → List (List ℕ) → List T → List T → ShownStore
+    → ShownStore → ScanEnd → Type 0
+EndsBy s roots before after old new (Refused fault) = EndsEarly s before after old new fault
+EndsBy s roots before after old new (Passed end) = EndsPassed s roots before after old new end
 
 -- the store was opened once, by this path; where memory was refused, once or not at all
 abbrev pub OpensBy : List ℕ → ShownStore → ShownStore → ScanEnd → Type 0
-OpensBy path old new OutOfMemory = (new.paths ≡ old.paths) ⊎ (new.paths ≡ with_path path old.paths)
+OpensBy path old new (Refused refusal.OutOfMemory) =
+    (new.paths ≡ old.paths) ⊎ (new.paths ≡ with_path path old.paths)
 OpensBy path old new _ = new.paths ≡ with_path path old.paths
 
 -- the scan came to this end, by then the store was opened, and a call failed only where a count rose
-pub record Scans (s : Setting) (path : List ℕ) (roots : List (List ℕ))
-    (before after : ShownTree) (old new : ShownStore) (end : ScanEnd) : Type 0 where
+pub record Scans {T : Type 0} (s : Setting T) (path : List ℕ) (roots : List (List ℕ))
+    (before after : List T) (old new : ShownStore) (end : ScanEnd) : Type 0 where
   pub ends : EndsBy s roots before after old new end
-  pub hand : HasCause before.faults after.faults (IsTrue (is_hand_fault end))
+  pub hands :
+      HandsGo
+      (λ hand later. HandsOn s.tells_files s.world.version (s.sees hand) (s.sees later) ⊥
+      (IsTrue (is_hand_fault end)))
+      (λ hand later. HandsOn s.tells_files s.world.version (s.sees hand) (s.sees later) ⊥ ⊥)
+      before after
   pub store : HasCause old.faults new.faults (IsTrue (is_store_fault end))
   pub later : old.epoch ≤ new.epoch
   pub opened : IsTrue (is_open end) → Rose old.epoch new.epoch
   pub opens : OpensBy path old new end
 
 -- the scan came to an end, and it was said
-pub record RunsScan (s : Setting) (path : List ℕ) (roots : List (List ℕ))
-    (before after : Scene) (status : Status) : Type 0 where
+pub record RunsScan {T : Type 0} (s : Setting T) (path : List ℕ) (roots : List (List ℕ))
+    (before after : Scene T) (status : Status) : Type 0 where
   pub end : ScanEnd
-  pub scans : Scans s path roots before.hand after.hand before.store after.store end
+  pub scans : Scans s path roots before.hands after.hands before.store after.store end
   pub said : SaysEnd end before.streams after.streams status

@@ -11,7 +11,7 @@ use Rattle.row_types.specs.Name.{NameFacts}
 use Rattle.row_types.specs.Stamp.{StampFacts}
 use Rattle.scan_queue.specs.declared.miss.Seen.{Seen}
 use Rattle.scan_queue.specs.declared.miss.Seen.TheVariants.{Gone, File, Other}
-use Rattle.dbgd_run.specs.declared.summary.Summary.{Summary}
+use Rattle.pass_runner.specs.declared.summary.Summary.{Summary}
 
 -- a text with its line feed
 abbrev pub line : List ℕ → List ℕ
@@ -68,6 +68,11 @@ abbrev pub altered_text : NameFacts → Seen → List ℕ
 altered_text name seen =
     codes "dbgd: altered " ++ name.path ++ codes " listed " ++ stamp_text name.stamp
     ++ codes " seen " ++ seen_text seen
+
+-- the file of a row stands though it isn't listed
+abbrev pub appeared_text : NameFacts → List ℕ
+appeared_text name =
+    codes "dbgd: appeared " ++ name.path ++ codes " " ++ stamp_text name.stamp
 
 -- the line of a scan
 abbrev pub summary_line : Summary → List ℕ

@@ -3,9 +3,7 @@
 #![tactic(auto)]
 
 mod ident;
-mod listed;
 mod outside;
-mod pass;
 mod roots;
 mod scan;
 mod scan_end;
@@ -15,7 +13,6 @@ mod section;
 mod sources;
 mod speech;
 mod status;
-mod summary;
 #[cfg(test)]
 mod tests;
 mod texts;

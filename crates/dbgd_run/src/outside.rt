@@ -1,6 +1,6 @@
 //! The top call: all that the program does with what is handed in.
 
-ghost use Rattle.std.specs.Prelude.{◌≡◌, ◌<◌, drop, map, vec_len, slice_index_or, IfSome, IsSome};
+ghost use Rattle.std.specs.Prelude.{◌≡◌, ◌<◌, drop, map, vec_len, IfSome, IsSome};
 ghost use Rattle.std.specs.String.{string_bytes};
 ghost use Rattle.row_types.specs.Rules.{rules};
 ghost use Rattle.dbgd_run.specs.Endings.{EndsWhole, streams};
@@ -55,11 +55,12 @@ fn run_line<W: ElfTruth, T: Tree<W>, S: Store<W>, O: Sink>(
     outside: &mut Outside<W, T, S, O>,
 ) -> Status
     requires { 0 < vec_len outside.old.hands }
-    ensures law { (d : T) → Runs (setting (rules W.version W.true_row W.told) T.told S.K.told)
+    ensures law { Runs
+        (setting (rules W.version W.true_row W.told) T.told T.shows S.K.told)
         (asked_by line.entry)
-        (scene (T.shows (slice_index_or outside.old.hands.items 0 d)) (S.shows outside.old.store)
+        (scene outside.old.hands.items (S.shows outside.old.store)
         (streams O.shows outside.old.out outside.old.err))
-        (scene (T.shows (slice_index_or outside.new.hands.items 0 d)) (S.shows outside.new.store)
+        (scene outside.new.hands.items (S.shows outside.new.store)
         (streams O.shows outside.new.out outside.new.err)) result }
     ensures hands { vec_len outside.new.hands ≡ vec_len outside.old.hands }
     ensures others { drop 1 outside.new.hands.items ≡ drop 1 outside.old.hands.items }
@@ -76,7 +77,7 @@ fn run_line<W: ElfTruth, T: Tree<W>, S: Store<W>, O: Sink>(
             alloc,
             store,
             &roots,
-            &mut outside.hands[0],
+            &mut outside.hands,
             &mut outside.store,
             out,
             err,
@@ -94,12 +95,12 @@ pub fn run_local<W: ElfTruth, T: Tree<W>, S: Store<W>, O: Sink>(
 ) -> Option<u8>
     requires { 0 < vec_len outside.old.hands }
     ensures some { IsSome result }
-    ensures run { (d : T) → IfSome result (IsRun
-        (setting (rules W.version W.true_row W.told) T.told S.K.told)
+    ensures run { IfSome result (IsRun
+        (setting (rules W.version W.true_row W.told) T.told T.shows S.K.told)
         (line_of (map string_bytes words.now))
-        (scene (T.shows (slice_index_or outside.old.hands.items 0 d)) (S.shows outside.old.store)
+        (scene outside.old.hands.items (S.shows outside.old.store)
         (streams O.shows outside.old.out outside.old.err))
-        (scene (T.shows (slice_index_or outside.new.hands.items 0 d)) (S.shows outside.new.store)
+        (scene outside.new.hands.items (S.shows outside.new.store)
         (streams O.shows outside.new.out outside.new.err))) }
     ensures hands { vec_len outside.new.hands ≡ vec_len outside.old.hands }
     ensures others { drop 1 outside.new.hands.items ≡ drop 1 outside.old.hands.items }
@@ -115,12 +116,11 @@ pub fn run<W: ElfTruth, T: Tree<W>, S: Store<W>, O: Sink>(
     outside: &mut Outside<W, T, S, O>,
 ) -> u8
     requires { 0 < vec_len outside.old.hands }
-    ensures run { (d : T) → IsRun
-        (setting (rules W.version W.true_row W.told) T.told S.K.told)
+    ensures run { IsRun (setting (rules W.version W.true_row W.told) T.told T.shows S.K.told)
         (line_of (map string_bytes words.now))
-        (scene (T.shows (slice_index_or outside.old.hands.items 0 d)) (S.shows outside.old.store)
+        (scene outside.old.hands.items (S.shows outside.old.store)
         (streams O.shows outside.old.out outside.old.err))
-        (scene (T.shows (slice_index_or outside.new.hands.items 0 d)) (S.shows outside.new.store)
+        (scene outside.new.hands.items (S.shows outside.new.store)
         (streams O.shows outside.new.out outside.new.err)) result }
     ensures hands { vec_len outside.new.hands ≡ vec_len outside.old.hands }
     ensures others { drop 1 outside.new.hands.items ≡ drop 1 outside.old.hands.items }

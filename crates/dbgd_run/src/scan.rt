@@ -1,86 +1,106 @@
 //! The command `scan`.
 
-ghost use Rattle.std.specs.Prelude.{IsTrue};
+ghost use Rattle.std.specs.Prelude.{◌≡◌, ◌<◌, drop, false, vec_len, IsTrue};
+ghost use Rattle.row_types.specs.Canon.{IsCanonPath};
 ghost use Rattle.row_types.specs.Faults.{HasCause};
 ghost use Rattle.row_types.specs.Rules.{rules};
 ghost use Rattle.index_keeper.specs.Store.{HasAll, ShownStore, TakesBack};
 ghost use Rattle.index_state.specs.Opening.{CanOpen};
+ghost use Rattle.tree_trait.specs.Shown.{HandsOn};
+ghost use Rattle.pass_runner.specs.Owned.{HandsGo, is_hand_fault as is_hand_fault_of};
 ghost use Rattle.dbgd_run.specs.Endings.{streams};
-ghost use Rattle.dbgd_run.specs.Scan.{EndsBy, EndsOpen, ReadsFiles, RunsScan, Scans};
+ghost use Rattle.dbgd_run.specs.Passing.{HasPath, ScansIndex};
+ghost use Rattle.dbgd_run.specs.Scan.{EndsBy, RunsScan, Scans};
 ghost use Rattle.dbgd_run.specs.ScanSaid.{is_hand_fault, is_store_fault};
-ghost use Rattle.dbgd_run.specs.ScanSteps.{EndsUnlisted, IsNew, KeepsFiles, TearsFiles};
 ghost use Rattle.dbgd_run.specs.Scene.{scene, setting};
 
-use crate::pass::scan_listing;
 use crate::roots::Roots;
 use crate::scan_end::ScanEnd;
 use crate::scan_sayings::say_end;
 use crate::status::Status;
-use elf_reading::ElfTruth;
+use elf_reading::{ElfReader, ElfTruth};
 use http_wire::Sink;
 use index_keeper::{Keeper, Store, StoreAnswer};
 use index_state::{OpenFault, State, open_state};
+use pass_runner::{PassEnd, scan_state};
 use row_types::CanonPath;
 use std::alloc::Global;
+use std::mem;
 use tree_trait::Tree;
-use tree_walk::{Walk, walk};
 
-/// Walks the folders, reads the listed files into an index without rows, and says how the scan
-/// ends.
-fn scan_roots<W: ElfTruth, T: Tree<W>, K: Keeper<W>>(
-    alloc: Global,
-    state: &mut State<W, K>,
-    roots: Vec<CanonPath>,
-    hand: &mut T,
-) -> ScanEnd
-    requires { IsNew state.old }
-    ensures ends { EndsOpen (rules W.version W.true_row W.told)
-        (EndsUnlisted T.told roots.items (T.shows hand.old) (T.shows hand.new) state.old state.new)
-        (ReadsFiles (setting (rules W.version W.true_row W.told) T.told K.told) roots.items
-        (T.shows hand.old) (T.shows hand.new))
-        (KeepsFiles K.shows state.old state.new)
-        (TearsFiles K.told K.shows state.old state.new) result }
-    ensures hand { HasCause (T.shows hand.old).faults (T.shows hand.new).faults
-        (IsTrue (is_hand_fault result)) }
-    ensures keeper { HasCause (K.shows state.old.keeper).faults (K.shows state.new.keeper).faults
-        (IsTrue (is_store_fault result)) }
+/// Shows that a path is one that is kept.
+fn show_path(path: &CanonPath)
+    ensures { IsCanonPath path.now }
 {
-    match walk(alloc, hand, roots.as_slice()) {
-        Ok(
-            Walk {
-                listing,
-                skipped: _,
-            },
-        ) => scan_listing(alloc, state, listing, roots, hand),
-        Err(fault) => ScanEnd::Unlisted(fault),
+    let _text = path.text();
+}
+
+/// Shows the same of the path of a name that was missed.
+fn show_end(end: &PassEnd)
+    ensures { HasPath end.now }
+{
+    if let PassEnd::Missed(miss) = end {
+        show_path(&miss.name.path);
     }
+}
+
+/// Lets an index make one pass over the folders, and hands its keeper out.
+fn scan_index<W: ElfTruth, T: Tree<W>, K: Keeper<W>>(
+    alloc: Global,
+    state: State<W, K>,
+    roots: &[CanonPath],
+    hands: &mut Vec<T>,
+) -> (PassEnd, K)
+    requires hand { 0 < vec_len hands.old }
+    requires sound { state.broken ≡ false }
+    ensures pass { ScansIndex (setting (rules W.version W.true_row W.told) T.told T.shows K.told)
+        K.shows roots.now hands.old.items hands.new.items state result.1 result.0 }
+    ensures hands { HandsGo
+        (λ hand later. HandsOn T.told W.version (T.shows hand) (T.shows later) ⊥
+        (IsTrue (is_hand_fault_of result.0)))
+        (λ hand later. HandsOn T.told W.version (T.shows hand) (T.shows later) ⊥ ⊥)
+        hands.old.items hands.new.items }
+    ensures keeper { HasCause (K.shows state.keeper).faults (K.shows result.1).faults
+        (result.0 ≡ PassEnd.KeeperFault) }
+    ensures count { vec_len hands.new ≡ vec_len hands.old }
+    ensures others { drop 1 hands.new.items ≡ drop 1 hands.old.items }
+{
+    let lent = mem::replace(hands, Vec::new(alloc));
+    let (state, back, end) = scan_state(alloc, state, lent, roots, &ElfReader);
+    *hands = back;
+    show_end(&end);
+    (end, state.into_keeper())
 }
 
 /// Scans the folders into the index on a keeper, and hands the keeper out.
 fn scan_keeper<W: ElfTruth, T: Tree<W>, K: Keeper<W>>(
     alloc: Global,
     keeper: K,
-    roots: Vec<CanonPath>,
-    hand: &mut T,
+    roots: &[CanonPath],
+    hands: &mut Vec<T>,
 ) -> (ScanEnd, K)
-    requires { CanOpen K.told (K.shows keeper) }
+    requires hand { 0 < vec_len hands.old }
+    requires opens { CanOpen K.told (K.shows keeper) }
     ensures ends { (from mid into : ShownStore) → HasAll K.told from (K.shows keeper)
         → TakesBack K.told (K.shows result.1) mid into
-        → EndsBy (setting (rules W.version W.true_row W.told) T.told K.told) roots.items
-        (T.shows hand.old) (T.shows hand.new) from into result.0 }
-    ensures hand { HasCause (T.shows hand.old).faults (T.shows hand.new).faults
-        (IsTrue (is_hand_fault result.0)) }
+        → EndsBy (setting (rules W.version W.true_row W.told) T.told T.shows K.told) roots.now
+        hands.old.items hands.new.items from into result.0 }
+    ensures hands { HandsGo
+        (λ hand later. HandsOn T.told W.version (T.shows hand) (T.shows later) ⊥
+        (IsTrue (is_hand_fault result.0)))
+        (λ hand later. HandsOn T.told W.version (T.shows hand) (T.shows later) ⊥ ⊥)
+        hands.old.items hands.new.items }
     ensures keeper { HasCause (K.shows keeper).faults (K.shows result.1).faults
         (IsTrue (is_store_fault result.0)) }
+    ensures count { vec_len hands.new ≡ vec_len hands.old }
+    ensures others { drop 1 hands.new.items ≡ drop 1 hands.old.items }
 {
     match open_state(alloc, keeper) {
-        Ok(mut state) => {
-            let end = scan_roots(alloc, &mut state, roots, hand);
-            (end, state.into_keeper())
+        Ok(state) => {
+            let (end, keeper) = scan_index(alloc, state, roots, hands);
+            (ScanEnd::Passed(end), keeper)
         }
-        Err((OpenFault::KeeperFault, keeper)) => (ScanEnd::Unopened, keeper),
-        Err((OpenFault::NotBuilt, keeper)) => (ScanEnd::Filled, keeper),
-        Err((OpenFault::OutOfMemory, keeper)) => (ScanEnd::OutOfMemory, keeper),
+        Err((fault, keeper)) => (ScanEnd::Refused(fault), keeper),
     }
 }
 
@@ -90,23 +110,27 @@ fn scan<W: ElfTruth, T: Tree<W>, S: Store<W>>(
     alloc: Global,
     path: &str,
     roots: &Roots<'_>,
-    hand: &mut T,
+    hands: &mut Vec<T>,
     store: &mut S,
 ) -> ScanEnd
-    ensures { Scans (setting (rules W.version W.true_row W.told) T.told S.K.told) path.now roots.now
-        (T.shows hand.old) (T.shows hand.new) (S.shows store.old) (S.shows store.new) result }
+    requires { 0 < vec_len hands.old }
+    ensures scans { Scans (setting (rules W.version W.true_row W.told) T.told T.shows S.K.told)
+        path.now roots.now hands.old.items hands.new.items (S.shows store.old) (S.shows store.new)
+        result }
+    ensures count { vec_len hands.new ≡ vec_len hands.old }
+    ensures others { drop 1 hands.new.items ≡ drop 1 hands.old.items }
 {
     let Ok(roots) = roots.paths(alloc) else {
-        return ScanEnd::OutOfMemory;
+        return ScanEnd::Refused(OpenFault::OutOfMemory);
     };
     match store.open_store(alloc, path) {
         StoreAnswer::Opened(keeper) => {
-            let (end, keeper) = scan_keeper(alloc, keeper, roots, hand);
+            let (end, keeper) = scan_keeper(alloc, keeper, roots.as_slice(), hands);
             store.give_back(keeper);
             end
         }
-        StoreAnswer::Failed => ScanEnd::Unopened,
-        StoreAnswer::OutOfMemory => ScanEnd::OutOfMemory,
+        StoreAnswer::Failed => ScanEnd::Refused(OpenFault::KeeperFault),
+        StoreAnswer::OutOfMemory => ScanEnd::Refused(OpenFault::OutOfMemory),
     }
 }
 
@@ -115,16 +139,19 @@ pub fn run_scan<W: ElfTruth, T: Tree<W>, S: Store<W>, O: Sink>(
     alloc: Global,
     path: &str,
     roots: &Roots<'_>,
-    hand: &mut T,
+    hands: &mut Vec<T>,
     store: &mut S,
     out: &mut O,
     err: &mut O,
 ) -> Status
-    ensures { RunsScan (setting (rules W.version W.true_row W.told) T.told S.K.told)
+    requires { 0 < vec_len hands.old }
+    ensures runs { RunsScan (setting (rules W.version W.true_row W.told) T.told T.shows S.K.told)
         path.now roots.now
-        (scene (T.shows hand.old) (S.shows store.old) (streams O.shows out.old err.old))
-        (scene (T.shows hand.new) (S.shows store.new) (streams O.shows out.new err.new)) result }
+        (scene hands.old.items (S.shows store.old) (streams O.shows out.old err.old))
+        (scene hands.new.items (S.shows store.new) (streams O.shows out.new err.new)) result }
+    ensures count { vec_len hands.new ≡ vec_len hands.old }
+    ensures others { drop 1 hands.new.items ≡ drop 1 hands.old.items }
 {
-    let end = scan(alloc, path, roots, hand, store);
+    let end = scan(alloc, path, roots, hands, store);
     say_end(alloc, &end, out, err)
 }

@@ -1,19 +1,50 @@
 //! What `scan` says, by how it ended.
 
 ghost use Rattle.dbgd_run.specs.Endings.{EndsWhole, streams};
-ghost use Rattle.dbgd_run.specs.ScanSaid.{SaysEnd, walk_saying};
-ghost use Rattle.dbgd_run.specs.declared.scan_end.ScanEnd.TheVariants.{Altered, Whole};
+ghost use Rattle.dbgd_run.specs.ScanSaid.{SaysEnd, SaysMiss, SaysPass, bad_row_saying};
+ghost use Rattle.dbgd_run.specs.ScanSaid.{refusal_saying, walk_saying};
+ghost use Rattle.pass_runner.specs.declared.pass_end.PassEnd.TheVariants.{Whole};
+ghost use Rattle.scan_queue.specs.declared.miss.Cause.TheVariants.{Altered, Appeared};
 
 use crate::scan_end::ScanEnd;
-use crate::scan_texts::{altered_text, summary_line};
-use crate::speech::{say, say_error, say_fault, say_gone, say_limit, say_no_memory, say_not_built};
+use crate::scan_texts::{altered_text, appeared_text, summary_line};
+use crate::speech::{say, say_error, say_fault, say_gone, say_limit, say_no_memory};
 use crate::status::Status;
-use crate::summary::Summary;
 use http_wire::Sink;
+use index_keeper::Kept;
+use index_state::OpenFault;
+use pass_runner::{PassEnd, Summary};
 use row_types::Name;
-use scan_queue::Seen;
+use scan_queue::{Cause, Seen};
 use std::alloc::Global;
 use tree_walk::WalkFault;
+
+/// Says that a kept value isn't a row under its path.
+fn say_bad_row<O: Sink>(kept: &Kept, out: &mut O, err: &mut O) -> Status
+    ensures { EndsWhole (bad_row_saying kept.now)
+        (streams O.shows out.old err.old) (streams O.shows out.new err.new) result }
+{
+    say_error(
+        "dbgd: bad row ",
+        kept.path.as_str(),
+        Status::BadRow,
+        out,
+        err,
+    )
+}
+
+/// Says why no index could be opened on a store.
+fn say_refusal<O: Sink>(fault: &OpenFault, out: &mut O, err: &mut O) -> Status
+    ensures { EndsWhole (refusal_saying fault.now)
+        (streams O.shows out.old err.old) (streams O.shows out.new err.new) result }
+{
+    match fault {
+        OpenFault::KeeperFault => say_fault("store", out, err),
+        OpenFault::BadRow { kept, fault: _ } => say_bad_row(kept, out, err),
+        OpenFault::LogFull => say_limit("changes", out, err),
+        OpenFault::OutOfMemory => say_no_memory(out, err),
+    }
+}
 
 /// Says why a walk ended.
 fn say_walk<O: Sink>(fault: &WalkFault, out: &mut O, err: &mut O) -> Status
@@ -31,7 +62,7 @@ fn say_walk<O: Sink>(fault: &WalkFault, out: &mut O, err: &mut O) -> Status
 
 /// Says what stood in a listed file's place.
 fn say_altered<O: Sink>(alloc: Global, name: &Name, seen: &Seen, out: &mut O, err: &mut O) -> Status
-    ensures { SaysEnd (Altered name.now seen.now)
+    ensures { SaysMiss name.now (Altered seen.now)
         (streams O.shows out.old err.old) (streams O.shows out.new err.new) result }
 {
     match altered_text(alloc, name, seen) {
@@ -40,14 +71,52 @@ fn say_altered<O: Sink>(alloc: Global, name: &Name, seen: &Seen, out: &mut O, er
     }
 }
 
+/// Says that the file of a row stands though it isn't listed.
+fn say_appeared<O: Sink>(alloc: Global, name: &Name, out: &mut O, err: &mut O) -> Status
+    ensures { SaysMiss name.now Appeared
+        (streams O.shows out.old err.old) (streams O.shows out.new err.new) result }
+{
+    match appeared_text(alloc, name) {
+        Ok(text) => say_error("", text.as_str(), Status::Altered, out, err),
+        Err(_) => say_no_memory(out, err),
+    }
+}
+
+/// Says why a name was missed.
+fn say_miss<O: Sink>(alloc: Global, name: &Name, cause: &Cause, out: &mut O, err: &mut O) -> Status
+    ensures { SaysMiss name.now cause.now
+        (streams O.shows out.old err.old) (streams O.shows out.new err.new) result }
+{
+    match cause {
+        Cause::ReadFault => say_fault("file", out, err),
+        Cause::Altered { seen } => say_altered(alloc, name, seen, out, err),
+        Cause::Appeared => say_appeared(alloc, name, out, err),
+    }
+}
+
 /// Says the numbers of a scan.
 fn say_summary<O: Sink>(alloc: Global, summary: &Summary, out: &mut O, err: &mut O) -> Status
-    ensures { SaysEnd (Whole summary.now)
+    ensures { SaysPass (Whole summary.now)
         (streams O.shows out.old err.old) (streams O.shows out.new err.new) result }
 {
     match summary_line(alloc, summary) {
         Ok(line) => say(line.as_bytes(), Status::Done, out, err),
         Err(_) => say_no_memory(out, err),
+    }
+}
+
+/// Says how a pass ended.
+fn say_pass<O: Sink>(alloc: Global, end: &PassEnd, out: &mut O, err: &mut O) -> Status
+    ensures { SaysPass end.now
+        (streams O.shows out.old err.old) (streams O.shows out.new err.new) result }
+{
+    match end {
+        PassEnd::Whole(summary) => say_summary(alloc, summary, out, err),
+        PassEnd::Missed(miss) => say_miss(alloc, &miss.name, &miss.cause, out, err),
+        PassEnd::Walk(fault) => say_walk(fault, out, err),
+        PassEnd::Broken | PassEnd::KeeperFault => say_fault("store", out, err),
+        PassEnd::LogFull => say_limit("changes", out, err),
+        PassEnd::OutOfMemory => say_no_memory(out, err),
     }
 }
 
@@ -57,13 +126,7 @@ pub fn say_end<O: Sink>(alloc: Global, end: &ScanEnd, out: &mut O, err: &mut O) 
         (streams O.shows out.old err.old) (streams O.shows out.new err.new) result }
 {
     match end {
-        ScanEnd::Unopened | ScanEnd::Unkept => say_fault("store", out, err),
-        ScanEnd::Filled => say_not_built(out, err),
-        ScanEnd::Unlisted(fault) => say_walk(fault, out, err),
-        ScanEnd::Unread => say_fault("file", out, err),
-        ScanEnd::Altered { name, seen } => say_altered(alloc, name, seen, out, err),
-        ScanEnd::Full => say_limit("changes", out, err),
-        ScanEnd::OutOfMemory => say_no_memory(out, err),
-        ScanEnd::Whole(summary) => say_summary(alloc, summary, out, err),
+        ScanEnd::Refused(fault) => say_refusal(fault, out, err),
+        ScanEnd::Passed(end) => say_pass(alloc, end, out, err),
     }
 }

@@ -2,11 +2,11 @@
 
 ghost use Rattle.std.specs.Prelude.{◌≡◌, ◌++◌, ◌≤◌, decimal, replicate, IfOk, OnOk};
 ghost use Rattle.std.specs.String.{string_bytes};
-ghost use Rattle.dbgd_run.specs.Texts.{altered_text, nine_digits, seen_text, stamp_text};
-ghost use Rattle.dbgd_run.specs.Texts.{summary_line};
+ghost use Rattle.dbgd_run.specs.Texts.{altered_text, appeared_text, nine_digits, seen_text};
+ghost use Rattle.dbgd_run.specs.Texts.{stamp_text, summary_line};
 
-use crate::summary::Summary;
 use itoa::Buffer;
+use pass_runner::Summary;
 use row_types::{Name, Stamp};
 use scan_queue::Seen;
 use std::alloc::{AllocError, Global};
@@ -74,6 +74,17 @@ pub fn altered_text(alloc: Global, name: &Name, seen: &Seen) -> Result<String, A
     text.push_str(stamp_text(alloc, &name.stamp)?.as_str())?;
     text.push_str(" seen ")?;
     text.push_str(seen_text(alloc, seen)?.as_str())?;
+    Ok(text)
+}
+
+/// The line of a file that stands though it isn't listed, but for its line feed.
+pub fn appeared_text(alloc: Global, name: &Name) -> Result<String, AllocError>
+    ensures { IfOk result (λ text. string_bytes text ≡ appeared_text name.now) }
+{
+    let mut text = String::from_str(alloc, "dbgd: appeared ")?;
+    text.push_str(name.path.text())?;
+    text.push_str(" ")?;
+    text.push_str(stamp_text(alloc, &name.stamp)?.as_str())?;
     Ok(text)
 }
 

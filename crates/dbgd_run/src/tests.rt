@@ -5,6 +5,7 @@ mod ends;
 mod files;
 mod hands;
 mod rig;
+mod rows;
 mod scans;
 mod words;
 mod worlds;

@@ -4,8 +4,10 @@ use crate::scan_end::ScanEnd;
 use crate::scan_sayings::say_end;
 use crate::tests::rig::compare;
 use http_wire::MemSink;
+use index_state::OpenFault;
+use pass_runner::PassEnd;
 use row_types::{CanonPath, Name, Stamp};
-use scan_queue::Seen;
+use scan_queue::{Cause, Miss, Seen};
 use std::alloc::Global;
 use std::process::Abort;
 use std::test::Fail;
@@ -25,11 +27,14 @@ fn says(rt: &impl Abort, alloc: Global, end: &ScanEnd, line: &str, status: u8) -
 #[test]
 fn each_limit_has_its_line(rt: HostRuntime) -> Result<(), Fail> {
     let alloc = rt.alloc();
-    let files = ScanEnd::Unlisted(WalkFault::TooMany);
+    let files = ScanEnd::Passed(PassEnd::Walk(WalkFault::TooMany));
     says(&rt, alloc, &files, "dbgd: limit files\n", 5)?;
-    let entries = ScanEnd::Unlisted(WalkFault::TooManyEntries);
+    let entries = ScanEnd::Passed(PassEnd::Walk(WalkFault::TooManyEntries));
     says(&rt, alloc, &entries, "dbgd: limit entries\n", 5)?;
-    says(&rt, alloc, &ScanEnd::Full, "dbgd: limit changes\n", 5)
+    let rows = ScanEnd::Refused(OpenFault::LogFull);
+    says(&rt, alloc, &rows, "dbgd: limit changes\n", 5)?;
+    let changes = ScanEnd::Passed(PassEnd::LogFull);
+    says(&rt, alloc, &changes, "dbgd: limit changes\n", 5)
 }
 
 /// The largest stamp of a file, seven nanoseconds after 1970.
@@ -49,10 +54,10 @@ fn altered(alloc: Global, seen: Seen) -> Result<ScanEnd, Fail> {
         secs: -2,
         nanos: 999_999_999,
     };
-    Ok(ScanEnd::Altered {
+    Ok(ScanEnd::Passed(PassEnd::Missed(Miss {
         name: Name { path, stamp },
-        seen,
-    })
+        cause: Cause::Altered { seen },
+    })))
 }
 
 #[test]

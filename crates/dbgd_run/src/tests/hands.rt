@@ -1,6 +1,7 @@
 //! The hands of the tests.
 
-ghost use Rattle.std.specs.Prelude.{◌≡◌, IfOk, IsTrue};
+ghost use Rattle.std.specs.Prelude.{◌≡◌, map, IfOk, IsTrue};
+ghost use Rattle.sample_world.specs.Samples.{sample_found};
 ghost use Rattle.tree_trait.specs.Script.{is_stage};
 
 use row_types::{OpenWorld, Stamp};
@@ -8,6 +9,7 @@ use sample_files::{
     ID_A, ID_B, big_endian_debug, both_classes, chosen_ids, debug_companion, dwarf_five,
     eight_aligned_notes, executable, extended_counts,
 };
+use sample_world::{REFERENCE_TREE, Sample};
 use std::alloc::{AllocError, Global};
 use std::test::Fail;
 use tree_trait::{DirAnswer, Found, LoadAnswer, MemTree, Script, StatAnswer, Tree, TwoWorld};
@@ -42,6 +44,16 @@ pub enum Files {
     One(File),
     /// `/srv/a` of both classes and `/srv/b`, a text.
     Two,
+    /// `/srv/a` of those two.
+    First,
+    /// Those two, of which `/srv/a` is a text by now.
+    Altered,
+    /// Those two, and `/srv/c` without bytes.
+    Three,
+    /// Of these `/srv/b` is longer by now, `/srv/c` is gone, and `/srv/d`, code, came.
+    Later,
+    /// Those two, and `/w/a` without bytes.
+    Wide,
 }
 
 /// A file's bytes.
@@ -108,6 +120,33 @@ fn files_of(alloc: Global, files: &Files) -> Result<Vec<Found<OpenWorld>>, Fail>
             let second = file_of(alloc, "/srv/b", Vec::from_slice(alloc, b"hello\n")?)?;
             Ok(vec![in alloc; first, second]?)
         }
+        Files::First => {
+            let found = file_of(alloc, "/srv/a", both_classes(alloc)?)?;
+            Ok(vec![in alloc; found]?)
+        }
+        Files::Altered => {
+            let first = file_of(alloc, "/srv/a", Vec::from_slice(alloc, b"hello!\n")?)?;
+            let second = file_of(alloc, "/srv/b", Vec::from_slice(alloc, b"hello\n")?)?;
+            Ok(vec![in alloc; first, second]?)
+        }
+        Files::Three => {
+            let first = file_of(alloc, "/srv/a", both_classes(alloc)?)?;
+            let second = file_of(alloc, "/srv/b", Vec::from_slice(alloc, b"hello\n")?)?;
+            let third = file_of(alloc, "/srv/c", Vec::new(alloc))?;
+            Ok(vec![in alloc; first, second, third]?)
+        }
+        Files::Later => {
+            let first = file_of(alloc, "/srv/a", both_classes(alloc)?)?;
+            let second = file_of(alloc, "/srv/b", Vec::from_slice(alloc, b"hello!\n")?)?;
+            let fourth = file_of(alloc, "/srv/d", executable(alloc)?)?;
+            Ok(vec![in alloc; first, second, fourth]?)
+        }
+        Files::Wide => {
+            let first = file_of(alloc, "/srv/a", both_classes(alloc)?)?;
+            let second = file_of(alloc, "/srv/b", Vec::from_slice(alloc, b"hello\n")?)?;
+            let other = file_of(alloc, "/w/a", Vec::new(alloc))?;
+            Ok(vec![in alloc; first, second, other]?)
+        }
     }
 }
 
@@ -117,6 +156,49 @@ pub fn hand_of(alloc: Global, files: &Files, bad: &[u64]) -> Result<MemTree<Open
         stages: vec![in alloc; files_of(alloc, files)?]?,
         moves: Vec::new(alloc),
         bad_calls: Vec::from_slice(alloc, bad)?,
+    };
+    Ok(MemTree::new(alloc, script))
+}
+
+/// A hand that has the first files, the next ones from the call of one number on, and the last ones
+/// from that of the other.
+pub fn turning(
+    alloc: Global,
+    files: &[Files; 3],
+    calls: [u64; 2],
+) -> Result<MemTree<OpenWorld>, Fail> {
+    let [first, next, last] = files;
+    let first = files_of(alloc, first)?;
+    let next = files_of(alloc, next)?;
+    let last = files_of(alloc, last)?;
+    let script = Script {
+        stages: vec![in alloc; first, next, last]?,
+        moves: Vec::from_slice(alloc, &calls)?,
+        bad_calls: Vec::new(alloc),
+    };
+    Ok(MemTree::new(alloc, script))
+}
+
+/// The files, in the open world.
+fn open_files(alloc: Global, samples: &[Sample]) -> Result<Vec<Found<OpenWorld>>, AllocError>
+    ensures { IfOk result (λ files. files.items ≡ map sample_found samples.now) }
+{
+    let mut files = Vec::with_capacity(alloc, samples.len())?;
+    for sample in samples {
+        let Found {
+            path, stamp, bytes, ..
+        } = sample.found(alloc)?;
+        files.push(Found::new(path, stamp, bytes))?;
+    }
+    Ok(files)
+}
+
+/// A hand of the open world that has the reference tree.
+pub fn reference(alloc: Global) -> Result<MemTree<OpenWorld>, Fail> {
+    let script = Script {
+        stages: vec![in alloc; open_files(alloc, &REFERENCE_TREE)?]?,
+        moves: Vec::new(alloc),
+        bad_calls: Vec::new(alloc),
     };
     Ok(MemTree::new(alloc, script))
 }

@@ -17,6 +17,7 @@ use tree_trait::Tree;
 /// When the objects around a hand fail: the call of the store from which on it fails, until it is
 /// opened again, those of its calls that fail once, the writes that fail on out and on err, and how
 /// many bytes a write takes at most.
+#[derive(Clone, Copy)]
 pub struct Plan<'a> {
     pub stop_at: Option<u64>,
     pub bad_calls: &'a [u64],
@@ -81,18 +82,27 @@ fn sink_of(alloc: Global, bad_writes: &[u64], width: usize) -> Result<Narrow, Fa
     })
 }
 
-/// The objects around a hand, by a plan. The store keeps nothing yet.
+/// A store that keeps nothing yet, by a plan.
+pub fn empty_store<W: ElfTruth + Send>(
+    alloc: Global,
+    plan: &Plan<'_>,
+) -> Result<MemStore<W>, Fail> {
+    let bad_calls = Vec::from_slice(alloc, plan.bad_calls)?;
+    Ok(MemStore::new(alloc, Vec::new(alloc), plan.stop_at, bad_calls))
+}
+
+/// The objects around a hand and a store, by a plan.
 pub fn outside_of<W: ElfTruth + Send, T: Tree<W>>(
     alloc: Global,
     hand: T,
+    store: MemStore<W>,
     plan: &Plan<'_>,
 ) -> Result<Memory<W, T>, Fail> {
-    let bad_calls = Vec::from_slice(alloc, plan.bad_calls)?;
     let mut hands = Vec::new(alloc);
     hands.push(hand)?;
     Ok(Outside {
         hands,
-        store: MemStore::new(alloc, Vec::new(alloc), plan.stop_at, bad_calls),
+        store,
         out: sink_of(alloc, plan.bad_out, plan.width)?,
         err: sink_of(alloc, plan.bad_err, plan.width)?,
         of: PhantomData::<W>,
@@ -131,7 +141,23 @@ fn run_once<W: ElfTruth + Send, T: Tree<W>>(
     Ok(())
 }
 
-/// Runs one after the other over a hand and the objects of a plan.
+/// Runs one after the other over a hand and a store.
+pub fn run_over<W: ElfTruth + Send, T: Tree<W>>(
+    rt: &impl Abort,
+    alloc: Global,
+    hand: T,
+    store: MemStore<W>,
+    plan: &Plan<'_>,
+    runs: &[Run<'_>],
+) -> Result<(), Fail> {
+    let mut outside = outside_of(alloc, hand, store, plan)?;
+    for case in runs {
+        run_once(rt, alloc, &mut outside, case)?;
+    }
+    Ok(())
+}
+
+/// Runs one after the other over a hand and the objects of a plan. The store keeps nothing yet.
 pub fn run_all<W: ElfTruth + Send, T: Tree<W>>(
     rt: &impl Abort,
     alloc: Global,
@@ -139,11 +165,7 @@ pub fn run_all<W: ElfTruth + Send, T: Tree<W>>(
     plan: &Plan<'_>,
     runs: &[Run<'_>],
 ) -> Result<(), Fail> {
-    let mut outside = outside_of(alloc, hand, plan)?;
-    for case in runs {
-        run_once(rt, alloc, &mut outside, case)?;
-    }
-    Ok(())
+    run_over(rt, alloc, hand, empty_store(alloc, plan)?, plan, runs)
 }
 
 /// Runs each case over a hand of the open world.

@@ -17,6 +17,11 @@ const LONG_WAY_NOWHERE: &[&str] = &["scan", "-d", "m", "/srv/../none/."];
 const TWO: &[u8] =
     b"scan: 2 files, 2 added, 0 replaced, 0 dropped, 0 kept, 1 executables, 1 debuginfo\n";
 
+/// That line, and then the line of a second scan of them.
+const TWICE: &[u8] =
+    b"scan: 2 files, 2 added, 0 replaced, 0 dropped, 0 kept, 1 executables, 1 debuginfo\n\
+    scan: 2 files, 0 added, 0 replaced, 0 dropped, 2 kept, 1 executables, 1 debuginfo\n";
+
 const GONE: &str = "dbgd: gone /none\n";
 
 const FOLDER_FAULT: &str = "dbgd: fault folder\n";
@@ -60,7 +65,7 @@ static TWO_FILES: [Case; 9] = [
         SOUND,
         &[
             Run(SCAN, TWO, "", 0),
-            Run(SCAN, TWO, "dbgd: not built yet\n", 8),
+            Run(SCAN, TWICE, "", 0),
         ],
     ),
 ];
@@ -113,22 +118,34 @@ const FAIL_3: Plan = Plan {
 /// The first scan, in which the store fails.
 const FAULT: Run = Run(SCAN, b"", STORE_FAULT, 1);
 
-/// The second scan, where the store kept nothing, and where it kept a row, which can't be read yet.
-const WHOLE: Run = Run(SCAN, TWO, STORE_FAULT, 0);
+/// The second scan, where the store kept nothing, one row, and both.
+const NONE: Run = Run(SCAN, TWO, STORE_FAULT, 0);
 
-const FILLED: Run = Run(SCAN, b"", "dbgd: fault store\ndbgd: not built yet\n", 8);
+const ONE: Run = Run(
+    SCAN,
+    b"scan: 2 files, 1 added, 0 replaced, 0 dropped, 1 kept, 1 executables, 1 debuginfo\n",
+    STORE_FAULT,
+    0,
+);
+
+const BOTH: Run = Run(
+    SCAN,
+    b"scan: 2 files, 0 added, 0 replaced, 0 dropped, 2 kept, 1 executables, 1 debuginfo\n",
+    STORE_FAULT,
+    0,
+);
 
 /// Scans with a store that fails. Its calls are its opening, its rows, and two puts; a put at an
 /// even number isn't made. It is opened before a folder is looked at.
 static STORES: [Case; 9] = [
-    Case(Two, &[], STOP_AT_0, &[FAULT, WHOLE]),
-    Case(Two, &[], STOP_AT_1, &[FAULT, WHOLE]),
-    Case(Two, &[], STOP_AT_2, &[FAULT, WHOLE]),
-    Case(Two, &[], STOP_AT_3, &[FAULT, FILLED]),
-    Case(Two, &[], FAIL_0, &[FAULT, WHOLE]),
-    Case(Two, &[], FAIL_1, &[FAULT, WHOLE]),
-    Case(Two, &[], FAIL_2, &[FAULT, WHOLE]),
-    Case(Two, &[], FAIL_3, &[FAULT, FILLED]),
+    Case(Two, &[], STOP_AT_0, &[FAULT, NONE]),
+    Case(Two, &[], STOP_AT_1, &[FAULT, NONE]),
+    Case(Two, &[], STOP_AT_2, &[FAULT, NONE]),
+    Case(Two, &[], STOP_AT_3, &[FAULT, BOTH]),
+    Case(Two, &[], FAIL_0, &[FAULT, NONE]),
+    Case(Two, &[], FAIL_1, &[FAULT, NONE]),
+    Case(Two, &[], FAIL_2, &[FAULT, NONE]),
+    Case(Two, &[], FAIL_3, &[FAULT, ONE]),
     Case(
         Two,
         &[],

@@ -2,7 +2,7 @@
 
 use crate::outside::run_local;
 use crate::tests::hands::{File, Files, hand_of};
-use crate::tests::rig::{Run, SOUND, outside_of, run_all, words_of};
+use crate::tests::rig::{Run, SOUND, empty_store, outside_of, run_all, words_of};
 use std::alloc::Global;
 use std::process::Abort;
 use std::test::Fail;
@@ -107,7 +107,7 @@ fn a_folder_has_at_most_4096_bytes(rt: HostRuntime) -> Result<(), Fail> {
 fn the_local_part_answers_every_line(rt: HostRuntime) -> Result<(), Fail> {
     let alloc = rt.alloc();
     let hand = hand_of(alloc, &Files::One(File::Empty), &[])?;
-    let mut outside = outside_of(alloc, hand, &SOUND)?;
+    let mut outside = outside_of(alloc, hand, empty_store(alloc, &SOUND)?, &SOUND)?;
     if outside.hands.is_empty() {
         return Err("a hand".into());
     }

@@ -1,7 +1,7 @@
 //! Runs over told worlds, and over trees of one answer.
 
 use crate::tests::hands::{Crowded, one_byte};
-use crate::tests::rig::{Run, SOUND, run_all};
+use crate::tests::rig::{Plan, Run, SOUND, run_all};
 use sample_world::{SampleWorld, changed_file_script, reference_script};
 use std::test::Fail;
 use tree_trait::MemTree;
@@ -73,6 +73,66 @@ fn the_sample_world_is_read_and_scanned(rt: HostRuntime) -> Result<(), Fail> {
     // The load comes after a look at the root, its entries, and a look at the file.
     let changed: MemTree<SampleWorld> = MemTree::new(alloc, changed_file_script(alloc, 3)?);
     run_all(&rt, alloc, changed, &SOUND, &CHANGED)
+}
+
+/// Twelve rows of the reference tree, and then the same rows.
+static TWICE: [Run; 2] = [
+    Run(
+        &["scan", "-d", "m", "/srv/bin", "/srv/debug", "/w"],
+        b"scan: 12 files, 12 added, 0 replaced, 0 dropped, 0 kept, 4 executables, 4 debuginfo\n",
+        "",
+        0,
+    ),
+    Run(
+        &["scan", "-d", "m", "/srv/bin", "/srv/debug", "/w"],
+        b"scan: 12 files, 12 added, 0 replaced, 0 dropped, 0 kept, 4 executables, 4 debuginfo\n\
+            scan: 12 files, 0 added, 0 replaced, 0 dropped, 12 kept, 4 executables, 4 debuginfo\n",
+        "",
+        0,
+    ),
+];
+
+#[test]
+fn a_second_scan_loads_nothing(rt: HostRuntime) -> Result<(), Fail> {
+    let alloc = rt.alloc();
+    // A walk makes 20 calls: three looks at the roots, five readings, twelve looks. Twelve loads
+    // follow, and then the second walk; each call behind it fails.
+    let bad_calls = Vec::from_slice(alloc, &[52, 53, 54, 55, 56, 57, 58, 59, 60, 61, 62, 63])?;
+    let script = reference_script(alloc, bad_calls)?;
+    let hand: MemTree<SampleWorld> = MemTree::new(alloc, script);
+    run_all(&rt, alloc, hand, &SOUND, &TWICE)
+}
+
+const FIVE: &[&str] = &["scan", "-d", "m", "/srv/debug", "/w/src"];
+
+/// The line of the scan after a stop at each call of the store: its opening, its rows, five puts.
+static AFTER_STOP: [&[u8]; 7] = [
+    b"scan: 5 files, 5 added, 0 replaced, 0 dropped, 0 kept, 0 executables, 2 debuginfo\n",
+    b"scan: 5 files, 5 added, 0 replaced, 0 dropped, 0 kept, 0 executables, 2 debuginfo\n",
+    b"scan: 5 files, 5 added, 0 replaced, 0 dropped, 0 kept, 0 executables, 2 debuginfo\n",
+    b"scan: 5 files, 3 added, 0 replaced, 0 dropped, 2 kept, 0 executables, 2 debuginfo\n",
+    b"scan: 5 files, 3 added, 0 replaced, 0 dropped, 2 kept, 0 executables, 2 debuginfo\n",
+    b"scan: 5 files, 1 added, 0 replaced, 0 dropped, 4 kept, 0 executables, 2 debuginfo\n",
+    b"scan: 5 files, 1 added, 0 replaced, 0 dropped, 4 kept, 0 executables, 2 debuginfo\n",
+];
+
+#[test]
+fn a_scan_after_a_stop_at_each_store_call_has_the_five_rows(rt: HostRuntime) -> Result<(), Fail> {
+    let alloc = rt.alloc();
+    let mut number = 0u64;
+    for line in &AFTER_STOP {
+        let plan = Plan {
+            stop_at: Some(number),
+            ..SOUND
+        };
+        let script = reference_script(alloc, Vec::new(alloc))?;
+        let hand: MemTree<SampleWorld> = MemTree::new(alloc, script);
+        let stopped = Run(FIVE, b"", "dbgd: fault store\n", 1);
+        let mended = Run(FIVE, line, "dbgd: fault store\n", 0);
+        run_all(&rt, alloc, hand, &plan, &[stopped, mended])?;
+        number = number.saturating_add(1);
+    }
+    Ok(())
 }
 
 /// What is said of the file of one byte, in a told world.

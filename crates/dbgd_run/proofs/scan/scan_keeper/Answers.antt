@@ -1,19 +1,25 @@
-use Rattle.std.proofs.Common.{subst}
+use Rattle.std.proofs.Common.{◌<◌, length, refl, arith}
 use Rattle.row_types.specs.Rules.{rules}
-use Rattle.index_keeper.specs.Store.{TakesBack}
 use Rattle.dbgd_run.specs.Scene.{setting}
-use Rattle.dbgd_run.proofs.ScanStore.{ends_opened}
+use Rattle.dbgd_run.proofs.HandLemmas.{hands_stay}
+use Rattle.dbgd_run.proofs.PassLemmas.{ends_passed}
+use Rattle.dbgd_run.proofs.StoreLemmas.{refused_by}
 use Rattle.dbgd_run.proofs.scan.scan_keeper.Goals as goal
 
 pub returns-in-Ok-clause-ends : goal.returns-in-Ok-clause-ends
 returns-in-Ok-clause-ends g c = λ from mid into has back.
-    ends_opened {K = g.row.K.Denot}
-    (setting (rules g.W.Truth.version g.W.Truth.true_row g.W.Truth.told) g.T.Tree.told g.K.Keeper.told) c.args.roots.items
-    (g.T.Tree.shows c.args.hand.now) (g.T.Tree.shows c.scan_roots-end.new.hand) c.scan_roots-end.result
-    (record {
-      opens = c.in-Ok.ensures.ok;
-      holds = c.into_keeper.ensures.holds;
-      has = has;
-      mid = mid;
-      back = subst (λ (k : g.row.K.Denot). TakesBack g.K.Keeper.told (g.K.Keeper.shows k) mid into) c.into_keeper.ensures.value back;
-    }) c.scan_roots-end.ensures.ends
+    ends_passed
+    (setting (rules g.W.Truth.version g.W.Truth.true_row g.W.Truth.told) g.T.Tree.told g.T.Tree.shows g.K.Keeper.told)
+    g.K.Keeper.shows c.args.roots.now c.args.hands.now.items c.scan_index-end.new.hands.items c.scan_index-end.result.0 c.in-Ok.ensures.ok
+    c.scan_index-end.ensures.pass c.scan_index-end.ensures.others has back
+
+pub returns-in-Err-clause-ends : goal.returns-in-Err-clause-ends
+returns-in-Err-clause-ends g c = λ from mid into has back. record {
+  hands = refl;
+  store = refused_by g.K.Keeper.told g.K.Keeper.shows has back c.in-Err.fault c.in-Err.ensures.err c.in-Err.ensures.left;
+}
+
+pub returns-in-Err-clause-hands : goal.returns-in-Err-clause-hands
+returns-in-Err-clause-hands g c =
+    let some : 0 < length c.args.hands.now.items = omega arith in
+    hands_stay g.T.Tree.told g.W.Truth.version g.T.Tree.shows c.args.hands.now.items some (λ e. absurd (cc))

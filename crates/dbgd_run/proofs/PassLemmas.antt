@@ -1,0 +1,197 @@
+-- The pass of a scan: what is said of the index that made it is said of the store that it came from and went to.
+use Rattle.std.proofs.Common.{◌≡◌, ◌⊎◌, inl, inr, ℕ, Bool, true, false, List, [], ◌∷◌, drop, Option, Some, sym, refl, ◌∙◌, ap, subst, IsTrue}
+use Rattle.std.specs.List.{All, AllZip, Contains}
+use Rattle.row_types.specs.Faults.{Rose}
+use Rattle.row_types.specs.Name.{NameFacts}
+use Rattle.row_types.specs.Row.{RowFacts}
+use Rattle.scan_queue.specs.Names.{is_in}
+use Rattle.scan_queue.specs.Pass.{PassFacts}
+use Rattle.index_keeper.specs.Answers.{for_rows, rows_in}
+use Rattle.index_keeper.specs.Keeper.{Asks, ShownKeeper}
+use Rattle.index_keeper.specs.Store.{HasAll, ShownStore, TakesBack}
+use Rattle.index_keeper.specs.Tables.{KeptFacts}
+use Rattle.index_keeper.specs.declared.answer.KeptAnswer.{KeptAnswer}
+use Rattle.index_keeper.specs.declared.answer.KeptAnswer.TheVariants as kept
+use Rattle.index_rows.specs.Rows.{row_names}
+use Rattle.index_rows.specs.declared.change.Change.{Change}
+use Rattle.index_state.specs.Changes.{TellsSince}
+use Rattle.index_state.specs.Invariant.{IndexInvariant}
+use Rattle.index_state.specs.Kept.{Agrees, IsInDoubt, IsInStore, IsNext, tables_of}
+use Rattle.index_state.specs.Opening.{Opens, current, made_swept}
+use Rattle.index_state.specs.Plan.{plan_of}
+use Rattle.index_state.specs.State.{Origin, StateFacts, pass_of}
+use Rattle.tree_trait.specs.Heard.{Heard}
+use Rattle.tree_trait.specs.Shown.{ShownTree}
+use Rattle.pass_runner.specs.Numbers.{summary_of}
+use Rattle.pass_runner.specs.Owned.{EndsPass, HandsGo, HearsPass, Helps, RunsPass}
+use Rattle.pass_runner.specs.Settled.{IsReadOf, MayGo}
+use Rattle.pass_runner.specs.declared.pass_end.PassEnd.{PassEnd}
+use Rattle.pass_runner.specs.declared.pass_end.PassEnd.TheVariants as ended
+use Rattle.dbgd_run.specs.Kept.{HasOneChange, HasRows, HoldsRows, MakesChanges, MayHaveRows}
+use Rattle.dbgd_run.specs.Passing.{HasPath, IsLent, ScansIndex}
+use Rattle.dbgd_run.specs.Scan.{EndsInWalk, EndsPassed, MakesPass}
+use Rattle.dbgd_run.specs.Scene.{FirstGoes, Setting}
+use Rattle.dbgd_run.proofs.HandLemmas.{others_stay}
+
+-- the values that a keeper gives are its tables
+pub gave_all : {tells : Bool} (before after : ShownKeeper) (answer : KeptAnswer) (values : List KeptFacts)
+    → Asks tells before after (for_rows answer) → rows_in answer ≡ Some values → IsTrue tells → values ≡ before.tables
+gave_all before after (kept.All rows) values asks gave told =
+    let given = asks.tells told in
+    let same : rows.items ≡ values = cc in
+    sym same ∙ given.whole ∙ given.stays.same
+gave_all before after _ values asks gave told = absurd (cc)
+
+-- with one change or without
+one_change : {true_row : RowFacts → Type 0} {void : Change} {rows : List RowFacts} {tables : List KeptFacts}
+    → (tables ≡ tables_of rows) ⊎ IsNext true_row void rows tables
+    → (tables ≡ tables_of rows) ⊎ HasOneChange true_row tables rows
+one_change (inl same) = inl same
+one_change {void = void} (inr next) = inr (record { change = void; next = next })
+
+module _ {K T : Type 0} (s : Setting T) {shows : K → ShownKeeper} {from into : ShownStore} {keeper : K} {old new : StateFacts K} (lent : IsLent s.tells_tables shows from into keeper old new) (holds : IndexInvariant s.world.true_row s.tells_tables shows new) where
+  found : List RowFacts
+  found = lent.opens.opened.rows
+
+  old_rows : old.rows ≡ current lent.opens.opened.rows
+  old_rows = ap (λ (st : StateFacts K). st.rows) lent.opens.opened.value
+
+  old_names : row_names old.rows ≡ row_names (current lent.opens.opened.rows)
+  old_names = ap row_names old_rows
+
+  held : HoldsRows s.tells_tables from lent.opens.opened.rows
+  held = record {
+    values = lent.opens.values;
+    gave = record {
+      by_path = lent.opens.gave.by_path;
+      tells = λ t.
+          gave_all (shows keeper) (shows lent.opens.asked) lent.opens.gave.answer lent.opens.values lent.opens.gave.heard lent.opens.gave.gave t
+          ∙ lent.has.tables t;
+    };
+    sound = lent.opens.opened.sound;
+    few = lent.opens.opened.few;
+  }
+
+  swept_made : (shows old.keeper).made ≡ made_swept lent.opens.opened.rows from.made
+  swept_made =
+      lent.opens.opened.swept.made ∙ ap (made_swept lent.opens.opened.rows) (lent.opens.gave.heard.grows ∙ lent.has.made)
+
+  old_made : old.origin.made ≡ made_swept lent.opens.opened.rows from.made
+  old_made = ap (λ (st : StateFacts K). st.origin.made) lent.opens.opened.value ∙ swept_made
+
+  made_since : new.origin.made ≡ old.origin.made
+      → MakesChanges s.world.true_row lent.opens.opened.rows from.made into.made
+  made_since same =
+      let since = holds.store_agrees_with_rows.since in
+      record {
+        changes = since.since;
+        each =
+            subst (λ after. TellsSince s.world.true_row since.since (made_swept lent.opens.opened.rows from.made) after) (sym lent.back.made)
+            (subst (λ first. TellsSince s.world.true_row since.since first (shows new.keeper).made) (same ∙ old_made) since.told);
+      }
+
+  has_rows : new.broken ≡ false → HasRows s.tells_tables into new.rows
+  has_rows sound = λ t.
+      let stands : IsInStore new.rows (shows new.keeper)
+      = subst (λ b. Agrees s.world.true_row b new.log new.rows (shows new.keeper)) sound (holds.store_agrees_with_rows.tables t) in
+      stands.settled.only into.tables (lent.back.image t) ∙ stands.same
+
+  may_have : new.broken ≡ true → MayHaveRows s.world.true_row s.tells_tables into new.rows
+  may_have broken = λ t.
+      let doubt : IsInDoubt s.world.true_row new.log new.rows (shows new.keeper)
+      = subst (λ b. Agrees s.world.true_row b new.log new.rows (shows new.keeper)) broken (holds.store_agrees_with_rows.tables t) in
+      one_change (doubt.each into.tables (lent.back.image t))
+
+  in_walk : {Walked : ShownTree → ShownTree → Type 0} {before after : List T} → new ≡ old
+      → FirstGoes (λ hand later. Walked (s.sees hand) (s.sees later)) before after
+      → EndsInWalk s before after from into Walked
+  in_walk same hands = record {
+    found = lent.opens.opened.rows;
+    held = held;
+    hands = hands;
+    has = λ t.
+        has_rows (ap (λ (st : StateFacts K). st.broken) (same ∙ lent.opens.opened.value)) t
+        ∙ ap (λ (st : StateFacts K). tables_of st.rows) same ∙ ap tables_of old_rows;
+    made = lent.back.made ∙ ap (λ (st : StateFacts K). (shows st.keeper).made) same ∙ swept_made;
+  }
+
+  makes : {roots : List (List ℕ)} {hand later : T} {hands left : List T} {Ends : List NameFacts → List Heard → Type 0}
+      {Into : List NameFacts → List Heard → List RowFacts → List RowFacts → Type 0}
+      (run : RunsPass s.world s.tells_files roots (s.sees hand) (s.sees later) old new Ends)
+      → AllZip (λ h l. Helps s.world.version (pass_of new.pass).listing roots (row_names old.rows) (s.sees h) (s.sees l)) hands left
+      → Into run.walk.listing run.more (current lent.opens.opened.rows) new.rows
+      → MakesPass s roots (hand ∷ hands) (later ∷ left) from into Into
+  makes {roots} {hand} {later} {hands} {left} run helps ends =
+      let listed : (pass_of new.pass).listing ≡ run.walk.listing
+      = ap (λ (p : Option PassFacts). (pass_of p).listing) run.leaves.is_open ∙ run.leaves.over in
+      record {
+        found = lent.opens.opened.rows;
+        held = held;
+        left = new.rows;
+        sound = holds.rows_sorted_and_true;
+        made = made_since (ap (λ (o : Origin). o.made) run.leaves.origin);
+        walk = run.walk;
+        walked = run.walked;
+        more = run.more;
+        hands = (
+          subst (λ names. HearsPass s.tells_files s.world.version roots names run.walk run.walked run.more (s.sees hand) (s.sees later)) old_names run.hears,
+          subst (λ names. AllZip (λ h l. Helps s.world.version run.walk.listing roots names (s.sees h) (s.sees l)) hands left) old_names
+          (subst (λ listing. AllZip (λ h l. Helps s.world.version listing roots (row_names old.rows) (s.sees h) (s.sees l)) hands left) listed helps)
+        );
+        stays = subst (λ names. (name : NameFacts) → is_in run.walk.listing name ≡ true → is_in names name ≡ true
+            → is_in (row_names new.rows) name ≡ true) old_names run.leaves.stays;
+        goes = subst (λ names. (name : NameFacts) → is_in names name ≡ true → is_in (row_names new.rows) name ≡ false
+            → MayGo run.walk.listing roots run.more name) old_names run.leaves.goes;
+        brings = subst (λ rows. All (λ row. Contains rows row ⊎ IsReadOf run.more row) new.rows) old_rows run.leaves.brings;
+        ends = ends;
+      }
+
+  -- how the pass ended is how the scan does
+  ends_by : (roots : List (List ℕ)) (hand later : T) (hands left : List T) (end : PassEnd) → HasPath end
+      → EndsPass s.world s.tells_files s.tells_tables shows roots (s.sees hand) (s.sees later) old new end
+      → AllZip (λ h l. Helps s.world.version (pass_of new.pass).listing roots (row_names old.rows) (s.sees h) (s.sees l)) hands left
+      → left ≡ hands → EndsPassed s roots (hand ∷ hands) (later ∷ left) from into end
+  ends_by roots hand later hands left (ended.Whole summary) path run helps same =
+      makes run helps (record {
+        names = run.ends.complete.names;
+        scan = run.ends.complete.scan;
+        has = has_rows run.ends.sound;
+        numbers = run.ends.numbers ∙ ap (λ names. summary_of (plan_of run.walk.listing names) new.rows) old_names;
+      })
+  ends_by roots hand later hands left (ended.Missed miss) path run helps same =
+      makes run helps (record { path = path; why = run.ends.why; has = has_rows run.ends.sound })
+  ends_by roots hand later hands left (ended.Walk fault) path ends helps same =
+      in_walk ends.same (record { walks = ends.walks; fits = ends.fits }, others_stay same)
+  ends_by roots hand later hands left ended.Broken path ends helps same = absurd ends
+  ends_by roots hand later hands left ended.KeeperFault path run helps same = makes run helps (may_have run.ends)
+  ends_by roots hand later hands left ended.LogFull path run helps same =
+      makes run helps (record {
+        log = new.log;
+        names = holds.rows_replay_the_log.names;
+        full = run.ends.full;
+        apart = λ listing.
+            run.ends.apart (listing ∙ sym (ap (λ (p : Option PassFacts). (pass_of p).listing) run.leaves.is_open ∙ run.leaves.over));
+        has = has_rows run.ends.sound;
+      })
+  ends_by roots hand later hands left ended.OutOfMemory path (inl early) helps same =
+      inl (in_walk early.same (record { walk = early.walk; walks = early.walks }, others_stay same))
+  ends_by roots hand later hands left ended.OutOfMemory path (inr run) helps same = inr (makes run helps (has_rows run.ends))
+
+  -- the same of the hands in order
+  pub ends_go : (roots : List (List ℕ)) (before after : List T) (end : PassEnd) → HasPath end
+      → HandsGo (λ hand later. EndsPass s.world s.tells_files s.tells_tables shows roots (s.sees hand) (s.sees later) old new end)
+      (λ hand later. Helps s.world.version (pass_of new.pass).listing roots (row_names old.rows) (s.sees hand) (s.sees later)) before after
+      → drop 1 after ≡ drop 1 before → EndsPassed s roots before after from into end
+  ends_go roots (hand ∷ hands) (later ∷ left) end path goes same = ends_by roots hand later hands left end path goes.0 goes.1 same
+  ends_go roots _ _ end path goes same = absurd goes
+
+-- the end of a scan over an index that was opened on a keeper
+pub ends_passed : {K T : Type 0} (s : Setting T) (shows : K → ShownKeeper) (roots : List (List ℕ)) (before after : List T)
+    {from mid into : ShownStore} {keeper given : K} {old : StateFacts K} (end : PassEnd)
+    → Opens s.tells_tables shows keeper old → ScansIndex s shows roots before after old given end
+    → drop 1 after ≡ drop 1 before → HasAll s.tells_tables from (shows keeper)
+    → TakesBack s.tells_tables (shows given) mid into → EndsPassed s roots before after from into end
+ends_passed {K} s shows roots before after {mid = mid} {into = into} end opens scans same has back =
+    ends_go s
+    (record { opens = opens; has = has; mid = mid; back = subst (λ (k : K). TakesBack s.tells_tables (shows k) mid into) scans.value back })
+    scans.holds roots before after end scans.path scans.pass same

@@ -1,0 +1,158 @@
+-- The store of a scan, around the index that was opened on it or wasn't.
+use Rattle.std.proofs.Common.{◌≡◌, ◌⊎◌, inl, inr, ℕ, ◌<◌, Bool, false, List, [], length, Option, Some, None, sym, refl, ◌∙◌, ap, subst, IsTrue, arith}
+use Rattle.std.proofs.lemmas.List.{append-nil}
+use Rattle.row_types.specs.Faults.{HasCause, Rose, summed}
+use Rattle.row_types.specs.Row.{RowFacts}
+use Rattle.index_keeper.specs.Answers.{for_rows, rows_in}
+use Rattle.index_keeper.specs.Keeper.{Asks, IsUntouched, ShownKeeper}
+use Rattle.index_keeper.specs.Store.{HasAll, IsClosed, IsOpened, ShownStore, TakesBack, with_path}
+use Rattle.index_keeper.specs.Tables.{EditFacts, KeptFacts}
+use Rattle.index_keeper.specs.declared.answer.KeptAnswer.{KeptAnswer}
+use Rattle.index_keeper.specs.declared.answer.KeptAnswer.TheVariants as kept
+use Rattle.index_state.specs.Opening.{Gives, LacksStrays, LeavesRows, Refuses, RefusesOn, made_swept}
+use Rattle.index_state.specs.declared.open_fault.OpenFault.{OpenFault}
+use Rattle.index_state.specs.declared.open_fault.OpenFault.TheVariants as refusal
+use Rattle.tree_trait.specs.Shown.{HandsOn}
+use Rattle.pass_runner.specs.Owned.{HandsGo}
+use Rattle.dbgd_run.specs.Kept.{LacksFirst}
+use Rattle.dbgd_run.specs.Scan.{EndsBy, OpensBy, RefusesBy, RefusesValues, Scans}
+use Rattle.dbgd_run.specs.ScanSaid.{is_hand_fault, is_store_fault}
+use Rattle.dbgd_run.specs.Scene.{Setting}
+use Rattle.dbgd_run.specs.declared.scan_end.ScanEnd.{ScanEnd}
+use Rattle.dbgd_run.specs.declared.scan_end.ScanEnd.TheVariants.{Refused, Passed}
+use Rattle.dbgd_run.proofs.HandLemmas.{hands_stay}
+use Rattle.dbgd_run.proofs.PassLemmas.{gave_all}
+
+-- nothing was removed
+none_swept : (made : Option (List EditFacts)) → made ≡ made_swept [] made
+none_swept None = refl
+none_swept (Some edits) = ap Some (sym (append-nil edits))
+
+-- a keeper that gave its rows is as it was
+untouched : {tells : Bool} (before after : ShownKeeper) (answer : KeptAnswer) → Asks tells before after (for_rows answer)
+    → IsTrue tells → IsUntouched before after
+untouched before after (kept.All rows) asks told = (asks.tells told).stays
+untouched before after kept.Failed asks told = asks.tells told
+untouched before after kept.OutOfMemory asks told = asks.tells told
+
+module _ {K : Type 0} (tells : Bool) (shows : K → ShownKeeper) {from mid into : ShownStore} {keeper given : K} (has : HasAll tells from (shows keeper)) (back : TakesBack tells (shows given) mid into) where
+  -- whatever is left lacks rows of other editions alone
+  lacks : (removed : List RowFacts) → LeavesRows tells (shows keeper) (shows given)
+      → (shows given).made ≡ made_swept removed (shows keeper).made → LacksFirst tells from into
+  lacks removed left made = record {
+    tables = λ t.
+        subst (λ tables. (into.tables ≡ tables) ⊎ LacksStrays tables into.tables) (has.tables t) (left t into.tables (back.image t));
+    removed = removed;
+    made = back.made ∙ made ∙ ap (made_swept removed) has.made;
+  }
+
+  -- the values that the keeper gave are no reason to change anything
+  keeps : {Why : List KeptFacts → Type 0} {asked : K} {values : List KeptFacts} → Gives tells shows keeper asked values
+      → Why values → given ≡ asked → RefusesValues tells from into Why
+  keeps {asked = asked} {values = values} gave why same = record {
+    values = values;
+    gave = record {
+      by_path = gave.by_path;
+      tells = λ t. gave_all (shows keeper) (shows asked) gave.answer values gave.heard gave.gave t ∙ has.tables t;
+    };
+    why = why;
+    keeps = record {
+      tables = λ t.
+          (has.settled t).only into.tables
+          (((untouched (shows keeper) (shows asked) gave.answer gave.heard t).left into.tables).0
+          (subst (λ (k : K). (shows k).images into.tables) same (back.image t)))
+          ∙ has.tables t;
+      made = back.made ∙ ap (λ (k : K). (shows k).made) same ∙ gave.heard.grows ∙ has.made;
+    };
+  }
+
+  -- why no index was opened
+  pub refused_by : (fault : OpenFault) → Refuses tells shows keeper fault given
+      → LeavesRows tells (shows keeper) (shows given) → RefusesBy tells from into fault
+  refused_by refusal.KeeperFault (inl none) left = lacks [] left (none.heard.grows ∙ none_swept (shows keeper).made)
+  refused_by refusal.KeeperFault (inr rows) left =
+      lacks rows.why.stops.front left
+      (rows.why.stops.asked.grows ∙ rows.why.stops.swept.made ∙ ap (made_swept rows.why.stops.front) rows.gave.heard.grows)
+  refused_by (refusal.BadRow kept fault) (inl none) left = absurd none.why
+  refused_by (refusal.BadRow kept fault) (inr rows) left = keeps rows.gave rows.why.0 rows.why.1
+  refused_by refusal.LogFull (inl none) left = absurd none.why
+  refused_by refusal.LogFull (inr rows) left = keeps rows.gave rows.why.0 rows.why.1
+  refused_by refusal.OutOfMemory (inl none) left = lacks [] left (none.heard.grows ∙ none_swept (shows keeper).made)
+  refused_by refusal.OutOfMemory (inr rows) left = wanting rows.why
+    where
+      wanting : RefusesOn tells shows rows.values rows.asked refusal.OutOfMemory given → LacksFirst tells from into
+      wanting (inl same) =
+          lacks [] left
+          (ap (λ (k : K). (shows k).made) same ∙ rows.gave.heard.grows ∙ none_swept (shows keeper).made)
+      wanting (inr stopped) =
+          lacks stopped.stops.front left
+          (stopped.stops.asked.grows ∙ stopped.stops.swept.made ∙ ap (made_swept stopped.stops.front) rows.gave.heard.grows)
+
+-- a fault of a keeper is one of its store once it is given back
+rose_given : {old mid new keeper given : ℕ} → mid ≡ old → keeper ≡ 0 → Rose keeper given
+    → new ≡ summed mid given → Rose old new
+rose_given same none rose sum = omega arith
+
+-- the store was opened by the path
+opens_once : (path : List ℕ) (old new : ShownStore) (end : ScanEnd) → new.paths ≡ with_path path old.paths
+    → OpensBy path old new end
+opens_once path old new (Refused refusal.OutOfMemory) h = inr h
+opens_once path old new (Refused refusal.KeeperFault) h = h
+opens_once path old new (Refused (refusal.BadRow kept fault)) h = h
+opens_once path old new (Refused refusal.LogFull) h = h
+opens_once path old new (Passed end) h = h
+
+module _ {T : Type 0} (s : Setting T) (path : List ℕ) {roots : List (List ℕ)} where
+  -- memory was refused before the store was opened
+  pub scans_wanting : {hands : List T} {old new : ShownStore} → 0 < length hands → new ≡ old
+      → Scans s path roots hands hands old new (Refused refusal.OutOfMemory)
+  scans_wanting {hands} {old} {new} some same = record {
+    ends = record {
+      hands = refl;
+      store = record {
+        tables = λ t. inl (ap (λ (o : ShownStore). o.tables) same);
+        removed = [];
+        made = ap (λ (o : ShownStore). o.made) same ∙ none_swept old.made;
+      };
+    };
+    hands = hands_stay s.tells_files s.world.version s.sees hands some (λ e. absurd (cc));
+    store = record { later = let a = ap (λ (o : ShownStore). o.faults) same in omega arith; rose = λ e. absurd (cc) };
+    later = let a = ap (λ (o : ShownStore). o.epoch) same in omega arith;
+    opened = λ e. absurd (cc);
+    opens = inl (ap (λ (o : ShownStore). o.paths) same);
+  }
+
+  -- the store failed to be opened
+  pub scans_closed : {hands : List T} {old new : ShownStore} → 0 < length hands → IsClosed s.tells_tables path old new
+      → Scans s path roots hands hands old new (Refused refusal.KeeperFault)
+  scans_closed {hands} {old} some closed = record {
+    ends = record {
+      hands = refl;
+      store = record { tables = λ t. inl (closed.tables t); removed = []; made = closed.made ∙ none_swept old.made };
+    };
+    hands = hands_stay s.tells_files s.world.version s.sees hands some (λ e. absurd (cc));
+    store = record { later = closed.faults; rose = λ _. closed.cause };
+    later = closed.later;
+    opened = λ e. absurd (cc);
+    opens = closed.paths;
+  }
+
+  -- the store was opened, and had its keeper back in the end
+  pub scans_opened : {before after : List T} {old mid new : ShownStore} {keeper given : ShownKeeper} (end : ScanEnd)
+      → IsOpened s.tells_tables path old mid keeper → TakesBack s.tells_tables given mid new
+      → EndsBy s roots before after old new end
+      → HandsGo (λ hand later. HandsOn s.tells_files s.world.version (s.sees hand) (s.sees later) ⊥ (IsTrue (is_hand_fault end)))
+      (λ hand later. HandsOn s.tells_files s.world.version (s.sees hand) (s.sees later) ⊥ ⊥) before after
+      → HasCause keeper.faults given.faults (IsTrue (is_store_fault end))
+      → Scans s path roots before after old new end
+  scans_opened {old = old} {new = new} end opened back ends hands cause = record {
+    ends = ends;
+    hands = hands;
+    store = record {
+      later = let a = opened.faults in let b = back.later in omega arith;
+      rose = λ fails. rose_given opened.faults opened.holds.faultless (cause.rose fails) back.counted;
+    };
+    later = let a = opened.later in let b = back.number in omega arith;
+    opened = λ _. let a = opened.rises in let b = back.number in omega arith;
+    opens = opens_once path old new end (back.paths ∙ opened.paths);
+  }
