@@ -1,6 +1,7 @@
 //! What no clause says: that memory suffices, and what settlings and passes come to.
 
 mod cases;
+mod events;
 mod helpers;
 mod missed;
 mod passes;

@@ -16,7 +16,7 @@ use std::test::Fail;
 use tree_walk::WalkFault;
 
 /// An index on a store in memory.
-type Index = State<SampleWorld, MemKeeper<SampleWorld>>;
+pub type Index = State<SampleWorld, MemKeeper<SampleWorld>>;
 
 /// A pass, and what it comes to.
 pub struct Step {
@@ -103,7 +103,7 @@ fn joined(alloc: Global, texts: &[&str]) -> Result<String, AllocError> {
 }
 
 /// The index on a store without rows.
-fn opened(alloc: Global, store: &mut MemStore<SampleWorld>) -> Result<Index, Fail> {
+pub fn opened(alloc: Global, store: &mut MemStore<SampleWorld>) -> Result<Index, Fail> {
     let StoreAnswer::Opened(keeper) = store.open_store(alloc, "m") else {
         return Err("the store opens".into());
     };
