@@ -1,12 +1,9 @@
 -- What a status says, by what a run does.
-use Rattle.std.proofs.Common.{◌≡◌, ◌⊎◌, inl, inr, ℕ, List, [], ◌∷◌, Bool, true, false, Option, Some, None, sym, refl, subst, IsTrue, Result, Ok, Err, ap, ◌∙◌}
+use Rattle.std.proofs.Common.{inl, inr, ℕ, List, ◌∷◌, Option, Some, None, sym, refl, subst, IsTrue, Result, Ok, Err}
 use Rattle.row_types.specs.Faults.{Rose}
-use Rattle.row_types.specs.Name.{NameFacts}
-use Rattle.row_types.specs.Row.{RowFacts}
 use Rattle.row_types.specs.declared.limits.TheConstants.{FILE_LIMIT}
 use Rattle.file_formats.specs.Identity.{Identity}
 use Rattle.file_formats.specs.declared.fault.Why.{Why}
-use Rattle.http_wire.specs.Sink.{GetsAll}
 use Rattle.tree_trait.specs.Heard.{has_failed, load}
 use Rattle.tree_trait.specs.Load.{LoadFacts, loaded, too_large, gone, failed, no_memory}
 use Rattle.dbgd_run.specs.Causes.{FileStatus}
@@ -82,7 +79,7 @@ by_answer : {T : Type 0} (s : Setting T) (path : List ℕ) (Says : LoadFacts →
     {old new : Streams} {end : Status} {P : Type 0} (hands left : List T)
     → FirstGoes (λ hand later. RunsOn Says s.tells_files s.world.version path (s.sees hand) (s.sees later) old new end) hands left
     → ((answer : LoadFacts) → (IsTrue (has_failed (load path FILE_LIMIT answer)) → FirstRose s hands left)
-        → Says answer old new end → P) → P
+    → Says answer old new end → P) → P
 by_answer s path Says (hand ∷ hands) (later ∷ left) goes by =
     by goes.0.answer (λ fails. goes.0.asks.hands.cause.rose fails) goes.0.said
 by_answer s path Says _ _ goes by = absurd goes

@@ -29,7 +29,7 @@ use Rattle.tree_walk.specs.Answers.{first_look, is_look_answer}
 use Rattle.tree_walk.specs.declared.walked.Walk.{Walk}
 use Rattle.pass_runner.proofs.NameLists.{in_by_stamp}
 use Rattle.pass_runner.specs.Owned.{HearsPass, TellsStill}
-use Rattle.pass_runner.specs.Settled.{IsBacked, IsHeardAltered, IsHeardThere, IsWanted}
+use Rattle.pass_runner.specs.Settled.{IsBacked, IsWanted}
 use Rattle.dbgd_run.specs.Causes.{IsChange}
 
 -- what holds of each holds of those in front
@@ -96,7 +96,7 @@ pub never_changed : {told : Bool} {version : Versions} {roots : List (List ℕ)}
 never_changed Failed name ReadFault hears change path why still = change
 never_changed {walk = walk} {walked = walked} {more = more} {before = before} Failed name (Altered met) hears change path why still =
     let there = first_told before.present name.path walked (File name.stamp) (all_front (IsTold before.present) walked more (hears.tells still))
-        ((hears.whole.listing.all name).0 (contained walk.listing name why.listed)).file in
+    ((hears.whole.listing.all name).0 (contained walk.listing name why.listed)).file in
     none_other before.present name why.answer met there
     (All-contains (IsTold before.present) (walked ++ more) (load_of name why.answer) (hears.tells still)
     (Contains-append_right walked more (load_of name why.answer) why.heard))
@@ -108,9 +108,9 @@ never_changed {roots = roots} {names = names} {walk = walk} {walked = walked} {m
     let wanted : is_under roots name.path ≡ true = All-contains (IsWanted walk.listing roots names) more look hears.wanted why.heard in
     let listed : Contains walk.listing name
     = ((hears.under still).all name).1
-        (record {
-          there = contained before.present name (in_by_stamp name.path name.stamp before.present told);
-          under = wanted;
-          short = path.short;
-        }) in
+    (record {
+      there = contained before.present name (in_by_stamp name.path name.stamp before.present told);
+      under = wanted;
+      short = path.short;
+    }) in
     true≢false (sym (is_contained walk.listing name listed) ∙ why.unlisted)

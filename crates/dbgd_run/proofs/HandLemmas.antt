@@ -31,7 +31,7 @@ runs_file s path Says first later [] is some run = absurd (omega arith)
 runs_file {T} s path Says first later (hand ∷ hands) {old = old} {new = new} {end = end} is some run = record {
   hands = (
     subst (λ (h : T). RunsOn Says s.tells_files s.world.version path (s.sees h) (s.sees later) old new end) is run,
-    same_zip hands
+    same_zip hands,
   );
   store = refl;
 }

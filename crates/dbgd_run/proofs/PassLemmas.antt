@@ -1,7 +1,6 @@
 -- The pass of a scan: what is said of the index that made it is said of the store that it came from and went to.
-use Rattle.std.proofs.Common.{◌≡◌, ◌⊎◌, inl, inr, ℕ, Bool, true, false, List, [], ◌∷◌, drop, Option, Some, sym, refl, ◌∙◌, ap, subst, IsTrue}
+use Rattle.std.proofs.Common.{◌≡◌, ◌⊎◌, inl, inr, ℕ, Bool, true, false, List, ◌∷◌, drop, Option, Some, sym, ◌∙◌, ap, subst, IsTrue}
 use Rattle.std.specs.List.{All, AllZip, Contains}
-use Rattle.row_types.specs.Faults.{Rose}
 use Rattle.row_types.specs.Name.{NameFacts}
 use Rattle.row_types.specs.Row.{RowFacts}
 use Rattle.scan_queue.specs.Names.{is_in}
@@ -136,7 +135,7 @@ module _ {K T : Type 0} (s : Setting T) {shows : K → ShownKeeper} {from into :
         hands = (
           subst (λ names. HearsPass s.tells_files s.world.version roots names run.walk run.walked run.more (s.sees hand) (s.sees later)) old_names run.hears,
           subst (λ names. AllZip (λ h l. Helps s.world.version run.walk.listing roots names (s.sees h) (s.sees l)) hands left) old_names
-          (subst (λ listing. AllZip (λ h l. Helps s.world.version listing roots (row_names old.rows) (s.sees h) (s.sees l)) hands left) listed helps)
+              (subst (λ listing. AllZip (λ h l. Helps s.world.version listing roots (row_names old.rows) (s.sees h) (s.sees l)) hands left) listed helps),
         );
         stays = subst (λ names. (name : NameFacts) → is_in run.walk.listing name ≡ true → is_in names name ≡ true
             → is_in (row_names new.rows) name ≡ true) old_names run.leaves.stays;

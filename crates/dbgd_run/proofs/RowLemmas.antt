@@ -1,7 +1,7 @@
 -- Values of a store that are rows, and such that aren't.
-use Rattle.std.proofs.Common.{◌≡◌, ℕ, zero, suc, ◌≤◌, ◌<◌, List, [], ◌∷◌, ◌++◌, length, map, refl, sym, ◌∙◌, ap, subst, Option, Some, None, Result, Ok, Err, arith}
+use Rattle.std.proofs.Common.{◌≡◌, ℕ, zero, suc, ◌≤◌, List, [], ◌∷◌, length, refl, sym, ◌∙◌, ap, subst, Option, Some, None, Ok, arith}
 use Rattle.std.specs.List.{All, Contains}
-use Rattle.std.proofs.lemmas.List.Elements.{All-head, All-tail, All-contains, Contains-append_right}
+use Rattle.std.proofs.lemmas.List.Elements.{All-head, All-tail, Contains-append_right}
 use Rattle.row_types.specs.Row.{RowFacts}
 use Rattle.row_codec.specs.Read.{row_at}
 use Rattle.row_codec.specs.RowBytes.{IsRowBytes, row_bytes}
@@ -23,12 +23,12 @@ good : {row : RowFacts} (value : KeptFacts) (fault : Option CodecFault) → IsSp
 good {row} value None spelled is bad =
     let same : bad.row ≡ row
     = one_row bad.row row value.bytes bad.spelled
-        (subst (λ (bytes : List ℕ). IsRowBytes row bytes) (sym (ap (λ (v : KeptFacts). v.bytes) is)) (own_bytes spelled)) in
+    (subst (λ (bytes : List ℕ). IsRowBytes row bytes) (sym (ap (λ (v : KeptFacts). v.bytes) is)) (own_bytes spelled)) in
     bad.elsewhere (ap (λ (r : RowFacts). r.name.path) same ∙ sym (ap (λ (v : KeptFacts). v.path) is))
 good {row} value (Some fault) spelled is bad =
     let read : row_at value.bytes ≡ Ok row
     = row_read row value.bytes
-        (subst (λ (bytes : List ℕ). IsRowBytes row bytes) (sym (ap (λ (v : KeptFacts). v.bytes) is)) (own_bytes spelled)) in
+    (subst (λ (bytes : List ℕ). IsRowBytes row bytes) (sym (ap (λ (v : KeptFacts). v.bytes) is)) (own_bytes spelled)) in
     let first = bad.first in
     absurd (cc (read, first))
 
@@ -64,7 +64,7 @@ same_rows (x ∷ a) (y ∷ b) p q e =
     let rest : tables_of a ≡ tables_of b = cc in
     let one : x ≡ y
     = one_row x y (row_bytes x) (own_bytes (All-head IsSpelled x a p))
-        (subst (λ (bytes : List ℕ). IsRowBytes y bytes) (sym (ap (λ (v : KeptFacts). v.bytes) first)) (own_bytes (All-head IsSpelled y b q))) in
+    (subst (λ (bytes : List ℕ). IsRowBytes y bytes) (sym (ap (λ (v : KeptFacts). v.bytes) first)) (own_bytes (All-head IsSpelled y b q))) in
     let others : a ≡ b = same_rows a b (All-tail IsSpelled x a p) (All-tail IsSpelled y b q) rest in
     ap (λ r. r ∷ a) one ∙ ap (λ rs. y ∷ rs) others
 

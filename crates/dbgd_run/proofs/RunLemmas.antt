@@ -1,5 +1,5 @@
 -- A run, by what its line asks.
-use Rattle.std.proofs.Common.{◌≡◌, ℕ, List, ◌∷◌, length, drop, sym, refl, subst}
+use Rattle.std.proofs.Common.{◌≡◌, ℕ, subst}
 use Rattle.dbgd_run.specs.Causes.{HasStatus}
 use Rattle.dbgd_run.specs.Runs.{IsRun, Runs}
 use Rattle.dbgd_run.specs.Scan.{RunsScan}

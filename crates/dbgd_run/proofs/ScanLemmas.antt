@@ -1,5 +1,5 @@
 -- What the status of a scan says, by how it ended.
-use Rattle.std.proofs.Common.{◌≡◌, ◌⊎◌, inl, inr, ℕ, List, [], ◌∷◌, Bool, true, false, sym, refl, subst, IsTrue, ap, ◌∙◌}
+use Rattle.std.proofs.Common.{◌≡◌, inl, inr, ℕ, List, Bool, sym, refl, subst, IsTrue}
 use Rattle.std.specs.List.{Contains}
 use Rattle.row_types.specs.Canon.{IsCanonPath}
 use Rattle.row_types.specs.Faults.{Rose}
@@ -8,8 +8,6 @@ use Rattle.row_types.specs.Row.{RowFacts}
 use Rattle.scan_queue.specs.declared.miss.Cause.{Cause}
 use Rattle.scan_queue.specs.declared.miss.Cause.TheVariants as cause
 use Rattle.http_wire.specs.Sink.{GetsAll}
-use Rattle.index_keeper.specs.Store.{ShownStore}
-use Rattle.index_keeper.specs.Tables.{KeptFacts}
 use Rattle.index_rows.specs.Rows.{row_names}
 use Rattle.index_state.specs.Opening.{AreRows, IsOverfull, current}
 use Rattle.index_state.specs.declared.open_fault.OpenFault.TheVariants as refusal
@@ -26,7 +24,7 @@ use Rattle.pass_runner.specs.declared.pass_end.PassEnd.{PassEnd}
 use Rattle.pass_runner.specs.declared.pass_end.PassEnd.TheVariants as ended
 use Rattle.pass_runner.specs.declared.summary.Summary.{Summary}
 use Rattle.dbgd_run.specs.Causes.{EndsOnlyWith, HasSomeBad, HeardGone, HeardMany, HeardOther, IsChange, IsComplete, IsFreeHand}
-use Rattle.dbgd_run.specs.Causes.{IsUnhindered, MeetsLimit, ScanEnds, ScanStatus, of_changes, of_rows, of_walk}
+use Rattle.dbgd_run.specs.Causes.{IsUnhindered, ScanEnds, ScanStatus, of_changes, of_rows, of_walk}
 use Rattle.dbgd_run.specs.Endings.{Streams}
 use Rattle.dbgd_run.specs.Kept.{HoldsRows}
 use Rattle.dbgd_run.specs.Scan.{EndsPassed, MakesPass, RunsScan, Scans, WalksInto}
@@ -57,7 +55,7 @@ by_end P (Passed (ended.Missed miss)) old new end said wants out told = missed m
   where
     missed : (why : Cause)
         → (GetsAll (scan_saying (Passed (ended.Missed (record { name = miss.name; cause = why })))).out old.out new.out
-            → P (scan_saying (Passed (ended.Missed (record { name = miss.name; cause = why })))).status)
+        → P (scan_saying (Passed (ended.Missed (record { name = miss.name; cause = why })))).status)
         → SaysMiss miss.name why old new end → P end
     missed cause.ReadFault so whole = subst P (sym whole.ends) (so whole.out)
     missed (cause.Altered met) so (inl whole) = subst P (sym whole.ends) (so whole.out)

@@ -1,9 +1,9 @@
 -- The store of a scan, around the index that was opened on it or wasn't.
-use Rattle.std.proofs.Common.{◌≡◌, ◌⊎◌, inl, inr, ℕ, ◌<◌, Bool, false, List, [], length, Option, Some, None, sym, refl, ◌∙◌, ap, subst, IsTrue, arith}
+use Rattle.std.proofs.Common.{◌≡◌, ◌⊎◌, inl, inr, ℕ, ◌<◌, Bool, List, [], length, Option, Some, None, sym, refl, ◌∙◌, ap, subst, IsTrue, arith}
 use Rattle.std.proofs.lemmas.List.{append-nil}
 use Rattle.row_types.specs.Faults.{HasCause, Rose, summed}
 use Rattle.row_types.specs.Row.{RowFacts}
-use Rattle.index_keeper.specs.Answers.{for_rows, rows_in}
+use Rattle.index_keeper.specs.Answers.{for_rows}
 use Rattle.index_keeper.specs.Keeper.{Asks, IsUntouched, ShownKeeper}
 use Rattle.index_keeper.specs.Store.{HasAll, IsClosed, IsOpened, ShownStore, TakesBack, with_path}
 use Rattle.index_keeper.specs.Tables.{EditFacts, KeptFacts}

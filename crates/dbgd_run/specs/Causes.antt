@@ -8,17 +8,13 @@ use Rattle.scan_queue.specs.declared.miss.Cause.TheVariants.{ReadFault, Altered 
 use Rattle.index_keeper.specs.Store.{ShownStore}
 use Rattle.index_keeper.specs.Tables.{KeptFacts}
 use Rattle.index_rows.specs.declared.rows.TheConstants.{LOG_LIMIT}
-use Rattle.index_state.specs.Judge.{is_under}
 use Rattle.index_state.specs.Opening.{AreRows, IsBad, IsFirstBad, IsOverfull, current}
 use Rattle.row_codec.specs.declared.fault.CodecFault.{CodecFault}
-use Rattle.tree_trait.specs.Heard.{Heard, stat, with_answers}
-use Rattle.tree_trait.specs.Load.{LoadFacts}
+use Rattle.tree_trait.specs.Heard.{Heard, with_answers}
 use Rattle.tree_trait.specs.Shown.{ShownTree}
 use Rattle.tree_trait.specs.Stat.{IsNothingAt}
-use Rattle.tree_trait.specs.declared.stat.StatAnswer.TheVariants.{File}
 use Rattle.tree_walk.specs.Ends.{IsRootGone, IsTooMany, IsTooManyEntries, IsWholeWalk}
 use Rattle.tree_walk.specs.Files.{HasManyEntries, HasManyFiles}
-use Rattle.tree_walk.specs.Walked.{IsWalked}
 use Rattle.tree_walk.specs.declared.walked.Walk.{Walk}
 use Rattle.http_wire.specs.Sink.{GetsAll}
 use Rattle.pass_runner.specs.Owned.{TellsStill}

@@ -1,5 +1,5 @@
 -- What a scan finds in the store and leaves in it (this project's rule), by rows.
-use Rattle.std.specs.Prelude.{◌≡◌, ◌⊎◌, ℕ, ◌≤◌, Bool, List, [], ◌++◌, length, Option, IsTrue}
+use Rattle.std.specs.Prelude.{◌≡◌, ◌⊎◌, ◌≤◌, Bool, List, length, Option, IsTrue}
 use Rattle.row_types.specs.Row.{RowFacts}
 use Rattle.index_keeper.specs.Store.{ShownStore}
 use Rattle.index_keeper.specs.Tables.{AscendsByPath, EditFacts, KeptFacts}

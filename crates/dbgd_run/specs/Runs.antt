@@ -27,7 +27,7 @@ pub record SaysAlone {T : Type 0} (saying : Saying) (before after : Scene T)
   pub store : after.store ≡ before.store
 
 -- a scan: what it does, and how it ends when
-pub record IsScan {T : Type 0} (s : Setting T) (path : List ℕ) (roots : List (List ℕ))
+pub record IsScanRun {T : Type 0} (s : Setting T) (path : List ℕ) (roots : List (List ℕ))
     (before after : Scene T) (status : Status) : Type 0 where
   pub does : RunsScan s path roots before after status
   pub ends : ScanEnds s roots before after status
@@ -57,7 +57,7 @@ pub record IsRun {T : Type 0} (s : Setting T) (line : Line) (before after : Scen
   pub section : (path name : List ℕ) → line ≡ asks_section path name
       → RunsFile s path (SaysSection path name) before after status
   pub scan : (path : List ℕ) (roots : List (List ℕ)) → line ≡ asks_scan path roots
-      → IsScan s path roots before after status
+      → IsScanRun s path roots before after status
   pub not_built : line ≡ unbuilt → SaysAlone not_built_saying before after status
   pub usage : line ≡ unreadable → SaysAlone usage_saying before after status
   pub causes : HasStatus s line before after status

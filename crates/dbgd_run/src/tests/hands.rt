@@ -186,7 +186,10 @@ fn open_files(alloc: Global, samples: &[Sample]) -> Result<Vec<Found<OpenWorld>>
     let mut files = Vec::with_capacity(alloc, samples.len())?;
     for sample in samples {
         let Found {
-            path, stamp, bytes, ..
+            path,
+            stamp,
+            bytes,
+            ..
         } = sample.found(alloc)?;
         files.push(Found::new(path, stamp, bytes))?;
     }

@@ -63,10 +63,7 @@ static TWO_FILES: [Case; 9] = [
         Two,
         &[],
         SOUND,
-        &[
-            Run(SCAN, TWO, "", 0),
-            Run(SCAN, TWICE, "", 0),
-        ],
+        &[Run(SCAN, TWO, "", 0), Run(SCAN, TWICE, "", 0)],
     ),
 ];
 
