@@ -1,0 +1,5 @@
+pub mod DigitLemmas
+pub mod NumberLemmas
+pub mod FolderLemmas
+pub mod SizeLemmas
+pub mod TreeLemmas

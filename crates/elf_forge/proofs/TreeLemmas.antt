@@ -1,0 +1,304 @@
+-- What holds of a tree of generated files.
+use Rattle.std.proofs.Common.{◌≡◌, ℕ, zero, suc, ◌<◌, ◌≤◌, true, false, not, List, [], ◌∷◌, ◌++◌, map}
+use Rattle.std.proofs.Common.{Option, Some, None, is_some, option_map, Result, Ok, Err, IfOk, refl, sym, ◌∙◌, ap, subst, arith, inl}
+use Rattle.std.specs.Prelude.{◌==◌, IsOkAnd, IsTrue, nat_lt, codes, if◌then◌else◌, slice_index_or}
+use Rattle.std.specs.List.{list_all, list_any}
+use Rattle.std.specs.Str.{bytes_eq}
+use Rattle.std.proofs.lemmas.Bool.{and_from, and_parts, false_from_ne_true, false≢true, ltb-false, ltb-true, not-true, not_from_false, or_from, or_parts}
+use Rattle.std.proofs.lemmas.List.{map-append}
+use Rattle.std.proofs.lemmas.List.Elements.{All-map}
+use Rattle.std.proofs.lemmas.List.Folds.{list_any-append}
+use Rattle.std.proofs.lemmas.List.Splits.{slice_split_none}
+use Rattle.std.proofs.lemmas.List.Sums.{AllPass-from_list_all}
+use Rattle.std.proofs.lemmas.Slice.Eq.{bytes_eq-Decides}
+use Rattle.row_types.specs.Canon.{has_form, is_canonical, pieces, stays}
+use Rattle.row_types.specs.Name.{NameFacts, stamp_at}
+use Rattle.row_types.specs.Under.{lies_under}
+use Rattle.row_types.proofs.CanonLemmas.{has_form_is_canonical}
+use Rattle.tree_trait.specs.Asks.{Asks, FitsAny, IsTold}
+use Rattle.tree_trait.specs.Dir.{IsFolderListing, TellsDir}
+use Rattle.tree_trait.specs.Found.{Versions, found_facts}
+use Rattle.tree_trait.specs.Heard.{Heard, load, stat, read_dir, has_failed, wants_memory}
+use Rattle.tree_trait.specs.Dir.{dir_no_memory}
+use Rattle.tree_trait.specs.Load.{FitsLoad, TellsLoad, loaded, no_memory, too_large}
+use Rattle.tree_trait.specs.declared.stat.StatAnswer.TheVariants as found
+use Rattle.tree_trait.specs.Present.{IsKnownName, are_distinct, is_folder}
+use Rattle.tree_trait.specs.Shown.{HandsOn, IsPresence}
+use Rattle.tree_trait.specs.Stat.{TellsStat}
+use Rattle.tree_trait.proofs.EntryLemmas.{bytes_back}
+use Rattle.tree_trait.proofs.ListingLemmas.{listing}
+use Rattle.elf_forge.specs.Forge.{forged, six_digits}
+use Rattle.elf_forge.specs.Place.{file_path, folder_among, folder_at, name_of, names_of, number_at, numbers_below, stamp_of}
+use Rattle.elf_forge.specs.Tree.{ForgeFacts, IsForgedAnswer, RunsForged, dir_answer, dir_of, heard_of, load_answer, load_of, shown_by, stat_answer, stat_of}
+use Rattle.elf_forge.specs.declared.question.Question.{Question}
+use Rattle.elf_forge.specs.declared.folder.Folder.{Folder}
+use Rattle.elf_forge.proofs.DigitLemmas.{digits_plain, digits_stay, same_path}
+use Rattle.elf_forge.proofs.FolderLemmas.{Pieces, folder_there, lies_in, pieces_there, some_files}
+use Rattle.elf_forge.proofs.NumberLemmas.{stamp_there}
+
+-- the world of real files: each content is one of each name
+abbrev pub any : Versions
+any = λ _ _ _. Unit {0}
+
+-- ---- the names
+
+-- a file's path is canonical
+path_form : (k : ℕ) → has_form (file_path k) ≡ true
+path_form k =
+    let parts : pieces (six_digits k) ≡ six_digits k ∷ [] =
+    slice_split_none (λ b. b == 47) (six_digits k)
+    (λ i d within. not-true (slice_index_or (six_digits k) i d == 47)
+    (AllPass-from_list_all (λ b. not (b == 47)) (six_digits k) (digits_plain k) i d within)) in
+    subst (λ ps. list_all stays (codes "t" ∷ codes "f" ∷ ps) ≡ true) (sym parts)
+    (and_from (stays (six_digits k)) true (digits_stay k) refl)
+
+canonical_path : (k : ℕ) → IsTrue (is_canonical (file_path k))
+canonical_path k = sym (has_form_is_canonical (file_path k)) ∙ path_form k
+
+-- the paths of files
+abbrev paths : ℕ → List ℕ → List (List ℕ)
+paths seed ks = map (λ (name : NameFacts). name.path) (map (name_of seed) ks)
+
+distinct_more : (known : List (List ℕ)) (path : List ℕ) → are_distinct known ≡ true
+    → list_any (λ p. bytes_eq p path) known ≡ false → are_distinct (known ++ path ∷ []) ≡ true
+distinct_more [] path h new = refl
+distinct_more (first ∷ rest) path h new =
+    let parts = and_parts (not (list_any (λ p. bytes_eq p first) rest)) (are_distinct rest) h in
+    let others = or_parts (bytes_eq first path) (list_any (λ p. bytes_eq p path) rest) new in
+    and_from _ _
+    (ap not (list_any-append (λ p. bytes_eq p first) rest (path ∷ [])
+    ∙ or_from _ _ (not-true _ parts.0) (or_from (bytes_eq path first) false (bytes_back path first ∙ others.0) refl)))
+    (distinct_more rest path parts.1 others.1)
+
+paths_more : (seed n : ℕ) → paths seed (numbers_below (suc n)) ≡ paths seed (numbers_below n) ++ file_path n ∷ []
+paths_more seed n =
+    ap (map (λ (name : NameFacts). name.path)) (map-append (name_of seed) (numbers_below n) (n ∷ []))
+    ∙ map-append (λ (name : NameFacts). name.path) (map (name_of seed) (numbers_below n)) (name_of seed n ∷ [])
+
+new_path : (seed n m : ℕ) → m ≤ n → n < 1000000
+    → list_any (λ p. bytes_eq p (file_path n)) (paths seed (numbers_below m)) ≡ false
+new_path seed n zero within few = refl
+new_path seed n (suc m) within few =
+    ap (list_any (λ p. bytes_eq p (file_path n))) (paths_more seed m)
+    ∙ list_any-append (λ p. bytes_eq p (file_path n)) (paths seed (numbers_below m)) (file_path m ∷ [])
+    ∙ or_from _ _ (new_path seed n m (omega (arith, within)) few) (or_from _ false (false_from_ne_true _ differs) refl)
+  where
+    differs : bytes_eq (file_path m) (file_path n) ≡ true → ⊥
+    differs t =
+        let e : m ≡ n = same_path m n (omega (arith, within, few)) few ((bytes_eq-Decides (file_path m) (file_path n)).0 t) in
+        omega (arith, e, within)
+
+distinct_paths : (seed n : ℕ) → n ≤ 1000000 → are_distinct (paths seed (numbers_below n)) ≡ true
+distinct_paths seed zero few = refl
+distinct_paths seed (suc n) few =
+    ap are_distinct (paths_more seed n)
+    ∙ distinct_more (paths seed (numbers_below n)) (file_path n) (distinct_paths seed n (omega (arith, few)))
+    (new_path seed n n (omega arith) (omega (arith, few)))
+
+-- nothing lies under a file
+none_under : (seed j : ℕ) (ks : List ℕ) → list_any (lies_under (file_path j)) (paths seed ks) ≡ false
+none_under seed j [] = refl
+none_under seed j (k ∷ ks) = or_from _ _ (lies_in (file_path j) k) (none_under seed j ks)
+
+apart_paths : (seed : ℕ) (all ks : List ℕ)
+    → list_all (λ folder. not (list_any (lies_under folder) (paths seed all))) (paths seed ks) ≡ true
+apart_paths seed all [] = refl
+apart_paths seed all (k ∷ ks) = and_from _ _ (not_from_false _ (none_under seed k all)) (apart_paths seed all ks)
+
+-- what is known of the names
+presence : (tree : ForgeFacts) → tree.files ≤ 1000000 → IsPresence any (shown_by tree)
+presence tree few =
+    let ks : List ℕ = numbers_below tree.files in
+    record {
+      known = All-map (IsKnownName any) (name_of tree.seed) ks (λ i d within. inl ([], tt));
+      canonical = All-map (λ (name : NameFacts). IsTrue (is_canonical name.path)) (name_of tree.seed) ks
+          (λ i d within. canonical_path (slice_index_or ks i d));
+      distinct = distinct_paths tree.seed tree.files few;
+      apart = λ _. apart_paths tree.seed ks ks;
+    }
+
+-- ---- the answers
+
+fits_load : (seed : ℕ) (path : List ℕ) (limit : ℕ) (place : Option ℕ) → FitsLoad any path limit (load_of seed path limit place)
+fits_load seed path limit None = tt
+fits_load seed path limit (Some k) =
+    elim (nat_lt limit (stamp_of seed k).size) as (λ b. nat_lt limit (stamp_of seed k).size ≡ b
+    → FitsLoad any path limit (if b then too_large (stamp_of seed k) else loaded (found_facts path (stamp_of seed k) (forged seed k)))) [
+      | true ↦ λ t. ltb-true limit (stamp_of seed k).size t
+      | false ↦ λ f. record { asked = refl; known = tt; sized = refl; fits = ltb-false limit (stamp_of seed k).size f }
+    ] refl
+
+tells_load : (seed files : ℕ) (path : List ℕ) (limit : ℕ) (place : Option ℕ)
+    → stamp_at (names_of seed files) path ≡ option_map (stamp_of seed) place
+    → TellsLoad (names_of seed files) path (load_of seed path limit place)
+tells_load seed files path limit None e = e
+tells_load seed files path limit (Some k) e =
+    elim (nat_lt limit (stamp_of seed k).size) as (λ b. TellsLoad (names_of seed files) path
+    (if b then too_large (stamp_of seed k) else loaded (found_facts path (stamp_of seed k) (forged seed k))))
+    [ true ↦ e | false ↦ e ]
+
+tells_stat : (seed files : ℕ) (path : List ℕ) (folder : Option Folder) (place : Option ℕ)
+    → stamp_at (names_of seed files) path ≡ option_map (stamp_of seed) place
+    → is_folder (names_of seed files) path ≡ is_some folder
+    → TellsStat (names_of seed files) path (stat_of seed folder place)
+tells_stat seed files path folder (Some k) e f = e
+tells_stat seed files path (Some folder) None e f = record { no_file = e; folder = f }
+tells_stat seed files path None None e f = record { no_file = e; no_folder = f }
+
+tells_some : (seed n : ℕ) (path : List ℕ) (folder : Option Folder) → Pieces seed n path folder
+    → is_folder (names_of seed (suc n)) path ≡ is_some folder
+    → TellsDir (names_of seed (suc n)) path (dir_of (suc n) folder)
+tells_some seed n path None pieces f = f
+tells_some seed n path (Some folder) pieces f = record {
+  there = f;
+  listing = subst (IsFolderListing (names_of seed (suc n)) path) pieces (listing path (names_of seed (suc n)));
+  whole = refl;
+}
+
+tells_dir : (seed files : ℕ) (path : List ℕ) → files ≤ 1000000
+    → TellsDir (names_of seed files) path (dir_of files (folder_among files path))
+tells_dir seed zero path few = folder_there seed zero path
+tells_dir seed (suc n) path few =
+    subst (λ folder. TellsDir (names_of seed (suc n)) path (dir_of (suc n) folder)) (sym (some_files n path))
+    (tells_some seed n path (folder_at path) (pieces_there seed n path few)
+    (folder_there seed (suc n) path ∙ ap is_some (some_files n path)))
+
+-- no answer of the files is a fault
+fine_load : (seed : ℕ) (path : List ℕ) (limit : ℕ) (place : Option ℕ) → has_failed (load path limit (load_of seed path limit place)) ≡ false
+fine_load seed path limit None = refl
+fine_load seed path limit (Some k) =
+    elim (nat_lt limit (stamp_of seed k).size) as (λ b. has_failed (load path limit
+    (if b then too_large (stamp_of seed k) else loaded (found_facts path (stamp_of seed k) (forged seed k)))) ≡ false)
+    [ true ↦ refl | false ↦ refl ]
+
+fine_stat : (seed : ℕ) (path : List ℕ) (folder : Option Folder) (place : Option ℕ) → has_failed (stat path (stat_of seed folder place)) ≡ false
+fine_stat seed path folder (Some k) = refl
+fine_stat seed path (Some folder) None = refl
+fine_stat seed path None None = refl
+
+fine_dir : (files : ℕ) (path : List ℕ) (folder : Option Folder) → has_failed (read_dir path (dir_of files folder)) ≡ false
+fine_dir files path None = refl
+fine_dir files path (Some folder) = refl
+
+-- what an answer of the files says of the tree
+record IsSound (tree : ForgeFacts) (asked : Heard) : Type 0 where
+  fits : FitsAny any asked
+  tells : IsTold (names_of tree.seed tree.files) asked
+  fine : has_failed asked ≡ false
+
+sound : (tree : ForgeFacts) (asked : Heard) → tree.files ≤ 1000000 → IsForgedAnswer tree.seed tree.files asked
+    → IsSound tree asked
+sound tree (load path limit answer) few e =
+    subst (λ a. IsSound tree (load path limit a)) (sym e) (record {
+      fits = fits_load tree.seed path limit (number_at tree.files path);
+      tells = tells_load tree.seed tree.files path limit (number_at tree.files path) (stamp_there tree.seed tree.files path);
+      fine = fine_load tree.seed path limit (number_at tree.files path);
+    })
+sound tree (stat path answer) few e =
+    subst (λ a. IsSound tree (stat path a)) (sym e) (record {
+      fits = tt;
+      tells = tells_stat tree.seed tree.files path (folder_among tree.files path) (number_at tree.files path)
+          (stamp_there tree.seed tree.files path) (folder_there tree.seed tree.files path);
+      fine = fine_stat tree.seed path (folder_among tree.files path) (number_at tree.files path);
+    })
+sound tree (read_dir path answer) few e =
+    subst (λ a. IsSound tree (read_dir path a)) (sym e) (record {
+      fits = tt;
+      tells = tells_dir tree.seed tree.files path few;
+      fine = fine_dir tree.files path (folder_among tree.files path);
+    })
+
+-- a call for which memory was refused says nothing
+nothing_said : (tree : ForgeFacts) (asked : Heard) → wants_memory asked ≡ true → IsSound tree asked
+nothing_said tree (load path limit no_memory) w = record { fits = tt; tells = tt; fine = refl }
+nothing_said tree (stat path found.OutOfMemory) w = record { fits = tt; tells = tt; fine = refl }
+nothing_said tree (read_dir path dir_no_memory) w = record { fits = tt; tells = tt; fine = refl }
+nothing_said tree _ w = absurd (false≢true w)
+
+-- a call that is answered by the files is a call of a tree
+pub asks_forged : (before after : ForgeFacts) (asked : Heard) → before.files ≤ 1000000 → RunsForged before after asked
+    → Asks true any (shown_by before) (shown_by after) asked
+asks_forged before after asked few runs =
+    subst (λ tree. Asks true any (shown_by before) (shown_by tree) asked) (sym runs.ends)
+    (elim (wants_memory asked) as (λ b. wants_memory asked ≡ b → Asks true any (shown_by before)
+    (shown_by (if b then before else record before { heard = before.heard ++ asked ∷ [] })) asked) [
+      | true ↦ λ w. let s = nothing_said before asked w in record {
+        fits = s.fits;
+        tells = λ _. s.tells;
+        listed = rw w refl;
+        hands = hands before.heard s.fine;
+      }
+      | false ↦ λ w. let s = sound before asked few (runs.answers w) in record {
+        fits = s.fits;
+        tells = λ _. s.tells;
+        listed = rw w refl;
+        hands = hands (before.heard ++ asked ∷ []) s.fine;
+      }
+    ] refl)
+  where
+    hands : (heard : List Heard) → has_failed asked ≡ false
+        → HandsOn true any (shown_by before) (shown_by (record before { heard = heard })) (Unit {0}) (IsTrue (has_failed asked))
+    hands heard fine = record {
+      cause = record { later = omega arith; rose = λ failed. absurd (false≢true (sym fine ∙ failed)) };
+      known = λ _ _. presence (record before { heard = heard }) few;
+      keeps = λ _ _. presence (record before { heard = heard }) few;
+      still = λ still. record { still = still; same = refl };
+    }
+
+-- ---- calls
+
+-- the answers of the files want no memory
+pub load_given : (path : List ℕ) (limit seed files : ℕ) → wants_memory (load path limit (load_answer seed files path limit)) ≡ false
+load_given path limit seed files = given (number_at files path)
+  where
+    given : (place : Option ℕ) → wants_memory (load path limit (load_of seed path limit place)) ≡ false
+    given None = refl
+    given (Some k) =
+        elim (nat_lt limit (stamp_of seed k).size) as (λ b. wants_memory (load path limit
+        (if b then too_large (stamp_of seed k) else loaded (found_facts path (stamp_of seed k) (forged seed k)))) ≡ false)
+        [ true ↦ refl | false ↦ refl ]
+
+pub stat_given : (path : List ℕ) (seed files : ℕ) → wants_memory (stat path (stat_answer seed files path)) ≡ false
+stat_given path seed files = given (folder_among files path) (number_at files path)
+  where
+    given : (folder : Option Folder) (place : Option ℕ) → wants_memory (stat path (stat_of seed folder place)) ≡ false
+    given folder (Some k) = refl
+    given (Some folder) None = refl
+    given None None = refl
+
+pub dir_given : (path : List ℕ) (seed files : ℕ) → wants_memory (read_dir path (dir_answer files path)) ≡ false
+dir_given path seed files = given (folder_among files path)
+  where
+    given : (folder : Option Folder) → wants_memory (read_dir path (dir_of files folder)) ≡ false
+    given None = refl
+    given (Some folder) = refl
+
+-- a call of which the question was kept
+pub runs_kept : {E : Type 0} (question : Result Question E) (f : ℕ → ℕ → Heard) (before after : ForgeFacts) (asked : Heard)
+    → ((s n : ℕ) → IsForgedAnswer s n (f s n)) → ((s n : ℕ) → wants_memory (f s n) ≡ false)
+    → IfOk question (λ q. (s n : ℕ) → heard_of s n q ≡ f s n)
+    → IsOkAnd question (λ q. after ≡ record before { heard = before.heard ++ heard_of before.seed before.files q ∷ [] })
+    → asked ≡ f before.seed before.files → RunsForged before after asked
+runs_kept (Ok q) f before after asked forged given is kept e =
+    subst (RunsForged before after) (sym e) (record {
+      answers = λ _. forged before.seed before.files;
+      ends = kept ∙ ap (λ h. record before { heard = before.heard ++ h ∷ [] }) (is before.seed before.files)
+          ∙ subst (λ b. record before { heard = before.heard ++ f before.seed before.files ∷ [] }
+          ≡ (if b then before else record before { heard = before.heard ++ f before.seed before.files ∷ [] }))
+          (sym (given before.seed before.files)) refl;
+    })
+runs_kept (Err x) f before after asked forged given is kept e = absurd kept
+
+-- a call for which memory was refused
+pub runs_refused : (before after : ForgeFacts) (asked : Heard) → wants_memory asked ≡ true → after ≡ before
+    → RunsForged before after asked
+runs_refused before after asked w e = record {
+  answers = λ f. absurd (false≢true (sym f ∙ w));
+  ends = e ∙ subst (λ b. before ≡ (if b then before else record before { heard = before.heard ++ asked ∷ [] })) (sym w) refl;
+}
+
+-- after want of memory the tree is as it was
+pub stays_refused : (before after : ForgeFacts) (asked : Heard) → RunsForged before after asked → IsTrue (wants_memory asked)
+    → after ≡ before
+stays_refused before after asked runs w =
+    runs.ends ∙ subst (λ b. (if b then before else record before { heard = before.heard ++ asked ∷ [] }) ≡ before) (sym w) refl

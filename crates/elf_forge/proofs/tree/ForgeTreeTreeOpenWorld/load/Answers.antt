@@ -1,0 +1,10 @@
+-- The call is answered by the generated files; after want of memory the tree is as it was.
+use Rattle.elf_forge.proofs.TreeLemmas.{asks_forged, stays_refused}
+use Rattle.elf_forge.proofs.tree.ForgeTreeTreeOpenWorld.load.Goals as goal
+
+pub returns : goal.returns
+returns c = record {
+  asks = asks_forged _ _ _ c.load_forged.ensures.few c.load_forged.ensures.forged;
+  memory = stays_refused _ _ _ c.load_forged.ensures.forged;
+  forged = c.load_forged.ensures.forged;
+}

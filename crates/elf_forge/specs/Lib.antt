@@ -1,0 +1,3 @@
+pub mod Forge
+pub mod Place
+pub mod Tree

@@ -1,0 +1,218 @@
+//! A tree of generated files.
+
+ghost use Rattle.std.specs.Prelude.{◌≡◌, ◌≤◌, ◌<◌, ◌++◌, ◌∷◌, [], true, IfOk, IsTrue, IsOkAnd};
+ghost use Rattle.tree_trait.specs.Found.{found_facts};
+ghost use Rattle.std.specs.Bool.{OnTrue, OnFalse};
+ghost use Rattle.tree_trait.specs.Asks.{Asks};
+ghost use Rattle.tree_trait.specs.Dir.{dir_facts};
+ghost use Rattle.tree_trait.specs.Heard.{load, stat, read_dir, wants_memory};
+ghost use Rattle.tree_trait.specs.Load.{load_facts};
+ghost use Rattle.elf_forge.specs.Forge.{IsPinnedFilesLimit, forged};
+ghost use Rattle.elf_forge.specs.Place.{stamp_of};
+ghost use Rattle.elf_forge.specs.Tree.{RunsForged, dir_answer, fresh_tree, heard_of, load_answer};
+ghost use Rattle.elf_forge.specs.Tree.{shown_by, stat_answer};
+
+use crate::digits::FILES_LIMIT;
+use crate::folder::{entries_of, folder_among};
+use crate::forging::forge;
+use crate::place::{number_at, stamp_of};
+use crate::question::Question;
+use row_types::OpenWorld;
+use std::alloc::{AllocError, Global};
+use std::marker::Model;
+use tree_trait::{DirAnswer, Found, LoadAnswer, StatAnswer, Tree};
+
+/// A tree of generated files: that of the number k stands at `/t/f/` and k in six digits. A file is
+/// made when it is loaded, and none is kept. No call fails. Contracts see the tree as a record of
+/// its seed, its number of files, and the questions so far with their answers.
+#[derive(Drop)]
+pub struct ForgeTree {
+    seed: u64,
+    files: u64,
+    asked: Vec<Question>,
+}
+
+impl Model for ForgeTree {
+    ghost use Rattle.std.specs.Prelude.{◌≤◌, map};
+    ghost use Rattle.elf_forge.specs.Tree.{ForgeFacts, heard_of};
+    ghost use Rattle.elf_forge.specs.declared.digits.TheConstants.{FILES_LIMIT};
+
+    ghost Value = { ForgeFacts };
+
+    ghost view = { λ t. record {
+      seed = t.seed;
+      files = t.files;
+      heard = map (heard_of t.seed t.files) t.asked.items;
+    } };
+
+    ghost invariant = { λ t. t.files ≤ FILES_LIMIT };
+}
+
+impl ForgeTree {
+    /// The tree of the files of the numbers below `files`.
+    pub fn new(alloc: Global, seed: u64, files: u64) -> ForgeTree
+        requires { files ≤ FILES_LIMIT }
+        ensures value { result ≡ fresh_tree seed files }
+        ensures limit { IsPinnedFilesLimit }
+    {
+        ForgeTree {
+            seed,
+            files,
+            asked: Vec::new(alloc),
+        }
+    }
+
+    /// Keeps a question, if there is memory for it. Says whether.
+    fn keep(&mut self, question: Result<Question, AllocError>) -> bool
+        ensures kept { OnTrue result (IsOkAnd question (λ asked. self.new ≡ record self.old {
+          heard = self.old.heard ++ heard_of self.old.seed self.old.files asked ∷ [];
+        })) }
+        ensures same { OnFalse result (self.new ≡ self.old) }
+    {
+        match question {
+            Ok(question) => self.asked.push(question).is_ok(),
+            Err(_) => false,
+        }
+    }
+}
+
+/// The file of a number.
+fn found(alloc: Global, seed: u64, k: u64, path: &str) -> Result<Found<OpenWorld>, AllocError>
+    requires { k < FILES_LIMIT }
+    ensures { IfOk result (λ found.
+        found ≡ found_facts path.now (stamp_of seed k) (forged seed k)) }
+{
+    let bytes = forge(alloc, seed, k)?;
+    let path = String::from_str(alloc, path)?;
+    Ok(Found::new(path, stamp_of(seed, k), bytes))
+}
+
+/// What a load answers, among so many files.
+fn load_in(
+    alloc: Global,
+    seed: u64,
+    files: u64,
+    path: &str,
+    limit: u64,
+) -> Result<LoadAnswer<OpenWorld>, AllocError>
+    requires { files ≤ FILES_LIMIT }
+    ensures { IfOk result (λ answer.
+        load_facts answer ≡ load_answer seed files path.now limit) }
+{
+    let Some(k) = number_at(files, path) else {
+        return Ok(LoadAnswer::Gone);
+    };
+    let stamp = stamp_of(seed, k);
+    if limit < stamp.size {
+        return Ok(LoadAnswer::TooLarge { stamp });
+    }
+    Ok(LoadAnswer::Found(found(alloc, seed, k, path)?))
+}
+
+/// What a look answers, among so many files.
+fn stat_in(seed: u64, files: u64, path: &str) -> StatAnswer
+    requires { files ≤ FILES_LIMIT }
+    ensures { result ≡ stat_answer seed files path.now }
+{
+    match number_at(files, path) {
+        Some(k) => StatAnswer::File(stamp_of(seed, k)),
+        None if folder_among(files, path).is_some() => StatAnswer::Folder,
+        None => StatAnswer::Gone,
+    }
+}
+
+/// What the reading of a folder answers, among so many files.
+fn dir_in(alloc: Global, files: u64, path: &str) -> Result<DirAnswer, AllocError>
+    ensures { IfOk result (λ answer. dir_facts answer ≡ dir_answer files path.now) }
+{
+    let Some(folder) = folder_among(files, path) else {
+        return Ok(DirAnswer::Gone);
+    };
+    Ok(DirAnswer::Listed {
+        entries: entries_of(alloc, files, folder)?,
+        skipped: 0,
+    })
+}
+
+impl ForgeTree {
+    /// Loads a file, and keeps the question.
+    fn load_forged(&mut self, alloc: Global, path: &str, limit: u64) -> LoadAnswer<OpenWorld>
+        ensures forged { RunsForged self.old self.new (load path.now limit (load_facts result)) }
+        ensures few { self.old.files ≤ FILES_LIMIT }
+    {
+        let Ok(answer) = load_in(alloc, self.seed, self.files, path, limit) else {
+            return LoadAnswer::OutOfMemory;
+        };
+        if self.keep(Question::load(alloc, path, limit)) {
+            answer
+        } else {
+            LoadAnswer::OutOfMemory
+        }
+    }
+
+    /// Looks at a path, and keeps the question.
+    fn stat_forged(&mut self, alloc: Global, path: &str) -> StatAnswer
+        ensures forged { RunsForged self.old self.new (stat path.now result) }
+        ensures few { self.old.files ≤ FILES_LIMIT }
+    {
+        let answer = stat_in(self.seed, self.files, path);
+        if self.keep(Question::stat(alloc, path)) {
+            answer
+        } else {
+            StatAnswer::OutOfMemory
+        }
+    }
+
+    /// Reads a folder, and keeps the question.
+    fn dir_forged(&mut self, alloc: Global, path: &str) -> DirAnswer
+        ensures forged { RunsForged self.old self.new (read_dir path.now (dir_facts result)) }
+        ensures few { self.old.files ≤ FILES_LIMIT }
+    {
+        let Ok(answer) = dir_in(alloc, self.files, path) else {
+            return DirAnswer::OutOfMemory;
+        };
+        if self.keep(Question::read_dir(alloc, path)) {
+            answer
+        } else {
+            DirAnswer::OutOfMemory
+        }
+    }
+}
+
+impl Tree<OpenWorld> for ForgeTree {
+    ghost use Rattle.std.specs.Prelude.{true};
+    ghost use Rattle.elf_forge.specs.Tree.{shown_by};
+
+    ghost told = { true };
+
+    ghost shows = { shown_by };
+
+    fn load(&mut self, alloc: Global, path: &str, limit: u64) -> LoadAnswer<OpenWorld>
+        ensures asks { Asks true (λ _ _ _. Unit {0}) (shown_by self.old) (shown_by self.new)
+            (load path.now limit (load_facts result)) }
+        ensures memory { IsTrue (wants_memory (load path.now limit (load_facts result)))
+            → self.new ≡ self.old }
+        ensures forged { RunsForged self.old self.new (load path.now limit (load_facts result)) }
+    {
+        self.load_forged(alloc, path, limit)
+    }
+
+    fn stat(&mut self, alloc: Global, path: &str) -> StatAnswer
+        ensures asks { Asks true (λ _ _ _. Unit {0}) (shown_by self.old) (shown_by self.new)
+            (stat path.now result) }
+        ensures memory { IsTrue (wants_memory (stat path.now result)) → self.new ≡ self.old }
+        ensures forged { RunsForged self.old self.new (stat path.now result) }
+    {
+        self.stat_forged(alloc, path)
+    }
+
+    fn read_dir(&mut self, alloc: Global, path: &str) -> DirAnswer
+        ensures asks { Asks true (λ _ _ _. Unit {0}) (shown_by self.old) (shown_by self.new)
+            (read_dir path.now (dir_facts result)) }
+        ensures memory { IsTrue (wants_memory (read_dir path.now (dir_facts result)))
+            → self.new ≡ self.old }
+        ensures forged { RunsForged self.old self.new (read_dir path.now (dir_facts result)) }
+    {
+        self.dir_forged(alloc, path)
+    }
+}
