@@ -1,11 +1,12 @@
 -- An LEB128 number is the sum of its septets, taken one after another.
-use Rattle.std.proofs.Common.{◌≡◌, ℕ, ◌+◌, ◌*◌, ◌-◌, ◌^◌, ◌%◌, ◌/◌, ◌<◌, Bool, true, false, List, [], ◌∷◌, ◌++◌, length, take, map, get_or, refl, sym, ap, ◌∙◌, arith, add-one, pos, negsuc, ℤ, ◌-ℤ◌, ◌==◌, if◌then◌else◌}
+use Rattle.std.proofs.Common.{◌≡◌, ℕ, ◌+◌, ◌*◌, ◌-◌, ◌^◌, ◌%◌, ◌/◌, ◌<◌, Bool, true, false, List, [], ◌∷◌, ◌++◌, length, take, map, get_or, lt-ltb, Some, None, refl, sym, ap, ◌∙◌, subst, arith, add-one, pos, negsuc, ℤ, ◌-ℤ◌, ◌==◌, if◌then◌else◌}
 use Rattle.std.proofs.lemmas.List.{take_more, length-take-le, length-map, map-append, get_or-take}
 use Rattle.std.proofs.lemmas.Int.{ints}
 use Rattle.std.proofs.Math.Nat.{pow-suc, mul_assoc, mul_comm}
 use Rattle.file_formats.specs.Leb128.{septets, signed_septets}
 use Rattle.byte_read.specs.declared.leb.Septets.{Septets}
-use Rattle.byte_read.specs.Septets.{sum_with, flipped, digit_of, turned}
+use Rattle.byte_read.specs.Reads.{fits_u64}
+use Rattle.byte_read.specs.Septets.{sum_with, flipped, digit_of, fitting, turned}
 
 higher : (y p : ℕ) → y * (p * 128) ≡ 128 * (y * p)
 higher y p = sym (mul_assoc y p 128) ∙ mul_comm (y * p) 128
@@ -97,3 +98,19 @@ signed_by negative bytes m within sign =
         let ones : septets all + septets (map flipped all) + 1 ≡ 128 ^ (m + 1) =
         septets-flipped all ∙ ap (λ n. 128 ^ n) (length-take-le (m + 1) bytes (omega arith)) in
         omega (arith, ints)
+
+-- a number of one byte is the byte
+one_low : (x : ℕ) → x < 128 → septets (x ∷ []) ≡ x
+unfolding septets
+one_low x small = omega (arith, small)
+
+fits_small : (x : ℕ) → x < 128 → fitting fits_u64 x ≡ Some x
+fits_small x small =
+    ap (λ (v : Bool). if v then Some x else None) (lt-ltb x (2 ^ 64) (omega (arith, small)))
+
+pub one_septet : (bytes : List ℕ) (d : ℕ) {n : ℕ} → length bytes ≡ 1 → get_or bytes 0 d < 128 → n ≡ get_or bytes 0 d
+    → Some n ≡ fitting fits_u64 (septets bytes)
+one_septet [] d long small e = absurd (omega (arith, long))
+one_septet (x ∷ []) d long small e =
+    ap Some e ∙ sym (subst (λ m. fitting fits_u64 m ≡ Some x) (sym (one_low x small)) (fits_small x small))
+one_septet (x ∷ y ∷ more) d long small e = absurd (omega (arith, long))

@@ -100,14 +100,26 @@ fn last_byte(bytes: &[u8]) -> Option<usize>
     bytes.iter().position(|byte| *byte < SEPTET_VALUES)
 }
 
+/// The unsigned number that all these bytes spell. Most have one byte.
+#[tactic(auto, using(crate::proofs::LebLemmas::one_septet))]
+fn spelled(bytes: &[u8]) -> Option<u64>
+    ensures { result ≡ fitting fits_u64 (septets bytes.now) }
+{
+    match bytes {
+        [only] if *only < SEPTET_VALUES => Some(u64::from(*only)),
+        _ => sum_of(bytes, false),
+    }
+}
+
 /// The unsigned number at the front of the bytes.
+#[inline(always)]
 pub(crate) fn uleb_of(bytes: &[u8]) -> Option<Leb<u64>>
     ensures value { result ≡ leb_of fits_u64 unsigned bytes.now }
     ensures within { IfSome result (λ leb. leb.size ≤ length bytes.now) }
 {
     let last = last_byte(bytes)?;
     Some(Leb {
-        number: sum_of(&bytes[..last + 1], false),
+        number: spelled(&bytes[..last + 1]),
         size: last + 1,
     })
 }

@@ -1,5 +1,5 @@
 -- Folders that are too long for a path to lie within may be left out.
-use Rattle.std.proofs.Common.{◌≡◌, ℕ, ◌≤◌, Bool, true, false, List, ◌∷◌, length, Option, Some, None, refl, sym, ◌∙◌, ap, subst, arith, length-append, le-leb}
+use Rattle.std.proofs.Common.{◌≡◌, ℕ, ◌≤◌, Bool, true, false, List, [], ◌∷◌, length, Option, Some, None, refl, sym, ◌∙◌, ap, subst, arith, length-append, le-leb}
 use Rattle.std.specs.Prelude.{◌==◌, nat_le, if◌then◌else◌}
 use Rattle.std.specs.Option.{option_map, option_and_then}
 use Rattle.std.proofs.lemmas.Bool.{leb-true, leb-false}
@@ -11,7 +11,7 @@ use Rattle.row_types.specs.declared.limits.TheConstants.{SEPARATOR, PATH_LIMIT}
 use Rattle.row_types.specs.Absolute.{is_absolute}
 use Rattle.source_paths.proofs.AddLemmas.{adds-same}
 use Rattle.source_paths.specs.Adds.{Adds, IsFileFrom, short, where_short}
-use Rattle.row_types.specs.SourcePaths.{behind, within, directory_from, file_from, first_directory}
+use Rattle.row_types.specs.SourcePaths.{behind, within, directory_from, file_from, file_path, first_directory}
 use Rattle.row_types.specs.Sources.{IsFileSource, IsOfOne, MayName}
 
 -- a text within a folder that is too long is too long
@@ -48,6 +48,37 @@ short_behind folder (Some text) =
     elim (is_absolute text) as (λ v. short (if v then Some text else option_map (within text) (short folder))
     ≡ short (if v then Some text else option_map (within text) folder))
     [ true ↦ refl | false ↦ short_within text folder ]
+
+-- a text that is too long names nothing behind any folder
+too_long_within : (text folder : List ℕ) → nat_le (length text) PATH_LIMIT ≡ false → where_short (within text folder) ≡ None
+too_long_within text folder e =
+    elim (nat_le (length (within text folder)) PATH_LIMIT) as (λ v. nat_le (length (within text folder)) PATH_LIMIT ≡ v
+    → (if v then Some (within text folder) else None) ≡ None) [
+      | true ↦ λ fits. absurd (omega (arith, leb-false (length text) PATH_LIMIT e, leb-true (length (within text folder)) PATH_LIMIT fits, length-append folder (SEPARATOR ∷ text)))
+      | false ↦ λ _. refl
+    ] refl
+
+too_long_behind : (folder : Option (List ℕ)) (text : List ℕ) → nat_le (length text) PATH_LIMIT ≡ false
+    → None ≡ short (behind folder (Some text))
+too_long_behind folder text e =
+    elim (is_absolute text) as (λ v. None ≡ short (if v then Some text else option_map (within text) folder))
+    [ true ↦ by_itself | false ↦ in_folder folder ]
+  where
+    by_itself : None ≡ where_short text
+    by_itself = ap (λ (v : Bool). if v then Some text else None) (sym e)
+
+    in_folder : (folder : Option (List ℕ)) → None ≡ short (option_map (within text) folder)
+    in_folder None = refl
+    in_folder (Some folder) = sym (too_long_within text folder e)
+
+pub short_text : (folder text : Option (List ℕ)) → short (behind folder (short text)) ≡ short (behind folder text)
+short_text folder None = refl
+short_text folder (Some text) =
+    elim (nat_le (length text) PATH_LIMIT) as (λ v. nat_le (length text) PATH_LIMIT ≡ v
+    → short (behind folder (if v then Some text else None)) ≡ short (behind folder (Some text))) [
+      | true ↦ λ e. refl
+      | false ↦ λ e. too_long_behind folder text e
+    ] refl
 
 short_directory : (first : Option (List ℕ)) (directories : List (Option (List ℕ))) (index : ℕ)
     → short (directory_from (short first) directories index) ≡ short (directory_from first directories index)
@@ -107,6 +138,37 @@ pub to_short : (first : Option (List ℕ)) (directories : List (Option (List ℕ
 to_short first directories file path =
     same_named (file_from first directories file) (file_from (short first) directories file) (sym (short_file first directories file))
 
+-- what stands behind a folder adds the same where the folder is too long
+pub adds_behind : (folder text : Option (List ℕ)) {made : Option (List ℕ)} {old new : BTreeSet (List ℕ)} → made ≡ short folder
+    → Adds (MayName (behind made text)) old new → Adds (MayName (behind folder text)) old new
+adds_behind folder text {made} {old} {new} e a = adds-same
+    (λ path h. same_named (behind (short folder) text) (behind folder text) (short_behind folder text) h)
+    (λ path h. same_named (behind folder text) (behind (short folder) text) (sym (short_behind folder text)) h)
+    (subst (λ f. Adds (MayName (behind f text)) old new) e a)
+
+-- a text adds the same where it is too long
+pub adds_text : (folder text : Option (List ℕ)) {made : Option (List ℕ)} {old new : BTreeSet (List ℕ)} → made ≡ short text
+    → Adds (MayName (behind folder made)) old new → Adds (MayName (behind folder text)) old new
+adds_text folder text {made} {old} {new} e a = adds-same
+    (λ path h. same_named (behind folder (short text)) (behind folder text) (short_text folder text) h)
+    (λ path h. same_named (behind folder text) (behind folder (short text)) (sym (short_text folder text)) h)
+    (subst (λ t. Adds (MayName (behind folder t)) old new) e a)
+
+-- and so in a directory that is too long
+same_directory : (first directory text : Option (List ℕ))
+    → short (behind (behind first (short directory)) text) ≡ short (behind (behind first directory) text)
+same_directory first directory text =
+    same_behind text (behind first (short directory)) (behind first directory) (short_text first directory)
+
+pub adds_in : (first directory text : Option (List ℕ)) {made : Option (List ℕ)} {old new : BTreeSet (List ℕ)} → made ≡ short directory
+    → Adds (MayName (behind (behind first made) text)) old new → Adds (MayName (behind (behind first directory) text)) old new
+adds_in first directory text {made} {old} {new} e a = adds-same
+    (λ path h. same_named (behind (behind first (short directory)) text) (behind (behind first directory) text)
+    (same_directory first directory text) h)
+    (λ path h. same_named (behind (behind first directory) text) (behind (behind first (short directory)) text)
+    (sym (same_directory first directory text)) h)
+    (subst (λ d. Adds (MayName (behind (behind first d) text)) old new) e a)
+
 -- the text is short, or it isn't
 pub adds_short : (text : Option (List ℕ)) {old new : BTreeSet (List ℕ)} → Adds (MayName (short text)) old new → Adds (MayName text) old new
 adds_short text a = adds-same (λ path h. where_short_named text h) (λ path h. where_named text h) a
@@ -132,3 +194,26 @@ adds_table unit table {first} {directories} {files} {old} {new} e d f a =
     (subst (λ x. Adds (IsOfOne (IsFileFrom x table.directories) table.files) old new) e
     (subst (λ x. Adds (IsOfOne (IsFileFrom first x) table.files) old new) d
     (subst (λ x. Adds (IsOfOne (IsFileFrom first directories) x) old new) f a)))
+
+-- a table's file has the path that it has in a unit whose directory is too long
+same_first : (unit : Option (List ℕ)) (directories : List (Option (List ℕ)))
+    → short (first_directory (short unit) directories) ≡ short (first_directory unit directories)
+same_first unit [] = short_again unit
+same_first unit (first ∷ rest) = short_behind unit first
+
+short_unit : (unit : Option (List ℕ)) (table : LineTable) (file : LineEntry)
+    → short (file_path (short unit) table file) ≡ short (file_path unit table file)
+short_unit unit table file =
+    sym (short_file (first_directory (short unit) table.directories) table.directories file)
+    ∙ ap (λ f. short (file_from f table.directories file)) (same_first unit table.directories)
+    ∙ short_file (first_directory unit table.directories) table.directories file
+
+pub from_unit : (unit : Option (List ℕ)) (table : LineTable) (path : List ℕ)
+    → IsOfOne (IsFileSource (short unit) table) table.files path → IsOfOne (IsFileSource unit table) table.files path
+from_unit unit table =
+    one_by_one (λ file path. same_named (file_path (short unit) table file) (file_path unit table file) (short_unit unit table file)) table.files
+
+pub to_unit : (unit : Option (List ℕ)) (table : LineTable) (path : List ℕ)
+    → IsOfOne (IsFileSource unit table) table.files path → IsOfOne (IsFileSource (short unit) table) table.files path
+to_unit unit table =
+    one_by_one (λ file path. same_named (file_path unit table file) (file_path (short unit) table file) (sym (short_unit unit table file))) table.files

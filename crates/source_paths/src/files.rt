@@ -2,43 +2,97 @@
 
 ghost use Rattle.std.specs.Prelude.{map, OnOk};
 ghost use Rattle.std.specs.Option.{option_copied};
+ghost use Rattle.dwarf_forms.specs.TextBytes.{text_said};
 ghost use Rattle.dwarf_lines.specs.Entries.{file_facts};
 ghost use Rattle.source_paths.specs.Adds.{Adds, IsFileFrom};
-ghost use Rattle.row_types.specs.Sources.{IsFileSource, IsOfOne};
+ghost use Rattle.row_types.specs.SourcePaths.{behind};
+ghost use Rattle.row_types.specs.Sources.{IsFileSource, IsOfOne, MayName};
 
-use crate::joined::{file_path, first_directory, lent};
-use crate::named::add_named;
+use crate::found::Found;
+use crate::joined::{behind, first_directory, is_absolute, lent, listed, short};
+use dwarf_forms::Text;
 use dwarf_lines::{LineFile, LineTable};
-use row_types::CanonPath;
 use std::alloc::{AllocError, Global};
-use std::collections::BTreeSet;
+
+/// Adds the path that a text behind a folder names.
+fn add_text(
+    alloc: Global,
+    folder: Option<&[u8]>,
+    text: Option<Text<'_>>,
+    paths: &mut Found,
+) -> Result<(), AllocError>
+    ensures { OnOk result (Adds
+        (MayName (behind (option_copied folder.entry) (text_said text.entry)))
+        paths.old paths.new) }
+{
+    paths.add(alloc, folder, short(text))
+}
+
+/// Adds the path of a file in a folder of this directory, where directory 0 has this path.
+fn add_in_folder(
+    alloc: Global,
+    first: Option<&[u8]>,
+    directory: Option<&[u8]>,
+    text: Option<Text<'_>>,
+    paths: &mut Found,
+) -> Result<(), AllocError>
+    ensures { OnOk result (Adds (MayName (behind
+        (behind (option_copied first.entry) (option_copied directory.entry))
+        (text_said text.entry))) paths.old paths.new) }
+{
+    match directory {
+        Some(folder) if is_absolute(folder) => add_text(alloc, Some(folder), text, paths),
+        _ => {
+            let folder = behind(alloc, first, directory)?;
+            add_text(alloc, lent(&folder), text, paths)
+        }
+    }
+}
+
+/// Adds the path of a file in a directory with this text, where directory 0 has this path.
+fn add_within(
+    alloc: Global,
+    first: Option<&[u8]>,
+    directory: Option<Text<'_>>,
+    text: Option<Text<'_>>,
+    paths: &mut Found,
+) -> Result<(), AllocError>
+    ensures { OnOk result (Adds (MayName (behind
+        (behind (option_copied first.entry) (text_said directory.entry))
+        (text_said text.entry))) paths.old paths.new) }
+{
+    add_in_folder(alloc, first, short(directory), text, paths)
+}
 
 /// Adds the path of a file, where directory 0 has this path.
 fn add_file(
     alloc: Global,
     first: Option<&[u8]>,
-    dirs: &[Option<&[u8]>],
+    dirs: &[Option<Text<'_>>],
     file: &LineFile<'_>,
-    paths: &mut BTreeSet<CanonPath>,
+    paths: &mut Found,
 ) -> Result<(), AllocError>
     ensures { OnOk result (Adds
-        (IsFileFrom (option_copied first.entry) (map option_copied dirs.now) (file_facts file.now))
+        (IsFileFrom (option_copied first.entry) (map text_said dirs.now) (file_facts file.now))
         paths.old paths.new) }
 {
-    let path = file_path(alloc, first, dirs, file)?;
-    add_named(alloc, path, paths)
+    match file.dir {
+        None => add_text(alloc, None, file.path, paths),
+        Some(0) => add_text(alloc, first, file.path, paths),
+        Some(index) => add_within(alloc, first, listed(dirs, index), file.path, paths),
+    }
 }
 
 /// Adds the paths of files, where directory 0 has this path.
 fn add_each(
     alloc: Global,
     first: Option<&[u8]>,
-    dirs: &[Option<&[u8]>],
+    dirs: &[Option<Text<'_>>],
     files: &[LineFile<'_>],
-    paths: &mut BTreeSet<CanonPath>,
+    paths: &mut Found,
 ) -> Result<(), AllocError>
     ensures { OnOk result (Adds
-        (IsOfOne (IsFileFrom (option_copied first.entry) (map option_copied dirs.now))
+        (IsOfOne (IsFileFrom (option_copied first.entry) (map text_said dirs.now))
         (map file_facts files.now)) paths.old paths.new) }
 {
     for file in files {
@@ -52,7 +106,7 @@ pub(crate) fn add_files(
     alloc: Global,
     unit: Option<&[u8]>,
     table: &LineTable<'_>,
-    paths: &mut BTreeSet<CanonPath>,
+    paths: &mut Found,
 ) -> Result<(), AllocError>
     ensures { OnOk result (Adds
         (IsOfOne (IsFileSource (option_copied unit.entry) table.now) table.now.files)
