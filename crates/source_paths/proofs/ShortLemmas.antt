@@ -1,8 +1,9 @@
 -- Folders that are too long for a path to lie within may be left out.
-use Rattle.std.proofs.Common.{◌≡◌, ℕ, ◌≤◌, Bool, true, false, List, [], ◌∷◌, length, Option, Some, None, refl, sym, ◌∙◌, ap, subst, arith, length-append, le-leb}
+use Rattle.std.proofs.Common.{◌≡◌, ℕ, ◌≤◌, Bool, true, false, List, [], ◌∷◌, length, map, Option, Some, None, refl, sym, ◌∙◌, ap, subst, arith, length-append, le-leb}
 use Rattle.std.specs.Prelude.{◌==◌, nat_le, if◌then◌else◌}
 use Rattle.std.specs.Option.{option_map, option_and_then}
 use Rattle.std.proofs.lemmas.Bool.{leb-true, leb-false}
+use Rattle.std.proofs.Math.ListN.{get_or-map}
 use Rattle.std.specs.BTreeSet.{BTreeSet}
 use Rattle.std.specs.List.{slice_index_or}
 use Rattle.dwarf_units.proofs.CaseLemmas.{only_then}
@@ -104,6 +105,38 @@ short_file first directories file =
     in_folder None = refl
     in_folder (Some index) = short_directory first directories index
 
+-- where directories that are too long are left out
+short_listed : (first : Option (List ℕ)) (directories : List (Option (List ℕ))) (index : ℕ)
+    → short (directory_from first (map short directories) index) ≡ short (directory_from first directories index)
+short_listed first directories index =
+    elim (index == 0) as (λ v. short (if v then first else behind first (slice_index_or (map short directories) index None))
+    ≡ short (if v then first else behind first (slice_index_or directories index None))) [
+      | true ↦ refl
+      | false ↦ ap (λ d. short (behind first d)) (get_or-map short directories index None)
+          ∙ short_text first (slice_index_or directories index None)
+    ]
+
+file_listed : (first : Option (List ℕ)) (directories : List (Option (List ℕ))) (file : LineEntry)
+    → short (file_from first (map short directories) file) ≡ short (file_from first directories file)
+file_listed first directories file =
+    same_behind file.path (option_and_then (directory_from first (map short directories)) file.directory)
+    (option_and_then (directory_from first directories) file.directory) (in_folder file.directory)
+  where
+    in_folder : (index : Option ℕ) → short (option_and_then (directory_from first (map short directories)) index)
+        ≡ short (option_and_then (directory_from first directories) index)
+    in_folder None = refl
+    in_folder (Some index) = short_listed first directories index
+
+first_listed : (unit : Option (List ℕ)) (directories : List (Option (List ℕ)))
+    → short (first_directory unit (map short directories)) ≡ short (first_directory unit directories)
+first_listed unit [] = refl
+first_listed unit (first ∷ rest) = short_text unit first
+
+-- a file has the same path where directory 0 and the others are too long
+all_short : (first : Option (List ℕ)) (directories : List (Option (List ℕ))) (file : LineEntry)
+    → short (file_from (short first) (map short directories) file) ≡ short (file_from first directories file)
+all_short first directories file = short_file first (map short directories) file ∙ file_listed first directories file
+
 -- a text that names a source is short enough
 where_named : (text : Option (List ℕ)) {path : List ℕ} → MayName text path → MayName (short text) path
 where_named text h = record {
@@ -127,16 +160,16 @@ where_short_named (Some text) h = record {
 pub same_named : (text other : Option (List ℕ)) → short text ≡ short other → {path : List ℕ} → MayName text path → MayName other path
 same_named text other e {path} h = where_short_named other (subst (λ t. MayName t path) e (where_named text h))
 
--- each file has the path that it has where directory 0 is too long
+-- each file has the path that it has where directories are too long
 pub from_short : (first : Option (List ℕ)) (directories : List (Option (List ℕ))) (file : LineEntry) (path : List ℕ)
-    → IsFileFrom (short first) directories file path → IsFileFrom first directories file path
+    → IsFileFrom (short first) (map short directories) file path → IsFileFrom first directories file path
 from_short first directories file path =
-    same_named (file_from (short first) directories file) (file_from first directories file) (short_file first directories file)
+    same_named (file_from (short first) (map short directories) file) (file_from first directories file) (all_short first directories file)
 
 pub to_short : (first : Option (List ℕ)) (directories : List (Option (List ℕ))) (file : LineEntry) (path : List ℕ)
-    → IsFileFrom first directories file path → IsFileFrom (short first) directories file path
+    → IsFileFrom first directories file path → IsFileFrom (short first) (map short directories) file path
 to_short first directories file path =
-    same_named (file_from first directories file) (file_from (short first) directories file) (sym (short_file first directories file))
+    same_named (file_from first directories file) (file_from (short first) (map short directories) file) (sym (all_short first directories file))
 
 -- what stands behind a folder adds the same where the folder is too long
 pub adds_behind : (folder text : Option (List ℕ)) {made : Option (List ℕ)} {old new : BTreeSet (List ℕ)} → made ≡ short folder
@@ -154,21 +187,6 @@ adds_text folder text {made} {old} {new} e a = adds-same
     (λ path h. same_named (behind folder text) (behind folder (short text)) (sym (short_text folder text)) h)
     (subst (λ t. Adds (MayName (behind folder t)) old new) e a)
 
--- and so in a directory that is too long
-same_directory : (first directory text : Option (List ℕ))
-    → short (behind (behind first (short directory)) text) ≡ short (behind (behind first directory) text)
-same_directory first directory text =
-    same_behind text (behind first (short directory)) (behind first directory) (short_text first directory)
-
-pub adds_in : (first directory text : Option (List ℕ)) {made : Option (List ℕ)} {old new : BTreeSet (List ℕ)} → made ≡ short directory
-    → Adds (MayName (behind (behind first made) text)) old new → Adds (MayName (behind (behind first directory) text)) old new
-adds_in first directory text {made} {old} {new} e a = adds-same
-    (λ path h. same_named (behind (behind first (short directory)) text) (behind (behind first directory) text)
-    (same_directory first directory text) h)
-    (λ path h. same_named (behind (behind first directory) text) (behind (behind first (short directory)) text)
-    (sym (same_directory first directory text)) h)
-    (subst (λ d. Adds (MayName (behind (behind first d) text)) old new) e a)
-
 -- the text is short, or it isn't
 pub adds_short : (text : Option (List ℕ)) {old new : BTreeSet (List ℕ)} → Adds (MayName (short text)) old new → Adds (MayName text) old new
 adds_short text a = adds-same (λ path h. where_short_named text h) (λ path h. where_named text h) a
@@ -177,21 +195,22 @@ pub one_by_one : {A : Type 0} {P Q : A → List ℕ → Type 0} → ((one : A) (
     → (list : List A) (path : List ℕ) → IsOfOne P list path → IsOfOne Q list path
 one_by_one to list path h = record { one = h.one; among = h.among; has = to h.one path h.has }
 
--- the files' paths are the same where directory 0 is too long
+-- the files' paths are the same where directories are too long
 pub adds_files : (first : Option (List ℕ)) (directories : List (Option (List ℕ))) (files : List LineEntry) {old new : BTreeSet (List ℕ)}
-    → Adds (IsOfOne (IsFileFrom (short first) directories) files) old new
+    → Adds (IsOfOne (IsFileFrom (short first) (map short directories)) files) old new
     → Adds (IsOfOne (IsFileFrom first directories) files) old new
 adds_files first directories files a =
     adds-same (one_by_one (from_short first directories) files) (one_by_one (to_short first directories) files) a
 
 -- the files of a table add their paths
 pub adds_table : (unit : Option (List ℕ)) (table : LineTable) {first : Option (List ℕ)} {directories : List (Option (List ℕ))}
-    {files : List LineEntry} {old new : BTreeSet (List ℕ)} → first ≡ short (first_directory unit table.directories)
-    → directories ≡ table.directories → files ≡ table.files → Adds (IsOfOne (IsFileFrom first directories) files) old new
+    {files : List LineEntry} {old new : BTreeSet (List ℕ)} → first ≡ short (first_directory unit (map short table.directories))
+    → directories ≡ map short table.directories → files ≡ table.files → Adds (IsOfOne (IsFileFrom first directories) files) old new
     → Adds (IsOfOne (IsFileSource unit table) table.files) old new
 adds_table unit table {first} {directories} {files} {old} {new} e d f a =
     adds_files (first_directory unit table.directories) table.directories table.files
-    (subst (λ x. Adds (IsOfOne (IsFileFrom x table.directories) table.files) old new) e
+    (subst (λ x. Adds (IsOfOne (IsFileFrom x (map short table.directories)) table.files) old new)
+    (e ∙ first_listed unit table.directories)
     (subst (λ x. Adds (IsOfOne (IsFileFrom first x) table.files) old new) d
     (subst (λ x. Adds (IsOfOne (IsFileFrom first directories) x) old new) f a)))
 

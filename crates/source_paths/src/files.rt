@@ -9,7 +9,7 @@ ghost use Rattle.row_types.specs.SourcePaths.{behind};
 ghost use Rattle.row_types.specs.Sources.{IsFileSource, IsOfOne, MayName};
 
 use crate::found::Found;
-use crate::joined::{behind, first_directory, is_absolute, lent, listed, short};
+use crate::joined::{behind, first_directory, is_absolute, lent, listed, short, short_texts};
 use dwarf_forms::Text;
 use dwarf_lines::{LineFile, LineTable};
 use std::alloc::{AllocError, Global};
@@ -49,37 +49,22 @@ fn add_in_folder(
     }
 }
 
-/// Adds the path of a file in a directory with this text, where directory 0 has this path.
-fn add_within(
-    alloc: Global,
-    first: Option<&[u8]>,
-    directory: Option<Text<'_>>,
-    text: Option<Text<'_>>,
-    paths: &mut Found,
-) -> Result<(), AllocError>
-    ensures { OnOk result (Adds (MayName (behind
-        (behind (option_copied first.entry) (text_said directory.entry))
-        (text_said text.entry))) paths.old paths.new) }
-{
-    add_in_folder(alloc, first, short(directory), text, paths)
-}
-
 /// Adds the path of a file, where directory 0 has this path.
 fn add_file(
     alloc: Global,
     first: Option<&[u8]>,
-    dirs: &[Option<Text<'_>>],
+    dirs: &[Option<&[u8]>],
     file: &LineFile<'_>,
     paths: &mut Found,
 ) -> Result<(), AllocError>
     ensures { OnOk result (Adds
-        (IsFileFrom (option_copied first.entry) (map text_said dirs.now) (file_facts file.now))
+        (IsFileFrom (option_copied first.entry) (map option_copied dirs.now) (file_facts file.now))
         paths.old paths.new) }
 {
     match file.dir {
         None => add_text(alloc, None, file.path, paths),
         Some(0) => add_text(alloc, first, file.path, paths),
-        Some(index) => add_within(alloc, first, listed(dirs, index), file.path, paths),
+        Some(index) => add_in_folder(alloc, first, listed(dirs, index), file.path, paths),
     }
 }
 
@@ -87,12 +72,12 @@ fn add_file(
 fn add_each(
     alloc: Global,
     first: Option<&[u8]>,
-    dirs: &[Option<Text<'_>>],
+    dirs: &[Option<&[u8]>],
     files: &[LineFile<'_>],
     paths: &mut Found,
 ) -> Result<(), AllocError>
     ensures { OnOk result (Adds
-        (IsOfOne (IsFileFrom (option_copied first.entry) (map text_said dirs.now))
+        (IsOfOne (IsFileFrom (option_copied first.entry) (map option_copied dirs.now))
         (map file_facts files.now)) paths.old paths.new) }
 {
     for file in files {
@@ -101,7 +86,8 @@ fn add_each(
     Ok(())
 }
 
-/// Adds the paths of a table's files, in a unit of this directory. Directory 0 is joined once.
+/// Adds the paths of a table's files, in a unit of this directory. Directory 0 is joined once, and
+/// each directory's text is read once.
 pub(crate) fn add_files(
     alloc: Global,
     unit: Option<&[u8]>,
@@ -112,11 +98,12 @@ pub(crate) fn add_files(
         (IsOfOne (IsFileSource (option_copied unit.entry) table.now) table.now.files)
         paths.old paths.new) }
 {
-    let first = first_directory(alloc, unit, table.dirs.as_slice())?;
+    let dirs = short_texts(alloc, table.dirs.as_slice())?;
+    let first = first_directory(alloc, unit, dirs.as_slice())?;
     add_each(
         alloc,
         lent(&first),
-        table.dirs.as_slice(),
+        dirs.as_slice(),
         table.files.as_slice(),
         paths,
     )

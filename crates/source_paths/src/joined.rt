@@ -29,6 +29,21 @@ pub(crate) fn short(text: Option<Text<'_>>) -> Option<&[u8]>
     text?.within(PATH_LIMIT)
 }
 
+/// The bytes of texts, None where one is longer than a path may be.
+pub(crate) fn short_texts<'a>(
+    alloc: Global,
+    texts: &[Option<Text<'a>>],
+) -> Result<Vec<Option<&'a [u8]>>, AllocError>
+    ensures { IfOk result (λ found.
+        map option_copied found.items ≡ map short (map text_said texts.now)) }
+{
+    let mut found = Vec::with_capacity(alloc, texts.len())?;
+    for text in texts {
+        found.push(short(*text))?;
+    }
+    Ok(found)
+}
+
 /// A copy of a text, None where it is longer than a path may be.
 fn copied(alloc: Global, text: &[u8]) -> Result<Option<Vec<u8>>, AllocError>
     ensures { IfOk result (λ copy. option_map (λ v. v.items) copy ≡ where_short text.now) }
@@ -76,37 +91,24 @@ pub(crate) fn behind(
     }
 }
 
-/// A text of the file behind a folder, None where a part that is needed isn't there, or the path
-/// would be longer than a path may be.
-fn text_behind(
-    alloc: Global,
-    folder: Option<&[u8]>,
-    text: Option<Text<'_>>,
-) -> Result<Option<Vec<u8>>, AllocError>
-    ensures { IfOk result (λ path.
-        option_map (λ v. v.items) path ≡ short (behind (option_copied folder.entry) (text_said text.entry))) }
-{
-    behind(alloc, folder, short(text))
-}
-
 /// The path of directory 0 of a table, in a unit of this directory.
 pub(crate) fn first_directory(
     alloc: Global,
     unit: Option<&[u8]>,
-    dirs: &[Option<Text<'_>>],
+    dirs: &[Option<&[u8]>],
 ) -> Result<Option<Vec<u8>>, AllocError>
     ensures { IfOk result (λ path. option_map (λ v. v.items) path
-        ≡ short (first_directory (option_copied unit.entry) (map text_said dirs.now))) }
+        ≡ short (first_directory (option_copied unit.entry) (map option_copied dirs.now))) }
 {
     match dirs {
         [] => unit.map_or(Ok(None), |unit| copied(alloc, unit)),
-        [first, ..] => text_behind(alloc, unit, *first),
+        [first, ..] => behind(alloc, unit, *first),
     }
 }
 
 /// The path that a table lists for a directory, None where it lists none.
-pub(crate) fn listed<'a>(dirs: &[Option<Text<'a>>], index: u64) -> Option<Text<'a>>
-    ensures { text_said result ≡ slice_index_or (map text_said dirs.now) index None }
+pub(crate) fn listed<'a>(dirs: &[Option<&'a [u8]>], index: u64) -> Option<&'a [u8]>
+    ensures { option_copied result ≡ slice_index_or (map option_copied dirs.now) index None }
 {
     match dirs.get(index as usize) {
         Some(path) => *path,

@@ -1,6 +1,5 @@
 use Rattle.std.proofs.Common.{map, take}
 use Rattle.std.specs.Option.{option_copied}
-use Rattle.dwarf_forms.specs.TextBytes.{text_said}
 use Rattle.dwarf_lines.specs.Entries.{file_facts}
 use Rattle.source_paths.specs.Adds.{Adds, IsFileFrom}
 use Rattle.row_types.specs.Sources.{IsOfOne}
@@ -8,5 +7,5 @@ use Rattle.source_paths.proofs.files.add_each.Given as goal
 
 abbrev pub invariant-loop-file : goal.invariant-loop-file
 invariant-loop-file l =
-    Adds (IsOfOne (IsFileFrom (option_copied l.first) (map text_said l.dirs)) (map file_facts (take l.file-index l.files)))
+    Adds (IsOfOne (IsFileFrom (option_copied l.first) (map option_copied l.dirs)) (map file_facts (take l.file-index l.files)))
     l.initial.paths l.paths
