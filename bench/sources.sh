@@ -4,6 +4,10 @@
 # it must take at most three times. What `sources` takes of a file without debug information is the start's, and is taken
 # off. It stands outside the gate, since the time of a busy machine says nothing.
 #
+# The sections are read by `cat`, over and over into one small buffer. A file's bytes are held in memory before they are
+# looked at, for which the system makes each page ready: how long that takes, `dd` shows by one read of all the sections,
+# and it is printed beside the others.
+#
 # usage: bench/sources.sh [PROGRAM]      PROGRAM is ./dbgd of the repository's top unless given
 source "$(dirname -- "$(readlink -f -- "${BASH_SOURCE[0]}")")/../checks/lib/head.sh" || exit 1
 
@@ -45,12 +49,14 @@ start=$(least "$program" sources "$work/bare") || { say "sources of a stripped p
 all=$(least "$program" sources "$work/program") || { say "sources of the program failed"; exit 1; }
 lines=$(least readelf --debug-dump=rawline "$work/program") || exit 1
 read=$(least cat "$work/sections")
+held=$(least dd if="$work/sections" of=/dev/null bs="$(wc -c <"$work/sections")" count=1 status=none)
 own=$((all - start))
 [ "$own" -gt 0 ] || own=1
 say "$("$program" sources "$work/program" | wc -l) paths of $units units; sections of $(wc -c <"$work/sections") bytes"
-say "sources $all us, $own us without the start; readelf $lines us; the sections read $read us"
-say "$(printf '%d.%03d of readelf, %d.%02d times the sections read' \
-  $((own / lines)) $((own * 1000 / lines % 1000)) $((own / read)) $((own * 100 / read % 100)))"
+say "sources $all us, $own us without the start; readelf $lines us; the sections read $read us, held $held us"
+say "$(printf '%d.%03d of readelf, %d.%02d times the sections read, %d.%02d times the sections held' \
+  $((own / lines)) $((own * 1000 / lines % 1000)) $((own / read)) $((own * 100 / read % 100)) \
+  $((own / held)) $((own * 100 / held % 100)))"
 failed=0
 [ $((own * 10)) -le "$lines" ] || { say "more than a tenth of readelf"; failed=1; }
 [ "$own" -le $((read * 3)) ] || { say "more than three times the reading of the sections"; failed=1; }

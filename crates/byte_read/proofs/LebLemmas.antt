@@ -1,11 +1,14 @@
 -- An LEB128 number is the sum of its septets, taken one after another.
-use Rattle.std.proofs.Common.{◌≡◌, ℕ, ◌+◌, ◌*◌, ◌-◌, ◌^◌, ◌%◌, ◌/◌, ◌<◌, Bool, true, false, List, [], ◌∷◌, ◌++◌, length, take, map, get_or, refl, sym, ap, ◌∙◌, arith, add-one, pos, negsuc, ℤ, ◌-ℤ◌, ◌==◌, if◌then◌else◌}
+use Rattle.std.proofs.Common.{◌≡◌, ℕ, ◌+◌, ◌*◌, ◌-◌, ◌^◌, ◌%◌, ◌/◌, ◌<◌, Bool, true, false, List, [], ◌∷◌, ◌++◌, length, take, map, get_or, lt-ltb, Option, Some, None, refl, sym, ap, ◌∙◌, subst, arith, add-one, pos, negsuc, ℤ, ◌-ℤ◌, ◌==◌, if◌then◌else◌, nat_lt}
+use Rattle.std.specs.List.{position_or_len}
+use Rattle.std.proofs.lemmas.List.Sums.{position_or_len_is}
 use Rattle.std.proofs.lemmas.List.{take_more, length-take-le, length-map, map-append, get_or-take}
 use Rattle.std.proofs.lemmas.Int.{ints}
 use Rattle.std.proofs.Math.Nat.{pow-suc, mul_assoc, mul_comm}
-use Rattle.file_formats.specs.Leb128.{septets, signed_septets}
+use Rattle.file_formats.specs.Leb128.{continued, septets, signed_septets}
 use Rattle.byte_read.specs.declared.leb.Septets.{Septets}
-use Rattle.byte_read.specs.Septets.{sum_with, flipped, digit_of, turned}
+use Rattle.byte_read.specs.Reads.{fits_u64}
+use Rattle.byte_read.specs.Septets.{sum_with, flipped, digit_of, fitting, leb_of, turned, unsigned}
 
 higher : (y p : ℕ) → y * (p * 128) ≡ 128 * (y * p)
 higher y p = sym (mul_assoc y p 128) ∙ mul_comm (y * p) 128
@@ -97,3 +100,33 @@ signed_by negative bytes m within sign =
         let ones : septets all + septets (map flipped all) + 1 ≡ 128 ^ (m + 1) =
         septets-flipped all ∙ ap (λ n. 128 ^ n) (length-take-le (m + 1) bytes (omega arith)) in
         omega (arith, ints)
+
+-- a number of one byte is the byte
+one_low : (x : ℕ) → x < 128 → septets (x ∷ []) ≡ x
+unfolding septets
+one_low x small = omega (arith, small)
+
+fits_small : (x : ℕ) → x < 128 → fitting fits_u64 x ≡ Some x
+fits_small x small =
+    ap (λ (v : Bool). if v then Some x else None) (lt-ltb x (2 ^ 64) (omega (arith, small)))
+
+one_septet : (x : ℕ) → x < 128 → fitting fits_u64 (septets (x ∷ [])) ≡ Some x
+one_septet x small =
+    subst (λ n. fitting fits_u64 n ≡ Some x) (sym (one_low x small)) (fits_small x small)
+
+-- the first byte is the last one where its top bit isn't set
+first_last : (x : ℕ) (xs : List ℕ) → x < 128 → continued (x ∷ xs) 0 ≡ Some 0
+first_last x xs small =
+    let first : position_or_len (λ y. nat_lt y 128) (x ∷ xs) ≡ 0 =
+    position_or_len_is (λ y. nat_lt y 128) (x ∷ xs) 0 0 (omega arith)
+    (λ k below. absurd (omega (arith, below))) (λ _. lt-ltb x 128 small) in
+    rw (first, lt-ltb 0 (length (x ∷ xs)) (omega arith))
+
+-- a first byte whose top bit isn't set is a number by itself
+pub one_first : (bytes : List ℕ) (d : ℕ) {n : ℕ} → 0 < length bytes → get_or bytes 0 d < 128
+    → n ≡ get_or bytes 0 d
+    → Some (record { number = Some n; size = 1 }) ≡ leb_of fits_u64 unsigned bytes
+one_first [] d there small e = absurd (omega (arith, there))
+one_first (x ∷ xs) d {n} there small e =
+    rw (first_last x xs small)
+    (ap (λ v. Some (record { number = v; size = 1 })) (ap Some e ∙ sym (one_septet x small)))

@@ -52,6 +52,7 @@ impl<'a> Cursor<'a> {
     }
 
     /// Gives the bytes from the place on.
+    #[inline(always)]
     pub fn rest(&self) -> &'a [u8]
         ensures { result.now ≡ left_of self.now }
     {
@@ -59,6 +60,7 @@ impl<'a> Cursor<'a> {
     }
 
     /// Reads the next byte.
+    #[inline(always)]
     pub fn read_u8(&mut self) -> Result<u8, Fault>
         ensures { Reads 1 self.old self.new result }
     {
@@ -67,6 +69,7 @@ impl<'a> Cursor<'a> {
     }
 
     /// Reads the next two bytes as a number in the cursor's order.
+    #[inline(always)]
     pub fn read_u16(&mut self) -> Result<u16, Fault>
         ensures { Reads 2 self.old self.new result }
     {
@@ -83,6 +86,7 @@ impl<'a> Cursor<'a> {
     }
 
     /// Reads the next four bytes as a number in the cursor's order.
+    #[inline(always)]
     pub fn read_u32(&mut self) -> Result<u32, Fault>
         ensures { Reads 4 self.old self.new result }
     {
@@ -91,6 +95,7 @@ impl<'a> Cursor<'a> {
     }
 
     /// Reads the next eight bytes as a number in the cursor's order.
+    #[inline(always)]
     pub fn read_u64(&mut self) -> Result<u64, Fault>
         ensures { Reads 8 self.old self.new result }
     {
@@ -112,6 +117,7 @@ impl<'a> Cursor<'a> {
     }
 
     /// Reads an unsigned LEB128 number.
+    #[inline(always)]
     pub fn uleb(&mut self) -> Result<u64, Fault>
         ensures { ReadsLeb fits_u64 uleb_at self.old self.new result }
     {
@@ -128,6 +134,7 @@ impl<'a> Cursor<'a> {
     }
 
     /// Gives the bytes before the next 0, and passes it.
+    #[inline(always)]
     pub fn cstr(&mut self) -> Result<&'a [u8], Fault>
         ensures { ReadsText self.old self.new result }
     {
@@ -138,6 +145,7 @@ impl<'a> Cursor<'a> {
     }
 
     /// Passes the next N bytes, and gives them.
+    #[inline(always)]
     fn chunk<const N: usize>(&mut self) -> Result<[u8; N], Fault>
         ensures { MatchResult result
             (Gives bytes_here N self.old self.new)
@@ -153,6 +161,7 @@ impl<'a> Cursor<'a> {
     }
 
     /// Passes the number at the place, and gives it.
+    #[inline(always)]
     fn pass<N: Drop>(&mut self, leb: Option<Leb<N>>) -> Result<N, Fault>
         requires { IfSome leb (λ number. self.old.place + number.size ≤ length self.old.bytes) }
         ensures { PassesLeb leb self.old self.new result }

@@ -100,8 +100,8 @@ fn last_byte(bytes: &[u8]) -> Option<usize>
     bytes.iter().position(|byte| *byte < SEPTET_VALUES)
 }
 
-/// The unsigned number at the front of the bytes.
-pub(crate) fn uleb_of(bytes: &[u8]) -> Option<Leb<u64>>
+/// The unsigned number at the front of the bytes, of any length.
+fn long_uleb_of(bytes: &[u8]) -> Option<Leb<u64>>
     ensures value { result ≡ leb_of fits_u64 unsigned bytes.now }
     ensures within { IfSome result (λ leb. leb.size ≤ length bytes.now) }
 {
@@ -110,6 +110,22 @@ pub(crate) fn uleb_of(bytes: &[u8]) -> Option<Leb<u64>>
         number: sum_of(&bytes[..last + 1], false),
         size: last + 1,
     })
+}
+
+/// The unsigned number at the front of the bytes. Most have one byte.
+#[tactic(auto, using(crate::proofs::LebLemmas::one_first))]
+#[inline(always)]
+pub(crate) fn uleb_of(bytes: &[u8]) -> Option<Leb<u64>>
+    ensures value { result ≡ leb_of fits_u64 unsigned bytes.now }
+    ensures within { IfSome result (λ leb. leb.size ≤ length bytes.now) }
+{
+    match bytes {
+        [first, ..] if *first < SEPTET_VALUES => Some(Leb {
+            number: Some(u64::from(*first)),
+            size: 1,
+        }),
+        _ => long_uleb_of(bytes),
+    }
 }
 
 /// The signed number at the front of the bytes.

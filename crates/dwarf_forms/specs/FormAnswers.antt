@@ -6,6 +6,7 @@ use Rattle.file_formats.specs.DwarfForms.{Raw, numbered, inline, passed_by}
 use Rattle.dwarf_forms.specs.declared.fault.FormFault.{FormFault}
 use Rattle.dwarf_forms.specs.Faults.{fault_facts}
 use Rattle.dwarf_forms.specs.declared.numbers.Format.{Format}
+use Rattle.dwarf_forms.specs.TextBytes.{text_bytes}
 use Rattle.dwarf_forms.specs.declared.raw.RawValue.{RawValue}
 use Rattle.dwarf_forms.specs.declared.raw.RawValue.TheVariants.{Numbered, Inline, PassedBy}
 
@@ -44,5 +45,5 @@ nothing bytes = passed_by
 -- a value as it stands
 abbrev pub raw_facts : RawValue → Raw
 raw_facts (Numbered sense n) = numbered sense n
-raw_facts (Inline text) = inline text.now
+raw_facts (Inline text) = inline (text_bytes text)
 raw_facts PassedBy = passed_by

@@ -6,6 +6,7 @@ pub use Rattle.file_formats.specs.DwarfLengths
 pub use Rattle.file_formats.specs.DwarfSequences
 pub use Rattle.file_formats.specs.DwarfUnits
 pub mod Faults
+pub mod TextBytes
 pub mod FormAnswers
 pub mod TextAnswers
 pub mod Pieces

@@ -1,9 +1,9 @@
 -- What callers see of the texts and of a value (this project's rule).
 use Rattle.std.specs.Prelude.{ℕ, Option, Ok, ℤ}
-use Rattle.std.specs.Option.{option_copied}
 use Rattle.file_formats.specs.DwarfReads.{Input, Read, ◌>>=◌}
 use Rattle.file_formats.specs.DwarfForms.{form_at}
 use Rattle.file_formats.specs.DwarfTexts.{Texts, FormValue, number_is, text_is, is_other, value_of}
+use Rattle.dwarf_forms.specs.TextBytes.{text_said}
 use Rattle.dwarf_forms.specs.declared.numbers.Format.{Format}
 use Rattle.dwarf_forms.specs.declared.strings.Strings.{Strings}
 use Rattle.dwarf_forms.specs.declared.value.Value.{Value}
@@ -27,7 +27,7 @@ format_with s address_size = record { wide = s.wide; address_size = address_size
 -- a value as a reader of attributes is told it
 abbrev pub value_facts : Value → FormValue
 value_facts (Number n) = number_is n
-value_facts (Text text) = text_is (option_copied text)
+value_facts (Text text) = text_is (text_said text)
 value_facts Other = is_other
 
 -- the value of any form at the place, with its text

@@ -9,6 +9,7 @@ mod parts;
 mod piece;
 mod raw;
 mod strings;
+mod text;
 mod value;
 
 pub use fault::FormFault;
@@ -18,6 +19,7 @@ pub use parts::DebugParts;
 pub use piece::{Piece, number_from, piece_at};
 pub use raw::{RawValue, read_raw};
 pub use strings::Strings;
+pub use text::{Text, texts_in};
 pub use value::{Value, read_form};
 
 #[cfg(test)]

@@ -18,6 +18,7 @@ pub struct Format {
 }
 
 /// Reads a number of the width.
+#[inline(always)]
 pub fn read_number(cursor: &mut Cursor<'_>, width: Width, format: Format) -> Result<u64, FormFault>
     ensures { ReadsAs same (λ s. number_at s width) format cursor.old cursor.new result }
 {

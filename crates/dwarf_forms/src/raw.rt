@@ -7,6 +7,7 @@ ghost use Rattle.dwarf_forms.specs.FormAnswers.{ReadsAs, same, raw_facts, nothin
 use crate::fault::FormFault;
 use crate::layouts::form_layout;
 use crate::numbers::{Format, read_number};
+use crate::text::{Text, read_text};
 use byte_read::Cursor;
 use file_formats::dwarf_forms::{DW_FORM_IMPLICIT_CONST, DW_FORM_INDIRECT, Layout, Sense, Width};
 
@@ -16,7 +17,7 @@ pub enum RawValue<'a> {
     /// A number, and what it means.
     Numbered(Sense, u64),
     /// A text that stands in place, without its 0.
-    Inline(&'a [u8]),
+    Inline(Text<'a>),
     /// What no rule reads.
     PassedBy,
 }
@@ -31,6 +32,7 @@ fn pass<'a>(cursor: &mut Cursor<'a>, n: u64, format: Format) -> Result<RawValue<
 }
 
 /// Reads a value of the layout.
+#[inline(always)]
 fn read_layout<'a>(
     cursor: &mut Cursor<'a>,
     layout: Layout,
@@ -47,7 +49,7 @@ fn read_layout<'a>(
             cursor.sleb()?;
             Ok(RawValue::PassedBy)
         }
-        Layout::Text => Ok(RawValue::Inline(cursor.cstr()?)),
+        Layout::Text => Ok(RawValue::Inline(read_text(cursor, format)?)),
         Layout::Address => pass(cursor, u64::from(format.address_size), format),
         Layout::Passed(n) => pass(cursor, u64::from(n), format),
         Layout::Block(width) => {
@@ -58,6 +60,7 @@ fn read_layout<'a>(
 }
 
 /// Reads a value of a form that isn't indirect.
+#[inline(always)]
 fn read_direct<'a>(
     cursor: &mut Cursor<'a>,
     form: u64,
@@ -80,6 +83,7 @@ fn read_direct<'a>(
 }
 
 /// Reads the form that stands before the value, as long as the form is indirect.
+#[inline(always)]
 fn resolve(cursor: &mut Cursor<'_>, form: u64, format: Format) -> Result<u64, FormFault>
     ensures { ReadsAs same (λ s. resolved_at s form) format cursor.old cursor.new result }
 {
@@ -91,6 +95,7 @@ fn resolve(cursor: &mut Cursor<'_>, form: u64, format: Format) -> Result<u64, Fo
 }
 
 /// Reads a value of the form. `constant` is the abbreviation's, of the form implicit_const.
+#[inline(always)]
 pub fn read_raw<'a>(
     cursor: &mut Cursor<'a>,
     form: u64,

@@ -1,16 +1,16 @@
 //! The texts that values name.
 
 ghost use Rattle.std.specs.Prelude.{◌≡◌};
-ghost use Rattle.std.specs.Option.{option_copied};
-ghost use Rattle.file_formats.specs.Sections.{text_at};
 ghost use Rattle.file_formats.specs.DwarfTexts.{indexed_text, sense_value, value_of};
 ghost use Rattle.dwarf_forms.specs.FormAnswers.{raw_facts};
 ghost use Rattle.dwarf_forms.specs.TextAnswers.{texts_of, value_facts};
+ghost use Rattle.dwarf_forms.specs.TextBytes.{text_said};
 
 use crate::piece::number_from;
 use crate::raw::RawValue;
+use crate::text::{Text, text_from};
 use crate::value::Value;
-use byte_read::{Cursor, Order};
+use byte_read::Order;
 use file_formats::dwarf_forms::Sense;
 
 /// What texts are taken from.
@@ -30,18 +30,10 @@ pub struct Strings<'a> {
     pub order: Order,
 }
 
-/// The bytes from a place to the next 0.
-fn text_from(bytes: &[u8], at: u64) -> Option<&[u8]>
-    ensures { option_copied result ≡ text_at bytes.now at }
-{
-    let rest = bytes.get(at as usize..)?;
-    Cursor::new(rest, Order::Little).cstr().ok()
-}
-
 impl<'a> Strings<'a> {
     /// The text of an index.
-    fn indexed(&self, index: u64) -> Option<&'a [u8]>
-        ensures { option_copied result ≡ indexed_text (texts_of self.now) index }
+    fn indexed(&self, index: u64) -> Option<Text<'a>>
+        ensures { text_said result ≡ indexed_text (texts_of self.now) index }
     {
         let size = if self.wide { 8 } else { 4 };
         let at = self.base?.checked_add(index.checked_mul(size)?)?;
@@ -50,6 +42,7 @@ impl<'a> Strings<'a> {
     }
 
     /// What a number of a sense means.
+    #[inline(always)]
     fn sensed(&self, sense: Sense, number: u64) -> Value<'a>
         ensures { value_facts result ≡ sense_value (texts_of self.now) sense number }
     {
@@ -64,6 +57,7 @@ impl<'a> Strings<'a> {
     }
 
     /// What a value as it stands means.
+    #[inline(always)]
     pub fn value(&self, raw: RawValue<'a>) -> Value<'a>
         ensures { value_facts result ≡ value_of (texts_of self.now) (raw_facts raw.entry) }
     {

@@ -1,6 +1,6 @@
 //! Whether the clauses say what the standard means.
 
-use crate::{FormFault, Strings, Value, piece_at, read_form};
+use crate::{FormFault, RawValue, Sense, Strings, Value, piece_at, read_form};
 use byte_read::{Cursor, Order};
 
 /// Texts of a small file: .debug_str_offsets has 8 bytes of head, and its places are 4 and 0.
@@ -12,6 +12,23 @@ fn strings(base: Option<u64>, wide: bool) -> Strings<'static> {
         base,
         wide,
         order: Order::Little,
+    }
+}
+
+/// What a value says, a text by its bytes.
+#[derive(Clone, Copy, Debug, PartialEq, Eq)]
+enum Told<'a> {
+    Number(u64),
+    Text(Option<&'a [u8]>),
+    Other,
+}
+
+fn value_told(value: Value<'_>) -> Told<'_> {
+    match value {
+        Value::Number(number) => Told::Number(number),
+        Value::Text(Some(text)) => Told::Text(text.within(8)),
+        Value::Text(None) => Told::Text(None),
+        Value::Other => Told::Other,
     }
 }
 
@@ -83,12 +100,12 @@ fn six_forms_give_numbers(rt: HostRuntime) {
     for form in [0x0b, 0x05, 0x06, 0x07, 0x0f, 0x17] {
         let mut cursor = Cursor::new(BYTES, Order::Little);
         let read = read_form(&mut cursor, form, None, 8, &strings(None, false));
-        assert_eq!(rt; read, Ok(Value::Number(3)), "form {form}");
+        assert_eq!(rt; read.map(value_told), Ok(Told::Number(3)), "form {form}");
     }
     for form in [0x0d, 0x0c, 0x13, 0x1b] {
         let mut cursor = Cursor::new(BYTES, Order::Little);
         let read = read_form(&mut cursor, form, None, 8, &strings(None, false));
-        assert_eq!(rt; read, Ok(Value::Other), "form {form}");
+        assert_eq!(rt; read.map(value_told), Ok(Told::Other), "form {form}");
     }
 }
 
@@ -110,20 +127,48 @@ fn texts_are_there_or_absent(rt: HostRuntime) {
     for (form, bytes, base, text) in cases {
         let mut cursor = Cursor::new(bytes, Order::Little);
         let read = read_form(&mut cursor, form, None, 8, &strings(base, false));
-        assert_eq!(rt; read, Ok(Value::Text(text)), "form {form}");
+        assert_eq!(rt; read.map(value_told), Ok(Told::Text(text)), "form {form}");
+    }
+}
+
+// A text is given where it has no more bytes than are asked for, whether the section ends with a 0
+// or not.
+#[test]
+fn a_text_has_so_many_bytes_at_most(rt: HostRuntime) {
+    let cases: [(&[u8], u64, usize, Option<&[u8]>); 9] = [
+        (b"abc\0de\0", 0, 2, None),
+        (b"abc\0de\0", 0, 3, Some(b"abc")),
+        (b"abc\0de\0", 1, usize::MAX, Some(b"bc")),
+        (b"abc\0de\0", 3, 0, Some(b"")),
+        (b"abc\0de\0", 4, 1, None),
+        (b"abc\0de", 0, 2, None),
+        (b"abc\0de", 0, 3, Some(b"abc")),
+        (b"abc\0de", 3, 0, Some(b"")),
+        (b"abc\0de", 4, 9, None),
+    ];
+    for (str, place, limit, expected) in cases {
+        let strings = Strings {
+            str,
+            ..strings(None, false)
+        };
+        let found = match strings.value(RawValue::Numbered(Sense::Str, place)) {
+            Value::Text(Some(text)) => text.within(limit),
+            _ => None,
+        };
+        assert_eq!(rt; found, expected, "place {place}, limit {limit}");
     }
 }
 
 // Indirect forms lead through one another; implicit_const has its constant from the abbreviation.
 #[test]
 fn a_chain_of_indirect_forms_leads_to_one(rt: HostRuntime) {
-    let cases: [(u64, &[u8], Option<i64>, Result<Value<'static>, FormFault>); 10] = [
-        (0x16, b"\x0b\x07", None, Ok(Value::Number(7))),
-        (0x16, b"\x16\x16\x0f\x07", None, Ok(Value::Number(7))),
+    let cases: [(u64, &[u8], Option<i64>, Result<Told<'static>, FormFault>); 10] = [
+        (0x16, b"\x0b\x07", None, Ok(Told::Number(7))),
+        (0x16, b"\x16\x16\x0f\x07", None, Ok(Told::Number(7))),
         (0x16, b"\x16\x16", None, Err(FormFault::Short)),
         (0x16, b"\x21", Some(1), Err(FormFault::UnknownForm(0x21))),
         (0x16, b"\x02", None, Err(FormFault::UnknownForm(2))),
-        (0x21, b"", Some(-1), Ok(Value::Other)),
+        (0x21, b"", Some(-1), Ok(Told::Other)),
         (0x21, b"\0", None, Err(FormFault::UnknownForm(0x21))),
         (
             0x1f20,
@@ -142,7 +187,7 @@ fn a_chain_of_indirect_forms_leads_to_one(rt: HostRuntime) {
     for (form, bytes, constant, answer) in cases {
         let mut cursor = Cursor::new(bytes, Order::Big);
         let read = read_form(&mut cursor, form, constant, 8, &strings(None, false));
-        assert_eq!(rt; read, answer, "form {form}");
+        assert_eq!(rt; read.map(value_told), answer, "form {form}");
     }
 }
 

@@ -9,15 +9,16 @@ use crate::fault::FormFault;
 use crate::numbers::Format;
 use crate::raw::read_raw;
 use crate::strings::Strings;
+use crate::text::Text;
 use byte_read::Cursor;
 
 /// A value as a reader of attributes is told it.
-#[derive(Clone, Copy, Debug, PartialEq, Eq)]
+#[derive(Clone, Copy, Debug)]
 pub enum Value<'a> {
     /// A number of data1, data2, data4, data8, udata or sec_offset.
     Number(u64),
     /// A text, None where the form names one that isn't there.
-    Text(Option<&'a [u8]>),
+    Text(Option<Text<'a>>),
     /// A value of any other form.
     Other,
 }

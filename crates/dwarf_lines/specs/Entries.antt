@@ -1,10 +1,11 @@
 -- What callers see of a line table's entries (DWARF 5, section 6.2.4.1).
 use Rattle.std.specs.Prelude.{List, map}
-use Rattle.std.specs.Option.{option_map, option_copied}
+use Rattle.std.specs.Option.{option_map}
 use Rattle.std.specs.Global.{Vec}
 use Rattle.file_formats.specs.declared.dwarf_lines.FieldFormat.{FieldFormat}
 use Rattle.file_formats.specs.DwarfLines.{LineEntry}
 use Rattle.dwarf_forms.specs.FormAnswers.{raw_facts}
+use Rattle.dwarf_forms.specs.TextBytes.{text_said}
 use Rattle.dwarf_lines.specs.declared.entry.LineFile.{LineFile}
 use Rattle.dwarf_lines.specs.declared.fields.FieldValues.{FieldValues}
 use Rattle.dwarf_lines.specs.Lists.{EntryFields}
@@ -15,7 +16,7 @@ values_facts v = record { path = option_map raw_facts v.path; directory = option
 
 -- what a file says
 abbrev pub file_facts : LineFile → LineEntry
-file_facts f = record { path = option_copied f.path; directory = f.dir }
+file_facts f = record { path = text_said f.path; directory = f.dir }
 
 -- what files say
 abbrev pub files_facts : Vec LineFile → List LineEntry

@@ -11,20 +11,21 @@ ghost use Rattle.dwarf_lines.specs.Entries.{file_facts, values_facts};
 
 use crate::fields::{FieldValues, read_fields};
 use byte_read::Cursor;
-use dwarf_forms::{Format, RawValue, Strings, Value};
+use dwarf_forms::{Format, RawValue, Strings, Text, Value};
 use file_formats::dwarf_lines::FieldFormat;
 
 /// A file of a line table.
-#[derive(Clone, Copy, Debug, PartialEq, Eq)]
+#[derive(Clone, Copy, Debug)]
 pub struct LineFile<'a> {
     /// The file's path, None where its text isn't there.
-    pub path: Option<&'a [u8]>,
+    pub path: Option<Text<'a>>,
     /// The index of the file's directory, from 0; 0 where no field gives it, and None where the
     /// field's value is no number. It may be any number.
     pub dir: Option<u64>,
 }
 
 /// The index of a directory.
+#[inline(always)]
 fn index_said<'a>(value: Option<RawValue<'a>>, strings: &Strings<'a>) -> Option<u64>
     ensures { result ≡ directory_of (texts_of strings.now) (option_map raw_facts value.entry) }
 {
@@ -38,6 +39,7 @@ fn index_said<'a>(value: Option<RawValue<'a>>, strings: &Strings<'a>) -> Option<
 }
 
 /// What an entry's fields mean, None where no field gives a path, or one that is no text.
+#[inline(always)]
 fn entry_said<'a>(values: FieldValues<'a>, strings: &Strings<'a>) -> Option<LineFile<'a>>
     ensures { option_map file_facts result
         ≡ entry_with (texts_of strings.now) (values_facts values.entry) }
@@ -53,6 +55,7 @@ fn entry_said<'a>(values: FieldValues<'a>, strings: &Strings<'a>) -> Option<Line
 
 /// Reads an entry.
 #[tactic(auto, unfolding(crate::specs::Lists::entry_at))]
+#[inline(always)]
 pub(crate) fn read_entry<'a>(
     cursor: &mut Cursor<'a>,
     fields: &[FieldFormat],

@@ -55,6 +55,7 @@ pub(crate) fn read_format(cursor: &mut Cursor<'_>, format: Format) -> Option<Fie
 }
 
 /// Reads a field's value.
+#[inline(always)]
 fn read_field<'a>(
     cursor: &mut Cursor<'a>,
     field: &FieldFormat,
@@ -69,6 +70,7 @@ fn read_field<'a>(
 }
 
 /// Reads an entry's fields, of which the first of a content type counts.
+#[inline(always)]
 pub(crate) fn read_fields<'a>(
     cursor: &mut Cursor<'a>,
     fields: &[FieldFormat],

@@ -15,6 +15,9 @@ use dwarf_forms::{Format, Strings, Width, read_number};
 use file_formats::dwarf_lines::FieldFormat;
 use std::alloc::{AllocError, Global};
 
+/// The most entries for which there is room before one is read.
+const ROOM_AT_FIRST: u64 = 16;
+
 /// Reads so many formats of fields.
 fn read_formats_row(
     alloc: Global,
@@ -51,7 +54,7 @@ fn read_formats(
     read_formats_row(alloc, cursor, count, format)
 }
 
-/// Reads so many entries. No room is taken by their number.
+/// Reads so many entries. However many they are said to be, there is room for a few at first.
 fn read_entries_row<'a>(
     alloc: Global,
     cursor: &mut Cursor<'a>,
@@ -64,7 +67,7 @@ fn read_entries_row<'a>(
         (λ s. row_at (entry_at s (texts_of strings.now) fields.now) count) format
         cursor.old cursor.new found) }
 {
-    let mut entries = Vec::new(alloc);
+    let mut entries = Vec::with_capacity(alloc, count.min(ROOM_AT_FIRST) as usize)?;
     for _done in 0..count {
         let Some(entry) = read_entry(cursor, fields, format, strings) else {
             return Ok(None);

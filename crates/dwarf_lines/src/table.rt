@@ -1,10 +1,10 @@
 //! A line table. DWARF 5, section 6.2.4.
 
 ghost use Rattle.std.specs.Prelude.{◌≡◌, ◌≤◌, length, IfOk, map};
-ghost use Rattle.std.specs.Option.{option_copied};
 ghost use Rattle.file_formats.specs.DwarfLines.{IsLineTable, LineCodes};
 ghost use Rattle.dwarf_forms.specs.Pieces.{piece_facts};
 ghost use Rattle.dwarf_forms.specs.TextAnswers.{texts_of};
+ghost use Rattle.dwarf_forms.specs.TextBytes.{text_said};
 ghost use Rattle.dwarf_forms.specs.Tells.{Tells};
 ghost use Rattle.dwarf_lines.specs.Entries.{file_facts};
 ghost use Rattle.dwarf_lines.specs.Finds.{Finds, as_it_is};
@@ -14,7 +14,7 @@ use crate::entry::LineFile;
 use crate::head::read_head;
 use crate::lists::read_list;
 use byte_read::Cursor;
-use dwarf_forms::{Format, Piece, Strings, piece_at};
+use dwarf_forms::{Format, Piece, Strings, Text, piece_at};
 use file_formats::dwarf_lines::LineHead;
 use std::alloc::{AllocError, Global};
 use std::marker::Model;
@@ -23,21 +23,21 @@ use std::marker::Model;
 #[derive(Debug, Drop)]
 pub struct LineTable<'a> {
     /// The paths of the directories, by their indexes from 0; None where the text isn't there.
-    pub dirs: Vec<Option<&'a [u8]>>,
+    pub dirs: Vec<Option<Text<'a>>>,
     /// The files, by their indexes from 0.
     pub files: Vec<LineFile<'a>>,
 }
 
 impl<'a> Model for LineTable<'a> {
     ghost use Rattle.std.specs.Prelude.{map};
-    ghost use Rattle.std.specs.Option.{option_copied};
+    ghost use Rattle.dwarf_forms.specs.TextBytes.{text_said};
     ghost use Rattle.file_formats.specs.DwarfLines as formats;
     ghost use Rattle.dwarf_lines.specs.Entries.{file_facts};
 
     ghost Value = { formats.LineTable };
 
     ghost view = { λ t. record {
-      directories = map option_copied t.dirs.items;
+      directories = map text_said t.dirs.items;
       files = map file_facts t.files.items;
     } };
 }
@@ -46,8 +46,8 @@ impl<'a> Model for LineTable<'a> {
 fn paths_of<'a>(
     alloc: Global,
     directories: &[LineFile<'a>],
-) -> Result<Vec<Option<&'a [u8]>>, AllocError>
-    ensures { IfOk result (λ paths. map option_copied paths.items
+) -> Result<Vec<Option<Text<'a>>>, AllocError>
+    ensures { IfOk result (λ paths. map text_said paths.items
         ≡ map path_of (map file_facts directories.now)) }
 {
     let mut paths = Vec::with_capacity(alloc, directories.len())?;

@@ -1,8 +1,8 @@
 //! Whether the clauses say what the standard means, and that memory suffices.
 
-use crate::{LineFile, LineTable, line_table};
+use crate::{LineTable, line_table};
 use byte_read::Order;
-use dwarf_forms::Strings;
+use dwarf_forms::{Strings, Text};
 use std::alloc::{AllocError, Global};
 use std::test::Fail;
 
@@ -30,12 +30,26 @@ fn table(alloc: Global, lists: &[u8]) -> Result<Vec<u8>, AllocError> {
     Ok(bytes)
 }
 
-/// A file of a table.
-const fn file<'a>(path: &'a [u8], dir: Option<u64>) -> LineFile<'a> {
-    LineFile {
-        path: Some(path),
-        dir,
+/// What a file says: its path, and its directory's index.
+type Said<'a> = (Option<&'a [u8]>, Option<u64>);
+
+/// A text of no more than 8 bytes.
+fn words(text: Option<Text<'_>>) -> Option<&[u8]> {
+    match text {
+        Some(text) => text.within(8),
+        None => None,
     }
+}
+
+/// What a table's directory of an index says.
+fn dir<'a>(table: &LineTable<'a>, index: usize) -> Option<Option<&'a [u8]>> {
+    Some(words(*table.dirs.get(index)?))
+}
+
+/// What a table's file of an index says.
+fn file<'a>(table: &LineTable<'a>, index: usize) -> Option<Said<'a>> {
+    let file = table.files.get(index)?;
+    Some((words(file.path), file.dir))
 }
 
 /// The line table of a unit of /w/src/main.c (section 6.2.4): its length 65, version 5, addresses of
@@ -53,10 +67,13 @@ const LINE: [u8; 69] = [
 fn a_table_lists_its_directories_and_files(rt: HostRuntime) -> Result<(), Fail> {
     let alloc = rt.alloc();
     let found = line_table(alloc, &LINE, 0, &strings(Order::Little))?.ok_or("a table")?;
-    let dirs: [Option<&[u8]>; 2] = [Some(b"."), Some(b"inc")];
-    assert_eq!(rt; found.dirs.as_slice(), dirs.as_slice());
-    let files = [file(b"main.c", Some(0)), file(b"util.h", Some(1))];
-    assert_eq!(rt; found.files.as_slice(), files.as_slice());
+    let dirs: [&[u8]; 2] = [b".", b"inc"];
+    let files: [Said<'static>; 2] = [(Some(b"main.c"), Some(0)), (Some(b"util.h"), Some(1))];
+    assert_eq!(rt; (found.dirs.len(), found.files.len()), (2, 2));
+    for index in 0..2 {
+        assert_eq!(rt; dir(&found, index), Some(Some(dirs[index])));
+        assert_eq!(rt; file(&found, index), Some(files[index]));
+    }
     Ok(())
 }
 
@@ -100,7 +117,7 @@ fn a_damaged_table_lists_nothing(rt: HostRuntime) -> Result<(), Fail> {
 /// The first byte of the first file's path, and its directory's index.
 fn first_file(table: &LineTable<'_>) -> Option<(Option<u8>, Option<u64>)> {
     let first = table.files.first()?;
-    let byte = match first.path {
+    let byte = match words(first.path) {
         Some(path) => path.first().copied(),
         None => None,
     };
@@ -219,14 +236,15 @@ const BIG: &[u8] = b"xyz\0\0\0\x22\0\x05\x08\0\0\0\0\x1a\x01\x01\x01\xfb\x0e\x01
 #[test]
 fn a_table_has_a_format_and_an_order(rt: HostRuntime) -> Result<(), Fail> {
     let alloc = rt.alloc();
-    let cases: [(&[u8], Order, &[u8], LineFile<'static>); 2] = [
-        (WIDE, Order::Little, b"/w", file(b"main.c", Some(0))),
-        (BIG, Order::Big, b"w", file(b"inc", Some(0x102))),
+    let cases: [(&[u8], Order, &[u8], Said<'static>); 2] = [
+        (WIDE, Order::Little, b"/w", (Some(b"main.c"), Some(0))),
+        (BIG, Order::Big, b"w", (Some(b"inc"), Some(0x102))),
     ];
-    for (line, order, dir, expected) in cases {
+    for (line, order, folder, expected) in cases {
         let found = line_table(alloc, line, 3, &strings(order))?.ok_or("a table")?;
-        assert_eq!(rt; found.dirs.as_slice(), [Some(dir)].as_slice());
-        assert_eq!(rt; found.files.as_slice(), [expected].as_slice());
+        assert_eq!(rt; (found.dirs.len(), found.files.len()), (1, 1));
+        assert_eq!(rt; dir(&found, 0), Some(Some(folder)));
+        assert_eq!(rt; file(&found, 0), Some(expected));
         assert!(rt; line_table(alloc, line, 4, &strings(order))?.is_none());
         assert!(rt; line_table(alloc, line, u64::MAX, &strings(order))?.is_none());
     }

@@ -12,6 +12,7 @@ use file_formats::dwarf_units::{FormSpec, Pair};
 
 /// Passes an abbreviation's tag and its byte on children.
 #[tactic(auto, unfolding(file_formats::specs::DwarfAbbreviations::behind_tag))]
+#[inline(always)]
 fn pass_tag(table: &mut Cursor<'_>, format: Format) -> Option<()>
     ensures { Finds tag_at format table.old table.new result }
 {
@@ -23,6 +24,7 @@ fn pass_tag(table: &mut Cursor<'_>, format: Format) -> Option<()>
 /// Reads an abbreviation's code, None where the table ends or is cut. The cursor is then where
 /// its pairs begin.
 #[tactic(auto, unfolding(file_formats::specs::DwarfAbbreviations::abbreviation_at))]
+#[inline(always)]
 fn read_code(table: &mut Cursor<'_>, format: Format) -> Option<u64>
     ensures { Finds abbreviation_at format table.old table.new result }
 {
@@ -36,6 +38,7 @@ fn read_code(table: &mut Cursor<'_>, format: Format) -> Option<u64>
 
 /// Reads a form, and the constant that stands behind implicit_const.
 #[tactic(auto, unfolding(file_formats::specs::DwarfAbbreviations::spec_at))]
+#[inline(always)]
 fn read_spec(table: &mut Cursor<'_>, format: Format) -> Option<FormSpec>
     ensures { Finds spec_at format table.old table.new result }
 {
@@ -50,6 +53,7 @@ fn read_spec(table: &mut Cursor<'_>, format: Format) -> Option<FormSpec>
 
 /// Reads a pair.
 #[tactic(auto, unfolding(file_formats::specs::DwarfAbbreviations::pair_at))]
+#[inline(always)]
 pub(crate) fn read_pair(table: &mut Cursor<'_>, format: Format) -> Option<Pair>
     ensures { Finds pair_at format table.old table.new result }
 {

@@ -2,12 +2,13 @@
 
 ghost use Rattle.std.specs.Prelude.{◌≡◌, drop, List, ℕ};
 ghost use Rattle.file_formats.specs.DwarfCodes.{UnitCodes};
-ghost use Rattle.std.specs.Option.{option_map, option_and_then, option_copied};
+ghost use Rattle.std.specs.Option.{option_map, option_and_then};
 ghost use Rattle.file_formats.specs.DwarfTexts.{value_of};
 ghost use Rattle.file_formats.specs.DwarfUnits.{IsEntryWith, IsRootEntry, place_of};
 ghost use Rattle.file_formats.specs.DwarfUnits.{root_of, text_of};
 ghost use Rattle.dwarf_forms.specs.FormAnswers.{raw_facts};
 ghost use Rattle.dwarf_forms.specs.TextAnswers.{texts_of};
+ghost use Rattle.dwarf_forms.specs.TextBytes.{text_said};
 ghost use Rattle.dwarf_units.specs.UnitList.{unit_facts};
 ghost use Rattle.dwarf_forms.specs.Parts.{sections_of};
 ghost use Rattle.dwarf_forms.specs.Tells.{Tells};
@@ -18,16 +19,16 @@ use crate::head::read_head;
 use crate::list::Unit;
 use crate::raw_entry::{RawAttributes, read_values};
 use byte_read::Cursor;
-use dwarf_forms::{DebugParts, Format, RawValue, Sense, Strings, Value, Width, read_number};
+use dwarf_forms::{DebugParts, Format, RawValue, Sense, Strings, Text, Value, Width, read_number};
 use file_formats::dwarf_units::UnitHead;
 
 /// What a unit's first entry says.
-#[derive(Clone, Copy, Debug, PartialEq, Eq)]
+#[derive(Clone, Copy, Debug)]
 pub struct UnitDie<'a> {
     /// Where the unit's line table begins in .debug_line, in bytes.
     pub stmt_list: Option<u64>,
     /// The folder in which the unit was compiled.
-    pub comp_dir: Option<&'a [u8]>,
+    pub comp_dir: Option<Text<'a>>,
     /// Where the unit's part of .debug_str_offsets begins, in bytes.
     pub base: Option<u64>,
 }
@@ -53,8 +54,8 @@ fn place_in(raw: Option<RawValue<'_>>) -> Option<u64>
 }
 
 /// The text that a value names.
-fn text_in<'a>(raw: Option<RawValue<'a>>, strings: &Strings<'a>) -> Option<&'a [u8]>
-    ensures { option_copied result
+fn text_in<'a>(raw: Option<RawValue<'a>>, strings: &Strings<'a>) -> Option<Text<'a>>
+    ensures { text_said result
         ≡ option_and_then (λ value. text_of (value_of (texts_of strings.now) value))
         (option_map raw_facts raw.entry) }
 {

@@ -1,6 +1,6 @@
 //! Whether the clauses say what the standard means.
 
-use crate::{Unit, UnitDie, unit_die, units};
+use crate::{Unit, unit_die, units};
 use byte_read::Order;
 use dwarf_forms::DebugParts;
 
@@ -17,9 +17,17 @@ fn parts(abbrev: &[u8]) -> DebugParts<'_> {
     }
 }
 
+/// What a first entry says: its line table's place, its folder, and its base.
+type Answer<'a> = (Option<u64>, Option<&'a [u8]>, Option<u64>);
+
 /// The first entry of a narrow unit of these bytes.
-fn narrow<'a>(bytes: &'a [u8], abbrev: &'a [u8]) -> Option<UnitDie<'a>> {
-    unit_die(&Unit { bytes, wide: false }, &parts(abbrev))
+fn narrow<'a>(bytes: &'a [u8], abbrev: &'a [u8]) -> Option<Answer<'a>> {
+    let die = unit_die(&Unit { bytes, wide: false }, &parts(abbrev))?;
+    let folder = match die.comp_dir {
+        Some(text) => text.within(6),
+        None => None,
+    };
+    Some((die.stmt_list, folder, die.base))
 }
 
 /// A file's units: comp_dir by strx1, then str_offsets_base and stmt_list by sec_offset.
@@ -29,11 +37,7 @@ const ABBREV: &[u8] = b"\x01\x11\0\x1b\x25\x72\x17\x10\x17\0\0\0";
 /// 0x30.
 const COMPILE: &[u8] = b"\x05\0\x01\x08\0\0\0\0\x01\0\x08\0\0\0\x30\0\0\0";
 
-const SAID: UnitDie<'static> = UnitDie {
-    stmt_list: Some(0x30),
-    comp_dir: Some(b"/w/src"),
-    base: Some(8),
-};
+const SAID: Answer<'static> = (Some(0x30), Some(b"/w/src"), Some(8));
 
 #[test]
 fn the_first_entry_leads_to_the_sources(rt: HostRuntime) {
@@ -80,7 +84,7 @@ fn the_first_of_a_repeated_attribute_counts(rt: HostRuntime) {
         put(&mut bytes, b"\x05\0\x01\x08\0\0\0\0\x01", values);
         put(&mut abbrev, b"\x01\x11\0", pairs);
         let die = narrow(&bytes, &abbrev);
-        assert_eq!(rt; die.map(|die| die.stmt_list), Some(stmt_list));
+        assert_eq!(rt; die.map(|die| die.0), Some(stmt_list));
     }
 }
 

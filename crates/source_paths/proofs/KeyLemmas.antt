@@ -15,9 +15,10 @@ use Rattle.dwarf_units.specs.UnitList.{AreUnits}
 use Rattle.dwarf_units.proofs.CaseLemmas.{some_same}
 use Rattle.source_paths.specs.declared.tables.TableKey.{TableKey}
 use Rattle.source_paths.specs.Adds.{Adds, Has}
-use Rattle.source_paths.specs.Keys.{AreRead, IsRead, key_entry}
+use Rattle.source_paths.specs.Keys.{AreRead, IsRead, key_entry, short_entry}
 use Rattle.row_types.specs.Sources.{IsEntrySource, IsFileSource, IsOfOne, IsSource, IsUnitSource}
 use Rattle.source_paths.proofs.AddLemmas.{adds-same, adds-had, has-nothing}
+use Rattle.source_paths.proofs.ShortLemmas.{from_unit, to_unit}
 
 module _ (s : DebugSections) where
   -- a line table's own format counts, and not the unit's
@@ -34,6 +35,27 @@ module _ (s : DebugSections) where
       lists = h.stands.lists;
     };
     file = h.file;
+  }
+
+  -- an entry's folder may be left out where it is too long
+  from_short_entry : (entry : RootEntry) {wide : Bool} {path : List ℕ} → IsEntrySource s wide (short_entry entry) path
+      → IsEntrySource s wide entry path
+  from_short_entry entry {wide} {path} h = record {
+    offset = h.offset;
+    named = h.named;
+    table = h.table;
+    stands = h.stands;
+    file = from_unit entry.comp_dir h.table path h.file;
+  }
+
+  to_short_entry : (entry : RootEntry) {wide : Bool} {path : List ℕ} → IsEntrySource s wide entry path
+      → IsEntrySource s wide (short_entry entry) path
+  to_short_entry entry {wide} {path} h = record {
+    offset = h.offset;
+    named = h.named;
+    table = h.table;
+    stands = h.stands;
+    file = to_unit entry.comp_dir h.table path h.file;
   }
 
   -- the line table of a key
@@ -68,15 +90,16 @@ module _ (s : DebugSections) where
         let named : entry.stmt_list ≡ Some h.table.offset = sym (ap (λ (e : RootEntry). e.stmt_list) same) ∙ h.table.named in
         cc
 
-    pub unit-adds : {entry : RootEntry} → IsOnly (IsRootEntry s unit) entry → (key : TableKey) → key_entry key ≡ entry
+    pub unit-adds : {entry : RootEntry} → IsOnly (IsRootEntry s unit) entry → (key : TableKey) → key_entry key ≡ short_entry entry
         → {old new : BTreeSet (List ℕ)} → Adds (IsEntrySource s false (key_entry key)) old new → Adds (IsUnitSource s unit) old new
     unit-adds {entry} only key e a = adds-same
         (λ path h. record {
           entry = entry;
           root = only.here;
-          table = any_wide unit.wide (subst (λ x. IsEntrySource s false x path) e h);
+          table = any_wide unit.wide (from_short_entry entry (subst (λ x. IsEntrySource s false x path) e h));
         })
-        (λ path h. any_wide false (subst (λ x. IsEntrySource s unit.wide x path) (only.only h.entry h.root ∙ sym e) h.table))
+        (λ path h. subst (λ x. IsEntrySource s false x path) (sym e)
+        (to_short_entry entry (any_wide false (subst (λ x. IsEntrySource s unit.wide x path) (only.only h.entry h.root) h.table))))
         a
 
   -- what was read stays read where paths are only added

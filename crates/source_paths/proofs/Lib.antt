@@ -1,5 +1,7 @@
 pub mod AddLemmas
 pub mod KeyLemmas
+pub mod KnownLemmas
 pub mod NameLemmas
 pub mod OrderLemmas
 pub mod ShortLemmas
+pub mod TextsLemmas

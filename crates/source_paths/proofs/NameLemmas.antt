@@ -1,5 +1,5 @@
 -- The path that a text names.
-use Rattle.std.proofs.Common.{◌≡◌, ℕ, true, List, [], ◌∷◌, Option, Some, refl, sym, ◌∙◌, ap, subst}
+use Rattle.std.proofs.Common.{◌≡◌, ℕ, true, List, [], ◌∷◌, refl, sym, ◌∙◌, ap}
 use Rattle.std.specs.BTreeSet.{BTreeSet, Updates}
 use Rattle.std.specs.Cmp.Lexicographic.{slice_cmp}
 use Rattle.std.specs.Ordering.{nat_cmp}
@@ -7,9 +7,8 @@ use Rattle.std.specs.Str.{IsUtf8}
 use Rattle.dwarf_forms.specs.Tells.{IsOnly}
 use Rattle.row_types.specs.Canon.{IsCanonPath, path_of}
 use Rattle.row_types.specs.Absolute.{is_absolute}
-use Rattle.dwarf_units.proofs.CaseLemmas.{some_same}
 use Rattle.source_paths.specs.Adds.{Adds}
-use Rattle.row_types.specs.Sources.{MayName, Names}
+use Rattle.row_types.specs.Sources.{Names}
 use Rattle.source_paths.proofs.AddLemmas.{adds-one}
 
 -- a path of pieces begins with a slash
@@ -30,8 +29,6 @@ names_itself {text} h utf8 e = record {
 }
 
 -- the path that a text names is added
-pub adds-named : {there : Option (List ℕ)} {text path : List ℕ} {old new : BTreeSet (List ℕ)} → there ≡ Some text
-    → IsOnly (Names text) path → Updates (slice_cmp nat_cmp) old new path true → Adds (MayName there) old new
-adds-named {text = text} e only update =
-    adds-one (record { there = text; is = e; names = only.here })
-    (λ other h. only.only other (subst (λ t. Names t other) (some_same (sym h.is ∙ e)) h.names)) update
+pub adds-named : {text path : List ℕ} {old new : BTreeSet (List ℕ)} → IsOnly (Names text) path
+    → Updates (slice_cmp nat_cmp) old new path true → Adds (Names text) old new
+adds-named only update = adds-one only.here only.only update

@@ -1,8 +1,9 @@
 -- Folders that are too long for a path to lie within may be left out.
-use Rattle.std.proofs.Common.{◌≡◌, ℕ, ◌≤◌, Bool, true, false, List, ◌∷◌, length, Option, Some, None, refl, sym, ◌∙◌, ap, subst, arith, length-append, le-leb}
+use Rattle.std.proofs.Common.{◌≡◌, ℕ, ◌≤◌, Bool, true, false, List, [], ◌∷◌, length, map, Option, Some, None, refl, sym, ◌∙◌, ap, subst, arith, length-append, le-leb}
 use Rattle.std.specs.Prelude.{◌==◌, nat_le, if◌then◌else◌}
 use Rattle.std.specs.Option.{option_map, option_and_then}
 use Rattle.std.proofs.lemmas.Bool.{leb-true, leb-false}
+use Rattle.std.proofs.Math.ListN.{get_or-map}
 use Rattle.std.specs.BTreeSet.{BTreeSet}
 use Rattle.std.specs.List.{slice_index_or}
 use Rattle.dwarf_units.proofs.CaseLemmas.{only_then}
@@ -11,7 +12,7 @@ use Rattle.row_types.specs.declared.limits.TheConstants.{SEPARATOR, PATH_LIMIT}
 use Rattle.row_types.specs.Absolute.{is_absolute}
 use Rattle.source_paths.proofs.AddLemmas.{adds-same}
 use Rattle.source_paths.specs.Adds.{Adds, IsFileFrom, short, where_short}
-use Rattle.row_types.specs.SourcePaths.{behind, within, directory_from, file_from, first_directory}
+use Rattle.row_types.specs.SourcePaths.{behind, within, directory_from, file_from, file_path, first_directory}
 use Rattle.row_types.specs.Sources.{IsFileSource, IsOfOne, MayName}
 
 -- a text within a folder that is too long is too long
@@ -49,6 +50,37 @@ short_behind folder (Some text) =
     ≡ short (if v then Some text else option_map (within text) folder))
     [ true ↦ refl | false ↦ short_within text folder ]
 
+-- a text that is too long names nothing behind any folder
+too_long_within : (text folder : List ℕ) → nat_le (length text) PATH_LIMIT ≡ false → where_short (within text folder) ≡ None
+too_long_within text folder e =
+    elim (nat_le (length (within text folder)) PATH_LIMIT) as (λ v. nat_le (length (within text folder)) PATH_LIMIT ≡ v
+    → (if v then Some (within text folder) else None) ≡ None) [
+      | true ↦ λ fits. absurd (omega (arith, leb-false (length text) PATH_LIMIT e, leb-true (length (within text folder)) PATH_LIMIT fits, length-append folder (SEPARATOR ∷ text)))
+      | false ↦ λ _. refl
+    ] refl
+
+too_long_behind : (folder : Option (List ℕ)) (text : List ℕ) → nat_le (length text) PATH_LIMIT ≡ false
+    → None ≡ short (behind folder (Some text))
+too_long_behind folder text e =
+    elim (is_absolute text) as (λ v. None ≡ short (if v then Some text else option_map (within text) folder))
+    [ true ↦ by_itself | false ↦ in_folder folder ]
+  where
+    by_itself : None ≡ where_short text
+    by_itself = ap (λ (v : Bool). if v then Some text else None) (sym e)
+
+    in_folder : (folder : Option (List ℕ)) → None ≡ short (option_map (within text) folder)
+    in_folder None = refl
+    in_folder (Some folder) = sym (too_long_within text folder e)
+
+pub short_text : (folder text : Option (List ℕ)) → short (behind folder (short text)) ≡ short (behind folder text)
+short_text folder None = refl
+short_text folder (Some text) =
+    elim (nat_le (length text) PATH_LIMIT) as (λ v. nat_le (length text) PATH_LIMIT ≡ v
+    → short (behind folder (if v then Some text else None)) ≡ short (behind folder (Some text))) [
+      | true ↦ λ e. refl
+      | false ↦ λ e. too_long_behind folder text e
+    ] refl
+
 short_directory : (first : Option (List ℕ)) (directories : List (Option (List ℕ))) (index : ℕ)
     → short (directory_from (short first) directories index) ≡ short (directory_from first directories index)
 short_directory first directories index =
@@ -73,6 +105,38 @@ short_file first directories file =
     in_folder None = refl
     in_folder (Some index) = short_directory first directories index
 
+-- where directories that are too long are left out
+short_listed : (first : Option (List ℕ)) (directories : List (Option (List ℕ))) (index : ℕ)
+    → short (directory_from first (map short directories) index) ≡ short (directory_from first directories index)
+short_listed first directories index =
+    elim (index == 0) as (λ v. short (if v then first else behind first (slice_index_or (map short directories) index None))
+    ≡ short (if v then first else behind first (slice_index_or directories index None))) [
+      | true ↦ refl
+      | false ↦ ap (λ d. short (behind first d)) (get_or-map short directories index None)
+          ∙ short_text first (slice_index_or directories index None)
+    ]
+
+file_listed : (first : Option (List ℕ)) (directories : List (Option (List ℕ))) (file : LineEntry)
+    → short (file_from first (map short directories) file) ≡ short (file_from first directories file)
+file_listed first directories file =
+    same_behind file.path (option_and_then (directory_from first (map short directories)) file.directory)
+    (option_and_then (directory_from first directories) file.directory) (in_folder file.directory)
+  where
+    in_folder : (index : Option ℕ) → short (option_and_then (directory_from first (map short directories)) index)
+        ≡ short (option_and_then (directory_from first directories) index)
+    in_folder None = refl
+    in_folder (Some index) = short_listed first directories index
+
+first_listed : (unit : Option (List ℕ)) (directories : List (Option (List ℕ)))
+    → short (first_directory unit (map short directories)) ≡ short (first_directory unit directories)
+first_listed unit [] = refl
+first_listed unit (first ∷ rest) = short_text unit first
+
+-- a file has the same path where directory 0 and the others are too long
+all_short : (first : Option (List ℕ)) (directories : List (Option (List ℕ))) (file : LineEntry)
+    → short (file_from (short first) (map short directories) file) ≡ short (file_from first directories file)
+all_short first directories file = short_file first (map short directories) file ∙ file_listed first directories file
+
 -- a text that names a source is short enough
 where_named : (text : Option (List ℕ)) {path : List ℕ} → MayName text path → MayName (short text) path
 where_named text h = record {
@@ -96,16 +160,32 @@ where_short_named (Some text) h = record {
 pub same_named : (text other : Option (List ℕ)) → short text ≡ short other → {path : List ℕ} → MayName text path → MayName other path
 same_named text other e {path} h = where_short_named other (subst (λ t. MayName t path) e (where_named text h))
 
--- each file has the path that it has where directory 0 is too long
+-- each file has the path that it has where directories are too long
 pub from_short : (first : Option (List ℕ)) (directories : List (Option (List ℕ))) (file : LineEntry) (path : List ℕ)
-    → IsFileFrom (short first) directories file path → IsFileFrom first directories file path
+    → IsFileFrom (short first) (map short directories) file path → IsFileFrom first directories file path
 from_short first directories file path =
-    same_named (file_from (short first) directories file) (file_from first directories file) (short_file first directories file)
+    same_named (file_from (short first) (map short directories) file) (file_from first directories file) (all_short first directories file)
 
 pub to_short : (first : Option (List ℕ)) (directories : List (Option (List ℕ))) (file : LineEntry) (path : List ℕ)
-    → IsFileFrom first directories file path → IsFileFrom (short first) directories file path
+    → IsFileFrom first directories file path → IsFileFrom (short first) (map short directories) file path
 to_short first directories file path =
-    same_named (file_from first directories file) (file_from (short first) directories file) (sym (short_file first directories file))
+    same_named (file_from first directories file) (file_from (short first) (map short directories) file) (sym (all_short first directories file))
+
+-- what stands behind a folder adds the same where the folder is too long
+pub adds_behind : (folder text : Option (List ℕ)) {made : Option (List ℕ)} {old new : BTreeSet (List ℕ)} → made ≡ short folder
+    → Adds (MayName (behind made text)) old new → Adds (MayName (behind folder text)) old new
+adds_behind folder text {made} {old} {new} e a = adds-same
+    (λ path h. same_named (behind (short folder) text) (behind folder text) (short_behind folder text) h)
+    (λ path h. same_named (behind folder text) (behind (short folder) text) (sym (short_behind folder text)) h)
+    (subst (λ f. Adds (MayName (behind f text)) old new) e a)
+
+-- a text adds the same where it is too long
+pub adds_text : (folder text : Option (List ℕ)) {made : Option (List ℕ)} {old new : BTreeSet (List ℕ)} → made ≡ short text
+    → Adds (MayName (behind folder made)) old new → Adds (MayName (behind folder text)) old new
+adds_text folder text {made} {old} {new} e a = adds-same
+    (λ path h. same_named (behind folder (short text)) (behind folder text) (short_text folder text) h)
+    (λ path h. same_named (behind folder text) (behind folder (short text)) (sym (short_text folder text)) h)
+    (subst (λ t. Adds (MayName (behind folder t)) old new) e a)
 
 -- the text is short, or it isn't
 pub adds_short : (text : Option (List ℕ)) {old new : BTreeSet (List ℕ)} → Adds (MayName (short text)) old new → Adds (MayName text) old new
@@ -115,20 +195,44 @@ pub one_by_one : {A : Type 0} {P Q : A → List ℕ → Type 0} → ((one : A) (
     → (list : List A) (path : List ℕ) → IsOfOne P list path → IsOfOne Q list path
 one_by_one to list path h = record { one = h.one; among = h.among; has = to h.one path h.has }
 
--- the files' paths are the same where directory 0 is too long
+-- the files' paths are the same where directories are too long
 pub adds_files : (first : Option (List ℕ)) (directories : List (Option (List ℕ))) (files : List LineEntry) {old new : BTreeSet (List ℕ)}
-    → Adds (IsOfOne (IsFileFrom (short first) directories) files) old new
+    → Adds (IsOfOne (IsFileFrom (short first) (map short directories)) files) old new
     → Adds (IsOfOne (IsFileFrom first directories) files) old new
 adds_files first directories files a =
     adds-same (one_by_one (from_short first directories) files) (one_by_one (to_short first directories) files) a
 
 -- the files of a table add their paths
 pub adds_table : (unit : Option (List ℕ)) (table : LineTable) {first : Option (List ℕ)} {directories : List (Option (List ℕ))}
-    {files : List LineEntry} {old new : BTreeSet (List ℕ)} → first ≡ short (first_directory unit table.directories)
-    → directories ≡ table.directories → files ≡ table.files → Adds (IsOfOne (IsFileFrom first directories) files) old new
+    {files : List LineEntry} {old new : BTreeSet (List ℕ)} → first ≡ short (first_directory unit (map short table.directories))
+    → directories ≡ map short table.directories → files ≡ table.files → Adds (IsOfOne (IsFileFrom first directories) files) old new
     → Adds (IsOfOne (IsFileSource unit table) table.files) old new
 adds_table unit table {first} {directories} {files} {old} {new} e d f a =
     adds_files (first_directory unit table.directories) table.directories table.files
-    (subst (λ x. Adds (IsOfOne (IsFileFrom x table.directories) table.files) old new) e
+    (subst (λ x. Adds (IsOfOne (IsFileFrom x (map short table.directories)) table.files) old new)
+    (e ∙ first_listed unit table.directories)
     (subst (λ x. Adds (IsOfOne (IsFileFrom first x) table.files) old new) d
     (subst (λ x. Adds (IsOfOne (IsFileFrom first directories) x) old new) f a)))
+
+-- a table's file has the path that it has in a unit whose directory is too long
+same_first : (unit : Option (List ℕ)) (directories : List (Option (List ℕ)))
+    → short (first_directory (short unit) directories) ≡ short (first_directory unit directories)
+same_first unit [] = short_again unit
+same_first unit (first ∷ rest) = short_behind unit first
+
+short_unit : (unit : Option (List ℕ)) (table : LineTable) (file : LineEntry)
+    → short (file_path (short unit) table file) ≡ short (file_path unit table file)
+short_unit unit table file =
+    sym (short_file (first_directory (short unit) table.directories) table.directories file)
+    ∙ ap (λ f. short (file_from f table.directories file)) (same_first unit table.directories)
+    ∙ short_file (first_directory unit table.directories) table.directories file
+
+pub from_unit : (unit : Option (List ℕ)) (table : LineTable) (path : List ℕ)
+    → IsOfOne (IsFileSource (short unit) table) table.files path → IsOfOne (IsFileSource unit table) table.files path
+from_unit unit table =
+    one_by_one (λ file path. same_named (file_path (short unit) table file) (file_path unit table file) (short_unit unit table file)) table.files
+
+pub to_unit : (unit : Option (List ℕ)) (table : LineTable) (path : List ℕ)
+    → IsOfOne (IsFileSource unit table) table.files path → IsOfOne (IsFileSource (short unit) table) table.files path
+to_unit unit table =
+    one_by_one (λ file path. same_named (file_path unit table file) (file_path (short unit) table file) (sym (short_unit unit table file))) table.files

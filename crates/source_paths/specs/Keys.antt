@@ -4,7 +4,7 @@ use Rattle.std.specs.Option.{option_copied}
 use Rattle.std.specs.BTreeSet.{BTreeSet}
 use Rattle.file_formats.specs.DwarfUnits.{DebugSections, RootEntry}
 use Rattle.source_paths.specs.declared.tables.TableKey.{TableKey}
-use Rattle.source_paths.specs.Adds.{Has}
+use Rattle.source_paths.specs.Adds.{Has, short}
 use Rattle.row_types.specs.Sources.{IsEntrySource}
 
 -- the first entry of units that have this key
@@ -14,6 +14,10 @@ key_entry key = record {
   comp_dir = option_copied key.directory;
   str_offsets_base = key.base;
 }
+
+-- an entry without a folder that is longer than a path may be
+abbrev pub short_entry : RootEntry → RootEntry
+short_entry entry = record entry { comp_dir = short entry.comp_dir }
 
 -- the sources of a key are in the set
 abbrev pub IsRead : DebugSections → BTreeSet (List ℕ) → TableKey → Type 0

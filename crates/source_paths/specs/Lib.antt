@@ -4,3 +4,4 @@ pub use Rattle.row_types.specs.Canon
 pub use Rattle.row_types.specs.Sources
 pub mod Adds
 pub mod Keys
+pub mod Lately

@@ -2,16 +2,52 @@
 
 ghost use Rattle.std.specs.Prelude.{map, OnOk};
 ghost use Rattle.std.specs.Option.{option_copied};
+ghost use Rattle.dwarf_forms.specs.TextBytes.{text_said};
 ghost use Rattle.dwarf_lines.specs.Entries.{file_facts};
 ghost use Rattle.source_paths.specs.Adds.{Adds, IsFileFrom};
-ghost use Rattle.row_types.specs.Sources.{IsFileSource, IsOfOne};
+ghost use Rattle.row_types.specs.SourcePaths.{behind};
+ghost use Rattle.row_types.specs.Sources.{IsFileSource, IsOfOne, MayName};
 
-use crate::joined::{file_path, first_directory, lent};
-use crate::named::add_named;
+use crate::found::Found;
+use crate::joined::{behind, first_directory, is_absolute, lent, listed, short, short_texts};
+use dwarf_forms::Text;
 use dwarf_lines::{LineFile, LineTable};
-use row_types::CanonPath;
 use std::alloc::{AllocError, Global};
-use std::collections::BTreeSet;
+
+/// Adds the path that a text behind a folder names.
+fn add_text(
+    alloc: Global,
+    folder: Option<&[u8]>,
+    text: Option<Text<'_>>,
+    paths: &mut Found,
+) -> Result<(), AllocError>
+    ensures { OnOk result (Adds
+        (MayName (behind (option_copied folder.entry) (text_said text.entry)))
+        paths.old paths.new) }
+{
+    paths.add(alloc, folder, short(text))
+}
+
+/// Adds the path of a file in a folder of this directory, where directory 0 has this path.
+fn add_in_folder(
+    alloc: Global,
+    first: Option<&[u8]>,
+    directory: Option<&[u8]>,
+    text: Option<Text<'_>>,
+    paths: &mut Found,
+) -> Result<(), AllocError>
+    ensures { OnOk result (Adds (MayName (behind
+        (behind (option_copied first.entry) (option_copied directory.entry))
+        (text_said text.entry))) paths.old paths.new) }
+{
+    match directory {
+        Some(folder) if is_absolute(folder) => add_text(alloc, Some(folder), text, paths),
+        _ => {
+            let folder = behind(alloc, first, directory)?;
+            add_text(alloc, lent(&folder), text, paths)
+        }
+    }
+}
 
 /// Adds the path of a file, where directory 0 has this path.
 fn add_file(
@@ -19,14 +55,17 @@ fn add_file(
     first: Option<&[u8]>,
     dirs: &[Option<&[u8]>],
     file: &LineFile<'_>,
-    paths: &mut BTreeSet<CanonPath>,
+    paths: &mut Found,
 ) -> Result<(), AllocError>
     ensures { OnOk result (Adds
         (IsFileFrom (option_copied first.entry) (map option_copied dirs.now) (file_facts file.now))
         paths.old paths.new) }
 {
-    let path = file_path(alloc, first, dirs, file)?;
-    add_named(alloc, path, paths)
+    match file.dir {
+        None => add_text(alloc, None, file.path, paths),
+        Some(0) => add_text(alloc, first, file.path, paths),
+        Some(index) => add_in_folder(alloc, first, listed(dirs, index), file.path, paths),
+    }
 }
 
 /// Adds the paths of files, where directory 0 has this path.
@@ -35,7 +74,7 @@ fn add_each(
     first: Option<&[u8]>,
     dirs: &[Option<&[u8]>],
     files: &[LineFile<'_>],
-    paths: &mut BTreeSet<CanonPath>,
+    paths: &mut Found,
 ) -> Result<(), AllocError>
     ensures { OnOk result (Adds
         (IsOfOne (IsFileFrom (option_copied first.entry) (map option_copied dirs.now))
@@ -47,22 +86,24 @@ fn add_each(
     Ok(())
 }
 
-/// Adds the paths of a table's files, in a unit of this directory. Directory 0 is joined once.
+/// Adds the paths of a table's files, in a unit of this directory. Directory 0 is joined once, and
+/// each directory's text is read once.
 pub(crate) fn add_files(
     alloc: Global,
     unit: Option<&[u8]>,
     table: &LineTable<'_>,
-    paths: &mut BTreeSet<CanonPath>,
+    paths: &mut Found,
 ) -> Result<(), AllocError>
     ensures { OnOk result (Adds
         (IsOfOne (IsFileSource (option_copied unit.entry) table.now) table.now.files)
         paths.old paths.new) }
 {
-    let first = first_directory(alloc, unit, table.dirs.as_slice())?;
+    let dirs = short_texts(alloc, table.dirs.as_slice())?;
+    let first = first_directory(alloc, unit, dirs.as_slice())?;
     add_each(
         alloc,
         lent(&first),
-        table.dirs.as_slice(),
+        dirs.as_slice(),
         table.files.as_slice(),
         paths,
     )

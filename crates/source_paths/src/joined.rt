@@ -4,22 +4,44 @@ ghost use Rattle.std.specs.Prelude.{◌≡◌, map, None, IfOk};
 ghost use Rattle.std.specs.List.{slice_index_or};
 ghost use Rattle.std.specs.Option.{option_copied, option_map};
 ghost use Rattle.row_types.specs.Absolute.{is_absolute};
-ghost use Rattle.dwarf_lines.specs.Entries.{file_facts};
-ghost use Rattle.row_types.specs.SourcePaths.{behind, file_from, first_directory, within};
+ghost use Rattle.row_types.specs.SourcePaths.{behind, first_directory, within};
+ghost use Rattle.dwarf_forms.specs.TextBytes.{text_said};
 ghost use Rattle.source_paths.specs.Adds.{short, where_short};
 
-use dwarf_lines::LineFile;
+use dwarf_forms::Text;
 use row_types::{PATH_LIMIT, SEPARATOR};
 use std::alloc::{AllocError, Global};
 
 /// Whether a text begins with a slash.
-fn is_absolute(text: &[u8]) -> bool
+pub(crate) fn is_absolute(text: &[u8]) -> bool
     ensures { result ≡ is_absolute text.now }
 {
     match text {
         [first, ..] => *first == SEPARATOR,
         [] => false,
     }
+}
+
+/// The bytes of a text, None where it is longer than a path may be.
+pub(crate) fn short(text: Option<Text<'_>>) -> Option<&[u8]>
+    ensures { option_copied result ≡ short (text_said text.entry) }
+{
+    text?.within(PATH_LIMIT)
+}
+
+/// The bytes of texts, None where one is longer than a path may be.
+pub(crate) fn short_texts<'a>(
+    alloc: Global,
+    texts: &[Option<Text<'a>>],
+) -> Result<Vec<Option<&'a [u8]>>, AllocError>
+    ensures { IfOk result (λ found.
+        map option_copied found.items ≡ map short (map text_said texts.now)) }
+{
+    let mut found = Vec::with_capacity(alloc, texts.len())?;
+    for text in texts {
+        found.push(short(*text))?;
+    }
+    Ok(found)
 }
 
 /// A copy of a text, None where it is longer than a path may be.
@@ -49,7 +71,7 @@ fn joined(alloc: Global, folder: &[u8], text: &[u8]) -> Result<Option<Vec<u8>>, 
 
 /// A text behind a folder, None where a part that is needed isn't there, or the path would be longer
 /// than a path may be.
-fn behind(
+pub(crate) fn behind(
     alloc: Global,
     folder: Option<&[u8]>,
     text: Option<&[u8]>,
@@ -85,7 +107,7 @@ pub(crate) fn first_directory(
 }
 
 /// The path that a table lists for a directory, None where it lists none.
-fn listed<'a>(dirs: &[Option<&'a [u8]>], index: u64) -> Option<&'a [u8]>
+pub(crate) fn listed<'a>(dirs: &[Option<&'a [u8]>], index: u64) -> Option<&'a [u8]>
     ensures { option_copied result ≡ slice_index_or (map option_copied dirs.now) index None }
 {
     match dirs.get(index as usize) {
@@ -101,26 +123,5 @@ pub(crate) fn lent(text: &Option<Vec<u8>>) -> Option<&[u8]>
     match text {
         Some(text) => Some(text.as_slice()),
         None => None,
-    }
-}
-
-/// The path of a file, where directory 0 has this path.
-pub(crate) fn file_path(
-    alloc: Global,
-    first: Option<&[u8]>,
-    dirs: &[Option<&[u8]>],
-    file: &LineFile<'_>,
-) -> Result<Option<Vec<u8>>, AllocError>
-    ensures { IfOk result (λ path. option_map (λ v. v.items) path
-        ≡ short (file_from (option_copied first.entry) (map option_copied dirs.now)
-        (file_facts file.now))) }
-{
-    match file.dir {
-        None => behind(alloc, None, file.path),
-        Some(0) => behind(alloc, first, file.path),
-        Some(index) => {
-            let folder = behind(alloc, first, listed(dirs, index))?;
-            behind(alloc, lent(&folder), file.path)
-        }
     }
 }

@@ -3,6 +3,7 @@
 #![tactic(auto)]
 
 mod files;
+mod found;
 mod joined;
 mod named;
 mod paths;

@@ -1,11 +1,10 @@
 //! The path that a text names.
 
-ghost use Rattle.std.specs.Prelude.{IfOk, OnOk};
-ghost use Rattle.std.specs.Option.{option_map};
+ghost use Rattle.std.specs.Prelude.{ℕ, List, IfOk, OnOk};
 ghost use Rattle.dwarf_forms.specs.Tells.{Tells};
 ghost use Rattle.dwarf_lines.specs.Finds.{as_it_is};
-ghost use Rattle.row_types.specs.Sources.{MayName, Names};
-ghost use Rattle.source_paths.specs.Adds.{Adds};
+ghost use Rattle.row_types.specs.Sources.{Names};
+ghost use Rattle.source_paths.specs.Adds.{Adds, Has};
 
 use path_canon::{PathFault, canonical};
 use row_types::CanonPath;
@@ -39,14 +38,12 @@ fn path_named(alloc: Global, text: Vec<u8>) -> Result<Option<CanonPath>, AllocEr
 /// Adds the path that a text names.
 pub(crate) fn add_named(
     alloc: Global,
-    text: Option<Vec<u8>>,
+    text: Vec<u8>,
     paths: &mut BTreeSet<CanonPath>,
 ) -> Result<(), AllocError>
-    ensures { OnOk result (Adds (MayName (option_map (λ v. v.items) text)) paths.old paths.new) }
+    ensures adds { OnOk result (Adds (Names text.items) paths.old paths.new) }
+    ensures kept { (path : List ℕ) → Has paths.old path → Has paths.new path }
 {
-    let Some(text) = text else {
-        return Ok(());
-    };
     let Some(path) = path_named(alloc, text)? else {
         return Ok(());
     };

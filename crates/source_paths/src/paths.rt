@@ -6,8 +6,9 @@ ghost use Rattle.row_types.specs.Ascends.{Ascends};
 ghost use Rattle.source_paths.specs.Adds.{Has};
 ghost use Rattle.row_types.specs.Sources.{IsSource};
 
+use crate::found::Found;
 use crate::tables::add_unit;
-use dwarf_forms::DebugParts;
+use dwarf_forms::{DebugParts, texts_in};
 use dwarf_units::units;
 use row_types::{CanonPath, Sources};
 use std::alloc::{AllocError, Global};
@@ -19,11 +20,11 @@ fn all_paths(alloc: Global, parts: &DebugParts<'_>) -> Result<BTreeSet<CanonPath
         → Has paths path ↔ IsSource (sections_of parts.now) path) }
 {
     let mut seen = BTreeSet::new(alloc);
-    let mut paths = BTreeSet::new(alloc);
+    let mut paths = Found::new(alloc)?;
     for unit in units(parts.info, parts.order) {
         add_unit(alloc, parts, &unit, &mut seen, &mut paths)?;
     }
-    Ok(paths)
+    Ok(paths.into_paths())
 }
 
 /// The paths of a set, in order.
@@ -41,7 +42,12 @@ pub fn sources(alloc: Global, parts: &DebugParts<'_>) -> Result<Sources, AllocEr
         → Contains found path ↔ IsSource (sections_of parts.now) path) }
     ensures ascends { IfOk result (λ found. Ascends found) }
 {
-    let paths = in_order(alloc, all_paths(alloc, parts)?)?;
+    let ended = DebugParts {
+        str: texts_in(parts.str),
+        line_str: texts_in(parts.line_str),
+        ..*parts
+    };
+    let paths = in_order(alloc, all_paths(alloc, &ended)?)?;
     match Sources::check(paths) {
         Ok(sources) => Ok(sources),
         Err(_) => unreachable!(),

@@ -8,10 +8,11 @@ ghost use Rattle.source_paths.specs.Keys.{AreRead, key_entry};
 ghost use Rattle.row_types.specs.Sources.{IsEntrySource, IsUnitSource};
 
 use crate::files::add_files;
+use crate::found::Found;
+use crate::joined::short;
 use dwarf_forms::{DebugParts, Strings};
 use dwarf_lines::line_table;
 use dwarf_units::{Unit, unit_die};
-use row_types::CanonPath;
 use std::alloc::{AllocError, Global};
 use std::collections::BTreeSet;
 
@@ -22,7 +23,7 @@ pub(crate) struct TableKey<'a> {
     pub(crate) offset: u64,
     /// Where the unit's part of .debug_str_offsets begins, in bytes.
     pub(crate) base: Option<u64>,
-    /// The folder in which the unit was compiled.
+    /// The folder in which the unit was compiled, None where it is longer than a path may be.
     pub(crate) directory: Option<&'a [u8]>,
 }
 
@@ -31,7 +32,7 @@ fn add_table(
     alloc: Global,
     parts: &DebugParts<'_>,
     key: &TableKey<'_>,
-    paths: &mut BTreeSet<CanonPath>,
+    paths: &mut Found,
 ) -> Result<(), AllocError>
     ensures { OnOk result (Adds
         (IsEntrySource (sections_of parts.now) false (key_entry key.now)) paths.old paths.new) }
@@ -56,7 +57,7 @@ fn add_new_table<'a>(
     parts: &DebugParts<'a>,
     key: TableKey<'a>,
     seen: &mut BTreeSet<TableKey<'a>>,
-    paths: &mut BTreeSet<CanonPath>,
+    paths: &mut Found,
 ) -> Result<(), AllocError>
     requires { AreRead (sections_of parts.now) seen.old paths.old }
     ensures adds { OnOk result (Adds
@@ -75,7 +76,7 @@ pub(crate) fn add_unit<'a>(
     parts: &DebugParts<'a>,
     unit: &Unit<'a>,
     seen: &mut BTreeSet<TableKey<'a>>,
-    paths: &mut BTreeSet<CanonPath>,
+    paths: &mut Found,
 ) -> Result<(), AllocError>
     requires { AreRead (sections_of parts.now) seen.old paths.old }
     ensures adds { OnOk result (Adds
@@ -91,7 +92,7 @@ pub(crate) fn add_unit<'a>(
     let key = TableKey {
         offset,
         base: entry.base,
-        directory: entry.comp_dir,
+        directory: short(entry.comp_dir),
     };
     add_new_table(alloc, parts, key, seen, paths)
 }

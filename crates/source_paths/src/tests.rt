@@ -46,13 +46,18 @@ fn table(alloc: Global, dirs: &[&[u8]], files: &[(&[u8], u8)]) -> Result<Vec<u8>
         lists.push(0)?;
         lists.push(*dir)?;
     }
+    with_header(alloc, lists.as_slice())
+}
+
+/// A line table of these lists.
+fn with_header(alloc: Global, lists: &[u8]) -> Result<Vec<u8>, AllocError> {
     let size = u32::try_from(lists.len()).unwrap_or(0);
     let mut line = Vec::new(alloc);
     line.extend_from_slice(&size.wrapping_add(14).to_le_bytes())?;
     line.extend_from_slice(b"\x05\0\x04\0")?;
     line.extend_from_slice(&size.wrapping_add(6).to_le_bytes())?;
     line.extend_from_slice(b"\x01\x01\x01\xfb\x0e\x01")?;
-    line.extend_from_slice(lists.as_slice())?;
+    line.extend_from_slice(lists)?;
     Ok(line)
 }
 
@@ -212,5 +217,55 @@ fn units_share_a_table(rt: HostRuntime) -> Result<(), Fail> {
     let found = sources_of(alloc, &units, line.as_slice())?;
     are(&rt, "shared", &found, &["/b.c", "/v/a.c", "/w/a.c"]);
     are(&rt, "none", &sources_of(alloc, &[], line.as_slice())?, &[]);
+    Ok(())
+}
+
+// A unit's folder and a directory of 4098 bytes hide only what lies in them.
+#[test]
+fn a_folder_may_be_too_long(rt: HostRuntime) -> Result<(), Fail> {
+    let alloc = rt.alloc();
+    let mut long = Vec::new(alloc);
+    for _ in 0..2049 {
+        long.extend_from_slice(b"/x")?;
+    }
+    let line = table(
+        alloc,
+        &[],
+        &[(b"a.c", 0), (b"/b.c", 0), (long.as_slice(), 0)],
+    )?;
+    let found = sources_of(alloc, &[Some(long.as_slice())], line.as_slice())?;
+    are(&rt, "unit", &found, &["/b.c"]);
+    let dirs: [&[u8]; 2] = [b"src", long.as_slice()];
+    let line = table(alloc, &dirs, &[(b"a.c", 1), (b"/b.c", 1), (b"c.c", 0)])?;
+    let found = sources_of(alloc, &[Some(b"/w")], line.as_slice())?;
+    are(&rt, "directory", &found, &["/b.c", "/w/src/c.c"]);
+    Ok(())
+}
+
+// Two files by line_strp, at 0 and at 5: a text is there where a 0 follows.
+#[test]
+fn a_text_ends_with_a_0(rt: HostRuntime) -> Result<(), Fail> {
+    let alloc = rt.alloc();
+    let line = with_header(alloc, b"\0\0\x01\x01\x1f\x02\0\0\0\0\x05\0\0\0")?;
+    let cases: [(&[u8], &[&str]); 4] = [
+        (b"/a.c\0/b.c\0", &["/a.c", "/b.c"]),
+        (b"/a.c\0/b.c", &["/a.c"]),
+        (b"/a.c/b.c", &[]),
+        (b"", &[]),
+    ];
+    for (line_str, expected) in cases {
+        let mut info = Vec::new(alloc);
+        push_unit(&mut info, None)?;
+        let parts = DebugParts {
+            info: info.as_slice(),
+            abbrev: ABBREV,
+            line: line.as_slice(),
+            str: &[],
+            line_str,
+            str_offsets: &[],
+            order: Order::Little,
+        };
+        are(&rt, "ends", &sources(alloc, &parts)?, expected);
+    }
     Ok(())
 }

@@ -1,5 +1,3 @@
-use Rattle.std.proofs.Common.{◌∙◌, sym}
-use Rattle.file_formats.specs.Leb128.{septets}
 use Rattle.byte_read.proofs.LebLemmas.{sum_more, turned_none}
 use Rattle.byte_read.proofs.leb.sum_of.Goals as goal
 

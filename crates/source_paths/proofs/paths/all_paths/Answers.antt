@@ -1,17 +1,18 @@
-use Rattle.std.proofs.Common.{ap, sym, subst}
+use Rattle.std.proofs.Common.{◌↔◌, ℕ, List, ap, sym, subst}
+use Rattle.std.specs.BTreeSet.{BTreeSet}
 use Rattle.std.proofs.lemmas.Iterator.Consumers.{YieldsList-from_first, YieldsList-end}
 use Rattle.std.proofs.lemmas.List.{map_push}
 use Rattle.dwarf_forms.specs.Parts.{sections_of}
 use Rattle.dwarf_units.specs.UnitList.{unit_facts, units_left}
-use Rattle.source_paths.specs.Adds.{Adds}
-use Rattle.row_types.specs.Sources.{IsOfOne, IsUnitSource}
+use Rattle.source_paths.specs.Adds.{Adds, Has}
+use Rattle.row_types.specs.Sources.{IsOfOne, IsSource, IsUnitSource}
 use Rattle.source_paths.proofs.AddLemmas.{adds-one_more}
 use Rattle.source_paths.proofs.KeyLemmas.{units-exact}
 use Rattle.source_paths.proofs.paths.all_paths.Goals as goal
 
 pub loop-unit-preserved : goal.loop-unit-preserved
 loop-unit-preserved c = record {
-  adds = subst (λ done. Adds (IsOfOne (IsUnitSource (sections_of c.args.parts.now)) done) c.new-paths.result c.add_unit.new.paths)
+  adds = subst (λ done. Adds (IsOfOne (IsUnitSource (sections_of c.args.parts.now)) done) c.in_ok-paths.paths c.add_unit.new.paths)
       (sym (map_push unit_facts c.loop-unit.yielded c.in-Some.unit))
       (adds-one_more c.loop-unit.invariant.adds c.in_ok-add_unit.ensures.adds);
   read = c.in_ok-add_unit.ensures.read;
@@ -23,4 +24,6 @@ returns c =
     (YieldsList-from_first unit_facts units_left {s = c.into_iter-unit-iterator.result} (units_left c.units-unit-items.result)
     (ap units_left c.into_iter-unit-iterator.ensures.into_iter_gives))
     c.loop-unit.yielded c.loop-unit.unit-iterator c.loop-unit.yielded_by c.next.result c.next.new.self c.in-None.is c.next.ensures.steps in
-    units-exact (sections_of c.args.parts.now) c.units-unit-items.ensures whole.0 c.new-paths.ensures.empty c.loop-unit.invariant.adds
+    subst (λ (set : BTreeSet (List ℕ)). (path : List ℕ) → Has set path ↔ IsSource (sections_of c.args.parts.now) path)
+    (sym c.into_paths.ensures)
+    (units-exact (sections_of c.args.parts.now) c.units-unit-items.ensures whole.0 c.in_ok-paths.ensures c.loop-unit.invariant.adds)

@@ -1,9 +1,10 @@
-use Rattle.std.proofs.Common.{ℕ, Option, ap, sym}
+use Rattle.std.proofs.Common.{ℕ, List, Option, ap, sym, ◌∙◌}
 use Rattle.std.proofs.lemmas.Result.{on_ok_weaker}
 use Rattle.dwarf_forms.specs.Parts.{sections_of}
+use Rattle.dwarf_units.specs.Entries.{die_facts}
 use Rattle.dwarf_units.specs.UnitList.{unit_facts}
 use Rattle.source_paths.specs.declared.tables.TableKey.{TableKey}
-use Rattle.source_paths.specs.Keys.{key_entry}
+use Rattle.source_paths.specs.Keys.{key_entry, short_entry}
 use Rattle.source_paths.proofs.AddLemmas.{adds-nothing}
 use Rattle.source_paths.proofs.KeyLemmas.{unit-nowhere, unit-unnamed, unit-adds}
 use Rattle.source_paths.proofs.tables.add_unit.Goals as goal
@@ -23,9 +24,10 @@ returns-clause-adds c =
     let key : TableKey = record {
       offset = c.in-Some-stmt_list.offset;
       base = c.in-Some.entry.base;
-      directory = c.in-Some.entry.comp_dir;
+      directory = c.short.result;
     } in
     on_ok_weaker c.add_new_table.result
     (unit-adds (sections_of c.args.parts.now) (unit_facts c.args.unit.now) c.in-Some.ensures.entry key
-    (ap (λ (n : Option ℕ). record (key_entry key) { stmt_list = n }) (sym c.in-Some-stmt_list.is)))
+    (ap (λ (d : Option (List ℕ)). record (key_entry key) { comp_dir = d }) c.short.ensures
+    ∙ ap (λ (n : Option ℕ). record (short_entry (die_facts c.in-Some.entry)) { stmt_list = n }) (sym c.in-Some-stmt_list.is)))
     c.add_new_table.ensures.adds
