@@ -9,6 +9,7 @@ pub mod Folder
 pub mod Found
 pub mod Heard
 pub mod HeardCalls
+pub mod Listens
 pub mod Load
 pub mod MemTree
 pub mod Pieces

@@ -1,6 +1,6 @@
 //! The tree of files that a scan reads: the trait that stands for it, what it answers, and a form
-//! in memory that answers by a script; and the trait that stands for what reads a file. The real
-//! tree stands in the program.
+//! in memory that answers by a script; the trait that stands for what reads a file; and the trait
+//! that stands for who may hold a thread at a point. The real tree stands in the program.
 #![tactic(auto)]
 
 mod answer;
@@ -8,6 +8,7 @@ mod dir;
 mod entry;
 mod folder;
 mod found;
+mod gate;
 mod heard;
 mod mem_tree;
 mod reader;
@@ -17,15 +18,18 @@ mod stat;
 #[cfg(test)]
 mod tests;
 mod tree;
+mod turn_gate;
 mod two_world;
 
 pub use answer::LoadAnswer;
 pub use dir::DirAnswer;
 pub use entry::{Entry, EntryKind, is_entry_name};
 pub use found::Found;
+pub use gate::{Gate, NoGate, Point};
 pub use mem_tree::MemTree;
 pub use reader::Reader;
 pub use script::Script;
 pub use stat::StatAnswer;
 pub use tree::Tree;
+pub use turn_gate::{Hold, TurnGate};
 pub use two_world::TwoWorld;

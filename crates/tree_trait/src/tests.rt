@@ -2,6 +2,8 @@
 
 ghost use Rattle.std.specs.Prelude.{◌≡◌, IfOk};
 
+mod gates;
+
 use crate::answer::LoadAnswer;
 use crate::dir::DirAnswer;
 use crate::entry::EntryKind;
