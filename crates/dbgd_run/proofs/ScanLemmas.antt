@@ -169,24 +169,24 @@ module _ {T : Type 0} (s : Setting T) (path : List ℕ) (roots : List (List ℕ)
       inr (inl (hand_rose (Passed (ended.Walk stop.Failed)) scans refl))
   end_status (Passed (ended.Walk stop.TooMany)) scans said =
       of_walk (walk_heard stop.TooMany (HeardMany s.tells_files roots) scans (λ b a w. record {
-        answers = w.walks.more;
-        heard = w.walks.heard;
-        many = inl w.walks.ends;
+        answers = w.walks.goes.more;
+        heard = w.walks.goes.heard;
+        many = inl w.walks.goes.ends;
         still = λ still. inl (w.fits still);
       }))
   end_status (Passed (ended.Walk stop.TooManyEntries)) scans said =
       of_walk (walk_heard stop.TooManyEntries (HeardMany s.tells_files roots) scans (λ b a w. record {
-        answers = w.walks.more;
-        heard = w.walks.heard;
-        many = inr w.walks.ends;
+        answers = w.walks.goes.more;
+        heard = w.walks.goes.heard;
+        many = inr w.walks.goes.ends;
         still = λ still. inr (w.fits still);
       }))
   end_status (Passed (ended.Walk (stop.RootGone root))) scans said =
       walk_heard (stop.RootGone root) (HeardGone s.tells_files roots) scans (λ b a w. record {
-        answers = w.walks.more;
+        answers = w.walks.goes.more;
         path = root;
-        heard = w.walks.heard;
-        gone = w.walks.ends;
+        heard = w.walks.goes.heard;
+        gone = w.walks.goes.ends;
         still = λ still. let fits = w.fits still in record { path = root; root = fits.0; nothing = fits.1 };
       })
   end_status (Passed (ended.Walk stop.OutOfMemory)) scans said = tt

@@ -45,18 +45,18 @@ module _ {K : Type 0} (world : Rules) (old : StateFacts K) {told : Bool} {shows 
     (hands : HandsOn told world.version before met Asked Fails)
     (settles : Settles told world.version shows met after (after_begin walk.listing roots old) new) where
   -- what the hand heard, of the walk and of the settling
-  heard_pass : HearsPass told world.version roots (row_names old.rows) walk walks.more settles.answers before after
+  heard_pass : HearsPass told world.version roots (row_names old.rows) walk walks.goes.more settles.answers before after
   heard_pass = record {
-    heard = heard_both before.heard met.heard after.heard walks.more settles.answers walks.heard settles.heard;
-    whole = walks.ends;
-    full = full_stays walk.listing roots (row_names old.rows) walks.more settles.answers settles.wanted walks.ends.full;
+    heard = heard_both before.heard met.heard after.heard walks.goes.more settles.answers walks.goes.heard settles.heard;
+    whole = walks.goes.ends;
+    full = full_stays walk.listing roots (row_names old.rows) walks.goes.more settles.answers settles.wanted walks.goes.ends.full;
     listing =
-        listing_stays walk.listing roots (row_names old.rows) walks.more settles.answers settles.wanted walks.ends.full
-        walk.listing walks.ends.listing;
+        listing_stays walk.listing roots (row_names old.rows) walks.goes.more settles.answers settles.wanted walks.goes.ends.full
+        walk.listing walks.goes.ends.listing;
     wanted = settles.wanted;
     fits = settles.fits;
     tells = λ t.
-        All-append (IsTold before.present) walks.more settles.answers (walks.tells t.0 t.1)
+        All-append (IsTold before.present) walks.goes.more settles.answers (walks.goes.tells t.0 t.1)
         (subst (λ (names : List NameFacts). All (IsTold names) settles.answers) (hands.still t.1).same
         (settles.tells t.0 (hands.still t.1).still));
     under = under;
@@ -95,7 +95,7 @@ module _ {K : Type 0} (world : Rules) (old : StateFacts K) {told : Bool} {shows 
       → RunsPass world told roots before after old new Ends
   runs_pass Ends ends = record {
     walk = walk;
-    walked = walks.more;
+    walked = walks.goes.more;
     more = settles.answers;
     hears = heard_pass;
     leaves = left_index;
