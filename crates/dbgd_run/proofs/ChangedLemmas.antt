@@ -30,7 +30,6 @@ use Rattle.tree_walk.specs.declared.walked.Walk.{Walk}
 use Rattle.pass_runner.proofs.NameLists.{in_by_stamp}
 use Rattle.pass_runner.specs.Owned.{HearsPass, TellsStill}
 use Rattle.pass_runner.specs.Settled.{IsBacked, IsWanted}
-use Rattle.dbgd_run.specs.Causes.{IsChange}
 
 -- what holds of each holds of those in front
 all_front : {X : Type 0} (P : X → Type 0) (xs ys : List X) → All P (xs ++ ys) → All P xs
@@ -88,11 +87,17 @@ is_contained names name h =
     list_any_at (same_name name) names h.0 name h.1
     (subst (λ (n : NameFacts). same_name name n ≡ true) (sym h.2) ((same_name-Decides name name).1 refl))
 
+-- whether a name was missed since a file is another by now
+abbrev pub IsChange : Cause → Type 0
+IsChange ReadFault = ⊥
+IsChange (Altered met) = Unit {0}
+IsChange Appeared = Unit {0}
+
 -- where the hand tells files that never change, no listed file is another, and no file stands that isn't listed
 pub never_changed : {told : Bool} {version : Versions} {roots : List (List ℕ)} {names : List NameFacts} {walk : Walk}
     {walked more : List Heard} {before after : ShownTree} (Failed : Type 0) (name : NameFacts) (cause : Cause)
     → HearsPass told version roots names walk walked more before after → IsChange cause → IsCanonPath name.path
-    → IsBacked walk.listing more Failed name cause → TellsStill told before → ⊥
+    → IsBacked walk.listing names more Failed name cause → TellsStill told before → ⊥
 never_changed Failed name ReadFault hears change path why still = change
 never_changed {walk = walk} {walked = walked} {more = more} {before = before} Failed name (Altered met) hears change path why still =
     let there = first_told before.present name.path walked (File name.stamp) (all_front (IsTold before.present) walked more (hears.tells still))
@@ -104,8 +109,8 @@ never_changed {walk = walk} {walked = walked} {more = more} {before = before} Fa
 never_changed {roots = roots} {names = names} {walk = walk} {walked = walked} {more = more} {before = before} Failed name Appeared hears change path why still =
     let look = stat name.path (File name.stamp) in
     let told : stamp_at before.present name.path ≡ Some name.stamp
-    = All-contains (IsTold before.present) (walked ++ more) look (hears.tells still) (Contains-append_right walked more look why.heard) in
-    let wanted : is_under roots name.path ≡ true = All-contains (IsWanted walk.listing roots names) more look hears.wanted why.heard in
+    = All-contains (IsTold before.present) (walked ++ more) look (hears.tells still) (Contains-append_right walked more look why.seen.heard) in
+    let wanted : is_under roots name.path ≡ true = All-contains (IsWanted walk.listing roots names) more look hears.wanted why.seen.heard in
     let listed : Contains walk.listing name
     = ((hears.under still).all name).1
     (record {
@@ -113,4 +118,4 @@ never_changed {roots = roots} {names = names} {walk = walk} {walked = walked} {m
       under = wanted;
       short = path.short;
     }) in
-    true≢false (sym (is_contained walk.listing name listed) ∙ why.unlisted)
+    true≢false (sym (is_contained walk.listing name listed) ∙ why.seen.unlisted)

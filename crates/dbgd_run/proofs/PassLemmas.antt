@@ -1,6 +1,7 @@
 -- The pass of a scan: what is said of the index that made it is said of the store that it came from and went to.
 use Rattle.std.proofs.Common.{◌≡◌, ◌⊎◌, inl, inr, ℕ, Bool, true, false, List, ◌∷◌, drop, Option, Some, sym, ◌∙◌, ap, subst, IsTrue}
 use Rattle.std.specs.List.{All, AllZip, Contains}
+use Rattle.row_types.specs.Faults.{Rose}
 use Rattle.row_types.specs.Name.{NameFacts}
 use Rattle.row_types.specs.Row.{RowFacts}
 use Rattle.scan_queue.specs.Names.{is_in}
@@ -23,7 +24,7 @@ use Rattle.tree_trait.specs.Heard.{Heard}
 use Rattle.tree_trait.specs.Shown.{ShownTree}
 use Rattle.pass_runner.specs.Numbers.{summary_of}
 use Rattle.pass_runner.specs.Owned.{EndsPass, HandsGo, HearsPass, Helps, RunsPass}
-use Rattle.pass_runner.specs.Settled.{IsReadOf, MayGo}
+use Rattle.pass_runner.specs.Settled.{IsBacked, IsReadOf, MayGo}
 use Rattle.pass_runner.specs.declared.pass_end.PassEnd.{PassEnd}
 use Rattle.pass_runner.specs.declared.pass_end.PassEnd.TheVariants as ended
 use Rattle.dbgd_run.specs.Kept.{HasOneChange, HasRows, HoldsRows, MakesChanges, MayHaveRows}
@@ -141,6 +142,8 @@ module _ {K T : Type 0} (s : Setting T) {shows : K → ShownKeeper} {from into :
             → is_in (row_names new.rows) name ≡ true) old_names run.leaves.stays;
         goes = subst (λ names. (name : NameFacts) → is_in names name ≡ true → is_in (row_names new.rows) name ≡ false
             → MayGo run.walk.listing roots run.more name) old_names run.leaves.goes;
+        comes = subst (λ names. (name : NameFacts) → is_in (row_names new.rows) name ≡ true → is_in names name ≡ false
+            → is_in run.walk.listing name ≡ true) old_names run.leaves.comes;
         brings = subst (λ rows. All (λ row. Contains rows row ⊎ IsReadOf run.more row) new.rows) old_rows run.leaves.brings;
         ends = ends;
       }
@@ -158,7 +161,13 @@ module _ {K T : Type 0} (s : Setting T) {shows : K → ShownKeeper} {from into :
         numbers = run.ends.numbers ∙ ap (λ names. summary_of (plan_of run.walk.listing names) new.rows) old_names;
       })
   ends_by roots hand later hands left (ended.Missed miss) path run helps same =
-      makes run helps (record { path = path; why = run.ends.why; has = has_rows run.ends.sound })
+      makes run helps (record {
+        path = path;
+        why =
+            subst (λ names. IsBacked run.walk.listing names run.more (Rose (s.sees hand).faults (s.sees later).faults) miss.name miss.cause)
+            old_names run.ends.why;
+        has = has_rows run.ends.sound;
+      })
   ends_by roots hand later hands left (ended.Walk fault) path ends helps same =
       in_walk ends.same (record { walks = ends.walks; fits = ends.fits }, others_stay same)
   ends_by roots hand later hands left ended.Broken path ends helps same = absurd ends

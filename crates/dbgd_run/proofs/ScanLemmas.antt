@@ -23,7 +23,7 @@ use Rattle.pass_runner.specs.Settled.{IsBacked}
 use Rattle.pass_runner.specs.declared.pass_end.PassEnd.{PassEnd}
 use Rattle.pass_runner.specs.declared.pass_end.PassEnd.TheVariants as ended
 use Rattle.pass_runner.specs.declared.summary.Summary.{Summary}
-use Rattle.dbgd_run.specs.Causes.{EndsOnlyWith, HasSomeBad, HeardGone, HeardMany, HeardOther, IsChange, IsComplete, IsFreeHand}
+use Rattle.dbgd_run.specs.Causes.{EndsOnlyWith, HasSomeBad, HeardGone, HeardMany, HeardOther, IsComplete, IsFreeHand}
 use Rattle.dbgd_run.specs.Causes.{IsUnhindered, ScanEnds, ScanStatus, of_changes, of_rows, of_walk}
 use Rattle.dbgd_run.specs.Endings.{Streams}
 use Rattle.dbgd_run.specs.Kept.{HoldsRows}
@@ -34,7 +34,7 @@ use Rattle.dbgd_run.specs.declared.scan_end.ScanEnd.{ScanEnd}
 use Rattle.dbgd_run.specs.declared.scan_end.ScanEnd.TheVariants.{Refused, Passed}
 use Rattle.dbgd_run.specs.declared.status.Status.{Status}
 use Rattle.dbgd_run.specs.declared.status.Status.TheVariants as status
-use Rattle.dbgd_run.proofs.ChangedLemmas.{never_changed}
+use Rattle.dbgd_run.proofs.ChangedLemmas.{IsChange, never_changed}
 use Rattle.dbgd_run.proofs.HandLemmas.{both_first, of_first}
 use Rattle.dbgd_run.proofs.RowLemmas.{first_held, none_bad, none_overfull}
 
@@ -76,7 +76,7 @@ by_end P (Passed ended.OutOfMemory) old new end said wants out whole = subst P (
 heard_other : {told : Bool} {version : Versions} {roots : List (List ℕ)} {names : List NameFacts} {walk : Walk} {walked more : List Heard}
     {before after : ShownTree} (Failed : Type 0) (name : NameFacts) (why : Cause)
     → HearsPass told version roots names walk walked more before after → IsChange why → IsCanonPath name.path
-    → IsBacked walk.listing more Failed name why → HeardOther told roots before after
+    → IsBacked walk.listing names more Failed name why → HeardOther told roots before after
 heard_other {walk = walk} {walked = walked} {more = more} Failed name cause.ReadFault hears change path backed = absurd change
 heard_other {walk = walk} {walked = walked} {more = more} Failed name (cause.Altered met) hears change path backed = record {
   walk = walk;
@@ -86,7 +86,6 @@ heard_other {walk = walk} {walked = walked} {more = more} Failed name (cause.Alt
   whole = hears.whole;
   name = name;
   cause = cause.Altered met;
-  changed = tt;
   why = backed;
   still = never_changed Failed name (cause.Altered met) hears tt path backed;
 }
@@ -98,8 +97,7 @@ heard_other {walk = walk} {walked = walked} {more = more} Failed name cause.Appe
   whole = hears.whole;
   name = name;
   cause = cause.Appeared;
-  changed = tt;
-  why = backed;
+  why = backed.seen;
   still = never_changed Failed name cause.Appeared hears tt path backed;
 }
 
@@ -128,7 +126,7 @@ module _ {T : Type 0} (s : Setting T) (path : List ℕ) (roots : List (List ℕ)
   other_heard : (name : NameFacts) (why : Cause) → IsChange why
       → {Ends : List NameFacts → List Heard → List RowFacts → List RowFacts → Type 0}
       → (pass : MakesPass s roots before.hands after.hands before.store after.store Ends) → IsCanonPath name.path
-      → IsBacked pass.walk.listing pass.more (FirstRose s before.hands after.hands) name why
+      → IsBacked pass.walk.listing (row_names (current pass.found)) pass.more (FirstRose s before.hands after.hands) name why
       → OfFirst s (HeardOther s.tells_files roots) before.hands after.hands
   other_heard name why change pass path backed =
       of_first s
@@ -169,24 +167,24 @@ module _ {T : Type 0} (s : Setting T) (path : List ℕ) (roots : List (List ℕ)
       inr (inl (hand_rose (Passed (ended.Walk stop.Failed)) scans refl))
   end_status (Passed (ended.Walk stop.TooMany)) scans said =
       of_walk (walk_heard stop.TooMany (HeardMany s.tells_files roots) scans (λ b a w. record {
-        answers = w.walks.more;
-        heard = w.walks.heard;
-        many = inl w.walks.ends;
+        answers = w.walks.goes.more;
+        heard = w.walks.goes.heard;
+        many = inl w.walks.goes.ends;
         still = λ still. inl (w.fits still);
       }))
   end_status (Passed (ended.Walk stop.TooManyEntries)) scans said =
       of_walk (walk_heard stop.TooManyEntries (HeardMany s.tells_files roots) scans (λ b a w. record {
-        answers = w.walks.more;
-        heard = w.walks.heard;
-        many = inr w.walks.ends;
+        answers = w.walks.goes.more;
+        heard = w.walks.goes.heard;
+        many = inr w.walks.goes.ends;
         still = λ still. inr (w.fits still);
       }))
   end_status (Passed (ended.Walk (stop.RootGone root))) scans said =
       walk_heard (stop.RootGone root) (HeardGone s.tells_files roots) scans (λ b a w. record {
-        answers = w.walks.more;
+        answers = w.walks.goes.more;
         path = root;
-        heard = w.walks.heard;
-        gone = w.walks.ends;
+        heard = w.walks.goes.heard;
+        gone = w.walks.goes.ends;
         still = λ still. let fits = w.fits still in record { path = root; root = fits.0; nothing = fits.1 };
       })
   end_status (Passed (ended.Walk stop.OutOfMemory)) scans said = tt

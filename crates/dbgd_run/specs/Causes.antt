@@ -18,7 +18,7 @@ use Rattle.tree_walk.specs.Files.{HasManyEntries, HasManyFiles}
 use Rattle.tree_walk.specs.declared.walked.Walk.{Walk}
 use Rattle.http_wire.specs.Sink.{GetsAll}
 use Rattle.pass_runner.specs.Owned.{TellsStill}
-use Rattle.pass_runner.specs.Settled.{IsBacked}
+use Rattle.pass_runner.specs.Settled.{IsHeardAltered, IsSeenThere}
 use Rattle.pass_runner.specs.declared.pass_end.PassEnd.TheVariants as pass
 use Rattle.pass_runner.specs.declared.summary.Summary.{Summary}
 use Rattle.dbgd_run.specs.Kept.{GivesValues}
@@ -68,10 +68,10 @@ pub record HeardGone (told : Bool) (roots : List (List ℕ)) (before after : Sho
   pub still : TellsStill told before → HasRootGone before.present roots
 
 -- by what a file was found to be another: a listed one was, or one that isn't listed stands
-abbrev pub IsChange : Cause → Type 0
-IsChange ReadFault = ⊥
-IsChange (WasAltered met) = Unit {0}
-IsChange Appeared = Unit {0}
+abbrev pub IsHeardOther : List NameFacts → List Heard → NameFacts → Cause → Type 0
+IsHeardOther listing answers name ReadFault = ⊥
+IsHeardOther listing answers name (WasAltered met) = IsHeardAltered listing answers name met
+IsHeardOther listing answers name Appeared = IsSeenThere listing answers name
 
 -- the hand heard a whole walk, and behind it that a listed file is another by now, or that a file stands which isn't
 -- listed; files that never change are neither
@@ -83,8 +83,7 @@ pub record HeardOther (told : Bool) (roots : List (List ℕ)) (before after : Sh
   pub whole : IsWholeWalk walked roots walk
   pub name : NameFacts
   pub cause : Cause
-  pub changed : IsChange cause
-  pub why : IsBacked walk.listing more (Rose before.faults after.faults) name cause
+  pub why : IsHeardOther walk.listing more name cause
   pub still : ¬ TellsStill told before
 
 -- the hand heard of more files than a listing has, or of more entries than a walk reads; files that never change are so

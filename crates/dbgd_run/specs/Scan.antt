@@ -72,13 +72,13 @@ pub record EndsInWalk {T : Type 0} (s : Setting T) (before after : List T) (old 
   pub has : HasRows s.tells_tables new (current found)
   pub made : new.made ≡ made_swept found old.made
 
--- the walk ended with a fault, which files that never change explain
+-- the walk ended with a fault, which files that never change explain; nothing was loaded
 pub record WalksInto (told : Bool) (roots : List (List ℕ)) (fault : WalkFault)
     (before after : ShownTree) : Type 0 where
   pub walks : Walks told before after roots (Err fault)
   pub fits : TellsStill told before → FitsFault before.present roots fault
 
--- the walk was whole
+-- the walk was whole, and nothing was loaded behind it
 pub record WalksWhole (told : Bool) (roots : List (List ℕ)) (before after : ShownTree) : Type 0 where
   pub walk : Walk
   pub walks : Walks told before after roots (Ok walk)
@@ -87,7 +87,7 @@ pub record WalksWhole (told : Bool) (roots : List (List ℕ)) (before after : Sh
 -- whole walk, and then nothing but loads of listed files whose names had no row of the edition and looks under the
 -- folders; no other hand heard anything else than these loads and looks. No row of a listed name went; a row whose path
 -- isn't listed and lies under a folder went only where the first hand heard a look that did not find its file; a row that
--- wasn't there says what a load found
+-- came is of a listed name; a row that wasn't there says what a load found
 pub record MakesPass {T : Type 0} (s : Setting T) (roots : List (List ℕ)) (before after : List T)
     (old new : ShownStore)
     (Ends : List NameFacts → List Heard → List RowFacts → List RowFacts → Type 0) : Type 0 where
@@ -109,6 +109,8 @@ pub record MakesPass {T : Type 0} (s : Setting T) (roots : List (List ℕ)) (bef
       → is_in (row_names (current found)) name ≡ true → is_in (row_names left) name ≡ true
   pub goes : (name : NameFacts) → is_in (row_names (current found)) name ≡ true
       → is_in (row_names left) name ≡ false → MayGo walk.listing roots more name
+  pub comes : (name : NameFacts) → is_in (row_names left) name ≡ true
+      → is_in (row_names (current found)) name ≡ false → is_in walk.listing name ≡ true
   pub brings : All (λ row. Contains (current found) row ⊎ IsReadOf more row) left
   pub ends : Ends walk.listing more (current found) left
 
@@ -123,9 +125,9 @@ pub record IsWholeScan (world : Rules) (told : Bool) (new : ShownStore) (summary
 
 -- a name was missed for a reason, and the store has the rows that are left
 pub record MissesName (told : Bool) (new : ShownStore) (Failed : Type 0) (miss : Miss)
-    (listing : List NameFacts) (more : List Heard) (left : List RowFacts) : Type 0 where
+    (listing : List NameFacts) (more : List Heard) (found left : List RowFacts) : Type 0 where
   pub path : IsCanonPath miss.name.path
-  pub why : IsBacked listing more Failed miss.name miss.cause
+  pub why : IsBacked listing (row_names found) more Failed miss.name miss.cause
   pub has : HasRows told new left
 
 -- the log of the changes that lead to the rows has no room, and they aren't those of the listing
@@ -146,7 +148,7 @@ EndsPassed s roots before after old new (pass.Whole summary) =
 EndsPassed s roots before after old new (pass.Missed miss) =
     MakesPass s roots before after old new
     (λ listing more found left. MissesName s.tells_tables new (FirstRose s before after) miss
-    listing more left)
+    listing more found left)
 EndsPassed s roots before after old new (pass.Walk fault) =
     EndsInWalk s before after old new (WalksInto s.tells_files roots fault)
 EndsPassed s roots before after old new pass.Broken = ⊥

@@ -22,7 +22,7 @@ use Rattle.index_keeper.specs.Tables.{AscendsByPath, KeptFacts, bytes_at, edited
 use Rattle.index_keeper.specs.declared.answer.KeptAnswer.{KeptAnswer}
 use Rattle.index_keeper.specs.declared.answer.KeptAnswer.TheVariants.{All as AllRows, Failed as RowsFailed, OutOfMemory as RowsNoMemory}
 use Rattle.index_keeper.proofs.CutLemmas.{IsCut, after_here, cut_of, edited_cut, other_bytes, row_bytes_at}
-use Rattle.index_state.specs.Events.{Calls, EventStep, Happens, IsReopening, Reopens, RunsFirst, RunsTo, StoredIndex, WantsMemory}
+use Rattle.index_state.specs.Events.{Calls, EventStep, Happens, IsReopening, Reopens, RunsFirst, RunsTo, StopsAfter, StoredIndex, WantsMemory}
 use Rattle.index_state.specs.Invariant.{IndexInvariant}
 use Rattle.index_state.specs.Keeping.{put_row}
 use Rattle.index_state.specs.Kept.{IsDoubted, tables_of}
@@ -42,6 +42,7 @@ use Rattle.index_state.specs.declared.events.EventAnswer.{EventAnswer}
 use Rattle.index_state.specs.declared.events.EventAnswer.TheVariants.{Begin as BeginSaid, Take as TakeSaid, Publish as PublishSaid, GroomTake as GroomSaid, Judge as JudgeSaid, Miss as MissSaid, Retry as RetrySaid, Look as LookSaid}
 use Rattle.index_state.proofs.ByName.{tables_by_path}
 use Rattle.index_state.proofs.Lasting.{image_bytes, table_bytes}
+use Rattle.index_state.proofs.Runs.{first_none, wants_self}
 use Rattle.index_state.proofs.StoreSteps.{tables_put, tables_without}
 
 -- the last elements of two lists that are one list
@@ -276,3 +277,18 @@ module _ {W K : Type 0} (true_row : RowFacts → Type 0) (told : Bool) (shows : 
   pub first_lasts : (old : StoredIndex K) (events : List (Event W)) (answers : List EventAnswer) (rest : List (Event W)) (middle : StoredIndex K) (new : StateFacts K) → IndexInvariant true_row told shows old.index → (h : RunsFirst true_row told shows path old events answers rest middle) → WantsMemory told shows middle.index new → IsTrue told → PutsLast shows h.first answers new
   first_lasts old events answers rest middle new holds h wants tells = λ row is image left.
       puts_last old h.first answers middle holds h.run tells row is image (((wants.keeper.tells tells).left image).0 left)
+
+  -- and where there was none for the answers to events that are there
+  pub stops_unbegun : (old : StoredIndex K) (events : List (Event W)) → (length events ≡ 0 → ⊥) → IndexInvariant true_row told shows old.index → StopsAfter true_row told shows path old events 0 old
+  stops_unbegun old [] some holds = absurd (some refl)
+  stops_unbegun old (event ∷ events) some holds = record {
+    answers = [];
+    next = event;
+    rest = events;
+    count = refl;
+    last = old.index;
+    runs = first_none old (event ∷ events);
+    wants = wants_self told shows old.index;
+    why = inl (record { none = refl; same = refl });
+    lasts = first_lasts old (event ∷ events) [] (event ∷ events) old old.index holds (first_none old (event ∷ events)) (wants_self told shows old.index);
+  }

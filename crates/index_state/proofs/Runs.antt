@@ -144,9 +144,10 @@ module _ {W K : Type 0} (true_row : RowFacts → Type 0) (told : Bool) (shows : 
   first_ends left h e = first_all (subst (λ (l : List (Event W)). RunsFirst true_row told shows path old events answers l middle) (none_left left e) h)
 
   -- memory was wanting for the next one
-  pub stops_after : {rest : List (Event W)} {new : StoredIndex K} {done : ℕ} (h : RunsFirst true_row told shows path old events answers rest middle) → done ≡ length answers → Waits told shows middle new → (IsTrue told → PutsLast shows h.first answers new.index) → StopsAfter true_row told shows path old events done new
-  stops_after {rest} {new} {done} h count waits lasts = record {
+  pub stops_after : {next : Event W} {rest : List (Event W)} {new : StoredIndex K} {done : ℕ} (h : RunsFirst true_row told shows path old events answers (next ∷ rest) middle) → done ≡ length answers → Waits told shows middle next new → (IsTrue told → PutsLast shows h.first answers new.index) → StopsAfter true_row told shows path old events done new
+  stops_after {next} {rest} {new} {done} h count waits lasts = record {
     answers = answers;
+    next = next;
     rest = rest;
     count = count;
     last = middle.index;
@@ -155,11 +156,12 @@ module _ {W K : Type 0} (true_row : RowFacts → Type 0) (told : Bool) (shows : 
       parts = h.parts;
       run = subst (λ (s : ShownStore). RunsTo true_row told shows path old h.first answers (record { index = middle.index; store = s })) (sym waits.store) h.run;
     };
-    wants = waits.wants;
+    wants = waits.wants.wants;
+    why = inr waits.wants.meets;
     lasts = lasts;
   }
 
-  pub waits_later : {rest : List (Event W)} {new : StoredIndex K} → RunsFirst true_row told shows path old events answers rest middle → Waits told shows middle new → HasCause old.store.faults new.store.faults ⊥
+  pub waits_later : {event : Event W} {rest : List (Event W)} {new : StoredIndex K} → RunsFirst true_row told shows path old events answers rest middle → Waits told shows middle event new → HasCause old.store.faults new.store.faults ⊥
   waits_later h waits =
       let first = first_later h in
       let same = ap (λ (s : ShownStore). s.faults) waits.store in

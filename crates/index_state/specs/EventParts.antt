@@ -3,7 +3,7 @@ use Rattle.std.specs.Prelude.{◌≡◌, ℕ, Bool, List}
 use Rattle.row_types.specs.Row.{RowFacts}
 use Rattle.index_keeper.specs.Keeper.{ShownKeeper}
 use Rattle.index_keeper.specs.Store.{ShownStore}
-use Rattle.index_state.specs.Events.{Answers, EventStep, StaysClosed, StoredIndex, WantsMemory}
+use Rattle.index_state.specs.Events.{Answers, EventStep, StaysClosed, StoredIndex, WantsFor}
 use Rattle.index_state.specs.Invariant.{IndexInvariant}
 use Rattle.index_state.specs.State.{StateFacts}
 use Rattle.index_state.specs.declared.events.Event.{Event}
@@ -21,12 +21,12 @@ pub record IsAnswered {W K : Type 0} (true_row : RowFacts → Type 0) (told : Bo
 -- what came of an event that is no reopening
 abbrev pub Called : {W K : Type 0} → (RowFacts → Type 0) → Bool → (K → ShownKeeper) → StateFacts K → Event W → Came W K → Type 0
 Called true_row told shows old event (Answer new answer) = IsAnswered true_row told shows old event new answer
-Called true_row told shows old event (NoMemory new) = WantsMemory told shows old new
+Called true_row told shows old event (NoMemory new) = WantsFor told shows old event new
 Called true_row told shows old event (Unopened fault) = ⊥
 
 -- memory was wanting for the event, and nothing happened
-pub record Waits {K : Type 0} (told : Bool) (shows : K → ShownKeeper) (old new : StoredIndex K) : Type 0 where
-  pub wants : WantsMemory told shows old.index new.index
+pub record Waits {W K : Type 0} (told : Bool) (shows : K → ShownKeeper) (old : StoredIndex K) (event : Event W) (new : StoredIndex K) : Type 0 where
+  pub wants : WantsFor told shows old.index event new.index
   pub store : new.store ≡ old.store
 
 -- the event is a reopening, and was refused
@@ -37,5 +37,5 @@ pub record Closes {W K : Type 0} (told : Bool) (shows : K → ShownKeeper) (path
 -- what came of an event
 abbrev pub Comes : {W K : Type 0} → (RowFacts → Type 0) → Bool → (K → ShownKeeper) → List ℕ → StoredIndex K → Event W → Came W K → ShownStore → Type 0
 Comes true_row told shows path old event (Answer new answer) store = EventStep true_row told shows path old event answer (record { index = new; store = store })
-Comes true_row told shows path old event (NoMemory new) store = Waits told shows old (record { index = new; store = store })
+Comes true_row told shows path old event (NoMemory new) store = Waits told shows old event (record { index = new; store = store })
 Comes true_row told shows path old event (Unopened fault) store = Closes told shows path old event store fault

@@ -57,6 +57,21 @@ pub record WantsMemory {K : Type 0} (told : Bool) (shows : K → ShownKeeper) (o
   pub keeper : IsLeftAlone told (shows old.keeper) (shows new.keeper)
   pub same : new ≡ record old { keeper = new.keeper }
 
+-- the event wants memory: its call says so, which is a case of the index step, or the copies of names that are to be
+-- tried again, or of the paths that were found, could not be made. No other event does: a reopening is refused
+abbrev pub MeetsWant : {W K : Type 0} → Bool → (K → ShownKeeper) → StateFacts K → Event W → StateFacts K → Type 0
+MeetsWant told shows old (Begin listing roots) new = IndexStep told shows old (begins listing roots.items) (to_begin BegunNoMemory) new
+MeetsWant told shows old (Publish row) new = IndexStep told shows old (publishes row) (to_publish PublishedNoMemory) new
+MeetsWant told shows old (Judge name seen) new = IndexStep told shows old (judges name seen) (to_judge JudgedNoMemory) new
+MeetsWant told shows old Retry new = new ≡ old
+MeetsWant told shows old (Look id kind) new = new ≡ old
+MeetsWant told shows old _ new = ⊥
+
+-- memory was wanting for the event, and the index is as it was
+pub record WantsFor {W K : Type 0} (told : Bool) (shows : K → ShownKeeper) (old : StateFacts K) (event : Event W) (new : StateFacts K) : Type 0 where
+  pub wants : WantsMemory told shows old new
+  pub meets : MeetsWant told shows old event new
+
 -- an event of the index alone, at which its store shows what it showed
 pub record Calls {W K : Type 0} (told : Bool) (shows : K → ShownKeeper) (old : StoredIndex K) (event : Event W) (answer : EventAnswer) (new : StoredIndex K) : Type 0 where
   pub answered : Answers told shows old.index event answer new.index
@@ -94,14 +109,22 @@ pub record RunsFirst {W K : Type 0} (true_row : RowFacts → Type 0) (told : Boo
   pub parts : events ≡ first ++ rest
   pub run : RunsTo true_row told shows path old first answers new
 
--- the first events happened, so many; then memory was wanting; rows that were put last
+-- no event happened yet
+pub record IsUnbegun {K : Type 0} (answers : List EventAnswer) (old new : StateFacts K) : Type 0 where
+  pub none : answers ≡ []
+  pub same : new ≡ old
+
+-- the first events happened, so many; memory was wanting for the next one, or, before the first, for the answers; rows
+-- that were put last
 pub record StopsAfter {W K : Type 0} (true_row : RowFacts → Type 0) (told : Bool) (shows : K → ShownKeeper) (path : List ℕ) (old : StoredIndex K) (events : List (Event W)) (done : ℕ) (new : StoredIndex K) : Type 0 where
   pub answers : List EventAnswer
+  pub next : Event W
   pub rest : List (Event W)
   pub count : done ≡ length answers
   pub last : StateFacts K
-  pub runs : RunsFirst true_row told shows path old events answers rest (record { index = last; store = new.store })
+  pub runs : RunsFirst true_row told shows path old events answers (next ∷ rest) (record { index = last; store = new.store })
   pub wants : WantsMemory told shows last new.index
+  pub why : IsUnbegun answers last new.index ⊎ MeetsWant told shows last next new.index
   pub lasts : IsTrue told → PutsLast shows runs.first answers new.index
 
 -- the fault that stands for a store's answer

@@ -1,7 +1,7 @@
 //! One event of an index, other than its reopening.
 
 ghost use Rattle.std.specs.Prelude.{◌≢◌, IfOk, MatchResult};
-ghost use Rattle.index_state.specs.Events.{Answers, WantsMemory};
+ghost use Rattle.index_state.specs.Events.{Answers, WantsFor};
 ghost use Rattle.index_state.specs.declared.events.Event.{Event};
 
 use crate::answer::{Begun, Judged, Published};
@@ -21,7 +21,7 @@ pub(crate) fn call_event<W: Truth, K: Keeper<W>>(
     requires { event ≢ Event.Reopen }
     ensures { MatchResult result
         (λ answer. Answers K.told K.shows state.old event answer state.new)
-        (λ _. WantsMemory K.told K.shows state.old state.new) }
+        (λ _. WantsFor K.told K.shows state.old event state.new) }
 {
     match event {
         Event::Begin(listing, roots) => begin(alloc, state, listing, roots),
@@ -46,7 +46,7 @@ fn begin<W: Truth, K: Keeper<W>>(
     ensures { MatchResult result
         (λ answer. Answers {W = W} K.told K.shows state.old (Event.Begin listing roots) answer
         state.new)
-        (λ _. WantsMemory K.told K.shows state.old state.new) }
+        (λ _. WantsFor {W = W} K.told K.shows state.old (Event.Begin listing roots) state.new) }
 {
     match state.begin(alloc, listing, roots) {
         Begun::OutOfMemory => Err(AllocError),
@@ -62,7 +62,7 @@ fn publish<W: Truth, K: Keeper<W>>(
 ) -> Result<EventAnswer, AllocError>
     ensures { MatchResult result
         (λ answer. Answers {W = W} K.told K.shows state.old (Event.Publish row) answer state.new)
-        (λ _. WantsMemory K.told K.shows state.old state.new) }
+        (λ _. WantsFor {W = W} K.told K.shows state.old (Event.Publish row) state.new) }
 {
     match state.publish(alloc, row) {
         Published::OutOfMemory => Err(AllocError),
@@ -80,7 +80,7 @@ fn judge<W: Truth, K: Keeper<W>>(
     ensures { MatchResult result
         (λ answer. Answers {W = W} K.told K.shows state.old (Event.Judge name.now seen) answer
         state.new)
-        (λ _. WantsMemory K.told K.shows state.old state.new) }
+        (λ _. WantsFor {W = W} K.told K.shows state.old (Event.Judge name.now seen) state.new) }
 {
     match state.judge(alloc, name, seen) {
         Judged::OutOfMemory => Err(AllocError),
@@ -92,7 +92,7 @@ fn judge<W: Truth, K: Keeper<W>>(
 fn retry<W: Truth, K: Keeper<W>>(state: &mut State<W, K>) -> Result<EventAnswer, AllocError>
     ensures { MatchResult result
         (λ answer. Answers {W = W} K.told K.shows state.old Event.Retry answer state.new)
-        (λ _. WantsMemory K.told K.shows state.old state.new) }
+        (λ _. WantsFor {W = W} K.told K.shows state.old Event.Retry state.new) }
 {
     state.refill()?;
     Ok(EventAnswer::Retry(state.retry()))

@@ -38,6 +38,7 @@ module _ {K : Type 0} {told : Bool} {version : Versions} {shows : K → ShownKee
     origin = on.origin;
     stays = on.stays;
     goes = on.goes;
+    comes = on.comes;
     brings = on.brings;
     missed = on.missed;
   }
@@ -55,6 +56,7 @@ module _ {K : Type 0} {told : Bool} {version : Versions} {shows : K → ShownKee
     origin = settles.origin;
     stays = settles.stays;
     goes = settles.goes;
+    comes = settles.comes;
     brings = settles.brings;
     missed = settles.missed;
   }
@@ -71,8 +73,9 @@ module _ {K : Type 0} {told : Bool} {version : Versions} {shows : K → ShownKee
         origin = refl;
         stays = λ name listed there. there;
         goes = λ name there gone none under. absurd (true≢false (sym there ∙ gone));
+        comes = λ name stands fresh. absurd (true≢false (sym stands ∙ fresh));
         brings = still_brought state.rows [];
-        missed = still_missed (pass_of state.pass).listing (pass_of state.pass).missed [] (Rose hand.faults hand.faults);
+        missed = still_missed (pass_of state.pass).listing (row_names state.rows) (pass_of state.pass).missed [] (Rose hand.faults hand.faults);
       })
 
   -- what may be asked later might be asked before

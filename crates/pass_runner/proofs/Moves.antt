@@ -2,6 +2,7 @@
 use Rattle.std.proofs.Common.{◌≡◌, ℕ, ◌≤◌, inl, inr, Bool, true, false, List, [], ◌∷◌, ◌++◌, Option, Some, None, refl, sym, ◌∙◌, ap, subst, arith, append_assoc}
 use Rattle.std.specs.Prelude.{if◌then◌else◌}
 use Rattle.std.specs.List.{All, Contains}
+use Rattle.std.proofs.lemmas.Bool.{true≢false}
 use Rattle.std.proofs.lemmas.List.{append-nil}
 use Rattle.std.proofs.lemmas.List.Elements.{All-nil, All-cons, All-append, All-contains, All-contains_itself, All-weaker, Contains-append_left, Contains-append_right, Contains-push}
 use Rattle.row_types.specs.Faults.{Rose}
@@ -142,16 +143,18 @@ module _ (some more : List Heard) {Failed Fails : Type 0} (among : (h : Heard) �
   gone_as : {name : NameFacts} → IsSeenGone some name → IsSeenGone more name
   gone_as {name} gone = record { answer = gone.answer; heard = among _ gone.heard; missing = gone.missing }
 
-  backed_as : (listing : List NameFacts) (name : NameFacts) (cause : Cause) → IsBacked listing some Failed name cause
-      → IsBacked listing more Fails name cause
-  backed_as listing name ReadFault h = so h
-  backed_as listing name (Altered met) h = record { listed = h.listed; answer = h.answer; heard = among _ h.heard; other = h.other }
-  backed_as listing name Appeared h = record { unlisted = h.unlisted; heard = among _ h.heard }
+  backed_as : (listing names : List NameFacts) (name : NameFacts) (cause : Cause) → IsBacked listing names some Failed name cause
+      → IsBacked listing names more Fails name cause
+  backed_as listing names name ReadFault h = so h
+  backed_as listing names name (Altered met) h =
+      record { listed = h.listed; answer = h.answer; heard = among _ h.heard; other = h.other }
+  backed_as listing names name Appeared h =
+      record { seen = record { unlisted = h.seen.unlisted; heard = among _ h.seen.heard }; row = h.row }
 
-  miss_as : (listing : List NameFacts) (missed : List Miss) (miss : Miss) → IsMissBy listing missed some Failed miss
-      → IsMissBy listing missed more Fails miss
-  miss_as listing missed miss (inl before) = inl before
-  miss_as listing missed miss (inr why) = inr (backed_as listing miss.name miss.cause why)
+  miss_as : (listing names : List NameFacts) (missed : List Miss) (miss : Miss) → IsMissBy listing names missed some Failed miss
+      → IsMissBy listing names missed more Fails miss
+  miss_as listing names missed miss (inl before) = inl before
+  miss_as listing names missed miss (inr why) = inr (backed_as listing names miss.name miss.cause why)
 
   brought_as : (rows : List RowFacts) (row : RowFacts) → IsBrought rows some row → IsBrought rows more row
   brought_as rows row (inl before) = inl before
@@ -166,24 +169,41 @@ module _ (some more : List Heard) {Failed Fails : Type 0} (among : (h : Heard) �
     origin = on.origin;
     stays = on.stays;
     goes = λ name there gone none under. gone_as (on.goes name there gone none under);
+    comes = on.comes;
     brings = All-weaker (IsBrought old.rows some) (IsBrought old.rows more) (brought_as old.rows) new.rows on.brings;
     missed =
-        All-weaker (IsMissBy (pass_of old.pass).listing (pass_of old.pass).missed some Failed)
-        (IsMissBy (pass_of old.pass).listing (pass_of old.pass).missed more Fails)
-        (miss_as (pass_of old.pass).listing (pass_of old.pass).missed) (pass_of new.pass).missed on.missed;
+        All-weaker (IsMissBy (pass_of old.pass).listing (row_names old.rows) (pass_of old.pass).missed some Failed)
+        (IsMissBy (pass_of old.pass).listing (row_names old.rows) (pass_of old.pass).missed more Fails)
+        (miss_as (pass_of old.pass).listing (row_names old.rows) (pass_of old.pass).missed) (pass_of new.pass).missed on.missed;
   }
 
 -- the names that were missed before
-pub still_missed : (listing : List NameFacts) (missed : List Miss) (answers : List Heard) (Failed : Type 0)
-    → All (IsMissBy listing missed answers Failed) missed
-still_missed listing missed answers Failed =
-    All-weaker (Contains missed) (IsMissBy listing missed answers Failed) (λ m before. inl before) missed
+pub still_missed : (listing names : List NameFacts) (missed : List Miss) (answers : List Heard) (Failed : Type 0)
+    → All (IsMissBy listing names missed answers Failed) missed
+still_missed listing names missed answers Failed =
+    All-weaker (Contains missed) (IsMissBy listing names missed answers Failed) (λ m before. inl before) missed
     (All-contains_itself missed)
 
 -- the rows that were there before
 pub still_brought : (rows : List RowFacts) (answers : List Heard) → All (IsBrought rows answers) rows
 still_brought rows answers =
     All-weaker (Contains rows) (IsBrought rows answers) (λ row before. inl before) rows (All-contains_itself rows)
+
+-- where no row of an unlisted name came, one that stands later stood before
+backed_before : (listing mid old : List NameFacts) (answers : List Heard) (Failed : Type 0)
+    → ((name : NameFacts) → is_in mid name ≡ true → is_in old name ≡ false → is_in listing name ≡ true)
+    → (name : NameFacts) (cause : Cause) → IsBacked listing mid answers Failed name cause
+    → IsBacked listing old answers Failed name cause
+backed_before listing mid old answers Failed comes name ReadFault h = h
+backed_before listing mid old answers Failed comes name (Altered met) h = h
+backed_before listing mid old answers Failed comes name Appeared h = record {
+  seen = h.seen;
+  row =
+      elim (is_in old name) as (λ v. is_in old name ≡ v → v ≡ true) [
+        | true ↦ λ stood. refl
+        | false ↦ λ fresh. absurd (true≢false (sym (comes name h.row fresh) ∙ h.seen.unlisted))
+      ] refl;
+}
 
 -- one after the other
 pub advances_then : {K : Type 0} {shows : K → ShownKeeper} {xs ys : List Heard} {First Second Failed : Type 0}
@@ -207,6 +227,13 @@ advances_then {K} {shows} {xs} {ys} {First} {Second} {Failed} {old} {mid} {new} 
                 (ap (λ (r : List (List ℕ)). is_under r name.path) p.roots ∙ under)
             | false ↦ λ went. a.goes name there went none under
           ] refl;
+      comes = λ name there fresh.
+          elim (is_in (row_names mid.rows) name) as (λ v. is_in (row_names mid.rows) name ≡ v
+          → is_in (pass_of old.pass).listing name ≡ true) [
+            | true ↦ λ stood. p.comes name stood fresh
+            | false ↦ λ absent.
+                ap (λ (l : List NameFacts). is_in l name) (sym listing) ∙ q.comes name there absent
+          ] refl;
       brings = All-weaker (IsBrought mid.rows (xs ++ ys)) (IsBrought old.rows (xs ++ ys)) brought new.rows b.brings;
       missed =
           All-weaker (Later (pass_of old.pass).listing) (Sooner (pass_of old.pass).listing) (λ m why. before m why)
@@ -221,13 +248,15 @@ advances_then {K} {shows} {xs} {ys} {First} {Second} {Failed} {old} {mid} {new} 
     brought row (inr read) = inr read
 
     Later : List NameFacts → Miss → Type 0
-    Later l m = IsMissBy l (pass_of mid.pass).missed (xs ++ ys) Failed m
+    Later l m = IsMissBy l (row_names mid.rows) (pass_of mid.pass).missed (xs ++ ys) Failed m
 
     Sooner : List NameFacts → Miss → Type 0
-    Sooner l m = IsMissBy l (pass_of old.pass).missed (xs ++ ys) Failed m
+    Sooner l m = IsMissBy l (row_names old.rows) (pass_of old.pass).missed (xs ++ ys) Failed m
 
     before : (m : Miss) → Later (pass_of old.pass).listing m → Sooner (pass_of old.pass).listing m
     before m (inl there) =
         All-contains (Sooner (pass_of old.pass).listing) (pass_of mid.pass).missed m
         (advances_as xs (xs ++ ys) (λ h. Contains-append_left xs ys h) first p).missed there
-    before m (inr why) = inr why
+    before m (inr why) =
+        inr (backed_before (pass_of old.pass).listing (row_names mid.rows) (row_names old.rows) (xs ++ ys) Failed
+        p.comes m.name m.cause why)

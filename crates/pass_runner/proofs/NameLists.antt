@@ -3,10 +3,10 @@ use Rattle.std.proofs.Common.{◌≡◌, ℕ, ◌&&◌, true, false, not, cond, 
 use Rattle.std.specs.List.{filter, find}
 use Rattle.std.specs.Option.{option_map}
 use Rattle.std.specs.Str.{bytes_eq}
-use Rattle.std.proofs.lemmas.Bool.{and_from, false_from_ne_true, or_left, or_right, true≢false, not_from_false}
+use Rattle.std.proofs.lemmas.Bool.{and_from, and_parts, false_from_ne_true, or_left, or_right, true≢false, not_from_false}
 use Rattle.std.proofs.lemmas.Slice.Eq.{bytes_eq-Decides}
 use Rattle.row_types.specs.Ascends.{AscendsBy}
-use Rattle.row_types.specs.Name.{NameFacts, stamp_at}
+use Rattle.row_types.specs.Name.{NameFacts, same_name, stamp_at}
 use Rattle.row_types.specs.Row.{RowFacts}
 use Rattle.row_types.specs.Stamp.{StampFacts}
 use Rattle.row_types.proofs.PartLemmas.{names_same}
@@ -18,7 +18,7 @@ use Rattle.scan_queue.specs.Names.{IsByPath, is_in}
 use Rattle.scan_queue.proofs.NameTests.{same_name-Decides, same_stamp-Decides}
 use Rattle.index_state.specs.Plan.{has_stamp}
 use Rattle.index_state.proofs.ByName.{has_stamp_is_in, names_by_path, one_of_path}
-use Rattle.index_state.proofs.Members.{in_filter, in_put_other}
+use Rattle.index_state.proofs.Members.{in_filter, in_put_other, in_put_stale}
 use Rattle.index_state.proofs.PassSteps.{names_with}
 
 one_stamp : (o : Option StampFacts) (s : StampFacts) → has_stamp o s ≡ true → o ≡ Some s
@@ -85,6 +85,24 @@ put_goes row listing rows by_path listed name there gone none =
           ∙ sym (ap (λ (l : List NameFacts). is_in l name) (names_with row rows)) ∙ gone)
     ] refl
 
+-- and the one that comes is that of the row
+pub put_comes : (row : RowFacts) (listing : List NameFacts) (rows : List RowFacts) → is_in listing row.name ≡ true
+    → (name : NameFacts) → is_in (row_names (with_row row rows)) name ≡ true → is_in (row_names rows) name ≡ false
+    → is_in listing name ≡ true
+put_comes row listing rows listed name stands fresh =
+    let put : is_in (put_at path_in row.name (row_names rows)) name ≡ true
+    = sym (ap (λ (l : List NameFacts). is_in l name) (names_with row rows)) ∙ stands in
+    elim (same_name name row.name) as (λ b. same_name name row.name ≡ b → is_in listing name ≡ true) [
+      | true ↦ λ one. ap (is_in listing) ((same_name-Decides name row.name).0 one) ∙ listed
+      | false ↦ λ differs.
+          elim (bytes_eq name.path row.name.path) as (λ b. bytes_eq name.path row.name.path ≡ b → is_in listing name ≡ true) [
+            | true ↦ λ e.
+                absurd (true≢false (sym put
+                ∙ in_put_stale row.name name (row_names rows) ((bytes_eq-Decides name.path row.name.path).0 e) differs))
+            | false ↦ λ e. absurd (true≢false (sym put ∙ in_put_other row.name name (row_names rows) e ∙ fresh))
+          ] refl
+    ] refl
+
 names_without : (path : List ℕ) (rows : List RowFacts)
     → row_names (without_row path rows) ≡ filter (λ (n : NameFacts). not (bytes_eq n.path path)) (row_names rows)
 names_without path rows = map_filter (λ (r : RowFacts). r.name) (λ (n : NameFacts). not (bytes_eq n.path path)) rows
@@ -106,6 +124,12 @@ drop_stays gone rows ascends stood name differs there =
     (not_from_false (bytes_eq name.path gone.path)
     (false_from_ne_true (bytes_eq name.path gone.path)
     (λ e. differs (one_name name gone (row_names rows) (names_by_path rows ascends) there stood e))))
+
+-- none comes
+pub drop_comes : (gone : NameFacts) (rows : List RowFacts) (name : NameFacts)
+    → is_in (row_names (without_row gone.path rows)) name ≡ true → is_in (row_names rows) name ≡ true
+drop_comes gone rows name there =
+    (and_parts (is_in (row_names rows) name) (not (bytes_eq name.path gone.path)) (sym (in_left gone.path rows name) ∙ there)).0
 
 -- and the one that goes is that of the name
 pub drop_goes : (gone : NameFacts) (rows : List RowFacts) → AscendsBy row_path rows

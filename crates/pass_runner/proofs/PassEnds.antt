@@ -84,16 +84,16 @@ first_is P (m ∷ ms) miss all e = subst P (some m miss e) (All-head P m ms all)
     some a b h = cc
 
 -- where nothing was missed before, each miss has its reason
-backed_alone : (listing : List NameFacts) (answers : List Heard) (Failed : Type 0) (miss : Miss)
-    → IsMissBy listing [] answers Failed miss → IsBacked listing answers Failed miss.name miss.cause
-backed_alone listing answers Failed miss (inl none) = absurd (omega (arith, none.1))
-backed_alone listing answers Failed miss (inr why) = why
+backed_alone : (listing names : List NameFacts) (answers : List Heard) (Failed : Type 0) (miss : Miss)
+    → IsMissBy listing names [] answers Failed miss → IsBacked listing names answers Failed miss.name miss.cause
+backed_alone listing names answers Failed miss (inl none) = absurd (omega (arith, none.1))
+backed_alone listing names answers Failed miss (inr why) = why
 
-backed_fault : (listing : List NameFacts) (answers : List Heard) (Failed : Type 0) (name : NameFacts) (cause : Cause)
-    → IsBacked listing answers Failed name cause → IsTrue (is_read_fault cause) → Failed
-backed_fault listing answers Failed name ReadFault h fault = h
-backed_fault listing answers Failed name (Altered met) h fault = absurd (true≢false (sym fault))
-backed_fault listing answers Failed name Appeared h fault = absurd (true≢false (sym fault))
+backed_fault : (listing names : List NameFacts) (answers : List Heard) (Failed : Type 0) (name : NameFacts) (cause : Cause)
+    → IsBacked listing names answers Failed name cause → IsTrue (is_read_fault cause) → Failed
+backed_fault listing names answers Failed name ReadFault h fault = h
+backed_fault listing names answers Failed name (Altered met) h fault = absurd (true≢false (sym fault))
+backed_fault listing names answers Failed name Appeared h fault = absurd (true≢false (sym fault))
 
 module _ {K : Type 0} {told : Bool} {version : Versions} {shows : K → ShownKeeper} {before after : ShownTree} {old new : StateFacts K} where
   -- no name is left to be handed out
@@ -108,13 +108,13 @@ module _ {K : Type 0} {told : Bool} {version : Versions} {shows : K → ShownKee
 
   -- each name that was missed has its reason
   pub all_backed : (pass_of old.pass).missed ≡ [] → (settles : Settles told version shows before after old new)
-      → All (λ (miss : Miss). IsBacked (pass_of old.pass).listing settles.answers (Rose before.faults after.faults) miss.name miss.cause)
+      → All (λ (miss : Miss). IsBacked (pass_of old.pass).listing (row_names old.rows) settles.answers (Rose before.faults after.faults) miss.name miss.cause)
       (pass_of new.pass).missed
   all_backed none settles =
-      All-weaker (IsMissBy (pass_of old.pass).listing [] settles.answers (Rose before.faults after.faults))
-      (λ (miss : Miss). IsBacked (pass_of old.pass).listing settles.answers (Rose before.faults after.faults) miss.name miss.cause)
-      (backed_alone (pass_of old.pass).listing settles.answers (Rose before.faults after.faults)) (pass_of new.pass).missed
-      (subst (λ (ms : List Miss). All (IsMissBy (pass_of old.pass).listing ms settles.answers (Rose before.faults after.faults)) (pass_of new.pass).missed)
+      All-weaker (IsMissBy (pass_of old.pass).listing (row_names old.rows) [] settles.answers (Rose before.faults after.faults))
+      (λ (miss : Miss). IsBacked (pass_of old.pass).listing (row_names old.rows) settles.answers (Rose before.faults after.faults) miss.name miss.cause)
+      (backed_alone (pass_of old.pass).listing (row_names old.rows) settles.answers (Rose before.faults after.faults)) (pass_of new.pass).missed
+      (subst (λ (ms : List Miss). All (IsMissBy (pass_of old.pass).listing (row_names old.rows) ms settles.answers (Rose before.faults after.faults)) (pass_of new.pass).missed)
       none settles.missed)
 
 -- the end by what is left
@@ -145,8 +145,8 @@ pub begun_fault : {K : Type 0} (world : Rules) (told tells : Bool) (shows : K �
     (old new : StateFacts K) (end : PassEnd) → IsFresh old → EndsBegun world told tells shows before after old new end
     → IsTrue (is_hand_fault end) → Rose before.faults after.faults
 begun_fault world told tells shows before after old new (Missed miss) fresh h fault =
-    backed_fault (pass_of old.pass).listing h.settles.answers (Rose before.faults after.faults) miss.name miss.cause
-    (first_is (λ (m : Miss). IsBacked (pass_of old.pass).listing h.settles.answers (Rose before.faults after.faults) m.name m.cause)
+    backed_fault (pass_of old.pass).listing (row_names old.rows) h.settles.answers (Rose before.faults after.faults) miss.name miss.cause
+    (first_is (λ (m : Miss). IsBacked (pass_of old.pass).listing (row_names old.rows) h.settles.answers (Rose before.faults after.faults) m.name m.cause)
     (pass_of new.pass).missed miss (all_backed fresh.missed h.settles) h.ends.first) fault
 begun_fault world told tells shows before after old new (Walk fault) fresh h f = absurd h
 begun_fault world told tells shows before after old new (Whole summary) fresh h f = absurd (true≢false (sym f))

@@ -32,11 +32,12 @@ use Rattle.pass_runner.proofs.Moves.{heard_both, heard_none, same_listing}
 use Rattle.pass_runner.proofs.PassEnds.{all_backed, first_is}
 use Rattle.pass_runner.proofs.PassHands.{rose_later}
 
-backed_so : (listing : List NameFacts) (answers : List Heard) {Failed Fails : Type 0} → (Failed → Fails)
-    → (name : NameFacts) (cause : Cause) → IsBacked listing answers Failed name cause → IsBacked listing answers Fails name cause
-backed_so listing answers so name ReadFault h = so h
-backed_so listing answers so name (Altered met) h = h
-backed_so listing answers so name Appeared h = h
+backed_so : (listing names : List NameFacts) (answers : List Heard) {Failed Fails : Type 0} → (Failed → Fails)
+    → (name : NameFacts) (cause : Cause) → IsBacked listing names answers Failed name cause
+    → IsBacked listing names answers Fails name cause
+backed_so listing names answers so name ReadFault h = so h
+backed_so listing names answers so name (Altered met) h = h
+backed_so listing names answers so name Appeared h = h
 
 module _ {K : Type 0} (world : Rules) (old : StateFacts K) {told : Bool} {shows : K → ShownKeeper} {roots : List (List ℕ)}
     {before met after : ShownTree} {new : StateFacts K} {walk : WalkFacts} {Asked Fails : Type 0}
@@ -45,33 +46,33 @@ module _ {K : Type 0} (world : Rules) (old : StateFacts K) {told : Bool} {shows 
     (hands : HandsOn told world.version before met Asked Fails)
     (settles : Settles told world.version shows met after (after_begin walk.listing roots old) new) where
   -- what the hand heard, of the walk and of the settling
-  heard_pass : HearsPass told world.version roots (row_names old.rows) walk walks.more settles.answers before after
+  heard_pass : HearsPass told world.version roots (row_names old.rows) walk walks.goes.more settles.answers before after
   heard_pass = record {
-    heard = heard_both before.heard met.heard after.heard walks.more settles.answers walks.heard settles.heard;
-    whole = walks.ends;
-    full = full_stays walk.listing roots (row_names old.rows) walks.more settles.answers settles.wanted walks.ends.full;
+    heard = heard_both before.heard met.heard after.heard walks.goes.more settles.answers walks.goes.heard settles.heard;
+    whole = walks.goes.ends;
+    full = full_stays walk.listing roots (row_names old.rows) walks.goes.more settles.answers settles.wanted walks.goes.ends.full;
     listing =
-        listing_stays walk.listing roots (row_names old.rows) walks.more settles.answers settles.wanted walks.ends.full
-        walk.listing walks.ends.listing;
+        listing_stays walk.listing roots (row_names old.rows) walks.goes.more settles.answers settles.wanted walks.goes.ends.full
+        walk.listing walks.goes.ends.listing;
     wanted = settles.wanted;
     fits = settles.fits;
     tells = λ t.
-        All-append (IsTold before.present) walks.more settles.answers (walks.tells t.0 t.1)
+        All-append (IsTold before.present) walks.goes.more settles.answers (walks.goes.tells t.0 t.1)
         (subst (λ (names : List NameFacts). All (IsTold names) settles.answers) (hands.still t.1).same
         (settles.tells t.0 (hands.still t.1).still));
     under = under;
   }
 
   -- a count that rose in the settling rose in the pass
-  fault_late : (miss : Miss) → IsBacked walk.listing settles.answers (Rose met.faults after.faults) miss.name miss.cause
-      → IsBacked walk.listing settles.answers (Rose before.faults after.faults) miss.name miss.cause
-  fault_late miss why = backed_so walk.listing settles.answers (rose_later before.faults met.faults after.faults hands.cause.later) miss.name miss.cause why
+  fault_late : (miss : Miss) → IsBacked walk.listing (row_names old.rows) settles.answers (Rose met.faults after.faults) miss.name miss.cause
+      → IsBacked walk.listing (row_names old.rows) settles.answers (Rose before.faults after.faults) miss.name miss.cause
+  fault_late miss why = backed_so walk.listing (row_names old.rows) settles.answers (rose_later before.faults met.faults after.faults hands.cause.later) miss.name miss.cause why
 
-  backed_new : All (λ (miss : Miss). IsBacked walk.listing settles.answers (Rose before.faults after.faults) miss.name miss.cause)
+  backed_new : All (λ (miss : Miss). IsBacked walk.listing (row_names old.rows) settles.answers (Rose before.faults after.faults) miss.name miss.cause)
       (pass_of new.pass).missed
   backed_new =
-      All-weaker (λ (miss : Miss). IsBacked walk.listing settles.answers (Rose met.faults after.faults) miss.name miss.cause)
-      (λ (miss : Miss). IsBacked walk.listing settles.answers (Rose before.faults after.faults) miss.name miss.cause)
+      All-weaker (λ (miss : Miss). IsBacked walk.listing (row_names old.rows) settles.answers (Rose met.faults after.faults) miss.name miss.cause)
+      (λ (miss : Miss). IsBacked walk.listing (row_names old.rows) settles.answers (Rose before.faults after.faults) miss.name miss.cause)
       fault_late (pass_of new.pass).missed (all_backed refl settles)
 
   -- what it left of the index
@@ -84,9 +85,10 @@ module _ {K : Type 0} (world : Rules) (old : StateFacts K) {told : Bool} {shows 
     origin = settles.origin;
     stays = settles.stays;
     goes = settles.goes;
+    comes = settles.comes;
     brings = settles.brings;
     missed =
-        subst (λ (o : Option PassFacts). All (λ (miss : Miss). IsBacked walk.listing settles.answers (Rose before.faults after.faults) miss.name miss.cause) (pass_of o).missed)
+        subst (λ (o : Option PassFacts). All (λ (miss : Miss). IsBacked walk.listing (row_names old.rows) settles.answers (Rose before.faults after.faults) miss.name miss.cause) (pass_of o).missed)
         settles.pass.is backed_new;
   }
 
@@ -95,7 +97,7 @@ module _ {K : Type 0} (world : Rules) (old : StateFacts K) {told : Bool} {shows 
       → RunsPass world told roots before after old new Ends
   runs_pass Ends ends = record {
     walk = walk;
-    walked = walks.more;
+    walked = walks.goes.more;
     more = settles.answers;
     hears = heard_pass;
     leaves = left_index;
@@ -103,11 +105,11 @@ module _ {K : Type 0} (world : Rules) (old : StateFacts K) {told : Bool} {shows 
   }
 
   pub runs_to_miss : (miss : Miss) → IsFirstMiss miss new
-      → HasMissed miss (Rose before.faults after.faults) new walk.listing settles.answers
+      → HasMissed miss (Rose before.faults after.faults) old new walk.listing settles.answers
   runs_to_miss miss h = record {
     first = h.first;
     why =
-        first_is (λ (m : Miss). IsBacked walk.listing settles.answers (Rose before.faults after.faults) m.name m.cause)
+        first_is (λ (m : Miss). IsBacked walk.listing (row_names old.rows) settles.answers (Rose before.faults after.faults) m.name m.cause)
         (pass_of new.pass).missed miss backed_new h.first;
     sound = h.sound;
   }
@@ -124,7 +126,7 @@ ends_walked world told tells shows sees roots before met after old new walk (Who
     runs_pass world old walks under hands h.settles (λ listing more. IsWholePass world tells shows summary old new listing)
     (record { complete = h.ends.complete; whole = h.ends.whole; sound = h.ends.sound; numbers = h.ends.numbers })
 ends_walked world told tells shows sees roots before met after old new walk (Missed miss) walks under hands h =
-    runs_pass world old walks under hands h.settles (HasMissed miss (Rose (sees before).faults (sees after).faults) new)
+    runs_pass world old walks under hands h.settles (HasMissed miss (Rose (sees before).faults (sees after).faults) old new)
     (runs_to_miss world old walks under hands h.settles miss h.ends)
 ends_walked world told tells shows sees roots before met after old new walk KeeperFault walks under hands h =
     runs_pass world old walks under hands h.settles (λ listing more. new.broken ≡ true) h.ends

@@ -33,7 +33,7 @@ use Rattle.pass_runner.specs.Settled.{IsBacked, IsBrought, IsMissBy, IsMissing, 
 use Rattle.pass_runner.specs.Turns.{Advances, HasSeen, looked_of}
 use Rattle.pass_runner.specs.declared.look_for.Looked.TheVariants as looked
 use Rattle.pass_runner.proofs.Moves.{still_brought, still_missed}
-use Rattle.pass_runner.proofs.NameLists.{drop_goes, drop_stays, put_goes, put_stays}
+use Rattle.pass_runner.proofs.NameLists.{drop_comes, drop_goes, drop_stays, put_comes, put_goes, put_stays}
 
 -- a pass was begun, where a name is listed in it, out of it or known not to be listed
 pub listed_open : (pass : Option PassFacts) (name : NameFacts) → is_in (pass_of pass).listing name ≡ true → IsPassOn pass pass
@@ -64,12 +64,12 @@ left_on name opened = record {
   over = refl;
 }
 
-left_missed : (name : NameFacts) (pass : Option PassFacts) (answers : List Heard) (Fails : Type 0)
-    → All (IsMissBy (pass_of pass).listing (pass_of pass).missed answers Fails) (pass_of (option_map (left name) pass)).missed
-left_missed name None answers Fails = All-nil (IsMissBy [] [] answers Fails)
-left_missed name (Some p) answers Fails =
-    All-filter (λ (m : Miss). not (same_name name m.name)) (IsMissBy p.listing p.missed answers Fails) p.missed
-    (still_missed p.listing p.missed answers Fails)
+left_missed : (name : NameFacts) (pass : Option PassFacts) (names : List NameFacts) (answers : List Heard) (Fails : Type 0)
+    → All (IsMissBy (pass_of pass).listing names (pass_of pass).missed answers Fails) (pass_of (option_map (left name) pass)).missed
+left_missed name None names answers Fails = All-nil (IsMissBy [] names [] answers Fails)
+left_missed name (Some p) names answers Fails =
+    All-filter (λ (m : Miss). not (same_name name m.name)) (IsMissBy p.listing names p.missed answers Fails) p.missed
+    (still_missed p.listing names p.missed answers Fails)
 
 filter_short : {X : Type 0} (p : X → Bool) (xs : List X) → length (filter p xs) ≤ length xs
 filter_short p [] = omega arith
@@ -92,10 +92,12 @@ module _ {K : Type 0} {shows : K → ShownKeeper} {old new : StateFacts K} where
     stays = λ name listed stood. ap (λ (r : List RowFacts). is_in (row_names r) name) rows ∙ stood;
     goes = λ name stood gone none under.
         absurd (true≢false (sym stood ∙ sym (ap (λ (r : List RowFacts). is_in (row_names r) name) rows) ∙ gone));
+    comes = λ name stands fresh.
+        absurd (true≢false (sym stands ∙ ap (λ (r : List RowFacts). is_in (row_names r) name) rows ∙ fresh));
     brings = subst (λ (r : List RowFacts). All (IsBrought old.rows answers) r) (sym rows) (still_brought old.rows answers);
     missed =
-        subst (λ (o : Option PassFacts). All (IsMissBy (pass_of old.pass).listing (pass_of old.pass).missed answers F) (pass_of o).missed)
-        (sym pass) (still_missed (pass_of old.pass).listing (pass_of old.pass).missed answers F);
+        subst (λ (o : Option PassFacts). All (IsMissBy (pass_of old.pass).listing (row_names old.rows) (pass_of old.pass).missed answers F) (pass_of o).missed)
+        (sym pass) (still_missed (pass_of old.pass).listing (row_names old.rows) (pass_of old.pass).missed answers F);
   }
 
   -- the pass alone changed, and no name was missed
@@ -110,12 +112,14 @@ module _ {K : Type 0} {shows : K → ShownKeeper} {old new : StateFacts K} where
     stays = λ name listed stood. ap (λ (s : StateFacts K). is_in (row_names s.rows) name) same ∙ stood;
     goes = λ name stood gone none under.
         absurd (true≢false (sym stood ∙ sym (ap (λ (s : StateFacts K). is_in (row_names s.rows) name) same) ∙ gone));
+    comes = λ name stands fresh.
+        absurd (true≢false (sym stands ∙ ap (λ (s : StateFacts K). is_in (row_names s.rows) name) same ∙ fresh));
     brings =
         subst (λ (r : List RowFacts). All (IsBrought old.rows answers) r) (sym (ap (λ (s : StateFacts K). s.rows) same))
         (still_brought old.rows answers);
     missed =
-        subst (λ (ms : List Miss). All (IsMissBy (pass_of old.pass).listing (pass_of old.pass).missed answers F) ms) (sym missed)
-        (still_missed (pass_of old.pass).listing (pass_of old.pass).missed answers F);
+        subst (λ (ms : List Miss). All (IsMissBy (pass_of old.pass).listing (row_names old.rows) (pass_of old.pass).missed answers F) ms) (sym missed)
+        (still_missed (pass_of old.pass).listing (row_names old.rows) (pass_of old.pass).missed answers F);
   }
 
   -- a name whose row stands no more, or by another stamp, left
@@ -129,8 +133,9 @@ module _ {K : Type 0} {shows : K → ShownKeeper} {old new : StateFacts K} where
         origin = refl;
         stays = λ n listed stood. stood;
         goes = λ n stood gone none under. absurd (true≢false (sym stood ∙ gone));
+        comes = λ n stands fresh. absurd (true≢false (sym stands ∙ fresh));
         brings = still_brought old.rows answers;
-        missed = left_missed name old.pass answers F;
+        missed = left_missed name old.pass (row_names old.rows) answers F;
       })
 
   -- the row of a listed name was put
@@ -149,8 +154,9 @@ module _ {K : Type 0} {shows : K → ShownKeeper} {old new : StateFacts K} where
         stays = put_stays row (pass_of old.pass).listing old.rows by_path awaited.listed awaited.absent;
         goes = λ n stood gone none under.
             absurd (put_goes row (pass_of old.pass).listing old.rows by_path awaited.listed n stood gone none);
+        comes = put_comes row (pass_of old.pass).listing old.rows awaited.listed;
         brings = put_holds (IsBrought old.rows answers) row_path row old.rows (still_brought old.rows answers) (inr read);
-        missed = left_missed row.name old.pass answers F;
+        missed = left_missed row.name old.pass (row_names old.rows) answers F;
       })
 
 -- what was seen shows that the file is gone
@@ -202,34 +208,34 @@ module _ {answers : List Heard} (roots : List (List ℕ)) {name : NameFacts} {me
       subst (λ (a : StatAnswer). Contains answers (stat name.path a)) (file_by saw.answer met name.stamp saw.saw both.1) saw.heard
 
 -- of a name that is put among those that were missed
-added_miss : (listing : List NameFacts) (m : Miss) (before after : List Miss) (answers : List Heard) (F : Type 0)
-    → Adds m before after → IsBacked listing answers F m.name m.cause → All (IsMissBy listing before answers F) after
-added_miss listing m before after answers F adds why =
-    All-weaker (Contains after) (IsMissBy listing before answers F) each after (All-contains_itself after)
+added_miss : (listing names : List NameFacts) (m : Miss) (before after : List Miss) (answers : List Heard) (F : Type 0)
+    → Adds m before after → IsBacked listing names answers F m.name m.cause → All (IsMissBy listing names before answers F) after
+added_miss listing names m before after answers F adds why =
+    All-weaker (Contains after) (IsMissBy listing names before answers F) each after (All-contains_itself after)
   where
     was : (x : Miss) → Contains (adds.front ++ adds.back) x → Contains before x
     was x h = subst (λ (ms : List Miss). Contains ms x) (sym adds.old) h
 
-    one : (x : Miss) → Contains [] x ⊎ (m ≡ x) → IsMissBy listing before answers F x
+    one : (x : Miss) → Contains [] x ⊎ (m ≡ x) → IsMissBy listing names before answers F x
     one x (inl none) = absurd (omega (arith, none.1))
-    one x (inr same) = subst (λ (y : Miss). IsMissBy listing before answers F y) same (inr why)
+    one x (inr same) = subst (λ (y : Miss). IsMissBy listing names before answers F y) same (inr why)
 
-    behind : (x : Miss) → Contains (m ∷ []) x ⊎ Contains adds.back x → IsMissBy listing before answers F x
+    behind : (x : Miss) → Contains (m ∷ []) x ⊎ Contains adds.back x → IsMissBy listing names before answers F x
     behind x (inl here) = one x (Contains-push_cases [] m x here)
     behind x (inr later) = inl (was x (Contains-append_right adds.front adds.back x later))
 
-    parts : (x : Miss) → Contains adds.front x ⊎ Contains (m ∷ adds.back) x → IsMissBy listing before answers F x
+    parts : (x : Miss) → Contains adds.front x ⊎ Contains (m ∷ adds.back) x → IsMissBy listing names before answers F x
     parts x (inl first) = inl (was x (Contains-append_left adds.front adds.back x first))
     parts x (inr rest) = behind x (Contains-append_cases (m ∷ []) adds.back x rest)
 
-    each : (x : Miss) → Contains after x → IsMissBy listing before answers F x
+    each : (x : Miss) → Contains after x → IsMissBy listing names before answers F x
     each x h = parts x (Contains-append_cases adds.front (m ∷ adds.back) x (subst (λ (ms : List Miss). Contains ms x) adds.new h))
 
 module _ {K : Type 0} {shows : K → ShownKeeper} {old new : StateFacts K} where
   -- a name was missed, if it was out
   pub missed_on : {F : Type 0} {answers : List Heard} {name : NameFacts} {cause : Cause} (was_out : Bool)
       → IsPassOn old.pass old.pass → MissesOut name cause old was_out new
-      → IsBacked (pass_of old.pass).listing answers F name cause
+      → IsBacked (pass_of old.pass).listing (row_names old.rows) answers F name cause
       → Advances shows answers F old new
   missed_on {F} {answers} {name} {cause} true opened misses why =
       let on : IsPassOn old.pass new.pass = record {
@@ -248,15 +254,17 @@ module _ {K : Type 0} {shows : K → ShownKeeper} {old new : StateFacts K} where
         stays = λ n listed stood. ap (λ (s : StateFacts K). is_in (row_names s.rows) n) same ∙ stood;
         goes = λ n stood gone none under.
             absurd (true≢false (sym stood ∙ sym (ap (λ (s : StateFacts K). is_in (row_names s.rows) n) same) ∙ gone));
+        comes = λ n stands fresh.
+            absurd (true≢false (sym stands ∙ ap (λ (s : StateFacts K). is_in (row_names s.rows) n) same ∙ fresh));
         brings =
             subst (λ (r : List RowFacts). All (IsBrought old.rows answers) r) (sym (ap (λ (s : StateFacts K). s.rows) same))
             (still_brought old.rows answers);
         missed =
-            subst (λ (o : Option PassFacts). All (IsMissBy (pass_of old.pass).listing (pass_of old.pass).missed answers F) (pass_of o).missed)
+            subst (λ (o : Option PassFacts). All (IsMissBy (pass_of old.pass).listing (row_names old.rows) (pass_of old.pass).missed answers F) (pass_of o).missed)
             (sym misses.missed.is)
-            (subst (λ (o : Option PassFacts). All (IsMissBy (pass_of old.pass).listing (pass_of o).missed answers F) misses.missed.into.missed)
+            (subst (λ (o : Option PassFacts). All (IsMissBy (pass_of old.pass).listing (row_names old.rows) (pass_of o).missed answers F) misses.missed.into.missed)
             (sym misses.missed.was)
-            (added_miss (pass_of old.pass).listing (record { name = name; cause = cause }) misses.missed.from.missed misses.missed.into.missed answers F
+            (added_miss (pass_of old.pass).listing (row_names old.rows) (record { name = name; cause = cause }) misses.missed.from.missed misses.missed.into.missed answers F
             misses.missed.step.missed why));
       }
   missed_on {F} {answers} false opened misses why =
@@ -284,10 +292,11 @@ module _ {K : Type 0} {shows : K → ShownKeeper} {old new : StateFacts K} where
             let same : n ≡ name = drop_goes name old.rows ascend left_over.stands n stood went in
             subst (λ (m : NameFacts). IsSeenGone answers m) (sym same)
             (seen_gone old.roots sees gone.gone (ap (λ (m : NameFacts). is_under old.roots m.path) (sym same) ∙ under));
+        comes = λ n stands fresh. absurd (true≢false (sym (drop_comes name old.rows n stands) ∙ fresh));
         brings =
             All-filter (λ (r : RowFacts). not (bytes_eq (row_path r) name.path)) (IsBrought old.rows answers) old.rows
             (still_brought old.rows answers);
-        missed = left_missed name old.pass answers F;
+        missed = left_missed name old.pass (row_names old.rows) answers F;
       })
 
 module _ {K : Type 0} {old new : StateFacts K} where

@@ -99,7 +99,10 @@ module _ {K : Type 0} (tells : Bool) (shows : K → ShownKeeper) (old new : Stat
     judged_on (judged.Moved now) holds sees h = moved_on name (out_open old.pass name out) h.after
     judged_on judged.Strange holds sees h =
         missed_on {cause = Appeared} h.was_out (out_open old.pass name out) h.missed
-        (record { unlisted = kept_listed old.pass name unlisted; heard = seen_there old.roots sees h.strange.strange })
+        (record {
+          seen = record { unlisted = kept_listed old.pass name unlisted; heard = seen_there old.roots sees h.strange.strange };
+          row = h.strange.left_over.stands;
+        })
     judged_on judged.LogFull holds sees h =
         same_on (out_open old.pass name out)
         (let e = ap (λ (s : StateFacts K). (shows s.keeper).faults) h.drops.same in omega (arith, e))
@@ -236,7 +239,7 @@ module _ {K : Type 0} {told : Bool} {version : Versions} {shows : K → ShownKee
   missed_so : {cause : Cause} {answers : List Heard} (was_out : Bool) → old.broken ≡ false
       → is_in (pass_of old.pass).out name ≡ true → Listens told version before after answers
       → All (IsWanted (pass_of old.pass).listing old.roots (row_names old.rows)) answers
-      → IsBacked (pass_of old.pass).listing answers (Rose before.faults after.faults) name cause
+      → IsBacked (pass_of old.pass).listing (row_names old.rows) answers (Rose before.faults after.faults) name cause
       → MissesOut name cause old was_out new
       → TurnsOver told version shows name before after old new None
   missed_so {answers = answers} was_out sound out listens wanted why misses =

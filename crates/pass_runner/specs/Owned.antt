@@ -53,8 +53,9 @@ pub record HearsPass (told : Bool) (version : Versions) (roots : List (List ℕ)
   pub under : TellsStill told before → AreFilesUnder before.present roots walk.listing
 
 -- what the pass left of the index, however it ended: a pass over the listing is open; no row of a listed name went; a row
--- whose path isn't listed and lies under a root went only where a look did not find its file; a row that wasn't there says
--- what a load found; a name is missed only for a reason; no name is skipped, and else the origin is as it was
+-- whose path isn't listed and lies under a root went only where a look did not find its file; a row that came is of a
+-- listed name; a row that wasn't there says what a load found; a name is missed only for a reason; no name is skipped, and
+-- else the origin is as it was
 pub record LeavesIndex {K : Type 0} (folders : List (List ℕ)) (listing : List NameFacts) (more : List Heard)
     (Failed : Type 0) (old new : StateFacts K) : Type 0 where
   pub pass : PassFacts
@@ -66,8 +67,10 @@ pub record LeavesIndex {K : Type 0} (folders : List (List ℕ)) (listing : List 
       → is_in (row_names old.rows) name ≡ true → is_in (row_names new.rows) name ≡ true
   pub goes : (name : NameFacts) → is_in (row_names old.rows) name ≡ true
       → is_in (row_names new.rows) name ≡ false → MayGo listing folders more name
+  pub comes : (name : NameFacts) → is_in (row_names new.rows) name ≡ true
+      → is_in (row_names old.rows) name ≡ false → is_in listing name ≡ true
   pub brings : All (IsBrought old.rows more) new.rows
-  pub missed : All (λ miss. IsBacked listing more Failed miss.name miss.cause) pass.missed
+  pub missed : All (λ miss. IsBacked listing (row_names old.rows) more Failed miss.name miss.cause) pass.missed
 
 -- the roots were walked, a pass over what was listed began, and this came of it
 pub record RunsPass {K : Type 0} (world : Rules) (told : Bool) (roots : List (List ℕ)) (before after : ShownTree)
@@ -79,7 +82,7 @@ pub record RunsPass {K : Type 0} (world : Rules) (told : Bool) (roots : List (Li
   pub leaves : LeavesIndex roots walk.listing more (Rose before.faults after.faults) old new
   pub ends : Ends walk.listing more
 
--- the roots could not be walked, and the index stays as it is
+-- the roots could not be walked: nothing was loaded, and the index stays as it is
 pub record EndsUnwalked {K : Type 0} (told : Bool) (roots : List (List ℕ)) (before after : ShownTree)
     (old new : StateFacts K) (fault : WalkFault) : Type 0 where
   pub walks : Walks told before after roots (Err fault)
@@ -96,13 +99,13 @@ pub record IsWholePass {K : Type 0} (world : Rules) (tells : Bool) (shows : K �
   pub numbers : summary ≡ summary_of (plan_of listing (row_names old.rows)) new.rows
 
 -- a name was missed for a reason, and this was the first
-pub record HasMissed {K : Type 0} (miss : Miss) (Failed : Type 0) (new : StateFacts K) (listing : List NameFacts)
+pub record HasMissed {K : Type 0} (miss : Miss) (Failed : Type 0) (old new : StateFacts K) (listing : List NameFacts)
     (more : List Heard) : Type 0 where
   pub first : first_missed (pass_of new.pass).missed ≡ Some miss
-  pub why : IsBacked listing more Failed miss.name miss.cause
+  pub why : IsBacked listing (row_names old.rows) more Failed miss.name miss.cause
   pub sound : new.broken ≡ false
 
--- memory was refused before the pass began, and the index stays as it is
+-- memory was refused before the pass began: nothing was loaded, and the index stays as it is
 pub record EndsEarly {K : Type 0} (told : Bool) (roots : List (List ℕ)) (before after : ShownTree)
     (old new : StateFacts K) : Type 0 where
   pub walk : Walk
@@ -115,7 +118,7 @@ abbrev pub EndsPass : {K : Type 0} → Rules → Bool → Bool → (K → ShownK
 EndsPass world told tells shows roots before after old new (Whole summary) =
     RunsPass world told roots before after old new (λ listing more. IsWholePass world tells shows summary old new listing)
 EndsPass world told tells shows roots before after old new (Missed miss) =
-    RunsPass world told roots before after old new (HasMissed miss (Rose before.faults after.faults) new)
+    RunsPass world told roots before after old new (HasMissed miss (Rose before.faults after.faults) old new)
 EndsPass world told tells shows roots before after old new (Unwalked fault) =
     EndsUnwalked told roots before after old new fault
 EndsPass world told tells shows roots before after old new Broken = ⊥

@@ -64,20 +64,25 @@ pub record IsHeardAltered (listing : List NameFacts) (answers : List Heard) (nam
   pub other : FindsOther name answer met
 
 -- a look found the file of a name that isn't listed
-pub record IsHeardThere (listing : List NameFacts) (answers : List Heard) (name : NameFacts) : Type 0 where
+pub record IsSeenThere (listing : List NameFacts) (answers : List Heard) (name : NameFacts) : Type 0 where
   pub unlisted : is_in listing name ≡ false
   pub heard : Contains answers (stat name.path (File name.stamp))
 
--- by what a name was missed: the count of faults rose, or this was heard
-abbrev pub IsBacked : List NameFacts → List Heard → Type 0 → NameFacts → Cause → Type 0
-IsBacked listing answers Failed name ReadFault = Failed
-IsBacked listing answers Failed name (Altered met) = IsHeardAltered listing answers name met
-IsBacked listing answers Failed name Appeared = IsHeardThere listing answers name
+-- and the name had a row
+pub record IsHeardThere (listing names : List NameFacts) (answers : List Heard) (name : NameFacts) : Type 0 where
+  pub seen : IsSeenThere listing answers name
+  pub row : is_in names name ≡ true
+
+-- by what a name was missed, where these names had rows: the count of faults rose, or this was heard
+abbrev pub IsBacked : List NameFacts → List NameFacts → List Heard → Type 0 → NameFacts → Cause → Type 0
+IsBacked listing names answers Failed name ReadFault = Failed
+IsBacked listing names answers Failed name (Altered met) = IsHeardAltered listing answers name met
+IsBacked listing names answers Failed name Appeared = IsHeardThere listing names answers name
 
 -- the name was missed before, or this is why
-abbrev pub IsMissBy : List NameFacts → List Miss → List Heard → Type 0 → Miss → Type 0
-IsMissBy listing missed answers Failed miss =
-    Contains missed miss ⊎ IsBacked listing answers Failed miss.name miss.cause
+abbrev pub IsMissBy : List NameFacts → List NameFacts → List Miss → List Heard → Type 0 → Miss → Type 0
+IsMissBy listing names missed answers Failed miss =
+    Contains missed miss ⊎ IsBacked listing names answers Failed miss.name miss.cause
 
 -- a load found the file of the row's name, and the row says what it is
 pub record IsReadOf (answers : List Heard) (row : RowFacts) : Type 0 where
@@ -99,7 +104,8 @@ pub record IsPassOn (old new : Option PassFacts) : Type 0 where
 
 -- what the settling did from one moment to a later one: nothing else was heard; the pass goes on, over the same listing
 -- and roots; no row of a listed name went; a row whose path isn't listed and lies under a root went only where a look
--- did not find its file; a row that wasn't there says what a load found; a name is missed only for a reason
+-- did not find its file; a row that came is of a listed name; a row that wasn't there says what a load found; a name is
+-- missed only for a reason
 pub record Settles {K : Type 0} (told : Bool) (version : Versions) (shows : K → ShownKeeper)
     (before after : ShownTree) (old new : StateFacts K) : Type 0 where
   pub answers : List Heard
@@ -117,6 +123,8 @@ pub record Settles {K : Type 0} (told : Bool) (version : Versions) (shows : K �
   pub goes : (name : NameFacts) → is_in (row_names old.rows) name ≡ true
       → is_in (row_names new.rows) name ≡ false
       → MayGo (pass_of old.pass).listing old.roots answers name
+  pub comes : (name : NameFacts) → is_in (row_names new.rows) name ≡ true
+      → is_in (row_names old.rows) name ≡ false → is_in (pass_of old.pass).listing name ≡ true
   pub brings : All (IsBrought old.rows answers) new.rows
-  pub missed : All (IsMissBy (pass_of old.pass).listing (pass_of old.pass).missed answers
+  pub missed : All (IsMissBy (pass_of old.pass).listing (row_names old.rows) (pass_of old.pass).missed answers
       (Rose before.faults after.faults)) (pass_of new.pass).missed

@@ -45,8 +45,10 @@ pub record Advances {K : Type 0} (shows : K → ShownKeeper) (answers : List Hea
   pub goes : (name : NameFacts) → is_in (row_names old.rows) name ≡ true
       → is_in (row_names new.rows) name ≡ false
       → MayGo (pass_of old.pass).listing old.roots answers name
+  pub comes : (name : NameFacts) → is_in (row_names new.rows) name ≡ true
+      → is_in (row_names old.rows) name ≡ false → is_in (pass_of old.pass).listing name ≡ true
   pub brings : All (IsBrought old.rows answers) new.rows
-  pub missed : All (IsMissBy (pass_of old.pass).listing (pass_of old.pass).missed answers Failed) (pass_of new.pass).missed
+  pub missed : All (IsMissBy (pass_of old.pass).listing (row_names old.rows) (pass_of old.pass).missed answers Failed) (pass_of new.pass).missed
 
 -- what is heard of a question, which is nothing where memory was refused
 abbrev pub heard_of : Heard → List Heard

@@ -90,13 +90,13 @@ too_many_is {search} last s many = record {
 -- how a call ends that adds to the search
 pub adds_ends : {V : Type 0} {answers : List Heard} {roots : List (List ℕ)} (result : Result V WalkFault)
     (next now : SearchFacts) (Good : SearchFacts → Type 0) → NotesAnswer next now result
-    → (length next.files ≤ LISTING_LIMIT → Good next)
+    → (length next.files ≤ LISTING_LIMIT → Good next) → StopsAtLast answers roots (λ last. Unit {0})
     → (LISTING_LIMIT < length next.files → IsTooMany answers roots)
     → MatchResult result (λ _. Good now) (IsCause answers roots)
-adds_ends (Ok _) next now Good added few many = subst Good (sym added.same) (few added.few)
-adds_ends (Err TooMany) next now Good added few many = many added
-adds_ends (Err WalkMemory) next now Good added few many = tt
-adds_ends (Err _) next now Good added few many = absurd added
+adds_ends (Ok _) next now Good added few last many = subst Good (sym added.same) (few added.few)
+adds_ends (Err TooMany) next now Good added few last many = many added
+adds_ends (Err WalkMemory) next now Good added few last many = inr last
+adds_ends (Err _) next now Good added few last many = absurd added
 
 -- an entry of a folder was seen to
 settled_of : {answers : List Heard} {roots : List (List ℕ)} {search : SearchFacts}

@@ -77,6 +77,7 @@ file_ends {answers} {roots} {search} {folder} {path} {answer} {entry} {rest} res
     (IsCause (answers ++ m) roots)) (sym look.heard)
     (adds_ends result next now (λ next. IsUnderway later roots next folder rest) added
     (λ few. underway_more (stat path answer ∷ []) u s few (λ p h. h))
+    (look_last answer u candidate n.kept tt)
     (λ many. too_many_is (look_last answer u candidate n.kept tt) s many))
   where
     is_none : (o : Option StatAnswer) → is_some o ≡ false → o ≡ None

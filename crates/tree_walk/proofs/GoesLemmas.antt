@@ -1,5 +1,5 @@
 -- Answers that are heard one after the other.
-use Rattle.std.proofs.Common.{◌≡◌, ℕ, ◌+◌, ◌<◌, Bool, true, List, [], ◌∷◌, ◌++◌, length, take, drop, get_or}
+use Rattle.std.proofs.Common.{◌≡◌, ℕ, ◌+◌, ◌<◌, inl, Bool, true, List, [], ◌∷◌, ◌++◌, length, take, drop, get_or}
 use Rattle.std.proofs.Common.{Option, Some, None, Result, Ok, Err, MatchResult, All, refl, sym, ◌∙◌, ap}
 use Rattle.std.proofs.Common.{subst, append_assoc}
 use Rattle.std.specs.Result.{IsErrAnd}
@@ -10,7 +10,7 @@ use Rattle.row_types.specs.Name.{NameFacts}
 use Rattle.tree_trait.specs.Asks.{IsTold}
 use Rattle.tree_trait.specs.Heard.{Heard, has_failed, with_answers}
 use Rattle.tree_trait.specs.Shown.{ShownTree, StaysStill}
-use Rattle.tree_walk.specs.Ends.{Goes, StopsAtLast, IsCause}
+use Rattle.tree_walk.specs.Ends.{Goes, StopsAtLast, StopsBetween, IsCause}
 use Rattle.tree_walk.specs.Calls.{IsCallFault}
 use Rattle.tree_walk.specs.declared.fault.WalkFault.{WalkFault}
 use Rattle.tree_walk.specs.declared.fault.WalkFault.TheVariants.{Failed, OutOfMemory}
@@ -100,21 +100,29 @@ goes_then_up {told} {before} {after} {answers} {MidGood} {NewBad} {fault} up h s
     goes_then h still g (λ heard bad. bad) in
     goes_up up both (λ more bad. bad)
 
+-- memory was refused, by these answers
+pub memory_ends : {V : Type 0} {answers : List Heard} {roots : List (List ℕ)} (Good : V → Type 0)
+    (result : Result V WalkFault) → IsErrAnd result (λ y. y ≡ OutOfMemory) → IsCause answers roots OutOfMemory
+    → MatchResult result Good (IsCause answers roots)
+memory_ends Good (Ok x) h cause = absurd h
+memory_ends {answers} {roots} Good (Err y) h cause = subst (IsCause answers roots) (sym h) cause
+
 -- memory was refused before anything was asked
 pub goes_memory : {V : Type 0} {told : Bool} {tree : ShownTree} {answers : List Heard} {roots : List (List ℕ)}
     {Good : List Heard → V → Type 0} (result : Result V WalkFault) → IsErrAnd result (λ y. y ≡ OutOfMemory)
-    → Goes told tree tree answers Good (λ heard. IsCause heard roots) result
-goes_memory (Ok x) h = absurd h
-goes_memory {answers} {roots} (Err y) h = goes_none (subst (IsCause answers roots) (sym h) tt)
+    → StopsBetween answers roots → Goes told tree tree answers Good (λ heard. IsCause heard roots) result
+goes_memory {answers} {Good} result h between = goes_none (memory_ends (Good answers) result h (inl between))
 
 -- a fault of one call, by which the walk ends
 pub call_fault : {roots : List (List ℕ)} (answers more : List Heard) (failed : Heard) (fault : WalkFault)
-    → StopsAtLast (answers ++ failed ∷ []) roots (λ last. has_failed last ≡ true)
+    → StopsAtLast (answers ++ failed ∷ []) roots (λ last. has_failed last ≡ true) → StopsBetween answers roots
     → IsCallFault failed more fault → IsCause (answers ++ more) roots fault
-call_fault {roots} answers more failed Failed last h =
+call_fault {roots} answers more failed Failed last between h =
     subst (λ (m : List Heard). StopsAtLast (answers ++ m) roots (λ last. has_failed last ≡ true)) (sym h) last
-call_fault answers more failed OutOfMemory last h = tt
-call_fault answers more failed _ last h = absurd h
+call_fault {roots} answers more failed OutOfMemory last between h =
+    inl (subst (λ (a : List Heard). StopsBetween a roots)
+    (sym (ap (λ (m : List Heard). answers ++ m) h ∙ append-nil answers)) between)
+call_fault answers more failed _ last between h = absurd h
 
 -- a list at one of its elements
 pub split_at : {X : Type 0} (xs : List X) (i : ℕ) {x : X} → i < length xs → x ≡ get_or xs i x

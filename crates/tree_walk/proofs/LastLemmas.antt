@@ -9,7 +9,7 @@ use Rattle.tree_trait.specs.Entry.{EntryFacts}
 use Rattle.tree_trait.specs.Heard.{Heard, stat, read_dir}
 use Rattle.tree_trait.specs.declared.stat.StatAnswer.{StatAnswer}
 use Rattle.tree_walk.specs.Answers.{looks}
-use Rattle.tree_walk.specs.Ends.{BeginsWithRoots, LooksAtRoots, StopsAtLast}
+use Rattle.tree_walk.specs.Ends.{BeginsWithRoots, LooksAtRoots, StopsAtLast, StopsBetween}
 use Rattle.tree_walk.specs.Kept.{IsSearch}
 use Rattle.tree_walk.specs.Search.{SearchFacts, with_last}
 use Rattle.tree_walk.specs.Underway.{IsBeginning, IsUnderway}
@@ -29,6 +29,16 @@ looks_next [] after (a ∷ given) path answer e = absurd (omega (arith, e))
 looks_next (p ∷ paths) after [] path answer e = absurd (omega (arith, e))
 looks_next (p ∷ paths) after (a ∷ given) path answer e =
     ap (λ t. stat p a ∷ t) (looks_next paths after given path answer (omega (arith, e)))
+
+-- the paths after those that were looked at aren't looked at yet
+looks_so_far : (paths after : List (List ℕ)) (given : List StatAnswer) → length given ≡ length paths
+    → looks paths given ≡ looks (paths ++ after) given
+looks_so_far [] [] [] e = refl
+looks_so_far [] (q ∷ after) [] e = refl
+looks_so_far [] after (a ∷ given) e = absurd (omega (arith, e))
+looks_so_far (p ∷ paths) after [] e = absurd (omega (arith, e))
+looks_so_far (p ∷ paths) after (a ∷ given) e =
+    ap (λ t. stat p a ∷ t) (looks_so_far paths after given (omega (arith, e)))
 
 -- a root is among the roots
 pub root_among : {roots : List (List ℕ)} (seen after : List (List ℕ)) (path : List ℕ)
@@ -75,6 +85,31 @@ look_asked {answers} {roots} {path} answer s candidate kept = record {
       (candidate_more answers (stat path answer ∷ []) roots path candidate, kept);
   few = few_of (folders_look path answer s.known);
 }
+
+-- memory was refused between two calls
+stops_between : {answers : List Heard} {roots : List (List ℕ)} {search : SearchFacts} {folder : List ℕ}
+    {rest : List EntryFacts} → IsSearch answers roots search folder rest
+    → length search.files ≤ LISTING_LIMIT → LooksAtRoots answers roots → StopsBetween answers roots
+stops_between s few first = record {
+  first = first;
+  asked = record { due = s.asked.due; few = few_of s.known };
+  room = room_is s few;
+}
+
+-- before all roots were looked at
+pub root_between : {answers : List Heard} {roots seen : List (List ℕ)} {search : SearchFacts}
+    (path : List ℕ) (after : List (List ℕ)) → IsBeginning answers roots seen search
+    → roots ≡ seen ++ path ∷ after → StopsBetween answers roots
+root_between {answers} {roots} {seen} path after b split =
+    let first : answers ≡ looks roots b.given =
+    b.first ∙ looks_so_far seen (path ∷ after) b.given b.each
+    ∙ ap (λ (rs : List (List ℕ)). looks rs b.given) (sym split) in
+    stops_between b.search_is b.few (inr (b.given, first))
+
+-- or as folders are read
+pub underway_between : {answers : List Heard} {roots : List (List ℕ)} {search : SearchFacts} {folder : List ℕ}
+    {rest : List EntryFacts} → IsUnderway answers roots search folder rest → StopsBetween answers roots
+underway_between u = stops_between u.search_is u.few (inl u.first)
 
 -- a look at the next root
 pub root_last : {answers : List Heard} {roots seen : List (List ℕ)} {search : SearchFacts} {path : List ℕ}

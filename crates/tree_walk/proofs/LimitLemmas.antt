@@ -178,4 +178,4 @@ pub fault_fits : {told : Bool} {before after : ShownTree} {roots : List (List â„
     â†’ IfErr result (FitsFault before.present roots)
 fault_fits (Ok walk) w t s = tt
 fault_fits {before} {roots} (Err fault) w t s =
-    cause_fits before.present w.more roots fault (w.tells t s) w.ends
+    cause_fits before.present w.goes.more roots fault (w.goes.tells t s) w.goes.ends

@@ -10,14 +10,16 @@ use Rattle.std.proofs.lemmas.List.Folds.{list_all-append}
 use Rattle.row_types.specs.Canon.{IsCanonPath}
 use Rattle.tree_trait.specs.Heard.{Heard, stat}
 use Rattle.tree_trait.specs.declared.stat.StatAnswer.{StatAnswer}
-use Rattle.tree_trait.specs.declared.stat.StatAnswer.TheVariants.{Folder, Gone, Failed, OutOfMemory}
+use Rattle.tree_trait.specs.declared.stat.StatAnswer.TheVariants.{Folder, Gone, Failed, OutOfMemory as LookMemory}
 use Rattle.tree_walk.specs.Answers.{is_look_answer, first_look, is_found}
-use Rattle.tree_walk.specs.Ends.{IsWithinLimits, IsRootGone, IsCause}
+use Rattle.tree_walk.specs.Ends.{IsWithinLimits, IsRootGone, IsCause, StopsAtLast}
 use Rattle.tree_walk.specs.Calls.{HearsLook}
 use Rattle.tree_walk.specs.Kept.{IsSearch}
 use Rattle.tree_walk.specs.Search.{SearchFacts, has, is_looked, noted, with_root, with_new_root, NotesAnswer}
 use Rattle.tree_walk.specs.Underway.{AreLooked, IsBeginning}
+use Rattle.tree_walk.specs.Walked.{AsksDue}
 use Rattle.tree_walk.specs.declared.fault.WalkFault.{WalkFault}
+use Rattle.tree_walk.specs.declared.fault.WalkFault.TheVariants.{OutOfMemory}
 use Rattle.tree_walk.proofs.EndLemmas.{room_is, adds_ends, too_many_is}
 use Rattle.tree_walk.proofs.LastLemmas.{looks_next, root_among, root_last}
 use Rattle.tree_walk.proofs.AnswerLemmas.{look_here, looked_now, looked_stays, after_look, look_again}
@@ -30,7 +32,7 @@ there_from_answer : (answer : StatAnswer) → is_look_answer answer ≡ true →
     → is_found answer ≡ true
 there_from_answer Gone ok there = absurd (there refl)
 there_from_answer Failed ok there = absurd (false≢true ok)
-there_from_answer OutOfMemory ok there = absurd (false≢true ok)
+there_from_answer LookMemory ok there = absurd (false≢true ok)
 there_from_answer _ ok there = refl
 
 -- what a root's first look makes of the search
@@ -157,13 +159,15 @@ root_ends {answers} {roots} {seen} {search} {path} {answer} result now after b s
       first = ap (λ (h : List Heard). h ++ stat path answer ∷ []) b.first
           ∙ sym (looks_next seen [] b.given path answer b.each);
     })
+    (root_last after answer b split kept tt)
     (λ many. too_many_is (root_last after answer b split kept tt) step.search_is many))
 
 -- nothing is at a root
 pub root_gone : {answers more : List Heard} {roots seen : List (List ℕ)} {search : SearchFacts}
     {path : List ℕ} (after : List (List ℕ)) → IsBeginning answers roots seen search
-    → roots ≡ seen ++ path ∷ after → more ≡ stat path Gone ∷ [] → IsRootGone (answers ++ more) roots path
-root_gone {answers} {roots} {seen} {path} after b split heard = record {
+    → roots ≡ seen ++ path ∷ after → IsCanonPath path → more ≡ stat path Gone ∷ []
+    → IsRootGone (answers ++ more) roots path
+root_gone {answers} {roots} {seen} {path} after b split kept heard = record {
   before = seen;
   after = after;
   given = b.given;
@@ -173,4 +177,15 @@ root_gone {answers} {roots} {seen} {path} after b split heard = record {
   room = subst (λ (h : List Heard). IsWithinLimits h roots) b.first (room_is b.search_is b.few);
   heard = ap (λ (m : List Heard). answers ++ m) heard
       ∙ ap (λ (h : List Heard). h ++ stat path Gone ∷ []) b.first;
+  asked = subst (λ (m : List Heard). AsksDue (answers ++ m) roots) (sym heard)
+      (root_last {Stops = λ last. Unit {0}} after Gone b split kept tt).asked;
 }
+
+-- and memory for its name was refused
+pub gone_memory : {answers more : List Heard} {roots seen : List (List ℕ)} {search : SearchFacts}
+    {path : List ℕ} (after : List (List ℕ)) → IsBeginning answers roots seen search
+    → roots ≡ seen ++ path ∷ after → IsCanonPath path → more ≡ stat path Gone ∷ []
+    → IsCause (answers ++ more) roots OutOfMemory
+gone_memory {answers} {roots} after b split kept heard =
+    inr (subst (λ (m : List Heard). StopsAtLast (answers ++ m) roots (λ last. Unit {0})) (sym heard)
+    (root_last after Gone b split kept tt))

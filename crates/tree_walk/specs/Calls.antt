@@ -22,8 +22,8 @@ pub record HearsReading (folder : List ℕ) (more : List Heard) (entries : List 
   pub entries_are : entries ≡ entries_of (Some answer)
   pub passed : skipped ≡ passed_over (read_dir folder answer)
 
--- this call failed, and no other was made; or memory was refused
+-- this call failed, and no other was made; or memory was refused, and nothing was heard
 abbrev pub IsCallFault : Heard → List Heard → WalkFault → Type 0
 IsCallFault failed more FaultFailed = more ≡ failed ∷ []
-IsCallFault failed more FaultMemory = Unit {0}
+IsCallFault failed more FaultMemory = more ≡ []
 IsCallFault failed more _ = ⊥

@@ -1,11 +1,12 @@
 -- How a walk ends (this project's rule): at its first fault, or with everything asked.
 use Rattle.std.specs.Prelude.{◌≡◌, ◌⊎◌, ℕ, ◌≤◌, ◌<◌, Bool, true, List, [], ◌∷◌, ◌++◌, length, All, Contains}
 use Rattle.std.specs.Prelude.{IsTrue, Result, MatchResult}
-use Rattle.std.specs.List.{list_all}
+use Rattle.std.specs.List.{list_all, list_any}
 use Rattle.row_types.specs.Name.{NameFacts}
+use Rattle.row_types.specs.Under.{is_within}
 use Rattle.scan_queue.specs.declared.listing.TheConstants.{LISTING_LIMIT}
 use Rattle.tree_trait.specs.Asks.{IsTold}
-use Rattle.tree_trait.specs.Heard.{Heard, stat, has_failed, with_answers}
+use Rattle.tree_trait.specs.Heard.{Heard, load, stat, read_dir, has_failed, with_answers}
 use Rattle.tree_trait.specs.Shown.{ShownTree}
 use Rattle.tree_trait.specs.declared.stat.StatAnswer.{StatAnswer}
 use Rattle.tree_trait.specs.declared.stat.StatAnswer.TheVariants.{Gone}
@@ -80,14 +81,22 @@ pub record IsRootGone (answers : List Heard) (roots : List (List ℕ)) (path : L
   pub there : list_all is_found given ≡ true
   pub room : IsWithinLimits (looks before given) roots
   pub heard : answers ≡ looks before given ++ stat path Gone ∷ []
+  pub asked : AsksDue answers roots
 
--- the answers by which a walk ends with a fault; want of memory may end it at any
+-- memory was refused with no answer to see to: the roots were looked at first, nothing was asked but what was
+-- due, no folder twice, and no limit was passed
+pub record StopsBetween (answers : List Heard) (roots : List (List ℕ)) : Type 0 where
+  pub first : LooksAtRoots answers roots
+  pub asked : AsksDue answers roots
+  pub room : IsWithinLimits answers roots
+
+-- the answers by which a walk ends with a fault; want of memory may end it at any, or between two calls
 abbrev pub IsCause : List Heard → List (List ℕ) → WalkFault → Type 0
 IsCause answers roots Failed = StopsAtLast answers roots (λ last. has_failed last ≡ true)
 IsCause answers roots TooMany = IsTooMany answers roots
 IsCause answers roots TooManyEntries = IsTooManyEntries answers roots
 IsCause answers roots (RootGone path) = IsRootGone answers roots path
-IsCause answers roots OutOfMemory = Unit {0}
+IsCause answers roots OutOfMemory = StopsBetween answers roots ⊎ StopsAtLast answers roots (λ last. Unit {0})
 
 -- some more answers were heard, which the list that the tree tells grew by; they are those of the files that
 -- are there, where the tree is told and still; and by them, behind those that were heard before, a call
@@ -101,7 +110,20 @@ pub record Goes {V : Type 0} (told : Bool) (before after : ShownTree) (answers :
   pub ends : MatchResult result (Good (answers ++ more)) (Bad (answers ++ more))
 
 -- the walk ended by the answers that it heard
-abbrev pub Walks : Bool → ShownTree → ShownTree → List (List ℕ) → Result Walk WalkFault → Type 0
-Walks told before after roots result =
+abbrev pub EndsWalk : Bool → ShownTree → ShownTree → List (List ℕ) → Result Walk WalkFault → Type 0
+EndsWalk told before after roots result =
     Goes told before after [] (λ answers walk. IsWholeWalk answers roots walk)
     (λ answers fault. IsCause answers roots fault) result
+
+-- a look at a path that is a root or lies under one, or the reading of a folder there; so no load
+abbrev pub IsAskedUnder : List (List ℕ) → Heard → Type 0
+IsAskedUnder roots (load path limit answer) = ⊥
+IsAskedUnder roots (stat path answer) = list_any (λ root. is_within root path) roots ≡ true
+IsAskedUnder roots (read_dir path answer) = list_any (λ root. is_within root path) roots ≡ true
+
+-- the walk ended by the answers that it heard; whatever its end, nothing was loaded, and nothing was asked but
+-- what is under the roots
+pub record Walks (told : Bool) (before after : ShownTree) (roots : List (List ℕ))
+    (result : Result Walk WalkFault) : Type 0 where
+  pub goes : EndsWalk told before after roots result
+  pub under : All (IsAskedUnder roots) goes.more

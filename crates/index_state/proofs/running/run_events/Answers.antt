@@ -1,24 +1,16 @@
 -- The events so far, and the next one.
-use Rattle.std.proofs.Common.{◌≡◌, List, [], length, refl, sym, subst, arith, rules}
+use Rattle.std.proofs.Common.{◌≡◌, List, ◌∷◌, length, sym, subst, arith, rules}
 use Rattle.std.specs.Prelude.{reverse}
 use Rattle.index_state.specs.Events.{RunsFirst, StoredIndex}
 use Rattle.index_state.specs.declared.events.EventAnswer.{EventAnswer}
-use Rattle.index_state.proofs.PutsStand.{first_lasts, puts_last}
-use Rattle.index_state.proofs.Runs.{closes_after, closes_later, first_ends, first_later, first_more, first_none, first_popped, stops_after, waits_later, wants_self}
+use Rattle.index_state.proofs.PutsStand.{first_lasts, puts_last, stops_unbegun}
+use Rattle.index_state.proofs.Runs.{closes_after, closes_later, first_ends, first_later, first_more, first_popped, stops_after, waits_later}
 use Rattle.index_state.proofs.running.run_events.Goals as goal
 
 pub returns-in_default-clause-ends : goal.returns-in_default-clause-ends
 returns-in_default-clause-ends g c =
-    let started : StoredIndex g.row.S-K.Denot = record { index = c.args.state; store = g.S.Store.shows c.args.store.now } in
-    let wants = wants_self g.S.K.Keeper.told g.S.K.Keeper.shows c.args.state in record {
-      answers = [];
-      rest = c.args.events.items;
-      count = refl;
-      last = c.args.state;
-      runs = first_none started c.args.events.items;
-      wants = wants;
-      lasts = first_lasts g.W.Truth.true_row g.S.K.Keeper.told g.S.K.Keeper.shows c.args.path.now started c.args.events.items [] c.args.events.items started c.args.state c.show_index.ensures (first_none started c.args.events.items) wants;
-    }
+    stops_unbegun g.W.Truth.true_row g.S.K.Keeper.told g.S.K.Keeper.shows c.args.path.now
+    (record { index = c.args.state; store = g.S.Store.shows c.args.store.now }) c.args.events.items (search rules) c.show_index.ensures
 
 pub loop-event-preserved : goal.loop-event-preserved
 loop-event-preserved g c =
@@ -36,8 +28,9 @@ pub returns-in-NoMemory-clause-ends : goal.returns-in-NoMemory-clause-ends
 returns-in-NoMemory-clause-ends g c =
     let started : StoredIndex g.row.S-K.Denot = record { index = c.args.state; store = g.S.Store.shows c.args.store.now } in
     let middle : StoredIndex g.row.S-K.Denot = record { index = c.loop-event.state; store = g.S.Store.shows c.loop-event.store } in
-    stops_after g.W.Truth.true_row g.S.K.Keeper.told g.S.K.Keeper.shows c.args.path.now c.loop-event.invariant.runs (search rules) c.in-NoMemory.ensures
-    (first_lasts g.W.Truth.true_row g.S.K.Keeper.told g.S.K.Keeper.shows c.args.path.now started c.args.events.items c.loop-event.answers.items (reverse c.loop-event.events.items) middle c.in-NoMemory.state c.show_index.ensures c.loop-event.invariant.runs c.in-NoMemory.ensures.wants)
+    let runs = first_popped g.W.Truth.true_row g.S.K.Keeper.told g.S.K.Keeper.shows c.args.path.now c.loop-event.events.items c.pop.new.self.items c.in-Some.event c.loop-event.invariant.runs c.in-Some.ensures.items in
+    stops_after g.W.Truth.true_row g.S.K.Keeper.told g.S.K.Keeper.shows c.args.path.now runs (search rules) c.in-NoMemory.ensures
+    (first_lasts g.W.Truth.true_row g.S.K.Keeper.told g.S.K.Keeper.shows c.args.path.now started c.args.events.items c.loop-event.answers.items (c.in-Some.event ∷ reverse c.pop.new.self.items) middle c.in-NoMemory.state c.show_index.ensures runs c.in-NoMemory.ensures.wants.wants)
 
 pub returns-in-NoMemory-clause-cause : goal.returns-in-NoMemory-clause-cause
 returns-in-NoMemory-clause-cause g c =

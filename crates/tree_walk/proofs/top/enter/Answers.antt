@@ -8,10 +8,15 @@ use Rattle.tree_trait.specs.Dir.{child}
 use Rattle.tree_trait.specs.Entry.{EntryFacts}
 use Rattle.tree_walk.specs.Search.{SearchFacts, with_long}
 use Rattle.tree_walk.specs.Underway.{IsUnderway}
+use Rattle.tree_walk.proofs.LastLemmas.{underway_between}
 use Rattle.tree_walk.proofs.UnderwayLemmas.{long_entry}
 use Rattle.tree_walk.proofs.GoesLemmas.{goes_none, goes_memory}
 use Rattle.tree_walk.proofs.PathLemmas.{child_canonical, too_long}
 use Rattle.tree_walk.proofs.top.enter.Goals as goal
+
+pub returns-in_err-text-clause-goes : goal.returns-in_err-text-clause-goes
+returns-in_err-text-clause-goes g c = λ answers roots rest n.
+    goes_memory c.from_residual.result c.from_residual.ensures.1 (underway_between n.underway)
 
 pub returns-in-Ok-clause-goes : goal.returns-in-Ok-clause-goes
 returns-in-Ok-clause-goes g c = λ answers roots rest n.
@@ -43,3 +48,4 @@ returns-in_ok-add_long-in-Err-clause-goes g c = λ answers roots rest n.
 pub returns-in_err-add_long-in-Err-clause-goes : goal.returns-in_err-add_long-in-Err-clause-goes
 returns-in_err-add_long-in-Err-clause-goes g c = λ answers roots rest n.
     goes_memory c.from_residual-in_err-add_long-in-Err.result c.from_residual-in_err-add_long-in-Err.ensures.1
+    (underway_between n.underway)

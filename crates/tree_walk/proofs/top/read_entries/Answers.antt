@@ -6,7 +6,7 @@ use Rattle.tree_trait.specs.Entry.{EntryFacts}
 use Rattle.tree_trait.specs.Heard.{read_dir}
 use Rattle.tree_walk.specs.Search.{SearchFacts, paid}
 use Rattle.tree_walk.specs.Underway.{IsEntered}
-use Rattle.tree_walk.proofs.LastLemmas.{read_last}
+use Rattle.tree_walk.proofs.LastLemmas.{read_last, underway_between}
 use Rattle.tree_walk.proofs.FileLemmas.{read_into, read_over}
 use Rattle.tree_walk.proofs.GoesLemmas.{goes_on, goes_up, call_fault}
 use Rattle.tree_walk.proofs.top.read_entries.Goals as goal
@@ -15,7 +15,7 @@ pub returns-in_err-content-clause-goes : goal.returns-in_err-content-clause-goes
 returns-in_err-content-clause-goes g c = λ answers roots u.
     goes_up c.from_residual.ensures.1 c.in_err-content.ensures.goes
     (λ more h. call_fault answers more (read_dir c.args.folder.now dir_failed) c.in_err-content.field-0.0
-    (read_last c.args.search.now c.args.folder.now dir_failed u refl) h)
+    (read_last c.args.search.now c.args.folder.now dir_failed u refl) (underway_between u) h)
 
 pub returns-then-pay-clause-goes : goal.returns-then-pay-clause-goes
 returns-then-pay-clause-goes g c = λ answers roots u.
