@@ -1,0 +1,4 @@
+pub mod CompleteLemmas
+pub mod HearLemmas
+mod LocalLemmas
+mod TryLemmas

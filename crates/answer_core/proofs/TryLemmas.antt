@@ -1,0 +1,137 @@
+-- Candidates that are tried one after the other.
+use Rattle.std.proofs.Common.{◌≡◌, ℕ, ◌+◌, ◌<◌, ◌||◌, inl, inr, Bool, true, false, List, [], ◌∷◌, ◌++◌, length, take}
+use Rattle.std.proofs.Common.{get_or, IsTrue, refl, sym, ◌∙◌, ap}
+use Rattle.std.proofs.lemmas.Bool.{false≢true}
+use Rattle.std.proofs.lemmas.List.{take_more}
+use Rattle.std.specs.List.{AllZip, list_any}
+use Rattle.row_types.specs.declared.limits.TheConstants.{FILE_LIMIT}
+use Rattle.tree_trait.specs.Asks.{Asks}
+use Rattle.tree_trait.specs.Heard.{Heard, load, has_failed, wants_memory}
+use Rattle.tree_trait.specs.Load.{LoadFacts, loaded, too_large, gone, failed, no_memory}
+use Rattle.tree_trait.specs.Shown.{ShownTree}
+use Rattle.webapi_routes.specs.declared.route.Route.{Route}
+use Rattle.answer_core.specs.Loads.{DoesNotPass, Hand, HasPassed, HasTried, Hears, Tries}
+use Rattle.answer_core.specs.declared.attempt.Tried.TheVariants as tried
+use Rattle.answer_core.specs.declared.candidate.Candidate.{Candidate}
+use Rattle.answer_core.specs.declared.passed.Passed.{Passed}
+use Rattle.answer_core.proofs.HearLemmas.{hears_as, hears_less, hears_more, hears_none, is_given, is_no_failure, load_is}
+
+zip_more : {A B : Type 0} (R : A → B → Type 0) (xs : List A) (ys : List B) (x : A) (y : B)
+    → AllZip R xs ys → R x y → AllZip R (xs ++ x ∷ []) (ys ++ y ∷ [])
+zip_more R [] [] x y h r = (r, tt)
+zip_more R [] (b ∷ ys) x y h r = absurd h
+zip_more R (a ∷ xs) [] x y h r = absurd h
+zip_more R (a ∷ xs) (b ∷ ys) x y h r = (h.0, zip_more R xs ys x y h.1 r)
+
+or_false : (b : Bool) → (b || false) ≡ b
+or_false true = refl
+or_false false = refl
+
+or_assoc : (a b c : Bool) → (a || (b || c)) ≡ ((a || b) || c)
+or_assoc true b c = refl
+or_assoc false b c = refl
+
+or_true : (b : Bool) → (b || true) ≡ true
+or_true true = refl
+or_true false = refl
+
+any_more : (answers : List Heard) (last : Heard)
+    → list_any has_failed (answers ++ last ∷ []) ≡ (list_any has_failed answers || has_failed last)
+any_more [] last = or_false (has_failed last)
+any_more (x ∷ answers) last =
+    ap (λ b. has_failed x || b) (any_more answers last)
+    ∙ or_assoc (has_failed x) (list_any has_failed answers) (has_failed last)
+
+-- one more of a list is taken
+pub take_one : {X : Type 0} (xs : List X) (i : ℕ) {x : X} → i < length xs → x ≡ get_or xs i x
+    → take i xs ++ x ∷ [] ≡ take (i + 1) xs
+take_one xs i {x} within here = ap (λ z. take i xs ++ z ∷ []) here ∙ sym (take_more xs i x within)
+
+-- before the first load
+pub tried_none : (hand : Hand) (route : Route) → HasTried hand route [] false hand.start
+tried_none hand route = record {
+  answers = [];
+  none = record { none = tt; failed = refl };
+  hears = hears_as (λ (f : IsTrue false). absurd (false≢true f)) (hears_none hand);
+}
+
+-- one more gave nothing that passes
+pub tried_refused : {hand : Hand} {route : Route} {done : List Candidate} {fails : Bool} {now after : ShownTree}
+    (one : Candidate) → HasTried hand route done fails now
+    → Tries hand.told hand.version route one now after tried.Refused
+    → HasTried hand route (done ++ one ∷ []) fails after
+tried_refused {hand} {route} {done} {fails} {now} {after} one h t =
+    let heard : Heard = load one.path FILE_LIMIT t.0 in
+    let sound = is_no_failure one.path FILE_LIMIT t.0 t.3 in
+    record {
+      answers = h.answers ++ heard ∷ [];
+      none = record {
+        none = zip_more (DoesNotPass hand route) done h.answers one heard h.none.none
+            (record { answer = t.0; loads = load_is one t.0 h.hears t.1; nothing = t.2 });
+        failed = any_more h.answers heard ∙ ap (λ b. list_any has_failed h.answers || b) sound
+            ∙ or_false (list_any has_failed h.answers) ∙ h.none.failed;
+      };
+      hears = hears_more heard (is_given one.path FILE_LIMIT t.0 t.3) h.hears t.1 (λ f. inl f);
+    }
+
+-- the load of one more failed
+pub tried_failed : {hand : Hand} {route : Route} {done : List Candidate} {fails : Bool} {now after : ShownTree}
+    (one : Candidate) → HasTried hand route done fails now
+    → Tries hand.told hand.version route one now after tried.Failed
+    → HasTried hand route (done ++ one ∷ []) true after
+tried_failed {hand} {route} {done} {fails} {now} {after} one h t =
+    let heard : Heard = load one.path FILE_LIMIT failed in
+    record {
+      answers = h.answers ++ heard ∷ [];
+      none = record {
+        none = zip_more (DoesNotPass hand route) done h.answers one heard h.none.none
+            (record { answer = failed; loads = load_is one failed h.hears t; nothing = tt });
+        failed = any_more h.answers heard ∙ or_true (list_any has_failed h.answers);
+      };
+      hears = hears_more heard refl h.hears t (λ f. inr refl);
+    }
+
+-- one more passed, the first
+pub tried_passed : {hand : Hand} {route : Route} {all : List Candidate} {fails : Bool} {now after : ShownTree}
+    (place : ℕ) (one : Candidate) (given : Passed) → place < length all → one ≡ get_or all place one
+    → HasTried hand route (take place all) fails now
+    → Tries hand.told hand.version route one now after (tried.Passed given)
+    → HasPassed hand route all place given after
+tried_passed {hand} {route} {all} {fails} {now} {after} place one given within there h t =
+    let heard : Heard = load one.path FILE_LIMIT (loaded t.0) in
+    record {
+      answers = h.answers ++ heard ∷ [];
+      first = record {
+        within = within;
+        one = one;
+        there = there;
+        before = h.answers;
+        none = h.none.none;
+        last = heard;
+        heard = refl;
+        passes = record { found = t.0; loads = load_is one (loaded t.0) h.hears t.1; passes = t.2; gives = t.3 };
+      };
+      hears = hears_more heard refl h.hears t.1 (λ f. absurd f);
+    }
+
+-- memory was refused for one more
+pub tried_memory : {hand : Hand} {route : Route} {done : List Candidate} {fails : Bool} {now after : ShownTree}
+    (one : Candidate) → HasTried hand route done fails now
+    → Tries hand.told hand.version route one now after tried.OutOfMemory
+    → (answers : List Heard) × Hears hand after answers ⊥
+tried_memory {hand} {route} {done} {fails} {now} {after} one h t = ended t.0 t.1
+  where
+    listed : (answer : LoadFacts) → wants_memory (load one.path FILE_LIMIT answer) ≡ false
+        → Asks hand.told hand.version now after (load one.path FILE_LIMIT answer)
+        → (answers : List Heard) × Hears hand after answers ⊥
+    listed answer given asks =
+        let heard : Heard = load one.path FILE_LIMIT answer in
+        (h.answers ++ heard ∷ [], hears_more heard given h.hears asks (λ f. absurd f))
+
+    ended : (answer : LoadFacts) → Asks hand.told hand.version now after (load one.path FILE_LIMIT answer)
+        → (answers : List Heard) × Hears hand after answers ⊥
+    ended (loaded found) asks = listed (loaded found) refl asks
+    ended (too_large stamp) asks = listed (too_large stamp) refl asks
+    ended gone asks = listed gone refl asks
+    ended failed asks = listed failed refl asks
+    ended no_memory asks = (h.answers, hears_less (load one.path FILE_LIMIT no_memory) refl h.hears asks)

@@ -1,0 +1,17 @@
+pub use Rattle.row_types.specs.Row
+pub use Rattle.row_types.specs.Under
+pub use Rattle.index_rows.specs.Classes
+pub use Rattle.index_rows.specs.Log
+pub use Rattle.index_rows.specs.Rows
+pub use Rattle.index_state.specs.Invariant
+pub use Rattle.tree_trait.specs.Asks
+pub use Rattle.tree_trait.specs.Found
+pub use Rattle.tree_trait.specs.Heard
+pub use Rattle.tree_trait.specs.Load
+pub use Rattle.tree_trait.specs.Shown
+pub use Rattle.answer_check.specs.Certified
+pub mod Candidates
+pub mod Loads
+pub mod Local
+pub mod Passing
+pub mod Section

@@ -1,0 +1,111 @@
+-- The loads of the files that may answer a route (this project's rule): one after the other, until one passes.
+use Rattle.std.specs.Prelude.{◌≡◌, ℕ, ◌<◌, Bool, List, [], ◌∷◌, ◌++◌, length, take, IsTrue, slice_index_or}
+use Rattle.std.specs.List.{AllZip, list_any}
+use Rattle.row_types.specs.declared.limits.TheConstants.{FILE_LIMIT}
+use Rattle.tree_trait.specs.Asks.{Asks}
+use Rattle.tree_trait.specs.Found.{FoundFacts, Versions}
+use Rattle.tree_trait.specs.Heard.{Heard, load, has_failed, with_answers}
+use Rattle.tree_trait.specs.Load.{FitsLoad, LoadFacts, TellsLoad, loaded, failed, no_memory}
+use Rattle.tree_trait.specs.Shown.{HandsOn, ShownTree}
+use Rattle.webapi_routes.specs.declared.route.Route.{Route}
+use Rattle.answer_core.specs.Passing.{Gives, GivesNothing, Passes}
+use Rattle.answer_core.specs.declared.attempt.Tried.{Tried}
+use Rattle.answer_core.specs.declared.attempt.Tried.TheVariants as tried
+use Rattle.answer_core.specs.declared.attempts.Outcome.{Outcome}
+use Rattle.answer_core.specs.declared.attempts.Outcome.TheVariants as outcome
+use Rattle.answer_core.specs.declared.candidate.Candidate.{Candidate}
+use Rattle.answer_core.specs.declared.passed.Passed.{Passed}
+
+-- what is known of a hand: whether it tells what it has, the versions of its world's files, and what it showed as the
+-- call began
+pub record Hand : Type 1 where
+  pub told : Bool
+  pub version : Versions
+  pub start : ShownTree
+
+-- the load of a candidate was heard with this answer: within the limit, and by the files that are there, where the hand is
+-- told and still
+pub record IsLoad (hand : Hand) (one : Candidate) (answer : LoadFacts) (heard : Heard) : Type 0 where
+  pub asked : heard ≡ load one.path FILE_LIMIT answer
+  pub fits : FitsLoad hand.version one.path FILE_LIMIT answer
+  pub tells : IsTrue hand.told → hand.start.Still → TellsLoad hand.start.present one.path answer
+
+-- the load of a candidate gave nothing that passes
+pub record DoesNotPass (hand : Hand) (route : Route) (one : Candidate) (heard : Heard) : Type 0 where
+  pub answer : LoadFacts
+  pub loads : IsLoad hand one answer heard
+  pub nothing : GivesNothing route one.class answer
+
+-- the load of a candidate gave bytes that pass, of which this is given
+pub record LoadPasses (hand : Hand) (route : Route) (one : Candidate) (given : Passed) (heard : Heard) : Type 0 where
+  pub found : FoundFacts
+  pub loads : IsLoad hand one (loaded found) heard
+  pub passes : Passes route one.class found.bytes
+  pub gives : Gives route one.class found.bytes given
+
+-- each candidate was loaded, in order, and none passed; some load failed or none did
+pub record NonePasses (hand : Hand) (route : Route) (all : List Candidate) (answers : List Heard) (fails : Bool) : Type 0 where
+  pub none : AllZip (DoesNotPass hand route) all answers
+  pub failed : list_any has_failed answers ≡ fails
+
+-- the candidates were loaded in order up to the one at this place, which is the first that passed
+pub record PassesAt
+    (hand : Hand) (route : Route) (all : List Candidate) (answers : List Heard) (place : ℕ) (given : Passed) : Type 0 where
+  pub within : place < length all
+  pub one : Candidate
+  pub there : one ≡ slice_index_or all place one
+  pub before : List Heard
+  pub none : AllZip (DoesNotPass hand route) (take place all) before
+  pub last : Heard
+  pub heard : answers ≡ before ++ last ∷ []
+  pub passes : LoadPasses hand route one given last
+
+-- the answer says what stands at the path
+abbrev pub IsAnswer : LoadFacts → Type 0
+IsAnswer failed = ⊥
+IsAnswer no_memory = ⊥
+IsAnswer _ = Unit {0}
+
+-- what came of a file that was found
+abbrev pub FitsFound : Route → Candidate → FoundFacts → Tried → Type 0
+FitsFound route one found (tried.Passed given) = Passes route one.class found.bytes × Gives route one.class found.bytes given
+FitsFound route one found tried.Refused = ¬ Passes route one.class found.bytes
+FitsFound route one found tried.Failed = ⊥
+FitsFound route one found tried.OutOfMemory = Unit {0}
+
+-- what came of the load of a candidate
+abbrev pub Tries : Bool → Versions → Route → Candidate → ShownTree → ShownTree → Tried → Type 0
+Tries told version route one before after (tried.Passed given) =
+    (found : FoundFacts) × Asks told version before after (load one.path FILE_LIMIT (loaded found))
+    × Passes route one.class found.bytes × Gives route one.class found.bytes given
+Tries told version route one before after tried.Refused =
+    (answer : LoadFacts) × Asks told version before after (load one.path FILE_LIMIT answer)
+    × GivesNothing route one.class answer × IsAnswer answer
+Tries told version route one before after tried.Failed =
+    Asks told version before after (load one.path FILE_LIMIT failed)
+Tries told version route one before after tried.OutOfMemory =
+    (answer : LoadFacts) × Asks told version before after (load one.path FILE_LIMIT answer)
+
+-- what a hand is known to have been asked since the call began, and whether a load failed
+pub record Hears (hand : Hand) (now : ShownTree) (answers : List Heard) (Fails : Type 0) : Type 0 where
+  pub heard : now.heard ≡ with_answers hand.start.heard answers
+  pub hands : HandsOn hand.told hand.version hand.start now (0 < length answers) Fails
+
+-- these candidates were loaded, in order, and none passed
+pub record HasTried (hand : Hand) (route : Route) (done : List Candidate) (failed : Bool) (now : ShownTree) : Type 0 where
+  pub answers : List Heard
+  pub none : NonePasses hand route done answers failed
+  pub hears : Hears hand now answers (IsTrue failed)
+
+-- the candidate at this place is the first that passed, and this is given
+pub record HasPassed
+    (hand : Hand) (route : Route) (all : List Candidate) (place : ℕ) (given : Passed) (now : ShownTree) : Type 0 where
+  pub answers : List Heard
+  pub first : PassesAt hand route all answers place given
+  pub hears : Hears hand now answers ⊥
+
+-- what came of the loads of all candidates
+abbrev pub TriesAll : Hand → Route → List Candidate → Outcome → ShownTree → Type 0
+TriesAll hand route all (outcome.Passed given place) now = HasPassed hand route all place given now
+TriesAll hand route all (outcome.Nothing fails) now = HasTried hand route all fails now
+TriesAll hand route all outcome.OutOfMemory now = (answers : List Heard) × Hears hand now answers ⊥

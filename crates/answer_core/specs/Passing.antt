@@ -1,0 +1,53 @@
+-- What passes (this project's rule): bytes that are certified for what the route asks, and what is given of them.
+use Rattle.std.specs.Prelude.{◌≡◌, ℕ, List, Option, Some, None}
+use Rattle.answer_check.specs.Certified.{CertifiedFacts, IsCertified}
+use Rattle.row_types.specs.declared.identity.Kind.{Kind}
+use Rattle.row_types.specs.declared.identity.Kind.TheVariants as kind
+use Rattle.tree_trait.specs.Load.{LoadFacts, loaded, no_memory}
+use Rattle.webapi_routes.specs.declared.route.Route.{Route}
+use Rattle.webapi_routes.specs.declared.route.Route.TheVariants.{Debuginfo, Executable, Source, Section}
+use Rattle.answer_core.specs.Section.{HasSectionOf, named}
+use Rattle.answer_core.specs.declared.check.Checked.{Checked}
+use Rattle.answer_core.specs.declared.check.Checked.TheVariants as checked
+use Rattle.answer_core.specs.declared.passed.Passed.{Passed}
+use Rattle.answer_core.specs.declared.passed.Passed.TheVariants as passed
+
+-- the file of a class and an id with these bytes
+abbrev pub file_of : Kind → List ℕ → List ℕ → CertifiedFacts
+file_of class id bytes = record { kind = class; id = id; bytes = bytes }
+
+-- these bytes of a candidate of the class pass: a file of the id and of the class that is asked; for a section a file of
+-- the id and of the candidate's class that has the section; any bytes of a source
+abbrev pub Passes : Route → Option Kind → List ℕ → Type 0
+Passes (Debuginfo id) class bytes = IsCertified kind.Debuginfo id bytes
+Passes (Executable id) class bytes = IsCertified kind.Executable id bytes
+Passes (Section id name) (Some class) bytes = IsCertified class id bytes × HasSectionOf bytes name
+Passes (Section id name) None bytes = ⊥
+Passes (Source id path) class bytes = Unit {0}
+
+-- what is given of bytes that pass: the file, the section of the route's name, the source
+abbrev pub Gives : Route → Option Kind → List ℕ → Passed → Type 0
+Gives (Debuginfo id) class bytes (passed.File file) = file ≡ file_of kind.Debuginfo id bytes
+Gives (Executable id) class bytes (passed.File file) = file ≡ file_of kind.Executable id bytes
+Gives (Section id name) (Some class) bytes (passed.Section section) = section ≡ named (file_of class id bytes) name
+Gives (Source id path) class bytes (passed.Source source) = source.items ≡ bytes
+Gives _ _ _ _ = ⊥
+
+-- the answer to a load gives no bytes that pass; it isn't that memory was refused
+abbrev pub GivesNothing : Route → Option Kind → LoadFacts → Type 0
+GivesNothing route class (loaded found) = ¬ Passes route class found.bytes
+GivesNothing route class no_memory = ⊥
+GivesNothing route class _ = Unit {0}
+
+-- what came of the check of bytes
+abbrev pub Checks : Route → Option Kind → List ℕ → Checked → Type 0
+Checks route class bytes (checked.Passed given) = Passes route class bytes × Gives route class bytes given
+Checks route class bytes checked.Refused = ¬ Passes route class bytes
+Checks route class bytes checked.OutOfMemory = Unit {0}
+
+-- what came of the check of bytes that are to be a file of this class and id
+abbrev pub ChecksFile : Kind → List ℕ → List ℕ → Checked → Type 0
+ChecksFile class id bytes (checked.Passed (passed.File file)) = IsCertified class id bytes × (file ≡ file_of class id bytes)
+ChecksFile class id bytes (checked.Passed _) = ⊥
+ChecksFile class id bytes checked.Refused = ¬ IsCertified class id bytes
+ChecksFile class id bytes checked.OutOfMemory = ⊥

@@ -1,0 +1,44 @@
+//! The loads of candidates, one after the other.
+
+ghost use Rattle.answer_core.specs.Loads.{TriesAll};
+
+use crate::attempt::{Tried, try_one};
+use crate::candidate::Candidate;
+use crate::passed::Passed;
+use row_types::Truth;
+use std::alloc::Global;
+use tree_trait::Tree;
+use webapi_routes::Route;
+
+/// What came of the loads.
+#[derive(Drop)]
+pub(crate) enum Outcome {
+    /// The candidate at this place is the first that passed.
+    Passed { given: Passed, place: usize },
+    /// None passed.
+    Nothing { fails: bool },
+    /// There was not enough memory.
+    OutOfMemory,
+}
+
+/// Loads the candidates in order, until one passes.
+pub(crate) fn try_all<W: Truth, T: Tree<W>>(
+    alloc: Global,
+    hand: &mut T,
+    route: &Route,
+    all: &[Candidate],
+) -> Outcome
+    ensures { TriesAll (record { told = T.told; version = W.version; start = T.shows hand.old })
+        route.now all.now result (T.shows hand.new) }
+{
+    let mut fails = false;
+    for (place, candidate) in all.iter().enumerate() {
+        match try_one(alloc, hand, route, candidate) {
+            Tried::Passed(given) => return Outcome::Passed { given, place },
+            Tried::Refused => {}
+            Tried::Failed => fails = true,
+            Tried::OutOfMemory => return Outcome::OutOfMemory,
+        }
+    }
+    Outcome::Nothing { fails }
+}

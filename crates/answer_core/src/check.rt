@@ -1,0 +1,84 @@
+//! Whether a file that was found passes.
+
+ghost use Rattle.std.specs.Prelude.{◌≡◌, Some, IfOk};
+ghost use Rattle.answer_check.specs.Certified.{IsCertified};
+ghost use Rattle.answer_core.specs.Passing.{Checks, ChecksFile};
+ghost use Rattle.webapi_routes.specs.declared.route.Route.TheVariants as route;
+
+use crate::file_section::FileSection;
+use crate::passed::Passed;
+use answer_check::{Certified, certify};
+use row_types::{BuildId, Kind};
+use std::alloc::{AllocError, Global};
+use webapi_routes::{Route, SectionName};
+
+/// What came of the check of a file.
+#[derive(Drop)]
+pub(crate) enum Checked {
+    /// It passes.
+    Passed(Passed),
+    /// It doesn't.
+    Refused,
+    /// There was not enough memory.
+    OutOfMemory,
+}
+
+/// Checks the bytes that were found of a candidate of this class. They aren't copied.
+pub(crate) fn check(alloc: Global, route: &Route, class: Option<Kind>, bytes: Vec<u8>) -> Checked
+    ensures { Checks route.now class bytes.items result }
+{
+    match (route, class) {
+        (Route::Debuginfo(id), _) => check_file(Kind::Debuginfo, id, bytes),
+        (Route::Executable(id), _) => check_file(Kind::Executable, id, bytes),
+        (Route::Section(id, name), Some(kind)) => check_section(alloc, kind, id, name, bytes),
+        (Route::Section(_, _), None) => Checked::Refused,
+        (Route::Source(_, _), _) => Checked::Passed(Passed::Source(bytes)),
+    }
+}
+
+/// Checks the bytes of a file that is to have this class and id.
+fn check_file(class: Kind, id: &BuildId, bytes: Vec<u8>) -> Checked
+    ensures { ChecksFile class id.now bytes.items result }
+{
+    match certify(class, id, bytes) {
+        Ok(file) => Checked::Passed(Passed::File(file)),
+        Err(_) => Checked::Refused,
+    }
+}
+
+/// Checks the bytes of a file that is to have this class and id, and this section.
+fn check_section(
+    alloc: Global,
+    class: Kind,
+    id: &BuildId,
+    name: &SectionName,
+    bytes: Vec<u8>,
+) -> Checked
+    ensures { Checks (route.Section id.now name.now) (Some class) bytes.items result }
+{
+    match certify(class, id, bytes) {
+        Ok(file) => section_of(alloc, file, name),
+        Err(_) => Checked::Refused,
+    }
+}
+
+/// Looks for the section of a certified file.
+fn section_of(alloc: Global, file: Certified, name: &SectionName) -> Checked
+    requires { IsCertified file.kind file.id file.bytes }
+    ensures { Checks (route.Section file.id name.now) (Some file.kind) file.bytes result }
+{
+    if file.section(name.bytes()).is_none() {
+        return Checked::Refused;
+    }
+    match copy_name(alloc, name) {
+        Ok(name) => Checked::Passed(Passed::Section(FileSection::new(file, name))),
+        Err(_) => Checked::OutOfMemory,
+    }
+}
+
+/// A copy of a section's name.
+fn copy_name(alloc: Global, name: &SectionName) -> Result<SectionName, AllocError>
+    ensures { IfOk result (λ copy. copy ≡ name.now) }
+{
+    Ok(SectionName::new(Vec::from_slice(alloc, name.bytes())?))
+}

@@ -1,0 +1,19 @@
+//! The local answer to a route: the files that may answer it are picked from the rows of a shared
+//! index, loaded in order outside the lock, and certified. Reading requests, asking other servers
+//! and writing replies stand in other crates.
+#![tactic(auto)]
+
+mod attempt;
+mod attempts;
+mod candidate;
+mod check;
+mod file_section;
+mod local;
+mod look_up;
+mod passed;
+#[cfg(test)]
+mod tests;
+
+pub use candidate::Candidate;
+pub use file_section::FileSection;
+pub use local::{Local, answer_local};
