@@ -8,3 +8,4 @@ pub mod PassEnds
 pub mod PassHands
 pub mod PassWalks
 pub mod FullAnswers
+pub mod Loads

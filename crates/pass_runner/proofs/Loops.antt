@@ -1,5 +1,5 @@
 -- The names of a pass, one after the other.
-use Rattle.std.proofs.Common.{◌≡◌, ℕ, ◌≤◌, ◌<◌, Bool, true, false, not, cond, List, [], ◌∷◌, ◌++◌, ◌||◌, length, suc, Option, Some, None, refl, sym, ◌∙◌, ap, subst, arith}
+use Rattle.std.proofs.Common.{◌≡◌, ℕ, ◌+◌, ◌≤◌, ◌<◌, Bool, true, false, not, cond, List, [], ◌∷◌, ◌++◌, ◌||◌, length, suc, Option, Some, None, refl, sym, ◌∙◌, ap, subst, arith}
 use Rattle.std.specs.Prelude.{IfSome}
 use Rattle.std.proofs.lemmas.List.Elements.{All-nil}
 use Rattle.row_types.specs.Faults.{HasCause}
@@ -22,12 +22,14 @@ use Rattle.index_state.proofs.PassSteps.{in_added}
 use Rattle.scan_worker.specs.declared.work_end.WorkEnd.{WorkEnd}
 use Rattle.scan_worker.specs.declared.work_end.WorkEnd.TheVariants.{Empty, Broken, KeeperFault, LogFull, OutOfMemory}
 use Rattle.tree_trait.specs.Found.{Versions}
+use Rattle.tree_trait.specs.Heard.{Heard}
 use Rattle.tree_trait.specs.Shown.{ShownTree}
 use Rattle.pass_runner.specs.Ends.{IsOver, IsRead, IsSettled, ReadsBy, SettlesBy}
-use Rattle.pass_runner.specs.Settled.{IsPassOn, IsWanted, Settles}
-use Rattle.pass_runner.specs.Turns.{Goes, TurnsOver}
+use Rattle.pass_runner.specs.Settled.{IsPassOn, IsWanted, Proceeds, times_loaded, times_named}
+use Rattle.pass_runner.specs.Turns.{Goes, Takes, TurnsOver}
 use Rattle.pass_runner.proofs.Moves.{listens_none, rose_after}
-use Rattle.pass_runner.proofs.Composed.{settles_by, settles_none, settles_then}
+use Rattle.pass_runner.proofs.Composed.{settles_by, settles_none, settles_then, takes_then}
+use Rattle.pass_runner.proofs.Loads.{loads_append, same_names, same_todo, times_cons}
 use Rattle.pass_runner.proofs.Steps.{pass_on}
 
 nothing_before : {X : Type 0} (x : X) (front back : List X) → front ++ back ≡ [] → front ++ x ∷ back ≡ x ∷ []
@@ -61,6 +63,20 @@ module _ {K : Type 0} {old mid : StateFacts K} where
   groomed_under {task} takes =
       takes.taken.under ∙ ap (λ (s : StateFacts K). is_under s.roots task.name.path) (sym takes.same)
 
+  -- and is to be read no more
+  took_todo : {name : NameFacts} → TakesNext old (Some name) mid → (path : List ℕ)
+      → times_named (pass_of old.pass).todo path ≡ times_named (name ∷ []) path + times_named (pass_of mid.pass).todo path
+  took_todo {name} takes path =
+      let was : (pass_of old.pass).todo ≡ name ∷ (pass_of mid.pass).todo
+      = ap (λ (o : Option PassFacts). (pass_of o).todo) takes.taken.was ∙ takes.taken.step.first
+      ∙ ap (λ (o : Option PassFacts). name ∷ (pass_of o).todo) (sym takes.taken.is) in
+      ap (λ (l : List NameFacts). times_named l path) was ∙ times_cons name (pass_of mid.pass).todo path
+
+  groomed_todo : {task : GroomTask} → GroomsNext old (Some task) mid → (pass_of mid.pass).todo ≡ (pass_of old.pass).todo
+  groomed_todo takes =
+      ap (λ (o : Option PassFacts). (pass_of o).todo) takes.taken.is ∙ ap (λ (p : PassFacts). p.todo) takes.taken.step.same
+      ∙ ap (λ (o : Option PassFacts). (pass_of o).todo) (sym takes.taken.was)
+
   -- what goes out to be looked for isn't listed
   pub groomed_apart : {true_row : RowFacts → Type 0} {tells : Bool} {shows : K → ShownKeeper} (answer : Option GroomTask)
       → IndexInvariant true_row tells shows old → GroomsNext old answer mid
@@ -72,18 +88,33 @@ module _ {K : Type 0} {old mid : StateFacts K} where
       ∙ groomed_unlisted takes.taken.step (there IsPass takes.taken.was holds.each_name_in_one_place)
 
 module _ {K : Type 0} {told : Bool} {version : Versions} {shows : K → ShownKeeper} where
+  -- where nothing was loaded, no load took a name
+  takes_none : {before after : ShownTree} {old new : StateFacts K} (does : Proceeds told version shows before after old new)
+      → does.answers ≡ [] → Takes told version shows before after old new
+  takes_none does none = record {
+    does = does;
+    takes = λ path.
+        let loads : times_loaded does.answers path ≡ 0 = ap (λ (l : List Heard). times_loaded l path) none in
+        let left = does.todo path in
+        omega (arith, loads, left);
+  }
+
   -- before the first name
   pub goes_first : {hand : ShownTree} {state : StateFacts K} → state.broken ≡ false → IsPassOn state.pass state.pass
       → Goes told version shows hand hand state state
-  goes_first sound opened = record { settles = settles_none opened; sound = sound; out = λ none. none }
+  goes_first sound opened = record {
+    settles = takes_none (settles_none opened) refl;
+    sound = sound;
+    out = λ none. none;
+  }
 
   -- once a name was taken, if one was there
-  takes_on : {hand : ShownTree} {old mid : StateFacts K} (answer : Option NameFacts) → IsPassOn old.pass old.pass → TakesNext old answer mid
-      → Settles told version shows hand hand old mid
+  abbrev takes_on : {hand : ShownTree} {old mid : StateFacts K} (answer : Option NameFacts) → IsPassOn old.pass old.pass → TakesNext old answer mid
+      → Proceeds told version shows hand hand old mid
   takes_on {old = old} {mid = mid} None opened takes =
       settles_by listens_none (All-nil (IsWanted (pass_of old.pass).listing old.roots (row_names old.rows)))
       (pass_on (subst (λ (o : Option PassFacts). IsPassOn old.pass o) (sym takes.taken.same) opened)
-      (ap (λ (o : Option PassFacts). (pass_of o).missed) takes.taken.same) takes.same)
+      (ap (λ (o : Option PassFacts). (pass_of o).missed) takes.taken.same) (same_todo takes.taken.same) takes.same)
   takes_on {old = old} {mid = mid} (Some name) opened takes =
       settles_by listens_none (All-nil (IsWanted (pass_of old.pass).listing old.roots (row_names old.rows)))
       (pass_on (record {
@@ -95,14 +126,14 @@ module _ {K : Type 0} {told : Bool} {version : Versions} {shows : K → ShownKee
       })
       (ap (λ (o : Option PassFacts). (pass_of o).missed) takes.taken.is
       ∙ ap (λ (p : PassFacts). p.missed) takes.taken.step.same
-      ∙ ap (λ (o : Option PassFacts). (pass_of o).missed) (sym takes.taken.was)) takes.same)
+      ∙ ap (λ (o : Option PassFacts). (pass_of o).missed) (sym takes.taken.was)) (λ path. let e = took_todo takes path in omega (arith, e)) takes.same)
 
-  grooms_on : {hand : ShownTree} {old mid : StateFacts K} (answer : Option GroomTask) → IsPassOn old.pass old.pass → GroomsNext old answer mid
-      → Settles told version shows hand hand old mid
+  abbrev grooms_on : {hand : ShownTree} {old mid : StateFacts K} (answer : Option GroomTask) → IsPassOn old.pass old.pass → GroomsNext old answer mid
+      → Proceeds told version shows hand hand old mid
   grooms_on {old = old} {mid = mid} None opened takes =
       settles_by listens_none (All-nil (IsWanted (pass_of old.pass).listing old.roots (row_names old.rows)))
       (pass_on (subst (λ (o : Option PassFacts). IsPassOn old.pass o) (sym takes.taken.same) opened)
-      (ap (λ (o : Option PassFacts). (pass_of o).missed) takes.taken.same) takes.same)
+      (ap (λ (o : Option PassFacts). (pass_of o).missed) takes.taken.same) (same_todo takes.taken.same) takes.same)
   grooms_on {old = old} {mid = mid} (Some task) opened takes =
       settles_by listens_none (All-nil (IsWanted (pass_of old.pass).listing old.roots (row_names old.rows)))
       (pass_on (record {
@@ -114,10 +145,10 @@ module _ {K : Type 0} {told : Bool} {version : Versions} {shows : K → ShownKee
       })
       (ap (λ (o : Option PassFacts). (pass_of o).missed) takes.taken.is
       ∙ ap (λ (p : PassFacts). p.missed) takes.taken.step.same
-      ∙ ap (λ (o : Option PassFacts). (pass_of o).missed) (sym takes.taken.was)) takes.same)
+      ∙ ap (λ (o : Option PassFacts). (pass_of o).missed) (sym takes.taken.was)) (same_names (groomed_todo takes)) takes.same)
 
   -- the pass is still open
-  pub open_still : {before after : ShownTree} {start old : StateFacts K} → Settles told version shows before after start old → IsPassOn old.pass old.pass
+  pub open_still : {before after : ShownTree} {start old : StateFacts K} → Proceeds told version shows before after start old → IsPassOn old.pass old.pass
   open_still settles = record {
     from = settles.pass.into;
     into = settles.pass.into;
@@ -138,20 +169,48 @@ module _ {K : Type 0} {told : Bool} {version : Versions} {shows : K → ShownKee
 module _ {K : Type 0} {told : Bool} {version : Versions} {shows : K → ShownKeeper} {before between after : ShownTree} {start old mid new : StateFacts K} where
   -- what was settled once the next name's turn is over
   pub took_settled : {name : NameFacts} {end : Option WorkEnd} → Goes told version shows before between start old
-      → TakesNext old (Some name) mid → TurnsOver told version shows name between after mid new end
-      → Settles told version shows before after start new
+      → TakesNext old (Some name) mid → TurnsOver told version shows (name ∷ []) name between after mid new end
+      → Takes told version shows before after start new
   took_settled {name} so takes turn =
-      settles_then (settles_then so.settles (takes_on (Some name) (open_still so.settles) takes)) turn.settles
+      let first : Proceeds told version shows between between old mid = takes_on (Some name) (open_still so.settles.does) takes in
+      record {
+        does = settles_then (settles_then so.settles.does first) turn.settles;
+        takes = λ path.
+            let all : times_loaded (settles_then (settles_then so.settles.does first) turn.settles).answers path
+            ≡ times_loaded (so.settles.does.answers ++ []) path + times_loaded turn.settles.answers path
+            = loads_append (so.settles.does.answers ++ []) turn.settles.answers path in
+            let none : times_loaded (so.settles.does.answers ++ []) path ≡ times_loaded so.settles.does.answers path + 0
+            = loads_append so.settles.does.answers [] path in
+            let before = so.settles.takes path in
+            let out = took_todo takes path in
+            let here = turn.loads path in
+            let left = turn.settles.todo path in
+            omega (arith, all, none, before, out, here, left);
+      }
 
   pub groomed_settled : {task : GroomTask} {end : Option WorkEnd} → Goes told version shows before between start old
-      → GroomsNext old (Some task) mid → TurnsOver told version shows task.name between after mid new end
-      → Settles told version shows before after start new
+      → GroomsNext old (Some task) mid → TurnsOver told version shows [] task.name between after mid new end
+      → Takes told version shows before after start new
   groomed_settled {task} so takes turn =
-      settles_then (settles_then so.settles (grooms_on (Some task) (open_still so.settles) takes)) turn.settles
+      let first : Proceeds told version shows between between old mid = grooms_on (Some task) (open_still so.settles.does) takes in
+      record {
+        does = settles_then (settles_then so.settles.does first) turn.settles;
+        takes = λ path.
+            let all : times_loaded (settles_then (settles_then so.settles.does first) turn.settles).answers path
+            ≡ times_loaded (so.settles.does.answers ++ []) path + times_loaded turn.settles.answers path
+            = loads_append (so.settles.does.answers ++ []) turn.settles.answers path in
+            let none : times_loaded (so.settles.does.answers ++ []) path ≡ times_loaded so.settles.does.answers path + 0
+            = loads_append so.settles.does.answers [] path in
+            let before = so.settles.takes path in
+            let out = ap (λ (l : List NameFacts). times_named l path) (groomed_todo takes) in
+            let here : times_loaded turn.settles.answers path ≤ 0 = turn.loads path in
+            let left = turn.settles.todo path in
+            omega (arith, all, none, before, out, here, left);
+      }
 
   -- and it goes on
   pub took_goes : {name : NameFacts} → Goes told version shows before between start old
-      → TakesNext old (Some name) mid → TurnsOver told version shows name between after mid new None
+      → TakesNext old (Some name) mid → TurnsOver told version shows (name ∷ []) name between after mid new None
       → Goes told version shows before after start new
   took_goes {name} so takes turn = record {
     settles = took_settled so takes turn;
@@ -163,7 +222,7 @@ module _ {K : Type 0} {told : Bool} {version : Versions} {shows : K → ShownKee
   }
 
   pub groomed_goes : {task : GroomTask} → Goes told version shows before between start old
-      → GroomsNext old (Some task) mid → TurnsOver told version shows task.name between after mid new None
+      → GroomsNext old (Some task) mid → TurnsOver told version shows [] task.name between after mid new None
       → Goes told version shows before after start new
   groomed_goes {task} so takes turn = record {
     settles = groomed_settled so takes turn;
@@ -205,16 +264,16 @@ module _ {K : Type 0} {old mid new : StateFacts K} where
       ∙ ap (λ (p : PassFacts). p.todo) takes.taken.step.same
       ∙ ap (λ (o : Option PassFacts). (pass_of o).todo) (sym takes.taken.was) ∙ none)
 
-module _ {K : Type 0} {told : Bool} {version : Versions} {shows : K → ShownKeeper} {between after : ShownTree} {mid new : StateFacts K} {name : NameFacts} (start : StateFacts K) where
+module _ {K : Type 0} {told : Bool} {version : Versions} {shows : K → ShownKeeper} {between after : ShownTree} {mid new : StateFacts K} {reads : List NameFacts} {name : NameFacts} (start : StateFacts K) where
   -- the end of a turn ends the settling
-  pub ends_reading : (end : WorkEnd) → TurnsOver told version shows name between after mid new (Some end) → ReadsBy start new end
+  pub ends_reading : (end : WorkEnd) → TurnsOver told version shows reads name between after mid new (Some end) → ReadsBy start new end
   ends_reading Empty turn = absurd turn.ends
   ends_reading Broken turn = absurd turn.ends
   ends_reading KeeperFault turn = turn.ends
   ends_reading LogFull turn = turn.ends
   ends_reading OutOfMemory turn = turn.ends
 
-  pub ends_looking : (end : WorkEnd) → TurnsOver told version shows name between after mid new (Some end) → SettlesBy start new end
+  pub ends_looking : (end : WorkEnd) → TurnsOver told version shows reads name between after mid new (Some end) → SettlesBy start new end
   ends_looking Empty turn = absurd turn.ends
   ends_looking Broken turn = absurd turn.ends
   ends_looking KeeperFault turn = turn.ends
@@ -230,25 +289,25 @@ cause_later {a} {b} {c} later so h = record {
 
 module _ {K : Type 0} {told : Bool} {version : Versions} {shows : K → ShownKeeper} {before between after : ShownTree} {start old mid new : StateFacts K} where
   pub took_cause : {name : NameFacts} {end : WorkEnd} → Goes told version shows before between start old
-      → TakesNext old (Some name) mid → TurnsOver told version shows name between after mid new (Some end)
+      → TakesNext old (Some name) mid → TurnsOver told version shows (name ∷ []) name between after mid new (Some end)
       → HasCause (shows start.keeper).faults (shows new.keeper).faults (end ≡ KeeperFault)
   took_cause so takes turn =
       let same : (shows mid.keeper).faults ≡ (shows old.keeper).faults = ap (λ (s : StateFacts K). (shows s.keeper).faults) takes.same in
-      let first : (shows start.keeper).faults ≤ (shows old.keeper).faults = so.settles.keeper in
+      let first : (shows start.keeper).faults ≤ (shows old.keeper).faults = so.settles.does.keeper in
       cause_later (omega (arith, same, first)) (λ is. ap Some is) turn.keeper
 
   pub groomed_cause : {task : GroomTask} {end : WorkEnd} → Goes told version shows before between start old
-      → GroomsNext old (Some task) mid → TurnsOver told version shows task.name between after mid new (Some end)
+      → GroomsNext old (Some task) mid → TurnsOver told version shows [] task.name between after mid new (Some end)
       → HasCause (shows start.keeper).faults (shows new.keeper).faults (end ≡ KeeperFault)
   groomed_cause so takes turn =
       let same : (shows mid.keeper).faults ≡ (shows old.keeper).faults = ap (λ (s : StateFacts K). (shows s.keeper).faults) takes.same in
-      let first : (shows start.keeper).faults ≤ (shows old.keeper).faults = so.settles.keeper in
+      let first : (shows start.keeper).faults ≤ (shows old.keeper).faults = so.settles.does.keeper in
       cause_later (omega (arith, same, first)) (λ is. ap Some is) turn.keeper
 
 -- no name is left
 module _ {K : Type 0} {told : Bool} {version : Versions} {shows : K → ShownKeeper} {before after : ShownTree} {start old new : StateFacts K} where
-  pub reads_all : Goes told version shows before after start old → TakesNext old None new → Settles told version shows before after start new
-  reads_all so takes = settles_then so.settles (takes_on None (open_still so.settles) takes)
+  pub reads_all : Goes told version shows before after start old → TakesNext old None new → Takes told version shows before after start new
+  reads_all so takes = takes_then so.settles (takes_none (takes_on None (open_still so.settles.does) takes) refl)
 
   pub is_read : Goes told version shows before after start old → TakesNext old None new → IsRead start new
   is_read so takes = record {
@@ -257,8 +316,8 @@ module _ {K : Type 0} {told : Bool} {version : Versions} {shows : K → ShownKee
     out = λ none. ap (λ (o : Option PassFacts). (pass_of o).out) takes.taken.same ∙ so.out none;
   }
 
-  pub looks_at_all : Goes told version shows before after start old → GroomsNext old None new → Settles told version shows before after start new
-  looks_at_all so takes = settles_then so.settles (grooms_on None (open_still so.settles) takes)
+  pub looks_at_all : Goes told version shows before after start old → GroomsNext old None new → Takes told version shows before after start new
+  looks_at_all so takes = takes_then so.settles (takes_none (grooms_on None (open_still so.settles.does) takes) refl)
 
   pub is_settled : Goes told version shows before after start old → (pass_of old.pass).todo ≡ [] → GroomsNext old None new → IsSettled start new
   is_settled so read takes = record {
@@ -270,9 +329,9 @@ module _ {K : Type 0} {told : Bool} {version : Versions} {shows : K → ShownKee
 
 -- an end that isn't the keeper's owes no fault of it
 pub quiet_cause : {K : Type 0} {told : Bool} {version : Versions} {shows : K → ShownKeeper} {before after : ShownTree}
-    {start new : StateFacts K} {end : WorkEnd} → (end ≡ KeeperFault → ⊥) → Settles told version shows before after start new
+    {start new : StateFacts K} {end : WorkEnd} → (end ≡ KeeperFault → ⊥) → Takes told version shows before after start new
     → HasCause (shows start.keeper).faults (shows new.keeper).faults (end ≡ KeeperFault)
-quiet_cause never settles = record { later = settles.keeper; rose = λ is. absurd (never is) }
+quiet_cause never settles = record { later = settles.does.keeper; rose = λ is. absurd (never is) }
 
 -- the rows are looked for once the listed files were read
 module _ {K : Type 0} {old mid : StateFacts K} (new : StateFacts K) where

@@ -175,6 +175,7 @@ module _ (some more : List Heard) {Failed Fails : Type 0} (among : (h : Heard) �
         All-weaker (IsMissBy (pass_of old.pass).listing (row_names old.rows) (pass_of old.pass).missed some Failed)
         (IsMissBy (pass_of old.pass).listing (row_names old.rows) (pass_of old.pass).missed more Fails)
         (miss_as (pass_of old.pass).listing (row_names old.rows) (pass_of old.pass).missed) (pass_of new.pass).missed on.missed;
+    todo = on.todo;
   }
 
 -- the names that were missed before
@@ -239,6 +240,7 @@ advances_then {K} {shows} {xs} {ys} {First} {Second} {Failed} {old} {mid} {new} 
           All-weaker (Later (pass_of old.pass).listing) (Sooner (pass_of old.pass).listing) (λ m why. before m why)
           (pass_of new.pass).missed
           (subst (λ (l : List NameFacts). All (Later l) (pass_of new.pass).missed) listing b.missed);
+      todo = λ path. let first = p.todo path in let later = q.todo path in omega (arith, first, later);
     }
   where
     brought : (row : RowFacts) → IsBrought mid.rows (xs ++ ys) row → IsBrought old.rows (xs ++ ys) row

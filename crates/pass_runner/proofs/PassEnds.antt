@@ -100,7 +100,7 @@ module _ {K : Type 0} {told : Bool} {version : Versions} {shows : K → ShownKee
   pub handed_out : IsFresh old → Settles told version shows before after old new → IsSettled old new → IsHandedOut new
   handed_out fresh settles ends = record {
     sound = ends.sound;
-    is_open = record { from = settles.pass.into; into = settles.pass.into; was = settles.pass.is; is = settles.pass.is; over = refl };
+    is_open = record { from = settles.does.pass.into; into = settles.does.pass.into; was = settles.does.pass.is; is = settles.does.pass.is; over = refl };
     todo = ends.todo;
     out = ends.out fresh.out;
     groom = ends.groom;
@@ -108,14 +108,14 @@ module _ {K : Type 0} {told : Bool} {version : Versions} {shows : K → ShownKee
 
   -- each name that was missed has its reason
   pub all_backed : (pass_of old.pass).missed ≡ [] → (settles : Settles told version shows before after old new)
-      → All (λ (miss : Miss). IsBacked (pass_of old.pass).listing (row_names old.rows) settles.answers (Rose before.faults after.faults) miss.name miss.cause)
+      → All (λ (miss : Miss). IsBacked (pass_of old.pass).listing (row_names old.rows) settles.does.answers (Rose before.faults after.faults) miss.name miss.cause)
       (pass_of new.pass).missed
   all_backed none settles =
-      All-weaker (IsMissBy (pass_of old.pass).listing (row_names old.rows) [] settles.answers (Rose before.faults after.faults))
-      (λ (miss : Miss). IsBacked (pass_of old.pass).listing (row_names old.rows) settles.answers (Rose before.faults after.faults) miss.name miss.cause)
-      (backed_alone (pass_of old.pass).listing (row_names old.rows) settles.answers (Rose before.faults after.faults)) (pass_of new.pass).missed
-      (subst (λ (ms : List Miss). All (IsMissBy (pass_of old.pass).listing (row_names old.rows) ms settles.answers (Rose before.faults after.faults)) (pass_of new.pass).missed)
-      none settles.missed)
+      All-weaker (IsMissBy (pass_of old.pass).listing (row_names old.rows) [] settles.does.answers (Rose before.faults after.faults))
+      (λ (miss : Miss). IsBacked (pass_of old.pass).listing (row_names old.rows) settles.does.answers (Rose before.faults after.faults) miss.name miss.cause)
+      (backed_alone (pass_of old.pass).listing (row_names old.rows) settles.does.answers (Rose before.faults after.faults)) (pass_of new.pass).missed
+      (subst (λ (ms : List Miss). All (IsMissBy (pass_of old.pass).listing (row_names old.rows) ms settles.does.answers (Rose before.faults after.faults)) (pass_of new.pass).missed)
+      none settles.does.missed)
 
 -- the end by what is left
 pub begun_done : {K : Type 0} {told : Bool} {shows : K → ShownKeeper} {before after : ShownTree} {old new : StateFacts K}
@@ -126,7 +126,7 @@ begun_done {shows = shows} {new = new} world tells {plan} (Whole summary) planne
   settles = settles;
   ends = record {
     complete =
-        subst (λ (l : List NameFacts). CompletePass world.told world.true_row tells shows l new) (same_listing settles.pass) h.complete;
+        subst (λ (l : List NameFacts). CompletePass world.told world.true_row tells shows l new) (same_listing settles.does.pass) h.complete;
     whole = h.whole;
     sound = sound;
     numbers = h.numbers ∙ ap (λ (p : Plan). summary_of p new.rows) planned;
@@ -145,8 +145,8 @@ pub begun_fault : {K : Type 0} (world : Rules) (told tells : Bool) (shows : K �
     (old new : StateFacts K) (end : PassEnd) → IsFresh old → EndsBegun world told tells shows before after old new end
     → IsTrue (is_hand_fault end) → Rose before.faults after.faults
 begun_fault world told tells shows before after old new (Missed miss) fresh h fault =
-    backed_fault (pass_of old.pass).listing (row_names old.rows) h.settles.answers (Rose before.faults after.faults) miss.name miss.cause
-    (first_is (λ (m : Miss). IsBacked (pass_of old.pass).listing (row_names old.rows) h.settles.answers (Rose before.faults after.faults) m.name m.cause)
+    backed_fault (pass_of old.pass).listing (row_names old.rows) h.settles.does.answers (Rose before.faults after.faults) miss.name miss.cause
+    (first_is (λ (m : Miss). IsBacked (pass_of old.pass).listing (row_names old.rows) h.settles.does.answers (Rose before.faults after.faults) m.name m.cause)
     (pass_of new.pass).missed miss (all_backed fresh.missed h.settles) h.ends.first) fault
 begun_fault world told tells shows before after old new (Walk fault) fresh h f = absurd h
 begun_fault world told tells shows before after old new (Whole summary) fresh h f = absurd (true≢false (sym f))

@@ -46,70 +46,71 @@ module _ {K : Type 0} (world : Rules) (old : StateFacts K) {told : Bool} {shows 
     (hands : HandsOn told world.version before met Asked Fails)
     (settles : Settles told world.version shows met after (after_begin walk.listing roots old) new) where
   -- what the hand heard, of the walk and of the settling
-  heard_pass : HearsPass told world.version roots (row_names old.rows) walk walks.goes.more settles.answers before after
+  heard_pass : HearsPass told world.version roots (row_names old.rows) walk walks.goes.more settles.does.answers before after
   heard_pass = record {
-    heard = heard_both before.heard met.heard after.heard walks.goes.more settles.answers walks.goes.heard settles.heard;
+    heard = heard_both before.heard met.heard after.heard walks.goes.more settles.does.answers walks.goes.heard settles.does.heard;
     whole = walks.goes.ends;
-    full = full_stays walk.listing roots (row_names old.rows) walks.goes.more settles.answers settles.wanted walks.goes.ends.full;
+    full = full_stays walk.listing roots (row_names old.rows) walks.goes.more settles.does.answers settles.does.wanted walks.goes.ends.full;
     listing =
-        listing_stays walk.listing roots (row_names old.rows) walks.goes.more settles.answers settles.wanted walks.goes.ends.full
+        listing_stays walk.listing roots (row_names old.rows) walks.goes.more settles.does.answers settles.does.wanted walks.goes.ends.full
         walk.listing walks.goes.ends.listing;
-    wanted = settles.wanted;
-    fits = settles.fits;
+    wanted = settles.does.wanted;
+    once = settles.once;
+    fits = settles.does.fits;
     tells = λ t.
-        All-append (IsTold before.present) walks.goes.more settles.answers (walks.goes.tells t.0 t.1)
-        (subst (λ (names : List NameFacts). All (IsTold names) settles.answers) (hands.still t.1).same
-        (settles.tells t.0 (hands.still t.1).still));
+        All-append (IsTold before.present) walks.goes.more settles.does.answers (walks.goes.tells t.0 t.1)
+        (subst (λ (names : List NameFacts). All (IsTold names) settles.does.answers) (hands.still t.1).same
+        (settles.does.tells t.0 (hands.still t.1).still));
     under = under;
   }
 
   -- a count that rose in the settling rose in the pass
-  fault_late : (miss : Miss) → IsBacked walk.listing (row_names old.rows) settles.answers (Rose met.faults after.faults) miss.name miss.cause
-      → IsBacked walk.listing (row_names old.rows) settles.answers (Rose before.faults after.faults) miss.name miss.cause
-  fault_late miss why = backed_so walk.listing (row_names old.rows) settles.answers (rose_later before.faults met.faults after.faults hands.cause.later) miss.name miss.cause why
+  fault_late : (miss : Miss) → IsBacked walk.listing (row_names old.rows) settles.does.answers (Rose met.faults after.faults) miss.name miss.cause
+      → IsBacked walk.listing (row_names old.rows) settles.does.answers (Rose before.faults after.faults) miss.name miss.cause
+  fault_late miss why = backed_so walk.listing (row_names old.rows) settles.does.answers (rose_later before.faults met.faults after.faults hands.cause.later) miss.name miss.cause why
 
-  backed_new : All (λ (miss : Miss). IsBacked walk.listing (row_names old.rows) settles.answers (Rose before.faults after.faults) miss.name miss.cause)
+  backed_new : All (λ (miss : Miss). IsBacked walk.listing (row_names old.rows) settles.does.answers (Rose before.faults after.faults) miss.name miss.cause)
       (pass_of new.pass).missed
   backed_new =
-      All-weaker (λ (miss : Miss). IsBacked walk.listing (row_names old.rows) settles.answers (Rose met.faults after.faults) miss.name miss.cause)
-      (λ (miss : Miss). IsBacked walk.listing (row_names old.rows) settles.answers (Rose before.faults after.faults) miss.name miss.cause)
+      All-weaker (λ (miss : Miss). IsBacked walk.listing (row_names old.rows) settles.does.answers (Rose met.faults after.faults) miss.name miss.cause)
+      (λ (miss : Miss). IsBacked walk.listing (row_names old.rows) settles.does.answers (Rose before.faults after.faults) miss.name miss.cause)
       fault_late (pass_of new.pass).missed (all_backed refl settles)
 
   -- what it left of the index
-  left_index : LeavesIndex roots walk.listing settles.answers (Rose before.faults after.faults) old new
+  left_index : LeavesIndex roots walk.listing settles.does.answers (Rose before.faults after.faults) old new
   left_index = record {
-    pass = settles.pass.into;
-    is_open = settles.pass.is;
-    over = sym (ap (λ (o : Option PassFacts). (pass_of o).listing) settles.pass.is) ∙ same_listing settles.pass;
-    roots = settles.roots;
-    origin = settles.origin;
-    stays = settles.stays;
-    goes = settles.goes;
-    comes = settles.comes;
-    brings = settles.brings;
+    pass = settles.does.pass.into;
+    is_open = settles.does.pass.is;
+    over = sym (ap (λ (o : Option PassFacts). (pass_of o).listing) settles.does.pass.is) ∙ same_listing settles.does.pass;
+    roots = settles.does.roots;
+    origin = settles.does.origin;
+    stays = settles.does.stays;
+    goes = settles.does.goes;
+    comes = settles.does.comes;
+    brings = settles.does.brings;
     missed =
-        subst (λ (o : Option PassFacts). All (λ (miss : Miss). IsBacked walk.listing (row_names old.rows) settles.answers (Rose before.faults after.faults) miss.name miss.cause) (pass_of o).missed)
-        settles.pass.is backed_new;
+        subst (λ (o : Option PassFacts). All (λ (miss : Miss). IsBacked walk.listing (row_names old.rows) settles.does.answers (Rose before.faults after.faults) miss.name miss.cause) (pass_of o).missed)
+        settles.does.pass.is backed_new;
   }
 
   -- and both, with the end
-  pub runs_pass : (Ends : List NameFacts → List Heard → Type 0) → Ends walk.listing settles.answers
+  pub runs_pass : (Ends : List NameFacts → List Heard → Type 0) → Ends walk.listing settles.does.answers
       → RunsPass world told roots before after old new Ends
   runs_pass Ends ends = record {
     walk = walk;
     walked = walks.goes.more;
-    more = settles.answers;
+    more = settles.does.answers;
     hears = heard_pass;
     leaves = left_index;
     ends = ends;
   }
 
   pub runs_to_miss : (miss : Miss) → IsFirstMiss miss new
-      → HasMissed miss (Rose before.faults after.faults) old new walk.listing settles.answers
+      → HasMissed miss (Rose before.faults after.faults) old new walk.listing settles.does.answers
   runs_to_miss miss h = record {
     first = h.first;
     why =
-        first_is (λ (m : Miss). IsBacked walk.listing (row_names old.rows) settles.answers (Rose before.faults after.faults) m.name m.cause)
+        first_is (λ (m : Miss). IsBacked walk.listing (row_names old.rows) settles.does.answers (Rose before.faults after.faults) m.name m.cause)
         (pass_of new.pass).missed miss backed_new h.first;
     sound = h.sound;
   }

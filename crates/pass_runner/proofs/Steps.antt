@@ -29,9 +29,10 @@ use Rattle.tree_trait.specs.Heard.{Heard, stat}
 use Rattle.tree_trait.specs.declared.stat.StatAnswer.{StatAnswer}
 use Rattle.tree_trait.specs.declared.stat.StatAnswer.TheVariants.{Folder, File, Other, Gone, Failed, OutOfMemory}
 use Rattle.pass_runner.specs.Ends.{IsOver}
-use Rattle.pass_runner.specs.Settled.{IsBacked, IsBrought, IsMissBy, IsMissing, IsPassOn, IsReadOf, IsSeenGone}
+use Rattle.pass_runner.specs.Settled.{IsBacked, IsBrought, IsMissBy, IsMissing, IsPassOn, IsReadOf, IsSeenGone, times_named}
 use Rattle.pass_runner.specs.Turns.{Advances, HasSeen, looked_of}
 use Rattle.pass_runner.specs.declared.look_for.Looked.TheVariants as looked
+use Rattle.pass_runner.proofs.Loads.{same_names, same_todo, times_left}
 use Rattle.pass_runner.proofs.Moves.{still_brought, still_missed}
 use Rattle.pass_runner.proofs.NameLists.{drop_comes, drop_goes, drop_stays, put_comes, put_goes, put_stays}
 
@@ -98,13 +99,15 @@ module _ {K : Type 0} {shows : K → ShownKeeper} {old new : StateFacts K} where
     missed =
         subst (λ (o : Option PassFacts). All (IsMissBy (pass_of old.pass).listing (row_names old.rows) (pass_of old.pass).missed answers F) (pass_of o).missed)
         (sym pass) (still_missed (pass_of old.pass).listing (row_names old.rows) (pass_of old.pass).missed answers F);
+    todo = same_todo pass;
   }
 
   -- the pass alone changed, and no name was missed
   pub pass_on : {F : Type 0} {answers : List Heard} → IsPassOn old.pass new.pass
-      → (pass_of new.pass).missed ≡ (pass_of old.pass).missed → new ≡ record old { pass = new.pass }
-      → Advances shows answers F old new
-  pass_on {F} {answers} on missed same = record {
+      → (pass_of new.pass).missed ≡ (pass_of old.pass).missed
+      → ((path : List ℕ) → times_named (pass_of new.pass).todo path ≤ times_named (pass_of old.pass).todo path)
+      → new ≡ record old { pass = new.pass } → Advances shows answers F old new
+  pass_on {F} {answers} on missed todo same = record {
     keeper = let e = ap (λ (s : StateFacts K). (shows s.keeper).faults) same in omega (arith, e);
     pass = on;
     roots = ap (λ (s : StateFacts K). s.roots) same;
@@ -120,6 +123,7 @@ module _ {K : Type 0} {shows : K → ShownKeeper} {old new : StateFacts K} where
     missed =
         subst (λ (ms : List Miss). All (IsMissBy (pass_of old.pass).listing (row_names old.rows) (pass_of old.pass).missed answers F) ms) (sym missed)
         (still_missed (pass_of old.pass).listing (row_names old.rows) (pass_of old.pass).missed answers F);
+    todo = todo;
   }
 
   -- a name whose row stands no more, or by another stamp, left
@@ -136,6 +140,7 @@ module _ {K : Type 0} {shows : K → ShownKeeper} {old new : StateFacts K} where
         comes = λ n stands fresh. absurd (true≢false (sym stands ∙ fresh));
         brings = still_brought old.rows answers;
         missed = left_missed name old.pass (row_names old.rows) answers F;
+        todo = times_left name old.pass;
       })
 
   -- the row of a listed name was put
@@ -157,6 +162,7 @@ module _ {K : Type 0} {shows : K → ShownKeeper} {old new : StateFacts K} where
         comes = put_comes row (pass_of old.pass).listing old.rows awaited.listed;
         brings = put_holds (IsBrought old.rows answers) row_path row old.rows (still_brought old.rows answers) (inr read);
         missed = left_missed row.name old.pass (row_names old.rows) answers F;
+        todo = times_left row.name old.pass;
       })
 
 -- what was seen shows that the file is gone
@@ -266,10 +272,14 @@ module _ {K : Type 0} {shows : K → ShownKeeper} {old new : StateFacts K} where
             (sym misses.missed.was)
             (added_miss (pass_of old.pass).listing (row_names old.rows) (record { name = name; cause = cause }) misses.missed.from.missed misses.missed.into.missed answers F
             misses.missed.step.missed why));
+        todo =
+            same_names
+            (ap (λ (o : Option PassFacts). (pass_of o).todo) misses.missed.is ∙ ap (λ (p : PassFacts). p.todo) misses.missed.step.same
+            ∙ ap (λ (o : Option PassFacts). (pass_of o).todo) (sym misses.missed.was));
       }
   missed_on {F} {answers} false opened misses why =
       pass_on (subst (λ (o : Option PassFacts). IsPassOn old.pass o) (sym misses.missed.same) opened)
-      (ap (λ (o : Option PassFacts). (pass_of o).missed) misses.missed.same) misses.same
+      (ap (λ (o : Option PassFacts). (pass_of o).missed) misses.missed.same) (same_todo misses.missed.same) misses.same
 
   -- the row of a name that isn't listed was dropped
   pub removed_on : {F : Type 0} {answers : List Heard} {true_row : RowFacts → Type 0} {tells : Bool} {name : NameFacts} {met : Seen}
@@ -297,6 +307,7 @@ module _ {K : Type 0} {shows : K → ShownKeeper} {old new : StateFacts K} where
             All-filter (λ (r : RowFacts). not (bytes_eq (row_path r) name.path)) (IsBrought old.rows answers) old.rows
             (still_brought old.rows answers);
         missed = left_missed name old.pass (row_names old.rows) answers F;
+        todo = times_left name old.pass;
       })
 
 module _ {K : Type 0} {old new : StateFacts K} where

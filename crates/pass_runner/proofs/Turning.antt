@@ -1,5 +1,5 @@
 -- What becomes of a name that was handed out.
-use Rattle.std.proofs.Common.{◌≡◌, ◌≢◌, ℕ, Bool, true, false, List, [], Option, Some, None, refl, sym, ◌∙◌, ap, subst, arith, IsTrue}
+use Rattle.std.proofs.Common.{◌≡◌, ◌≢◌, ℕ, ◌≤◌, Bool, true, false, List, [], ◌∷◌, Option, Some, None, refl, sym, ◌∙◌, ap, subst, arith, IsTrue}
 use Rattle.std.specs.List.{All, Contains}
 use Rattle.std.proofs.lemmas.Bool.{true≢false}
 use Rattle.std.proofs.lemmas.List.Elements.{All-nil, All-weaker}
@@ -30,9 +30,10 @@ use Rattle.tree_trait.specs.Shown.{ShownTree}
 use Rattle.tree_trait.specs.declared.stat.StatAnswer.{StatAnswer}
 use Rattle.tree_trait.specs.declared.stat.StatAnswer.TheVariants as said
 use Rattle.pass_runner.specs.Ends.{IsOutOfRoom, TurnsBy}
-use Rattle.pass_runner.specs.Settled.{IsBacked, IsPassOn, IsReadOf, IsWanted}
+use Rattle.pass_runner.specs.Settled.{IsBacked, IsPassOn, IsReadOf, IsWanted, times_loaded, times_named}
 use Rattle.pass_runner.specs.Turns.{Advances, HasSeen, IsLookUnder, JudgesLeft, Listens, Looks, LooksTo, PublishesNew, TurnsOver, after_judged, heard_of, looked_of}
 use Rattle.pass_runner.specs.declared.look_for.Looked.TheVariants as looked
+use Rattle.pass_runner.proofs.Loads.{loads_heard, loads_looks}
 use Rattle.pass_runner.proofs.Moves.{all_heard, is_heard, listens_none, listens_one}
 use Rattle.pass_runner.proofs.NameLists.{stamp_listed}
 use Rattle.pass_runner.proofs.Composed.{settles_by}
@@ -161,6 +162,11 @@ wanted_looks listing roots names answers asked =
     each (load path limit answer) h = absurd h
     each (read_dir path answer) h = absurd h
 
+-- and load nothing
+unloaded : (roots : List (List ℕ)) (answers : List Heard) → All (IsLookUnder roots) answers → (path : List ℕ)
+    → times_loaded answers path ≤ times_named [] path
+unloaded roots answers asked path = let none = loads_looks roots answers path asked in omega (arith, none)
+
 -- the load of a name that is awaited may be asked
 wanted_load : {K : Type 0} {true_row : RowFacts → Type 0} {tells : Bool} {shows : K → ShownKeeper} {state : StateFacts K}
     (name : NameFacts) (answer : LoadFacts) → IndexInvariant true_row tells shows state → IsAwaited name state
@@ -220,7 +226,7 @@ module _ {K : Type 0} {told : Bool} {version : Versions} {shows : K → ShownKee
   pub turns_read : {true_row : RowFacts → Type 0} {tells : Bool} (row : RowFacts) {end : Option WorkEnd} (answer : LoadFacts) → IndexInvariant true_row tells shows old
       → old.broken ≡ false → IsAwaited name old → Asks told version before after (load_of name answer)
       → Reads name answer row → PublishesNew tells shows row old new end
-      → TurnsOver told version shows name before after old new end
+      → TurnsOver told version shows (name ∷ []) name before after old new end
   turns_read {tells = tells} row {end = end} answer holds sound awaited asks reads h =
       let named : row.name ≡ name = read_named name answer row reads in
       let waits : IsAwaited row.name old = subst (λ (n : NameFacts). IsAwaited n old) (sym named) awaited in
@@ -231,22 +237,24 @@ module _ {K : Type 0} {told : Bool} {version : Versions} {shows : K → ShownKee
             settles_by (listens_one (load_of name answer) asks)
             (all_heard (IsWanted (pass_of old.pass).listing old.roots (row_names old.rows)) (load_of name answer)
             (wanted_load name answer holds awaited)) on;
+        loads = loads_heard name answer;
         ends = subst (λ (n : NameFacts). TurnsBy n old new end) named (published_ends tells shows old new row end sound waits h);
         keeper = record { later = on.keeper; rose = published_cause tells shows old new row end h };
       }
 
   -- it was missed
-  missed_so : {cause : Cause} {answers : List Heard} (was_out : Bool) → old.broken ≡ false
+  missed_so : {cause : Cause} {answers : List Heard} (reads : List NameFacts) (was_out : Bool) → old.broken ≡ false
       → is_in (pass_of old.pass).out name ≡ true → Listens told version before after answers
       → All (IsWanted (pass_of old.pass).listing old.roots (row_names old.rows)) answers
       → IsBacked (pass_of old.pass).listing (row_names old.rows) answers (Rose before.faults after.faults) name cause
-      → MissesOut name cause old was_out new
-      → TurnsOver told version shows name before after old new None
-  missed_so {answers = answers} was_out sound out listens wanted why misses =
+      → ((path : List ℕ) → times_loaded answers path ≤ times_named reads path) → MissesOut name cause old was_out new
+      → TurnsOver told version shows reads name before after old new None
+  missed_so {answers = answers} reads was_out sound out listens wanted why loads misses =
       let on : Advances shows answers (Rose before.faults after.faults) old new
       = missed_on was_out (out_open old.pass name out) misses why in
       record {
         settles = settles_by listens wanted on;
+        loads = loads;
         ends = missed_over was_out out sound misses;
         keeper = record { later = on.keeper; rose = λ is. absurd (cc) };
       }
@@ -255,9 +263,9 @@ module _ {K : Type 0} {told : Bool} {version : Versions} {shows : K → ShownKee
   pub turns_altered : {true_row : RowFacts → Type 0} {tells : Bool} {met : Seen} (was_out : Bool) (answer : LoadFacts) → IndexInvariant true_row tells shows old
       → old.broken ≡ false → IsAwaited name old → is_in (pass_of old.pass).out name ≡ true
       → Asks told version before after (load_of name answer) → FindsOther name answer met
-      → MissesOut name (Altered met) old was_out new → TurnsOver told version shows name before after old new None
+      → MissesOut name (Altered met) old was_out new → TurnsOver told version shows (name ∷ []) name before after old new None
   turns_altered {met = met} was_out answer holds sound awaited out asks other misses =
-      missed_so {cause = Altered met} was_out sound out (listens_one (load_of name answer) asks)
+      missed_so {cause = Altered met} (name ∷ []) was_out sound out (listens_one (load_of name answer) asks)
       (all_heard (IsWanted (pass_of old.pass).listing old.roots (row_names old.rows)) (load_of name answer)
       (wanted_load name answer holds awaited))
       (record {
@@ -265,36 +273,39 @@ module _ {K : Type 0} {told : Bool} {version : Versions} {shows : K → ShownKee
         answer = answer;
         heard = is_heard (load_of name answer) (other_heard name answer met other);
         other = other;
-      }) misses
+      }) (loads_heard name answer) misses
 
   -- the load failed
   pub turns_unread : {true_row : RowFacts → Type 0} {tells : Bool} (was_out : Bool) (answer : LoadFacts) → IndexInvariant true_row tells shows old → old.broken ≡ false
       → IsAwaited name old → is_in (pass_of old.pass).out name ≡ true → Asks told version before after (load_of name answer)
       → answer ≡ failed → MissesOut name ReadFault old was_out new
-      → TurnsOver told version shows name before after old new None
+      → TurnsOver told version shows (name ∷ []) name before after old new None
   turns_unread was_out answer holds sound awaited out asks is misses =
-      missed_so {cause = ReadFault} was_out sound out (listens_one (load_of name answer) asks)
+      missed_so {cause = ReadFault} (name ∷ []) was_out sound out (listens_one (load_of name answer) asks)
       (all_heard (IsWanted (pass_of old.pass).listing old.roots (row_names old.rows)) (load_of name answer)
       (wanted_load name answer holds awaited))
-      (asks.hands.cause.rose (subst (λ (a : LoadFacts). IsTrue (has_failed (load_of name a))) (sym is) refl)) misses
+      (asks.hands.cause.rose (subst (λ (a : LoadFacts). IsTrue (has_failed (load_of name a))) (sym is) refl))
+      (loads_heard name answer) misses
 
   -- the look failed
   pub turns_unseen : (was_out : Bool) → old.broken ≡ false → is_in (pass_of old.pass).out name ≡ true
       → Looks told version old.roots name before after looked.Failed → MissesOut name ReadFault old was_out new
-      → TurnsOver told version shows name before after old new None
+      → TurnsOver told version shows [] name before after old new None
   turns_unseen was_out sound out looks misses =
-      missed_so {cause = ReadFault} was_out sound out looks.listens (wanted_looks (pass_of old.pass).listing old.roots (row_names old.rows) looks.answers looks.asked) looks.leads misses
+      missed_so {cause = ReadFault} [] was_out sound out looks.listens (wanted_looks (pass_of old.pass).listing old.roots (row_names old.rows) looks.answers looks.asked) looks.leads
+      (unloaded old.roots looks.answers looks.asked) misses
 
   -- and the row is judged by what was seen
   pub turns_judged : {true_row : RowFacts → Type 0} {tells : Bool} {met : Seen} {end : Option WorkEnd} → IndexInvariant true_row tells shows old → old.broken ≡ false
       → is_kept old.pass name ≡ false → is_in (pass_of old.pass).out name ≡ true
       → Looks told version old.roots name before after (looked.Saw met) → JudgesLeft tells shows name met old new end
-      → TurnsOver told version shows name before after old new end
+      → TurnsOver told version shows [] name before after old new end
   turns_judged {tells = tells} {met = met} {end = end} holds sound unlisted out looks h =
       let on : Advances shows looks.answers (Rose before.faults after.faults) old new
       = judged_on tells shows old new name met sound unlisted out h.answer holds looks.leads h.judged in
       record {
         settles = settles_by looks.listens (wanted_looks (pass_of old.pass).listing old.roots (row_names old.rows) looks.answers looks.asked) on;
+        loads = unloaded old.roots looks.answers looks.asked;
         ends = subst (λ (e : Option WorkEnd). TurnsBy name old new e) (sym h.ends) (judged_ends tells shows old new name met sound unlisted out h.answer h.judged);
         keeper = record {
           later = on.keeper;
@@ -303,11 +314,13 @@ module _ {K : Type 0} {told : Bool} {version : Versions} {shows : K → ShownKee
       }
 
 module _ {K : Type 0} {told : Bool} {version : Versions} {shows : K → ShownKeeper} {before after : ShownTree} {state : StateFacts K} {name : NameFacts} where
-  wanting : {answers : List Heard} → IsPassOn state.pass state.pass → state.broken ≡ false → Listens told version before after answers
+  wanting : {answers : List Heard} (reads : List NameFacts) → IsPassOn state.pass state.pass → state.broken ≡ false → Listens told version before after answers
       → All (IsWanted (pass_of state.pass).listing state.roots (row_names state.rows)) answers
-      → TurnsOver told version shows name before after state state (Some OutOfMemory)
-  wanting opened sound listens wanted = record {
+      → ((path : List ℕ) → times_loaded answers path ≤ times_named reads path)
+      → TurnsOver told version shows reads name before after state state (Some OutOfMemory)
+  wanting reads opened sound listens wanted loads = record {
     settles = settles_by listens wanted (same_on opened (omega arith) refl refl refl refl);
+    loads = loads;
     ends = sound;
     keeper = record { later = omega arith; rose = λ is. absurd (cc) };
   }
@@ -315,18 +328,19 @@ module _ {K : Type 0} {told : Bool} {version : Versions} {shows : K → ShownKee
   -- memory was refused for the load, or for the row
   pub turns_wanting : {true_row : RowFacts → Type 0} {tells : Bool} (answer : LoadFacts) → IndexInvariant true_row tells shows state
       → state.broken ≡ false → IsAwaited name state → Asks told version before after (load_of name answer)
-      → TurnsOver told version shows name before after state state (Some OutOfMemory)
+      → TurnsOver told version shows (name ∷ []) name before after state state (Some OutOfMemory)
   turns_wanting answer holds sound awaited asks =
-      wanting (listed_open state.pass name awaited.listed) sound (listens_one (load_of name answer) asks)
+      wanting (name ∷ []) (listed_open state.pass name awaited.listed) sound (listens_one (load_of name answer) asks)
       (all_heard (IsWanted (pass_of state.pass).listing state.roots (row_names state.rows)) (load_of name answer)
-      (wanted_load name answer holds awaited))
+      (wanted_load name answer holds awaited)) (loads_heard name answer)
 
   -- or for the look
   pub turns_blind : state.broken ≡ false → is_in (pass_of state.pass).out name ≡ true
       → Looks told version state.roots name before after looked.OutOfMemory
-      → TurnsOver told version shows name before after state state (Some OutOfMemory)
+      → TurnsOver told version shows [] name before after state state (Some OutOfMemory)
   turns_blind sound out looks =
-      wanting (out_open state.pass name out) sound looks.listens (wanted_looks (pass_of state.pass).listing state.roots (row_names state.rows) looks.answers looks.asked)
+      wanting [] (out_open state.pass name out) sound looks.listens (wanted_looks (pass_of state.pass).listing state.roots (row_names state.rows) looks.answers looks.asked)
+      (unloaded state.roots looks.answers looks.asked)
 
 -- a look that was made
 module _ {told : Bool} {version : Versions} {before after : ShownTree} (roots : List (List ℕ)) (name : NameFacts) where

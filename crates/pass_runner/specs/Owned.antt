@@ -1,7 +1,7 @@
 -- The pass over an index that is owned (this project's rule): the roots are walked, a pass over the walk listing begins,
 -- and it is settled. Whole: the index is one scan of the walk listing, and the numbers are those of its plan against the
 -- rows that the index brought. The first hand walks and settles; what another hand may ask is said of each.
-use Rattle.std.specs.Prelude.{◌≡◌, ◌⊎◌, ℕ, Bool, true, false, List, [], ◌∷◌, ◌++◌, All, Some, IsTrue, Ok, Err}
+use Rattle.std.specs.Prelude.{◌≡◌, ◌⊎◌, ℕ, ◌≤◌, Bool, true, false, List, [], ◌∷◌, ◌++◌, All, Some, IsTrue, Ok, Err}
 use Rattle.std.specs.List.{AllZip}
 use Rattle.row_types.specs.Faults.{Rose}
 use Rattle.row_types.specs.Name.{NameFacts}
@@ -28,7 +28,7 @@ use Rattle.tree_walk.specs.declared.fault.WalkFault.TheVariants as stop
 use Rattle.tree_walk.specs.declared.walked.Walk.{Walk}
 use Rattle.pass_runner.specs.Ends.{IsOutOfRoom}
 use Rattle.pass_runner.specs.Numbers.{summary_of}
-use Rattle.pass_runner.specs.Settled.{IsBacked, IsBrought, IsWanted, MayGo}
+use Rattle.pass_runner.specs.Settled.{IsBacked, IsBrought, IsWanted, MayGo, times_loaded}
 use Rattle.pass_runner.specs.declared.pass_end.PassEnd.{PassEnd}
 use Rattle.pass_runner.specs.declared.pass_end.PassEnd.TheVariants.{Whole, Missed, Walk as Unwalked, Broken}
 use Rattle.pass_runner.specs.declared.pass_end.PassEnd.TheVariants.{KeeperFault, LogFull, OutOfMemory}
@@ -39,8 +39,8 @@ abbrev pub TellsStill : Bool → ShownTree → Type 0
 TellsStill told hand = IsTrue told × hand.Still
 
 -- what the first hand heard: a whole walk of the roots, and then nothing but loads of listed files whose names had no row
--- and looks at paths under a root. All of it is full, and leads to the listing. Where the hand tells files that never
--- change, these are the answers that it tells of them, and the listing is the files under the roots
+-- and looks at paths under a root; no path was loaded twice. All of it is full, and leads to the listing. Where the hand
+-- tells files that never change, these are the answers that it tells of them, and the listing is the files under the roots
 pub record HearsPass (told : Bool) (version : Versions) (roots : List (List ℕ)) (names : List NameFacts) (walk : Walk)
     (walked more : List Heard) (before after : ShownTree) : Type 0 where
   pub heard : after.heard ≡ with_answers before.heard (walked ++ more)
@@ -48,6 +48,7 @@ pub record HearsPass (told : Bool) (version : Versions) (roots : List (List ℕ)
   pub full : AsksAll (walked ++ more) roots
   pub listing : IsWalkListing (walked ++ more) roots walk.listing
   pub wanted : All (IsWanted walk.listing roots names) more
+  pub once : (path : List ℕ) → times_loaded more path ≤ 1
   pub fits : All (FitsAny version) more
   pub tells : TellsStill told before → All (IsTold before.present) (walked ++ more)
   pub under : TellsStill told before → AreFilesUnder before.present roots walk.listing

@@ -1,7 +1,8 @@
 -- Settling (this project's rule): with one hand the names of a pass that are to be read are loaded and their rows
 -- published, then the names that are to be looked for are looked for and judged. What is said here holds from one moment
 -- of it to any later one.
-use Rattle.std.specs.Prelude.{◌≡◌, ◌≢◌, ◌⊎◌, ℕ, ◌≤◌, Bool, true, false, List, All, Contains, Option, Some, None, IsTrue}
+use Rattle.std.specs.Prelude.{◌≡◌, ◌≢◌, ◌⊎◌, ℕ, ◌≤◌, Bool, true, false, List, All, Contains, count_by, Option, Some, None, IsTrue}
+use Rattle.std.specs.Str.{bytes_eq}
 use Rattle.row_types.specs.Faults.{Rose}
 use Rattle.row_types.specs.Name.{NameFacts, stamp_at}
 use Rattle.row_types.specs.Row.{RowFacts}
@@ -37,6 +38,19 @@ abbrev pub IsWanted : List NameFacts → List (List ℕ) → List NameFacts → 
 IsWanted listing roots names (load path limit answer) = (limit ≡ FILE_LIMIT) × IsNew listing names path
 IsWanted listing roots names (stat path answer) = is_under roots path ≡ true
 IsWanted listing roots names (read_dir path answer) = ⊥
+
+-- whether this is a load of the path
+abbrev pub is_load_of : List ℕ → Heard → Bool
+is_load_of path (load asked limit answer) = bytes_eq asked path
+is_load_of path _ = false
+
+-- how often the path was loaded
+abbrev pub times_loaded : List Heard → List ℕ → ℕ
+times_loaded answers path = count_by (is_load_of path) answers
+
+-- how many of the names have the path
+abbrev pub times_named : List NameFacts → List ℕ → ℕ
+times_named names path = count_by (λ name. bytes_eq name.path path) names
 
 -- the look did not find the file with the stamp
 abbrev pub IsMissing : StampFacts → StatAnswer → Type 0
@@ -105,8 +119,8 @@ pub record IsPassOn (old new : Option PassFacts) : Type 0 where
 -- what the settling did from one moment to a later one: nothing else was heard; the pass goes on, over the same listing
 -- and roots; no row of a listed name went; a row whose path isn't listed and lies under a root went only where a look
 -- did not find its file; a row that came is of a listed name; a row that wasn't there says what a load found; a name is
--- missed only for a reason
-pub record Settles {K : Type 0} (told : Bool) (version : Versions) (shows : K → ShownKeeper)
+-- missed only for a reason; and no name came to be read
+pub record Proceeds {K : Type 0} (told : Bool) (version : Versions) (shows : K → ShownKeeper)
     (before after : ShownTree) (old new : StateFacts K) : Type 0 where
   pub answers : List Heard
   pub heard : after.heard ≡ with_answers before.heard answers
@@ -128,3 +142,11 @@ pub record Settles {K : Type 0} (told : Bool) (version : Versions) (shows : K �
   pub brings : All (IsBrought old.rows answers) new.rows
   pub missed : All (IsMissBy (pass_of old.pass).listing (row_names old.rows) (pass_of old.pass).missed answers
       (Rose before.faults after.faults)) (pass_of new.pass).missed
+  pub todo : (path : List ℕ)
+      → times_named (pass_of new.pass).todo path ≤ times_named (pass_of old.pass).todo path
+
+-- and no path was loaded twice
+pub record Settles {K : Type 0} (told : Bool) (version : Versions) (shows : K → ShownKeeper)
+    (before after : ShownTree) (old new : StateFacts K) : Type 0 where
+  pub does : Proceeds told version shows before after old new
+  pub once : (path : List ℕ) → times_loaded does.answers path ≤ 1

@@ -1,5 +1,5 @@
 -- What becomes of a name that was handed out (this crate's bookkeeping, which no public clause cites).
-use Rattle.std.specs.Prelude.{◌≡◌, ℕ, ◌≤◌, Bool, true, false, if◌then◌else◌, List, [], ◌∷◌, All, Contains, Option, Some, None, IsTrue}
+use Rattle.std.specs.Prelude.{◌≡◌, ℕ, ◌+◌, ◌≤◌, Bool, true, false, if◌then◌else◌, List, [], ◌∷◌, All, Contains, Option, Some, None, IsTrue}
 use Rattle.row_types.specs.Faults.{HasCause, Rose}
 use Rattle.row_types.specs.Name.{NameFacts}
 use Rattle.row_types.specs.Row.{RowFacts}
@@ -22,7 +22,7 @@ use Rattle.tree_trait.specs.Shown.{HandsOn, ShownTree}
 use Rattle.tree_trait.specs.declared.stat.StatAnswer.{StatAnswer}
 use Rattle.tree_trait.specs.declared.stat.StatAnswer.TheVariants as said
 use Rattle.pass_runner.specs.Ends.{TurnsBy}
-use Rattle.pass_runner.specs.Settled.{IsBrought, IsMissBy, IsPassOn, MayGo, Settles}
+use Rattle.pass_runner.specs.Settled.{IsBrought, IsMissBy, IsPassOn, MayGo, Proceeds, times_loaded, times_named}
 use Rattle.pass_runner.specs.declared.look_for.Looked.{Looked}
 use Rattle.pass_runner.specs.declared.look_for.Looked.TheVariants as looked
 
@@ -49,22 +49,32 @@ pub record Advances {K : Type 0} (shows : K → ShownKeeper) (answers : List Hea
       → is_in (row_names old.rows) name ≡ false → is_in (pass_of old.pass).listing name ≡ true
   pub brings : All (IsBrought old.rows answers) new.rows
   pub missed : All (IsMissBy (pass_of old.pass).listing (row_names old.rows) (pass_of old.pass).missed answers Failed) (pass_of new.pass).missed
+  pub todo : (path : List ℕ)
+      → times_named (pass_of new.pass).todo path ≤ times_named (pass_of old.pass).todo path
 
 -- what is heard of a question, which is nothing where memory was refused
 abbrev pub heard_of : Heard → List Heard
 heard_of asked = if wants_memory asked then [] else asked ∷ []
 
--- what became of a name that was handed out, and how the settling goes on
-pub record TurnsOver {K : Type 0} (told : Bool) (version : Versions) (shows : K → ShownKeeper) (name : NameFacts)
-    (before after : ShownTree) (old new : StateFacts K) (end : Option WorkEnd) : Type 0 where
-  pub settles : Settles told version shows before after old new
+-- what became of a name that was handed out, and how the settling goes on; no more was loaded than these names, each once
+pub record TurnsOver {K : Type 0} (told : Bool) (version : Versions) (shows : K → ShownKeeper) (reads : List NameFacts)
+    (name : NameFacts) (before after : ShownTree) (old new : StateFacts K) (end : Option WorkEnd) : Type 0 where
+  pub settles : Proceeds told version shows before after old new
+  pub loads : (path : List ℕ) → times_loaded settles.answers path ≤ times_named reads path
   pub ends : TurnsBy name old new end
   pub keeper : HasCause (shows old.keeper).faults (shows new.keeper).faults (end ≡ Some KeeperFault)
+
+-- the settling went on, and each load took a name that was to be read
+pub record Takes {K : Type 0} (told : Bool) (version : Versions) (shows : K → ShownKeeper) (before after : ShownTree)
+    (old new : StateFacts K) : Type 0 where
+  pub does : Proceeds told version shows before after old new
+  pub takes : (path : List ℕ)
+      → times_loaded does.answers path + times_named (pass_of new.pass).todo path ≤ times_named (pass_of old.pass).todo path
 
 -- the settling goes on from the start: the index isn't broken, and where no name was out, none is
 pub record Goes {K : Type 0} (told : Bool) (version : Versions) (shows : K → ShownKeeper) (before after : ShownTree)
     (start now : StateFacts K) : Type 0 where
-  pub settles : Settles told version shows before after start now
+  pub settles : Takes told version shows before after start now
   pub sound : now.broken ≡ false
   pub out : (pass_of start.pass).out ≡ [] → (pass_of now.pass).out ≡ []
 

@@ -7,8 +7,9 @@ ghost use Rattle.index_state.specs.Judge.{is_kept, is_under};
 ghost use Rattle.index_state.specs.State.{pass_of};
 ghost use Rattle.scan_queue.specs.Names.{is_in};
 ghost use Rattle.pass_runner.specs.Ends.{SettlesBy};
-ghost use Rattle.pass_runner.specs.Settled.{IsPassOn, Settles};
-ghost use Rattle.pass_runner.specs.Turns.{JudgesLeft, Looks, TurnsOver, after_judged, looked_of};
+ghost use Rattle.pass_runner.specs.Settled.{IsPassOn};
+ghost use Rattle.pass_runner.specs.Turns.{JudgesLeft, Looks, Takes, TurnsOver};
+ghost use Rattle.pass_runner.specs.Turns.{after_judged, looked_of};
 
 use index_keeper::Keeper;
 use index_state::{GroomTask, Judged, State, show_index};
@@ -39,7 +40,7 @@ pub(crate) fn look_for_all<W: Truth, K: Keeper<W>, T: Tree<W>>(
     requires sound { state.old.broken ≡ false }
     requires open { IsPassOn state.old.pass state.old.pass }
     requires read { (pass_of state.old.pass).todo ≡ [] }
-    ensures settles { Settles T.told W.version K.shows (T.shows hand.old) (T.shows hand.new)
+    ensures settles { Takes T.told W.version K.shows (T.shows hand.old) (T.shows hand.new)
         state.old state.new }
     ensures ends { SettlesBy state.old state.new result }
     ensures keeper { HasCause (K.shows state.old.keeper).faults (K.shows state.new.keeper).faults
@@ -73,7 +74,7 @@ fn look_for<W: Truth, K: Keeper<W>, T: Tree<W>>(
     requires unlisted { is_kept state.old.pass task.now.name ≡ false }
     requires out { is_in (pass_of state.old.pass).out task.now.name ≡ true }
     requires under { task.now.under ≡ is_under state.old.roots task.now.name.path }
-    ensures { TurnsOver T.told W.version K.shows task.now.name (T.shows hand.old)
+    ensures { TurnsOver T.told W.version K.shows [] task.now.name (T.shows hand.old)
         (T.shows hand.new) state.old state.new result }
 {
     show_index(state);

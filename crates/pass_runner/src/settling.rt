@@ -8,7 +8,7 @@ ghost use Rattle.pass_runner.specs.Settled.{IsPassOn, Settles};
 use crate::look_for::look_for_all;
 use crate::read_new::read_new;
 use index_keeper::Keeper;
-use index_state::State;
+use index_state::{State, show_index};
 use row_types::Truth;
 use scan_worker::WorkEnd;
 use std::alloc::Global;
@@ -51,6 +51,7 @@ pub(crate) fn settle_pass<W: Truth, K: Keeper<W>, T: Tree<W>, R: Reader<W>>(
     ensures keeper { HasCause (K.shows state.old.keeper).faults (K.shows state.new.keeper).faults
         (result ≡ WorkEnd.KeeperFault) }
 {
+    show_index(state);
     match read_new(alloc, state, hand, reader) {
         WorkEnd::Empty => look_for_all(alloc, state, hand),
         end => end,
