@@ -1,5 +1,5 @@
 -- An LEB128 number is the sum of its septets, taken one after another.
-use Rattle.std.proofs.Common.{◌≡◌, ℕ, ◌+◌, ◌*◌, ◌-◌, ◌^◌, ◌%◌, ◌/◌, ◌<◌, Bool, true, false, List, [], ◌∷◌, ◌++◌, length, take, map, get_or, lt-ltb, Option, Some, None, refl, sym, ap, ◌∙◌, subst, arith, add-one, pos, negsuc, ℤ, ◌-ℤ◌, ◌==◌, if◌then◌else◌, nat_lt}
+use Rattle.std.proofs.Common.{◌≡◌, ℕ, ◌+◌, ◌*◌, ◌-◌, ◌^◌, ◌%◌, ◌/◌, ◌<◌, Bool, true, false, List, [], ◌∷◌, ◌++◌, length, take, map, get_or, lt-ltb, Some, None, refl, sym, ap, ◌∙◌, subst, arith, add-one, pos, negsuc, ℤ, ◌-ℤ◌, ◌==◌, if◌then◌else◌, nat_lt}
 use Rattle.std.specs.List.{position_or_len}
 use Rattle.std.proofs.lemmas.List.Sums.{position_or_len_is}
 use Rattle.std.proofs.lemmas.List.{take_more, length-take-le, length-map, map-append, get_or-take}
