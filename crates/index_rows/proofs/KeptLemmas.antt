@@ -15,6 +15,7 @@ use Rattle.index_rows.specs.declared.change.Change.{Change}
 use Rattle.index_rows.specs.declared.prepared.Prepared.{Prepared}
 use Rattle.index_rows.specs.declared.prepared.Prepared.TheVariants.{Nothing, Put, Drop}
 use Rattle.index_rows.specs.declared.rows.TheConstants.{LOG_LIMIT}
+use Rattle.index_rows.proofs.CountLemmas.{rows_few}
 use Rattle.index_rows.proofs.Lists.{IsFound, found_there}
 use Rattle.index_rows.proofs.PathLemmas.{put_ascends, put_holds, without_ascends}
 use Rattle.index_rows.proofs.RowLemmas.{put_replays, drop_replays, void_drop, void_put}
@@ -102,7 +103,7 @@ index_same is_true now rows log prepared p q r h =
     subst (IsIndex is_true) (sym same) h
 
 -- with nothing prepared no room is asked
-pub at_rest : (is_true : RowFacts → Type 0) (facts : RowsFacts) (RowsRoom LogRoom : Type 0) → facts.prepared ≡ Nothing → IsIndex is_true facts → IsKept is_true facts RowsRoom LogRoom
+pub at_rest : (is_true : RowFacts → Type 0) (facts : RowsFacts) (RowsRoom : List ℕ → Type 0) (LogRoom : Type 0) → facts.prepared ≡ Nothing → IsIndex is_true facts → IsKept is_true facts RowsRoom LogRoom
 at_rest is_true facts RowsRoom LogRoom none h = record {
   index = h;
   room = subst (λ (p : Prepared). RoomFor p RowsRoom LogRoom) (sym none) tt;
@@ -118,6 +119,13 @@ put_index {is_true} {self} {inside} {row} {given} {copy} {name} {rows} {log} {pr
     (rows_is ∙ ap (λ (r : RowFacts). with_row r inside.rows) given_is)
     (log_is ∙ ap (λ (n : NameFacts). inside.log ++ put_of n ∷ []) (name_is ∙ ap (λ (r : RowFacts). r.name) copy_is))
     none (index_after_put is_true inside row h e one)
+
+-- there is place for one more row
+pub put_fits : {is_true : RowFacts → Type 0} {self inside : RowsFacts} {row : RowFacts} → inside ≡ self → IsIndex is_true inside → self.prepared ≡ Put row → length inside.rows < LOG_LIMIT
+put_fits {is_true} {self} {inside} {row} same h asked =
+    let e : inside.prepared ≡ Put row = ap (λ (f : RowsFacts). f.prepared) same ∙ asked in
+    let room : length inside.log < LOG_LIMIT = subst (λ (p : Prepared). IsReady p inside.rows inside.log) e h.ready in
+    omega (arith, room, rows_few is_true inside h)
 
 -- a name to be dropped has the path
 named : (p : Prepared) (path : List ℕ) (name : NameFacts) → IsDropOf path p → p ≡ Drop name → name.path ≡ path
@@ -153,6 +161,6 @@ void_same {is_true} {self} {inside} {given} {change} {log} same h can given_is c
     ∙ ap (λ (f : RowsFacts). replay f.log) same
 
 -- the fields once a drop is prepared
-pub drop_ready : {is_true : RowFacts → Type 0} {inside : RowsFacts} {row : RowFacts} {name : NameFacts} {log : List Change} (path : List ℕ) → IsIndex is_true inside → length inside.log ≢ LOG_LIMIT → row_at path inside.rows ≡ Some row → name ≡ row.name → log ≡ inside.log → IsIndex is_true (facts_from inside.rows log (Drop name))
-drop_ready {is_true} {inside} {row} {name} {log} path h less e same log_is =
-    index_same is_true (record inside { prepared = Drop name }) inside.rows log (Drop name) refl log_is refl (index_with_drop is_true inside path row name h less e same)
+pub drop_ready : {is_true : RowFacts → Type 0} {inside : RowsFacts} {row : RowFacts} {name : NameFacts} {rows : List RowFacts} {log : List Change} (path : List ℕ) → IsIndex is_true inside → length inside.log ≢ LOG_LIMIT → row_at path inside.rows ≡ Some row → name ≡ row.name → rows ≡ inside.rows → log ≡ inside.log → IsIndex is_true (facts_from rows log (Drop name))
+drop_ready {is_true} {inside} {row} {name} {rows} {log} path h less e same rows_is log_is =
+    index_same is_true (record inside { prepared = Drop name }) rows log (Drop name) rows_is log_is refl (index_with_drop is_true inside path row name h less e same)

@@ -7,4 +7,5 @@ pub mod Kept
 pub mod Log
 pub mod Pick
 pub mod Places
+pub mod Slots
 pub mod Rows

@@ -4,9 +4,9 @@
 
 mod change;
 mod fault;
-mod places;
 mod prepared;
 mod row_iter;
+mod row_map;
 mod rows;
 #[cfg(test)]
 mod tests;

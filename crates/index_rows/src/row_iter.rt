@@ -4,8 +4,10 @@ ghost use Rattle.std.specs.Prelude.{◌≡◌, ◌∷◌, [], filter, IfSome, If
 ghost use Rattle.std.specs.Iterator.{YieldsFirstRef, item_count};
 ghost use Rattle.index_rows.specs.Classes.{has_class, has_id, is_of_kind, lists_source};
 ghost use Rattle.index_rows.specs.Pick.{is_picked};
+ghost use Rattle.index_rows.specs.Slots.{present};
 
 use row_types::{BuildId, CanonPath, Ident, Kind, Reading, Row};
+use std::collections::btree_map::Values;
 use std::marker::Model;
 
 /// Which rows are lent.
@@ -22,7 +24,7 @@ pub(crate) enum Pick {
 /// Rows, lent in path order. Contracts see it as the list of the rows that are left.
 #[derive(Drop)]
 pub struct RowIter<'a> {
-    rest: &'a [Row],
+    rest: Values<'a, CanonPath, Option<Row>>,
     pick: Pick,
 }
 
@@ -30,28 +32,19 @@ impl<'a> Model for RowIter<'a> {
     ghost use Rattle.std.specs.Prelude.{List, filter};
     ghost use Rattle.row_types.specs.Row.{RowFacts};
     ghost use Rattle.index_rows.specs.Pick.{is_picked};
+    ghost use Rattle.index_rows.specs.Slots.{present};
 
     ghost Value = { List RowFacts };
 
-    ghost view = { λ it. filter (λ row. is_picked it.pick row.reading) it.rest.now };
+    ghost view = { λ it. filter (λ row. is_picked it.pick row.reading) (present it.rest) };
 }
 
 impl<'a> RowIter<'a> {
-    /// All these rows.
-    pub(crate) fn all(rows: &'a [Row]) -> RowIter<'a>
-        ensures { result ≡ rows.now }
+    /// The rows in these slots that are picked.
+    pub(crate) fn new(slots: Values<'a, CanonPath, Option<Row>>, pick: Pick) -> RowIter<'a>
+        ensures { result ≡ filter (λ row. is_picked pick row.reading) (present slots.entry) }
     {
-        RowIter {
-            rest: rows,
-            pick: Pick::All,
-        }
-    }
-
-    /// The rows among these that are picked.
-    pub(crate) fn picked(rows: &'a [Row], pick: Pick) -> RowIter<'a>
-        ensures { result ≡ filter (λ row. is_picked pick row.reading) rows.now }
-    {
-        RowIter { rest: rows, pick }
+        RowIter { rest: slots, pick }
     }
 }
 
@@ -63,24 +56,23 @@ impl<'a> Iterator for RowIter<'a> {
     ghost remaining = { item_count (λ it. it) };
 
     fn next(&mut self) -> Option<&'a Row> {
-        let (row, rest) = first_picked(self.rest, &self.pick)?;
-        self.rest = rest;
-        Some(row)
+        next_picked(&mut self.rest, &self.pick)
     }
 }
 
-/// The first row that is picked, and the rows behind it.
-fn first_picked<'a>(rows: &'a [Row], pick: &Pick) -> Option<(&'a Row, &'a [Row])>
-    ensures some { IfSome result (λ found. filter (λ row. is_picked pick.now row.reading) rows.now
-        ≡ found.0.now ∷ filter (λ row. is_picked pick.now row.reading) found.1.now) }
-    ensures none { IfNone result (filter (λ row. is_picked pick.now row.reading) rows.now ≡ []) }
+/// The next row that is picked.
+fn next_picked<'a>(slots: &mut Values<'a, CanonPath, Option<Row>>, pick: &Pick) -> Option<&'a Row>
+    ensures some { IfSome result (λ row. filter (λ r. is_picked pick.now r.reading) (present slots.old)
+        ≡ row.now ∷ filter (λ r. is_picked pick.now r.reading) (present slots.new)) }
+    ensures none { IfNone result (filter (λ r. is_picked pick.now r.reading) (present slots.old) ≡ []) }
+    ensures end { IfNone result (present slots.new ≡ []) }
 {
-    let mut left = rows;
-    while let Some((row, rest)) = left.split_first() {
-        if is_picked(pick, &row.reading) {
-            return Some((row, rest));
+    while let Some(slot) = slots.next() {
+        if let Some(row) = slot
+            && is_picked(pick, &row.reading)
+        {
+            return Some(row);
         }
-        left = rest;
     }
     None
 }

@@ -8,14 +8,15 @@ ghost use Rattle.index_rows.specs.Classes.{has_class, has_id, lists_source};
 ghost use Rattle.index_rows.specs.Log.{replay};
 ghost use Rattle.index_rows.specs.Rows.{after_drop, after_put, after_void, CanBeVoid, IsDropOf};
 ghost use Rattle.index_rows.specs.Rows.{IsIndex, row_names, nothing_yet, row_at};
+ghost use Rattle.index_rows.specs.Slots.{HasSlot, rows_in};
 ghost use Rattle.index_rows.specs.declared.prepared.Prepared.{Prepared};
 ghost use Rattle.index_rows.specs.declared.fault.RowsFault.{RowsFault};
 
-use crate::change::Change;
+use crate::change::{Change, list_change};
 use crate::fault::RowsFault;
-use crate::places;
 use crate::prepared::{Prepared, into_name, void_change};
 use crate::row_iter::{self, Pick, RowIter};
+use crate::row_map::RowMap;
 use row_types::{BuildId, CanonPath, Kind, Name, Row, TrueRow, Truth};
 use std::alloc::{AllocError, Global};
 use std::marker::{Model, PhantomData};
@@ -29,7 +30,7 @@ pub const LOG_LIMIT: usize = 0x40_0000;
 /// was made for.
 #[derive(Drop)]
 pub struct Rows<W: Truth> {
-    rows: Vec<Row>,
+    rows: RowMap,
     log: Vec<Change>,
     prepared: Prepared,
     alloc: Global,
@@ -41,14 +42,15 @@ impl<W: Truth> Model for Rows<W> {
     ghost use Rattle.std.specs.Vec.{vec_capacity};
     ghost use Rattle.index_rows.specs.Rows.{RowsFacts};
     ghost use Rattle.index_rows.specs.Kept.{IsKept};
+    ghost use Rattle.index_rows.specs.Slots.{HasSlot, rows_in};
 
     ghost Value = { RowsFacts };
 
-    ghost view = { λ r. record { rows = r.rows.items; log = r.log.items; prepared = r.prepared } };
+    ghost view = { λ r. record { rows = rows_in r.rows; log = r.log.items; prepared = r.prepared } };
 
     ghost invariant = { λ r. IsKept W.true_row
-        (record { rows = r.rows.items; log = r.log.items; prepared = r.prepared })
-        (vec_len r.rows < vec_capacity r.rows) (vec_len r.log < vec_capacity r.log) };
+        (record { rows = rows_in r.rows; log = r.log.items; prepared = r.prepared })
+        (λ path. HasSlot path r.rows) (vec_len r.log < vec_capacity r.log) };
 }
 
 impl<W: Truth> Rows<W> {
@@ -57,7 +59,7 @@ impl<W: Truth> Rows<W> {
         ensures { result ≡ nothing_yet }
     {
         Rows {
-            rows: Vec::new(alloc),
+            rows: RowMap::new(alloc),
             log: Vec::new(alloc),
             prepared: Prepared::Nothing,
             alloc,
@@ -87,21 +89,21 @@ impl<W: Truth> Rows<W> {
         ensures path { IfSome result (λ row. row.now.name.path ≡ path.now) }
         ensures holds { IsIndex W.true_row self.now }
     {
-        places::row_at(self.rows.as_slice(), path)
+        self.rows.get(path)
     }
 
     /// The rows with the id whose files are of the kind.
     pub fn with_class(&self, id: &BuildId, kind: Kind) -> RowIter<'_>
         ensures { result ≡ filter (λ row. has_class id.now kind row.reading) self.now.rows }
     {
-        RowIter::picked(self.rows.as_slice(), Pick::OfClass(*id, kind))
+        RowIter::new(self.rows.slots(), Pick::OfClass(*id, kind))
     }
 
     /// The rows with the id.
     pub fn rows_of(&self, id: &BuildId) -> RowIter<'_>
         ensures { result ≡ filter (λ row. has_id id.now row.reading) self.now.rows }
     {
-        RowIter::picked(self.rows.as_slice(), Pick::OfId(*id))
+        RowIter::new(self.rows.slots(), Pick::OfId(*id))
     }
 
     /// All rows.
@@ -109,7 +111,7 @@ impl<W: Truth> Rows<W> {
         ensures value { result ≡ self.now.rows }
         ensures holds { IsIndex W.true_row self.now }
     {
-        RowIter::all(self.rows.as_slice())
+        RowIter::new(self.rows.slots(), Pick::All)
     }
 
     /// A copy of each row's name.
@@ -117,7 +119,7 @@ impl<W: Truth> Rows<W> {
         ensures value { IfOk result (λ names. names.items ≡ row_names self.now.rows) }
         ensures holds { IsIndex W.true_row self.now }
     {
-        places::row_names(alloc, self.rows.as_slice())
+        row_names(alloc, self.rows())
     }
 
     /// Whether some row with the id lists the source.
@@ -125,8 +127,7 @@ impl<W: Truth> Rows<W> {
         ensures { result ≡ list_any (λ row. lists_source id.now path.now row.reading)
             self.now.rows }
     {
-        self.rows
-            .iter()
+        self.rows()
             .any(|row| row_iter::lists_source(id, path, &row.reading))
     }
 
@@ -143,8 +144,9 @@ impl<W: Truth> Rows<W> {
             return Err(RowsFault::LogFull);
         }
         let copy = row.row().copy(self.alloc)?;
-        self.rows.reserve(1)?;
         self.log.reserve(1)?;
+        self.rows.make_room(self.alloc, &copy.name.path)?;
+        give_up_other(&mut self.rows, &self.prepared, &copy.name.path);
         self.prepared = Prepared::Put(copy);
         Ok(())
     }
@@ -158,8 +160,8 @@ impl<W: Truth> Rows<W> {
         match mem::replace(&mut self.prepared, Prepared::Nothing) {
             Prepared::Put(copy) => {
                 let name = into_name(copy);
-                places::put_row(&mut self.rows, row.into_row());
-                places::list_change(&mut self.log, Change { put: true, name });
+                self.rows.put(row.into_row());
+                list_change(&mut self.log, Change { put: true, name });
             }
             Prepared::Nothing | Prepared::Drop(_) => unreachable!(),
         }
@@ -179,10 +181,11 @@ impl<W: Truth> Rows<W> {
         if self.log.len() == LOG_LIMIT {
             return Err(RowsFault::LogFull);
         }
-        match places::row_at(self.rows.as_slice(), path) {
+        match self.rows.get(path) {
             Some(row) => {
                 let name = row.name.copy(self.alloc)?;
                 self.log.reserve(1)?;
+                give_up_other(&mut self.rows, &self.prepared, path);
                 self.prepared = Prepared::Drop(name);
                 Ok(())
             }
@@ -199,8 +202,8 @@ impl<W: Truth> Rows<W> {
     {
         match mem::replace(&mut self.prepared, Prepared::Nothing) {
             Prepared::Drop(name) => {
-                places::drop_row(&mut self.rows, path);
-                places::list_change(&mut self.log, Change { put: false, name });
+                self.rows.remove(path);
+                list_change(&mut self.log, Change { put: false, name });
             }
             Prepared::Nothing | Prepared::Put(_) => unreachable!(),
         }
@@ -214,6 +217,39 @@ impl<W: Truth> Rows<W> {
         ensures holds { IsIndex W.true_row self.new }
     {
         let prepared = mem::replace(&mut self.prepared, Prepared::Nothing);
-        places::list_change(&mut self.log, void_change(prepared));
+        give_up(&mut self.rows, &prepared);
+        list_change(&mut self.log, void_change(prepared));
     }
+}
+
+/// Gives up the room that was made for a put.
+fn give_up(rows: &mut RowMap, prepared: &Prepared)
+    ensures { rows_in rows.new ≡ rows_in rows.old }
+{
+    if let Prepared::Put(row) = prepared {
+        rows.give_up(&row.name.path);
+    }
+}
+
+/// Gives up the room that was made for a put of another path.
+fn give_up_other(rows: &mut RowMap, prepared: &Prepared, path: &CanonPath)
+    ensures room { HasSlot path.now rows.old → HasSlot path.now rows.new }
+    ensures rows { rows_in rows.new ≡ rows_in rows.old }
+{
+    if let Prepared::Put(row) = prepared
+        && row.name.path != *path
+    {
+        rows.give_up(&row.name.path);
+    }
+}
+
+/// A copy of each row's name.
+fn row_names(alloc: Global, rows: RowIter<'_>) -> Result<Vec<Name>, AllocError>
+    ensures { IfOk result (λ names. names.items ≡ row_names rows.entry) }
+{
+    let mut names = Vec::new(alloc);
+    for row in rows {
+        names.push(row.name.copy(alloc)?)?;
+    }
+    Ok(names)
 }

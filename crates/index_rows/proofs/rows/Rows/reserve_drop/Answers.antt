@@ -1,8 +1,9 @@
 -- The name is that of the path's row, and the log has room.
-use Rattle.std.proofs.Common.{◌≡◌, ◌≢◌, length, vec_len, rules, arith, sym, ◌∙◌, ap, Some, List}
+use Rattle.std.proofs.Common.{◌≡◌, ◌≢◌, length, vec_len, rules, arith, sym, ◌∙◌, ap, Some}
 use Rattle.row_types.specs.Row.{RowFacts}
 use Rattle.row_types.specs.Name.{NameFacts}
 use Rattle.index_rows.specs.Rows.{row_at}
+use Rattle.index_rows.specs.Slots.{rows_in}
 use Rattle.index_rows.specs.declared.rows.TheConstants.{LOG_LIMIT}
 use Rattle.index_rows.proofs.KeptLemmas.{drop_ready}
 use Rattle.index_rows.proofs.rows.Rows.reserve_drop.Goals as goal
@@ -11,9 +12,8 @@ pub returns-clause-holds : goal.returns-clause-holds
 returns-clause-holds g c =
     let len_is : length c.self.inside.log.items ≡ vec_len c.self.inside.log = search rules in
     let less : length c.self.inside.log.items ≢ LOG_LIMIT = λ e. c.if-len-eq-LOG_LIMIT.false (c.len.ensures ∙ sym len_is ∙ e) in
-    let there : row_at c.args.path.now c.self.inside.rows.items ≡ Some c.in-Some.row.now =
-    ap (λ (rows : List RowFacts). row_at c.args.path.now rows) (sym c.as_slice.ensures.value) ∙ sym c.in-Some.ensures.value in
-    drop_ready c.args.path.now c.self.invariant.index less there (c.in_ok-name-in-Some.ensures ∙ ap (λ (r : RowFacts). r.name) c.row.view_is) c.reserve.ensures.items
+    let there : row_at c.args.path.now (rows_in c.self.inside.rows) ≡ Some c.in-Some.row.now = sym c.in-Some.ensures.value in
+    drop_ready c.args.path.now c.self.invariant.index less there (c.in_ok-name-in-Some.ensures ∙ ap (λ (r : RowFacts). r.name) c.row.view_is) c.give_up_other.ensures.rows c.reserve.ensures.items
 
 pub returns-clause-ready : goal.returns-clause-ready
 returns-clause-ready g c = ap (λ (n : NameFacts). n.path) (c.in_ok-name-in-Some.ensures ∙ ap (λ (r : RowFacts). r.name) c.row.view_is) ∙ c.in-Some.ensures.path
@@ -22,10 +22,9 @@ pub invariant_of-self-in-Some : goal.invariant_of-self-in-Some
 invariant_of-self-in-Some g c =
     let len_is : length c.self.inside.log.items ≡ vec_len c.self.inside.log = search rules in
     let less : length c.self.inside.log.items ≢ LOG_LIMIT = λ e. c.if-len-eq-LOG_LIMIT.false (c.len.ensures ∙ sym len_is ∙ e) in
-    let there : row_at c.args.path.now c.self.inside.rows.items ≡ Some c.in-Some.row.now =
-    ap (λ (rows : List RowFacts). row_at c.args.path.now rows) (sym c.as_slice.ensures.value) ∙ sym c.in-Some.ensures.value in
+    let there : row_at c.args.path.now (rows_in c.self.inside.rows) ≡ Some c.in-Some.row.now = sym c.in-Some.ensures.value in
     record {
       index =
-          drop_ready c.args.path.now c.self.invariant.index less there (c.in_ok-name-in-Some.ensures ∙ ap (λ (r : RowFacts). r.name) c.row.view_is) c.reserve.ensures.items;
+          drop_ready c.args.path.now c.self.invariant.index less there (c.in_ok-name-in-Some.ensures ∙ ap (λ (r : RowFacts). r.name) c.row.view_is) c.give_up_other.ensures.rows c.reserve.ensures.items;
       room = omega (arith, c.in_ok-reserve-in-Some.ensures.ok);
     }

@@ -1,0 +1,118 @@
+//! The rows by path, and room for one that is to come.
+
+ghost use Rattle.std.specs.Prelude.{◌≡◌, ◌≢◌, ◌<◌, [], length, None, Some, IsSome, IfSome, OnOk};
+ghost use Rattle.std.specs.Option.{option_copied};
+ghost use Rattle.index_rows.specs.declared.rows.TheConstants.{LOG_LIMIT};
+ghost use Rattle.index_rows.specs.Rows.{row_at, with_row, without_row};
+ghost use Rattle.index_rows.specs.Slots.{HasSlot, KeepsOthers, KeepsSlots, rows_in, slot_at};
+ghost use Rattle.std.specs.Map.{values_of};
+
+use row_types::{CanonPath, Row};
+use std::alloc::{AllocError, Global};
+use std::collections::BTreeMap;
+use std::collections::btree_map::Values;
+use std::marker::Model;
+
+/// Rows by path, each path once, in a tree. A path's slot can be made before its row comes, which
+/// then needs no memory. Contracts see it as the list of its slots.
+#[derive(Drop)]
+pub(crate) struct RowMap {
+    slots: BTreeMap<CanonPath, Option<Row>>,
+    len: usize,
+}
+
+impl Model for RowMap {
+    ghost use Rattle.std.specs.Prelude.{◌≡◌, List, length};
+    ghost use Rattle.index_rows.specs.Slots.{AreSlots, Slot, rows_in};
+
+    ghost Value = { List Slot };
+
+    ghost view = { λ m. m.slots.entries };
+
+    ghost invariant = { λ m. AreSlots m.slots.entries × (m.len ≡ length (rows_in m.slots.entries)) };
+}
+
+impl RowMap {
+    /// No rows.
+    pub fn new(alloc: Global) -> RowMap
+        ensures { result ≡ [] }
+    {
+        RowMap {
+            slots: BTreeMap::new(alloc),
+            len: 0,
+        }
+    }
+
+    /// The number of rows.
+    pub fn len(&self) -> usize
+        ensures { result ≡ length (rows_in self.now) }
+    {
+        self.len
+    }
+
+    /// The path's row.
+    pub fn get(&self, path: &CanonPath) -> Option<&Row>
+        ensures value { option_copied result ≡ row_at path.now (rows_in self.now) }
+        ensures path { IfSome result (λ row. row.now.name.path ≡ path.now) }
+    {
+        match self.slots.get(path) {
+            Some(slot) => slot.as_ref(),
+            None => None,
+        }
+    }
+
+    /// All slots, in path order.
+    pub fn slots(&self) -> Values<'_, CanonPath, Option<Row>>
+        ensures { result ≡ values_of self.now }
+    {
+        self.slots.values()
+    }
+
+    /// Makes the path's slot, if there is none.
+    pub fn make_room(&mut self, alloc: Global, path: &CanonPath) -> Result<(), AllocError>
+        ensures ok { OnOk result (HasSlot path.now self.new) }
+        ensures keeps { KeepsSlots self.old self.new }
+        ensures rows { rows_in self.new ≡ rows_in self.old }
+    {
+        if !self.slots.contains_key(path) {
+            self.slots.insert(path.copy(alloc)?, None)?;
+        }
+        Ok(())
+    }
+
+    /// Gives the path's slot up, if no row is in it.
+    pub fn give_up(&mut self, path: &CanonPath)
+        ensures gone { slot_at path.now self.new ≢ Some None }
+        ensures others { KeepsOthers path.now self.old self.new }
+        ensures rows { rows_in self.new ≡ rows_in self.old }
+    {
+        if let Some(None) = self.slots.get(path) {
+            self.slots.remove(path);
+        }
+    }
+
+    /// Puts the row into the slot of its path.
+    pub fn put(&mut self, row: Row)
+        requires slot { HasSlot row.name.path self.old }
+        requires fits { length (rows_in self.old) < LOG_LIMIT }
+        ensures { rows_in self.new ≡ with_row row (rows_in self.old) }
+    {
+        match self.slots.get_mut(&row.name.path) {
+            Some(slot) => {
+                if slot.replace(row).is_none() {
+                    self.len += 1;
+                }
+            }
+            None => unreachable!(),
+        }
+    }
+
+    /// Drops the path's row, and its slot.
+    pub fn remove(&mut self, path: &CanonPath)
+        requires { IsSome (row_at path.now (rows_in self.old)) }
+        ensures { rows_in self.new ≡ without_row path.now (rows_in self.old) }
+    {
+        self.slots.remove(path);
+        self.len -= 1;
+    }
+}
