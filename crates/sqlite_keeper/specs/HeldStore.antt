@@ -1,0 +1,51 @@
+-- The store of a connection (this project's rule): the connection goes to the keeper, and comes back with it.
+use Rattle.std.specs.Prelude.{◌≡◌, ℕ, false, [], Option, Some, None, IsSomeAnd, MatchOption, IsTrue, refl}
+use Rattle.std.specs.Coded.{Coded, code_by, coded×, coded_ℕ, coded_option}
+use Rattle.row_types.specs.Faults.{summed}
+use Rattle.index_keeper.specs.Store.{ShownStore}
+use Rattle.index_keeper.specs.declared.answer.StoreAnswer.{StoreAnswer}
+use Rattle.index_keeper.specs.declared.answer.StoreAnswer.TheVariants.{Opened, Failed, OutOfMemory}
+use Rattle.sqlite.specs.Held.{Held, held_code}
+use Rattle.sqlite.specs.Store.{Ghosts}
+use Rattle.sqlite_keeper.specs.Begins.{Begins}
+use Rattle.sqlite_keeper.specs.Keeper.{KeeperFacts}
+
+-- the connection, while no keeper is out; how often an opening, or a call of a keeper that was given back, failed;
+-- the number of the last opening
+pub record HeldFacts (S : Type 0) : Type 0 where
+  pub connection : Option (Held S)
+  pub faults : ℕ
+  pub epoch : ℕ
+
+-- a store is stored as its parts
+abbrev pub held_facts_code : {S : Type 0} → Coded S → Coded (HeldFacts S)
+held_facts_code {S} store =
+    code_by (Option (Held S) × (ℕ × ℕ)) (coded× (coded_option (held_code store)) (coded× coded_ℕ coded_ℕ)) (λ s. (s.connection, (s.faults, s.epoch)))
+    (λ p. record { connection = p.0; faults = p.1.0; epoch = p.1.1 }) (λ _. refl)
+
+-- what the store shows: its number and its count
+abbrev pub held_shown : {S : Type 0} → HeldFacts S → ShownStore
+held_shown store = record { tables = []; made = None; epoch = store.epoch; faults = store.faults; paths = None }
+
+-- the store that holds the connection, and was never opened
+abbrev pub holding : {S : Type 0} → Held S → HeldFacts S
+holding connection = record { connection = Some connection; faults = 0; epoch = 0 }
+
+-- the connection was held, and is the keeper's now
+pub record HandsOut {S : Type 0} (g : Ghosts S) (before after : HeldFacts S) (keeper : KeeperFacts S) : Type 0 where
+  pub began : IsSomeAnd before.connection (λ held. Begins g before.epoch held keeper)
+  pub empty : after.connection ≡ None
+
+-- a connection is held afterwards where one was held before; inside a transaction it is as it was
+abbrev pub PutsBack : {S : Type 0} → Option (Held S) → Option (Held S) → Type 0
+PutsBack before after = MatchOption before (after ≡ None) (λ held. IsSomeAnd after (λ again. IsTrue held.in_transaction → again ≡ held))
+
+-- what an opening does with the connection, by its answer; without one it fails
+abbrev pub Hands : {S : Type 0} → Ghosts S → HeldFacts S → HeldFacts S → StoreAnswer (KeeperFacts S) → Type 0
+Hands g before after (Opened keeper) = HandsOut g before after keeper
+Hands g before after Failed = PutsBack before.connection after.connection
+Hands g before after OutOfMemory = IsSomeAnd before.connection (λ held. held.in_transaction ≡ false) × PutsBack before.connection after.connection
+
+-- the store after its keeper was given back
+abbrev pub after_giving : {S : Type 0} → HeldFacts S → KeeperFacts S → HeldFacts S
+after_giving store keeper = record store { connection = Some keeper.connection; faults = summed store.faults keeper.faults }

@@ -1,0 +1,108 @@
+//! The store of a connection that it was given.
+
+ghost use Rattle.std.specs.Prelude.{◌≡◌, false};
+ghost use Rattle.index_keeper.specs.Store.{OpensStore, TakesBack};
+ghost use Rattle.sqlite_keeper.specs.HeldStore.{Hands, after_giving, held_shown, holding};
+ghost use Rattle.sqlite_keeper.specs.Keeper.{keeper_shown};
+
+use crate::fault::SqlFault;
+use crate::keeper::SqliteKeeper;
+use crate::telling::Telling;
+use index_keeper::{Store, StoreAnswer};
+use row_types::{Faults, OpenWorld};
+use sqlite::{Alter, Connection};
+use std::alloc::Global;
+use std::marker::Model;
+
+/// The store of the connection that it holds, whatever the path. The connection goes to the keeper
+/// that is opened, and comes back with it. Contracts see the store as a record of the connection
+/// that it holds, its count of faults and the number of its last opening.
+#[derive(Drop)]
+pub struct HeldStore<F: Alter> {
+    connection: Option<Connection<F>>,
+    faults: Faults,
+    epoch: u64,
+}
+
+impl<F: Alter> Model for HeldStore<F> {
+    ghost use Rattle.sqlite_keeper.specs.HeldStore.{HeldFacts, held_facts_code};
+
+    ghost Value = { HeldFacts F };
+
+    ghost coded = { held_facts_code F.code };
+
+    ghost view = { λ s. record {
+      connection = s.connection;
+      faults = s.faults;
+      epoch = s.epoch;
+    } };
+}
+
+impl<F: Alter> HeldStore<F> {
+    /// The store that holds this connection, before its first opening.
+    pub fn new(connection: Connection<F>) -> HeldStore<F>
+        ensures { result ≡ holding connection }
+    {
+        HeldStore {
+            connection: Some(connection),
+            faults: Faults::new(),
+            epoch: 0,
+        }
+    }
+
+    /// The connection, if the store holds one.
+    pub fn into_connection(self) -> Option<Connection<F>>
+        ensures { result ≡ self.connection }
+    {
+        let HeldStore {
+            connection,
+            faults: _,
+            epoch: _,
+        } = self;
+        connection
+    }
+}
+
+impl<F: Telling + Send + Drop> Store<OpenWorld> for HeldStore<F> {
+    ghost use Rattle.sqlite_keeper.specs.HeldStore.{held_shown};
+
+    type K = SqliteKeeper<F>;
+
+    ghost shows = { held_shown };
+
+    fn open_store(&mut self, _alloc: Global, path: &str) -> StoreAnswer<SqliteKeeper<F>>
+        ensures opens { OpensStore false keeper_shown path.now (held_shown self.old)
+            (held_shown self.new) result }
+        ensures hands { Hands F.Store self.old self.new result }
+    {
+        let Some(connection) = self.connection.take() else {
+            self.faults.raise();
+            return StoreAnswer::Failed;
+        };
+        match SqliteKeeper::open(connection, self.epoch) {
+            Ok(keeper) => {
+                self.epoch = keeper.number();
+                StoreAnswer::Opened(keeper)
+            }
+            Err((fault, connection)) => {
+                self.connection = Some(connection);
+                match fault {
+                    SqlFault::OutOfMemory => StoreAnswer::OutOfMemory,
+                    SqlFault::Failed => {
+                        self.faults.raise();
+                        StoreAnswer::Failed
+                    }
+                }
+            }
+        }
+    }
+
+    fn give_back(&mut self, keeper: SqliteKeeper<F>)
+        ensures takes { TakesBack false (keeper_shown keeper) (held_shown self.old)
+            (held_shown self.new) }
+        ensures after { self.new ≡ after_giving self.old keeper }
+    {
+        self.faults.add(keeper.faults());
+        self.connection = Some(keeper.into_connection());
+    }
+}

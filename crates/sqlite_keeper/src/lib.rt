@@ -1,0 +1,20 @@
+//! The store in a file: rows that are kept by the SQL of `sqlite`, and what its answers mean for a
+//! keeper. What the bytes of a row are is said elsewhere, and nothing is told of the tables.
+#![tactic(auto)]
+
+mod adopt;
+mod fault;
+mod file_store;
+mod held_store;
+mod keeper;
+mod rows;
+mod sql;
+mod telling;
+#[cfg(test)]
+mod tests;
+
+pub use adopt::AdoptAnswer;
+pub use file_store::SqliteStore;
+pub use held_store::HeldStore;
+pub use keeper::SqliteKeeper;
+pub use telling::Telling;

@@ -1,0 +1,142 @@
+//! The texts of the store, each run by a function of its own. A file keeps the texts of its tables
+//! as they were written, so these and their order stay.
+
+ghost use Rattle.std.specs.Prelude.{◌≡◌, [], ◌∷◌, IfOk, OnOk};
+ghost use Rattle.sqlite.specs.Given.{HasBegun};
+ghost use Rattle.sqlite.specs.Held.{state};
+ghost use Rattle.sqlite.specs.State.{HasCleanDisk, Executes, Survives, CommitsBy, QueriesRow};
+ghost use Rattle.sqlite.specs.declared.types.Value.TheVariants.{Blob, Text};
+ghost use Rattle.index_keeper.specs.declared.answer.KeepAnswer.TheVariants.{Done};
+ghost use Rattle.sqlite_keeper.specs.Statements.{Changes, IsCommitted, Raises, answer_to};
+ghost use Rattle.sqlite_keeper.specs.Statements.{kept_table, epoch_table, put_text, remove_text};
+ghost use Rattle.sqlite_keeper.specs.Statements.{raise_text, rows_text};
+
+use crate::fault::SqlFault;
+use index_keeper::KeepAnswer;
+use sqlite::{Alter, Connection, Error, Row, Rows, params};
+
+/// Makes the table of the rows, where it isn't there.
+const KEPT_TABLE: &str =
+    "CREATE TABLE IF NOT EXISTS kept(path TEXT PRIMARY KEY NOT NULL, body BLOB NOT NULL) STRICT";
+
+/// Makes the table of the number of openings, where it isn't there.
+const EPOCH_TABLE: &str = "CREATE TABLE IF NOT EXISTS epoch\
+    (one INTEGER PRIMARY KEY CHECK (one = 1), n INTEGER NOT NULL) STRICT";
+
+/// Gives all rows, by path.
+const ROWS: &str = "SELECT path, body FROM kept ORDER BY path";
+
+/// Keeps the second parameter's bytes under the first one's path.
+const PUT: &str = "INSERT INTO kept(path, body) VALUES (?1, ?2) \
+    ON CONFLICT(path) DO UPDATE SET body = excluded.body";
+
+/// Keeps nothing under the parameter's path.
+const REMOVE: &str = "DELETE FROM kept WHERE path = ?1";
+
+/// Makes the number of openings one greater, or 1, and gives it.
+const RAISE: &str = "INSERT INTO epoch(one, n) VALUES (1, 1) \
+    ON CONFLICT(one) DO UPDATE SET n = n + 1 RETURNING n";
+
+/// Makes the table of the rows, where it isn't there.
+pub fn make_kept<F: Alter>(connection: &mut Connection<F>) -> Result<usize, Error>
+    ensures { HasCleanDisk (state F.Store connection.new) → Executes kept_table []
+        (state F.Store connection.old) (state F.Store connection.new) result }
+{
+    connection.execute(KEPT_TABLE, &[])
+}
+
+/// Makes the table of the number of openings, where it isn't there.
+pub fn make_epoch<F: Alter>(connection: &mut Connection<F>) -> Result<usize, Error>
+    ensures { HasCleanDisk (state F.Store connection.new) → Executes epoch_table []
+        (state F.Store connection.old) (state F.Store connection.new) result }
+{
+    connection.execute(EPOCH_TABLE, &[])
+}
+
+/// Runs the statement that raises the number of openings.
+fn run_raise<F: Alter>(connection: &mut Connection<F>) -> Result<Row, Error>
+    ensures { HasCleanDisk (state F.Store connection.new) → QueriesRow raise_text []
+        (state F.Store connection.old) (state F.Store connection.new) result }
+{
+    connection.query_row(RAISE, &[])
+}
+
+/// Raises the number of openings, and gives it.
+pub fn raise_epoch<F: Alter>(connection: &mut Connection<F>) -> Result<u64, SqlFault>
+    ensures { IfOk result (Raises F.Store connection.old connection.new) }
+{
+    let row = run_raise(connection)?;
+    let number = row.get(0)?;
+    if !connection.is_autocommit() {
+        return Err(SqlFault::Failed);
+    }
+    Ok(number)
+}
+
+/// Begins to read all rows, by path.
+pub fn rows<F: Alter>(connection: &mut Connection<F>) -> Result<Rows<'_, F>, SqlFault>
+    ensures { IfOk result (λ rows. HasCleanDisk (state F.Store rows.conn.now) →
+        HasBegun F.Store rows_text [] connection.old rows.conn.now) }
+{
+    Ok(connection.query(ROWS, &[])?)
+}
+
+/// What a change came to. It is done where no transaction waits for its end.
+fn settle<F: Alter>(connection: &Connection<F>, came: Result<usize, Error>) -> KeepAnswer
+    ensures answer { result ≡ answer_to came connection.now.in_transaction }
+    ensures committed { result ≡ Done → IsCommitted (state F.Store connection.now) }
+{
+    match came {
+        Ok(_) if connection.is_autocommit() => KeepAnswer::Done,
+        Ok(_) => KeepAnswer::Failed,
+        Err(error) => match SqlFault::from(error) {
+            SqlFault::OutOfMemory => KeepAnswer::OutOfMemory,
+            SqlFault::Failed => KeepAnswer::Failed,
+        },
+    }
+}
+
+/// Runs the statement that keeps the bytes under the path.
+fn run_put<F: Alter>(
+    connection: &mut Connection<F>,
+    path: &str,
+    bytes: &[u8],
+) -> Result<usize, Error>
+    ensures runs { HasCleanDisk (state F.Store connection.new) → Executes put_text
+        (Text path.now ∷ Blob bytes.now ∷ [])
+        (state F.Store connection.old) (state F.Store connection.new) result }
+    ensures survives { Survives (state F.Store connection.old) (state F.Store connection.new)
+        (CommitsBy put_text (Text path.now ∷ Blob bytes.now ∷ [])
+        (state F.Store connection.old)) }
+{
+    connection.execute(PUT, params![path, bytes])
+}
+
+/// Keeps the bytes under the path, in place of those that were kept there.
+pub fn put<F: Alter>(connection: &mut Connection<F>, path: &str, bytes: &[u8]) -> KeepAnswer
+    ensures { Changes F.Store put_text (Text path.now ∷ Blob bytes.now ∷ [])
+        connection.old connection.new result }
+{
+    let came = run_put(connection, path, bytes);
+    settle(connection, came)
+}
+
+/// Runs the statement that keeps nothing under the path.
+fn run_remove<F: Alter>(connection: &mut Connection<F>, path: &str) -> Result<usize, Error>
+    ensures runs { HasCleanDisk (state F.Store connection.new) → Executes remove_text
+        (Text path.now ∷ [])
+        (state F.Store connection.old) (state F.Store connection.new) result }
+    ensures survives { Survives (state F.Store connection.old) (state F.Store connection.new)
+        (CommitsBy remove_text (Text path.now ∷ []) (state F.Store connection.old)) }
+{
+    connection.execute(REMOVE, params![path])
+}
+
+/// Keeps nothing under the path.
+pub fn remove<F: Alter>(connection: &mut Connection<F>, path: &str) -> KeepAnswer
+    ensures { Changes F.Store remove_text (Text path.now ∷ [])
+        connection.old connection.new result }
+{
+    let came = run_remove(connection, path);
+    settle(connection, came)
+}
