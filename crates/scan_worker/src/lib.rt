@@ -1,11 +1,17 @@
-//! Reading one listed file: it is loaded, and its row is made. Which files are listed, and what
-//! becomes of the row, stand in other crates.
+//! The work of one thread on a pass: it takes names from an index behind its lock, loads their
+//! files while the lock is free, and hands in their rows. Beginning a pass, and deciding how it
+//! ended, stand in other crates.
 #![tactic(auto)]
 
 mod read;
+mod tally;
 #[cfg(test)]
 mod tests;
+mod turn;
 mod work_end;
+mod worker;
 
 pub use read::{NameRead, read_name};
+pub use tally::WorkReport;
 pub use work_end::WorkEnd;
+pub use worker::work;

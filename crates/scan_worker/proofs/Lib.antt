@@ -1,0 +1,3 @@
+pub mod HandLemmas
+pub mod LogLemmas
+pub mod WorkLemmas

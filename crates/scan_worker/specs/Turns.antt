@@ -1,0 +1,122 @@
+-- What becomes of one listed file (this crate's bookkeeping, which no public clause cites).
+use Rattle.std.specs.Prelude.{◌≡◌, ℕ, ◌+◌, ◌-◌, ◌^◌, ◌≤◌, min, Bool, true, false, List, Option, Some, None}
+use mathlib.Core.List.{IsPrefix}
+use Rattle.row_types.specs.Name.{NameFacts}
+use Rattle.index_keeper.specs.Keeper.{ShownKeeper}
+use Rattle.index_rows.specs.declared.change.Change.{Change}
+use Rattle.index_state.specs.Away.{MissesOut}
+use Rattle.index_state.specs.State.{StateFacts}
+use Rattle.index_state.specs.Step.{Publishes}
+use Rattle.index_state.specs.declared.answer.Published.{Published}
+use Rattle.index_state.specs.declared.answer.Published.TheVariants as said
+use Rattle.scan_queue.specs.declared.miss.Cause.{Cause}
+use Rattle.scan_queue.specs.declared.miss.Cause.TheVariants as cause
+use Rattle.tree_trait.specs.Found.{Versions}
+use Rattle.tree_trait.specs.Listens.{Listens, heard_of}
+use Rattle.tree_trait.specs.Load.{LoadFacts}
+use Rattle.tree_trait.specs.Shown.{ShownTree}
+use Rattle.scan_worker.specs.Counts.{puts}
+use Rattle.scan_worker.specs.Ends.{EndShows}
+use Rattle.scan_worker.specs.Read.{LeadsTo, load_of}
+use Rattle.scan_worker.specs.declared.read.NameRead.{NameRead}
+use Rattle.scan_worker.specs.declared.read.NameRead.TheVariants as read
+use Rattle.scan_worker.specs.declared.tally.Tally.{Tally}
+use Rattle.scan_worker.specs.declared.tally.WorkReport.{WorkReport}
+use Rattle.scan_worker.specs.declared.turn.Turn.{Turn}
+use Rattle.scan_worker.specs.declared.turn.Turn.TheVariants.{Published as DonePublished, Passed, Missed, Ended}
+use Rattle.scan_worker.specs.declared.work_end.WorkEnd.{WorkEnd}
+use Rattle.scan_worker.specs.declared.work_end.WorkEnd.TheVariants as end
+
+-- what an answer to a row means for the work
+abbrev pub turn_of : Published → Turn
+turn_of said.Added = DonePublished
+turn_of said.Replaced = DonePublished
+turn_of said.Already = Passed
+turn_of (said.NotListed listed) = Passed
+turn_of said.Broken = Ended end.Broken
+turn_of said.LogFull = Ended end.LogFull
+turn_of said.KeeperFault = Ended end.KeeperFault
+turn_of said.OutOfMemory = Ended end.OutOfMemory
+
+-- the name was noted as missed, if it was out
+abbrev pub TurnsByMiss : {K : Type 0} → NameFacts → Cause → StateFacts K → Turn → StateFacts K → Type 0
+TurnsByMiss name why old Missed new = MissesOut name why old true new
+TurnsByMiss name why old Passed new = MissesOut name why old false new
+TurnsByMiss name why old _ new = ⊥
+
+-- what the index is told of a listed file that was read: its row; or that the name was missed, since another file stood
+-- there or none, or since it could not be read
+abbrev pub Tells : {W K : Type 0} → Bool → (K → ShownKeeper) → NameFacts → NameRead W → StateFacts K → Turn → StateFacts K
+    → Type 0
+Tells told shows name (read.Row row) old turn new =
+    (answer : Published) × Publishes told shows row old answer new × (turn ≡ turn_of answer)
+Tells told shows name (read.Altered met) old turn new = TurnsByMiss name (cause.Altered met) old turn new
+Tells told shows name read.Failed old turn new = TurnsByMiss name cause.ReadFault old turn new
+Tells told shows name read.OutOfMemory old turn new = (turn ≡ Ended end.OutOfMemory) × (new ≡ old)
+
+-- what may become of a listed file, by how it was read
+abbrev pub FitsRead : {W : Type 0} → NameRead W → Turn → Type 0
+FitsRead read.OutOfMemory turn = turn ≡ Ended end.OutOfMemory
+FitsRead (read.Row row) Missed = ⊥
+FitsRead (read.Row row) _ = Unit {0}
+FitsRead _ Missed = Unit {0}
+FitsRead _ Passed = Unit {0}
+FitsRead _ _ = ⊥
+
+-- the names that it adds to those published, and to those missed
+abbrev pub published_by : Turn → ℕ
+published_by DonePublished = 1
+published_by _ = 0
+
+abbrev pub missed_by : Turn → ℕ
+missed_by Missed = 1
+missed_by _ = 0
+
+-- how the work ends by it
+abbrev pub end_by : Turn → Option WorkEnd
+end_by (Ended end) = Some end
+end_by _ = None
+
+-- the log shows why the work ended
+abbrev pub TurnShows : Turn → List Change → Type 0
+TurnShows (Ended end) log = EndShows end log
+TurnShows _ log = Unit {0}
+
+-- the log goes on, the origin stays, and so many names more were put
+pub record Grows {K : Type 0} (old new : StateFacts K) (count : ℕ) : Type 0 where
+  pub log : IsPrefix old.log new.log
+  pub origin : new.origin ≡ old.origin
+  pub puts : puts old.log + count ≤ puts new.log
+
+-- whether the load of a listed file counts
+abbrev pub counted_by : {W : Type 0} → NameRead W → ℕ
+counted_by read.OutOfMemory = 0
+counted_by _ = 1
+
+-- a load is counted, unless memory was refused
+abbrev pub CountsLoad : {W : Type 0} → NameRead W → Tally → Tally → Type 0
+CountsLoad read.OutOfMemory tally later_tally = later_tally ≡ tally
+CountsLoad _ tally later_tally = later_tally ≡ record tally { asked = min (tally.asked + 1) (2 ^ 64 - 1) }
+
+-- a listed file was loaded, and counted
+pub record AsksFor {W : Type 0} (told : Bool) (version : Versions) (name : NameFacts) (before after : ShownTree)
+    (tally later_tally : Tally) (given : NameRead W) : Type 0 where
+  pub answer : LoadFacts
+  pub listens : Listens told version before after (heard_of (load_of name answer))
+  pub leads : LeadsTo name answer given
+  pub counts : CountsLoad given tally later_tally
+
+-- what became of a listed file is counted
+abbrev pub CountsTurn : Turn → Tally → Tally → Type 0
+CountsTurn DonePublished tally later_tally =
+    later_tally ≡ record tally { published = min (tally.published + 1) (2 ^ 64 - 1) }
+CountsTurn Missed tally later_tally = later_tally ≡ record tally { missed = min (tally.missed + 1) (2 ^ 64 - 1) }
+CountsTurn _ tally later_tally = later_tally ≡ tally
+
+-- nothing was done
+abbrev pub no_tally : Tally
+no_tally = record { asked = 0; published = 0; missed = 0 }
+
+-- the report of the work that ended so
+abbrev pub report_of : Tally → WorkEnd → WorkReport
+report_of tally end = record { asked = tally.asked; published = tally.published; missed = tally.missed; end = end }
