@@ -1,0 +1,4 @@
+mod CountLemmas
+mod GroomLemmas
+mod HandLemmas
+mod JudgeLemmas

@@ -1,0 +1,16 @@
+pub use Rattle.row_types.specs.Faults
+pub use Rattle.row_types.specs.Name
+pub use Rattle.index_rows.specs.Log
+pub use Rattle.index_lock.specs.Tokens
+pub use Rattle.index_state.specs.Changes
+pub use Rattle.index_state.specs.State
+pub use Rattle.tree_trait.specs.Asks
+pub use Rattle.tree_trait.specs.Found
+pub use Rattle.tree_trait.specs.Heard
+pub use Rattle.tree_trait.specs.Listens
+pub use Rattle.tree_trait.specs.Shown
+pub mod Counts
+pub mod Ends
+pub mod Grooms
+pub mod Judged
+pub mod Looks

@@ -1,0 +1,4 @@
+mod cases;
+mod helpers;
+mod orders;
+mod told;
