@@ -79,6 +79,22 @@ fn sources_of(alloc: Global, units: &[Option<&[u8]>], line: &[u8]) -> Result<Sou
     sources(alloc, &parts)
 }
 
+/// The sources of a unit that names this line table, whose texts stand in this section.
+fn sources_by(alloc: Global, line: &[u8], line_str: &[u8]) -> Result<Sources, AllocError> {
+    let mut info = Vec::new(alloc);
+    push_unit(&mut info, None)?;
+    let parts = DebugParts {
+        info: info.as_slice(),
+        abbrev: ABBREV,
+        line,
+        str: &[],
+        line_str,
+        str_offsets: &[],
+        order: Order::Little,
+    };
+    sources(alloc, &parts)
+}
+
 /// Whether these are the paths.
 fn are(rt: &impl Abort, what: &str, found: &Sources, expected: &[&str]) {
     assert_eq!(rt; found.paths().len(), expected.len(), "{what}");
@@ -254,18 +270,8 @@ fn a_text_ends_with_a_0(rt: HostRuntime) -> Result<(), Fail> {
         (b"", &[]),
     ];
     for (line_str, expected) in cases {
-        let mut info = Vec::new(alloc);
-        push_unit(&mut info, None)?;
-        let parts = DebugParts {
-            info: info.as_slice(),
-            abbrev: ABBREV,
-            line: line.as_slice(),
-            str: &[],
-            line_str,
-            str_offsets: &[],
-            order: Order::Little,
-        };
-        are(&rt, "ends", &sources(alloc, &parts)?, expected);
+        let found = sources_by(alloc, line.as_slice(), line_str)?;
+        are(&rt, "ends", &found, expected);
     }
     Ok(())
 }
