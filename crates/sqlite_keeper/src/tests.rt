@@ -1,8 +1,7 @@
-//! What no clause says: that memory suffices, which rows come back, and what a stop leaves of them.
+//! What no clause says: that memory suffices, and which rows come back.
 
 mod file;
 mod openings;
 mod refusals;
 mod rig;
 mod rows;
-mod stops;
