@@ -29,13 +29,14 @@ judge() { # WANTED STATUS OUT ERR WHAT
 
 # Words that can't be read, and commands that aren't built yet.
 for words in '' 'frobnicate' '--help' 'ident' 'ident a b' 'sources' 'sources a b' 'section a' 'section a b c' 'scan' \
-  'scan -d m usr' 'scan -d m /usr usr'; do
+  'scan -d m usr' 'scan -d m /usr usr' 'scan /usr' 'scan -d m' 'scan -d m /usr -c 0' 'scan -d m -d m /usr' 'query' \
+  'query -d m' 'query -d m 00f' 'query -d m -c 2 00ff'; do
   # shellcheck disable=SC2086
   ends 2 '' "$usage"$'\n' "$program" $words
 done
 ends 2 '' "$usage"$'\n' "$program" ident $'a\xffb'
 ends 2 '' "$usage"$'\n' "$program" $'ident\xff' a
-for words in 'query -d m 00ff' 'serve -d m /usr' 'trial 1 2 3' 'scan /usr' 'scan -d m' 'scan -d m /usr -c 2'; do
+for words in 'serve -d m /usr' 'trial 1 2 3'; do
   # shellcheck disable=SC2086
   ends 8 '' $'dbgd: not built yet\n' "$program" $words
 done
@@ -57,10 +58,15 @@ for path in "$work/none" "$work" "$work/text/none" "$work/round" "$work/round/no
 done
 ends 3 '' "dbgd: gone $work/none"$'\n' "$program" sources "$work/none"
 ends 3 '' "dbgd: gone $work/none"$'\n' "$program" scan -d m "$work/none"
+ends 3 '' $'dbgd: nothing found\n' "$program" query -d m 00ff
+for words in 'scan --version' 'scan -d m /usr -V'; do
+  # shellcheck disable=SC2086
+  ends 0 $'dbgd scan 0.1.0\n' '' "$program" $words
+done
 mkdir "$work/one"
 printf 'text\n' >"$work/one/text"
 ends 0 $'scan: 1 files, 1 added, 0 replaced, 0 dropped, 0 kept, 0 executables, 0 debuginfo\n' '' \
-  "$program" scan -d m "$work/one/" "$work/.//one"
+  "$program" scan -c 2 "$work/one/" -Fdm "$work/.//one"
 
 # An output that takes nothing; where the standard error takes nothing either, the status says it all.
 if [ -c /dev/full ]; then

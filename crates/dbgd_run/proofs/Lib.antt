@@ -3,7 +3,7 @@ pub mod ChangedLemmas
 pub mod Codes
 pub mod HandLemmas
 pub mod PassLemmas
-pub mod RootLemmas
+pub mod QueryLemmas
 pub mod RowLemmas
 pub mod RunLemmas
 pub mod ScanLemmas

@@ -1,39 +1,119 @@
--- A run, by what its line asks.
-use Rattle.std.proofs.Common.{◌≡◌, ℕ, subst}
-use Rattle.dbgd_run.specs.Causes.{HasStatus}
-use Rattle.dbgd_run.specs.Runs.{IsRun, Runs}
-use Rattle.dbgd_run.specs.Scan.{RunsScan}
+-- A run, by what its words ask.
+use Rattle.std.proofs.Common.{◌≡◌, ◌⊎◌, ℕ, ◌<◌, List, [], length, inl, inr, refl, sym, subst, true}
+use Rattle.index_state.specs.declared.open_fault.OpenFault.TheVariants as refusal
+use Rattle.dbgd_words.specs.Words.{Line, asks_help, asks_ident, asks_query, asks_scan, asks_section, asks_sources, has_options, line_of, unbuilt, unreadable}
+use Rattle.dbgd_words.proofs.OptionLemmas.{AsksByOptions, options_ask}
+use Rattle.dbgd_run.specs.Causes.{HasStatus, HelpStatus}
+use Rattle.dbgd_run.specs.Endings.{Ends, WantsMemory, out_saying}
+use Rattle.dbgd_run.specs.Query.{RunsQuery}
+use Rattle.dbgd_run.specs.Runs.{DoesWords, IsRun, LacksRoom, Runs, SaysHelp}
+use Rattle.dbgd_run.specs.Scan.{RunsScan, Scans}
 use Rattle.dbgd_run.specs.Scene.{Scene, Setting}
 use Rattle.dbgd_run.specs.Statuses.{code_of}
-use Rattle.dbgd_run.specs.Words.{Line, asks_ident, asks_scan, asks_section, asks_sources, unbuilt}
-use Rattle.dbgd_run.specs.Words.{unreadable}
+use Rattle.dbgd_run.specs.declared.query_end.QueryEnd.TheVariants as looked
+use Rattle.dbgd_run.specs.declared.scan_end.ScanEnd.TheVariants as scanned
 use Rattle.dbgd_run.specs.declared.status.Status.{Status}
-use Rattle.dbgd_run.proofs.CauseLemmas.{ident_status, section_status, sources_status}
+use Rattle.dbgd_run.specs.declared.status.Status.TheVariants as status
+use Rattle.dbgd_run.proofs.CauseLemmas.{by_ends, ident_status, section_status, sources_status}
+use Rattle.dbgd_run.proofs.QueryLemmas.{queries_wanting, query_ends, query_status}
 use Rattle.dbgd_run.proofs.ScanLemmas.{scan_ends, scan_status}
+use Rattle.dbgd_run.proofs.StoreLemmas.{scans_wanting}
 
--- what the status says
-has_status : {T : Type 0} (s : Setting T) (line : Line) (before after : Scene T) (end : Status)
-    → Runs s line before after end → HasStatus s line before after end
-has_status s (asks_ident path) before after end run = ident_status s before after end path run
-has_status s (asks_sources path) before after end run = sources_status s before after end path run
-has_status s (asks_section path name) before after end run = section_status s before after end path name run
-has_status s (asks_scan path roots) before after end run = scan_status s path roots before after end run
-has_status s unbuilt before after end run = run.says.ends
-has_status s unreadable before after end run = run.says.ends
+module _ {T : Type 0} (s : Setting T) (words : List (List ℕ)) (before after : Scene T) (end : Status) where
+  -- what the status of a help or version says
+  help_status : SaysHelp before after end → HelpStatus before after end
+  help_status run = go run.says
+    where
+      go : Ends (out_saying run.text status.Done) before.streams after.streams end ⊎ WantsMemory before.streams after.streams end
+          → HelpStatus before after end
+      go (inl ends) = by_ends (HelpStatus before after) (out_saying run.text status.Done) tt (λ rose. rose) ends
+      go (inr wants) = subst (HelpStatus before after) (sym wants.ends) tt
 
--- a part for each command
-pub is_run : {T : Type 0} (s : Setting T) (line : Line) (before after : Scene T) (end : Status) (code : ℕ)
-    → code ≡ code_of end → Runs s line before after end → IsRun s line before after code
-is_run s line before after end code number run = record {
-  status = end;
-  number = number;
-  ident = λ path is. subst (λ (l : Line). Runs s l before after end) is run;
-  sources = λ path is. subst (λ (l : Line). Runs s l before after end) is run;
-  section = λ path name is. subst (λ (l : Line). Runs s l before after end) is run;
-  scan = λ path roots is.
-      let does : RunsScan s path roots before after end = subst (λ (l : Line). Runs s l before after end) is run in
-      record { does = does; ends = scan_ends s path roots before after end does };
-  not_built = λ is. subst (λ (l : Line). Runs s l before after end) is run;
-  usage = λ is. subst (λ (l : Line). Runs s l before after end) is run;
-  causes = has_status s line before after end run;
-}
+  -- what the status says
+  has_status : (line : Line) → Runs s line before after end → HasStatus s words line before after end
+  has_status (asks_ident path) run = ident_status s before after end path run
+  has_status (asks_sources path) run = sources_status s before after end path run
+  has_status (asks_section path name) run = section_status s before after end path name run
+  has_status (asks_query path id) run = query_status s path id before after end run
+  has_status (asks_scan path workers roots) run = scan_status s path roots before after end run
+  has_status asks_help run = help_status run
+  has_status unbuilt run = run.says.ends
+  has_status unreadable run = subst (λ e. HasStatus s words unreadable before after e) (sym run.says.ends) tt
+
+  -- a part for each command
+  pub is_run : (code : ℕ) → code ≡ code_of end → Runs s (line_of words) before after end → IsRun s words before after code
+  is_run code number run = record {
+    status = end;
+    number = number;
+    ident = λ path is. subst (λ (l : Line). Runs s l before after end) is run;
+    sources = λ path is. subst (λ (l : Line). Runs s l before after end) is run;
+    section = λ path name is. subst (λ (l : Line). Runs s l before after end) is run;
+    query = λ path id is.
+        let does : RunsQuery s path id before after end = subst (λ (l : Line). Runs s l before after end) is run in
+        record { does = does; ends = query_ends s path id before after end does };
+    scan = λ path workers roots is.
+        let does : RunsScan s path roots before after end = subst (λ (l : Line). Runs s l before after end) is run in
+        record { does = does; ends = scan_ends s path roots before after end does };
+    help = λ is. subst (λ (l : Line). Runs s l before after end) is run;
+    not_built = λ is. subst (λ (l : Line). Runs s l before after end) is run;
+    usage = λ is. inl (subst (λ (l : Line). Runs s l before after end) is run);
+    causes = has_status (line_of words) run;
+  }
+
+  -- of words that are read as options, where memory was refused
+  module _ (some : 0 < length before.hands) (lacks : LacksRoom words before after end) where
+    query_lacks : (path id : List ℕ) → RunsQuery s path id before after end
+    query_lacks path id = record {
+      answers = record {
+        end = looked.Refused refusal.OutOfMemory;
+        queries = queries_wanting s.tells_tables path id lacks.alone.store;
+        said = lacks.alone.says;
+      };
+      hands = lacks.alone.hands;
+    }
+
+    scan_lacks : (path : List ℕ) (roots : List (List ℕ)) → RunsScan s path roots before after end
+    scan_lacks path roots = record {
+      end = scanned.Refused refusal.OutOfMemory;
+      scans =
+          subst (λ (hands : List T). Scans s path roots before.hands hands before.store after.store (scanned.Refused refusal.OutOfMemory))
+          (sym lacks.alone.hands) (scans_wanting s path some lacks.alone.store);
+      said = lacks.alone.says;
+    }
+
+    asks : (line : Line) → line_of words ≡ line → AsksByOptions line
+    asks line is = subst AsksByOptions is (options_ask words lacks.options)
+
+    lacks_status : (line : Line) → AsksByOptions line → HasStatus s words line before after status.OutOfMemory
+    lacks_status (asks_ident path) never = absurd never
+    lacks_status (asks_sources path) never = absurd never
+    lacks_status (asks_section path name) never = absurd never
+    lacks_status (asks_query path id) asked = tt
+    lacks_status (asks_scan path workers roots) asked = tt
+    lacks_status asks_help asked = tt
+    lacks_status unbuilt never = absurd never
+    lacks_status unreadable asked = lacks.options
+
+    pub lacks_room : (code : ℕ) → code ≡ code_of end → IsRun s words before after code
+    lacks_room code number = record {
+      status = end;
+      number = number;
+      ident = λ path is. absurd (asks (asks_ident path) is);
+      sources = λ path is. absurd (asks (asks_sources path) is);
+      section = λ path name is. absurd (asks (asks_section path name) is);
+      query = λ path id is. record { does = query_lacks path id; ends = query_ends s path id before after end (query_lacks path id) };
+      scan = λ path workers roots is.
+          record { does = scan_lacks path roots; ends = scan_ends s path roots before after end (scan_lacks path roots) };
+      help = λ is. record { text = []; says = inr lacks.alone.says; hands = lacks.alone.hands; store = lacks.alone.store };
+      not_built = λ is. absurd (asks unbuilt is);
+      usage = λ is. inr lacks;
+      causes =
+          subst (λ e. HasStatus s words (line_of words) before after e) (sym lacks.alone.says.ends)
+          (lacks_status (line_of words) (asks (line_of words) refl));
+    }
+
+-- a run of words
+pub runs_words : {T : Type 0} (s : Setting T) (words : List (List ℕ)) (before after : Scene T) (end : Status) (code : ℕ)
+    → code ≡ code_of end → 0 < length before.hands → DoesWords s words before after end → IsRun s words before after code
+runs_words s words before after end code number some (inl run) = is_run s words before after end code number run
+runs_words s words before after end code number some (inr lacks) = lacks_room s words before after end some lacks code number

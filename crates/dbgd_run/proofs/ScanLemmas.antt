@@ -23,7 +23,8 @@ use Rattle.pass_runner.specs.Settled.{IsBacked}
 use Rattle.pass_runner.specs.declared.pass_end.PassEnd.{PassEnd}
 use Rattle.pass_runner.specs.declared.pass_end.PassEnd.TheVariants as ended
 use Rattle.pass_runner.specs.declared.summary.Summary.{Summary}
-use Rattle.dbgd_run.specs.Causes.{EndsOnlyWith, HasSomeBad, HeardGone, HeardMany, HeardOther, IsComplete, IsFreeHand}
+use Rattle.dbgd_run.specs.Causes.{HeardGone, HeardMany, HeardOther, IsComplete, IsFreeHand}
+use Rattle.dbgd_run.specs.Opened.{EndsOnlyWith, HasSomeBad}
 use Rattle.dbgd_run.specs.Causes.{IsUnhindered, ScanEnds, ScanStatus, of_changes, of_rows, of_walk}
 use Rattle.dbgd_run.specs.Endings.{Streams}
 use Rattle.dbgd_run.specs.Kept.{HoldsRows}

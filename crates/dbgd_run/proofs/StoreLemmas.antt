@@ -24,7 +24,7 @@ use Rattle.dbgd_run.proofs.HandLemmas.{hands_stay}
 use Rattle.dbgd_run.proofs.PassLemmas.{gave_all}
 
 -- nothing was removed
-none_swept : (made : Option (List EditFacts)) → made ≡ made_swept [] made
+pub none_swept : (made : Option (List EditFacts)) → made ≡ made_swept [] made
 none_swept None = refl
 none_swept (Some edits) = ap Some (sym (append-nil edits))
 
@@ -89,12 +89,12 @@ module _ {K : Type 0} (tells : Bool) (shows : K → ShownKeeper) {from mid into 
           (stopped.stops.asked.grows ∙ stopped.stops.swept.made ∙ ap (made_swept stopped.stops.front) rows.gave.heard.grows)
 
 -- a fault of a keeper is one of its store once it is given back
-rose_given : {old mid new keeper given : ℕ} → mid ≡ old → keeper ≡ 0 → Rose keeper given
+pub rose_given : {old mid new keeper given : ℕ} → mid ≡ old → keeper ≡ 0 → Rose keeper given
     → new ≡ summed mid given → Rose old new
 rose_given same none rose sum = omega arith
 
 -- the store was opened by the path
-opens_once : (path : List ℕ) (old new : ShownStore) (end : ScanEnd) → new.paths ≡ with_path path old.paths
+pub opens_once : (path : List ℕ) (old new : ShownStore) (end : ScanEnd) → new.paths ≡ with_path path old.paths
     → OpensBy path old new end
 opens_once path old new (Refused refusal.OutOfMemory) h = inr h
 opens_once path old new (Refused refusal.KeeperFault) h = h

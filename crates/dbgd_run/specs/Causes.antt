@@ -21,12 +21,13 @@ use Rattle.pass_runner.specs.Owned.{TellsStill}
 use Rattle.pass_runner.specs.Settled.{IsHeardAltered, IsSeenThere}
 use Rattle.pass_runner.specs.declared.pass_end.PassEnd.TheVariants as pass
 use Rattle.pass_runner.specs.declared.summary.Summary.{Summary}
-use Rattle.dbgd_run.specs.Kept.{GivesValues}
+use Rattle.dbgd_run.specs.Opened.{EndsOnlyWith, HasBad, HasSomeBad, OpensOn}
+use Rattle.dbgd_run.specs.QueryCauses.{QueryStatus}
 use Rattle.dbgd_run.specs.Scan.{EndsPassed}
 use Rattle.dbgd_run.specs.Scene.{FirstRose, OfFirst, Scene, Setting}
 use Rattle.dbgd_run.specs.Texts.{summary_line}
-use Rattle.dbgd_run.specs.Words.{Line, asks_ident, asks_scan, asks_section, asks_sources, unbuilt}
-use Rattle.dbgd_run.specs.Words.{unreadable}
+use Rattle.dbgd_words.specs.Words.{Line, asks_help, asks_ident, asks_query, asks_scan, asks_section}
+use Rattle.dbgd_words.specs.Words.{asks_sources, has_options, unbuilt, unreadable}
 use Rattle.dbgd_run.specs.declared.status.Status.{Status}
 use Rattle.dbgd_run.specs.declared.status.Status.TheVariants.{Done, Fault, Usage, Absent, Altered}
 use Rattle.dbgd_run.specs.declared.status.Status.TheVariants.{Limit, OutOfMemory, BadRow, NotBuilt}
@@ -96,19 +97,6 @@ pub record HeardMany (told : Bool) (roots : List (List ℕ)) (before after : Sho
       TellsStill told before
       → HasManyFiles before.present roots ⊎ HasManyEntries before.present roots
 
--- the store was opened and gave values, of which this is so
-pub record OpensOn (told : Bool) (old new : ShownStore) (Of : List KeptFacts → Type 0) : Type 0 where
-  pub opened : Rose old.epoch new.epoch
-  pub values : List KeptFacts
-  pub gave : GivesValues told old values
-  pub so : Of values
-
--- the first value by path that isn't a row under its path, and why
-pub record HasBad (values : List KeptFacts) : Type 0 where
-  pub kept : KeptFacts
-  pub fault : Option CodecFault
-  pub first : IsFirstBad values kept fault
-
 -- a limit was met: of what was heard, of the rows that the store held, or of the changes of the log
 pub data MeetsLimit {T : Type 0} (s : Setting T) (roots : List (List ℕ))
     (before after : Scene T) : Type 0 where
@@ -133,27 +121,31 @@ ScanStatus s roots before after OutOfMemory = Unit {0}
 ScanStatus s roots before after BadRow = OpensOn s.tells_tables before.store after.store HasBad
 ScanStatus s roots before after _ = ⊥
 
+-- of a help or version: only the standard output can fail
+abbrev pub HelpStatus : {T : Type 0} → Scene T → Scene T → Status → Type 0
+HelpStatus before after Done = Unit {0}
+HelpStatus before after Fault = Rose before.streams.out.write_faults after.streams.out.write_faults
+HelpStatus before after OutOfMemory = Unit {0}
+HelpStatus before after _ = ⊥
+
+-- of words that can't be read: the usage, or where they are read as options, want of memory
+abbrev pub UsageStatus : List (List ℕ) → Status → Type 0
+UsageStatus words Usage = Unit {0}
+UsageStatus words OutOfMemory = IsTrue (has_options words)
+UsageStatus words _ = ⊥
+
 -- what the status says, by the line; words that can't be read alone end with the usage, a command that isn't built
 -- always so
-abbrev pub HasStatus : {T : Type 0} → Setting T → Line → Scene T → Scene T → Status → Type 0
-HasStatus s (asks_ident path) before after status = FileStatus s before after status
-HasStatus s (asks_sources path) before after status = FileStatus s before after status
-HasStatus s (asks_section path name) before after status = FileStatus s before after status
-HasStatus s (asks_scan path roots) before after status = ScanStatus s roots before after status
-HasStatus s unbuilt before after status = status ≡ NotBuilt
-HasStatus s unreadable before after status = status ≡ Usage
-
--- a scan ends with this status, or the store failed, or memory was refused
-abbrev pub EndsOnlyWith : Status → ShownStore → ShownStore → Status → Type 0
-EndsOnlyWith only old new status =
-    (status ≡ only) ⊎ (((status ≡ Fault) × Rose old.faults new.faults) ⊎ (status ≡ OutOfMemory))
-
--- some value isn't a row under its path
-pub record HasSomeBad (values : List KeptFacts) : Type 0 where
-  pub kept : KeptFacts
-  pub fault : Option CodecFault
-  pub held : Contains values kept
-  pub bad : IsBad kept fault
+abbrev pub HasStatus : {T : Type 0} → Setting T → List (List ℕ) → Line → Scene T → Scene T → Status → Type 0
+HasStatus s words (asks_ident path) before after status = FileStatus s before after status
+HasStatus s words (asks_sources path) before after status = FileStatus s before after status
+HasStatus s words (asks_section path name) before after status = FileStatus s before after status
+HasStatus s words (asks_query path id) before after status = QueryStatus s id before after status
+HasStatus s words (asks_scan path workers roots) before after status =
+    ScanStatus s roots before after status
+HasStatus s words asks_help before after status = HelpStatus before after status
+HasStatus s words unbuilt before after status = status ≡ NotBuilt
+HasStatus s words unreadable before after status = UsageStatus words status
 
 -- nothing stands against a walk and what follows it: the hand tells files that never change, something is at each root,
 -- there is not too much, and the hand's count didn't rise

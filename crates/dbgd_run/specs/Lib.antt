@@ -3,9 +3,10 @@ pub mod Endings
 pub mod File
 pub mod Ident
 pub mod Kept
-pub mod Lines
+pub mod Opened
 pub mod Passing
-pub mod Roots
+pub mod Query
+pub mod QueryCauses
 pub mod Runs
 pub mod Scan
 pub mod ScanSaid
@@ -14,4 +15,3 @@ pub mod Section
 pub mod Sources
 pub mod Statuses
 pub mod Texts
-pub mod Words

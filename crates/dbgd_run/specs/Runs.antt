@@ -1,19 +1,22 @@
 -- What a run does, by its words (this project's rule).
-use Rattle.std.specs.Prelude.{◌≡◌, ℕ, List}
+use Rattle.std.specs.Prelude.{◌≡◌, ◌⊎◌, ℕ, List, IsTrue}
+use Rattle.dbgd_words.specs.Words.{Line, asks_help, asks_ident, asks_query, asks_scan, asks_section}
+use Rattle.dbgd_words.specs.Words.{asks_sources, has_options, line_of, unbuilt, unreadable}
 use Rattle.dbgd_run.specs.Causes.{HasStatus, ScanEnds}
-use Rattle.dbgd_run.specs.Endings.{EndsWhole, Saying, error_saying, not_built_saying}
+use Rattle.dbgd_run.specs.Endings.{Ends, EndsWhole, Saying, WantsMemory, error_saying}
+use Rattle.dbgd_run.specs.Endings.{no_memory_saying, not_built_saying, out_saying}
 use Rattle.dbgd_run.specs.File.{RunsFile}
 use Rattle.dbgd_run.specs.Ident.{SaysIdent}
+use Rattle.dbgd_run.specs.Query.{RunsQuery}
+use Rattle.dbgd_run.specs.QueryCauses.{QueryEnds}
 use Rattle.dbgd_run.specs.Scan.{RunsScan}
 use Rattle.dbgd_run.specs.Scene.{Scene, Setting}
 use Rattle.dbgd_run.specs.Section.{SaysSection}
 use Rattle.dbgd_run.specs.Sources.{SaysSources}
 use Rattle.dbgd_run.specs.Statuses.{code_of}
 use Rattle.dbgd_run.specs.Texts.{usage_text}
-use Rattle.dbgd_run.specs.Words.{Line, asks_ident, asks_scan, asks_section, asks_sources, unbuilt}
-use Rattle.dbgd_run.specs.Words.{unreadable}
 use Rattle.dbgd_run.specs.declared.status.Status.{Status}
-use Rattle.dbgd_run.specs.declared.status.Status.TheVariants.{Usage}
+use Rattle.dbgd_run.specs.declared.status.Status.TheVariants.{Done, Usage}
 
 -- of words that can't be read
 abbrev pub usage_saying : Saying
@@ -25,6 +28,21 @@ pub record SaysAlone {T : Type 0} (saying : Saying) (before after : Scene T)
   pub says : EndsWhole saying before.streams after.streams status
   pub hands : after.hands ≡ before.hands
   pub store : after.store ≡ before.store
+
+-- a help or version: its text was said on the standard output, or memory was refused; hands and store weren't looked at
+pub record SaysHelp {T : Type 0} (before after : Scene T) (status : Status) : Type 0 where
+  pub text : List ℕ
+  pub says :
+      Ends (out_saying text Done) before.streams after.streams status
+      ⊎ WantsMemory before.streams after.streams status
+  pub hands : after.hands ≡ before.hands
+  pub store : after.store ≡ before.store
+
+-- a query: what it does, and how it ends when
+pub record IsQueryRun {T : Type 0} (s : Setting T) (path id : List ℕ)
+    (before after : Scene T) (status : Status) : Type 0 where
+  pub does : RunsQuery s path id before after status
+  pub ends : QueryEnds s before after status
 
 -- a scan: what it does, and how it ends when
 pub record IsScanRun {T : Type 0} (s : Setting T) (path : List ℕ) (roots : List (List ℕ))
@@ -40,24 +58,42 @@ Runs s (asks_sources path) before after status =
     RunsFile s path (SaysSources path) before after status
 Runs s (asks_section path name) before after status =
     RunsFile s path (SaysSection path name) before after status
-Runs s (asks_scan path roots) before after status = RunsScan s path roots before after status
+Runs s (asks_query path id) before after status = RunsQuery s path id before after status
+Runs s (asks_scan path workers roots) before after status = RunsScan s path roots before after status
+Runs s asks_help before after status = SaysHelp before after status
 Runs s unbuilt before after status = SaysAlone not_built_saying before after status
 Runs s unreadable before after status = SaysAlone usage_saying before after status
 
+-- the words are read as options, and memory was refused for that
+pub record LacksRoom {T : Type 0} (words : List (List ℕ)) (before after : Scene T)
+    (status : Status) : Type 0 where
+  pub options : IsTrue (has_options words)
+  pub alone : SaysAlone no_memory_saying before after status
+
+-- what words do: as their line says, or there was no room for their options
+abbrev pub DoesWords : {T : Type 0} → Setting T → List (List ℕ) → Scene T → Scene T → Status → Type 0
+DoesWords s words before after status =
+    Runs s (line_of words) before after status ⊎ LacksRoom words before after status
+
 -- all that is promised of a run: the status and its number, what it does, a part for each command, and what its status
 -- says
-pub record IsRun {T : Type 0} (s : Setting T) (line : Line) (before after : Scene T)
+pub record IsRun {T : Type 0} (s : Setting T) (words : List (List ℕ)) (before after : Scene T)
     (code : ℕ) : Type 0 where
   pub status : Status
   pub number : code ≡ code_of status
-  pub ident : (path : List ℕ) → line ≡ asks_ident path
+  pub ident : (path : List ℕ) → line_of words ≡ asks_ident path
       → RunsFile s path (SaysIdent path) before after status
-  pub sources : (path : List ℕ) → line ≡ asks_sources path
+  pub sources : (path : List ℕ) → line_of words ≡ asks_sources path
       → RunsFile s path (SaysSources path) before after status
-  pub section : (path name : List ℕ) → line ≡ asks_section path name
+  pub section : (path name : List ℕ) → line_of words ≡ asks_section path name
       → RunsFile s path (SaysSection path name) before after status
-  pub scan : (path : List ℕ) (roots : List (List ℕ)) → line ≡ asks_scan path roots
+  pub query : (path id : List ℕ) → line_of words ≡ asks_query path id
+      → IsQueryRun s path id before after status
+  pub scan : (path : List ℕ) (workers : ℕ) (roots : List (List ℕ))
+      → line_of words ≡ asks_scan path workers roots
       → IsScanRun s path roots before after status
-  pub not_built : line ≡ unbuilt → SaysAlone not_built_saying before after status
-  pub usage : line ≡ unreadable → SaysAlone usage_saying before after status
-  pub causes : HasStatus s line before after status
+  pub help : line_of words ≡ asks_help → SaysHelp before after status
+  pub not_built : line_of words ≡ unbuilt → SaysAlone not_built_saying before after status
+  pub usage : line_of words ≡ unreadable
+      → SaysAlone usage_saying before after status ⊎ LacksRoom words before after status
+  pub causes : HasStatus s words (line_of words) before after status

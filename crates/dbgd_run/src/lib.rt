@@ -4,7 +4,8 @@
 
 mod ident;
 mod outside;
-mod roots;
+mod query;
+mod query_end;
 mod scan;
 mod scan_end;
 mod scan_sayings;
@@ -16,7 +17,6 @@ mod status;
 #[cfg(test)]
 mod tests;
 mod texts;
-mod words;
 
 pub use elf_reading::ElfTruth;
 pub use http_wire::{MemSink, Sink, Stream, WriteAnswer, WriteFault, write_all};

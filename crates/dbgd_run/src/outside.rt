@@ -3,19 +3,19 @@
 ghost use Rattle.std.specs.Prelude.{◌≡◌, ◌<◌, drop, map, vec_len, IfSome, IsSome};
 ghost use Rattle.std.specs.String.{string_bytes};
 ghost use Rattle.row_types.specs.Rules.{rules};
+ghost use Rattle.dbgd_words.specs.Lines.{asked_by};
 ghost use Rattle.dbgd_run.specs.Endings.{EndsWhole, streams};
-ghost use Rattle.dbgd_run.specs.Lines.{asked_by};
-ghost use Rattle.dbgd_run.specs.Runs.{IsRun, Runs, usage_saying};
+ghost use Rattle.dbgd_run.specs.Runs.{DoesWords, IsRun, Runs, usage_saying};
 ghost use Rattle.dbgd_run.specs.Scene.{scene, setting};
-ghost use Rattle.dbgd_run.specs.Words.{line_of};
 
 use crate::ident::run_ident;
+use crate::query::run_query;
 use crate::scan::run_scan;
 use crate::section::run_section;
 use crate::sources::run_sources;
-use crate::speech::{say_error, say_not_built};
+use crate::speech::{say, say_error, say_no_memory, say_not_built};
 use crate::status::Status;
-use crate::words::{Line, read_line};
+use dbgd_words::{Line, read_line};
 use elf_reading::ElfTruth;
 use http_wire::Sink;
 use index_keeper::Store;
@@ -73,17 +73,46 @@ fn run_line<W: ElfTruth, T: Tree<W>, S: Store<W>, O: Sink>(
         Line::Section { path, name } => {
             run_section(alloc, path, name, &mut outside.hands[0], out, err)
         }
-        Line::Scan { store, roots } => run_scan(
+        Line::Query { store, id } => { run_query(alloc, store, &id, &mut outside.store, out, err) }
+        Line::Scan {
+            store,
+            workers: _,
+            roots,
+        } => run_scan(
             alloc,
             store,
-            &roots,
+            roots.as_slice(),
             &mut outside.hands,
             &mut outside.store,
             out,
             err,
         ),
+        Line::Help { text } => say(text.as_bytes(), Status::Done, out, err),
         Line::NotBuilt => say_not_built(out, err),
         Line::Usage => say_usage(out, err),
+    }
+}
+
+/// Does what words ask.
+fn run_words<W: ElfTruth, T: Tree<W>, S: Store<W>, O: Sink>(
+    alloc: Global,
+    words: &[String],
+    outside: &mut Outside<W, T, S, O>,
+) -> Status
+    requires { 0 < vec_len outside.old.hands }
+    ensures law { DoesWords
+        (setting (rules W.version W.true_row W.told) T.told T.shows S.K.told)
+        (map string_bytes words.now)
+        (scene outside.old.hands.items (S.shows outside.old.store)
+        (streams O.shows outside.old.out outside.old.err))
+        (scene outside.new.hands.items (S.shows outside.new.store)
+        (streams O.shows outside.new.out outside.new.err)) result }
+    ensures hands { vec_len outside.new.hands ≡ vec_len outside.old.hands }
+    ensures others { drop 1 outside.new.hands.items ≡ drop 1 outside.old.hands.items }
+{
+    match read_line(alloc, words) {
+        Ok(line) => run_line(alloc, line, outside),
+        Err(_) => say_no_memory(&mut outside.out, &mut outside.err),
     }
 }
 
@@ -97,7 +126,7 @@ pub fn run_local<W: ElfTruth, T: Tree<W>, S: Store<W>, O: Sink>(
     ensures some { IsSome result }
     ensures run { IfSome result (IsRun
         (setting (rules W.version W.true_row W.told) T.told T.shows S.K.told)
-        (line_of (map string_bytes words.now))
+        (map string_bytes words.now)
         (scene outside.old.hands.items (S.shows outside.old.store)
         (streams O.shows outside.old.out outside.old.err))
         (scene outside.new.hands.items (S.shows outside.new.store)
@@ -105,8 +134,7 @@ pub fn run_local<W: ElfTruth, T: Tree<W>, S: Store<W>, O: Sink>(
     ensures hands { vec_len outside.new.hands ≡ vec_len outside.old.hands }
     ensures others { drop 1 outside.new.hands.items ≡ drop 1 outside.old.hands.items }
 {
-    let status = run_line(alloc, read_line(words), outside);
-    Some(status.code())
+    Some(run_words(alloc, words, outside).code())
 }
 
 /// Does all that the program does, and gives the exit status.
@@ -117,7 +145,7 @@ pub fn run<W: ElfTruth, T: Tree<W>, S: Store<W>, O: Sink>(
 ) -> u8
     requires { 0 < vec_len outside.old.hands }
     ensures run { IsRun (setting (rules W.version W.true_row W.told) T.told T.shows S.K.told)
-        (line_of (map string_bytes words.now))
+        (map string_bytes words.now)
         (scene outside.old.hands.items (S.shows outside.old.store)
         (streams O.shows outside.old.out outside.old.err))
         (scene outside.new.hands.items (S.shows outside.new.store)

@@ -14,7 +14,6 @@ ghost use Rattle.dbgd_run.specs.Scan.{EndsBy, RunsScan, Scans};
 ghost use Rattle.dbgd_run.specs.ScanSaid.{is_hand_fault, is_store_fault};
 ghost use Rattle.dbgd_run.specs.Scene.{scene, setting};
 
-use crate::roots::Roots;
 use crate::scan_end::ScanEnd;
 use crate::scan_sayings::say_end;
 use crate::status::Status;
@@ -109,7 +108,7 @@ fn scan_keeper<W: ElfTruth, T: Tree<W>, K: Keeper<W>>(
 fn scan<W: ElfTruth, T: Tree<W>, S: Store<W>>(
     alloc: Global,
     path: &str,
-    roots: &Roots<'_>,
+    roots: &[CanonPath],
     hands: &mut Vec<T>,
     store: &mut S,
 ) -> ScanEnd
@@ -120,12 +119,9 @@ fn scan<W: ElfTruth, T: Tree<W>, S: Store<W>>(
     ensures count { vec_len hands.new ≡ vec_len hands.old }
     ensures others { drop 1 hands.new.items ≡ drop 1 hands.old.items }
 {
-    let Ok(roots) = roots.paths(alloc) else {
-        return ScanEnd::Refused(OpenFault::OutOfMemory);
-    };
     match store.open_store(alloc, path) {
         StoreAnswer::Opened(keeper) => {
-            let (end, keeper) = scan_keeper(alloc, keeper, roots.as_slice(), hands);
+            let (end, keeper) = scan_keeper(alloc, keeper, roots, hands);
             store.give_back(keeper);
             end
         }
@@ -138,7 +134,7 @@ fn scan<W: ElfTruth, T: Tree<W>, S: Store<W>>(
 pub fn run_scan<W: ElfTruth, T: Tree<W>, S: Store<W>, O: Sink>(
     alloc: Global,
     path: &str,
-    roots: &Roots<'_>,
+    roots: &[CanonPath],
     hands: &mut Vec<T>,
     store: &mut S,
     out: &mut O,

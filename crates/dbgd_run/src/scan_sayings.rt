@@ -34,7 +34,7 @@ fn say_bad_row<O: Sink>(kept: &Kept, out: &mut O, err: &mut O) -> Status
 }
 
 /// Says why no index could be opened on a store.
-fn say_refusal<O: Sink>(fault: &OpenFault, out: &mut O, err: &mut O) -> Status
+pub fn say_refusal<O: Sink>(fault: &OpenFault, out: &mut O, err: &mut O) -> Status
     ensures { EndsWhole (refusal_saying fault.now)
         (streams O.shows out.old err.old) (streams O.shows out.new err.new) result }
 {

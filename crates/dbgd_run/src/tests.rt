@@ -4,6 +4,7 @@
 mod ends;
 mod files;
 mod hands;
+mod queries;
 mod rig;
 mod rows;
 mod scans;

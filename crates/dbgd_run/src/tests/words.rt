@@ -2,7 +2,7 @@
 
 use crate::outside::run_local;
 use crate::tests::hands::{File, Files, hand_of};
-use crate::tests::rig::{Run, SOUND, empty_store, outside_of, run_all, words_of};
+use crate::tests::rig::{Plan, Run, SOUND, empty_store, outside_of, run_all, words_of};
 use std::alloc::Global;
 use std::process::Abort;
 use std::test::Fail;
@@ -11,7 +11,7 @@ const USAGE: &str = "usage: dbgd ident FILE, sources FILE, section FILE NAME, qu
     scan -d DB DIR, serve -d DB DIR, trial SEED FILES WORKERS\n";
 
 /// Lines that can't be read.
-static UNREADABLE: [&[&str]; 17] = [
+static UNREADABLE: [&[&str]; 20] = [
     &[],
     &[""],
     &["frobnicate"],
@@ -24,29 +24,22 @@ static UNREADABLE: [&[&str]; 17] = [
     &["sources", "/w/a", "/w/a"],
     &["section", "/w/a"],
     &["section", "/w/a", ".text", ".text"],
+    &["query"],
+    &["query", "-d", "m", "9"],
     &["scan"],
+    &["scan", "/w"],
     &["scan", "-d", "m", "w"],
-    &["scan", "-d", "m", ""],
     &["scan", "-d", "m", "/w", "./w"],
-    &["scan", "-d", "m", "../w", "/w"],
+    &["scan", "-d", "m", "-c", "0", "/w"],
+    &["scan", "-d", "m", "-d", "m", "/w"],
 ];
 
-/// Lines of commands, or of words of a scan, that aren't built yet. A later command isn't, whatever
-/// follows, nor a scan with a word behind the store that begins with `-`.
-static UNBUILT: [&[&str]; 13] = [
-    &["query"],
-    &["query", "--help", ""],
+/// Lines of commands that aren't built yet, whatever follows.
+static UNBUILT: [&[&str]; 4] = [
     &["serve"],
     &["serve", "--help", ""],
     &["trial"],
     &["trial", "--help", ""],
-    &["scan", "-d"],
-    &["scan", "-d", "m"],
-    &["scan", "/w"],
-    &["scan", "--help"],
-    &["scan", "-d", "m", "-c", "2", "/w"],
-    &["scan", "-d", "m", "w", "-c"],
-    &["scan", "--database", "m", "/w"],
 ];
 
 /// Runs each line alone: it says this on err, with this status.
@@ -101,6 +94,25 @@ fn a_folder_has_at_most_4096_bytes(rt: HostRuntime) -> Result<(), Fail> {
         &SOUND,
         &refused,
     )
+}
+
+/// A line that is answered with its version.
+static VERSION: [Run; 1] = [Run(&["query", "--version"], b"dbgd query 0.1.0\n", "", 0)];
+
+/// The same where the standard output fails.
+static CUT_VERSION: [Run; 1] = [Run(&["scan", "-V"], b"", "dbgd: fault output\n", 1)];
+
+#[test]
+fn help_and_version_go_to_the_standard_output(rt: HostRuntime) -> Result<(), Fail> {
+    let alloc = rt.alloc();
+    let plan = Plan {
+        bad_out: &[0],
+        ..SOUND
+    };
+    let hand = hand_of(alloc, &Files::One(File::Empty), &[])?;
+    run_all(&rt, alloc, hand, &SOUND, &VERSION)?;
+    let hand = hand_of(alloc, &Files::One(File::Empty), &[])?;
+    run_all(&rt, alloc, hand, &plan, &CUT_VERSION)
 }
 
 #[test]

@@ -1,4 +1,4 @@
-use Rattle.std.proofs.Common.{◌<◌, length, arith}
+use Rattle.std.proofs.Common.{◌<◌, length, refl, arith}
 use Rattle.row_types.specs.Rules.{rules}
 use Rattle.dbgd_run.specs.Ident.{SaysIdent}
 use Rattle.dbgd_run.specs.Scene.{setting}
@@ -30,3 +30,6 @@ returns-in-Section-clause-law g c =
     (runs_file (setting (rules g.W.Truth.version g.W.Truth.true_row g.W.Truth.told) g.T.Tree.told g.T.Tree.shows g.S.K.Keeper.told)
     c.in-Section.path.now (SaysSection c.in-Section.path.now c.in-Section.name.now) c.index_mut-in-Section.result.now c.run_section.new.hand c.args.outside.now.hands.items
     c.index_mut-in-Section.ensures.value some c.run_section.ensures)
+
+pub returns-in-Query-clause-law : goal.returns-in-Query-clause-law
+returns-in-Query-clause-law g c = rw c.in-Query.is (record { answers = c.run_query.ensures; hands = refl })

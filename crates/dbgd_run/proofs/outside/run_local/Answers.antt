@@ -1,7 +1,8 @@
-use Rattle.dbgd_run.proofs.RunLemmas.{is_run}
+use Rattle.std.proofs.Common.{◌<◌, length, arith}
+use Rattle.dbgd_run.proofs.RunLemmas.{runs_words}
 use Rattle.dbgd_run.proofs.outside.run_local.Goals as goal
 
 pub returns-clause-run : goal.returns-clause-run
 returns-clause-run g c =
-    rw (← c.read_line.ensures)
-    (is_run _ _ _ _ c.run_line-status.result _ c.code.ensures.code c.run_line-status.ensures.law)
+    let some : 0 < length c.args.outside.now.hands.items = omega arith in
+    runs_words _ _ _ _ c.run_words.result _ c.code.ensures.code some c.run_words.ensures.law

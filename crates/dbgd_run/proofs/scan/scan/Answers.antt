@@ -1,6 +1,5 @@
-use Rattle.std.proofs.Common.{ℕ, ◌<◌, List, length, ◌∙◌, refl, subst, arith}
+use Rattle.std.proofs.Common.{ℕ, ◌<◌, length, arith}
 use Rattle.row_types.specs.Rules.{rules}
-use Rattle.dbgd_run.specs.Scan.{EndsBy}
 use Rattle.dbgd_run.specs.Scene.{setting}
 use Rattle.dbgd_run.proofs.StoreLemmas.{scans_closed, scans_opened, scans_wanting}
 use Rattle.dbgd_run.proofs.scan.scan.Goals as goal
@@ -9,11 +8,8 @@ pub returns-in-Opened-clause-scans : goal.returns-in-Opened-clause-scans
 returns-in-Opened-clause-scans g c =
     let s = setting (rules g.W.Truth.version g.W.Truth.true_row g.W.Truth.told) g.T.Tree.told g.T.Tree.shows g.S.K.Keeper.told in
     scans_opened s c.args.path.now c.scan_keeper-end.result.0 c.in-Opened.ensures c.give_back.ensures
-    (subst (λ (paths : List (List ℕ)). EndsBy s paths c.args.hands.now.items c.scan_keeper-end.new.hands.items
-    (g.S.Store.shows c.args.store.now) (g.S.Store.shows c.give_back.new.self) c.scan_keeper-end.result.0)
-    (c.as_slice.ensures.value ∙ c.in-Ok.ensures)
     (c.scan_keeper-end.ensures.ends (g.S.Store.shows c.args.store.now) (g.S.Store.shows c.open_store.new.self)
-    (g.S.Store.shows c.give_back.new.self) c.in-Opened.ensures.holds c.give_back.ensures))
+    (g.S.Store.shows c.give_back.new.self) c.in-Opened.ensures.holds c.give_back.ensures)
     c.scan_keeper-end.ensures.hands c.scan_keeper-end.ensures.keeper
 
 pub returns-in-Failed-clause-scans : goal.returns-in-Failed-clause-scans
@@ -22,14 +18,8 @@ returns-in-Failed-clause-scans g c =
     scans_closed (setting (rules g.W.Truth.version g.W.Truth.true_row g.W.Truth.told) g.T.Tree.told g.T.Tree.shows g.S.K.Keeper.told)
     c.args.path.now some c.in-Failed.ensures
 
-pub returns-clause-scans : goal.returns-clause-scans
-returns-clause-scans g c =
+pub returns-in-OutOfMemory-clause-scans : goal.returns-in-OutOfMemory-clause-scans
+returns-in-OutOfMemory-clause-scans g c =
     let some : 0 < length c.args.hands.now.items = omega arith in
     scans_wanting (setting (rules g.W.Truth.version g.W.Truth.true_row g.W.Truth.told) g.T.Tree.told g.T.Tree.shows g.S.K.Keeper.told)
     c.args.path.now some c.in-OutOfMemory.ensures
-
-pub returns-in_default-clause-scans : goal.returns-in_default-clause-scans
-returns-in_default-clause-scans g c =
-    let some : 0 < length c.args.hands.now.items = omega arith in
-    scans_wanting (setting (rules g.W.Truth.version g.W.Truth.true_row g.W.Truth.told) g.T.Tree.told g.T.Tree.shows g.S.K.Keeper.told)
-    c.args.path.now some refl

@@ -1,0 +1,12 @@
+use Rattle.std.proofs.Common.{ap, inl, inr, refl, subst}
+use Rattle.std.specs.Prelude.{map}
+use Rattle.std.specs.String.{string_bytes}
+use Rattle.dbgd_words.specs.Words.{Line}
+use Rattle.dbgd_run.proofs.outside.run_words.Goals as goal
+
+pub returns-in-Ok-clause-law : goal.returns-in-Ok-clause-law
+returns-in-Ok-clause-law g c = inl (rw (← c.in-Ok.ensures.line) c.run_line.ensures.law)
+
+pub returns-in-Err-clause-law : goal.returns-in-Err-clause-law
+returns-in-Err-clause-law g c =
+    inr (record { options = c.in-Err.ensures.memory; alone = record { says = c.say_no_memory.ensures; hands = refl; store = refl } })

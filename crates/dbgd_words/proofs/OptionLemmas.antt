@@ -1,0 +1,63 @@
+-- Words that are read as options.
+use Rattle.std.proofs.Common.{◌≡◌, ℕ, Bool, true, false, List, [], ◌∷◌, Option, Some, None, codes, cond, refl, sym, subst, true≢false}
+use Rattle.std.specs.List.{list_all}
+use Rattle.std.specs.Option.{option_map_or}
+use Rattle.std.specs.Prelude.{map, option_and_then}
+use Rattle.std.specs.Str.{bytes_eq}
+use Rattle.std.proofs.lemmas.Slice.Eq.{bytes_eq-Decides}
+use Rattle.clap.specs.Kinds.{Kinds}
+use Rattle.clap.specs.Walk.{Row, all_of, first_of}
+use Rattle.clap.specs.declared.error.kind.ErrorKind.{ErrorKind}
+use Rattle.row_types.specs.Canon.{canon}
+use Rattle.dbgd_words.specs.Numbers.{number_in}
+use Rattle.dbgd_words.specs.Options.{query_faults, query_rows, scan_faults, scan_rows}
+use Rattle.dbgd_words.specs.Words.{Line, asks_help, asks_query, asks_scan, has_options, id_of, is_help, is_root, line_of}
+use Rattle.dbgd_words.specs.Words.{query_asked, query_line, query_said, refused_line, scan_asked, scan_line, scan_said, unreadable}
+use Rattle.dbgd_words.specs.declared.scan.TheConstants.{MOST_WORKERS}
+
+-- what words that are read as options may ask
+abbrev pub AsksByOptions : Line → Type 0
+AsksByOptions (asks_query store id) = Unit {0}
+AsksByOptions (asks_scan store workers roots) = Unit {0}
+AsksByOptions asks_help = Unit {0}
+AsksByOptions unreadable = Unit {0}
+AsksByOptions _ = ⊥
+
+by_test : (test : Bool) (left right : Line) → AsksByOptions left → AsksByOptions right → AsksByOptions (cond test left right)
+by_test true left right a b = a
+by_test false left right a b = b
+
+by_option : {X : Type 0} (f : X → Line) (o : Option X) → ((x : X) → AsksByOptions (f x)) → AsksByOptions (option_map_or f o unreadable)
+by_option f None each = tt
+by_option f (Some x) each = each x
+
+refused_asks : (kind : ErrorKind) → AsksByOptions (refused_line kind)
+refused_asks kind = by_test (is_help kind) asks_help unreadable tt tt
+
+query_asks : (kinds : Kinds) (rows : List Row) → AsksByOptions (query_said kinds rows)
+query_asks [] rows =
+    by_option _ (first_of (codes "database") rows) (λ store. by_option (asks_query store) (option_and_then id_of (first_of (codes "ID") rows)) (λ id. tt))
+query_asks (kind ∷ more) rows = refused_asks kind
+
+scan_asks : (kinds : Kinds) (rows : List Row) → AsksByOptions (scan_said kinds rows)
+scan_asks [] rows =
+    by_option _ (first_of (codes "database") rows) (λ store.
+    by_option _ (option_and_then (number_in 1 MOST_WORKERS) (first_of (codes "concurrency") rows)) (λ workers.
+    by_option _ (all_of (codes "DIR") rows) (λ folders.
+    by_test (list_all is_root folders) (asks_scan store workers (map canon folders)) unreadable tt tt)))
+scan_asks (kind ∷ more) rows = refused_asks kind
+
+-- they ask nothing else
+pub options_ask : (words : List (List ℕ)) → has_options words ≡ true → AsksByOptions (line_of words)
+options_ask [] h = absurd (true≢false (sym h))
+options_ask (command ∷ rest) h = go (bytes_eq command (codes "query")) refl (bytes_eq command (codes "scan")) refl
+  where
+    go : (query : Bool) → bytes_eq command (codes "query") ≡ query → (scan : Bool) → bytes_eq command (codes "scan") ≡ scan
+        → AsksByOptions (line_of (command ∷ rest))
+    go true is scan e =
+        subst (λ c. AsksByOptions (line_of (c ∷ rest))) (sym ((bytes_eq-Decides command (codes "query")).0 is))
+        (query_asks (query_faults (codes "query" ∷ rest)) (query_rows (codes "query" ∷ rest)))
+    go false e true is =
+        subst (λ c. AsksByOptions (line_of (c ∷ rest))) (sym ((bytes_eq-Decides command (codes "scan")).0 is))
+        (scan_asks (scan_faults (codes "scan" ∷ rest)) (scan_rows (codes "scan" ∷ rest)))
+    go false e false f = absurd (cc)

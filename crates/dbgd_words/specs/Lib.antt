@@ -1,0 +1,5 @@
+pub mod Lines
+pub mod Numbers
+pub mod Options
+pub mod Pinned
+pub mod Words

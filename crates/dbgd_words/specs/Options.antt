@@ -1,0 +1,71 @@
+-- The arguments of `query` and `scan` (this project's rule), in the words of `clap`. Each is a simple command of that
+-- crate, whose reading of the words decides which text belongs to which argument; what a text says is decided in `Words`.
+use Rattle.std.specs.Prelude.{ℕ, true, List, [], ◌∷◌, Some, codes}
+use Rattle.clap.specs.Faults.{fault_of}
+use Rattle.clap.specs.Kinds.{Kinds}
+use Rattle.clap.specs.Simple.{App, matches_of, new_app, new_rule, on_top, with_rule}
+use Rattle.clap.specs.Walk.{Row, Rule}
+use Rattle.clap.specs.declared.builder.action.ArgAction.TheVariants.{Append, Set, SetTrue}
+
+-- an option of a letter and a name, which takes one text and may not be repeated
+abbrev pub option_rule : ℕ → List ℕ → Rule
+option_rule letter name = record (new_rule name) {
+  short = Some letter;
+  long = Some name;
+  value_names = 1;
+  action = Some Set;
+}
+
+-- `-d FILE`, `--database FILE`: it has to be there
+abbrev pub database_rule : Rule
+database_rule = record (option_rule 100 (codes "database")) { required = true }
+
+-- `-c N`, `--concurrency N`: 4 where it isn't there
+abbrev pub concurrency_rule : Rule
+concurrency_rule = record (option_rule 99 (codes "concurrency")) { defaults = codes "4" ∷ [] }
+
+-- `-F`, `--scan-file-dir`: a flag, which may not be repeated
+abbrev pub scan_file_dir_rule : Rule
+scan_file_dir_rule = record (new_rule (codes "scan-file-dir")) {
+  short = Some 70;
+  long = Some (codes "scan-file-dir");
+  action = Some SetTrue;
+}
+
+-- `ID`: one text
+abbrev pub id_rule : Rule
+id_rule = record (new_rule (codes "ID")) { required = true; action = Some Set }
+
+-- `DIR`: one text or more
+abbrev pub folders_rule : Rule
+folders_rule = record (new_rule (codes "DIR")) { required = true; action = Some Append }
+
+-- a command that answers its help and its version
+abbrev pub command_app : List ℕ → App
+command_app name = on_top (λ s. record s { has_version = true }) (new_app name)
+
+-- the command `query`
+abbrev pub query_app : App
+query_app = with_rule (with_rule (command_app (codes "query")) database_rule) id_rule
+
+-- the command `scan`
+abbrev pub scan_app : App
+scan_app =
+    with_rule (with_rule (with_rule (with_rule (command_app (codes "scan")) database_rule)
+    concurrency_rule) scan_file_dir_rule) folders_rule
+
+-- why `clap` refuses a line of `query`; nothing where it reads it
+unfoldable pub query_faults : List (List ℕ) → Kinds
+query_faults words = fault_of query_app words
+
+-- which texts of a line of `query` belong to which argument
+unfoldable pub query_rows : List (List ℕ) → List Row
+query_rows words = matches_of query_app words
+
+-- why `clap` refuses a line of `scan`; nothing where it reads it
+unfoldable pub scan_faults : List (List ℕ) → Kinds
+scan_faults words = fault_of scan_app words
+
+-- which texts of a line of `scan` belong to which argument
+unfoldable pub scan_rows : List (List ℕ) → List Row
+scan_rows words = matches_of scan_app words

@@ -1,0 +1,9 @@
+-- The numbers of words, pinned (this project's rule): code and definitions share the constants.
+use Rattle.std.specs.Prelude.{◌≡◌}
+use Rattle.dbgd_words.specs.declared.number.TheConstants.{MOST_DIGITS}
+use Rattle.dbgd_words.specs.declared.scan.TheConstants.{MOST_WORKERS}
+
+-- a number has at most 20 digits, and a scan at most 64 workers
+pub record ArePinnedWordLimits : Type 0 where
+  pub digits : MOST_DIGITS ≡ 20
+  pub workers : MOST_WORKERS ≡ 64

@@ -1,0 +1,123 @@
+-- Command lines (this project's rule): what the words after the program's name ask.
+use Rattle.std.specs.Prelude.{ℕ, ◌&&◌, ◌||◌, nat_le, Bool, false, true, List, [], ◌∷◌, if◌then◌else◌, length, map, codes}
+use Rattle.std.specs.Prelude.{Option, Some, None, option_and_then, Result, Ok, Err}
+use Rattle.std.specs.List.{list_all, list_any}
+use Rattle.std.specs.Option.{option_map_or}
+use Rattle.std.specs.Str.{bytes_eq}
+use Rattle.clap.specs.Kinds.{Kinds}
+use Rattle.clap.specs.Walk.{Row, all_of, first_of}
+use Rattle.clap.specs.declared.error.kind.ErrorKind.{ErrorKind}
+use Rattle.clap.specs.declared.error.kind.ErrorKind.TheVariants.{DisplayHelp, DisplayVersion}
+use Rattle.hex.specs.Hex.{decode_of}
+use Rattle.hex.specs.declared.error.FromHexError.{FromHexError}
+use Rattle.row_types.specs.Absolute.{is_absolute}
+use Rattle.row_types.specs.Canon.{canon}
+use Rattle.row_types.specs.declared.build_id.TheConstants.{SHORTEST_ID, LONGEST_ID}
+use Rattle.row_types.specs.declared.limits.TheConstants.{PATH_LIMIT}
+use Rattle.dbgd_words.specs.Numbers.{is_within, number_in}
+use Rattle.dbgd_words.specs.Options.{query_faults, query_rows, scan_faults, scan_rows}
+use Rattle.dbgd_words.specs.declared.scan.TheConstants.{MOST_WORKERS}
+
+-- what a line asks: the identity of the file at a path, its source paths, the section of a name of it, the rows that a
+-- store holds of an id, a scan of folders into a store by so many workers, the help or version of a command, a command
+-- that isn't built yet, or nothing that can be read
+pub data Line : Type 0 where
+  asks_ident : (path : List ℕ) → Line
+  asks_sources : (path : List ℕ) → Line
+  asks_section : (path : List ℕ) (name : List ℕ) → Line
+  asks_query : (store : List ℕ) (id : List ℕ) → Line
+  asks_scan : (store : List ℕ) (workers : ℕ) (roots : List (List ℕ)) → Line
+  asks_help : Line
+  unbuilt : Line
+  unreadable : Line
+
+-- the words of `ident`: one file
+abbrev pub ident_line : List (List ℕ) → Line
+ident_line (path ∷ []) = asks_ident path
+ident_line _ = unreadable
+
+-- the words of `sources`: one file
+abbrev pub sources_line : List (List ℕ) → Line
+sources_line (path ∷ []) = asks_sources path
+sources_line _ = unreadable
+
+-- the words of `section`: one file and a name
+abbrev pub section_line : List (List ℕ) → Line
+section_line (path ∷ name ∷ []) = asks_section path name
+section_line _ = unreadable
+
+-- whether a word names a folder that can be scanned: one that has a canonical path
+abbrev pub is_root : List ℕ → Bool
+is_root word = is_absolute word && nat_le (length word) PATH_LIMIT
+
+-- the bytes, where they are as many as an id has
+abbrev pub of_id_length : Result (List ℕ) FromHexError → Option (List ℕ)
+of_id_length (Ok bytes) = if is_within SHORTEST_ID LONGEST_ID (length bytes) then Some bytes else None
+of_id_length (Err why) = None
+
+-- the id that a text spells: two hexadecimal digits, of either case, for each of its bytes
+abbrev pub id_of : List ℕ → Option (List ℕ)
+id_of text = of_id_length (decode_of text)
+
+-- whether it is with its help or its version that a command answers
+abbrev pub is_help : ErrorKind → Bool
+is_help DisplayHelp = true
+is_help DisplayVersion = true
+is_help _ = false
+
+-- a line that isn't read as its command, by the reason
+abbrev pub refused_line : ErrorKind → Line
+refused_line kind = if is_help kind then asks_help else unreadable
+
+-- a store and the text of an id
+abbrev pub query_asked : Option (List ℕ) → Option (List ℕ) → Line
+query_asked store id =
+    option_map_or (λ store. option_map_or (asks_query store) (option_and_then id_of id) unreadable) store unreadable
+
+-- a store, the text of a number of workers, 1 to 64, and folders
+abbrev pub scan_asked : Option (List ℕ) → Option (List ℕ) → Option (List (List ℕ)) → Line
+scan_asked store number folders = option_map_or (λ store.
+    option_map_or (λ workers.
+    option_map_or (λ folders.
+    if list_all is_root folders then asks_scan store workers (map canon folders) else unreadable)
+    folders unreadable) (option_and_then (number_in 1 MOST_WORKERS) number) unreadable) store unreadable
+
+-- a line of `query`, by why it is refused and by the texts of its arguments
+abbrev pub query_said : Kinds → List Row → Line
+query_said [] rows = query_asked (first_of (codes "database") rows) (first_of (codes "ID") rows)
+query_said (kind ∷ more) rows = refused_line kind
+
+-- a line of `scan`, by the same
+abbrev pub scan_said : Kinds → List Row → Line
+scan_said [] rows =
+    scan_asked (first_of (codes "database") rows) (first_of (codes "concurrency") rows)
+    (all_of (codes "DIR") rows)
+scan_said (kind ∷ more) rows = refused_line kind
+
+-- the line of `query`, its name among the words
+abbrev pub query_line : List (List ℕ) → Line
+query_line words = query_said (query_faults words) (query_rows words)
+
+-- the line of `scan`, its name among the words
+abbrev pub scan_line : List (List ℕ) → Line
+scan_line words = scan_said (scan_faults words) (scan_rows words)
+
+-- the commands that aren't built yet, whatever follows them
+abbrev pub unbuilt_commands : List (List ℕ)
+unbuilt_commands = codes "serve" ∷ codes "trial" ∷ []
+
+-- what the words ask: the first one names the command
+abbrev pub line_of : List (List ℕ) → Line
+line_of [] = unreadable
+line_of (command ∷ rest) =
+    if bytes_eq command (codes "ident") then ident_line rest
+    else (if bytes_eq command (codes "sources") then sources_line rest
+    else (if bytes_eq command (codes "section") then section_line rest
+    else (if bytes_eq command (codes "query") then query_line (command ∷ rest)
+    else (if bytes_eq command (codes "scan") then scan_line (command ∷ rest)
+    else (if list_any (bytes_eq command) unbuilt_commands then unbuilt else unreadable)))))
+
+-- whether the words are read as options, which takes memory
+abbrev pub has_options : List (List ℕ) → Bool
+has_options [] = false
+has_options (command ∷ rest) = bytes_eq command (codes "query") || bytes_eq command (codes "scan")

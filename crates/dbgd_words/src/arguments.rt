@@ -1,0 +1,112 @@
+//! The arguments of `query` and `scan`.
+
+ghost use Rattle.std.specs.Prelude.{◌≡◌, false, map, option_map, IfOk};
+ghost use Rattle.clap.specs.Matches.{found_of};
+ghost use Rattle.clap.specs.Walk.{all_of, first_of, rows_of, rule_of};
+ghost use Rattle.clap.specs.Simple.{app_of};
+ghost use Rattle.dbgd_words.specs.Options.{command_app, concurrency_rule, database_rule};
+ghost use Rattle.dbgd_words.specs.Options.{folders_rule, id_rule, scan_file_dir_rule};
+
+use clap::{Arg, ArgAction, ArgMatches, Command};
+use std::alloc::{AllocError, Global};
+
+/// The version that each command answers.
+const VERSION: &str = "0.1.0";
+
+/// A command of a name, with the names by which its texts call it.
+pub fn command<'a>(
+    alloc: Global,
+    name: &'a str,
+    called: &str,
+    about: &'a str,
+    after: &'a str,
+) -> Result<Command<'a>, AllocError>
+    ensures { IfOk result (λ command. app_of command ≡ command_app name.now) }
+{
+    Command::new(alloc, name)
+        .version(VERSION)
+        .about(about)
+        .after_help(after)
+        .bin_name(called)?
+        .display_name(called)
+}
+
+/// `-d FILE`.
+pub fn database<'a>(alloc: Global) -> Arg<'a>
+    ensures rule { rule_of result ≡ database_rule }
+    ensures local { result.global ≡ false }
+{
+    Arg::new(alloc, "database")
+        .short('d')
+        .long("database")
+        .value_name("FILE")
+        .help("The store of the index; it is made where it isn't there")
+        .required(true)
+        .action(ArgAction::Set)
+}
+
+/// `-c N`.
+pub fn concurrency<'a>(alloc: Global) -> Arg<'a>
+    ensures rule { rule_of result ≡ concurrency_rule }
+    ensures local { result.global ≡ false }
+{
+    Arg::new(alloc, "concurrency")
+        .short('c')
+        .long("concurrency")
+        .value_name("N")
+        .help("The number of workers, 1 to 64; one does the work so far")
+        .default_value("4")
+        .action(ArgAction::Set)
+}
+
+/// `-F`.
+pub fn scan_file_dir<'a>(alloc: Global) -> Arg<'a>
+    ensures rule { rule_of result ≡ scan_file_dir_rule }
+    ensures local { result.global ≡ false }
+{
+    Arg::new(alloc, "scan-file-dir")
+        .short('F')
+        .long("scan-file-dir")
+        .help("Changes nothing: files in folders are what is scanned")
+        .action(ArgAction::SetTrue)
+}
+
+/// `ID`.
+pub fn id<'a>(alloc: Global) -> Arg<'a>
+    ensures rule { rule_of result ≡ id_rule }
+    ensures local { result.global ≡ false }
+{
+    Arg::new(alloc, "ID")
+        .help("A build-id: 4 to 128 hexadecimal digits, two for each byte")
+        .required(true)
+        .action(ArgAction::Set)
+}
+
+/// `DIR ..`.
+pub fn folders<'a>(alloc: Global) -> Arg<'a>
+    ensures rule { rule_of result ≡ folders_rule }
+    ensures local { result.global ≡ false }
+{
+    Arg::new(alloc, "DIR")
+        .help("The folders, each from / on and of at most 4096 bytes")
+        .required(true)
+        .action(ArgAction::Append)
+}
+
+/// The first text of an argument.
+#[tactic(auto, using(crate::proofs::TextLemmas::first_text))]
+pub fn text_of<'a>(matches: &ArgMatches<'a>, name: &str) -> Option<&'a str>
+    ensures { option_map (λ text. text.now) result
+        ≡ first_of name.now (rows_of (found_of matches.now)) }
+{
+    matches.get_str(name)
+}
+
+/// All texts of an argument, in order.
+#[tactic(auto, using(crate::proofs::TextLemmas::all_texts))]
+pub fn texts_of<'m, 'a>(matches: &'m ArgMatches<'a>, name: &str) -> Option<&'m [&'a str]>
+    ensures { option_map (λ texts. map (λ text. text.now) texts.now) result
+        ≡ all_of name.now (rows_of (found_of matches.now)) }
+{
+    matches.get_strs(name)
+}

@@ -1,0 +1,17 @@
+//! The words of a command line: what they ask, and the help of the commands whose words are options.
+//! Nothing is looked at but the words.
+#![tactic(auto)]
+
+mod arguments;
+mod line;
+mod number;
+mod query;
+mod reading;
+mod refusal;
+mod roots;
+mod scan;
+#[cfg(test)]
+mod tests;
+
+pub use line::Line;
+pub use reading::read_line;

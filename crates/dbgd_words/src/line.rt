@@ -1,0 +1,40 @@
+//! What a command line asks.
+
+use row_types::{BuildId, CanonPath};
+
+/// What a command line asks.
+#[derive(Debug, Drop)]
+pub enum Line<'a> {
+    /// The identity of the file at a path.
+    Ident {
+        path: &'a str,
+    },
+    /// The source paths of the file at a path.
+    Sources {
+        path: &'a str,
+    },
+    /// The bytes of the section of a name, of the file at a path.
+    Section {
+        path: &'a str,
+        name: &'a str,
+    },
+    /// The rows of an id in the store of a path.
+    Query {
+        store: &'a str,
+        id: BuildId,
+    },
+    /// A scan of folders into the store of a path, by 1 to 64 workers.
+    Scan {
+        store: &'a str,
+        workers: u64,
+        roots: Vec<CanonPath>,
+    },
+    /// The help or the version of a command: the whole text that is its answer.
+    Help {
+        text: String,
+    },
+    /// A command that isn't built yet.
+    NotBuilt,
+    /// No command, or one with other words than it takes.
+    Usage,
+}
