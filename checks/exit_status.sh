@@ -57,8 +57,8 @@ for path in "$work/none" "$work" "$work/text/none" "$work/round" "$work/round/no
   ends 3 '' "dbgd: gone $path"$'\n' "$program" ident "$path"
 done
 ends 3 '' "dbgd: gone $work/none"$'\n' "$program" sources "$work/none"
-ends 3 '' "dbgd: gone $work/none"$'\n' "$program" scan -d m "$work/none"
-ends 3 '' $'dbgd: nothing found\n' "$program" query -d m 00ff
+ends 3 '' "dbgd: gone $work/none"$'\n' "$program" scan -d "$work/store.db" "$work/none"
+ends 3 '' $'dbgd: nothing found\n' "$program" query -d "$work/store.db" 00ff
 for words in 'scan --version' 'scan -d m /usr -V'; do
   # shellcheck disable=SC2086
   ends 0 $'dbgd scan 0.1.0\n' '' "$program" $words
@@ -92,6 +92,7 @@ own=$program
 install -m 755 -- "$own" "$work/program"
 chmod 711 "$work"
 mkdir -p "$work/tree/closed" "$work/tree/unsearched" "$work/alone"
+mkdir -m 777 "$work/stores"
 for folder in tree tree/closed tree/unsearched; do
   printf 'text\n' >"$work/$folder/text"
   chmod 644 "$work/$folder/text"
@@ -107,13 +108,15 @@ elif "${as_user[@]}" test -r "$work/tree/shut"; then
   say "skipped: this user may read all"
 else
   for path in closed closed/text unsearched unsearched/text shut; do
-    ends 3 '' "dbgd: gone $work/tree/$path"$'\n' "${run[@]}" scan -d m "$work/tree/$path"
+    ends 3 '' "dbgd: gone $work/tree/$path"$'\n' \
+      "${run[@]}" scan -d "$work/stores/gone.db" "$work/tree/$path"
   done
   # Also behind a folder that may be read.
-  ends 3 '' "dbgd: gone $work/tree/closed"$'\n' "${run[@]}" scan -d m "$work/alone" "$work/tree/closed"
+  ends 3 '' "dbgd: gone $work/tree/closed"$'\n' \
+    "${run[@]}" scan -d "$work/stores/gone.db" "$work/alone" "$work/tree/closed"
   # What may not be read below a folder of the words ends nothing.
   ends 0 $'scan: 1 files, 1 added, 0 replaced, 0 dropped, 0 kept, 0 executables, 0 debuginfo\n' '' \
-    "${run[@]}" scan -d m "$work/tree"
+    "${run[@]}" scan -d "$work/stores/tree.db" "$work/tree"
   for path in shut closed/text unsearched/text; do
     ends 1 '' $'dbgd: fault file\n' "${run[@]}" ident "$work/tree/$path"
   done

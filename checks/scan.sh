@@ -18,7 +18,8 @@ compare() { # DIR
       *' debuginfo') debuginfo=$((debuginfo + 1)) ;;
     esac
   done <"$work/files"
-  "$program" scan -d m "$1" >"$work/out" 2>"$work/err"
+  rm -f "$work"/store.db*
+  "$program" scan -d "$work/store.db" "$1" >"$work/out" 2>"$work/err"
   local status=$?
   scanned=$((scanned + files))
   printf 'scan: %d files, %d added, 0 replaced, 0 dropped, 0 kept, %d executables, %d debuginfo\n' \
@@ -39,7 +40,7 @@ compare "$work/tree"
 own=$scanned
 
 # A root that is a link is gone, and nothing is listed behind it.
-"$program" scan -d m "$work/tree/folder" >"$work/out" 2>"$work/err"
+"$program" scan -d "$work/store.db" "$work/tree/folder" >"$work/out" 2>"$work/err"
 [ $? = 3 ] && [ ! -s "$work/out" ] && [ "$(cat "$work/err")" = "dbgd: gone $work/tree/folder" ] ||
   differs "a root that is a link isn't gone"
 
