@@ -3,7 +3,7 @@ use Rattle.std.proofs.Common.{◌≡◌, ◌⊎◌, inl, inr, ℕ, ◌<◌, Bool
 use Rattle.std.specs.List.{All, filter}
 use Rattle.std.proofs.lemmas.Bool.{eq-eqb, true≢false}
 use Rattle.std.proofs.lemmas.List.{append-nil, length-map, length_push, map-append}
-use Rattle.std.proofs.lemmas.List.Elements.{All-append, All-cons, All-head, All-tail, All-weaker, filter-append}
+use Rattle.std.proofs.lemmas.List.Elements.{All-append, All-cons, All-head, All-nil, All-tail, All-weaker, filter-append}
 use Rattle.std.proofs.lemmas.List.Folds.{list_any_none}
 use Rattle.row_types.specs.Ascends.{IsBefore, is_before}
 use Rattle.row_types.specs.Name.{NameFacts, same_name}
@@ -11,7 +11,7 @@ use Rattle.row_types.specs.Row.{RowFacts}
 use Rattle.row_types.specs.declared.limits.TheConstants.{EDITION}
 use Rattle.row_codec.specs.Spelled.{IsSpelled}
 use Rattle.index_rows.specs.Log.{put_of, replay}
-use Rattle.index_rows.specs.Rows.{IsIndex, RowsFacts, after_put, row_names, row_path, with_row}
+use Rattle.index_rows.specs.Rows.{IsIndex, RowsFacts, after_put, nothing_yet, row_names, row_path, with_row}
 use Rattle.index_rows.specs.declared.change.Change.{Change}
 use Rattle.index_rows.specs.declared.prepared.Prepared.TheVariants.{Put}
 use Rattle.index_rows.specs.declared.rows.TheConstants.{LOG_LIMIT}
@@ -35,6 +35,15 @@ put_last row rows last =
     ∙ ap (λ (l : List RowFacts). rows ++ row ∷ l)
     (filter_none (λ r. is_before (row_path row) (row_path r)) rows
     (All-weaker (λ r. IsBefore (row_path r) (row_path row)) (λ r. is_before (row_path row) (row_path r) ≡ false) (λ r. fails_after (row_path r) (row_path row)) rows last))
+
+-- before the first value nothing is sorted
+pub sorted_none : HasSorted [] nothing_yet [] false
+sorted_none = record {
+  rows = [];
+  sound = record { kept = refl; spelled = All-nil IsSpelled };
+  apart = refl;
+  held = record { held = refl; puts = refl; few = omega arith; sound = tt };
+}
 
 named_all : (P : NameFacts → Type 0) (rows : List RowFacts) → All (λ r. P r.name) rows → All P (row_names rows)
 named_all P [] h = λ k d within. absurd (omega arith)

@@ -1,5 +1,5 @@
 -- Each value's row stands behind those of the values before it.
-use Rattle.std.proofs.Common.{◌≡◌, ◌+◌, false, List, [], ◌∷◌, ◌++◌, Option, take, sym, ◌∙◌, ap, subst, arith}
+use Rattle.std.proofs.Common.{◌≡◌, ℕ, ◌+◌, false, List, [], ◌∷◌, ◌++◌, Option, take, sym, ◌∙◌, ap, subst, arith}
 use Rattle.std.specs.Result.{is_err}
 use Rattle.std.proofs.lemmas.List.{take_more}
 use Rattle.row_codec.specs.declared.fault.CodecFault.{CodecFault}
@@ -8,8 +8,14 @@ use Rattle.index_state.specs.OpenParts.{HasSorted, IsUnread, SaysBad}
 use Rattle.index_state.specs.Opening.{IsBad}
 use Rattle.index_state.specs.declared.read.Unread.{Unread}
 use Rattle.index_state.proofs.OpenSteps.{cannot_read, stands_behind, went_well}
-use Rattle.index_state.proofs.Sorted.{sorted_more}
+use Rattle.index_rows.specs.Rows.{RowsFacts, nothing_yet}
+use Rattle.index_state.proofs.Sorted.{sorted_more, sorted_none}
 use Rattle.index_state.proofs.read.read_values.Goals as goal
+
+pub loop-value-init : goal.loop-value-init
+loop-value-init g c =
+    subst (λ (index : RowsFacts). HasSorted [] index c.new-2.result.items false) (sym c.new.ensures)
+    (subst (λ (strays : List (List ℕ)). HasSorted [] nothing_yet strays false) (sym c.new-2.ensures.items) sorted_none)
 
 pub sort_row-requires-clause-last : goal.sort_row-requires-clause-last
 sort_row-requires-clause-last g c =
