@@ -26,7 +26,7 @@ use tree_trait::Tree;
 /// What the program is handed: the hands that read files, of which the first serves single files,
 /// the store of the index, and its two sinks.
 #[derive(Drop)]
-pub struct Outside<W: ElfTruth, T: Tree<W>, S: Store<W>, O: Sink> {
+pub struct Outside<W: ElfTruth + Send + Sync, T: Tree<W>, S: Store<W>, O: Sink> {
     pub hands: Vec<T>,
     pub store: S,
     pub out: O,
@@ -49,7 +49,7 @@ fn say_usage<O: Sink>(out: &mut O, err: &mut O) -> Status
 }
 
 /// Does what a line of words asks.
-fn run_line<W: ElfTruth, T: Tree<W>, S: Store<W>, O: Sink>(
+fn run_line<W: ElfTruth + Send + Sync, T: Tree<W>, S: Store<W>, O: Sink>(
     alloc: Global,
     line: Line<'_>,
     outside: &mut Outside<W, T, S, O>,
@@ -94,7 +94,7 @@ fn run_line<W: ElfTruth, T: Tree<W>, S: Store<W>, O: Sink>(
 }
 
 /// Does what words ask.
-fn run_words<W: ElfTruth, T: Tree<W>, S: Store<W>, O: Sink>(
+fn run_words<W: ElfTruth + Send + Sync, T: Tree<W>, S: Store<W>, O: Sink>(
     alloc: Global,
     words: &[String],
     outside: &mut Outside<W, T, S, O>,
@@ -117,7 +117,7 @@ fn run_words<W: ElfTruth, T: Tree<W>, S: Store<W>, O: Sink>(
 }
 
 /// Does what the words after the program's name ask, and gives the exit status.
-pub fn run_local<W: ElfTruth, T: Tree<W>, S: Store<W>, O: Sink>(
+pub fn run_local<W: ElfTruth + Send + Sync, T: Tree<W>, S: Store<W>, O: Sink>(
     alloc: Global,
     words: &[String],
     outside: &mut Outside<W, T, S, O>,
@@ -138,7 +138,7 @@ pub fn run_local<W: ElfTruth, T: Tree<W>, S: Store<W>, O: Sink>(
 }
 
 /// Does all that the program does, and gives the exit status.
-pub fn run<W: ElfTruth, T: Tree<W>, S: Store<W>, O: Sink>(
+pub fn run<W: ElfTruth + Send + Sync, T: Tree<W>, S: Store<W>, O: Sink>(
     alloc: Global,
     words: &[String],
     outside: &mut Outside<W, T, S, O>,

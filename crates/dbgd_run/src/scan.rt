@@ -44,7 +44,7 @@ fn show_end(end: &PassEnd)
 }
 
 /// Lets an index make one pass over the folders, and hands its keeper out.
-fn scan_index<W: ElfTruth, T: Tree<W>, K: Keeper<W>>(
+fn scan_index<W: ElfTruth + Send + Sync, T: Tree<W>, K: Keeper<W>>(
     alloc: Global,
     state: State<W, K>,
     roots: &[CanonPath],
@@ -72,7 +72,7 @@ fn scan_index<W: ElfTruth, T: Tree<W>, K: Keeper<W>>(
 }
 
 /// Scans the folders into the index on a keeper, and hands the keeper out.
-fn scan_keeper<W: ElfTruth, T: Tree<W>, K: Keeper<W>>(
+fn scan_keeper<W: ElfTruth + Send + Sync, T: Tree<W>, K: Keeper<W>>(
     alloc: Global,
     keeper: K,
     roots: &[CanonPath],
@@ -105,7 +105,7 @@ fn scan_keeper<W: ElfTruth, T: Tree<W>, K: Keeper<W>>(
 
 /// Scans the folders into a store, and says how the scan ended. The store has its keeper back by
 /// then.
-fn scan<W: ElfTruth, T: Tree<W>, S: Store<W>>(
+fn scan<W: ElfTruth + Send + Sync, T: Tree<W>, S: Store<W>>(
     alloc: Global,
     path: &str,
     roots: &[CanonPath],
@@ -131,7 +131,7 @@ fn scan<W: ElfTruth, T: Tree<W>, S: Store<W>>(
 }
 
 /// Scans the folders into a store, and says how that ended.
-pub fn run_scan<W: ElfTruth, T: Tree<W>, S: Store<W>, O: Sink>(
+pub fn run_scan<W: ElfTruth + Send + Sync, T: Tree<W>, S: Store<W>, O: Sink>(
     alloc: Global,
     path: &str,
     roots: &[CanonPath],

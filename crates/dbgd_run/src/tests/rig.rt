@@ -83,7 +83,7 @@ fn sink_of(alloc: Global, bad_writes: &[u64], width: usize) -> Result<Narrow, Fa
 }
 
 /// A store that keeps nothing yet, by a plan.
-pub fn empty_store<W: ElfTruth + Send>(
+pub fn empty_store<W: ElfTruth + Send + Sync>(
     alloc: Global,
     plan: &Plan<'_>,
 ) -> Result<MemStore<W>, Fail> {
@@ -92,7 +92,7 @@ pub fn empty_store<W: ElfTruth + Send>(
 }
 
 /// The objects around a hand and a store, by a plan.
-pub fn outside_of<W: ElfTruth + Send, T: Tree<W>>(
+pub fn outside_of<W: ElfTruth + Send + Sync, T: Tree<W>>(
     alloc: Global,
     hand: T,
     store: MemStore<W>,
@@ -123,7 +123,7 @@ pub fn compare(
 }
 
 /// Runs once, and compares.
-fn run_once<W: ElfTruth + Send, T: Tree<W>>(
+fn run_once<W: ElfTruth + Send + Sync, T: Tree<W>>(
     rt: &impl Abort,
     alloc: Global,
     outside: &mut Memory<W, T>,
@@ -142,7 +142,7 @@ fn run_once<W: ElfTruth + Send, T: Tree<W>>(
 }
 
 /// Runs one after the other over a hand and a store.
-pub fn run_over<W: ElfTruth + Send, T: Tree<W>>(
+pub fn run_over<W: ElfTruth + Send + Sync, T: Tree<W>>(
     rt: &impl Abort,
     alloc: Global,
     hand: T,
@@ -158,7 +158,7 @@ pub fn run_over<W: ElfTruth + Send, T: Tree<W>>(
 }
 
 /// Runs one after the other over a hand and the objects of a plan. The store keeps nothing yet.
-pub fn run_all<W: ElfTruth + Send, T: Tree<W>>(
+pub fn run_all<W: ElfTruth + Send + Sync, T: Tree<W>>(
     rt: &impl Abort,
     alloc: Global,
     hand: T,

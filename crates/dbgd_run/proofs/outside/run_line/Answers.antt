@@ -1,4 +1,4 @@
-use Rattle.std.proofs.Common.{◌<◌, length, refl, arith}
+use Rattle.std.proofs.Common.{◌<◌, length, inl, refl, arith}
 use Rattle.row_types.specs.Rules.{rules}
 use Rattle.dbgd_run.specs.Ident.{SaysIdent}
 use Rattle.dbgd_run.specs.Scene.{setting}
@@ -33,3 +33,8 @@ returns-in-Section-clause-law g c =
 
 pub returns-in-Query-clause-law : goal.returns-in-Query-clause-law
 returns-in-Query-clause-law g c = rw c.in-Query.is (record { answers = c.run_query.ensures; hands = refl })
+
+pub returns-in-Help-clause-law : goal.returns-in-Help-clause-law
+returns-in-Help-clause-law g c =
+    rw c.in-Help.is
+    (record { text = c.as_bytes.result.now; says = inl c.say.ensures; hands = refl; store = refl })
