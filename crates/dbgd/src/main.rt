@@ -12,10 +12,10 @@ mod tests;
 mod tries;
 
 use dbgd_run::{Outside, Status, run, write_all};
+use index_keeper::MemStore;
 use real_sink::{RealSink, Stream};
 use real_tree::RealTree;
 use row_types::OpenWorld;
-use sqlite_keeper::SqliteStore;
 use std::alloc::AllocError;
 use std::env;
 use std::io::ErrorKind;
@@ -37,9 +37,11 @@ fn run_real(rt: &HostRuntime) -> Result<u8, AllocError> {
     let words = words(rt)?;
     let alloc = rt.alloc();
     let hands = vec![in alloc; RealTree::new(*rt)]?;
+    // The index lasts as long as the program until a store in a file is built.
+    let store = MemStore::new(alloc, Vec::new(alloc), None, Vec::new(alloc));
     let mut outside = Outside {
         hands,
-        store: SqliteStore::new(*rt),
+        store,
         out: RealSink::new(Stream::Out(rt.stdout())),
         err: RealSink::new(Stream::Err(rt.stderr())),
         of: PhantomData::<OpenWorld>,
