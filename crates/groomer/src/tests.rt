@@ -1,4 +1,0 @@
-mod cases;
-mod helpers;
-mod orders;
-mod told;
