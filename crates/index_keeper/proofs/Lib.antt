@@ -1,3 +1,3 @@
 pub mod CutLemmas
-pub mod PlaceLemmas
 pub mod KeeperLemmas
+pub mod TreeLemmas

@@ -3,6 +3,7 @@ pub use Rattle.row_codec.specs.RowBytes
 pub use Rattle.row_codec.specs.Spelled
 pub mod Tables
 pub mod Places
+pub mod Tree
 pub mod TrueRows
 pub mod Answers
 pub mod Keeper

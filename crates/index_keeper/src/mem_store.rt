@@ -64,7 +64,7 @@ impl<W: Truth> MemStore<W> {
         ensures { result ≡ fresh kept.items stop_at bad_calls.items }
     {
         MemStore {
-            shelf: Shelf::of(alloc, Tables::of(kept), stop_at, bad_calls),
+            shelf: Shelf::of(alloc, Tables::of(alloc, kept), stop_at, bad_calls),
             paths: Vec::new(alloc),
             faults: Faults::new(),
             epoch: 0,

@@ -1,13 +1,6 @@
-use Rattle.std.proofs.Common.{◌∙◌}
-use Rattle.index_keeper.proofs.PlaceLemmas.{remove_at, remove_gap}
+-- The path's entry is removed, if it has one.
+use Rattle.index_keeper.proofs.TreeLemmas.{removal_edits}
 use Rattle.index_keeper.proofs.tables.remove_row.Goals as goal
 
-pub returns-in-Ok : goal.returns-in-Ok
-returns-in-Ok c =
-    let place = rw c.as_slice.ensures.value at c.in-Ok.ensures in
-    c.remove-row.ensures.items ∙ remove_at c.remove-row.result place
-
-pub returns-in_default : goal.returns-in_default
-returns-in_default c =
-    let place = rw c.as_slice.ensures.value at c.in_default.ensures in
-    remove_gap place
+pub returns : goal.returns
+returns c = removal_edits c.args.path.now c.args.tree.now.entries c.remove-bytes.new.self.entries c.requires c.remove-bytes.ensures.entries
