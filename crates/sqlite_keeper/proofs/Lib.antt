@@ -1,1 +1,2 @@
 pub mod AscendLemmas
+pub mod FileKeeperSends

@@ -1,10 +1,9 @@
 -- How a keeper begins on an open connection (this project's rule), and what a refusal gives back.
 use Rattle.std.specs.Prelude.{◌≡◌, ℕ, ◌<◌, false, IsTrue}
-use Rattle.sqlite.specs.Held.{Held, state}
-use Rattle.sqlite.specs.State.{HasCleanDisk}
+use Rattle.sqlite.specs.Held.{Held}
 use Rattle.sqlite.specs.Store.{Ghosts}
 use Rattle.sqlite_keeper.specs.Keeper.{KeeperFacts}
-use Rattle.sqlite_keeper.specs.Statements.{HasPassed, IsCommitted, Raises, epoch_table, kept_table}
+use Rattle.sqlite_keeper.specs.Statements.{HasPassed, Raises, epoch_table, kept_table}
 use Rattle.sqlite_keeper.specs.declared.adopt.AdoptAnswer.{AdoptAnswer}
 use Rattle.sqlite_keeper.specs.declared.adopt.AdoptAnswer.TheVariants as adopt
 use Rattle.sqlite_keeper.specs.declared.fault.SqlFault.{SqlFault}

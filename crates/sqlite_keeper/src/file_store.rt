@@ -1,17 +1,14 @@
 //! The store of the file at a path.
 
-ghost use Rattle.std.specs.Prelude.{◌≡◌, ◌<◌, false, IfOk};
-ghost use Rattle.sqlite.specs.Files.{file_state};
+ghost use Rattle.std.specs.Prelude.{◌≡◌, false};
 ghost use Rattle.index_keeper.specs.Store.{OpensStore, TakesBack};
-ghost use Rattle.sqlite_keeper.specs.FileStore.{file_shown, fresh};
+ghost use Rattle.sqlite_keeper.specs.FileStore.{GivesBegun, file_shown, fresh};
 ghost use Rattle.sqlite_keeper.specs.Keeper.{keeper_shown};
-ghost use Rattle.sqlite_keeper.specs.Statements.{IsCommitted};
 
 use crate::fault::SqlFault;
-use crate::keeper::SqliteKeeper;
+use crate::file_keeper::FileKeeper;
 use index_keeper::{Store, StoreAnswer};
 use row_types::{Faults, OpenWorld};
-use sqlite::{Connection, File, FileStore};
 use std::alloc::Global;
 use std::marker::Model;
 
@@ -32,23 +29,6 @@ impl Model for SqliteStore {
     ghost view = { λ s. record { faults = s.faults; epoch = s.epoch } };
 }
 
-/// Opens the store in the file at a path, the last opening of which had this number.
-fn open_file(
-    rt: &HostRuntime,
-    path: &str,
-    last: u64,
-) -> Result<SqliteKeeper<FileStore<File>>, SqlFault>
-    ensures number { IfOk result (λ keeper. last < keeper.epoch) }
-    ensures faultless { IfOk result (λ keeper. keeper.faults ≡ 0) }
-    ensures committed { IfOk result (λ keeper. IsCommitted (file_state keeper.connection)) }
-{
-    let connection = Connection::open(rt, path)?;
-    match SqliteKeeper::open(connection, last) {
-        Ok(keeper) => Ok(keeper),
-        Err((fault, _)) => Err(fault),
-    }
-}
-
 impl SqliteStore {
     /// The store of files that are opened through this runtime.
     pub fn new(rt: HostRuntime) -> SqliteStore
@@ -65,19 +45,16 @@ impl SqliteStore {
 impl Store<OpenWorld> for SqliteStore {
     ghost use Rattle.sqlite_keeper.specs.FileStore.{file_shown};
 
-    type K = SqliteKeeper<FileStore<File>>;
+    type K = FileKeeper;
 
     ghost shows = { file_shown };
 
-    fn open_store(
-        &mut self,
-        _alloc: Global,
-        path: &str,
-    ) -> StoreAnswer<SqliteKeeper<FileStore<File>>>
-        ensures { OpensStore false keeper_shown path.now (file_shown self.old)
-            (file_shown self.new) result }
+    fn open_store(&mut self, _alloc: Global, path: &str) -> StoreAnswer<FileKeeper>
+        ensures opens { OpensStore false (λ k. keeper_shown k.keeper) path.now
+            (file_shown self.old) (file_shown self.new) result }
+        ensures begins { GivesBegun self.old.epoch result }
     {
-        match open_file(&self.rt, path, self.epoch) {
+        match FileKeeper::open(&self.rt, path, self.epoch) {
             Ok(keeper) => {
                 self.epoch = keeper.number();
                 StoreAnswer::Opened(keeper)
@@ -91,11 +68,11 @@ impl Store<OpenWorld> for SqliteStore {
     }
 
     /// The log is copied into the file. Where that fails nothing is lost: the log keeps it.
-    fn give_back(&mut self, keeper: SqliteKeeper<FileStore<File>>)
-        ensures { TakesBack false (keeper_shown keeper) (file_shown self.old)
+    fn give_back(&mut self, keeper: FileKeeper)
+        ensures { TakesBack false (keeper_shown keeper.keeper) (file_shown self.old)
             (file_shown self.new) }
     {
         self.faults.add(keeper.faults());
-        let _copied = keeper.into_connection().close();
+        keeper.close();
     }
 }

@@ -4,14 +4,18 @@
 
 mod adopt;
 mod fault;
+mod file_keeper;
 mod file_store;
 mod held_store;
 mod keeper;
 mod rows;
 mod sql;
 mod telling;
+#[cfg(test)]
+mod tests;
 
 pub use adopt::AdoptAnswer;
+pub use file_keeper::FileKeeper;
 pub use file_store::SqliteStore;
 pub use held_store::HeldStore;
 pub use keeper::SqliteKeeper;

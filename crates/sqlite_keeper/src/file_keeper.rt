@@ -1,0 +1,97 @@
+//! The keeper of the store in a file.
+
+ghost use Rattle.std.specs.Prelude.{◌≡◌, [], ◌∷◌, false, IfOk};
+ghost use Rattle.sqlite.specs.Files.{over_files};
+ghost use Rattle.sqlite.specs.declared.types.Value.TheVariants.{Blob, Text};
+ghost use Rattle.index_keeper.specs.Answers.{for_change};
+ghost use Rattle.index_keeper.specs.Keeper.{Asks};
+ghost use Rattle.index_keeper.specs.Tables.{put_of, removal_of};
+ghost use Rattle.sqlite_keeper.specs.FileStore.{BeginsAnew};
+ghost use Rattle.sqlite_keeper.specs.Keeper.{keeper_shown};
+ghost use Rattle.sqlite_keeper.specs.Statements.{Changes, put_text, remove_text};
+
+use crate::fault::SqlFault;
+use crate::keeper::SqliteKeeper;
+use index_keeper::{KeepAnswer, Keeper, KeptAnswer};
+use row_types::{Faults, OpenWorld};
+use sqlite::{Connection, File, FileStore};
+use std::alloc::Global;
+
+/// The keeper of a file: it passes each call on to the keeper over the file's database. It has no
+/// type parameter, so that code over a store in a file never sees what that database is made of.
+/// Contracts see it as a record of the keeper over the database.
+#[derive(Drop)]
+pub struct FileKeeper {
+    keeper: SqliteKeeper<FileStore<File>>,
+}
+
+impl FileKeeper {
+    /// Opens the store in the file at a path, the last opening of which had this number.
+    pub(crate) fn open(rt: &HostRuntime, path: &str, last: u64) -> Result<FileKeeper, SqlFault>
+        ensures { IfOk result (λ it. BeginsAnew over_files last it.keeper) }
+    {
+        let connection = Connection::open(rt, path)?;
+        match SqliteKeeper::open(connection, last) {
+            Ok(keeper) => Ok(FileKeeper { keeper }),
+            Err((fault, _)) => Err(fault),
+        }
+    }
+
+    /// How often a call has failed.
+    pub(crate) fn faults(&self) -> Faults
+        ensures { result ≡ self.now.keeper.faults }
+    {
+        self.keeper.faults()
+    }
+
+    /// The number of the opening.
+    pub(crate) fn number(&self) -> u64
+        ensures { result ≡ self.now.keeper.epoch }
+    {
+        self.keeper.number()
+    }
+
+    /// Ends the keeper. The log is copied into the file; where that fails nothing is lost: the log
+    /// keeps it.
+    pub(crate) fn close(self) {
+        let FileKeeper { keeper } = self;
+        let _copied = keeper.into_connection().close();
+    }
+}
+
+impl Keeper<OpenWorld> for FileKeeper {
+    ghost use Rattle.std.specs.Prelude.{false};
+    ghost use Rattle.sqlite_keeper.specs.Keeper.{keeper_shown};
+
+    ghost told = { false };
+
+    ghost shows = { λ k. keeper_shown k.keeper };
+
+    fn rows(&mut self, alloc: Global) -> KeptAnswer {
+        self.keeper.rows(alloc)
+    }
+
+    fn put(&mut self, alloc: Global, path: &str, bytes: &[u8]) -> KeepAnswer
+        ensures asks { Asks false (keeper_shown self.old.keeper) (keeper_shown self.new.keeper)
+            (for_change (put_of path.now bytes.now) result) }
+        ensures changes { Changes over_files put_text (Text path.now ∷ Blob bytes.now ∷ [])
+            self.old.keeper.connection self.new.keeper.connection result }
+    {
+        self.keeper.put(alloc, path, bytes)
+    }
+
+    fn remove(&mut self, alloc: Global, path: &str) -> KeepAnswer
+        ensures asks { Asks false (keeper_shown self.old.keeper) (keeper_shown self.new.keeper)
+            (for_change (removal_of path.now) result) }
+        ensures changes { Changes over_files remove_text (Text path.now ∷ [])
+            self.old.keeper.connection self.new.keeper.connection result }
+    {
+        self.keeper.remove(alloc, path)
+    }
+
+    fn epoch(&self) -> u64
+        ensures { result ≡ self.now.keeper.epoch }
+    {
+        self.keeper.epoch()
+    }
+}

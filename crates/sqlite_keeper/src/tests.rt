@@ -1,0 +1,6 @@
+//! What no clause says: that memory suffices, and which rows come back.
+
+mod openings;
+mod refusals;
+mod rig;
+mod rows;
