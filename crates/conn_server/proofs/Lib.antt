@@ -1,0 +1,12 @@
+mod CarriesLemmas
+pub mod CompleteLemmas
+mod DecideLemmas
+mod EndLemmas
+mod EndedLemmas
+mod JoinLemmas
+mod LastLemmas
+mod LaterLemmas
+mod RowLemmas
+mod SentLemmas
+mod SinceLemmas
+mod TurnLemmas

@@ -1,0 +1,91 @@
+-- Replies (this project's rule): the status and the text of each reason (RFC 9110, section 15; RFC 6585, section 5).
+use Rattle.std.specs.Prelude.{◌≡◌, ℕ, Bool, true, false, List, [], codes, length, Option, Some, None}
+use Rattle.file_formats.specs.Table.{IsSectionAnswer}
+use Rattle.http_wire.specs.Reply.{reply_bytes}
+use Rattle.http_wire.specs.declared.head.HeadFault.{HeadFault}
+use Rattle.http_wire.specs.declared.head.HeadFault.TheVariants as head_fault
+use Rattle.http_wire.specs.declared.reply.ReplyHead.{ReplyHead}
+use Rattle.webapi_routes.specs.declared.fault.RouteFault.{RouteFault}
+use Rattle.webapi_routes.specs.declared.fault.RouteFault.TheVariants as route_fault
+use Rattle.answer_core.specs.declared.local.Local.{Local}
+use Rattle.answer_core.specs.declared.local.Local.TheVariants as local
+use Rattle.conn_server.specs.declared.reason.Reason.{Reason}
+use Rattle.conn_server.specs.declared.reason.Reason.TheVariants as reason
+
+-- the status of a reason
+abbrev pub status_of : Reason → ℕ
+status_of reason.Local = 200
+status_of reason.BadHead = 400
+status_of reason.TooLarge = 431
+status_of reason.Method = 405
+status_of reason.Body = 400
+status_of reason.BadEscape = 400
+status_of reason.NoRoute = 404
+status_of reason.BadId = 400
+status_of reason.BadPath = 400
+status_of reason.NotFound = 404
+status_of reason.ReadFault = 503
+status_of reason.OutOfMemory = 507
+
+-- the text of a reason; that of a file that passed is none
+abbrev pub text_of : Reason → List ℕ
+text_of reason.Local = []
+text_of reason.BadHead = codes "bad request\n"
+text_of reason.TooLarge = codes "too large\n"
+text_of reason.Method = codes "bad method\n"
+text_of reason.Body = codes "request body\n"
+text_of reason.BadEscape = codes "bad escape\n"
+text_of reason.NoRoute = codes "no route\n"
+text_of reason.BadId = codes "bad build-id\n"
+text_of reason.BadPath = codes "bad path\n"
+text_of reason.NotFound = codes "not found\n"
+text_of reason.ReadFault = codes "read fault\n"
+text_of reason.OutOfMemory = codes "out of memory\n"
+
+-- whether a reply says that a load failed
+abbrev pub is_read_fault : Reason → Bool
+is_read_fault reason.ReadFault = true
+is_read_fault _ = false
+
+-- why a target that asks for no route gets its reply
+abbrev pub reason_of_route : RouteFault → Reason
+reason_of_route route_fault.BadEscape = reason.BadEscape
+reason_of_route route_fault.NoRoute = reason.NoRoute
+reason_of_route route_fault.BadId = reason.BadId
+reason_of_route route_fault.BadPath = reason.BadPath
+reason_of_route route_fault.OutOfMemory = reason.OutOfMemory
+
+-- why bytes that are no head get their reply; those that were cut off get none
+abbrev pub reason_of_head : HeadFault → Option Reason
+reason_of_head (head_fault.Bad len) = Some reason.BadHead
+reason_of_head head_fault.TooLong = Some reason.TooLarge
+reason_of_head head_fault.TooMany = Some reason.TooLarge
+reason_of_head (head_fault.Cut len) = None
+
+-- the body of a reply, and the path that it is told to come from: a text without one; or what passed
+abbrev pub Shows : Reason → Option Local → List ℕ → Option (List ℕ) → Type 0
+Shows why None body file = (body ≡ text_of why) × (file ≡ None)
+Shows why (Some (local.File from path generation)) body file = (body ≡ from.bytes) × (file ≡ Some path)
+Shows why (Some (local.Section from path generation)) body file =
+    IsSectionAnswer from.file.bytes from.name (Some body) × (file ≡ Some path)
+Shows why (Some (local.Source bytes path generation)) body file = (body ≡ bytes.items) × (file ≡ Some path)
+Shows why (Some _) body file = ⊥
+
+-- whether the body is a text
+abbrev pub is_text : Option (List ℕ) → Bool
+is_text None = true
+is_text (Some path) = false
+
+-- the head of a reply
+abbrev pub head_of : Reason → List ℕ → Option (List ℕ) → Bool → ReplyHead
+head_of why body file close = record {
+  status = status_of why;
+  text = is_text file;
+  len = length body;
+  file = file;
+  close = close;
+}
+
+-- the bytes of a reply
+abbrev pub bytes_of : Reason → List ℕ → Option (List ℕ) → Bool → Bool → List ℕ
+bytes_of why body file close with_body = reply_bytes (head_of why body file close) body with_body

@@ -1,0 +1,76 @@
+-- Writing a reply (this project's rule): all its bytes were written, or a write failed, or there was no memory.
+use Rattle.std.specs.Prelude.{◌≡◌, ℕ, Bool, List, length, Option, Some, None, Result, Ok, Err, if◌then◌else◌}
+use Rattle.http_wire.specs.ReplyFault.{FailsReply}
+use Rattle.http_wire.specs.Sink.{GetsAll}
+use Rattle.http_wire.specs.Stream.{ShownStream}
+use Rattle.http_wire.specs.declared.reply.ReplyFault.{ReplyFault}
+use Rattle.answer_core.specs.declared.local.Local.{Local}
+use Rattle.conn_server.specs.Lawful.{IsPassed}
+use Rattle.conn_server.specs.Replies.{Shows, bytes_of, status_of, text_of}
+use Rattle.conn_server.specs.declared.decide.Decided.{Decided}
+use Rattle.conn_server.specs.declared.report.Asked as declared
+use Rattle.conn_server.specs.declared.reason.Reason.{Reason}
+use Rattle.conn_server.specs.declared.reason.Reason.TheVariants as reason
+use Rattle.conn_server.specs.declared.report.Served.{Served}
+
+-- how many bytes of a body are written
+abbrev pub sent_len : Bool → List ℕ → ℕ
+sent_len with_body body = if with_body then length body else 0
+
+-- these bytes are written whole, and so many of them are of the body; or they aren't
+abbrev pub Writes : List ℕ → ℕ → ShownStream → ShownStream → Result ℕ ReplyFault → Type 0
+Writes bytes len before after (Ok n) = GetsAll bytes before after × (n ≡ len)
+Writes bytes len before after (Err fault) = FailsReply fault bytes before after
+
+-- a text is written
+abbrev pub SendsText : Reason → Bool → Bool → ShownStream → ShownStream → Result ℕ ReplyFault → Type 0
+SendsText why close with_body before after result =
+    Writes (bytes_of why (text_of why) None close with_body) (sent_len with_body (text_of why)) before after result
+
+-- the bytes of a file at a path are written
+abbrev pub SendsFile : List ℕ → List ℕ → Bool → Bool → ShownStream → ShownStream → Result ℕ ReplyFault → Type 0
+SendsFile body path close with_body before after result =
+    Writes (bytes_of reason.Local body (Some path) close with_body) (sent_len with_body body) before after result
+
+-- what passed is written
+pub record SendsPassed
+    (passed : Local) (close with_body : Bool) (before after : ShownStream) (result : Result ℕ ReplyFault) : Type 0 where
+  pub body : List ℕ
+  pub file : Option (List ℕ)
+  pub shows : Shows reason.Local (Some passed) body file
+  pub writes : Writes (bytes_of reason.Local body file close with_body) (sent_len with_body body) before after result
+
+-- a reply can be written of what is decided
+abbrev pub HasPassed : Reason → Option Local → Type 0
+HasPassed why None = Unit {0}
+HasPassed why (Some passed) = (why ≡ reason.Local) × IsPassed passed
+
+abbrev pub CanSend : Decided → Type 0
+CanSend decided = HasPassed decided.reason decided.found
+
+-- what is told of a request whose reply has so many bytes of a body
+abbrev pub served_of : declared.Asked → Reason → ℕ → ℕ → Served
+served_of what why generation len =
+    record { asked = what; gen_ = generation; status = status_of why; reason = why; len = len }
+
+-- what is told, where the reply was written
+abbrev pub told_of : declared.Asked → Reason → ℕ → Result ℕ ReplyFault → Result Served ReplyFault
+told_of what why generation (Ok len) = Ok (served_of what why generation len)
+told_of what why generation (Err fault) = Err fault
+
+-- what is told of what was decided
+abbrev pub served_as : Decided → ℕ → Served
+served_as decided len = served_of decided.asked decided.reason decided.generation len
+
+-- the reply's bytes were written and it is told so; or they weren't
+abbrev pub Tells : Decided → List ℕ → ℕ → ShownStream → ShownStream → Result Served ReplyFault → Type 0
+Tells decided bytes len before after (Ok served) = GetsAll bytes before after × (served ≡ served_as decided len)
+Tells decided bytes len before after (Err fault) = FailsReply fault bytes before after
+
+-- the reply to what is decided is written
+pub record Sends
+    (decided : Decided) (close with_body : Bool) (before after : ShownStream) (result : Result Served ReplyFault) : Type 0 where
+  pub body : List ℕ
+  pub file : Option (List ℕ)
+  pub shows : Shows decided.reason decided.found body file
+  pub tells : Tells decided (bytes_of decided.reason body file close with_body) (sent_len with_body body) before after result

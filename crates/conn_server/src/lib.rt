@@ -1,0 +1,17 @@
+//! One connection: its requests, each with the reply that the rules name. Heads are cut from the
+//! stream, routes are read and local answers are found in the crates below.
+#![tactic(auto)]
+
+mod connection;
+mod decide;
+mod method;
+mod reason;
+mod report;
+mod send;
+#[cfg(test)]
+mod tests;
+mod turn;
+
+pub use connection::{REQUESTS, serve_connection};
+pub use reason::Reason;
+pub use report::{Asked, ConnEnd, ConnReport, Served};

@@ -1,0 +1,8 @@
+//! What no clause says: that memory suffices, and the whole bytes of replies.
+
+mod cut;
+mod edges;
+mod gates;
+mod helpers;
+mod replies;
+mod texts;

@@ -1,0 +1,163 @@
+//! One request of a connection.
+
+ghost use Rattle.std.specs.Prelude.{◌≡◌};
+ghost use Rattle.answer_core.specs.Local.{IsLater};
+ghost use Rattle.conn_server.specs.Asked.{readable, told_facts};
+ghost use Rattle.conn_server.specs.Sent.{CanSend};
+ghost use Rattle.conn_server.specs.Turns.{RefusesHead, Replies, Takes, TakesNext, end_of};
+ghost use Rattle.conn_server.specs.Turns.{end_of_head};
+
+use crate::decide::{Decided, decide, plain};
+use crate::method::is_head;
+use crate::reason::reason_of_head;
+use crate::report::{Asked, ConnEnd, Served};
+use crate::send::send;
+use http_wire::{Head, HeadAnswer, HeadFault, HeadReader, ReplyFault, Sink, Source};
+use index_keeper::Keeper;
+use index_lock::{Seat, TurnLock};
+use index_state::State;
+use row_types::{CanonPath, Truth};
+use std::alloc::Global;
+use std::sync::Wait;
+use tree_trait::{Gate, Tree};
+
+/// What came of one request.
+#[derive(Drop)]
+pub(crate) enum Turn {
+    /// It was answered, and the connection goes on.
+    Replied(Served),
+    /// It was answered, and the connection ends.
+    Last(Served, ConnEnd),
+    /// It wasn't answered, or not whole, and the connection ends.
+    Ended(ConnEnd),
+}
+
+/// Reads the next request and answers it. The last one of a connection is answered with a reply
+/// that closes.
+pub(crate) fn next_turn<
+    W: Truth,
+    K: Keeper<W>,
+    T: Tree<W>,
+    N: Source + Sink,
+    G: Gate,
+    R: Wait + Sync,
+>(
+    rt: &R,
+    alloc: Global,
+    lock: &TurnLock<State<W, K>>,
+    seat: Seat<State<W, K>>,
+    hand: &mut T,
+    folders: &[CanonPath],
+    reader: &mut HeadReader,
+    conn: &mut N,
+    last: bool,
+    number: u64,
+    gate: &G,
+) -> (Seat<State<W, K>>, Turn)
+    requires { seat.lock ≡ lock.now }
+    ensures later { IsLater seat result.0 }
+    ensures turn { TakesNext W.true_row result.0.seen folders.now
+        (record { told = T.told; version = W.version; start = T.shows hand.old })
+        reader.old last (N.shows conn.old) result.1 reader.new (N.shows conn.new)
+        (T.shows hand.new) }
+{
+    let answer = reader.next(conn);
+    take_turn(
+        rt, alloc, lock, seat, hand, folders, &answer, conn, last, number, gate,
+    )
+}
+
+/// Answers what was read.
+#[tactic(auto, using(crate::proofs::DecideLemmas::can_send))]
+fn take_turn<W: Truth, K: Keeper<W>, T: Tree<W>, N: Sink, G: Gate, R: Wait + Sync>(
+    rt: &R,
+    alloc: Global,
+    lock: &TurnLock<State<W, K>>,
+    seat: Seat<State<W, K>>,
+    hand: &mut T,
+    folders: &[CanonPath],
+    answer: &HeadAnswer<'_>,
+    conn: &mut N,
+    last: bool,
+    number: u64,
+    gate: &G,
+) -> (Seat<State<W, K>>, Turn)
+    requires { seat.lock ≡ lock.now }
+    ensures later { IsLater seat result.0 }
+    ensures turn { Takes W.true_row result.0.seen folders.now
+        (record { told = T.told; version = W.version; start = T.shows hand.old })
+        answer.now last (N.shows conn.old) result.1 (N.shows conn.new) (T.shows hand.new) }
+{
+    match answer {
+        HeadAnswer::Head(head) => {
+            let (seat, decided) = decide(rt, alloc, lock, seat, hand, folders, head, number, gate);
+            (seat, reply(alloc, conn, decided, head, last))
+        }
+        HeadAnswer::Closed => (seat, Turn::Ended(ConnEnd::Closed)),
+        HeadAnswer::Refused(fault) => (seat, refuse(alloc, conn, *fault)),
+        HeadAnswer::ReadFault => (seat, Turn::Ended(ConnEnd::ReadFault)),
+    }
+}
+
+/// Answers a head.
+fn reply<N: Sink>(
+    alloc: Global,
+    conn: &mut N,
+    decided: Decided,
+    head: &Head<'_>,
+    last: bool,
+) -> Turn
+    requires { CanSend decided }
+    ensures { Replies decided (readable (told_facts head.now)) last (N.shows conn.old) result
+        (N.shows conn.new) }
+{
+    let close = head.close || head.has_body || last;
+    let with_body = !is_head(head.method);
+    match send(alloc, conn, decided, close, with_body) {
+        Ok(served) => {
+            if close {
+                Turn::Last(served, end_after(last))
+            } else {
+                Turn::Replied(served)
+            }
+        }
+        Err(fault) => Turn::Ended(end_of(fault)),
+    }
+}
+
+/// How a connection ends behind a reply to a head that closes.
+fn end_after(last: bool) -> ConnEnd
+    ensures { result ≡ end_of_head last }
+{
+    if last {
+        ConnEnd::Limit
+    } else {
+        ConnEnd::Closed
+    }
+}
+
+/// Answers bytes that are no head. Those that were cut off get no reply.
+fn refuse<N: Sink>(alloc: Global, conn: &mut N, fault: HeadFault) -> Turn
+    ensures { RefusesHead fault (N.shows conn.old) result (N.shows conn.new) }
+{
+    match reason_of_head(fault) {
+        Some(reason) => {
+            let decided = plain(Asked::Head(fault), reason);
+            match send(alloc, conn, decided, true, true) {
+                Ok(served) => Turn::Last(served, ConnEnd::Refused),
+                Err(fault) => Turn::Ended(end_of(fault)),
+            }
+        }
+        None => Turn::Ended(ConnEnd::Cut),
+    }
+}
+
+/// How a connection ends where a reply wasn't written whole.
+fn end_of(fault: ReplyFault) -> ConnEnd
+    ensures { result ≡ end_of fault }
+{
+    match fault {
+        ReplyFault::OutOfMemory => ConnEnd::OutOfMemory,
+        ReplyFault::WriteFault => ConnEnd::WriteFault,
+    }
+}
