@@ -77,3 +77,16 @@ hands_stay {T} told version sees (hand ∷ hands) some never = (stays_on told ve
     each : (hs : List T) → AllZip (λ h l. HandsOn told version (sees h) (sees l) ⊥ ⊥) hs hs
     each [] = tt
     each (h ∷ hs) = (stays_on told version (sees h) (λ none. none), each hs)
+
+-- as many hands come back
+zip_length : {T : Type 0} (R : T → T → Type 0) (hands left : List T) → AllZip R hands left → length left ≡ length hands
+zip_length R [] [] zip = refl
+zip_length R [] (later ∷ left) zip = absurd zip
+zip_length R (hand ∷ hands) [] zip = absurd zip
+zip_length R (hand ∷ hands) (later ∷ left) zip = let rest = zip_length R hands left zip.1 in omega (arith, rest)
+
+pub goes_length : {T : Type 0} (First Other : T → T → Type 0) (hands left : List T) → HandsGo First Other hands left
+    → length left ≡ length hands
+goes_length First Other [] left goes = absurd goes
+goes_length First Other (hand ∷ hands) [] goes = absurd goes
+goes_length First Other (hand ∷ hands) (later ∷ left) goes = let rest = zip_length Other hands left goes.1 in omega (arith, rest)

@@ -1,6 +1,6 @@
 -- The pass of a scan: what is said of the index that made it is said of the store that it came from and went to.
-use Rattle.std.proofs.Common.{◌≡◌, ◌⊎◌, inl, inr, ℕ, Bool, true, false, List, ◌∷◌, drop, Option, Some, sym, ◌∙◌, ap, subst, IsTrue}
-use Rattle.std.specs.List.{All, AllZip, Contains}
+use Rattle.std.proofs.Common.{◌≡◌, ◌⊎◌, inl, inr, ℕ, Bool, true, false, List, ◌∷◌, drop, Option, Some, Ok, length, refl, sym, ◌∙◌, ap, subst, IsTrue}
+use Rattle.std.specs.List.{AllZip}
 use Rattle.row_types.specs.Faults.{Rose}
 use Rattle.row_types.specs.Name.{NameFacts}
 use Rattle.row_types.specs.Row.{RowFacts}
@@ -22,14 +22,15 @@ use Rattle.index_state.specs.Plan.{plan_of}
 use Rattle.index_state.specs.State.{Origin, StateFacts, pass_of}
 use Rattle.tree_trait.specs.Heard.{Heard}
 use Rattle.tree_trait.specs.Shown.{ShownTree}
+use Rattle.tree_walk.specs.Ends.{Walks}
+use Rattle.tree_walk.specs.declared.walked.Walk.{Walk as WalkFacts}
 use Rattle.pass_runner.specs.Numbers.{summary_of}
-use Rattle.pass_runner.specs.Owned.{EndsPass, HandsGo, HearsPass, Helps, RunsPass}
-use Rattle.pass_runner.specs.Settled.{IsBacked, IsReadOf, MayGo}
+use Rattle.pass_runner.specs.Owned.{EndsHelped as EndsBeside, EndsPass, HandsGo, Helps, IsHelped, LeavesIndex, RunsPass, is_unwalked}
 use Rattle.pass_runner.specs.declared.pass_end.PassEnd.{PassEnd}
 use Rattle.pass_runner.specs.declared.pass_end.PassEnd.TheVariants as ended
 use Rattle.dbgd_run.specs.Kept.{HasOneChange, HasRows, HoldsRows, MakesChanges, MayHaveRows}
 use Rattle.dbgd_run.specs.Passing.{HasPath, IsLent, ScansIndex}
-use Rattle.dbgd_run.specs.Scan.{EndsInWalk, EndsPassed, MakesPass}
+use Rattle.dbgd_run.specs.Scan.{EndsHelped, EndsInWalk, EndsPassed, EndsUnbegun, HelpsWith, MakesPass}
 use Rattle.dbgd_run.specs.Scene.{FirstGoes, Setting}
 use Rattle.dbgd_run.proofs.HandLemmas.{others_stay}
 
@@ -115,91 +116,150 @@ module _ {K T : Type 0} (s : Setting T) {shows : K → ShownKeeper} {from into :
     made = lent.back.made ∙ ap (λ (st : StateFacts K). (shows st.keeper).made) same ∙ swept_made;
   }
 
-  makes : {roots : List (List ℕ)} {hand later : T} {hands left : List T} {Ends : List NameFacts → List Heard → Type 0}
-      {Into : List NameFacts → List Heard → List RowFacts → List RowFacts → Type 0}
-      (run : RunsPass s.world s.tells_files roots (s.sees hand) (s.sees later) old new Ends)
-      → AllZip (λ h l. Helps s.world.version (pass_of new.pass).listing roots (row_names old.rows) (s.sees h) (s.sees l)) hands left
-      → Into run.walk.listing run.more (current lent.opens.opened.rows) new.rows
-      → MakesPass s roots (hand ∷ hands) (later ∷ left) from into Into
-  makes {roots} {hand} {later} {hands} {left} run helps ends =
-      let listed : (pass_of new.pass).listing ≡ run.walk.listing
-      = ap (λ (p : Option PassFacts). (pass_of p).listing) run.leaves.is_open ∙ run.leaves.over in
+  -- the other hands helped, against the rows of the edition
+  helps_by : (listing : List NameFacts) (hands left : List T)
+      → AllZip (λ h l. Helps s.tells_files s.world.version listing (row_names old.rows) (s.sees h) (s.sees l)) hands left
+      → AllZip (HelpsWith s listing (current lent.opens.opened.rows)) hands left
+  helps_by listing hands left helps =
+      subst (λ names. AllZip (λ h l. Helps s.tells_files s.world.version listing names (s.sees h) (s.sees l)) hands left) old_names helps
+
+  -- no row of a listed name went
+  kept_by : (listing : List NameFacts) (rows : List RowFacts)
+      → ((name : NameFacts) → is_in listing name ≡ true → is_in (row_names old.rows) name ≡ true → is_in (row_names rows) name ≡ true)
+      → (name : NameFacts) → is_in listing name ≡ true → is_in (row_names (current lent.opens.opened.rows)) name ≡ true
+      → is_in (row_names rows) name ≡ true
+  kept_by listing rows stays =
+      subst (λ names. (name : NameFacts) → is_in listing name ≡ true → is_in names name ≡ true → is_in (row_names rows) name ≡ true)
+      old_names stays
+
+  unbegun : {roots : List (List ℕ)} {hand later : T} {hands left : List T} (walk : WalkFacts) → new ≡ old
+      → Walks s.tells_files (s.sees hand) (s.sees later) roots (Ok walk)
+      → AllZip (λ h l. Helps s.tells_files s.world.version walk.listing (row_names old.rows) (s.sees h) (s.sees l)) hands left
+      → EndsUnbegun s roots (hand ∷ hands) (later ∷ left) from into
+  unbegun {hands = hands} {left = left} walk same walks helps = record {
+    found = lent.opens.opened.rows;
+    held = held;
+    walk = walk;
+    hands = (walks, helps_by walk.listing hands left helps);
+    has = λ t.
+        has_rows (ap (λ (st : StateFacts K). st.broken) (same ∙ lent.opens.opened.value)) t
+        ∙ ap (λ (st : StateFacts K). tables_of st.rows) same ∙ ap tables_of old_rows;
+    made = lent.back.made ∙ ap (λ (st : StateFacts K). (shows st.keeper).made) same ∙ swept_made;
+  }
+
+  helped_on : {roots : List (List ℕ)} {listing : List NameFacts} {hand later : T} {hands left : List T} {count : ℕ} {Ends : Type 0}
+      {Into : List RowFacts → Type 0} (run : EndsBeside s.tells_files count roots listing (s.sees hand) (s.sees later) old new Ends)
+      → AllZip (λ h l. Helps s.tells_files s.world.version listing (row_names old.rows) (s.sees h) (s.sees l)) hands left
+      → Into new.rows → EndsHelped s roots (hand ∷ hands) (later ∷ left) from into Into
+  helped_on {hands = hands} {left = left} {count = count} run helps ends =
+      let stands = subst (λ (l : List NameFacts). IsHelped count l old new) (sym run.over) run.helped in
       record {
         found = lent.opens.opened.rows;
         held = held;
         left = new.rows;
         sound = holds.rows_sorted_and_true;
-        made = made_since (ap (λ (o : Origin). o.made) run.leaves.origin);
+        made = made_since (ap (λ (o : Origin). o.made) run.helped.origin);
+        walk = run.walk;
+        hands = (
+          run.walks,
+          helps_by run.walk.listing hands left
+              (subst (λ (l : List NameFacts). AllZip (λ h g. Helps s.tells_files s.world.version l (row_names old.rows) (s.sees h) (s.sees g)) hands left)
+              (sym run.over) helps),
+        );
+        stays = kept_by run.walk.listing new.rows stands.stays;
+        ends = ends;
+      }
+
+  makes : {roots : List (List ℕ)} {listing : List NameFacts} {hand later : T} {hands left : List T}
+      {Ends : StateFacts K → List Heard → Type 0}
+      {Into : List NameFacts → List Heard → List RowFacts → List RowFacts → List RowFacts → Type 0}
+      (run : RunsPass s.world s.tells_files (length (hand ∷ hands)) roots listing (s.sees hand) (s.sees later) old new Ends)
+      → AllZip (λ h l. Helps s.tells_files s.world.version listing (row_names old.rows) (s.sees h) (s.sees l)) hands left
+      → Into listing run.more (current lent.opens.opened.rows) run.found.rows new.rows
+      → MakesPass s roots (hand ∷ hands) (later ∷ left) from into Into
+  makes {roots} {listing} {hand} {later} {hands} {left} {Into = Into} run helps ends =
+      let stands = subst (λ (l : List NameFacts). IsHelped (length (hand ∷ hands)) l old run.found) (sym run.over) run.helped in
+      let leaves = subst (λ (l : List NameFacts). LeavesIndex roots l run.more (Rose (s.sees hand).faults (s.sees later).faults) run.found new)
+      (sym run.over) run.leaves in
+      record {
+        found = lent.opens.opened.rows;
+        held = held;
+        met = run.found.rows;
+        alone = λ one. ap (λ (st : StateFacts K). st.rows) (run.helped.alone one) ∙ old_rows;
+        left = new.rows;
+        sound = holds.rows_sorted_and_true;
+        made = made_since (ap (λ (o : Origin). o.made) (run.leaves.origin ∙ run.helped.origin));
         walk = run.walk;
         walked = run.walked;
         more = run.more;
         hands = (
-          subst (λ names. HearsPass s.tells_files s.world.version roots names run.walk run.walked run.more (s.sees hand) (s.sees later)) old_names run.hears,
-          subst (λ names. AllZip (λ h l. Helps s.world.version run.walk.listing roots names (s.sees h) (s.sees l)) hands left) old_names
-              (subst (λ listing. AllZip (λ h l. Helps s.world.version listing roots (row_names old.rows) (s.sees h) (s.sees l)) hands left) listed helps),
+          run.hears,
+          helps_by run.walk.listing hands left
+              (subst (λ (l : List NameFacts). AllZip (λ h g. Helps s.tells_files s.world.version l (row_names old.rows) (s.sees h) (s.sees g)) hands left)
+              (sym run.over) helps),
         );
-        stays = subst (λ names. (name : NameFacts) → is_in run.walk.listing name ≡ true → is_in names name ≡ true
-            → is_in (row_names new.rows) name ≡ true) old_names run.leaves.stays;
-        goes = subst (λ names. (name : NameFacts) → is_in names name ≡ true → is_in (row_names new.rows) name ≡ false
-            → MayGo run.walk.listing roots run.more name) old_names run.leaves.goes;
-        comes = subst (λ names. (name : NameFacts) → is_in (row_names new.rows) name ≡ true → is_in names name ≡ false
-            → is_in run.walk.listing name ≡ true) old_names run.leaves.comes;
-        brings = subst (λ rows. All (λ row. Contains rows row ⊎ IsReadOf run.more row) new.rows) old_rows run.leaves.brings;
-        ends = ends;
+        kept = kept_by run.walk.listing run.found.rows stands.stays;
+        stays = leaves.stays;
+        goes = leaves.goes;
+        comes = leaves.comes;
+        brings = leaves.brings;
+        ends =
+            subst (λ (l : List NameFacts). Into l run.more (current lent.opens.opened.rows) run.found.rows new.rows) (sym run.over) ends;
       }
 
   -- how the pass ended is how the scan does
-  ends_by : (roots : List (List ℕ)) (hand later : T) (hands left : List T) (end : PassEnd) → HasPath end
-      → EndsPass s.world s.tells_files s.tells_tables shows roots (s.sees hand) (s.sees later) old new end
-      → AllZip (λ h l. Helps s.world.version (pass_of new.pass).listing roots (row_names old.rows) (s.sees h) (s.sees l)) hands left
-      → left ≡ hands → EndsPassed s roots (hand ∷ hands) (later ∷ left) from into end
-  ends_by roots hand later hands left (ended.Whole summary) path run helps same =
+  ends_by : (roots : List (List ℕ)) (listing : List NameFacts) (hand later : T) (hands left : List T) (end : PassEnd) → HasPath end
+      → EndsPass s.world s.tells_files s.tells_tables shows (length (hand ∷ hands)) roots listing (s.sees hand) (s.sees later) old new end
+      → AllZip (λ h l. Helps s.tells_files s.world.version listing (row_names old.rows) (s.sees h) (s.sees l)) hands left
+      → (IsTrue (is_unwalked end) → left ≡ hands) → EndsPassed s roots (hand ∷ hands) (later ∷ left) from into end
+  ends_by roots listing hand later hands left (ended.Whole summary) path run helps idle =
       makes run helps (record {
         names = run.ends.complete.names;
         scan = run.ends.complete.scan;
         has = has_rows run.ends.sound;
-        numbers = run.ends.numbers ∙ ap (λ names. summary_of (plan_of run.walk.listing names) new.rows) old_names;
+        numbers = run.ends.numbers ∙ ap (λ names. summary_of (plan_of listing names) new.rows) old_names;
       })
-  ends_by roots hand later hands left (ended.Missed miss) path run helps same =
-      makes run helps (record {
-        path = path;
-        why =
-            subst (λ names. IsBacked run.walk.listing names run.more (Rose (s.sees hand).faults (s.sees later).faults) miss.name miss.cause)
-            old_names run.ends.why;
-        has = has_rows run.ends.sound;
-      })
-  ends_by roots hand later hands left (ended.Walk fault) path ends helps same =
-      in_walk ends.same (record { walks = ends.walks; fits = ends.fits }, others_stay same)
-  ends_by roots hand later hands left ended.Broken path ends helps same = absurd ends
-  ends_by roots hand later hands left ended.KeeperFault path run helps same = makes run helps (may_have run.ends)
-  ends_by roots hand later hands left ended.LogFull path run helps same =
+  ends_by roots listing hand later hands left (ended.Missed miss) path run helps idle =
+      makes run helps (record { path = path; why = run.ends.why; has = has_rows run.ends.sound })
+  ends_by roots listing hand later hands left (ended.Walk fault) path ends helps idle =
+      in_walk ends.same (record { walks = ends.walks; fits = ends.fits }, others_stay (idle refl))
+  ends_by roots listing hand later hands left ended.Broken path ends helps idle = absurd ends
+  ends_by roots listing hand later hands left ended.KeeperFault path (inl run) helps idle = inl (makes run helps (may_have run.ends))
+  ends_by roots listing hand later hands left ended.KeeperFault path (inr run) helps idle = inr (helped_on run helps (may_have run.ends))
+  ends_by roots listing hand later hands left ended.LogFull path run helps idle =
       makes run helps (record {
         log = new.log;
         names = holds.rows_replay_the_log.names;
         full = run.ends.full;
-        apart = λ listing.
-            run.ends.apart (listing ∙ sym (ap (λ (p : Option PassFacts). (pass_of p).listing) run.leaves.is_open ∙ run.leaves.over));
+        apart = λ names.
+            run.ends.apart (names ∙ sym (ap (λ (p : Option PassFacts). (pass_of p).listing) run.leaves.is_open ∙ run.leaves.over));
         has = has_rows run.ends.sound;
       })
-  ends_by roots hand later hands left ended.OutOfMemory path (inl early) helps same =
-      inl (in_walk early.same (record { walk = early.walk; walks = early.walks }, others_stay same))
-  ends_by roots hand later hands left ended.OutOfMemory path (inr run) helps same = inr (makes run helps (has_rows run.ends))
+  ends_by roots listing hand later hands left ended.OutOfMemory path (inl early) helps idle =
+      inl (unbegun early.walk early.same early.walks
+      (subst (λ (l : List NameFacts). AllZip (λ h g. Helps s.tells_files s.world.version l (row_names old.rows) (s.sees h) (s.sees g)) hands left)
+      (sym early.over) helps))
+  ends_by roots listing hand later hands left ended.OutOfMemory path (inr (inl run)) helps idle =
+      inr (inl (makes run helps (has_rows run.ends)))
+  ends_by roots listing hand later hands left ended.OutOfMemory path (inr (inr run)) helps idle =
+      inr (inr (helped_on run helps (has_rows run.ends)))
 
   -- the same of the hands in order
-  pub ends_go : (roots : List (List ℕ)) (before after : List T) (end : PassEnd) → HasPath end
-      → HandsGo (λ hand later. EndsPass s.world s.tells_files s.tells_tables shows roots (s.sees hand) (s.sees later) old new end)
-      (λ hand later. Helps s.world.version (pass_of new.pass).listing roots (row_names old.rows) (s.sees hand) (s.sees later)) before after
-      → drop 1 after ≡ drop 1 before → EndsPassed s roots before after from into end
-  ends_go roots (hand ∷ hands) (later ∷ left) end path goes same = ends_by roots hand later hands left end path goes.0 goes.1 same
-  ends_go roots _ _ end path goes same = absurd goes
+  pub ends_go : (roots : List (List ℕ)) (listing : List NameFacts) (before after : List T) (end : PassEnd) → HasPath end
+      → HandsGo
+      (λ hand later. EndsPass s.world s.tells_files s.tells_tables shows (length before) roots listing (s.sees hand) (s.sees later) old new end)
+      (λ hand later. Helps s.tells_files s.world.version listing (row_names old.rows) (s.sees hand) (s.sees later)) before after
+      → (IsTrue (is_unwalked end) → drop 1 after ≡ drop 1 before) → EndsPassed s roots before after from into end
+  ends_go roots listing (hand ∷ hands) (later ∷ left) end path goes idle = ends_by roots listing hand later hands left end path goes.0 goes.1 idle
+  ends_go roots listing _ _ end path goes idle = absurd goes
 
 -- the end of a scan over an index that was opened on a keeper
 pub ends_passed : {K T : Type 0} (s : Setting T) (shows : K → ShownKeeper) (roots : List (List ℕ)) (before after : List T)
     {from mid into : ShownStore} {keeper given : K} {old : StateFacts K} (end : PassEnd)
     → Opens s.tells_tables shows keeper old → ScansIndex s shows roots before after old given end
-    → drop 1 after ≡ drop 1 before → HasAll s.tells_tables from (shows keeper)
+    → HasAll s.tells_tables from (shows keeper)
     → TakesBack s.tells_tables (shows given) mid into → EndsPassed s roots before after from into end
-ends_passed {K} s shows roots before after {mid = mid} {into = into} end opens scans same has back =
+ends_passed {K} s shows roots before after {mid = mid} {into = into} end opens scans has back =
     ends_go s
     (record { opens = opens; has = has; mid = mid; back = subst (λ (k : K). TakesBack s.tells_tables (shows k) mid into) scans.value back })
-    scans.holds roots before after end scans.path scans.pass same
+    scans.holds roots scans.pass.0 before after end scans.path scans.pass.1 scans.idle

@@ -1,6 +1,6 @@
 -- A query: what is said of the index that was opened is said of its store; how it ends when.
-use Rattle.std.proofs.Common.{◌≡◌, ◌⊎◌, inl, inr, ℕ, Bool, List, [], ◌∷◌, ◌++◌, length, length-append, codes, sym, refl, ◌∙◌, ap, subst, IsTrue, arith}
-use Rattle.std.specs.Prelude.{flat_map, filter}
+use Rattle.std.proofs.Common.{◌≡◌, inl, inr, ℕ, Bool, List, [], ◌∷◌, ◌++◌, length, length-append, codes, sym, refl, ◌∙◌, ap, subst, IsTrue, arith}
+use Rattle.std.specs.Prelude.{filter}
 use Rattle.std.specs.List.{Contains}
 use Rattle.std.proofs.lemmas.List.{append-nil}
 use Rattle.row_types.specs.Faults.{HasCause, Rose}
@@ -8,15 +8,13 @@ use Rattle.row_types.specs.Row.{RowFacts}
 use Rattle.http_wire.specs.Sink.{GetsAll}
 use Rattle.index_keeper.specs.Keeper.{ShownKeeper}
 use Rattle.index_keeper.specs.Store.{HasAll, IsClosed, IsOpened, ShownStore, TakesBack, with_path}
-use Rattle.index_keeper.specs.Tables.{KeptFacts}
 use Rattle.index_rows.specs.Classes.{has_id}
 use Rattle.index_state.specs.Kept.{IsInStore, tables_of}
 use Rattle.index_state.specs.Opening.{AreRows, IsOverfull, Opens, current, made_swept}
 use Rattle.index_state.specs.State.{StateFacts}
 use Rattle.index_state.specs.declared.open_fault.OpenFault.TheVariants as refusal
-use Rattle.dbgd_run.specs.Endings.{Streams}
 use Rattle.dbgd_run.specs.Opened.{EndsOnlyWith, HasSomeBad}
-use Rattle.dbgd_run.specs.Query.{Looks, LooksAt, LooksBy, Queries, ReadsLines, RunsQuery, SaysFound, SaysLines, id_rows, is_look_fault, is_looked, reading_word, row_line, row_lines}
+use Rattle.dbgd_run.specs.Query.{Looks, LooksAt, LooksBy, Queries, ReadsLines, RunsQuery, SaysFound, SaysLines, id_rows, is_look_fault, reading_word, row_line, row_lines}
 use Rattle.dbgd_run.specs.QueryCauses.{IsAnswered, IsFreeQuery, QueryEnds, QueryStatus}
 use Rattle.dbgd_run.specs.Scene.{Scene, Setting}
 use Rattle.dbgd_run.specs.declared.query_end.QueryEnd.{QueryEnd}

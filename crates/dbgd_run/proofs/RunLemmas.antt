@@ -1,7 +1,7 @@
 -- A run, by what its words ask.
-use Rattle.std.proofs.Common.{◌≡◌, ◌⊎◌, ℕ, ◌<◌, List, [], length, inl, inr, refl, sym, subst, true}
+use Rattle.std.proofs.Common.{◌≡◌, ◌⊎◌, ℕ, ◌<◌, List, [], length, inl, inr, refl, sym, subst}
 use Rattle.index_state.specs.declared.open_fault.OpenFault.TheVariants as refusal
-use Rattle.dbgd_words.specs.Words.{Line, asks_help, asks_ident, asks_query, asks_scan, asks_section, asks_sources, has_options, line_of, unbuilt, unreadable}
+use Rattle.dbgd_words.specs.Words.{Line, asks_help, asks_ident, asks_query, asks_scan, asks_section, asks_sources, line_of, unbuilt, unreadable}
 use Rattle.dbgd_words.proofs.OptionLemmas.{AsksByOptions, options_ask}
 use Rattle.dbgd_run.specs.Causes.{HasStatus, HelpStatus}
 use Rattle.dbgd_run.specs.Endings.{Ends, WantsMemory, out_saying}

@@ -18,7 +18,7 @@ use Rattle.tree_walk.specs.Files.{FitsFault}
 use Rattle.tree_walk.specs.declared.fault.WalkFault.{WalkFault}
 use Rattle.tree_walk.specs.declared.walked.Walk.{Walk}
 use Rattle.tree_walk.specs.declared.fault.WalkFault.TheVariants as stop
-use Rattle.pass_runner.specs.Owned.{HearsPass, Helps}
+use Rattle.pass_runner.specs.Owned.{HearsPass}
 use Rattle.pass_runner.specs.Settled.{IsBacked}
 use Rattle.pass_runner.specs.declared.pass_end.PassEnd.{PassEnd}
 use Rattle.pass_runner.specs.declared.pass_end.PassEnd.TheVariants as ended
@@ -28,7 +28,7 @@ use Rattle.dbgd_run.specs.Opened.{EndsOnlyWith, HasSomeBad}
 use Rattle.dbgd_run.specs.Causes.{IsUnhindered, ScanEnds, ScanStatus, of_changes, of_rows, of_walk}
 use Rattle.dbgd_run.specs.Endings.{Streams}
 use Rattle.dbgd_run.specs.Kept.{HoldsRows}
-use Rattle.dbgd_run.specs.Scan.{EndsPassed, MakesPass, RunsScan, Scans, WalksInto}
+use Rattle.dbgd_run.specs.Scan.{EndsPassed, HelpsWith, MakesPass, RunsScan, Scans, WalksInto}
 use Rattle.dbgd_run.specs.ScanSaid.{SaysEnd, SaysMiss, is_hand_fault, miss_saying, scan_saying}
 use Rattle.dbgd_run.specs.Scene.{FirstRose, OfFirst, Scene, Setting}
 use Rattle.dbgd_run.specs.declared.scan_end.ScanEnd.{ScanEnd}
@@ -125,14 +125,14 @@ module _ {T : Type 0} (s : Setting T) (path : List ℕ) (roots : List (List ℕ)
 
   -- what it heard of a file that is another by now
   other_heard : (name : NameFacts) (why : Cause) → IsChange why
-      → {Ends : List NameFacts → List Heard → List RowFacts → List RowFacts → Type 0}
+      → {Ends : List NameFacts → List Heard → List RowFacts → List RowFacts → List RowFacts → Type 0}
       → (pass : MakesPass s roots before.hands after.hands before.store after.store Ends) → IsCanonPath name.path
-      → IsBacked pass.walk.listing (row_names (current pass.found)) pass.more (FirstRose s before.hands after.hands) name why
+      → IsBacked pass.walk.listing (row_names pass.met) pass.more (FirstRose s before.hands after.hands) name why
       → OfFirst s (HeardOther s.tells_files roots) before.hands after.hands
   other_heard name why change pass path backed =
       of_first s
-      (λ hand later. HearsPass s.tells_files s.world.version roots (row_names (current pass.found)) pass.walk pass.walked pass.more (s.sees hand) (s.sees later))
-      (λ hand later. Helps s.world.version pass.walk.listing roots (row_names (current pass.found)) (s.sees hand) (s.sees later))
+      (λ hand later. HearsPass s.tells_files s.world.version roots (row_names pass.met) pass.walk pass.walked pass.more (s.sees hand) (s.sees later))
+      (HelpsWith s pass.walk.listing (current pass.found))
       (HeardOther s.tells_files roots) before.hands after.hands
       (λ hand later hears. heard_other (FirstRose s before.hands after.hands) name why hears change path backed) pass.hands
 
@@ -162,7 +162,7 @@ module _ {T : Type 0} (s : Setting T) (path : List ℕ) (roots : List (List ℕ)
         so = scans.ends.store.why;
       })
   end_status (Refused refusal.OutOfMemory) scans said = tt
-  end_status (Passed (ended.Whole summary)) scans said = record { summary = summary; ends = scans.ends; line = said }
+  end_status (Passed (ended.Whole summary)) scans said = record { summary = summary; ends = scans.ends; loads = scans.loads; line = said }
   end_status (Passed (ended.Missed miss)) scans said = miss_status miss.name miss.cause scans
   end_status (Passed (ended.Walk stop.Failed)) scans said =
       inr (inl (hand_rose (Passed (ended.Walk stop.Failed)) scans refl))
@@ -206,10 +206,12 @@ module _ {T : Type 0} (s : Setting T) (path : List ℕ) (roots : List (List ℕ)
   found_rows (ended.Missed miss) ends = (ends.found, ends.held)
   found_rows (ended.Walk fault) ends = (ends.found, ends.held)
   found_rows ended.Broken ends = absurd ends
-  found_rows ended.KeeperFault ends = (ends.found, ends.held)
+  found_rows ended.KeeperFault (inl ends) = (ends.found, ends.held)
+  found_rows ended.KeeperFault (inr ends) = (ends.found, ends.held)
   found_rows ended.LogFull ends = (ends.found, ends.held)
   found_rows ended.OutOfMemory (inl ends) = (ends.found, ends.held)
-  found_rows ended.OutOfMemory (inr ends) = (ends.found, ends.held)
+  found_rows ended.OutOfMemory (inr (inl ends)) = (ends.found, ends.held)
+  found_rows ended.OutOfMemory (inr (inr ends)) = (ends.found, ends.held)
 
   -- where the store tells, they are its tables
   told_rows : (end : PassEnd) → IsTrue s.tells_tables

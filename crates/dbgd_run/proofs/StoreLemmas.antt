@@ -1,7 +1,8 @@
 -- The store of a scan, around the index that was opened on it or wasn't.
 use Rattle.std.proofs.Common.{◌≡◌, ◌⊎◌, inl, inr, ℕ, ◌<◌, Bool, List, [], length, Option, Some, None, sym, refl, ◌∙◌, ap, subst, IsTrue, arith}
+use Rattle.std.proofs.lemmas.Bool.{true≢false}
 use Rattle.std.proofs.lemmas.List.{append-nil}
-use Rattle.row_types.specs.Faults.{HasCause, Rose, summed}
+use Rattle.row_types.specs.Faults.{Rose, summed}
 use Rattle.row_types.specs.Row.{RowFacts}
 use Rattle.index_keeper.specs.Answers.{for_rows}
 use Rattle.index_keeper.specs.Keeper.{Asks, IsUntouched, ShownKeeper}
@@ -14,8 +15,10 @@ use Rattle.index_state.specs.declared.open_fault.OpenFault.{OpenFault}
 use Rattle.index_state.specs.declared.open_fault.OpenFault.TheVariants as refusal
 use Rattle.tree_trait.specs.Shown.{HandsOn}
 use Rattle.pass_runner.specs.Owned.{HandsGo}
+use Rattle.pass_runner.specs.declared.pass_end.PassEnd.{PassEnd}
+use Rattle.pass_runner.specs.declared.pass_end.PassEnd.TheVariants as ended
 use Rattle.dbgd_run.specs.Kept.{LacksFirst}
-use Rattle.dbgd_run.specs.Scan.{EndsBy, OpensBy, RefusesBy, RefusesValues, Scans}
+use Rattle.dbgd_run.specs.Scan.{EndsBy, LoadsBy, OpensBy, RefusesBy, RefusesValues, Scans}
 use Rattle.dbgd_run.specs.ScanSaid.{is_hand_fault, is_store_fault}
 use Rattle.dbgd_run.specs.Scene.{Setting}
 use Rattle.dbgd_run.specs.declared.scan_end.ScanEnd.{ScanEnd}
@@ -93,6 +96,29 @@ pub rose_given : {old mid new keeper given : ℕ} → mid ≡ old → keeper ≡
     → new ≡ summed mid given → Rose old new
 rose_given same none rose sum = omega arith
 
+rose_counted : {old mid new given : ℕ} → mid ≡ old → 0 < given → new ≡ summed mid given → Rose old new
+rose_counted same some sum = omega arith
+
+-- a count that rose isn't 0
+pub rose_some : (a b : ℕ) → Rose a b → 0 < b
+rose_some a b rose = omega (arith, rose)
+
+-- by which ends the store failed
+pub passed_fault : (end : PassEnd) → IsTrue (is_store_fault (Passed end)) → end ≡ ended.KeeperFault
+passed_fault ended.KeeperFault h = refl
+passed_fault (ended.Whole summary) h = absurd (true≢false (sym h))
+passed_fault (ended.Missed miss) h = absurd (true≢false (sym h))
+passed_fault (ended.Walk fault) h = absurd (true≢false (sym h))
+passed_fault ended.Broken h = absurd (true≢false (sym h))
+passed_fault ended.LogFull h = absurd (true≢false (sym h))
+passed_fault ended.OutOfMemory h = absurd (true≢false (sym h))
+
+pub refused_fault : (fault : OpenFault) → IsTrue (is_store_fault (Refused fault)) → fault ≡ refusal.KeeperFault
+refused_fault refusal.KeeperFault h = refl
+refused_fault (refusal.BadRow kept fault) h = absurd (true≢false (sym h))
+refused_fault refusal.LogFull h = absurd (true≢false (sym h))
+refused_fault refusal.OutOfMemory h = absurd (true≢false (sym h))
+
 -- the store was opened by the path
 pub opens_once : (path : List ℕ) (old new : ShownStore) (end : ScanEnd) → new.paths ≡ with_path path old.paths
     → OpensBy path old new end
@@ -115,6 +141,7 @@ module _ {T : Type 0} (s : Setting T) (path : List ℕ) {roots : List (List ℕ)
         made = ap (λ (o : ShownStore). o.made) same ∙ none_swept old.made;
       };
     };
+    loads = tt;
     hands = hands_stay s.tells_files s.world.version s.sees hands some (λ e. absurd (cc));
     store = record { later = let a = ap (λ (o : ShownStore). o.faults) same in omega arith; rose = λ e. absurd (cc) };
     later = let a = ap (λ (o : ShownStore). o.epoch) same in omega arith;
@@ -130,6 +157,7 @@ module _ {T : Type 0} (s : Setting T) (path : List ℕ) {roots : List (List ℕ)
       hands = refl;
       store = record { tables = λ t. inl (closed.tables t); removed = []; made = closed.made ∙ none_swept old.made };
     };
+    loads = tt;
     hands = hands_stay s.tells_files s.world.version s.sees hands some (λ e. absurd (cc));
     store = record { later = closed.faults; rose = λ _. closed.cause };
     later = closed.later;
@@ -143,14 +171,15 @@ module _ {T : Type 0} (s : Setting T) (path : List ℕ) {roots : List (List ℕ)
       → EndsBy s roots before after old new end
       → HandsGo (λ hand later. HandsOn s.tells_files s.world.version (s.sees hand) (s.sees later) ⊥ (IsTrue (is_hand_fault end)))
       (λ hand later. HandsOn s.tells_files s.world.version (s.sees hand) (s.sees later) ⊥ ⊥) before after
-      → HasCause keeper.faults given.faults (IsTrue (is_store_fault end))
+      → LoadsBy s.sees before after end → (IsTrue (is_store_fault end) → 0 < given.faults)
       → Scans s path roots before after old new end
-  scans_opened {old = old} {new = new} end opened back ends hands cause = record {
+  scans_opened {old = old} {new = new} end opened back ends hands loads counted = record {
     ends = ends;
+    loads = loads;
     hands = hands;
     store = record {
       later = let a = opened.faults in let b = back.later in omega arith;
-      rose = λ fails. rose_given opened.faults opened.holds.faultless (cause.rose fails) back.counted;
+      rose = λ fails. rose_counted opened.faults (counted fails) back.counted;
     };
     later = let a = opened.later in let b = back.number in omega arith;
     opened = λ _. let a = opened.rises in let b = back.number in omega arith;

@@ -1,15 +1,12 @@
 -- When a status comes (this project's rule): what each says, by the line.
-use Rattle.std.specs.Prelude.{◌≡◌, ◌⊎◌, ℕ, ◌≤◌, Bool, List, ◌++◌, length, Contains, IsTrue, Option}
+use Rattle.std.specs.Prelude.{◌≡◌, ◌⊎◌, ℕ, ◌≤◌, Bool, List, ◌++◌, length, Contains, IsTrue}
 use Rattle.row_types.specs.Faults.{Rose}
 use Rattle.row_types.specs.Name.{NameFacts}
 use Rattle.row_types.specs.Row.{RowFacts}
 use Rattle.scan_queue.specs.declared.miss.Cause.{Cause}
 use Rattle.scan_queue.specs.declared.miss.Cause.TheVariants.{ReadFault, Altered as WasAltered, Appeared}
-use Rattle.index_keeper.specs.Store.{ShownStore}
-use Rattle.index_keeper.specs.Tables.{KeptFacts}
 use Rattle.index_rows.specs.declared.rows.TheConstants.{LOG_LIMIT}
-use Rattle.index_state.specs.Opening.{AreRows, IsBad, IsFirstBad, IsOverfull, current}
-use Rattle.row_codec.specs.declared.fault.CodecFault.{CodecFault}
+use Rattle.index_state.specs.Opening.{AreRows, IsOverfull, current}
 use Rattle.tree_trait.specs.Heard.{Heard, with_answers}
 use Rattle.tree_trait.specs.Shown.{ShownTree}
 use Rattle.tree_trait.specs.Stat.{IsNothingAt}
@@ -17,7 +14,7 @@ use Rattle.tree_walk.specs.Ends.{IsRootGone, IsTooMany, IsTooManyEntries, IsWhol
 use Rattle.tree_walk.specs.Files.{HasManyEntries, HasManyFiles}
 use Rattle.tree_walk.specs.declared.walked.Walk.{Walk}
 use Rattle.http_wire.specs.Sink.{GetsAll}
-use Rattle.pass_runner.specs.Owned.{TellsStill}
+use Rattle.pass_runner.specs.Owned.{LoadsBeside, TellsStill}
 use Rattle.pass_runner.specs.Settled.{IsHeardAltered, IsSeenThere}
 use Rattle.pass_runner.specs.declared.pass_end.PassEnd.TheVariants as pass
 use Rattle.pass_runner.specs.declared.summary.Summary.{Summary}
@@ -52,6 +49,7 @@ pub record IsScanned {T : Type 0} (s : Setting T) (roots : List (List ℕ))
   pub summary : Summary
   pub ends :
       EndsPassed s roots before.hands after.hands before.store after.store (pass.Whole summary)
+  pub loads : LoadsBeside s.sees before.hands after.hands (pass.Whole summary)
   pub line : GetsAll (summary_line summary) before.streams.out after.streams.out
 
 -- nothing is at some root

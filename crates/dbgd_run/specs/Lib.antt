@@ -3,6 +3,7 @@ pub mod Endings
 pub mod File
 pub mod Ident
 pub mod Kept
+pub mod Needs
 pub mod Opened
 pub mod Passing
 pub mod Query

@@ -1,6 +1,6 @@
 -- The command `query` (this project's rule): the store is opened as for a scan, and the rows of an id that the index on
 -- it has are printed. No hand is asked anything.
-use Rattle.std.specs.Prelude.{◌≡◌, ◌⊎◌, ℕ, ◌≤◌, Bool, true, false, List, [], ◌∷◌, ◌++◌, codes, flat_map, filter, IsTrue}
+use Rattle.std.specs.Prelude.{◌≡◌, ℕ, ◌≤◌, Bool, true, false, List, [], ◌∷◌, ◌++◌, codes, flat_map, filter, IsTrue}
 use Rattle.row_types.specs.Faults.{HasCause, Rose}
 use Rattle.row_types.specs.declared.reading.Reading.{Reading}
 use Rattle.row_types.specs.declared.reading.Reading.TheVariants.{Plain, Elf}
@@ -8,7 +8,6 @@ use Rattle.row_types.specs.Row.{RowFacts}
 use Rattle.index_keeper.specs.Store.{ShownStore, with_path}
 use Rattle.index_rows.specs.Classes.{has_id}
 use Rattle.index_state.specs.Opening.{current, made_swept}
-use Rattle.index_state.specs.declared.open_fault.OpenFault.TheVariants as refusal
 use Rattle.dbgd_run.specs.Endings.{Ends, EndsWhole, Saying, Streams, error_saying, no_memory_saying}
 use Rattle.dbgd_run.specs.Endings.{out_saying}
 use Rattle.dbgd_run.specs.Kept.{HasRows, HoldsRows}

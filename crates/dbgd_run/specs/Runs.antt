@@ -1,5 +1,5 @@
 -- What a run does, by its words (this project's rule).
-use Rattle.std.specs.Prelude.{◌≡◌, ◌⊎◌, ℕ, List, IsTrue}
+use Rattle.std.specs.Prelude.{◌≡◌, ◌⊎◌, ℕ, Bool, true, false, List, IsTrue}
 use Rattle.dbgd_words.specs.Words.{Line, asks_help, asks_ident, asks_query, asks_scan, asks_section}
 use Rattle.dbgd_words.specs.Words.{asks_sources, has_options, line_of, unbuilt, unreadable}
 use Rattle.dbgd_run.specs.Causes.{HasStatus, ScanEnds}
@@ -49,6 +49,11 @@ pub record IsScanRun {T : Type 0} (s : Setting T) (path : List ℕ) (roots : Lis
     (before after : Scene T) (status : Status) : Type 0 where
   pub does : RunsScan s path roots before after status
   pub ends : ScanEnds s roots before after status
+
+-- whether a line asks for a scan
+abbrev pub is_scan : Line → Bool
+is_scan (asks_scan path workers roots) = true
+is_scan _ = false
 
 -- what a line of words does, by what it asks
 abbrev pub Runs : {T : Type 0} → Setting T → Line → Scene T → Scene T → Status → Type 0

@@ -28,7 +28,7 @@ use Rattle.tree_walk.specs.Files.{FitsFault}
 use Rattle.tree_walk.specs.declared.fault.WalkFault.{WalkFault}
 use Rattle.tree_walk.specs.declared.walked.Walk.{Walk}
 use Rattle.pass_runner.specs.Numbers.{summary_of}
-use Rattle.pass_runner.specs.Owned.{HandsGo, HearsPass, Helps, TellsStill}
+use Rattle.pass_runner.specs.Owned.{HandsGo, HearsPass, Helps, LoadsBeside, TellsStill}
 use Rattle.pass_runner.specs.Settled.{IsBacked, IsReadOf, MayGo}
 use Rattle.pass_runner.specs.declared.pass_end.PassEnd.{PassEnd}
 use Rattle.pass_runner.specs.declared.pass_end.PassEnd.TheVariants as pass
@@ -78,21 +78,55 @@ pub record WalksInto (told : Bool) (roots : List (List ℕ)) (fault : WalkFault)
   pub walks : Walks told before after roots (Err fault)
   pub fits : TellsStill told before → FitsFault before.present roots fault
 
--- the walk was whole, and nothing was loaded behind it
-pub record WalksWhole (told : Bool) (roots : List (List ℕ)) (before after : ShownTree) : Type 0 where
-  pub walk : Walk
-  pub walks : Walks told before after roots (Ok walk)
+-- another hand heard nothing but loads and looks, and no load of a path of a listed name that had a row of the edition
+abbrev pub HelpsWith : {T : Type 0} → Setting T → List NameFacts → List RowFacts → T → T → Type 0
+HelpsWith s listing rows hand later =
+    Helps s.tells_files s.world.version listing (row_names rows) (s.sees hand) (s.sees later)
 
--- the pass was made: the store held the rows that were found, and those that are left are true. The first hand heard a
--- whole walk, and then nothing but loads of listed files whose names had no row of the edition and looks under the
--- folders; no other hand heard anything else than these loads and looks. No row of a listed name went; a row whose path
--- isn't listed and lies under a folder went only where the first hand heard a look that did not find its file; a row that
--- came is of a listed name; a row that wasn't there says what a load found
-pub record MakesPass {T : Type 0} (s : Setting T) (roots : List (List ℕ)) (before after : List T)
-    (old new : ShownStore)
-    (Ends : List NameFacts → List Heard → List RowFacts → List RowFacts → Type 0) : Type 0 where
+-- the walk was whole, and memory was refused before the pass began: the store has the rows of the edition that it held
+pub record EndsUnbegun {T : Type 0} (s : Setting T) (roots : List (List ℕ)) (before after : List T)
+    (old new : ShownStore) : Type 0 where
   pub found : List RowFacts
   pub held : HoldsRows s.tells_tables old found
+  pub walk : Walk
+  pub hands :
+      HandsGo (λ hand later. Walks s.tells_files (s.sees hand) (s.sees later) roots (Ok walk))
+      (HelpsWith s walk.listing (current found)) before after
+  pub has : HasRows s.tells_tables new (current found)
+  pub made : new.made ≡ made_swept found old.made
+
+-- the other hands helped with a pass, and the first one heard a whole walk and no more. The rows that are left are true,
+-- and no row of a listed name went
+pub record EndsHelped {T : Type 0} (s : Setting T) (roots : List (List ℕ)) (before after : List T)
+    (old new : ShownStore) (Ends : List RowFacts → Type 0) : Type 0 where
+  pub found : List RowFacts
+  pub held : HoldsRows s.tells_tables old found
+  pub left : List RowFacts
+  pub sound : AreTrueRows s.world.true_row left
+  pub made : MakesChanges s.world.true_row found old.made new.made
+  pub walk : Walk
+  pub hands :
+      HandsGo (λ hand later. Walks s.tells_files (s.sees hand) (s.sees later) roots (Ok walk))
+      (HelpsWith s walk.listing (current found)) before after
+  pub stays : (name : NameFacts) → is_in walk.listing name ≡ true
+      → is_in (row_names (current found)) name ≡ true → is_in (row_names left) name ≡ true
+  pub ends : Ends left
+
+-- the pass was made: the store held the rows that were found, and those that are left are true. The other hands helped:
+-- each heard nothing but loads and looks, and no load of a path of a listed name that had a row of the edition; the rows
+-- that were met stood then. The first hand heard a whole walk, and then nothing but loads of listed files whose names had
+-- no row by then and looks under the folders. No row of a listed name went; from then on a row whose path isn't listed
+-- and lies under a folder went only where the first hand heard a look that did not find its file, a row that came is of a
+-- listed name, and one that wasn't met says what a load found. With one hand the rows that were met are those of the
+-- edition that were found
+pub record MakesPass {T : Type 0} (s : Setting T) (roots : List (List ℕ)) (before after : List T)
+    (old new : ShownStore)
+    (Ends : List NameFacts → List Heard → List RowFacts → List RowFacts → List RowFacts → Type 0)
+    : Type 0 where
+  pub found : List RowFacts
+  pub held : HoldsRows s.tells_tables old found
+  pub met : List RowFacts
+  pub alone : length before ≤ 1 → met ≡ current found
   pub left : List RowFacts
   pub sound : AreTrueRows s.world.true_row left
   pub made : MakesChanges s.world.true_row found old.made new.made
@@ -101,18 +135,19 @@ pub record MakesPass {T : Type 0} (s : Setting T) (roots : List (List ℕ)) (bef
   pub more : List Heard
   pub hands :
       HandsGo
-      (λ hand later. HearsPass s.tells_files s.world.version roots (row_names (current found)) walk
+      (λ hand later. HearsPass s.tells_files s.world.version roots (row_names met) walk
       walked more (s.sees hand) (s.sees later))
-      (λ hand later. Helps s.world.version walk.listing roots (row_names (current found))
-      (s.sees hand) (s.sees later)) before after
+      (HelpsWith s walk.listing (current found)) before after
+  pub kept : (name : NameFacts) → is_in walk.listing name ≡ true
+      → is_in (row_names (current found)) name ≡ true → is_in (row_names met) name ≡ true
   pub stays : (name : NameFacts) → is_in walk.listing name ≡ true
-      → is_in (row_names (current found)) name ≡ true → is_in (row_names left) name ≡ true
-  pub goes : (name : NameFacts) → is_in (row_names (current found)) name ≡ true
+      → is_in (row_names met) name ≡ true → is_in (row_names left) name ≡ true
+  pub goes : (name : NameFacts) → is_in (row_names met) name ≡ true
       → is_in (row_names left) name ≡ false → MayGo walk.listing roots more name
   pub comes : (name : NameFacts) → is_in (row_names left) name ≡ true
-      → is_in (row_names (current found)) name ≡ false → is_in walk.listing name ≡ true
-  pub brings : All (λ row. Contains (current found) row ⊎ IsReadOf more row) left
-  pub ends : Ends walk.listing more (current found) left
+      → is_in (row_names met) name ≡ false → is_in walk.listing name ≡ true
+  pub brings : All (λ row. Contains met row ⊎ IsReadOf more row) left
+  pub ends : Ends walk.listing more (current found) met left
 
 -- the scan is whole: the rows have the listed names, in a told world they are one scan of the listing, the store has
 -- them and nothing else, and the numbers are those of the plan against the rows of the edition that it held
@@ -125,9 +160,9 @@ pub record IsWholeScan (world : Rules) (told : Bool) (new : ShownStore) (summary
 
 -- a name was missed for a reason, and the store has the rows that are left
 pub record MissesName (told : Bool) (new : ShownStore) (Failed : Type 0) (miss : Miss)
-    (listing : List NameFacts) (more : List Heard) (found left : List RowFacts) : Type 0 where
+    (listing : List NameFacts) (more : List Heard) (met left : List RowFacts) : Type 0 where
   pub path : IsCanonPath miss.name.path
-  pub why : IsBacked listing (row_names found) more Failed miss.name miss.cause
+  pub why : IsBacked listing (row_names met) more Failed miss.name miss.cause
   pub has : HasRows told new left
 
 -- the log of the changes that lead to the rows has no room, and they aren't those of the listing
@@ -144,24 +179,27 @@ abbrev pub EndsPassed : {T : Type 0} → Setting T → List (List ℕ) → List 
     → ShownStore → PassEnd → Type 0
 EndsPassed s roots before after old new (pass.Whole summary) =
     MakesPass s roots before after old new
-    (λ listing more found left. IsWholeScan s.world s.tells_tables new summary listing found left)
+    (λ listing more found met left.
+    IsWholeScan s.world s.tells_tables new summary listing found left)
 EndsPassed s roots before after old new (pass.Missed miss) =
     MakesPass s roots before after old new
-    (λ listing more found left. MissesName s.tells_tables new (FirstRose s before after) miss
-    listing more found left)
+    (λ listing more found met left. MissesName s.tells_tables new (FirstRose s before after) miss
+    listing more met left)
 EndsPassed s roots before after old new (pass.Walk fault) =
     EndsInWalk s before after old new (WalksInto s.tells_files roots fault)
 EndsPassed s roots before after old new pass.Broken = ⊥
 EndsPassed s roots before after old new pass.KeeperFault =
     MakesPass s roots before after old new
-    (λ listing more found left. MayHaveRows s.world.true_row s.tells_tables new left)
+    (λ listing more found met left. MayHaveRows s.world.true_row s.tells_tables new left)
+    ⊎ EndsHelped s roots before after old new (MayHaveRows s.world.true_row s.tells_tables new)
 EndsPassed s roots before after old new pass.LogFull =
     MakesPass s roots before after old new
-    (λ listing more found left. IsOutOfChanges s.tells_tables new listing left)
+    (λ listing more found met left. IsOutOfChanges s.tells_tables new listing left)
 EndsPassed s roots before after old new pass.OutOfMemory =
-    EndsInWalk s before after old new (WalksWhole s.tells_files roots)
-    ⊎ MakesPass s roots before after old new
-    (λ listing more found left. HasRows s.tells_tables new left)
+    EndsUnbegun s roots before after old new
+    ⊎ (MakesPass s roots before after old new
+    (λ listing more found met left. HasRows s.tells_tables new left)
+    ⊎ EndsHelped s roots before after old new (HasRows s.tells_tables new))
 
 -- how the scan came to its end, and what it left
 abbrev pub EndsBy : {T : Type 0} → Setting T → List (List ℕ) → List T → List T → ShownStore
@@ -175,10 +213,16 @@ OpensBy path old new (Refused refusal.OutOfMemory) =
     (new.paths ≡ old.paths) ⊎ (new.paths ≡ with_path path old.paths)
 OpensBy path old new _ = new.paths ≡ with_path path old.paths
 
+-- where the pass was whole the hands from the third on, if there are any, heard as many loads as files were read
+abbrev pub LoadsBy : {T : Type 0} → (T → ShownTree) → List T → List T → ScanEnd → Type 0
+LoadsBy sees before after (Refused fault) = Unit {0}
+LoadsBy sees before after (Passed end) = LoadsBeside sees before after end
+
 -- the scan came to this end, by then the store was opened, and a call failed only where a count rose
 pub record Scans {T : Type 0} (s : Setting T) (path : List ℕ) (roots : List (List ℕ))
     (before after : List T) (old new : ShownStore) (end : ScanEnd) : Type 0 where
   pub ends : EndsBy s roots before after old new end
+  pub loads : LoadsBy s.sees before after end
   pub hands :
       HandsGo
       (λ hand later. HandsOn s.tells_files s.world.version (s.sees hand) (s.sees later) ⊥

@@ -2,6 +2,7 @@
 //! are handed in. Real files and streams stand in the program's own crate.
 #![tactic(auto)]
 
+mod demands;
 mod ident;
 mod outside;
 mod query;
@@ -17,8 +18,11 @@ mod status;
 #[cfg(test)]
 mod tests;
 mod texts;
+mod wants;
 
+pub use demands::needs;
 pub use elf_reading::ElfTruth;
 pub use http_wire::{MemSink, Sink, Stream, WriteAnswer, WriteFault, write_all};
 pub use outside::{Outside, run, run_local};
 pub use status::Status;
+pub use wants::Needs;

@@ -1,11 +1,12 @@
 //! The top call: all that the program does with what is handed in.
 
-ghost use Rattle.std.specs.Prelude.{◌≡◌, ◌<◌, drop, map, vec_len, IfSome, IsSome};
+ghost use Rattle.std.specs.Prelude.{◌≡◌, ◌<◌, drop, false, map, true, vec_len, IfNone, IfSome};
 ghost use Rattle.std.specs.String.{string_bytes};
 ghost use Rattle.row_types.specs.Rules.{rules};
 ghost use Rattle.dbgd_words.specs.Lines.{asked_by};
+ghost use Rattle.dbgd_words.specs.Words.{line_of};
 ghost use Rattle.dbgd_run.specs.Endings.{EndsWhole, streams};
-ghost use Rattle.dbgd_run.specs.Runs.{DoesWords, IsRun, Runs, usage_saying};
+ghost use Rattle.dbgd_run.specs.Runs.{DoesWords, IsRun, Runs, is_scan, usage_saying};
 ghost use Rattle.dbgd_run.specs.Scene.{scene, setting};
 
 use crate::ident::run_ident;
@@ -21,16 +22,19 @@ use http_wire::Sink;
 use index_keeper::Store;
 use std::alloc::Global;
 use std::marker::PhantomData;
-use tree_trait::Tree;
+use std::sync::Wait;
+use std::thread::Threads;
+use tree_trait::{Gate, Tree};
 
 /// What the program is handed: the hands that read files, of which the first serves single files,
-/// the store of the index, and its two sinks.
+/// the store of the index, its two sinks, and the gate that its threads pass.
 #[derive(Drop)]
-pub struct Outside<W: ElfTruth + Send + Sync, T: Tree<W>, S: Store<W>, O: Sink> {
+pub struct Outside<W: ElfTruth + Send + Sync, T: Tree<W>, S: Store<W>, O: Sink, G: Gate + Drop> {
     pub hands: Vec<T>,
     pub store: S,
     pub out: O,
     pub err: O,
+    pub gate: G,
     pub of: PhantomData<W>,
 }
 
@@ -48,13 +52,14 @@ fn say_usage<O: Sink>(out: &mut O, err: &mut O) -> Status
     )
 }
 
-/// Does what a line of words asks.
-fn run_line<W: ElfTruth + Send + Sync, T: Tree<W>, S: Store<W>, O: Sink>(
+/// Does what a line of words asks that is no scan.
+fn run_alone<W: ElfTruth + Send + Sync, T: Tree<W>, S: Store<W>, O: Sink, G: Gate + Drop>(
     alloc: Global,
     line: Line<'_>,
-    outside: &mut Outside<W, T, S, O>,
+    outside: &mut Outside<W, T, S, O, G>,
 ) -> Status
-    requires { 0 < vec_len outside.old.hands }
+    requires hand { 0 < vec_len outside.old.hands }
+    requires alone { is_scan (asked_by line) ≡ false }
     ensures law { Runs
         (setting (rules W.version W.true_row W.told) T.told T.shows S.K.told)
         (asked_by line.entry)
@@ -74,31 +79,61 @@ fn run_line<W: ElfTruth + Send + Sync, T: Tree<W>, S: Store<W>, O: Sink>(
             run_section(alloc, path, name, &mut outside.hands[0], out, err)
         }
         Line::Query { store, id } => { run_query(alloc, store, &id, &mut outside.store, out, err) }
-        Line::Scan {
-            store,
-            workers: _,
-            roots,
-        } => run_scan(
-            alloc,
-            store,
-            roots.as_slice(),
-            &mut outside.hands,
-            &mut outside.store,
-            out,
-            err,
-        ),
+        Line::Scan { .. } => unreachable!(),
         Line::Help { text } => say(text.as_bytes(), Status::Done, out, err),
         Line::NotBuilt => say_not_built(out, err),
         Line::Usage => say_usage(out, err),
     }
 }
 
+/// Does what a line of words asks.
+fn run_line<
+    W: ElfTruth + Send + Sync,
+    T: Tree<W>,
+    S: Store<W>,
+    O: Sink,
+    G: Gate + Drop,
+    Rt: Threads + Wait + Sync,
+>(rt: &Rt, alloc: Global, line: Line<'_>, outside: &mut Outside<W, T, S, O, G>) -> Status
+    requires { 0 < vec_len outside.old.hands }
+    ensures law { Runs
+        (setting (rules W.version W.true_row W.told) T.told T.shows S.K.told)
+        (asked_by line.entry)
+        (scene outside.old.hands.items (S.shows outside.old.store)
+        (streams O.shows outside.old.out outside.old.err))
+        (scene outside.new.hands.items (S.shows outside.new.store)
+        (streams O.shows outside.new.out outside.new.err)) result }
+    ensures hands { vec_len outside.new.hands ≡ vec_len outside.old.hands }
+{
+    match line {
+        Line::Scan {
+            store,
+            workers: _,
+            roots,
+        } => run_scan(
+            rt,
+            alloc,
+            store,
+            roots.as_slice(),
+            &mut outside.hands,
+            &mut outside.store,
+            &mut outside.out,
+            &mut outside.err,
+            &outside.gate,
+        ),
+        line => run_alone(alloc, line, outside),
+    }
+}
+
 /// Does what words ask.
-fn run_words<W: ElfTruth + Send + Sync, T: Tree<W>, S: Store<W>, O: Sink>(
-    alloc: Global,
-    words: &[String],
-    outside: &mut Outside<W, T, S, O>,
-) -> Status
+fn run_words<
+    W: ElfTruth + Send + Sync,
+    T: Tree<W>,
+    S: Store<W>,
+    O: Sink,
+    G: Gate + Drop,
+    Rt: Threads + Wait + Sync,
+>(rt: &Rt, alloc: Global, words: &[String], outside: &mut Outside<W, T, S, O, G>) -> Status
     requires { 0 < vec_len outside.old.hands }
     ensures law { DoesWords
         (setting (rules W.version W.true_row W.told) T.told T.shows S.K.told)
@@ -108,22 +143,23 @@ fn run_words<W: ElfTruth + Send + Sync, T: Tree<W>, S: Store<W>, O: Sink>(
         (scene outside.new.hands.items (S.shows outside.new.store)
         (streams O.shows outside.new.out outside.new.err)) result }
     ensures hands { vec_len outside.new.hands ≡ vec_len outside.old.hands }
-    ensures others { drop 1 outside.new.hands.items ≡ drop 1 outside.old.hands.items }
 {
     match read_line(alloc, words) {
-        Ok(line) => run_line(alloc, line, outside),
+        Ok(line) => run_line(rt, alloc, line, outside),
         Err(_) => say_no_memory(&mut outside.out, &mut outside.err),
     }
 }
 
-/// Does what the words after the program's name ask, and gives the exit status.
-pub fn run_local<W: ElfTruth + Send + Sync, T: Tree<W>, S: Store<W>, O: Sink>(
+/// Does what the words after the program's name ask, and gives the exit status, unless they ask for
+/// a scan. Then nothing was read or written.
+pub fn run_local<W: ElfTruth + Send + Sync, T: Tree<W>, S: Store<W>, O: Sink, G: Gate + Drop>(
     alloc: Global,
     words: &[String],
-    outside: &mut Outside<W, T, S, O>,
+    outside: &mut Outside<W, T, S, O, G>,
 ) -> Option<u8>
     requires { 0 < vec_len outside.old.hands }
-    ensures some { IsSome result }
+    ensures none { IfNone result (is_scan (line_of (map string_bytes words.now)) ≡ true) }
+    ensures idle { IfNone result (outside.new ≡ outside.old) }
     ensures run { IfSome result (IsRun
         (setting (rules W.version W.true_row W.told) T.told T.shows S.K.told)
         (map string_bytes words.now)
@@ -134,15 +170,22 @@ pub fn run_local<W: ElfTruth + Send + Sync, T: Tree<W>, S: Store<W>, O: Sink>(
     ensures hands { vec_len outside.new.hands ≡ vec_len outside.old.hands }
     ensures others { drop 1 outside.new.hands.items ≡ drop 1 outside.old.hands.items }
 {
-    Some(run_words(alloc, words, outside).code())
+    match read_line(alloc, words) {
+        Ok(Line::Scan { .. }) => None,
+        Ok(line) => Some(run_alone(alloc, line, outside).code()),
+        Err(_) => Some(say_no_memory(&mut outside.out, &mut outside.err).code()),
+    }
 }
 
 /// Does all that the program does, and gives the exit status.
-pub fn run<W: ElfTruth + Send + Sync, T: Tree<W>, S: Store<W>, O: Sink>(
-    alloc: Global,
-    words: &[String],
-    outside: &mut Outside<W, T, S, O>,
-) -> u8
+pub fn run<
+    W: ElfTruth + Send + Sync,
+    T: Tree<W>,
+    S: Store<W>,
+    O: Sink,
+    G: Gate + Drop,
+    Rt: Threads + Wait + Sync,
+>(rt: &Rt, alloc: Global, words: &[String], outside: &mut Outside<W, T, S, O, G>) -> u8
     requires { 0 < vec_len outside.old.hands }
     ensures run { IsRun (setting (rules W.version W.true_row W.told) T.told T.shows S.K.told)
         (map string_bytes words.now)
@@ -151,10 +194,6 @@ pub fn run<W: ElfTruth + Send + Sync, T: Tree<W>, S: Store<W>, O: Sink>(
         (scene outside.new.hands.items (S.shows outside.new.store)
         (streams O.shows outside.new.out outside.new.err)) result }
     ensures hands { vec_len outside.new.hands ≡ vec_len outside.old.hands }
-    ensures others { drop 1 outside.new.hands.items ≡ drop 1 outside.old.hands.items }
 {
-    match run_local(alloc, words, outside) {
-        Some(code) => code,
-        None => unreachable!(),
-    }
+    run_words(rt, alloc, words, outside).code()
 }

@@ -1,8 +1,7 @@
 //! The command `scan`.
 
-ghost use Rattle.std.specs.Prelude.{◌≡◌, ◌<◌, drop, false, vec_len, IsTrue};
+ghost use Rattle.std.specs.Prelude.{◌≡◌, ◌<◌, false, vec_len, IsTrue};
 ghost use Rattle.row_types.specs.Canon.{IsCanonPath};
-ghost use Rattle.row_types.specs.Faults.{HasCause};
 ghost use Rattle.row_types.specs.Rules.{rules};
 ghost use Rattle.index_keeper.specs.Store.{HasAll, ShownStore, TakesBack};
 ghost use Rattle.index_state.specs.Opening.{CanOpen};
@@ -10,7 +9,7 @@ ghost use Rattle.tree_trait.specs.Shown.{HandsOn};
 ghost use Rattle.pass_runner.specs.Owned.{HandsGo, is_hand_fault as is_hand_fault_of};
 ghost use Rattle.dbgd_run.specs.Endings.{streams};
 ghost use Rattle.dbgd_run.specs.Passing.{HasPath, ScansIndex};
-ghost use Rattle.dbgd_run.specs.Scan.{EndsBy, RunsScan, Scans};
+ghost use Rattle.dbgd_run.specs.Scan.{EndsBy, LoadsBy, RunsScan, Scans};
 ghost use Rattle.dbgd_run.specs.ScanSaid.{is_hand_fault, is_store_fault};
 ghost use Rattle.dbgd_run.specs.Scene.{scene, setting};
 
@@ -25,7 +24,9 @@ use pass_runner::{PassEnd, scan_state};
 use row_types::CanonPath;
 use std::alloc::Global;
 use std::mem;
-use tree_trait::Tree;
+use std::sync::Wait;
+use std::thread::Threads;
+use tree_trait::{Gate, Tree};
 
 /// Shows that a path is one that is kept.
 fn show_path(path: &CanonPath)
@@ -44,11 +45,19 @@ fn show_end(end: &PassEnd)
 }
 
 /// Lets an index make one pass over the folders, and hands its keeper out.
-fn scan_index<W: ElfTruth + Send + Sync, T: Tree<W>, K: Keeper<W>>(
+fn scan_index<
+    W: ElfTruth + Send + Sync,
+    T: Tree<W>,
+    K: Keeper<W>,
+    G: Gate,
+    Rt: Threads + Wait + Sync,
+>(
+    rt: &Rt,
     alloc: Global,
     state: State<W, K>,
     roots: &[CanonPath],
     hands: &mut Vec<T>,
+    gate: &G,
 ) -> (PassEnd, K)
     requires hand { 0 < vec_len hands.old }
     requires sound { state.broken ≡ false }
@@ -59,24 +68,30 @@ fn scan_index<W: ElfTruth + Send + Sync, T: Tree<W>, K: Keeper<W>>(
         (IsTrue (is_hand_fault_of result.0)))
         (λ hand later. HandsOn T.told W.version (T.shows hand) (T.shows later) ⊥ ⊥)
         hands.old.items hands.new.items }
-    ensures keeper { HasCause (K.shows state.keeper).faults (K.shows result.1).faults
-        (result.0 ≡ PassEnd.KeeperFault) }
+    ensures keeper { result.0 ≡ PassEnd.KeeperFault → 0 < (K.shows result.1).faults }
     ensures count { vec_len hands.new ≡ vec_len hands.old }
-    ensures others { drop 1 hands.new.items ≡ drop 1 hands.old.items }
 {
     let lent = mem::replace(hands, Vec::new(alloc));
-    let (state, back, end) = scan_state(alloc, state, lent, roots, &ElfReader);
+    let (state, back, end) = scan_state(rt, alloc, state, lent, roots, &ElfReader, gate);
     *hands = back;
     show_end(&end);
     (end, state.into_keeper())
 }
 
 /// Scans the folders into the index on a keeper, and hands the keeper out.
-fn scan_keeper<W: ElfTruth + Send + Sync, T: Tree<W>, K: Keeper<W>>(
+fn scan_keeper<
+    W: ElfTruth + Send + Sync,
+    T: Tree<W>,
+    K: Keeper<W>,
+    G: Gate,
+    Rt: Threads + Wait + Sync,
+>(
+    rt: &Rt,
     alloc: Global,
     keeper: K,
     roots: &[CanonPath],
     hands: &mut Vec<T>,
+    gate: &G,
 ) -> (ScanEnd, K)
     requires hand { 0 < vec_len hands.old }
     requires opens { CanOpen K.told (K.shows keeper) }
@@ -89,14 +104,13 @@ fn scan_keeper<W: ElfTruth + Send + Sync, T: Tree<W>, K: Keeper<W>>(
         (IsTrue (is_hand_fault result.0)))
         (λ hand later. HandsOn T.told W.version (T.shows hand) (T.shows later) ⊥ ⊥)
         hands.old.items hands.new.items }
-    ensures keeper { HasCause (K.shows keeper).faults (K.shows result.1).faults
-        (IsTrue (is_store_fault result.0)) }
+    ensures loads { LoadsBy T.shows hands.old.items hands.new.items result.0 }
+    ensures keeper { IsTrue (is_store_fault result.0) → 0 < (K.shows result.1).faults }
     ensures count { vec_len hands.new ≡ vec_len hands.old }
-    ensures others { drop 1 hands.new.items ≡ drop 1 hands.old.items }
 {
     match open_state(alloc, keeper) {
         Ok(state) => {
-            let (end, keeper) = scan_index(alloc, state, roots, hands);
+            let (end, keeper) = scan_index(rt, alloc, state, roots, hands, gate);
             (ScanEnd::Passed(end), keeper)
         }
         Err((fault, keeper)) => (ScanEnd::Refused(fault), keeper),
@@ -105,23 +119,24 @@ fn scan_keeper<W: ElfTruth + Send + Sync, T: Tree<W>, K: Keeper<W>>(
 
 /// Scans the folders into a store, and says how the scan ended. The store has its keeper back by
 /// then.
-fn scan<W: ElfTruth + Send + Sync, T: Tree<W>, S: Store<W>>(
+fn scan<W: ElfTruth + Send + Sync, T: Tree<W>, S: Store<W>, G: Gate, Rt: Threads + Wait + Sync>(
+    rt: &Rt,
     alloc: Global,
     path: &str,
     roots: &[CanonPath],
     hands: &mut Vec<T>,
     store: &mut S,
+    gate: &G,
 ) -> ScanEnd
     requires { 0 < vec_len hands.old }
     ensures scans { Scans (setting (rules W.version W.true_row W.told) T.told T.shows S.K.told)
         path.now roots.now hands.old.items hands.new.items (S.shows store.old) (S.shows store.new)
         result }
     ensures count { vec_len hands.new ≡ vec_len hands.old }
-    ensures others { drop 1 hands.new.items ≡ drop 1 hands.old.items }
 {
     match store.open_store(alloc, path) {
         StoreAnswer::Opened(keeper) => {
-            let (end, keeper) = scan_keeper(alloc, keeper, roots, hands);
+            let (end, keeper) = scan_keeper(rt, alloc, keeper, roots, hands, gate);
             store.give_back(keeper);
             end
         }
@@ -131,7 +146,15 @@ fn scan<W: ElfTruth + Send + Sync, T: Tree<W>, S: Store<W>>(
 }
 
 /// Scans the folders into a store, and says how that ended.
-pub fn run_scan<W: ElfTruth + Send + Sync, T: Tree<W>, S: Store<W>, O: Sink>(
+pub fn run_scan<
+    W: ElfTruth + Send + Sync,
+    T: Tree<W>,
+    S: Store<W>,
+    O: Sink,
+    G: Gate,
+    Rt: Threads + Wait + Sync,
+>(
+    rt: &Rt,
     alloc: Global,
     path: &str,
     roots: &[CanonPath],
@@ -139,6 +162,7 @@ pub fn run_scan<W: ElfTruth + Send + Sync, T: Tree<W>, S: Store<W>, O: Sink>(
     store: &mut S,
     out: &mut O,
     err: &mut O,
+    gate: &G,
 ) -> Status
     requires { 0 < vec_len hands.old }
     ensures runs { RunsScan (setting (rules W.version W.true_row W.told) T.told T.shows S.K.told)
@@ -146,8 +170,7 @@ pub fn run_scan<W: ElfTruth + Send + Sync, T: Tree<W>, S: Store<W>, O: Sink>(
         (scene hands.old.items (S.shows store.old) (streams O.shows out.old err.old))
         (scene hands.new.items (S.shows store.new) (streams O.shows out.new err.new)) result }
     ensures count { vec_len hands.new ≡ vec_len hands.old }
-    ensures others { drop 1 hands.new.items ≡ drop 1 hands.old.items }
 {
-    let end = scan(alloc, path, roots, hands, store);
+    let end = scan(rt, alloc, path, roots, hands, store, gate);
     say_end(alloc, &end, out, err)
 }

@@ -9,4 +9,5 @@ mod rig;
 mod rows;
 mod scans;
 mod words;
+mod workers;
 mod worlds;

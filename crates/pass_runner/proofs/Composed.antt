@@ -14,11 +14,13 @@ use Rattle.index_state.specs.State.{StateFacts, pass_of}
 use Rattle.scan_queue.specs.Names.{is_in}
 use Rattle.tree_trait.specs.Found.{Versions}
 use Rattle.tree_trait.specs.Heard.{Heard, load, stat, read_dir}
+use Rattle.tree_trait.specs.Listens.{Listens}
 use Rattle.tree_trait.specs.Shown.{ShownTree}
 use Rattle.pass_runner.specs.Settled.{IsNew, IsPassOn, IsWanted, Proceeds, Settles, times_loaded}
-use Rattle.pass_runner.specs.Turns.{Advances, Listens, Takes}
+use Rattle.pass_runner.specs.Turns.{Advances, Takes}
+use Rattle.tree_trait.proofs.ListenLemmas.{listens_none, listens_then}
 use Rattle.pass_runner.proofs.Loads.{loads_append, todo_once}
-use Rattle.pass_runner.proofs.Moves.{advances_then, listens_none, listens_then, rose_after, rose_before, same_listing, still_brought, still_missed}
+use Rattle.pass_runner.proofs.Moves.{advances_then, rose_after, rose_before, same_listing, still_brought, still_missed}
 use Rattle.pass_runner.proofs.NameLists.{in_by_stamp}
 
 module _ {K : Type 0} {told : Bool} {version : Versions} {shows : K → ShownKeeper} where

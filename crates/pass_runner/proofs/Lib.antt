@@ -4,8 +4,13 @@ pub mod NameLists
 pub mod Composed
 pub mod Steps
 pub mod Turning
+pub mod BesideLemmas
+pub mod HelperLemmas
+pub mod FirstHand
+pub mod CrewHands
 pub mod PassEnds
 pub mod PassHands
 pub mod PassWalks
+pub mod Weighed
 pub mod FullAnswers
 pub mod Loads

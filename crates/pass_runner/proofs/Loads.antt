@@ -17,9 +17,10 @@ use Rattle.scan_queue.proofs.NameTests.{not_before_itself}
 use Rattle.index_state.specs.State.{pass_of}
 use Rattle.scan_worker.specs.Read.{load_of}
 use Rattle.tree_trait.specs.Heard.{Heard, load, stat, read_dir, wants_memory}
+use Rattle.tree_trait.specs.Listens.{heard_of}
 use Rattle.tree_trait.specs.Load.{LoadFacts}
 use Rattle.pass_runner.specs.Settled.{is_load_of, times_loaded, times_named}
-use Rattle.pass_runner.specs.Turns.{IsLookUnder, heard_of}
+use Rattle.pass_runner.specs.Turns.{IsLookUnder}
 
 -- one name more
 pub times_cons : (name : NameFacts) (names : List NameFacts) (path : List ℕ)

@@ -27,7 +27,8 @@ use Rattle.tree_trait.specs.Shown.{ShownTree}
 use Rattle.pass_runner.specs.Ends.{IsOver, IsRead, IsSettled, ReadsBy, SettlesBy}
 use Rattle.pass_runner.specs.Settled.{IsPassOn, IsWanted, Proceeds, times_loaded, times_named}
 use Rattle.pass_runner.specs.Turns.{Goes, Takes, TurnsOver}
-use Rattle.pass_runner.proofs.Moves.{listens_none, rose_after}
+use Rattle.tree_trait.proofs.ListenLemmas.{listens_none}
+use Rattle.pass_runner.proofs.Moves.{rose_after}
 use Rattle.pass_runner.proofs.Composed.{settles_by, settles_none, settles_then, takes_then}
 use Rattle.pass_runner.proofs.Loads.{loads_append, same_names, same_todo, times_cons}
 use Rattle.pass_runner.proofs.Steps.{pass_on}

@@ -1,10 +1,8 @@
 -- What the hand heard and where the index went, one after the other.
-use Rattle.std.proofs.Common.{◌≡◌, ℕ, ◌≤◌, inl, inr, Bool, true, false, List, [], ◌∷◌, ◌++◌, Option, Some, None, refl, sym, ◌∙◌, ap, subst, arith, append_assoc}
-use Rattle.std.specs.Prelude.{if◌then◌else◌}
+use Rattle.std.proofs.Common.{◌≡◌, ℕ, ◌≤◌, inl, inr, true, false, List, ◌++◌, Option, Some, refl, sym, ◌∙◌, ap, subst, arith}
 use Rattle.std.specs.List.{All, Contains}
 use Rattle.std.proofs.lemmas.Bool.{true≢false}
-use Rattle.std.proofs.lemmas.List.{append-nil}
-use Rattle.std.proofs.lemmas.List.Elements.{All-nil, All-cons, All-append, All-contains, All-contains_itself, All-weaker, Contains-append_left, Contains-append_right, Contains-push}
+use Rattle.std.proofs.lemmas.List.Elements.{All-contains, All-contains_itself, All-weaker, Contains-append_left, Contains-append_right}
 use Rattle.row_types.specs.Faults.{Rose}
 use Rattle.row_types.specs.Name.{NameFacts, stamp_at}
 use Rattle.row_types.specs.Row.{RowFacts}
@@ -17,44 +15,9 @@ use Rattle.scan_queue.specs.Pass.{PassFacts}
 use Rattle.scan_queue.specs.declared.miss.Cause.{Cause}
 use Rattle.scan_queue.specs.declared.miss.Cause.TheVariants.{ReadFault, Altered, Appeared}
 use Rattle.scan_queue.specs.declared.miss.Miss.{Miss}
-use Rattle.tree_trait.specs.Asks.{Asks, FitsAny, IsTold}
-use Rattle.tree_trait.specs.Found.{Versions}
-use Rattle.tree_trait.specs.Heard.{Heard, after_asked, wants_memory, with_answers}
-use Rattle.tree_trait.specs.Shown.{ShownTree, StaysStill}
+use Rattle.tree_trait.specs.Heard.{Heard}
 use Rattle.pass_runner.specs.Settled.{IsBacked, IsBrought, IsMissBy, IsPassOn, IsSeenGone}
-use Rattle.pass_runner.specs.Turns.{Advances, Listens, heard_of}
-
--- nothing was heard
-pub heard_none : (told : Option (List Heard)) → told ≡ with_answers told []
-heard_none None = refl
-heard_none (Some heard) = ap Some (sym (append-nil heard))
-
-pub heard_both : (told mid new : Option (List Heard)) (xs ys : List Heard)
-    → mid ≡ with_answers told xs → new ≡ with_answers mid ys → new ≡ with_answers told (xs ++ ys)
-heard_both None mid new xs ys m n = n ∙ ap (λ t. with_answers t ys) m
-heard_both (Some heard) mid new xs ys m n = n ∙ ap (λ t. with_answers t ys) m ∙ ap Some (append_assoc heard xs ys)
-
-heard_one : (told : Option (List Heard)) {new : Option (List Heard)} (asked : Heard)
-    → new ≡ after_asked told asked → new ≡ with_answers told (heard_of asked)
-heard_one told {new} asked h =
-    elim (wants_memory asked) as (λ b. new ≡ (if b then told else with_answers told (asked ∷ []))
-    → new ≡ with_answers told (if b then [] else asked ∷ [])) [
-      | true ↦ λ same. same ∙ heard_none told
-      | false ↦ λ more. more
-    ] h
-
--- what holds of the question holds of what was heard of it
-pub all_heard : (P : Heard → Type 0) (asked : Heard) → P asked → All P (heard_of asked)
-all_heard P asked h =
-    elim (wants_memory asked) as (λ b. All P (if b then [] else asked ∷ [])) [
-      | true ↦ All-nil P
-      | false ↦ All-cons P asked [] h (All-nil P)
-    ]
-
--- and it was heard, where memory wasn't refused
-pub is_heard : (asked : Heard) → wants_memory asked ≡ false → Contains (heard_of asked) asked
-is_heard asked e =
-    subst (λ b. Contains (if b then [] else asked ∷ []) asked) (sym e) (Contains-push [] asked)
+use Rattle.pass_runner.specs.Turns.{Advances}
 
 -- a count that rose before or after has risen
 pub rose_before : (a : ℕ) {b c : ℕ} → Rose a b → b ≤ c → Rose a c
@@ -62,60 +25,6 @@ rose_before a {b} {c} rose later = omega (arith, rose, later)
 
 pub rose_after : {a b c : ℕ} → a ≤ b → Rose b c → Rose a c
 rose_after {a} {b} {c} later rose = omega (arith, rose, later)
-
-stays_on : {before mid after : ShownTree} → (before.Still → StaysStill before mid)
-    → (mid.Still → StaysStill mid after) → before.Still → StaysStill before after
-stays_on p q still = record { still = (q (p still).still).still; same = (q (p still).still).same ∙ (p still).same }
-
-module _ {told : Bool} {version : Versions} where
-  -- nothing was heard
-  pub listens_none : {hand : ShownTree} → Listens told version hand hand []
-  listens_none {hand} = record {
-    heard = heard_none hand.heard;
-    fits = All-nil (FitsAny version);
-    tells = λ _ _. All-nil (IsTold hand.present);
-    hand = record {
-      cause = record { later = omega arith; rose = λ never. absurd never };
-      known = λ _ never. absurd never;
-      keeps = λ _ known. known;
-      still = λ still. record { still = still; same = refl };
-    };
-  }
-
-  -- what was heard of one question
-  pub listens_one : {before after : ShownTree} (asked : Heard) → Asks told version before after asked
-      → Listens told version before after (heard_of asked)
-  listens_one {before} {after} asked asks = record {
-    heard = heard_one before.heard asked asks.listed;
-    fits = all_heard (FitsAny version) asked asks.fits;
-    tells = λ t still.
-        all_heard (IsTold before.present) asked
-        (subst (λ (names : List NameFacts). IsTold names asked) (asks.hands.still still).same (asks.tells t));
-    hand = record {
-      cause = record { later = asks.hands.cause.later; rose = λ never. absurd never };
-      known = λ _ never. absurd never;
-      keeps = asks.hands.keeps;
-      still = asks.hands.still;
-    };
-  }
-
-  -- one after the other
-  pub listens_then : {before mid after : ShownTree} {xs ys : List Heard} → Listens told version before mid xs
-      → Listens told version mid after ys → Listens told version before after (xs ++ ys)
-  listens_then {before} {mid} {after} {xs} {ys} p q = record {
-    heard = heard_both before.heard mid.heard after.heard xs ys p.heard q.heard;
-    fits = All-append (FitsAny version) xs ys p.fits q.fits;
-    tells = λ t still.
-        All-append (IsTold before.present) xs ys (p.tells t still)
-        (subst (λ (names : List NameFacts). All (IsTold names) ys) (p.hand.still still).same
-        (q.tells t (p.hand.still still).still));
-    hand = record {
-      cause = record { later = omega (arith, p.hand.cause.later, q.hand.cause.later); rose = λ never. absurd never };
-      known = λ _ never. absurd never;
-      keeps = λ t known. q.hand.keeps t (p.hand.keeps t known);
-      still = stays_on p.hand.still q.hand.still;
-    };
-  }
 
 some_same : {a b : PassFacts} → Some a ≡ Some b → a ≡ b
 some_same e = cc

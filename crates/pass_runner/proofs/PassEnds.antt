@@ -1,5 +1,5 @@
 -- A pass that was begun, and how it ends.
-use Rattle.std.proofs.Common.{◌≡◌, ℕ, inl, inr, Bool, false, List, [], ◌∷◌, length, Option, Some, None, refl, sym, ◌∙◌, ap, subst, arith, IsTrue}
+use Rattle.std.proofs.Common.{◌≡◌, ℕ, ◌<◌, inl, inr, Bool, false, List, [], ◌∷◌, length, Option, Some, None, refl, sym, ap, subst, arith, IsTrue}
 use Rattle.std.specs.List.{All}
 use Rattle.std.specs.Prelude.{IfSome}
 use Rattle.std.proofs.lemmas.Bool.{true≢false}
@@ -10,11 +10,11 @@ use Rattle.row_types.specs.Rules.{Rules}
 use Rattle.index_keeper.specs.Keeper.{ShownKeeper}
 use Rattle.index_rows.specs.Rows.{row_names}
 use Rattle.index_state.specs.Complete.{CompletePass, LeavesNone, standing_of}
-use Rattle.index_state.specs.Plan.{plan_of}
 use Rattle.index_state.specs.State.{StateFacts, pass_of}
 use Rattle.index_state.specs.Step.{BeginsPass, after_begin}
 use Rattle.index_state.specs.declared.answer.Plan.{Plan}
 use Rattle.index_state.specs.declared.answer.Standing.{Standing}
+use Rattle.index_lock.proofs.Prefixes.{prefix_self}
 use Rattle.index_state.proofs.Keeps.{there}
 use Rattle.scan_queue.specs.Pass.{PassFacts, begun, first_missed}
 use Rattle.scan_queue.specs.declared.miss.Cause.{Cause}
@@ -23,10 +23,11 @@ use Rattle.scan_queue.specs.declared.miss.Miss.{Miss}
 use Rattle.tree_trait.specs.Found.{Versions}
 use Rattle.tree_trait.specs.Heard.{Heard}
 use Rattle.tree_trait.specs.Shown.{ShownTree}
+use Rattle.pass_runner.specs.Beside.{EndsAgain}
 use Rattle.pass_runner.specs.Ends.{IsSettled}
 use Rattle.pass_runner.specs.Numbers.{summary_of}
-use Rattle.pass_runner.specs.Owned.{is_hand_fault, is_read_fault}
-use Rattle.pass_runner.specs.Passes.{EndsBegun, EndsOf, EndsOver, IsDone, IsFresh, IsHandedOut}
+use Rattle.pass_runner.specs.Owned.{IsHelped, is_hand_fault, is_read_fault, is_unwalked}
+use Rattle.pass_runner.specs.Passes.{EndsBegun, EndsFound, EndsOf, EndsOver, IsDone, IsFresh, IsHandedOut}
 use Rattle.pass_runner.specs.Settled.{IsBacked, IsMissBy, Settles}
 use Rattle.pass_runner.specs.declared.pass_end.PassEnd.{PassEnd}
 use Rattle.pass_runner.specs.declared.pass_end.PassEnd.TheVariants.{Whole, Missed, Walk, Broken}
@@ -47,29 +48,58 @@ module _ {K : Type 0} {listing : List NameFacts} {roots : List (List ℕ)} {plan
   pub fresh_after : IsFresh mid
   fresh_after = subst (λ (s : StateFacts K). IsFresh s) (sym begins.after) fresh_begun
 
-  -- and this is its plan
-  pub plan_after : plan ≡ plan_of (pass_of mid.pass).listing (row_names mid.rows)
-  plan_after =
-      subst (λ (s : StateFacts K). plan ≡ plan_of (pass_of s.pass).listing (row_names s.rows)) (sym begins.after) begins.planned
+-- where there is one hand alone nothing happened before it settles
+helped_alone : {K : Type 0} (listing : List NameFacts) (state : StateFacts K) → IsHelped 1 listing state state
+helped_alone listing state = record {
+  log = prefix_self state.log;
+  stays = λ name listed there. there;
+  origin = refl;
+  alone = λ one. refl;
+}
 
--- of a pass that was begun over a listing
+-- of a pass that was begun over a listing, with one hand
 pub over_begun : {K T : Type 0} (world : Rules) (told tells : Bool) (shows : K → ShownKeeper) (sees : T → ShownTree)
     {listing : List NameFacts} {roots : List (List ℕ)} (before after : T) {plan : Plan} {old mid : StateFacts K} (new : StateFacts K)
     (end : PassEnd) → BeginsPass listing roots plan old mid
-    → EndsBegun world told tells shows (sees before) (sees after) mid new end
-    → EndsOver world told tells shows sees listing roots before after old new end
+    → EndsBegun world told tells shows plan (sees before) (sees after) mid new end
+    → EndsOver world told tells shows sees 1 listing roots before after old new end
 over_begun {K} {T} world told tells shows sees {listing} {roots} before after {plan} {old} {mid} new end begins ends =
-    each end (subst (λ (s : StateFacts K). EndsBegun world told tells shows (sees before) (sees after) s new end) begins.after ends)
+    each end (record {
+      found = old;
+      helped = helped_alone listing old;
+      begun = subst (λ (p : Plan). EndsBegun world told tells shows p (sees before) (sees after) (after_begin listing roots old) new end)
+          begins.planned
+          (subst (λ (s : StateFacts K). EndsBegun world told tells shows plan (sees before) (sees after) s new end) begins.after ends);
+    })
   where
-    each : (e : PassEnd) → EndsBegun world told tells shows (sees before) (sees after) (after_begin listing roots old) new e
-        → EndsOver world told tells shows sees listing roots before after old new e
-    each OutOfMemory h = inr h
+    each : (e : PassEnd) → EndsFound world told tells shows 1 listing roots (sees before) (sees after) old new e
+        → EndsOver world told tells shows sees 1 listing roots before after old new e
+    each OutOfMemory h = inr (inl h)
     each (Whole summary) h = h
     each (Missed miss) h = h
-    each KeeperFault h = h
+    each KeeperFault h = inl h
     each LogFull h = h
-    each (Walk fault) h = absurd h
-    each Broken h = absurd h
+    each (Walk fault) h = h
+    each Broken h = h
+
+-- of a pass that was begun again over a listing
+pub again_begun : {K T : Type 0} (world : Rules) (told tells : Bool) (shows : K → ShownKeeper) (sees : T → ShownTree) (told_plan : Plan)
+    {listing : List NameFacts} {roots : List (List ℕ)} (before after : T) {plan : Plan} {old mid : StateFacts K} (new : StateFacts K)
+    (end : PassEnd) → BeginsPass listing roots plan old mid
+    → EndsBegun world told tells shows told_plan (sees before) (sees after) mid new end
+    → EndsAgain world told tells shows sees told_plan listing roots before after old new end
+again_begun {K} {T} world told tells shows sees told_plan {listing} {roots} before after {plan} {old} {mid} new end begins ends =
+    each end (subst (λ (s : StateFacts K). EndsBegun world told tells shows told_plan (sees before) (sees after) s new end) begins.after ends)
+  where
+    each : (e : PassEnd) → EndsBegun world told tells shows told_plan (sees before) (sees after) (after_begin listing roots old) new e
+        → EndsAgain world told tells shows sees told_plan listing roots before after old new e
+    each OutOfMemory h = inl h
+    each (Whole summary) h = h
+    each (Missed miss) h = h
+    each KeeperFault h = inl h
+    each LogFull h = h
+    each (Walk fault) h = h
+    each Broken h = h
 
 pub none_missed : (missed : List Miss) → None ≡ first_missed missed → missed ≡ []
 none_missed [] e = refl
@@ -119,41 +149,41 @@ module _ {K : Type 0} {told : Bool} {version : Versions} {shows : K → ShownKee
 
 -- the end by what is left
 pub begun_done : {K : Type 0} {told : Bool} {shows : K → ShownKeeper} {before after : ShownTree} {old new : StateFacts K}
-    (world : Rules) (tells : Bool) {plan : Plan} (end : PassEnd) → plan ≡ plan_of (pass_of old.pass).listing (row_names old.rows)
+    (world : Rules) (tells : Bool) (plan : Plan) (end : PassEnd)
     → Settles told world.version shows before after old new → new.broken ≡ false → EndsOf world tells shows plan new end
-    → EndsBegun world told tells shows before after old new end
-begun_done {shows = shows} {new = new} world tells {plan} (Whole summary) planned settles sound h = record {
+    → EndsBegun world told tells shows plan before after old new end
+begun_done {shows = shows} {new = new} world tells plan (Whole summary) settles sound h = record {
   settles = settles;
   ends = record {
     complete =
         subst (λ (l : List NameFacts). CompletePass world.told world.true_row tells shows l new) (same_listing settles.does.pass) h.complete;
     whole = h.whole;
     sound = sound;
-    numbers = h.numbers ∙ ap (λ (p : Plan). summary_of p new.rows) planned;
+    numbers = h.numbers;
   };
 }
-begun_done world tells (Missed miss) planned settles sound h =
+begun_done world tells plan (Missed miss) settles sound h =
     record { settles = settles; ends = record { first = h; sound = sound } }
-begun_done world tells OutOfMemory planned settles sound h = record { settles = settles; ends = sound }
-begun_done world tells (Walk fault) planned settles sound h = absurd h
-begun_done world tells Broken planned settles sound h = absurd h
-begun_done world tells KeeperFault planned settles sound h = absurd h
-begun_done world tells LogFull planned settles sound h = absurd h
+begun_done world tells plan OutOfMemory settles sound h = record { settles = settles; ends = sound }
+begun_done world tells plan (Walk fault) settles sound h = absurd h
+begun_done world tells plan Broken settles sound h = absurd h
+begun_done world tells plan KeeperFault settles sound h = absurd h
+begun_done world tells plan LogFull settles sound h = absurd h
 
 -- a failed call of the hand ends it only where its count rose
-pub begun_fault : {K : Type 0} (world : Rules) (told tells : Bool) (shows : K → ShownKeeper) (before after : ShownTree)
-    (old new : StateFacts K) (end : PassEnd) → IsFresh old → EndsBegun world told tells shows before after old new end
+pub begun_fault : {K : Type 0} (world : Rules) (told tells : Bool) (shows : K → ShownKeeper) (plan : Plan) (before after : ShownTree)
+    (old new : StateFacts K) (end : PassEnd) → IsFresh old → EndsBegun world told tells shows plan before after old new end
     → IsTrue (is_hand_fault end) → Rose before.faults after.faults
-begun_fault world told tells shows before after old new (Missed miss) fresh h fault =
+begun_fault world told tells shows plan before after old new (Missed miss) fresh h fault =
     backed_fault (pass_of old.pass).listing (row_names old.rows) h.settles.does.answers (Rose before.faults after.faults) miss.name miss.cause
     (first_is (λ (m : Miss). IsBacked (pass_of old.pass).listing (row_names old.rows) h.settles.does.answers (Rose before.faults after.faults) m.name m.cause)
     (pass_of new.pass).missed miss (all_backed fresh.missed h.settles) h.ends.first) fault
-begun_fault world told tells shows before after old new (Walk fault) fresh h f = absurd h
-begun_fault world told tells shows before after old new (Whole summary) fresh h f = absurd (true≢false (sym f))
-begun_fault world told tells shows before after old new Broken fresh h f = absurd h
-begun_fault world told tells shows before after old new KeeperFault fresh h f = absurd (true≢false (sym f))
-begun_fault world told tells shows before after old new LogFull fresh h f = absurd (true≢false (sym f))
-begun_fault world told tells shows before after old new OutOfMemory fresh h f = absurd (true≢false (sym f))
+begun_fault world told tells shows plan before after old new (Walk fault) fresh h f = absurd h
+begun_fault world told tells shows plan before after old new (Whole summary) fresh h f = absurd (true≢false (sym f))
+begun_fault world told tells shows plan before after old new Broken fresh h f = absurd h
+begun_fault world told tells shows plan before after old new KeeperFault fresh h f = absurd (true≢false (sym f))
+begun_fault world told tells shows plan before after old new LogFull fresh h f = absurd (true≢false (sym f))
+begun_fault world told tells shows plan before after old new OutOfMemory fresh h f = absurd (true≢false (sym f))
 
 -- where no name is left the keeper didn't fail
 pub never_fault : {K : Type 0} (world : Rules) (tells : Bool) (shows : K → ShownKeeper) (plan : Plan) (state : StateFacts K)
@@ -189,3 +219,19 @@ whole_done {K} world tells shows {state} {plan} {summary} {standing} handed firs
       whole = record { todo = handed.todo; out = handed.out; groom = handed.groom; missed = missed };
       numbers = numbers;
     }
+
+-- a pass over a listing doesn't end as a walk does
+pub over_walked : {K T : Type 0} (world : Rules) (told tells : Bool) (shows : K → ShownKeeper) (sees : T → ShownTree) (hands : ℕ)
+    (listing : List NameFacts) (roots : List (List ℕ)) (before after : T) (old new : StateFacts K) (end : PassEnd)
+    → EndsOver world told tells shows sees hands listing roots before after old new end → IsTrue (is_unwalked end) → ⊥
+over_walked world told tells shows sees hands listing roots before after old new (Walk fault) h f = h.begun
+over_walked world told tells shows sees hands listing roots before after old new (Whole summary) h f = true≢false (sym f)
+over_walked world told tells shows sees hands listing roots before after old new (Missed miss) h f = true≢false (sym f)
+over_walked world told tells shows sees hands listing roots before after old new Broken h f = true≢false (sym f)
+over_walked world told tells shows sees hands listing roots before after old new KeeperFault h f = true≢false (sym f)
+over_walked world told tells shows sees hands listing roots before after old new LogFull h f = true≢false (sym f)
+over_walked world told tells shows sees hands listing roots before after old new OutOfMemory h f = true≢false (sym f)
+
+-- a count that rose is above 0
+pub rose_counted : (a b : ℕ) → Rose a b → 0 < b
+rose_counted a b rose = omega (arith, rose)

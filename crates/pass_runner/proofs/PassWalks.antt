@@ -1,6 +1,6 @@
 -- A pass whose listing was walked.
 use Rattle.std.proofs.Common.{◌≡◌, ℕ, inl, inr, Bool, true, false, List, [], Option, refl, sym, ◌∙◌, ap, subst, Ok}
-use Rattle.std.specs.List.{All}
+use Rattle.std.specs.List.{All, filter}
 use Rattle.std.proofs.lemmas.List.Elements.{All-append, All-nil, All-weaker}
 use Rattle.row_types.specs.Faults.{Rose}
 use Rattle.row_types.specs.Name.{NameFacts}
@@ -13,7 +13,7 @@ use Rattle.scan_queue.specs.Pass.{PassFacts}
 use Rattle.scan_queue.specs.declared.miss.Cause.{Cause}
 use Rattle.scan_queue.specs.declared.miss.Cause.TheVariants.{ReadFault, Altered, Appeared}
 use Rattle.scan_queue.specs.declared.miss.Miss.{Miss}
-use Rattle.tree_trait.specs.Asks.{FitsAny, IsTold}
+use Rattle.tree_trait.specs.Asks.{IsTold}
 use Rattle.tree_trait.specs.Found.{Versions}
 use Rattle.tree_trait.specs.Heard.{Heard}
 use Rattle.tree_trait.specs.Shown.{HandsOn, ShownTree}
@@ -21,14 +21,18 @@ use Rattle.tree_walk.specs.Ends.{Walks}
 use Rattle.tree_walk.specs.Files.{AreFilesUnder}
 use Rattle.tree_walk.specs.declared.walked.Walk.{Walk as WalkFacts}
 use Rattle.pass_runner.specs.Ends.{IsOutOfRoom}
-use Rattle.pass_runner.specs.Owned.{EndsPass, HasMissed, HearsPass, Helps, IsWholePass, LeavesIndex, RunsPass, TellsStill}
-use Rattle.pass_runner.specs.Passes.{EndsOver, IsFirstMiss}
-use Rattle.pass_runner.specs.Settled.{IsBacked, IsWanted, Settles}
+use Rattle.index_state.specs.Plan.{plan_of}
+use Rattle.scan_queue.specs.Names.{is_in}
+use Rattle.pass_runner.specs.Helped.{IsSparing}
+use Rattle.pass_runner.specs.Owned.{EndsHelped, EndsPass, HasMissed, HearsPass, Helps, IsHelped, IsWholePass, LeavesIndex, RunsPass, TellsStill}
+use Rattle.pass_runner.specs.Passes.{EndsOver, IsFirstMiss, IsLeft}
+use Rattle.pass_runner.specs.Settled.{IsBacked, Settles}
 use Rattle.pass_runner.specs.declared.pass_end.PassEnd.{PassEnd}
 use Rattle.pass_runner.specs.declared.pass_end.PassEnd.TheVariants.{Whole, Missed, Walk, Broken}
 use Rattle.pass_runner.specs.declared.pass_end.PassEnd.TheVariants.{KeeperFault, LogFull, OutOfMemory}
 use Rattle.pass_runner.proofs.FullAnswers.{full_stays, listing_stays}
-use Rattle.pass_runner.proofs.Moves.{heard_both, heard_none, same_listing}
+use Rattle.tree_trait.proofs.ListenLemmas.{heard_both, listens_none}
+use Rattle.pass_runner.proofs.Moves.{same_listing}
 use Rattle.pass_runner.proofs.PassEnds.{all_backed, first_is}
 use Rattle.pass_runner.proofs.PassHands.{rose_later}
 
@@ -39,20 +43,21 @@ backed_so listing names answers so name ReadFault h = so h
 backed_so listing names answers so name (Altered met) h = h
 backed_so listing names answers so name Appeared h = h
 
-module _ {K : Type 0} (world : Rules) (old : StateFacts K) {told : Bool} {shows : K → ShownKeeper} {roots : List (List ℕ)}
+module _ {K : Type 0} (world : Rules) (hands_given : ℕ) (old found : StateFacts K) {told : Bool} {shows : K → ShownKeeper} {roots : List (List ℕ)}
     {before met after : ShownTree} {new : StateFacts K} {walk : WalkFacts} {Asked Fails : Type 0}
     (walks : Walks told before met roots (Ok walk))
     (under : TellsStill told before → AreFilesUnder before.present roots walk.listing)
     (hands : HandsOn told world.version before met Asked Fails)
-    (settles : Settles told world.version shows met after (after_begin walk.listing roots old) new) where
+    (settles : Settles told world.version shows met after (after_begin walk.listing roots found) new)
+    (helped : IsHelped hands_given walk.listing old found) where
   -- what the hand heard, of the walk and of the settling
-  heard_pass : HearsPass told world.version roots (row_names old.rows) walk walks.goes.more settles.does.answers before after
+  heard_pass : HearsPass told world.version roots (row_names found.rows) walk walks.goes.more settles.does.answers before after
   heard_pass = record {
     heard = heard_both before.heard met.heard after.heard walks.goes.more settles.does.answers walks.goes.heard settles.does.heard;
     whole = walks.goes.ends;
-    full = full_stays walk.listing roots (row_names old.rows) walks.goes.more settles.does.answers settles.does.wanted walks.goes.ends.full;
+    full = full_stays walk.listing roots (row_names found.rows) walks.goes.more settles.does.answers settles.does.wanted walks.goes.ends.full;
     listing =
-        listing_stays walk.listing roots (row_names old.rows) walks.goes.more settles.does.answers settles.does.wanted walks.goes.ends.full
+        listing_stays walk.listing roots (row_names found.rows) walks.goes.more settles.does.answers settles.does.wanted walks.goes.ends.full
         walk.listing walks.goes.ends.listing;
     wanted = settles.does.wanted;
     once = settles.once;
@@ -65,19 +70,19 @@ module _ {K : Type 0} (world : Rules) (old : StateFacts K) {told : Bool} {shows 
   }
 
   -- a count that rose in the settling rose in the pass
-  fault_late : (miss : Miss) → IsBacked walk.listing (row_names old.rows) settles.does.answers (Rose met.faults after.faults) miss.name miss.cause
-      → IsBacked walk.listing (row_names old.rows) settles.does.answers (Rose before.faults after.faults) miss.name miss.cause
-  fault_late miss why = backed_so walk.listing (row_names old.rows) settles.does.answers (rose_later before.faults met.faults after.faults hands.cause.later) miss.name miss.cause why
+  fault_late : (miss : Miss) → IsBacked walk.listing (row_names found.rows) settles.does.answers (Rose met.faults after.faults) miss.name miss.cause
+      → IsBacked walk.listing (row_names found.rows) settles.does.answers (Rose before.faults after.faults) miss.name miss.cause
+  fault_late miss why = backed_so walk.listing (row_names found.rows) settles.does.answers (rose_later before.faults met.faults after.faults hands.cause.later) miss.name miss.cause why
 
-  backed_new : All (λ (miss : Miss). IsBacked walk.listing (row_names old.rows) settles.does.answers (Rose before.faults after.faults) miss.name miss.cause)
+  backed_new : All (λ (miss : Miss). IsBacked walk.listing (row_names found.rows) settles.does.answers (Rose before.faults after.faults) miss.name miss.cause)
       (pass_of new.pass).missed
   backed_new =
-      All-weaker (λ (miss : Miss). IsBacked walk.listing (row_names old.rows) settles.does.answers (Rose met.faults after.faults) miss.name miss.cause)
-      (λ (miss : Miss). IsBacked walk.listing (row_names old.rows) settles.does.answers (Rose before.faults after.faults) miss.name miss.cause)
+      All-weaker (λ (miss : Miss). IsBacked walk.listing (row_names found.rows) settles.does.answers (Rose met.faults after.faults) miss.name miss.cause)
+      (λ (miss : Miss). IsBacked walk.listing (row_names found.rows) settles.does.answers (Rose before.faults after.faults) miss.name miss.cause)
       fault_late (pass_of new.pass).missed (all_backed refl settles)
 
   -- what it left of the index
-  left_index : LeavesIndex roots walk.listing settles.does.answers (Rose before.faults after.faults) old new
+  left_index : LeavesIndex roots walk.listing settles.does.answers (Rose before.faults after.faults) found new
   left_index = record {
     pass = settles.does.pass.into;
     is_open = settles.does.pass.is;
@@ -89,67 +94,86 @@ module _ {K : Type 0} (world : Rules) (old : StateFacts K) {told : Bool} {shows 
     comes = settles.does.comes;
     brings = settles.does.brings;
     missed =
-        subst (λ (o : Option PassFacts). All (λ (miss : Miss). IsBacked walk.listing (row_names old.rows) settles.does.answers (Rose before.faults after.faults) miss.name miss.cause) (pass_of o).missed)
+        subst (λ (o : Option PassFacts). All (λ (miss : Miss). IsBacked walk.listing (row_names found.rows) settles.does.answers (Rose before.faults after.faults) miss.name miss.cause) (pass_of o).missed)
         settles.does.pass.is backed_new;
   }
 
   -- and both, with the end
-  pub runs_pass : (Ends : List NameFacts → List Heard → Type 0) → Ends walk.listing settles.does.answers
-      → RunsPass world told roots before after old new Ends
+  pub runs_pass : (Ends : StateFacts K → List Heard → Type 0) → Ends found settles.does.answers
+      → RunsPass world told hands_given roots walk.listing before after old new Ends
   runs_pass Ends ends = record {
     walk = walk;
+    over = refl;
     walked = walks.goes.more;
     more = settles.does.answers;
+    found = found;
+    helped = helped;
     hears = heard_pass;
     leaves = left_index;
     ends = ends;
   }
 
   pub runs_to_miss : (miss : Miss) → IsFirstMiss miss new
-      → HasMissed miss (Rose before.faults after.faults) old new walk.listing settles.does.answers
+      → HasMissed miss (Rose before.faults after.faults) walk.listing new found settles.does.answers
   runs_to_miss miss h = record {
     first = h.first;
     why =
-        first_is (λ (m : Miss). IsBacked walk.listing (row_names old.rows) settles.does.answers (Rose before.faults after.faults) m.name m.cause)
+        first_is (λ (m : Miss). IsBacked walk.listing (row_names found.rows) settles.does.answers (Rose before.faults after.faults) m.name m.cause)
         (pass_of new.pass).missed miss backed_new h.first;
     sound = h.sound;
   }
 
 -- the pass whose listing was walked
 pub ends_walked : {K T : Type 0} (world : Rules) (told tells : Bool) (shows : K → ShownKeeper) (sees : T → ShownTree)
-    (roots : List (List ℕ)) (before met after : T) (old new : StateFacts K) (walk : WalkFacts) {Asked Fails : Type 0} (end : PassEnd)
-    → Walks told (sees before) (sees met) roots (Ok walk)
+    (count : ℕ) (roots : List (List ℕ)) (before met after : T) (old new : StateFacts K) (walk : WalkFacts) {Asked Fails : Type 0}
+    (end : PassEnd) → Walks told (sees before) (sees met) roots (Ok walk)
     → (TellsStill told (sees before) → AreFilesUnder (sees before).present roots walk.listing)
     → HandsOn told world.version (sees before) (sees met) Asked Fails
-    → EndsOver world told tells shows sees walk.listing roots met after old new end
-    → EndsPass world told tells shows roots (sees before) (sees after) old new end
-ends_walked world told tells shows sees roots before met after old new walk (Whole summary) walks under hands h =
-    runs_pass world old walks under hands h.settles (λ listing more. IsWholePass world tells shows summary old new listing)
-    (record { complete = h.ends.complete; whole = h.ends.whole; sound = h.ends.sound; numbers = h.ends.numbers })
-ends_walked world told tells shows sees roots before met after old new walk (Missed miss) walks under hands h =
-    runs_pass world old walks under hands h.settles (HasMissed miss (Rose (sees before).faults (sees after).faults) old new)
-    (runs_to_miss world old walks under hands h.settles miss h.ends)
-ends_walked world told tells shows sees roots before met after old new walk KeeperFault walks under hands h =
-    runs_pass world old walks under hands h.settles (λ listing more. new.broken ≡ true) h.ends
-ends_walked world told tells shows sees roots before met after old new walk LogFull walks under hands h =
-    runs_pass world old walks under hands h.settles (λ listing more. IsOutOfRoom new) h.ends
-ends_walked {K} {T} world told tells shows sees roots before met after old new walk OutOfMemory walks under hands (inl early) =
-    inl (record {
+    → EndsOver world told tells shows sees count walk.listing roots met after old new end
+    → EndsPass world told tells shows count roots walk.listing (sees before) (sees after) old new end
+ends_walked {K} {T} world told tells shows sees count roots before met after old new walk {Asked} {Fails} end walks under hands = by end
+  where
+    -- the other hands helped alone
+    left : (Ends : Type 0) → IsLeft count walk.listing met after old new Ends
+        → EndsHelped told count roots walk.listing (sees before) (sees after) old new Ends
+    left Ends h = record {
       walk = walk;
+      over = refl;
+      walks = subst (λ (t : T). Walks told (sees before) (sees t) roots (Ok walk)) (sym h.hand) walks;
+      helped = h.helped;
+      ends = h.ends;
+    }
+
+    by : (e : PassEnd) → EndsOver world told tells shows sees count walk.listing roots met after old new e
+        → EndsPass world told tells shows count roots walk.listing (sees before) (sees after) old new e
+    by (Whole summary) h =
+        runs_pass world count old h.found walks under hands h.begun.settles h.helped
+        (λ found more. IsWholePass world tells shows (plan_of walk.listing (row_names old.rows)) summary new walk.listing) h.begun.ends
+    by (Missed miss) h =
+        runs_pass world count old h.found walks under hands h.begun.settles h.helped
+        (HasMissed miss (Rose (sees before).faults (sees after).faults) walk.listing new)
+        (runs_to_miss world count old h.found walks under hands h.begun.settles h.helped miss h.begun.ends)
+    by KeeperFault (inl h) =
+        inl (runs_pass world count old h.found walks under hands h.begun.settles h.helped (λ found more. new.broken ≡ true) h.begun.ends)
+    by KeeperFault (inr h) = inr (left (new.broken ≡ true) h)
+    by LogFull h = runs_pass world count old h.found walks under hands h.begun.settles h.helped (λ found more. IsOutOfRoom new) h.begun.ends
+    by OutOfMemory (inl early) = inl (record {
+      walk = walk;
+      over = refl;
       walks = subst (λ (t : T). Walks told (sees before) (sees t) roots (Ok walk)) (sym early.hand) walks;
       same = early.state;
     })
-ends_walked world told tells shows sees roots before met after old new walk OutOfMemory walks under hands (inr h) =
-    inr (runs_pass world old walks under hands h.settles (λ listing more. new.broken ≡ false) h.ends)
-ends_walked world told tells shows sees roots before met after old new walk (Walk fault) walks under hands h = absurd h
-ends_walked world told tells shows sees roots before met after old new walk Broken walks under hands h = absurd h
+    by OutOfMemory (inr (inl h)) =
+        inr (inl (runs_pass world count old h.found walks under hands h.begun.settles h.helped (λ found more. new.broken ≡ false) h.begun.ends))
+    by OutOfMemory (inr (inr h)) = inr (inr (left (new.broken ≡ false) h))
+    by (Walk fault) h = absurd h.begun
+    by Broken h = absurd h.begun
 
 -- a hand that heard nothing more
-pub helps_none : {T : Type 0} (sees : T → ShownTree) (version : Versions) (listing : List NameFacts) (roots : List (List ℕ))
-    (names : List NameFacts) (hand : T) → Helps version listing roots names (sees hand) (sees hand)
-helps_none sees version listing roots names hand = record {
+pub helps_none : {T : Type 0} (sees : T → ShownTree) (told : Bool) (version : Versions) (listing names : List NameFacts)
+    (hand : T) → Helps told version listing names (sees hand) (sees hand)
+helps_none sees told version listing names hand = record {
   more = [];
-  heard = heard_none (sees hand).heard;
-  wanted = All-nil (IsWanted listing roots names);
-  fits = All-nil (FitsAny version);
+  listens = listens_none;
+  spares = All-nil (IsSparing (filter (is_in names) listing));
 }

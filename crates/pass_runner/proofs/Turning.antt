@@ -25,16 +25,17 @@ use Rattle.scan_worker.specs.declared.work_end.WorkEnd.TheVariants.{KeeperFault,
 use Rattle.tree_trait.specs.Asks.{Asks}
 use Rattle.tree_trait.specs.Found.{Versions}
 use Rattle.tree_trait.specs.Heard.{Heard, load, stat, read_dir, has_failed, wants_memory}
+use Rattle.tree_trait.specs.Listens.{Listens, heard_of}
 use Rattle.tree_trait.specs.Load.{LoadFacts, loaded, too_large, gone, failed}
 use Rattle.tree_trait.specs.Shown.{ShownTree}
 use Rattle.tree_trait.specs.declared.stat.StatAnswer.{StatAnswer}
 use Rattle.tree_trait.specs.declared.stat.StatAnswer.TheVariants as said
 use Rattle.pass_runner.specs.Ends.{IsOutOfRoom, TurnsBy}
 use Rattle.pass_runner.specs.Settled.{IsBacked, IsPassOn, IsReadOf, IsWanted, times_loaded, times_named}
-use Rattle.pass_runner.specs.Turns.{Advances, HasSeen, IsLookUnder, JudgesLeft, Listens, Looks, LooksTo, PublishesNew, TurnsOver, after_judged, heard_of, looked_of}
+use Rattle.pass_runner.specs.Turns.{Advances, HasSeen, IsLookUnder, JudgesLeft, Looks, LooksTo, PublishesNew, TurnsOver, after_judged, looked_of}
 use Rattle.pass_runner.specs.declared.look_for.Looked.TheVariants as looked
 use Rattle.pass_runner.proofs.Loads.{loads_heard, loads_looks}
-use Rattle.pass_runner.proofs.Moves.{all_heard, is_heard, listens_none, listens_one}
+use Rattle.tree_trait.proofs.ListenLemmas.{all_heard, is_heard, listens_none, listens_one}
 use Rattle.pass_runner.proofs.NameLists.{stamp_listed}
 use Rattle.pass_runner.proofs.Composed.{settles_by}
 use Rattle.pass_runner.proofs.Steps.{kept_listed, left_over_pass, listed_open, listing_by_path, missed_on, missed_over, moved_on, out_open, removed_on, same_on, seen_there, stored_on}

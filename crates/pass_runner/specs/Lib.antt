@@ -1,6 +1,8 @@
 pub use Rattle.scan_worker.specs.Read
 pub use Rattle.index_state.specs.State
+pub mod Beside
 pub mod Ends
+pub mod Helped
 pub mod Numbers
 pub mod Owned
 pub mod Passes

@@ -1,8 +1,11 @@
 -- The pass over an index that is owned (this project's rule): the roots are walked, a pass over the walk listing begins,
--- and it is settled. Whole: the index is one scan of the walk listing, and the numbers are those of its plan against the
--- rows that the index brought. The first hand walks and settles; what another hand may ask is said of each.
-use Rattle.std.specs.Prelude.{◌≡◌, ◌⊎◌, ℕ, ◌≤◌, Bool, true, false, List, [], ◌∷◌, ◌++◌, All, Some, IsTrue, Ok, Err}
-use Rattle.std.specs.List.{AllZip}
+-- the other hands help with it over a lock, and what is left is settled by the first hand. Whole: the index is one scan of
+-- the walk listing, and the numbers are those of its plan against the rows that the index brought. What a hand that helps
+-- may ask is said of each.
+use Rattle.std.specs.Prelude.{◌≡◌, ◌⊎◌, ℕ, ◌+◌, ◌≤◌, Bool, true, false, List, [], ◌∷◌, ◌++◌, All, length, drop}
+use Rattle.std.specs.Prelude.{Option, Some, None, IsSome, IsTrue, Ok, Err}
+use mathlib.Core.List.{IsPrefix}
+use Rattle.std.specs.List.{AllZip, filter, sum_by}
 use Rattle.row_types.specs.Faults.{Rose}
 use Rattle.row_types.specs.Name.{NameFacts}
 use Rattle.row_types.specs.Rules.{Rules}
@@ -10,6 +13,7 @@ use Rattle.index_keeper.specs.Keeper.{ShownKeeper}
 use Rattle.index_rows.specs.Rows.{row_names}
 use Rattle.index_state.specs.Complete.{CompletePass}
 use Rattle.index_state.specs.Plan.{plan_of}
+use Rattle.index_state.specs.declared.answer.Plan.{Plan}
 use Rattle.index_state.specs.State.{StateFacts, pass_of}
 use Rattle.scan_queue.specs.Names.{is_in}
 use Rattle.scan_queue.specs.Pass.{IsWhole, PassFacts, first_missed}
@@ -19,6 +23,7 @@ use Rattle.scan_queue.specs.declared.miss.Miss.{Miss}
 use Rattle.tree_trait.specs.Asks.{FitsAny, IsTold}
 use Rattle.tree_trait.specs.Found.{Versions}
 use Rattle.tree_trait.specs.Heard.{Heard, with_answers}
+use Rattle.tree_trait.specs.Listens.{Listens, loads}
 use Rattle.tree_trait.specs.Shown.{ShownTree}
 use Rattle.tree_walk.specs.Ends.{IsWholeWalk, Walks}
 use Rattle.tree_walk.specs.Files.{AreFilesUnder, FitsFault}
@@ -27,6 +32,7 @@ use Rattle.tree_walk.specs.declared.fault.WalkFault.{WalkFault}
 use Rattle.tree_walk.specs.declared.fault.WalkFault.TheVariants as stop
 use Rattle.tree_walk.specs.declared.walked.Walk.{Walk}
 use Rattle.pass_runner.specs.Ends.{IsOutOfRoom}
+use Rattle.pass_runner.specs.Helped.{IsSparing}
 use Rattle.pass_runner.specs.Numbers.{summary_of}
 use Rattle.pass_runner.specs.Settled.{IsBacked, IsBrought, IsWanted, MayGo, times_loaded}
 use Rattle.pass_runner.specs.declared.pass_end.PassEnd.{PassEnd}
@@ -73,15 +79,30 @@ pub record LeavesIndex {K : Type 0} (folders : List (List ℕ)) (listing : List 
   pub brings : All (IsBrought old.rows more) new.rows
   pub missed : All (λ miss. IsBacked listing (row_names old.rows) more Failed miss.name miss.cause) pass.missed
 
--- the roots were walked, a pass over what was listed began, and this came of it
-pub record RunsPass {K : Type 0} (world : Rules) (told : Bool) (roots : List (List ℕ)) (before after : ShownTree)
-    (old new : StateFacts K) (Ends : List NameFacts → List Heard → Type 0) : Type 0 where
+-- what the other hands left of an index over which a pass had begun: its log goes on from the one before, no row of a
+-- listed name went, and but for the names that were skipped it has the same origin; where there is one hand alone, nothing
+-- happened
+pub record IsHelped {K : Type 0} (hands : ℕ) (listing : List NameFacts) (old found : StateFacts K) : Type 0 where
+  pub log : IsPrefix old.log found.log
+  pub stays : (name : NameFacts) → is_in listing name ≡ true
+      → is_in (row_names old.rows) name ≡ true → is_in (row_names found.rows) name ≡ true
+  pub origin : record found.origin { spared = [] } ≡ record old.origin { spared = [] }
+  pub alone : hands ≤ 1 → found ≡ old
+
+-- the roots were walked, a pass over what was listed began, the other hands helped, the first one settled what was left,
+-- and this came of it
+pub record RunsPass {K : Type 0} (world : Rules) (told : Bool) (hands : ℕ) (roots : List (List ℕ))
+    (listing : List NameFacts) (before after : ShownTree) (old new : StateFacts K)
+    (Ends : StateFacts K → List Heard → Type 0) : Type 0 where
   pub walk : Walk
+  pub over : walk.listing ≡ listing
   pub walked : List Heard
   pub more : List Heard
-  pub hears : HearsPass told world.version roots (row_names old.rows) walk walked more before after
-  pub leaves : LeavesIndex roots walk.listing more (Rose before.faults after.faults) old new
-  pub ends : Ends walk.listing more
+  pub found : StateFacts K
+  pub helped : IsHelped hands listing old found
+  pub hears : HearsPass told world.version roots (row_names found.rows) walk walked more before after
+  pub leaves : LeavesIndex roots listing more (Rose before.faults after.faults) found new
+  pub ends : Ends found more
 
 -- the roots could not be walked: nothing was loaded, and the index stays as it is
 pub record EndsUnwalked {K : Type 0} (told : Bool) (roots : List (List ℕ)) (before after : ShownTree)
@@ -91,45 +112,59 @@ pub record EndsUnwalked {K : Type 0} (told : Bool) (roots : List (List ℕ)) (be
   pub same : new ≡ old
 
 -- the index is one scan of the listing: the rows' names are the listed ones, in a told world the rows are its scan, and a
--- keeper that tells has their tables
-pub record IsWholePass {K : Type 0} (world : Rules) (tells : Bool) (shows : K → ShownKeeper) (summary : Summary)
-    (old new : StateFacts K) (listing : List NameFacts) : Type 0 where
+-- keeper that tells has their tables; the numbers are those of the plan
+pub record IsWholePass {K : Type 0} (world : Rules) (tells : Bool) (shows : K → ShownKeeper) (plan : Plan)
+    (summary : Summary) (new : StateFacts K) (listing : List NameFacts) : Type 0 where
   pub complete : CompletePass world.told world.true_row tells shows listing new
   pub whole : IsWhole (pass_of new.pass)
   pub sound : new.broken ≡ false
-  pub numbers : summary ≡ summary_of (plan_of listing (row_names old.rows)) new.rows
+  pub numbers : summary ≡ summary_of plan new.rows
 
 -- a name was missed for a reason, and this was the first
-pub record HasMissed {K : Type 0} (miss : Miss) (Failed : Type 0) (old new : StateFacts K) (listing : List NameFacts)
+pub record HasMissed {K : Type 0} (miss : Miss) (Failed : Type 0) (listing : List NameFacts) (new found : StateFacts K)
     (more : List Heard) : Type 0 where
   pub first : first_missed (pass_of new.pass).missed ≡ Some miss
-  pub why : IsBacked listing (row_names old.rows) more Failed miss.name miss.cause
+  pub why : IsBacked listing (row_names found.rows) more Failed miss.name miss.cause
   pub sound : new.broken ≡ false
 
--- memory was refused before the pass began: nothing was loaded, and the index stays as it is
-pub record EndsEarly {K : Type 0} (told : Bool) (roots : List (List ℕ)) (before after : ShownTree)
-    (old new : StateFacts K) : Type 0 where
+-- the pass ended while, or as soon as, the other hands had helped: the first hand heard the walk alone
+pub record EndsHelped {K : Type 0} (told : Bool) (hands : ℕ) (roots : List (List ℕ)) (listing : List NameFacts)
+    (before after : ShownTree) (old new : StateFacts K) (Ends : Type 0) : Type 0 where
   pub walk : Walk
+  pub over : walk.listing ≡ listing
+  pub walks : Walks told before after roots (Ok walk)
+  pub helped : IsHelped hands listing old new
+  pub ends : Ends
+
+-- memory was refused before the pass began: nothing was loaded, and the index stays as it is
+pub record EndsEarly {K : Type 0} (told : Bool) (roots : List (List ℕ)) (listing : List NameFacts)
+    (before after : ShownTree) (old new : StateFacts K) : Type 0 where
+  pub walk : Walk
+  pub over : walk.listing ≡ listing
   pub walks : Walks told before after roots (Ok walk)
   pub same : new ≡ old
 
 -- how the pass ended, and what it left
-abbrev pub EndsPass : {K : Type 0} → Rules → Bool → Bool → (K → ShownKeeper) → List (List ℕ) → ShownTree → ShownTree
-    → StateFacts K → StateFacts K → PassEnd → Type 0
-EndsPass world told tells shows roots before after old new (Whole summary) =
-    RunsPass world told roots before after old new (λ listing more. IsWholePass world tells shows summary old new listing)
-EndsPass world told tells shows roots before after old new (Missed miss) =
-    RunsPass world told roots before after old new (HasMissed miss (Rose before.faults after.faults) old new)
-EndsPass world told tells shows roots before after old new (Unwalked fault) =
+abbrev pub EndsPass : {K : Type 0} → Rules → Bool → Bool → (K → ShownKeeper) → ℕ → List (List ℕ) → List NameFacts
+    → ShownTree → ShownTree → StateFacts K → StateFacts K → PassEnd → Type 0
+EndsPass world told tells shows hands roots listing before after old new (Whole summary) =
+    RunsPass world told hands roots listing before after old new
+    (λ found more. IsWholePass world tells shows (plan_of listing (row_names old.rows)) summary new listing)
+EndsPass world told tells shows hands roots listing before after old new (Missed miss) =
+    RunsPass world told hands roots listing before after old new
+    (HasMissed miss (Rose before.faults after.faults) listing new)
+EndsPass world told tells shows hands roots listing before after old new (Unwalked fault) =
     EndsUnwalked told roots before after old new fault
-EndsPass world told tells shows roots before after old new Broken = ⊥
-EndsPass world told tells shows roots before after old new KeeperFault =
-    RunsPass world told roots before after old new (λ listing more. new.broken ≡ true)
-EndsPass world told tells shows roots before after old new LogFull =
-    RunsPass world told roots before after old new (λ listing more. IsOutOfRoom new)
-EndsPass world told tells shows roots before after old new OutOfMemory =
-    EndsEarly told roots before after old new
-    ⊎ RunsPass world told roots before after old new (λ listing more. new.broken ≡ false)
+EndsPass world told tells shows hands roots listing before after old new Broken = ⊥
+EndsPass world told tells shows hands roots listing before after old new KeeperFault =
+    RunsPass world told hands roots listing before after old new (λ found more. new.broken ≡ true)
+    ⊎ EndsHelped told hands roots listing before after old new (new.broken ≡ true)
+EndsPass world told tells shows hands roots listing before after old new LogFull =
+    RunsPass world told hands roots listing before after old new (λ found more. IsOutOfRoom new)
+EndsPass world told tells shows hands roots listing before after old new OutOfMemory =
+    EndsEarly told roots listing before after old new
+    ⊎ (RunsPass world told hands roots listing before after old new (λ found more. new.broken ≡ false)
+    ⊎ EndsHelped told hands roots listing before after old new (new.broken ≡ false))
 
 -- whether a name was missed since its file could not be read
 abbrev pub is_read_fault : Cause → Bool
@@ -142,14 +177,33 @@ is_hand_fault (Unwalked stop.Failed) = true
 is_hand_fault (Missed miss) = is_read_fault miss.cause
 is_hand_fault _ = false
 
--- a hand that helps heard nothing but what a pass over the listing wants, against the rows of these names: so no load
--- of a listed file whose name had a row
-pub record Helps (version : Versions) (listing : List NameFacts) (roots : List (List ℕ)) (names : List NameFacts)
-    (before after : ShownTree) : Type 0 where
+-- whether the roots could not be walked
+abbrev pub is_unwalked : PassEnd → Bool
+is_unwalked (Unwalked fault) = true
+is_unwalked _ = false
+
+-- how many loads a hand that tells heard
+abbrev pub loads_told : Option (List Heard) → ℕ
+loads_told None = 0
+loads_told (Some answers) = loads answers
+
+-- a hand that helps heard nothing but loads and looks, and no load of a path of a listed name that had a row
+pub record Helps (told : Bool) (version : Versions) (listing names : List NameFacts) (before after : ShownTree)
+    : Type 0 where
   pub more : List Heard
-  pub heard : after.heard ≡ with_answers before.heard more
-  pub wanted : All (IsWanted listing roots names) more
-  pub fits : All (FitsAny version) more
+  pub listens : Listens told version before after more
+  pub spares : All (IsSparing (filter (is_in names) listing)) more
+
+-- so many hands that tell what they hear heard so many loads more, or more still
+abbrev pub HearLoads : {T : Type 0} → (T → ShownTree) → ℕ → List T → List T → Type 0
+HearLoads sees count before after = All (λ hand. IsSome (sees hand).heard) after
+    → sum_by (λ hand. loads_told (sees hand).heard) before + count ≤ sum_by (λ hand. loads_told (sees hand).heard) after
+
+-- of a pass that came to be whole: the hands from the third on, if there are any, heard so many loads
+abbrev pub LoadsBeside : {T : Type 0} → (T → ShownTree) → List T → List T → PassEnd → Type 0
+LoadsBeside sees before after (Whole summary) =
+    3 ≤ length before → HearLoads sees (summary.added + summary.replaced) (drop 2 before) (drop 2 after)
+LoadsBeside sees before after _ = Unit {0}
 
 -- the first hand went so, and each other one so
 abbrev pub HandsGo : {T : Type 0} → (T → T → Type 0) → (T → T → Type 0) → List T → List T → Type 0

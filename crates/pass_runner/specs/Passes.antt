@@ -3,7 +3,9 @@ use Rattle.std.specs.Prelude.{◌≡◌, ◌⊎◌, ℕ, Bool, true, false, List
 use Rattle.row_types.specs.Name.{NameFacts}
 use Rattle.row_types.specs.Rules.{Rules}
 use Rattle.index_keeper.specs.Keeper.{ShownKeeper}
+use Rattle.index_rows.specs.Rows.{row_names}
 use Rattle.index_state.specs.Complete.{CompletePass}
+use Rattle.index_state.specs.Plan.{plan_of}
 use Rattle.index_state.specs.State.{StateFacts, pass_of}
 use Rattle.index_state.specs.Step.{after_begin}
 use Rattle.index_state.specs.declared.answer.Plan.{Plan}
@@ -12,7 +14,7 @@ use Rattle.scan_queue.specs.declared.miss.Miss.{Miss}
 use Rattle.tree_trait.specs.Shown.{ShownTree}
 use Rattle.pass_runner.specs.Ends.{IsOutOfRoom}
 use Rattle.pass_runner.specs.Numbers.{summary_of}
-use Rattle.pass_runner.specs.Owned.{IsWholePass}
+use Rattle.pass_runner.specs.Owned.{IsHelped, IsWholePass}
 use Rattle.pass_runner.specs.Settled.{IsPassOn, Settles}
 use Rattle.pass_runner.specs.declared.pass_end.PassEnd.{PassEnd}
 use Rattle.pass_runner.specs.declared.pass_end.PassEnd.TheVariants.{Whole, Missed}
@@ -59,32 +61,52 @@ pub record SettlesTo {K : Type 0} (world : Rules) (told : Bool) (shows : K → S
   pub settles : Settles told world.version shows before after old new
   pub ends : Ends
 
--- how a pass that was begun ended
-abbrev pub EndsBegun : {K : Type 0} → Rules → Bool → Bool → (K → ShownKeeper) → ShownTree → ShownTree
+-- how a pass that was begun ended, by the plan whose numbers are told
+abbrev pub EndsBegun : {K : Type 0} → Rules → Bool → Bool → (K → ShownKeeper) → Plan → ShownTree → ShownTree
     → StateFacts K → StateFacts K → PassEnd → Type 0
-EndsBegun world told tells shows before after old new (Whole summary) =
+EndsBegun world told tells shows plan before after old new (Whole summary) =
     SettlesTo world told shows before after old new
-    (IsWholePass world tells shows summary old new (pass_of old.pass).listing)
-EndsBegun world told tells shows before after old new (Missed miss) =
+    (IsWholePass world tells shows plan summary new (pass_of old.pass).listing)
+EndsBegun world told tells shows plan before after old new (Missed miss) =
     SettlesTo world told shows before after old new (IsFirstMiss miss new)
-EndsBegun world told tells shows before after old new KeeperFault =
+EndsBegun world told tells shows plan before after old new KeeperFault =
     SettlesTo world told shows before after old new (new.broken ≡ true)
-EndsBegun world told tells shows before after old new LogFull =
+EndsBegun world told tells shows plan before after old new LogFull =
     SettlesTo world told shows before after old new (IsOutOfRoom new)
-EndsBegun world told tells shows before after old new OutOfMemory =
+EndsBegun world told tells shows plan before after old new OutOfMemory =
     SettlesTo world told shows before after old new (new.broken ≡ false)
-EndsBegun world told tells shows before after old new _ = ⊥
+EndsBegun world told tells shows plan before after old new _ = ⊥
+
+-- a pass over the listing was begun once the other hands had helped, and this came of it
+pub record EndsFound {K : Type 0} (world : Rules) (told tells : Bool) (shows : K → ShownKeeper) (hands : ℕ)
+    (listing : List NameFacts) (roots : List (List ℕ)) (before after : ShownTree) (old new : StateFacts K)
+    (end : PassEnd) : Type 0 where
+  pub found : StateFacts K
+  pub helped : IsHelped hands listing old found
+  pub begun : EndsBegun world told tells shows (plan_of listing (row_names old.rows)) before after
+      (after_begin listing roots found) new end
 
 -- nothing changed
 pub record StaysSame {K T : Type 0} (before after : T) (old new : StateFacts K) : Type 0 where
   pub hand : after ≡ before
   pub state : new ≡ old
 
+-- the other hands helped, and the first one did nothing more
+pub record IsLeft {K T : Type 0} (hands : ℕ) (listing : List NameFacts) (before after : T) (old new : StateFacts K)
+    (Ends : Type 0) : Type 0 where
+  pub hand : after ≡ before
+  pub helped : IsHelped hands listing old new
+  pub ends : Ends
+
 -- how a pass over the listing ended; memory may be refused before it begins
-abbrev pub EndsOver : {K T : Type 0} → Rules → Bool → Bool → (K → ShownKeeper) → (T → ShownTree) → List NameFacts
+abbrev pub EndsOver : {K T : Type 0} → Rules → Bool → Bool → (K → ShownKeeper) → (T → ShownTree) → ℕ → List NameFacts
     → List (List ℕ) → T → T → StateFacts K → StateFacts K → PassEnd → Type 0
-EndsOver world told tells shows sees listing roots before after old new OutOfMemory =
+EndsOver world told tells shows sees hands listing roots before after old new OutOfMemory =
     StaysSame before after old new
-    ⊎ EndsBegun world told tells shows (sees before) (sees after) (after_begin listing roots old) new OutOfMemory
-EndsOver world told tells shows sees listing roots before after old new end =
-    EndsBegun world told tells shows (sees before) (sees after) (after_begin listing roots old) new end
+    ⊎ (EndsFound world told tells shows hands listing roots (sees before) (sees after) old new OutOfMemory
+    ⊎ IsLeft hands listing before after old new (new.broken ≡ false))
+EndsOver world told tells shows sees hands listing roots before after old new KeeperFault =
+    EndsFound world told tells shows hands listing roots (sees before) (sees after) old new KeeperFault
+    ⊎ IsLeft hands listing before after old new (new.broken ≡ true)
+EndsOver world told tells shows sees hands listing roots before after old new end =
+    EndsFound world told tells shows hands listing roots (sees before) (sees after) old new end

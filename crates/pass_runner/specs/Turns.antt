@@ -1,5 +1,5 @@
 -- What becomes of a name that was handed out (this crate's bookkeeping, which no public clause cites).
-use Rattle.std.specs.Prelude.{◌≡◌, ℕ, ◌+◌, ◌≤◌, Bool, true, false, if◌then◌else◌, List, [], ◌∷◌, All, Contains, Option, Some, None, IsTrue}
+use Rattle.std.specs.Prelude.{◌≡◌, ℕ, ◌+◌, ◌≤◌, Bool, true, false, List, [], All, Contains, Option, Some, None}
 use Rattle.row_types.specs.Faults.{HasCause, Rose}
 use Rattle.row_types.specs.Name.{NameFacts}
 use Rattle.row_types.specs.Row.{RowFacts}
@@ -15,23 +15,16 @@ use Rattle.scan_queue.specs.declared.miss.Seen.{Seen}
 use Rattle.scan_queue.specs.declared.miss.Seen.TheVariants as seen
 use Rattle.scan_worker.specs.declared.work_end.WorkEnd.{WorkEnd}
 use Rattle.scan_worker.specs.declared.work_end.WorkEnd.TheVariants.{Broken, KeeperFault, LogFull, OutOfMemory}
-use Rattle.tree_trait.specs.Asks.{FitsAny, IsTold}
 use Rattle.tree_trait.specs.Found.{Versions}
-use Rattle.tree_trait.specs.Heard.{Heard, stat, wants_memory, with_answers}
-use Rattle.tree_trait.specs.Shown.{HandsOn, ShownTree}
+use Rattle.tree_trait.specs.Heard.{Heard, stat}
+use Rattle.tree_trait.specs.Listens.{Listens}
+use Rattle.tree_trait.specs.Shown.{ShownTree}
 use Rattle.tree_trait.specs.declared.stat.StatAnswer.{StatAnswer}
 use Rattle.tree_trait.specs.declared.stat.StatAnswer.TheVariants as said
 use Rattle.pass_runner.specs.Ends.{TurnsBy}
 use Rattle.pass_runner.specs.Settled.{IsBrought, IsMissBy, IsPassOn, MayGo, Proceeds, times_loaded, times_named}
 use Rattle.pass_runner.specs.declared.look_for.Looked.{Looked}
 use Rattle.pass_runner.specs.declared.look_for.Looked.TheVariants as looked
-
--- the hand heard this, and no more
-pub record Listens (told : Bool) (version : Versions) (before after : ShownTree) (answers : List Heard) : Type 0 where
-  pub heard : after.heard ≡ with_answers before.heard answers
-  pub fits : All (FitsAny version) answers
-  pub tells : IsTrue told → before.Still → All (IsTold before.present) answers
-  pub hand : HandsOn told version before after ⊥ ⊥
 
 -- the index went on, while this was heard and calls of the hand failed only so
 pub record Advances {K : Type 0} (shows : K → ShownKeeper) (answers : List Heard) (Failed : Type 0)
@@ -51,10 +44,6 @@ pub record Advances {K : Type 0} (shows : K → ShownKeeper) (answers : List Hea
   pub missed : All (IsMissBy (pass_of old.pass).listing (row_names old.rows) (pass_of old.pass).missed answers Failed) (pass_of new.pass).missed
   pub todo : (path : List ℕ)
       → times_named (pass_of new.pass).todo path ≤ times_named (pass_of old.pass).todo path
-
--- what is heard of a question, which is nothing where memory was refused
-abbrev pub heard_of : Heard → List Heard
-heard_of asked = if wants_memory asked then [] else asked ∷ []
 
 -- what became of a name that was handed out, and how the settling goes on; no more was loaded than these names, each once
 pub record TurnsOver {K : Type 0} (told : Bool) (version : Versions) (shows : K → ShownKeeper) (reads : List NameFacts)

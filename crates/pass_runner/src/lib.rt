@@ -2,11 +2,16 @@
 //! what is gone. What an index does with a row or a name stands in the crates below.
 #![tactic(auto)]
 
+mod beside;
+mod crew;
+mod helper;
 mod look_for;
 mod owned;
+mod parts;
 mod pass_end;
 mod read_new;
 mod settling;
+mod shared;
 mod summary;
 #[cfg(test)]
 mod tests;

@@ -1,15 +1,15 @@
 //! A pass over an index that is owned.
 
-ghost use Rattle.std.specs.Prelude.{◌≡◌, ◌<◌, drop, false, length, vec_len, IfOk, IsTrue};
+ghost use Rattle.std.specs.Prelude.{◌≡◌, ℕ, ◌<◌, ◌≤◌, List, drop, false, length, vec_len, IfOk, IsTrue};
 ghost use Rattle.row_types.specs.Faults.{HasCause};
+ghost use Rattle.row_types.specs.Name.{NameFacts};
 ghost use Rattle.row_types.specs.Rules.{rules};
 ghost use Rattle.index_rows.specs.Rows.{row_names};
-ghost use Rattle.index_state.specs.Plan.{plan_of};
-ghost use Rattle.index_state.specs.State.{pass_of};
 ghost use Rattle.tree_trait.specs.Shown.{HandsOn};
-ghost use Rattle.pass_runner.specs.Owned.{EndsPass, HandsGo, Helps, is_hand_fault};
+ghost use Rattle.pass_runner.specs.Owned.{EndsPass, HandsGo, Helps, LoadsBeside, is_hand_fault, is_unwalked};
 ghost use Rattle.pass_runner.specs.Passes.{EndsBegun, EndsOf, EndsOver, IsFresh, IsHandedOut};
 
+use crate::beside::scan_beside;
 use crate::pass_end::PassEnd;
 use crate::settling::settle_pass;
 use crate::summary::summary_of;
@@ -19,68 +19,103 @@ use row_types::{CanonPath, Truth};
 use scan_queue::{Listing, Miss};
 use scan_worker::WorkEnd;
 use std::alloc::{AllocError, Global};
-use tree_trait::{Reader, Tree};
+use std::sync::Wait;
+use std::thread::Threads;
+use tree_trait::{Gate, Reader, Tree};
 use tree_walk::{Walk, walk};
 
-/// Makes one pass over the roots: walks them, begins a pass over what was listed, and settles it.
-/// The hands come back in their order. The first one walks and settles.
-pub fn scan_state<W: Truth, K: Keeper<W>, T: Tree<W>, R: Reader<W>>(
+/// Makes one pass over the roots: walks them, begins a pass over what was listed, has the other
+/// hands help with it in threads of their own, and settles what is left. The hands come back in
+/// their order. The first one walks and settles, the second one looks for the files of rows that
+/// are no longer listed, and those from the third on read listed files that have no row.
+pub fn scan_state<
+    W: Truth + Send + Sync,
+    K: Keeper<W>,
+    T: Tree<W>,
+    R: Reader<W> + Sync,
+    G: Gate,
+    Rt: Threads + Wait + Sync,
+>(
+    rt: &Rt,
     alloc: Global,
     state: State<W, K>,
     hands: Vec<T>,
     roots: &[CanonPath],
     reader: &R,
+    gate: &G,
 ) -> (State<W, K>, Vec<T>, PassEnd)
     requires hand { 0 < vec_len hands }
     requires sound { state.broken ≡ false }
-    ensures pass { HandsGo
+    ensures pass { (listing : List NameFacts) × HandsGo
         (λ hand later. EndsPass (rules W.version W.true_row W.told) T.told K.told K.shows
-        roots.now (T.shows hand) (T.shows later) state result.0 result.2)
-        (λ hand later. Helps W.version (pass_of result.0.pass).listing roots.now
-        (row_names state.rows) (T.shows hand) (T.shows later))
-        hands.items result.1.items }
+        (vec_len hands) roots.now listing (T.shows hand) (T.shows later) state result.0 result.2)
+        (λ hand later. Helps T.told W.version listing (row_names state.rows) (T.shows hand)
+        (T.shows later)) hands.items result.1.items }
     ensures hands { HandsGo
         (λ hand later. HandsOn T.told W.version (T.shows hand) (T.shows later)
         (0 < length roots.now) (IsTrue (is_hand_fault result.2)))
         (λ hand later. HandsOn T.told W.version (T.shows hand) (T.shows later) ⊥ ⊥)
         hands.items result.1.items }
-    ensures keeper { HasCause (K.shows state.keeper).faults (K.shows result.0.keeper).faults
-        (result.2 ≡ PassEnd.KeeperFault) }
-
-    // One thread works, with the first hand.
-    ensures others { drop 1 result.1.items ≡ drop 1 hands.items }
+    ensures loads { LoadsBeside T.shows hands.items result.1.items result.2 }
+    ensures idle { IsTrue (is_unwalked result.2) → drop 1 result.1.items ≡ drop 1 hands.items }
+    ensures keeper { result.2 ≡ PassEnd.KeeperFault → 0 < (K.shows result.0.keeper).faults }
+    ensures alone { vec_len hands ≤ 1 → HasCause (K.shows state.keeper).faults
+        (K.shows result.0.keeper).faults (result.2 ≡ PassEnd.KeeperFault) }
 {
-    let mut state = state;
     let mut hands = hands;
-    let end = run_owned(alloc, &mut state, &mut hands[0], roots, reader);
-    (state, hands, end)
-}
-
-/// Makes one pass over the roots with one hand.
-fn run_owned<W: Truth, K: Keeper<W>, T: Tree<W>, R: Reader<W>>(
-    alloc: Global,
-    state: &mut State<W, K>,
-    hand: &mut T,
-    roots: &[CanonPath],
-    reader: &R,
-) -> PassEnd
-    requires sound { state.old.broken ≡ false }
-    ensures pass { EndsPass (rules W.version W.true_row W.told) T.told K.told K.shows
-        roots.now (T.shows hand.old) (T.shows hand.new) state.old state.new result }
-    ensures hand { HandsOn T.told W.version (T.shows hand.old) (T.shows hand.new)
-        (0 < length roots.now) (IsTrue (is_hand_fault result)) }
-    ensures keeper { HasCause (K.shows state.old.keeper).faults (K.shows state.new.keeper).faults
-        (result ≡ PassEnd.KeeperFault) }
-{
-    match walk(alloc, hand, roots) {
+    match walk(alloc, &mut hands[0], roots) {
         Ok(
             Walk {
                 listing,
                 skipped: _,
             },
-        ) => run_over(alloc, state, hand, listing, roots, reader),
-        Err(fault) => PassEnd::Walk(fault),
+        ) => scan_listed(rt, alloc, state, hands, listing, roots, reader, gate),
+        Err(fault) => (state, hands, PassEnd::Walk(fault)),
     }
+}
+
+/// Makes a pass over a listing.
+fn scan_listed<
+    W: Truth + Send + Sync,
+    K: Keeper<W>,
+    T: Tree<W>,
+    R: Reader<W> + Sync,
+    G: Gate,
+    Rt: Threads + Wait + Sync,
+>(
+    rt: &Rt,
+    alloc: Global,
+    state: State<W, K>,
+    hands: Vec<T>,
+    listing: Listing,
+    roots: &[CanonPath],
+    reader: &R,
+    gate: &G,
+) -> (State<W, K>, Vec<T>, PassEnd)
+    requires hand { 0 < vec_len hands }
+    requires sound { state.broken ≡ false }
+    ensures over { HandsGo
+        (λ hand later. EndsOver (rules W.version W.true_row W.told) T.told K.told K.shows T.shows
+        (vec_len hands) listing roots.now hand later state result.0 result.2)
+        (λ hand later. Helps T.told W.version listing (row_names state.rows) (T.shows hand)
+        (T.shows later)) hands.items result.1.items }
+    ensures hands { HandsGo
+        (λ hand later. HandsOn T.told W.version (T.shows hand) (T.shows later)
+        ⊥ (IsTrue (is_hand_fault result.2)))
+        (λ hand later. HandsOn T.told W.version (T.shows hand) (T.shows later) ⊥ ⊥)
+        hands.items result.1.items }
+    ensures loads { LoadsBeside T.shows hands.items result.1.items result.2 }
+    ensures keeper { result.2 ≡ PassEnd.KeeperFault → 0 < (K.shows result.0.keeper).faults }
+    ensures alone { vec_len hands ≤ 1 → HasCause (K.shows state.keeper).faults
+        (K.shows result.0.keeper).faults (result.2 ≡ PassEnd.KeeperFault) }
+{
+    if hands.len() > 1 {
+        return scan_beside(rt, alloc, state, hands, listing, roots, reader, gate);
+    }
+    let mut state = state;
+    let mut hands = hands;
+    let end = run_over(alloc, &mut state, &mut hands[0], listing, roots, reader);
+    (state, hands, end)
 }
 
 /// Begins a pass over a listing, and settles it.
@@ -94,7 +129,7 @@ fn run_over<W: Truth, K: Keeper<W>, T: Tree<W>, R: Reader<W>>(
 ) -> PassEnd
     requires sound { state.old.broken ≡ false }
     ensures over { EndsOver (rules W.version W.true_row W.told) T.told K.told K.shows T.shows
-        listing roots.now hand.old hand.new state.old state.new result }
+        1 listing roots.now hand.old hand.new state.old state.new result }
     ensures hand { HandsOn T.told W.version (T.shows hand.old) (T.shows hand.new)
         ⊥ (IsTrue (is_hand_fault result)) }
     ensures keeper { HasCause (K.shows state.old.keeper).faults (K.shows state.new.keeper).faults
@@ -110,8 +145,9 @@ fn run_over<W: Truth, K: Keeper<W>, T: Tree<W>, R: Reader<W>>(
     }
 }
 
-/// Settles the pass that was begun, and says how it ended.
-fn settle_begun<W: Truth, K: Keeper<W>, T: Tree<W>, R: Reader<W>>(
+/// Settles the pass that was begun, and says how it ended. The numbers of a whole pass are those
+/// of the plan.
+pub(crate) fn settle_begun<W: Truth, K: Keeper<W>, T: Tree<W>, R: Reader<W>>(
     alloc: Global,
     state: &mut State<W, K>,
     hand: &mut T,
@@ -119,9 +155,7 @@ fn settle_begun<W: Truth, K: Keeper<W>, T: Tree<W>, R: Reader<W>>(
     reader: &R,
 ) -> PassEnd
     requires fresh { IsFresh state.old }
-    requires planned { plan.now ≡ plan_of (pass_of state.old.pass).listing
-        (row_names state.old.rows) }
-    ensures ends { EndsBegun (rules W.version W.true_row W.told) T.told K.told K.shows
+    ensures ends { EndsBegun (rules W.version W.true_row W.told) T.told K.told K.shows plan.now
         (T.shows hand.old) (T.shows hand.new) state.old state.new result }
     ensures hand { HandsOn T.told W.version (T.shows hand.old) (T.shows hand.new)
         ⊥ (IsTrue (is_hand_fault result)) }
@@ -165,7 +199,7 @@ fn copy_miss(alloc: Global, miss: &Miss) -> Result<Miss, AllocError>
 }
 
 /// Copies of paths, in order.
-fn copies(alloc: Global, paths: &[CanonPath]) -> Result<Vec<CanonPath>, AllocError>
+pub(crate) fn copies(alloc: Global, paths: &[CanonPath]) -> Result<Vec<CanonPath>, AllocError>
     ensures { IfOk result (λ copies. copies.items ≡ paths.now) }
 {
     let mut copies = Vec::with_capacity(alloc, paths.len())?;

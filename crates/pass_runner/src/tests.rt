@@ -1,5 +1,6 @@
 //! What no clause says: that memory suffices, and what settlings and passes come to.
 
+mod beside;
 mod cases;
 mod events;
 mod helpers;

@@ -11,8 +11,10 @@ use index_keeper::MemStore;
 use std::alloc::Global;
 use std::marker::PhantomData;
 use std::process::Abort;
+use std::sync::Wait;
 use std::test::Fail;
-use tree_trait::Tree;
+use std::thread::Threads;
+use tree_trait::{NoGate, Tree};
 
 /// When the objects around a hand fail: the call of the store from which on it fails, until it is
 /// opened again, those of its calls that fail once, the writes that fail on out and on err, and how
@@ -63,7 +65,7 @@ impl Sink for Narrow {
 }
 
 /// The objects of a run.
-type Memory<W, T> = Outside<W, T, MemStore<W>, Narrow>;
+type Memory<W, T> = Outside<W, T, MemStore<W>, Narrow, NoGate>;
 
 /// The words as the program gets them.
 pub fn words_of(alloc: Global, words: &[&str]) -> Result<Vec<String>, Fail> {
@@ -105,6 +107,7 @@ pub fn outside_of<W: ElfTruth + Send + Sync, T: Tree<W>>(
         store,
         out: sink_of(alloc, plan.bad_out, plan.width)?,
         err: sink_of(alloc, plan.bad_err, plan.width)?,
+        gate: NoGate,
         of: PhantomData::<W>,
     })
 }
@@ -123,8 +126,8 @@ pub fn compare(
 }
 
 /// Runs once, and compares.
-fn run_once<W: ElfTruth + Send + Sync, T: Tree<W>>(
-    rt: &impl Abort,
+fn run_once<W: ElfTruth + Send + Sync, T: Tree<W>, Rt: Threads + Wait + Sync + Abort>(
+    rt: &Rt,
     alloc: Global,
     outside: &mut Memory<W, T>,
     case: &Run<'_>,
@@ -134,32 +137,41 @@ fn run_once<W: ElfTruth + Send + Sync, T: Tree<W>>(
         return Err("a hand".into());
     }
     let texts = words_of(alloc, words)?;
-    let ended = run(alloc, texts.as_slice(), outside);
+    let ended = run(rt, alloc, texts.as_slice(), outside);
     compare(rt, &outside.out.sink, out, "out", words)?;
     compare(rt, &outside.err.sink, err.as_bytes(), "err", words)?;
     assert_eq!(rt; ended, *status, "status of {words:?}");
     Ok(())
 }
 
+/// Runs one after the other.
+pub fn run_each<W: ElfTruth + Send + Sync, T: Tree<W>, Rt: Threads + Wait + Sync + Abort>(
+    rt: &Rt,
+    alloc: Global,
+    outside: &mut Memory<W, T>,
+    runs: &[Run<'_>],
+) -> Result<(), Fail> {
+    for case in runs {
+        run_once(rt, alloc, outside, case)?;
+    }
+    Ok(())
+}
+
 /// Runs one after the other over a hand and a store.
-pub fn run_over<W: ElfTruth + Send + Sync, T: Tree<W>>(
-    rt: &impl Abort,
+pub fn run_over<W: ElfTruth + Send + Sync, T: Tree<W>, Rt: Threads + Wait + Sync + Abort>(
+    rt: &Rt,
     alloc: Global,
     hand: T,
     store: MemStore<W>,
     plan: &Plan<'_>,
     runs: &[Run<'_>],
 ) -> Result<(), Fail> {
-    let mut outside = outside_of(alloc, hand, store, plan)?;
-    for case in runs {
-        run_once(rt, alloc, &mut outside, case)?;
-    }
-    Ok(())
+    run_each(rt, alloc, &mut outside_of(alloc, hand, store, plan)?, runs)
 }
 
 /// Runs one after the other over a hand and the objects of a plan. The store keeps nothing yet.
-pub fn run_all<W: ElfTruth + Send + Sync, T: Tree<W>>(
-    rt: &impl Abort,
+pub fn run_all<W: ElfTruth + Send + Sync, T: Tree<W>, Rt: Threads + Wait + Sync + Abort>(
+    rt: &Rt,
     alloc: Global,
     hand: T,
     plan: &Plan<'_>,
@@ -169,7 +181,11 @@ pub fn run_all<W: ElfTruth + Send + Sync, T: Tree<W>>(
 }
 
 /// Runs each case over a hand of the open world.
-pub fn run_cases(rt: &impl Abort, alloc: Global, cases: &[Case<'_>]) -> Result<(), Fail> {
+pub fn run_cases<Rt: Threads + Wait + Sync + Abort>(
+    rt: &Rt,
+    alloc: Global,
+    cases: &[Case<'_>],
+) -> Result<(), Fail> {
     for Case(files, bad_calls, plan, runs) in cases {
         run_all(rt, alloc, hand_of(alloc, files, bad_calls)?, plan, runs)?;
     }

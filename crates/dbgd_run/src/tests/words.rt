@@ -5,7 +5,9 @@ use crate::tests::hands::{File, Files, hand_of};
 use crate::tests::rig::{Plan, Run, SOUND, empty_store, outside_of, run_all, words_of};
 use std::alloc::Global;
 use std::process::Abort;
+use std::sync::Wait;
 use std::test::Fail;
+use std::thread::Threads;
 
 const USAGE: &str = "usage: dbgd ident FILE, sources FILE, section FILE NAME, query -d DB ID, \
     scan -d DB DIR, serve -d DB DIR, trial SEED FILES WORKERS\n";
@@ -43,8 +45,8 @@ static UNBUILT: [&[&str]; 4] = [
 ];
 
 /// Runs each line alone: it says this on err, with this status.
-fn each_says(
-    rt: &impl Abort,
+fn each_says<Rt: Threads + Wait + Sync + Abort>(
+    rt: &Rt,
     alloc: Global,
     lines: &[&[&str]],
     err: &str,
@@ -116,7 +118,7 @@ fn help_and_version_go_to_the_standard_output(rt: HostRuntime) -> Result<(), Fai
 }
 
 #[test]
-fn the_local_part_answers_every_line(rt: HostRuntime) -> Result<(), Fail> {
+fn the_local_part_answers_every_line_but_a_scan(rt: HostRuntime) -> Result<(), Fail> {
     let alloc = rt.alloc();
     let hand = hand_of(alloc, &Files::One(File::Empty), &[])?;
     let mut outside = outside_of(alloc, hand, empty_store(alloc, &SOUND)?, &SOUND)?;
@@ -126,5 +128,7 @@ fn the_local_part_answers_every_line(rt: HostRuntime) -> Result<(), Fail> {
     let words = words_of(alloc, &["ident", "/w/a"])?;
     assert_eq!(rt; run_local(alloc, words.as_slice(), &mut outside), Some(3));
     assert_eq!(rt; run_local(alloc, &[], &mut outside), Some(2));
+    let scan = words_of(alloc, &["scan", "-d", "m", "/w"])?;
+    assert_eq!(rt; run_local(alloc, scan.as_slice(), &mut outside), None);
     Ok(())
 }

@@ -82,5 +82,5 @@ static MISSED: [Step; 8] = [
 
 #[test]
 fn the_first_miss_is_told(rt: HostRuntime) -> Result<(), Fail> {
-    run_steps(&rt, rt.alloc(), None, &MISSED)
+    run_steps(&rt, rt.alloc(), None, &MISSED, 0)
 }

@@ -12,7 +12,10 @@ use sample_world::SampleWorld;
 use scan_queue::{Cause, Miss, Seen};
 use std::alloc::{AllocError, Global};
 use std::process::Abort;
+use std::sync::Wait;
 use std::test::Fail;
+use std::thread::Threads;
+use tree_trait::{Gate, MemTree, NoGate};
 use tree_walk::WalkFault;
 
 /// An index on a store in memory.
@@ -116,34 +119,66 @@ pub fn opened(alloc: Global, store: &mut MemStore<SampleWorld>) -> Result<Index,
     }
 }
 
-/// Makes the pass with two hands, and says how it ended.
-fn run_step(alloc: Global, index: Index, step: &Step) -> Result<(Index, String), Fail> {
-    let mut hands = Vec::new(alloc);
-    hands.push(tree_of(alloc, step.files, step.later, step.bad_calls)?)?;
-    hands.push(tree_of(alloc, Files::Nothing, None, &[0])?)?;
+/// Makes a pass with these hands, and says how it ended.
+pub fn run_hands<G: Gate, Rt: Threads + Wait + Sync>(
+    rt: &Rt,
+    alloc: Global,
+    index: Index,
+    hands: Vec<MemTree<SampleWorld>>,
+    roots: &[&str],
+    gate: &G,
+) -> Result<(Index, String), Fail> {
+    let count = hands.len();
+    if count == 0 {
+        return Err("there is a hand".into());
+    }
     if index.standing().broken {
         return Err("the index isn't broken".into());
     }
-    let roots = paths(alloc, step.roots)?;
-    let (index, hands, end) = scan_state(alloc, index, hands, roots.as_slice(), &ElfReader);
-    if hands.len() != 2 {
-        return Err("both hands come back".into());
+    let roots = paths(alloc, roots)?;
+    let (index, hands, end) = scan_state(
+        rt,
+        alloc,
+        index,
+        hands,
+        roots.as_slice(),
+        &ElfReader,
+        gate,
+    );
+    if hands.len() != count {
+        return Err("all hands come back".into());
     }
     let text = end_text(alloc, &end)?;
     Ok((index, text))
 }
 
-/// The passes of a test, over one index.
-pub fn run_steps(
-    rt: &impl Abort,
+/// Makes the pass with the step's first hand and so many more, and says how it ended.
+fn run_step<Rt: Threads + Wait + Sync>(
+    rt: &Rt,
+    alloc: Global,
+    index: Index,
+    step: &Step,
+    others: u64,
+) -> Result<(Index, String), Fail> {
+    let mut hands = vec![in alloc; tree_of(alloc, step.files, step.later, step.bad_calls)?]?;
+    for _ in 0..others {
+        hands.push(tree_of(alloc, step.files, None, &[])?)?;
+    }
+    run_hands(rt, alloc, index, hands, step.roots, &NoGate)
+}
+
+/// The passes of a test, over one index, with so many hands beside the first.
+pub fn run_steps<Rt: Threads + Wait + Sync + Abort>(
+    rt: &Rt,
     alloc: Global,
     stop_at: Option<u64>,
     steps: &[Step],
+    others: u64,
 ) -> Result<(), Fail> {
     let mut store = MemStore::new(alloc, Vec::new(alloc), stop_at, Vec::new(alloc));
     let mut index = opened(alloc, &mut store)?;
     for step in steps {
-        let (next, end) = run_step(alloc, index, step)?;
+        let (next, end) = run_step(rt, alloc, index, step, others)?;
         index = next;
         assert_eq!(rt; end.as_str(), step.end, "{}", step.shows);
         let rows = joined(alloc, step.rows)?;

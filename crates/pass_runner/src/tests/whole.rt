@@ -88,7 +88,16 @@ static WHOLE: [Step; 7] = [
 // The numbers are those of the worked rows of the scan of this tree.
 #[test]
 fn each_pass_does_what_changed(rt: HostRuntime) -> Result<(), Fail> {
-    run_steps(&rt, rt.alloc(), None, &WHOLE)
+    run_steps(&rt, rt.alloc(), None, &WHOLE, 0)
+}
+
+// One that looks for files and none that reads, then one, two, seven and 64 that read twelve files.
+#[test]
+fn any_number_of_hands_does_the_same(rt: HostRuntime) -> Result<(), Fail> {
+    for others in [1, 2, 3, 8, 65] {
+        run_steps(&rt, rt.alloc(), None, &WHOLE, others)?;
+    }
+    Ok(())
 }
 
 /// The store's calls are the opening, the rows, and a put for each file.
@@ -104,5 +113,5 @@ static STOPPED: [Step; 1] = [Step {
 
 #[test]
 fn a_store_that_fails_ends_the_pass(rt: HostRuntime) -> Result<(), Fail> {
-    run_steps(&rt, rt.alloc(), Some(4), &STOPPED)
+    run_steps(&rt, rt.alloc(), Some(4), &STOPPED, 0)
 }

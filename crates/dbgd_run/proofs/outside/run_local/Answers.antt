@@ -1,8 +1,19 @@
-use Rattle.std.proofs.Common.{◌<◌, length, arith}
+-- What the words that are no scan ask was done.
+use Rattle.std.proofs.Common.{◌<◌, length, inl, inr, refl, arith}
 use Rattle.dbgd_run.proofs.RunLemmas.{runs_words}
 use Rattle.dbgd_run.proofs.outside.run_local.Goals as goal
 
-pub returns-clause-run : goal.returns-clause-run
-returns-clause-run g c =
+pub returns-in-Ok-clause-run : goal.returns-in-Ok-clause-run
+returns-in-Ok-clause-run g c =
     let some : 0 < length c.args.outside.now.hands.items = omega arith in
-    runs_words _ _ _ _ c.run_words.result _ c.code.ensures.code some c.run_words.ensures.law
+    runs_words _ _ _ _ c.run_alone.result _ c.code.ensures.code some
+    (inl (rw (← c.in-Ok.ensures.line) c.run_alone.ensures.law))
+
+pub returns-in-Err-clause-run : goal.returns-in-Err-clause-run
+returns-in-Err-clause-run g c =
+    let some : 0 < length c.args.outside.now.hands.items = omega arith in
+    runs_words _ _ _ _ c.say_no_memory.result _ c.code-in-Err.ensures.code some
+    (inr (record {
+      options = c.in-Err.ensures.memory;
+      alone = record { says = c.say_no_memory.ensures; hands = refl; store = refl };
+    }))

@@ -1,7 +1,4 @@
-use Rattle.std.proofs.Common.{ap, inl, inr, refl, subst}
-use Rattle.std.specs.Prelude.{map}
-use Rattle.std.specs.String.{string_bytes}
-use Rattle.dbgd_words.specs.Words.{Line}
+use Rattle.std.proofs.Common.{inl, inr, refl}
 use Rattle.dbgd_run.proofs.outside.run_words.Goals as goal
 
 pub returns-in-Ok-clause-law : goal.returns-in-Ok-clause-law

@@ -1,4 +1,4 @@
-use Rattle.std.proofs.Common.{ℕ, ◌<◌, length, arith}
+use Rattle.std.proofs.Common.{◌<◌, length, arith}
 use Rattle.row_types.specs.Rules.{rules}
 use Rattle.dbgd_run.specs.Scene.{setting}
 use Rattle.dbgd_run.proofs.StoreLemmas.{scans_closed, scans_opened, scans_wanting}
@@ -10,7 +10,7 @@ returns-in-Opened-clause-scans g c =
     scans_opened s c.args.path.now c.scan_keeper-end.result.0 c.in-Opened.ensures c.give_back.ensures
     (c.scan_keeper-end.ensures.ends (g.S.Store.shows c.args.store.now) (g.S.Store.shows c.open_store.new.self)
     (g.S.Store.shows c.give_back.new.self) c.in-Opened.ensures.holds c.give_back.ensures)
-    c.scan_keeper-end.ensures.hands c.scan_keeper-end.ensures.keeper
+    c.scan_keeper-end.ensures.hands c.scan_keeper-end.ensures.loads c.scan_keeper-end.ensures.keeper
 
 pub returns-in-Failed-clause-scans : goal.returns-in-Failed-clause-scans
 returns-in-Failed-clause-scans g c =

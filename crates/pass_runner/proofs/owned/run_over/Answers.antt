@@ -1,14 +1,11 @@
 use Rattle.std.proofs.Common.{ℕ, List, subst}
 use Rattle.row_types.specs.Rules.{rules}
 use Rattle.index_state.specs.Step.{BeginsPass}
-use Rattle.pass_runner.proofs.PassEnds.{fresh_after, over_begun, plan_after}
+use Rattle.pass_runner.proofs.PassEnds.{fresh_after, over_begun}
 use Rattle.pass_runner.proofs.owned.run_over.Goals as goal
 
 pub settle_begun-requires-clause-fresh : goal.settle_begun-requires-clause-fresh
 settle_begun-requires-clause-fresh g c = λ κs within. fresh_after {K = g.row.K.Denot} c.in-Begun.ensures.step
-
-pub settle_begun-requires-clause-planned : goal.settle_begun-requires-clause-planned
-settle_begun-requires-clause-planned g c = λ κs within. plan_after {K = g.row.K.Denot} c.in-Begun.ensures.step
 
 pub returns-in-Begun-clause-over : goal.returns-in-Begun-clause-over
 returns-in-Begun-clause-over g c =

@@ -1,33 +1,93 @@
+-- The first hand walks, and the pass over what was listed follows.
+use Rattle.std.proofs.Common.{◌<◌, [], inl, length, slice_set, refl, subst, IsTrue}
 use Rattle.row_types.specs.Rules.{rules}
 use Rattle.index_rows.specs.Rows.{row_names}
-use Rattle.index_state.specs.State.{pass_of}
-use Rattle.std.proofs.Common.{◌<◌, length, subst, IsTrue}
 use Rattle.tree_trait.specs.Shown.{HandsOn}
+use Rattle.tree_trait.proofs.HandLemmas.{hands_then}
 use Rattle.pass_runner.specs.Owned.{EndsPass, Helps, is_hand_fault}
-use Rattle.pass_runner.proofs.PassHands.{first_goes, hands_none}
-use Rattle.pass_runner.proofs.PassWalks.{helps_none}
+use Rattle.pass_runner.specs.Passes.{EndsOver}
+use Rattle.pass_runner.specs.declared.pass_end.PassEnd.TheVariants.{Walk as Unwalked}
+use Rattle.pass_runner.proofs.FirstHand.{goes_never, idle_unwalked, loads_past_first, walks_first}
+use Rattle.pass_runner.proofs.PassEnds.{over_walked}
+use Rattle.pass_runner.proofs.PassHands.{first_goes, hands_none, hands_walked}
+use Rattle.pass_runner.proofs.PassWalks.{ends_walked, helps_none}
 use Rattle.pass_runner.proofs.owned.scan_state.Goals as goal
 
-pub returns-clause-pass : goal.returns-clause-pass
-returns-clause-pass g c =
-    first_goes
-    (λ hand later. EndsPass (rules g.W.Truth.version g.W.Truth.true_row g.W.Truth.told) g.T.Tree.told g.K.Keeper.told
-    g.K.Keeper.shows c.args.roots.now (g.T.Tree.shows hand) (g.T.Tree.shows later) c.args.state c.run_owned-end.new.state
-    c.run_owned-end.result)
-    (λ hand later. Helps g.W.Truth.version (pass_of c.run_owned-end.new.state.pass).listing c.args.roots.now
-    (row_names c.args.state.rows) (g.T.Tree.shows hand) (g.T.Tree.shows later))
-    c.args.hands.items c.index_mut.result.now c.run_owned-end.new.hand
-    (subst (λ n. 0 < n) c.args.hands.ok.0 c.requires.hand) c.index_mut.ensures.value
-    c.run_owned-end.ensures.pass
-    (helps_none g.T.Tree.shows g.W.Truth.version (pass_of c.run_owned-end.new.state.pass).listing c.args.roots.now
-    (row_names c.args.state.rows))
+pub returns-in-Ok-clause-pass : goal.returns-in-Ok-clause-pass
+returns-in-Ok-clause-pass g c = (
+  c.in-Ok.field-0.listing,
+  walks_first
+      (λ hand later. EndsOver {K = g.row.K.Denot} (rules g.W.Truth.version g.W.Truth.true_row g.W.Truth.told) g.T.Tree.told
+      g.K.Keeper.told g.K.Keeper.shows g.T.Tree.shows c.args.hands.len c.in-Ok.field-0.listing c.args.roots.now hand later c.args.state
+      c.scan_listed.result.0 c.scan_listed.result.2)
+      (λ hand later. EndsPass (rules g.W.Truth.version g.W.Truth.true_row g.W.Truth.told) g.T.Tree.told g.K.Keeper.told
+      g.K.Keeper.shows c.args.hands.len c.args.roots.now c.in-Ok.field-0.listing (g.T.Tree.shows hand) (g.T.Tree.shows later) c.args.state
+      c.scan_listed.result.0 c.scan_listed.result.2)
+      (λ hand later. Helps g.T.Tree.told g.W.Truth.version c.in-Ok.field-0.listing (row_names c.args.state.rows) (g.T.Tree.shows hand)
+      (g.T.Tree.shows later))
+      c.args.hands.items c.scan_listed.result.1.items c.index_mut.result.now c.walk.new.hand
+      (subst (λ n. 0 < n) c.args.hands.ok.0 c.requires.hand) c.index_mut.ensures.value
+      (λ later over. ends_walked {K = g.row.K.Denot} (rules g.W.Truth.version g.W.Truth.true_row g.W.Truth.told) g.T.Tree.told
+      g.K.Keeper.told g.K.Keeper.shows g.T.Tree.shows c.args.hands.len c.args.roots.now c.index_mut.result.now c.walk.new.hand later
+      c.args.state c.scan_listed.result.0 c.in-Ok.field-0 c.scan_listed.result.2 c.in-Ok.ensures.walk
+      (λ t. c.in-Ok.ensures.files t.0 t.1) c.walk.ensures.hands over)
+      c.scan_listed.ensures.over,
+)
 
-pub returns-clause-hands : goal.returns-clause-hands
-returns-clause-hands g c =
+pub returns-in-Ok-clause-hands : goal.returns-in-Ok-clause-hands
+returns-in-Ok-clause-hands g c =
+    walks_first
+    (λ hand later. HandsOn g.T.Tree.told g.W.Truth.version (g.T.Tree.shows hand) (g.T.Tree.shows later) ⊥
+    (IsTrue (is_hand_fault c.scan_listed.result.2)))
+    (λ hand later. HandsOn g.T.Tree.told g.W.Truth.version (g.T.Tree.shows hand) (g.T.Tree.shows later)
+    (0 < length c.args.roots.now) (IsTrue (is_hand_fault c.scan_listed.result.2)))
+    (λ hand later. HandsOn g.T.Tree.told g.W.Truth.version (g.T.Tree.shows hand) (g.T.Tree.shows later) ⊥ ⊥)
+    c.args.hands.items c.scan_listed.result.1.items c.index_mut.result.now c.walk.new.hand
+    (subst (λ n. 0 < n) c.args.hands.ok.0 c.requires.hand) c.index_mut.ensures.value
+    (λ later on. hands_then c.walk.ensures.hands on (λ asked. inl asked) (λ f. f))
+    c.scan_listed.ensures.hands
+
+pub returns-in-Ok-clause-loads : goal.returns-in-Ok-clause-loads
+returns-in-Ok-clause-loads g c =
+    loads_past_first g.T.Tree.shows c.args.hands.items c.scan_listed.result.1.items c.walk.new.hand c.scan_listed.result.2
+    c.scan_listed.ensures.loads
+
+pub returns-in-Err-clause-pass : goal.returns-in-Err-clause-pass
+returns-in-Err-clause-pass g c = (
+  [],
+  first_goes
+      (λ hand later. EndsPass (rules g.W.Truth.version g.W.Truth.true_row g.W.Truth.told) g.T.Tree.told g.K.Keeper.told
+      g.K.Keeper.shows c.args.hands.len c.args.roots.now [] (g.T.Tree.shows hand) (g.T.Tree.shows later) c.args.state c.args.state
+      (Unwalked c.in-Err.fault))
+      (λ hand later. Helps g.T.Tree.told g.W.Truth.version [] (row_names c.args.state.rows) (g.T.Tree.shows hand)
+      (g.T.Tree.shows later))
+      c.args.hands.items c.index_mut.result.now c.walk.new.hand
+      (subst (λ n. 0 < n) c.args.hands.ok.0 c.requires.hand) c.index_mut.ensures.value
+      (record { walks = c.in-Err.ensures.walk; fits = λ t. c.in-Err.ensures.refused t.0 t.1; same = refl })
+      (helps_none g.T.Tree.shows g.T.Tree.told g.W.Truth.version [] (row_names c.args.state.rows)),
+)
+
+pub returns-in-Err-clause-hands : goal.returns-in-Err-clause-hands
+returns-in-Err-clause-hands g c =
     first_goes
     (λ hand later. HandsOn g.T.Tree.told g.W.Truth.version (g.T.Tree.shows hand) (g.T.Tree.shows later)
-    (0 < length c.args.roots.now) (IsTrue (is_hand_fault c.run_owned-end.result)))
+    (0 < length c.args.roots.now) (IsTrue (is_hand_fault (Unwalked c.in-Err.fault))))
     (λ hand later. HandsOn g.T.Tree.told g.W.Truth.version (g.T.Tree.shows hand) (g.T.Tree.shows later) ⊥ ⊥)
-    c.args.hands.items c.index_mut.result.now c.run_owned-end.new.hand
+    c.args.hands.items c.index_mut.result.now c.walk.new.hand
     (subst (λ n. 0 < n) c.args.hands.ok.0 c.requires.hand) c.index_mut.ensures.value
-    c.run_owned-end.ensures.hand (λ other. hands_none (λ never. never))
+    (hands_walked c.walk.result c.in-Err.fault c.in-Err.is c.walk.ensures.hands) (λ other. hands_none (λ never. never))
+
+pub returns-in-Ok-clause-idle : goal.returns-in-Ok-clause-idle
+returns-in-Ok-clause-idle g c = λ unwalked.
+    absurd (goes_never (λ hand later. EndsOver {K = g.row.K.Denot} (rules g.W.Truth.version g.W.Truth.true_row g.W.Truth.told) g.T.Tree.told
+    g.K.Keeper.told g.K.Keeper.shows g.T.Tree.shows c.args.hands.len c.in-Ok.field-0.listing c.args.roots.now hand later c.args.state
+    c.scan_listed.result.0 c.scan_listed.result.2)
+    (λ hand later. Helps g.T.Tree.told g.W.Truth.version c.in-Ok.field-0.listing (row_names c.args.state.rows) (g.T.Tree.shows hand)
+    (g.T.Tree.shows later))
+    (slice_set c.args.hands.items 0 c.walk.new.hand) c.scan_listed.result.1.items
+    (λ hand later over. over_walked {K = g.row.K.Denot} (rules g.W.Truth.version g.W.Truth.true_row g.W.Truth.told) g.T.Tree.told
+    g.K.Keeper.told g.K.Keeper.shows g.T.Tree.shows c.args.hands.len c.in-Ok.field-0.listing c.args.roots.now hand later c.args.state
+    c.scan_listed.result.0 c.scan_listed.result.2 over unwalked) c.scan_listed.ensures.over)
+
+pub returns-in-Err-clause-idle : goal.returns-in-Err-clause-idle
+returns-in-Err-clause-idle g c = λ unwalked. idle_unwalked c.args.hands.items c.walk.new.hand

@@ -8,16 +8,16 @@ end_of-requires-clause-handed g c = λ κs within. handed_out c.requires.fresh c
 
 pub returns-in-Empty-clause-ends : goal.returns-in-Empty-clause-ends
 returns-in-Empty-clause-ends g c =
-    begun_done (rules g.W.Truth.version g.W.Truth.true_row g.W.Truth.told) g.K.Keeper.told c.end_of.result c.requires.planned
+    begun_done (rules g.W.Truth.version g.W.Truth.true_row g.W.Truth.told) g.K.Keeper.told c.args.plan.now c.end_of.result
     c.in-Empty.ensures.settles c.in-Empty.ensures.ends.sound c.end_of.ensures
 
 pub returns-in-Empty-clause-hand : goal.returns-in-Empty-clause-hand
 returns-in-Empty-clause-hand g c =
     hands_so c.in-Empty.ensures.settles.does.hand
     (begun_fault {K = g.row.K.Denot} (rules g.W.Truth.version g.W.Truth.true_row g.W.Truth.told) g.T.Tree.told g.K.Keeper.told
-    g.K.Keeper.shows (g.T.Tree.shows c.args.hand.now) (g.T.Tree.shows c.settle_pass.new.hand) c.args.state.now
+    g.K.Keeper.shows c.args.plan.now (g.T.Tree.shows c.args.hand.now) (g.T.Tree.shows c.settle_pass.new.hand) c.args.state.now
     c.settle_pass.new.state c.end_of.result c.requires.fresh
-    (begun_done (rules g.W.Truth.version g.W.Truth.true_row g.W.Truth.told) g.K.Keeper.told c.end_of.result c.requires.planned
+    (begun_done (rules g.W.Truth.version g.W.Truth.true_row g.W.Truth.told) g.K.Keeper.told c.args.plan.now c.end_of.result
     c.in-Empty.ensures.settles c.in-Empty.ensures.ends.sound c.end_of.ensures))
 
 pub returns-in-Empty-clause-keeper : goal.returns-in-Empty-clause-keeper

@@ -5,7 +5,7 @@ use Rattle.dbgd_run.specs.Scene.{setting}
 use Rattle.dbgd_run.specs.Section.{SaysSection}
 use Rattle.dbgd_run.specs.Sources.{SaysSources}
 use Rattle.dbgd_run.proofs.HandLemmas.{runs_file}
-use Rattle.dbgd_run.proofs.outside.run_line.Goals as goal
+use Rattle.dbgd_run.proofs.outside.run_alone.Goals as goal
 
 pub returns-in-Ident-clause-law : goal.returns-in-Ident-clause-law
 returns-in-Ident-clause-law g c =

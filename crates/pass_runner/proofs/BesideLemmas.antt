@@ -1,0 +1,171 @@
+-- A pass with which other hands help: what they leave of the index, and how it ends.
+use Rattle.std.proofs.Common.{◌≡◌, ℕ, ◌<◌, inl, inr, Bool, true, false, List, [], Option, refl, sym, ◌∙◌, ap, subst, arith, IsTrue}
+use Rattle.std.specs.List.{filter}
+use Rattle.std.proofs.lemmas.Bool.{and_from, true≢false}
+use mathlib.Core.List.{IsPrefix}
+use Rattle.row_types.specs.Name.{NameFacts}
+use Rattle.row_types.specs.Rules.{Rules}
+use Rattle.index_keeper.specs.Keeper.{ShownKeeper}
+use Rattle.index_lock.proofs.Prefixes.{prefix_self}
+use Rattle.index_rows.specs.Rows.{row_names}
+use Rattle.index_state.specs.Plan.{plan_of}
+use Rattle.index_state.specs.Spare.{after_spare}
+use Rattle.index_state.specs.Spared.{AreSpared}
+use Rattle.index_state.specs.State.{Origin, StateFacts, pass_of}
+use Rattle.index_state.specs.Step.{BeginsPass, after_begin}
+use Rattle.index_state.specs.declared.answer.Plan.{Plan}
+use Rattle.index_state.proofs.Members.{in_filter}
+use Rattle.scan_queue.specs.Names.{is_in}
+use Rattle.tree_trait.specs.Shown.{ShownTree}
+use Rattle.pass_runner.specs.Beside.{EndsAgain, IsWeighed, StaysOut, is_whole}
+use Rattle.pass_runner.specs.Owned.{IsHelped}
+use Rattle.pass_runner.specs.Passes.{EndsBegun, EndsFound, EndsOver, IsLeft}
+use Rattle.pass_runner.specs.declared.pass_end.PassEnd.{PassEnd}
+use Rattle.pass_runner.specs.declared.pass_end.PassEnd.TheVariants.{Whole, Missed, Walk, Broken}
+use Rattle.pass_runner.specs.declared.pass_end.PassEnd.TheVariants.{KeeperFault, LogFull, OutOfMemory}
+
+-- an index over which a pass was begun, whose listed rows' names are skipped from now on
+abbrev pub shared_from : {K : Type 0} → List NameFacts → List (List ℕ) → StateFacts K → StateFacts K
+shared_from listing roots old = after_spare (after_begin listing roots old)
+
+module _ {K : Type 0} (count : ℕ) (some : 1 < count) (listing : List NameFacts) (roots : List (List ℕ)) (old : StateFacts K) where
+  -- what is found behind the lock
+  pub helped_found : (found : StateFacts K) {at : Option ℕ} {long : ℕ} → IsPrefix (shared_from listing roots old).log found.log
+      → found.origin ≡ (shared_from listing roots old).origin
+      → AreSpared at long found.origin.spared (pass_of found.pass).listing (row_names found.rows)
+      → IsHelped count listing old found
+  helped_found found log same spared = record {
+    log = log;
+    stays = λ name listed there.
+        spared.stand name
+        (ap (λ (o : Origin). is_in o.spared name) same ∙ in_filter (is_in (row_names old.rows)) name listing
+        ∙ and_from (is_in listing name) (is_in (row_names old.rows) name) listed there);
+    origin = ap (λ (o : Origin). record o { spared = [] }) same;
+    alone = λ one. absurd (omega (arith, one, some));
+  }
+
+  -- where nobody helped
+  pub helped_none : IsHelped count listing old (shared_from listing roots old)
+  helped_none = record {
+    log = prefix_self old.log;
+    stays = λ name listed there. there;
+    origin = refl;
+    alone = λ one. absurd (omega (arith, one, some));
+  }
+
+  module _ {T : Type 0} (world : Rules) (told tells : Bool) (shows : K → ShownKeeper) (sees : T → ShownTree)
+      (before after : T) (found new : StateFacts K) (helped : IsHelped count listing old found) where
+    at_found : (e : PassEnd)
+        → EndsBegun world told tells shows (plan_of listing (row_names old.rows)) (sees before) (sees after)
+        (after_begin listing roots found) new e
+        → EndsFound world told tells shows count listing roots (sees before) (sees after) old new e
+    at_found e h = record { found = found; helped = helped; begun = h }
+
+    left_at : (Why Ends : Type 0) → (Why → Ends) → StaysOut before after found new Why
+        → IsLeft count listing before after old new Ends
+    left_at Why Ends so h = record {
+      hand = h.hand;
+      helped = subst (λ (s : StateFacts K). IsHelped count listing old s) (sym h.state) helped;
+      ends = so h.why;
+    }
+
+    -- the end of the second pass is that of the whole
+    pub over_again : (e : PassEnd)
+        → EndsAgain world told tells shows sees (plan_of listing (row_names old.rows)) listing roots before after found new e
+        → EndsOver world told tells shows sees count listing roots before after old new e
+    over_again (Whole summary) h = at_found (Whole summary) h
+    over_again (Missed miss) h = at_found (Missed miss) h
+    over_again LogFull h = at_found LogFull h
+    over_again KeeperFault (inl h) = inl (at_found KeeperFault h)
+    over_again KeeperFault (inr h) =
+        inr (left_at (found.broken ≡ true) (new.broken ≡ true) (λ b. ap (λ (s : StateFacts K). s.broken) h.state ∙ b) h)
+    over_again OutOfMemory (inl h) = inr (inl (at_found OutOfMemory h))
+    over_again OutOfMemory (inr h) =
+        inr (inr (left_at (found.broken ≡ false) (new.broken ≡ false) (λ b. ap (λ (s : StateFacts K). s.broken) h.state ∙ b) h))
+    over_again (Walk fault) h = absurd h
+    over_again Broken h = absurd h
+
+-- the pass that was weighed
+pub over_weighed : {K T : Type 0} (world : Rules) (told tells : Bool) (shows : K → ShownKeeper) (sees : T → ShownTree)
+    (count : ℕ) (listing : List NameFacts) (roots : List (List ℕ)) (before after : T) (old new : StateFacts K) (asked : ℕ) (many : Bool)
+    (end final : PassEnd) → IsWeighed end asked many final
+    → EndsOver world told tells shows sees count listing roots before after old new end
+    → EndsOver world told tells shows sees count listing roots before after old new final
+over_weighed {K} {T} world told tells shows sees count listing roots before after old new asked many end final weighed h = by final end weighed h
+  where
+    Over : PassEnd → Type 0
+    Over e = EndsOver world told tells shows sees count listing roots before after old new e
+
+    refused : (e : PassEnd) → IsTrue (is_whole e) → Over e → Over OutOfMemory
+    refused (Whole summary) h o = inr (inl (record {
+      found = o.found;
+      helped = o.helped;
+      begun = record { settles = o.begun.settles; ends = o.begun.ends.sound };
+    }))
+    refused (Missed miss) h o = absurd (true≢false (sym h))
+    refused (Walk fault) h o = absurd (true≢false (sym h))
+    refused Broken h o = absurd (true≢false (sym h))
+    refused KeeperFault h o = absurd (true≢false (sym h))
+    refused LogFull h o = absurd (true≢false (sym h))
+    refused OutOfMemory h o = absurd (true≢false (sym h))
+
+    by : (f e : PassEnd) → IsWeighed e asked many f → Over e → Over f
+    by OutOfMemory e (inl same) o = subst Over same o
+    by OutOfMemory e (inr whole) o = refused e whole o
+    by (Whole summary) e w o = subst Over w.0 o
+    by (Missed miss) e w o = subst Over w o
+    by (Walk fault) e w o = subst Over w o
+    by Broken e w o = subst Over w o
+    by KeeperFault e w o = subst Over w o
+    by LogFull e w o = subst Over w o
+
+-- a pass that was begun again and ended by a fault of the keeper left a broken index
+pub again_broken : {K T : Type 0} (world : Rules) (told tells : Bool) (shows : K → ShownKeeper) (sees : T → ShownTree) (plan : Plan)
+    (listing : List NameFacts) (roots : List (List ℕ)) (before after : T) (old new : StateFacts K) (end : PassEnd)
+    → EndsAgain world told tells shows sees plan listing roots before after old new end → end ≡ KeeperFault → new.broken ≡ true
+again_broken {K} world told tells shows sees plan listing roots before after old new KeeperFault (inl h) is = h.ends
+again_broken {K} world told tells shows sees plan listing roots before after old new KeeperFault (inr h) is =
+    ap (λ (s : StateFacts K). s.broken) h.state ∙ h.why
+again_broken world told tells shows sees plan listing roots before after old new (Whole summary) h is = absurd (cc)
+again_broken world told tells shows sees plan listing roots before after old new (Missed miss) h is = absurd (cc)
+again_broken world told tells shows sees plan listing roots before after old new LogFull h is = absurd (cc)
+again_broken world told tells shows sees plan listing roots before after old new OutOfMemory h is = absurd (cc)
+again_broken world told tells shows sees plan listing roots before after old new (Walk fault) h is = absurd h
+again_broken world told tells shows sees plan listing roots before after old new Broken h is = absurd h
+
+module _ {K : Type 0} (count : ℕ) (some : 1 < count) {listing : List NameFacts} {roots : List (List ℕ)} {plan : Plan}
+    {old mid shared : StateFacts K} (begins : BeginsPass listing roots plan old mid) (spared : shared ≡ after_spare mid) where
+  -- the index that goes behind the lock
+  is_shared : shared ≡ shared_from listing roots old
+  is_shared = spared ∙ ap (λ (s : StateFacts K). after_spare s) begins.after
+
+  -- the names that it skips
+  pub spared_names : shared.origin.spared ≡ filter (is_in (row_names old.rows)) listing
+  spared_names = ap (λ (s : StateFacts K). s.origin.spared) is_shared
+
+  -- memory was refused for the lock
+  pub not_shared : {T : Type 0} (hand : T) (new : StateFacts K) → new ≡ shared
+      → IsLeft count listing hand hand old new (new.broken ≡ false)
+  not_shared hand new same = record {
+    hand = refl;
+    helped =
+        subst (λ (s : StateFacts K). IsHelped count listing old s) (sym (same ∙ is_shared)) (helped_none count some listing roots old);
+    ends = ap (λ (s : StateFacts K). s.broken) (same ∙ is_shared) ∙ begins.sound;
+  }
+
+  -- the index came back from behind the lock, and the pass was begun again
+  pub over_shared : {T : Type 0} (world : Rules) (told tells : Bool) (shows : K → ShownKeeper) (sees : T → ShownTree)
+      (before after : T) (found new : StateFacts K) {at : Option ℕ} {long : ℕ} → IsPrefix shared.log found.log
+      → found.origin ≡ shared.origin
+      → AreSpared at long found.origin.spared (pass_of found.pass).listing (row_names found.rows)
+      → {again : List NameFacts} {roots_again : List (List ℕ)} → again ≡ listing → roots_again ≡ roots → (end : PassEnd)
+      → EndsAgain world told tells shows sees plan again roots_again before after found new end
+      → EndsOver world told tells shows sees count listing roots before after old new end
+  over_shared world told tells shows sees before after found new log origin skips {again} {roots_again} same_names same_roots end ends =
+      over_again count some listing roots old world told tells shows sees before after found new
+      (helped_found count some listing roots old found
+      (subst (λ (s : StateFacts K). IsPrefix s.log found.log) is_shared log)
+      (origin ∙ ap (λ (s : StateFacts K). s.origin) is_shared) skips) end
+      (subst (λ (p : Plan). EndsAgain world told tells shows sees p listing roots before after found new end) begins.planned
+      (subst (λ (rs : List (List ℕ)). EndsAgain world told tells shows sees plan listing rs before after found new end) same_roots
+      (subst (λ (ns : List NameFacts). EndsAgain world told tells shows sees plan ns roots_again before after found new end) same_names ends)))
