@@ -66,7 +66,7 @@ done
 mkdir "$work/one"
 printf 'text\n' >"$work/one/text"
 ends 0 $'scan: 1 files, 1 added, 0 replaced, 0 dropped, 0 kept, 0 executables, 0 debuginfo\n' '' \
-  "$program" scan -c 2 "$work/one/" -Fdm "$work/.//one"
+  "$program" scan -c 2 "$work/one/" "-Fd$work/one.db" "$work/.//one"
 
 # An output that takes nothing; where the standard error takes nothing either, the status says it all.
 if [ -c /dev/full ]; then

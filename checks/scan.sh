@@ -18,14 +18,17 @@ compare() { # DIR
       *' debuginfo') debuginfo=$((debuginfo + 1)) ;;
     esac
   done <"$work/files"
-  rm -f "$work"/store.db*
-  "$program" scan -d "$work/store.db" "$1" >"$work/out" 2>"$work/err"
-  local status=$?
   scanned=$((scanned + files))
   printf 'scan: %d files, %d added, 0 replaced, 0 dropped, 0 kept, %d executables, %d debuginfo\n' \
     "$files" "$files" "$executables" "$debuginfo" >"$work/wanted"
-  [ "$status" = 0 ] && [ ! -s "$work/err" ] && cmp -s "$work/out" "$work/wanted" ||
-    differs "$1: wanted $(cat "$work/wanted"), got $(cat "$work/out" "$work/err"), status $status"
+  local workers status
+  for workers in 1 4 64; do
+    rm -f "$work"/store.db*
+    "$program" scan -d "$work/store.db" -c "$workers" "$1" >"$work/out" 2>"$work/err"
+    status=$?
+    [ "$status" = 0 ] && [ ! -s "$work/err" ] && cmp -s "$work/out" "$work/wanted" ||
+      differs "$1 by $workers: wanted $(cat "$work/wanted"), got $(cat "$work/out" "$work/err"), status $status"
+  done
 }
 
 # A tree of our own: files in folders, a link, a FIFO, an empty folder.

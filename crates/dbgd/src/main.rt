@@ -3,6 +3,7 @@
 
 mod file_load;
 mod folder_read;
+mod hands;
 mod look;
 mod read_fault;
 mod real_sink;
@@ -11,16 +12,20 @@ mod real_tree;
 mod tests;
 mod tries;
 
-use dbgd_run::{Outside, Status, run, write_all};
-use index_keeper::MemStore;
+use dbgd_run::{Outside, Status, needs, run, write_all};
+use hands::real_hands;
 use real_sink::{RealSink, Stream};
 use real_tree::RealTree;
 use row_types::OpenWorld;
+use sqlite_keeper::SqliteStore;
 use std::alloc::AllocError;
 use std::env;
 use std::io::ErrorKind;
 use std::marker::PhantomData;
 use std::process::ExitCode;
+use std::sync::Wait;
+use std::thread::Threads;
+use tree_trait::NoGate;
 
 /// The words after the program's name. There are none where one isn't UTF-8, and none are no
 /// command.
@@ -32,25 +37,25 @@ fn words(rt: &HostRuntime) -> Result<Vec<String>, AllocError> {
     }
 }
 
-/// Runs the program over the real objects, and gives its exit status.
-fn run_real(rt: &HostRuntime) -> Result<u8, AllocError> {
+/// Runs the program over the real objects, and gives its exit status. Threads are made by the
+/// second handle.
+fn run_real<Rt: Threads + Wait + Sync>(rt: &HostRuntime, threads: &Rt) -> Result<u8, AllocError> {
     let words = words(rt)?;
     let alloc = rt.alloc();
-    let hands = vec![in alloc; RealTree::new(*rt)]?;
-    // The index lasts as long as the program until a store in a file is built.
-    let store = MemStore::new(alloc, Vec::new(alloc), None, Vec::new(alloc));
+    let hands = real_hands(rt, needs(alloc, words.as_slice())?.hands)?;
     let mut outside = Outside {
         hands,
-        store,
+        store: SqliteStore::new(*rt),
         out: RealSink::new(Stream::Out(rt.stdout())),
         err: RealSink::new(Stream::Err(rt.stderr())),
+        gate: NoGate,
         of: PhantomData::<OpenWorld>,
     };
-    Ok(run(alloc, words.as_slice(), &mut outside))
+    Ok(run(threads, alloc, words.as_slice(), &mut outside))
 }
 
 fn main(rt: HostRuntime) -> ExitCode {
-    match run_real(&rt) {
+    match run_real(&rt, &rt) {
         Ok(status) => ExitCode::from(status),
         Err(_) => {
             let _ = write_all(
