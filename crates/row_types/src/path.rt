@@ -112,7 +112,7 @@ impl PartialEq for CanonPath {
     ghost laws = { partial_equiv_from_equiv nat_list_eq_equiv };
 
     fn eq(&self, other: &Self) -> bool {
-        self.text.as_bytes() == other.text.as_bytes()
+        self.text.as_str() == other.text.as_str()
     }
 }
 
@@ -132,7 +132,7 @@ impl PartialOrd for CanonPath {
     ghost laws = { texts_po };
 
     fn partial_cmp(&self, other: &Self) -> Option<Ordering> {
-        Some(self.text.as_bytes().cmp(other.text.as_bytes()))
+        Some(self.text.as_str().cmp(other.text.as_str()))
     }
 }
 
@@ -151,6 +151,6 @@ impl Ord for CanonPath {
     ghost matches_eq = { texts_ties };
 
     fn cmp(&self, other: &Self) -> Ordering {
-        self.text.as_bytes().cmp(other.text.as_bytes())
+        self.text.as_str().cmp(other.text.as_str())
     }
 }

@@ -17,8 +17,8 @@ use std::marker::Model;
 /// How many texts are kept at a time.
 const SLOTS: usize = 1024;
 
-/// How many bytes at a text's end say where it is kept.
-const TELLING: usize = 16;
+/// An odd number without a pattern: a product's high bits depend on each bit of the other factor.
+const SPREAD: u64 = 0x9e37_79b9_7f4a_7c15;
 
 /// A set of paths. Contracts see it as the set. The line tables of a program list the same headers
 /// again and again: a text that named its path lately is neither joined nor sought in the set.
@@ -138,14 +138,22 @@ fn empty_texts(alloc: Global) -> Result<Vec<Vec<u8>>, AllocError>
 fn slot_of(folder: Option<&[u8]>, text: &[u8]) -> usize
     ensures { result < SLOTS }
 {
-    let mut slot = match folder {
-        Some(folder) => folder.len(),
+    let above = match folder {
+        Some(folder) => folder.len() as u64,
         None => 0,
     };
-    for byte in &text[text.len().saturating_sub(TELLING)..] {
-        slot = slot.wrapping_mul(31).wrapping_add(usize::from(*byte));
+    let spread = (last_bytes(text) ^ above).wrapping_mul(SPREAD);
+    (spread >> 48) as usize % SLOTS
+}
+
+/// The last eight bytes of a text as one number, and all of a shorter text.
+fn last_bytes(text: &[u8]) -> u64 {
+    match text {
+        [.., a, b, c, d, e, f, g, h] => u64::from_le_bytes([*a, *b, *c, *d, *e, *f, *g, *h]),
+        _ => text
+            .iter()
+            .fold(0, |number: u64, byte| (number << 8) | u64::from(*byte)),
     }
-    slot % SLOTS
 }
 
 /// Whether a known text is this one behind the folder.
