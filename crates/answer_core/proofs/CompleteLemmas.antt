@@ -10,7 +10,6 @@ use Rattle.std.proofs.lemmas.Option.{none-some, same_Some}
 use Rattle.std.proofs.lemmas.Slice.Eq.{bytes_eq-Decides}
 use Rattle.file_formats.specs.Identity.{Identity}
 use Rattle.file_formats.specs.declared.fault.Why.TheVariants.{TooLarge}
-use Rattle.row_types.specs.Name.{stamp_at}
 use Rattle.row_types.specs.Reading.{IsTrueRow, IsVersionRead, ReadsBytes}
 use Rattle.row_types.specs.Row.{RowFacts}
 use Rattle.row_types.specs.Stamp.{StampFacts}
@@ -25,22 +24,10 @@ use Rattle.tree_trait.specs.Heard.{Heard, has_failed, load}
 use Rattle.tree_trait.specs.Load.{FitsLoad, IsAskedFile, LoadFacts, TellsLoad, loaded, too_large, gone, failed, no_memory}
 use Rattle.answer_check.specs.Certified.{IsCertified, is_of_class}
 use Rattle.webapi_routes.specs.declared.route.Route.{Route}
+use Rattle.answer_core.specs.Complete.{SomeWouldPass, WouldPass}
 use Rattle.answer_core.specs.Loads.{DoesNotPass, Hand, NonePasses}
-use Rattle.answer_core.specs.Passing.{GivesNothing, Passes}
+use Rattle.answer_core.specs.Passing.{GivesNothing}
 use Rattle.answer_core.specs.declared.candidate.Candidate.{Candidate}
-
--- the candidate is there at this stamp, within the limit, and the file of its path and stamp passes
-pub record WouldPass (hand : Hand) (route : Route) (one : Candidate) : Type 0 where
-  pub stamp : StampFacts
-  pub there : stamp_at hand.start.present one.path ≡ Some stamp
-  pub small : stamp.size ≤ FILE_LIMIT
-  pub passes : (found : FoundFacts) → IsAskedFile hand.version one.path FILE_LIMIT found → found.stamp ≡ stamp
-      → Passes route one.class found.bytes
-
--- some candidate is there and would pass
-abbrev pub SomeWouldPass : Hand → Route → List Candidate → Type 0
-SomeWouldPass hand route [] = ⊥
-SomeWouldPass hand route (one ∷ all) = WouldPass hand route one ⊎ SomeWouldPass hand route all
 
 -- the load of a candidate that would pass, and gave nothing, failed
 load_failed : (hand : Hand) (route : Route) (one : Candidate) → WouldPass hand route one → (answer : LoadFacts)

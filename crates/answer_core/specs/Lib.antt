@@ -11,6 +11,7 @@ pub use Rattle.tree_trait.specs.Load
 pub use Rattle.tree_trait.specs.Shown
 pub use Rattle.answer_check.specs.Certified
 pub mod Candidates
+pub mod Complete
 pub mod Loads
 pub mod Local
 pub mod Passing

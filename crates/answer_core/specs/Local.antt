@@ -1,12 +1,10 @@
 -- The local answer (this project's rule): by the rows of the index at one moment, and by what the loads of its candidates
 -- gave.
 use Rattle.std.specs.Prelude.{◌≡◌, ℕ, false, true, List, length}
-use mathlib.Core.List.{IsPrefix}
 use Rattle.row_types.specs.Row.{RowFacts}
 use Rattle.index_rows.specs.Log.{replay}
 use Rattle.index_rows.specs.Rows.{row_names}
 use Rattle.index_rows.specs.declared.change.Change.{Change}
-use Rattle.index_lock.specs.Tokens.{SeatFacts}
 use Rattle.index_state.specs.Invariant.{AreTrueRows}
 use Rattle.tree_trait.specs.Heard.{Heard}
 use Rattle.tree_trait.specs.Shown.{ShownTree}
@@ -18,12 +16,6 @@ use Rattle.answer_core.specs.declared.local.Local.{Local}
 use Rattle.answer_core.specs.declared.local.Local.TheVariants as local
 use Rattle.answer_core.specs.declared.passed.Passed.{Passed}
 use Rattle.answer_core.specs.declared.passed.Passed.TheVariants as passed
-
--- the token has seen the log go on from where it was; its lock and origin are the same
-pub record IsLater {E O : Type 0} (before after : SeatFacts E O) : Type 0 where
-  pub lock : after.lock ≡ before.lock
-  pub origin : after.origin ≡ before.origin
-  pub log : IsPrefix before.seen after.seen
 
 -- the rows of an index that has this log
 pub record AreRowsAt (true_row : RowFacts → Type 0) (log : List Change) (rows : List RowFacts) : Type 0 where

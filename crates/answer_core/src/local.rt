@@ -1,7 +1,8 @@
 //! The local answer.
 
 ghost use Rattle.std.specs.Prelude.{◌≡◌, ◌<◌, length, slice_index_or};
-ghost use Rattle.answer_core.specs.Local.{Answers, AnswersFrom, IsGiven, IsLater};
+ghost use Rattle.answer_core.specs.Local.{Answers, AnswersFrom, IsGiven};
+ghost use Rattle.index_lock.specs.Tokens.{IsLater};
 ghost use Rattle.answer_core.specs.declared.candidate.Candidate.{Candidate};
 
 use crate::attempts::{Outcome, try_all};

@@ -4,7 +4,8 @@ ghost use Rattle.std.specs.Prelude.{◌≡◌, ◌++◌, length, map, IfOk, OnOk
 ghost use Rattle.answer_core.specs.Candidates.{as_class, candidates, is_in_one, of_class};
 ghost use Rattle.answer_core.specs.Candidates.{source_in};
 ghost use Rattle.row_types.specs.declared.identity.Kind.TheVariants as kind;
-ghost use Rattle.answer_core.specs.Local.{AreCandidatesAt, IsLater};
+ghost use Rattle.answer_core.specs.Local.{AreCandidatesAt};
+ghost use Rattle.index_lock.specs.Tokens.{IsLater};
 
 use crate::candidate::Candidate;
 use index_keeper::Keeper;

@@ -5,7 +5,6 @@ mod EndLemmas
 mod EndedLemmas
 mod JoinLemmas
 mod LastLemmas
-mod LaterLemmas
 mod RowLemmas
 mod SentLemmas
 mod SinceLemmas

@@ -30,6 +30,7 @@ use Rattle.conn_server.specs.declared.reason.Reason.{Reason}
 use Rattle.conn_server.specs.declared.reason.Reason.TheVariants as reason
 use Rattle.conn_server.specs.declared.report.Asked.TheVariants as asked
 use Rattle.conn_server.proofs.CarriesLemmas.{carries}
+use Rattle.conn_server.proofs.CompleteLemmas.{finds_all}
 use Rattle.conn_server.proofs.JoinLemmas.{IsBehind}
 use Rattle.conn_server.proofs.SinceLemmas.{StillTo, rests_before, since}
 
@@ -120,6 +121,8 @@ pub head_is : (true_row : RowFacts → Type 0) (log : List Change) (folders : Li
     (exchange_of (readable (told_facts head)) (print_request h) decided body file (is_last place) d.answers log)
 head_is true_row log folders hand now later place head h decided body file keeps valid tells d shows = record {
   lawful = lawful_of true_row log folders hand now later keeps (told_facts head) (is_last place) decided body file d shows;
+  complete = finds_all (sight_of true_row folders hand log d.answers) decided.asked d.answer decided.reason decided.found
+      decided.generation (rests_before true_row log folders hand now d.answers keeps decided.asked d.answer d.rests) d.earns;
   fronts = record { head = h; valid = valid; says = facts_are head h tells; printed = refl };
 }
 
@@ -146,6 +149,7 @@ refused_is true_row log folders hand place fault why body file earns shows = rec
       spelled = refl;
     };
   };
+  complete = λ told still. tt;
   fronts = refl;
 }
 

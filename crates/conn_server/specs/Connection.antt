@@ -19,6 +19,7 @@ use Rattle.answer_core.specs.Loads.{Hand, Hears}
 use Rattle.conn_server.specs.Asked.{HeadFacts, Request, closes_after, head_facts, readable, refused}
 use Rattle.conn_server.specs.Decided.{sight_of}
 use Rattle.conn_server.specs.Lawful.{IsLawful}
+use Rattle.conn_server.specs.PassedOver.{FindsAll}
 use Rattle.conn_server.specs.Replies.{is_read_fault}
 use Rattle.conn_server.specs.declared.connection.TheConstants.{REQUESTS}
 use Rattle.conn_server.specs.declared.report.ConnEnd.{ConnEnd}
@@ -52,10 +53,11 @@ IsFrontOf (refused fault) front = front ≡ []
 abbrev pub is_last : ℕ → Bool
 is_last place = place + 1 == REQUESTS
 
--- the exchange of this place is lawful, and its head is that of its request
+-- the exchange of this place is lawful, passes over no candidate, and its head is that of its request
 pub record IsExchange
     (true_row : RowFacts → Type 0) (folders : List (List ℕ)) (hand : Hand) (place : ℕ) (x : Exchange) : Type 0 where
   pub lawful : IsLawful (sight_of true_row folders hand x.log x.answers) x.request (is_last place) x.served x.bytes
+  pub complete : FindsAll (sight_of true_row folders hand x.log x.answers) x.served.asked x.served.reason
   pub fronts : IsFrontOf x.request x.front
 
 -- the exchanges from this place on are such

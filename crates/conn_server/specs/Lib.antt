@@ -5,12 +5,14 @@ pub use Rattle.http_wire.specs.Reply
 pub use Rattle.http_wire.specs.Sink
 pub use Rattle.http_wire.specs.Source
 pub use Rattle.http_wire.specs.Stream
+pub use Rattle.answer_core.specs.Complete
 pub use Rattle.answer_core.specs.Local
 pub use Rattle.webapi_routes.specs.Targets
 pub mod Asked
 pub mod Connection
 pub mod Decided
 pub mod Lawful
+pub mod PassedOver
 pub mod Replies
 pub mod Sent
 pub mod Turns

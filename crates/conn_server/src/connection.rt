@@ -1,7 +1,7 @@
 //! A connection: its requests, one after the other.
 
 ghost use Rattle.std.specs.Prelude.{◌≡◌, ◌≤◌, [], false, vec_capacity};
-ghost use Rattle.answer_core.specs.Local.{IsLater};
+ghost use Rattle.index_lock.specs.Tokens.{IsLater};
 ghost use Rattle.conn_server.specs.Connection.{Serves};
 
 use crate::report::{ConnEnd, ConnReport, Served};

@@ -1,7 +1,7 @@
 //! What a request is answered.
 
 ghost use Rattle.std.specs.Prelude.{◌≡◌, Some, None};
-ghost use Rattle.answer_core.specs.Local.{IsLater};
+ghost use Rattle.index_lock.specs.Tokens.{IsLater};
 ghost use Rattle.conn_server.specs.Asked.{told_facts};
 ghost use Rattle.conn_server.specs.Decided.{Decides, DecidesRoute, by_local, plain};
 ghost use Rattle.conn_server.specs.declared.reason.Reason.TheVariants as reason;

@@ -1,7 +1,7 @@
 //! One request of a connection.
 
 ghost use Rattle.std.specs.Prelude.{◌≡◌};
-ghost use Rattle.answer_core.specs.Local.{IsLater};
+ghost use Rattle.index_lock.specs.Tokens.{IsLater};
 ghost use Rattle.conn_server.specs.Asked.{readable, told_facts};
 ghost use Rattle.conn_server.specs.Sent.{CanSend};
 ghost use Rattle.conn_server.specs.Turns.{RefusesHead, Replies, Takes, TakesNext, end_of};

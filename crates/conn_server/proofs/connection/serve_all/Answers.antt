@@ -7,7 +7,7 @@ use Rattle.conn_server.specs.declared.report.Served.{Served}
 use Rattle.conn_server.proofs.EndLemmas.{goes_few}
 use Rattle.conn_server.proofs.EndedLemmas.{ends_by}
 use Rattle.conn_server.proofs.LastLemmas.{ends_last}
-use Rattle.conn_server.proofs.LaterLemmas.{later_self, later_trans}
+use Rattle.index_lock.proofs.Later.{later_self, later_trans}
 use Rattle.conn_server.proofs.TurnLemmas.{IsOpen, goes_on, open_first, same_length, taken_as}
 use Rattle.conn_server.proofs.connection.serve_all.Goals as goal
 

@@ -1,6 +1,6 @@
 -- The requests so far were answered by replies behind which the connection goes on.
 use Rattle.std.proofs.Common.{◌≡◌, ◌-◌, ◌<◌, ◌≤◌, length, vec_capacity}
-use Rattle.answer_core.specs.Local.{IsLater}
+use Rattle.index_lock.specs.Tokens.{IsLater}
 use Rattle.conn_server.specs.declared.connection.TheConstants.{REQUESTS}
 use Rattle.conn_server.proofs.TurnLemmas.{IsOpen}
 use Rattle.conn_server.proofs.connection.serve_all.Given as goal
