@@ -3,7 +3,7 @@ use Rattle.std.proofs.Common.{◌≡◌, ℕ, ◌+◌, ◌≤◌, Bool, not, con
 use Rattle.std.proofs.lemmas.List.Sums.{sum_by-append}
 use mathlib.Core.List.{IsPrefix}
 use Rattle.index_rows.specs.declared.change.Change.{Change}
-use Rattle.groomer.specs.Counts.{drops}
+use Rattle.scan_worker.specs.Counts.{drops}
 
 -- the drops of two logs, one behind the other
 pub drops_append : (xs ys : List Change) → drops (xs ++ ys) ≡ drops xs + drops ys

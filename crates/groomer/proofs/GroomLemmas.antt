@@ -6,7 +6,7 @@ use Rattle.index_rows.specs.declared.change.Change.{Change}
 use Rattle.index_state.specs.State.{Origin}
 use Rattle.tree_trait.specs.Found.{Versions}
 use Rattle.tree_trait.specs.Shown.{ShownTree}
-use Rattle.groomer.specs.Ends.{EndsShow}
+use Rattle.scan_worker.specs.Ends.{EndsShow}
 use Rattle.groomer.specs.Grooms.{Grooms, GroomsOn}
 use Rattle.groomer.specs.Looks.{HandLooks}
 use Rattle.groomer.specs.declared.report.Tally.{Tally}

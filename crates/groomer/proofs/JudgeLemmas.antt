@@ -17,7 +17,7 @@ use Rattle.index_state.specs.State.{StateFacts}
 use Rattle.index_state.specs.Step.{Judges}
 use Rattle.index_state.specs.declared.answer.Judged.{Judged}
 use Rattle.index_state.specs.declared.answer.Judged.TheVariants as judged
-use Rattle.groomer.specs.Counts.{drops}
+use Rattle.scan_worker.specs.Counts.{drops}
 use Rattle.groomer.specs.Judged.{GoesOn, JudgedShows, drop_by, miss_by, miss_of}
 use Rattle.groomer.proofs.CountLemmas.{drops_append, drops_grow}
 

@@ -3,8 +3,8 @@
 ghost use Rattle.std.specs.Prelude.{◌≡◌, ◌+◌, ◌≤◌, List};
 ghost use Rattle.index_lock.specs.Tokens.{IsLater};
 ghost use Rattle.index_rows.specs.declared.change.Change.{Change};
-ghost use Rattle.groomer.specs.Counts.{drops};
-ghost use Rattle.groomer.specs.Ends.{EndsShow};
+ghost use Rattle.scan_worker.specs.Counts.{drops};
+ghost use Rattle.scan_worker.specs.Ends.{EndsShow};
 ghost use Rattle.groomer.specs.Grooms.{Grooms, GroomsOn};
 ghost use Rattle.groomer.specs.Judged.{JudgedShows, miss_of};
 

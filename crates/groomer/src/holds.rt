@@ -2,7 +2,7 @@
 
 ghost use Rattle.std.specs.Prelude.{◌≡◌, ◌+◌, ◌≤◌};
 ghost use Rattle.index_lock.specs.Tokens.{IsLater};
-ghost use Rattle.groomer.specs.Counts.{drops};
+ghost use Rattle.scan_worker.specs.Counts.{drops};
 ghost use Rattle.groomer.specs.Judged.{GoesOn, JudgedShows, drop_by, miss_by, miss_of};
 
 use index_keeper::Keeper;

@@ -7,6 +7,8 @@ mod grooming;
 mod holds;
 mod looking;
 mod report;
+#[cfg(test)]
+mod tests;
 
 pub use grooming::groom;
 pub use looking::{Looked, look};
