@@ -1,4 +1,4 @@
--- What a walk heard stays full, and leads to the same listing, where only loads and looks follow it.
+-- What a walk heard stays full, and leads to the same listing, where no reading of a folder follows it.
 use Rattle.std.proofs.Common.{◌≡◌, ℕ, inl, inr, true, List, [], ◌∷◌, ◌++◌, Option, Some, None, IsSome, refl, sym, ◌∙◌, ap, subst}
 use Rattle.std.specs.List.{All}
 use Rattle.std.specs.Option.{option_or}
@@ -14,20 +14,20 @@ use Rattle.tree_walk.specs.Answers.{entries_of, first_look, first_reading, first
 use Rattle.tree_walk.specs.Walked.{AsksAll, IsCandidate, IsEntry, IsFolder, IsNamed, IsReached, IsWalkListing, IsWalked, root, entry}
 use Rattle.tree_walk.proofs.FirstLemmas.{first_some-append, or_none}
 use Rattle.tree_walk.proofs.ReachLemmas.{candidate_more}
-use Rattle.pass_runner.specs.Settled.{IsWanted}
 
-module _ (listing : List NameFacts) (roots : List (List ℕ)) (names : List NameFacts) where
-  reads_none : (path : List ℕ) (more : List Heard) → All (IsWanted listing roots names) more
+module _ (roots : List (List ℕ)) (Asked : Heard → Type 0)
+    (never : (path : List ℕ) (answer : DirFacts) → Asked (read_dir path answer) → ⊥) where
+  reads_none : (path : List ℕ) (more : List Heard) → All Asked more
       → first_some (reading_of path) more ≡ None
   reads_none path [] wanted = refl
   reads_none path (load asked limit answer ∷ more) wanted =
-      reads_none path more (All-tail (IsWanted listing roots names) (load asked limit answer) more wanted)
+      reads_none path more (All-tail Asked (load asked limit answer) more wanted)
   reads_none path (stat asked answer ∷ more) wanted =
-      reads_none path more (All-tail (IsWanted listing roots names) (stat asked answer) more wanted)
+      reads_none path more (All-tail Asked (stat asked answer) more wanted)
   reads_none path (read_dir asked answer ∷ more) wanted =
-      absurd (All-head (IsWanted listing roots names) (read_dir asked answer) more wanted)
+      absurd (never asked answer (All-head Asked (read_dir asked answer) more wanted))
 
-  module _ (answers more : List Heard) (wanted : All (IsWanted listing roots names) more) where
+  module _ (answers more : List Heard) (wanted : All Asked more) where
     same_reading : (path : List ℕ) → first_reading (answers ++ more) path ≡ first_reading answers path
     same_reading path =
         first_some-append (reading_of path) answers more

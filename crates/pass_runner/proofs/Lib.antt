@@ -14,3 +14,11 @@ pub mod PassWalks
 pub mod Weighed
 pub mod FullAnswers
 pub mod Loads
+pub mod HoldLemmas
+pub mod LeadLemmas
+pub mod LastLemmas
+pub mod OwnMisses
+pub mod PlannedLemmas
+pub mod StillLemmas
+pub mod SharedHands
+pub mod SharedWalks

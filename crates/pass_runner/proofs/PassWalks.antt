@@ -26,7 +26,7 @@ use Rattle.scan_queue.specs.Names.{is_in}
 use Rattle.pass_runner.specs.Helped.{IsSparing}
 use Rattle.pass_runner.specs.Owned.{EndsHelped, EndsPass, HasMissed, HearsPass, Helps, IsHelped, IsWholePass, LeavesIndex, RunsPass, TellsStill}
 use Rattle.pass_runner.specs.Passes.{EndsOver, IsFirstMiss, IsLeft}
-use Rattle.pass_runner.specs.Settled.{IsBacked, Settles}
+use Rattle.pass_runner.specs.Settled.{IsBacked, IsWanted, Settles}
 use Rattle.pass_runner.specs.declared.pass_end.PassEnd.{PassEnd}
 use Rattle.pass_runner.specs.declared.pass_end.PassEnd.TheVariants.{Whole, Missed, Walk, Broken}
 use Rattle.pass_runner.specs.declared.pass_end.PassEnd.TheVariants.{KeeperFault, LogFull, OutOfMemory}
@@ -55,10 +55,12 @@ module _ {K : Type 0} (world : Rules) (hands_given : ℕ) (old found : StateFact
   heard_pass = record {
     heard = heard_both before.heard met.heard after.heard walks.goes.more settles.does.answers walks.goes.heard settles.does.heard;
     whole = walks.goes.ends;
-    full = full_stays walk.listing roots (row_names found.rows) walks.goes.more settles.does.answers settles.does.wanted walks.goes.ends.full;
+    full =
+        full_stays roots (IsWanted walk.listing roots (row_names found.rows)) (λ path answer never. never) walks.goes.more
+        settles.does.answers settles.does.wanted walks.goes.ends.full;
     listing =
-        listing_stays walk.listing roots (row_names found.rows) walks.goes.more settles.does.answers settles.does.wanted walks.goes.ends.full
-        walk.listing walks.goes.ends.listing;
+        listing_stays roots (IsWanted walk.listing roots (row_names found.rows)) (λ path answer never. never) walks.goes.more
+        settles.does.answers settles.does.wanted walks.goes.ends.full walk.listing walks.goes.ends.listing;
     wanted = settles.does.wanted;
     once = settles.once;
     fits = settles.does.fits;

@@ -3,8 +3,10 @@ pub use Rattle.index_state.specs.State
 pub mod Beside
 pub mod Ends
 pub mod Helped
+pub mod Leading
 pub mod Numbers
 pub mod Owned
 pub mod Passes
 pub mod Settled
+pub mod SharedPass
 pub mod Turns

@@ -30,12 +30,12 @@ use tree_trait::{Gate, Reader, Tree};
 /// What a pass with other hands needs of memory before it begins: the roots twice and the listing
 /// again, since a pass is begun twice, and the rooms of the slots.
 #[derive(Drop)]
-struct Needs<W: Truth, K: Keeper<W>, T: Tree<W>> {
-    roots: Vec<CanonPath>,
-    listing_again: Listing,
-    roots_again: Vec<CanonPath>,
-    slots: Vec<Option<Slot<State<W, K>, Helper<T>>>>,
-    back: Vec<Helper<T>>,
+pub(crate) struct Needs<W: Truth, K: Keeper<W>, T: Tree<W>> {
+    pub(crate) roots: Vec<CanonPath>,
+    pub(crate) listing_again: Listing,
+    pub(crate) roots_again: Vec<CanonPath>,
+    pub(crate) slots: Vec<Option<Slot<State<W, K>, Helper<T>>>>,
+    pub(crate) back: Vec<Helper<T>>,
 }
 
 /// Makes a pass over a listing with two hands or more.
@@ -94,7 +94,7 @@ pub(crate) fn scan_beside<
 }
 
 /// What a pass over a listing with so many hands needs of memory.
-fn needs_of<W: Truth, K: Keeper<W>, T: Tree<W>>(
+pub(crate) fn needs_of<W: Truth, K: Keeper<W>, T: Tree<W>>(
     alloc: Global,
     listing: &Listing,
     roots: &[CanonPath],

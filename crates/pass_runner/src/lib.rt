@@ -3,8 +3,12 @@
 #![tactic(auto)]
 
 mod beside;
+mod coordinate;
 mod crew;
 mod helper;
+mod holds;
+mod last_hold;
+mod leading;
 mod look_for;
 mod owned;
 mod parts;
@@ -12,6 +16,7 @@ mod pass_end;
 mod read_new;
 mod settling;
 mod shared;
+mod shared_pass;
 mod summary;
 #[cfg(test)]
 mod tests;
@@ -19,4 +24,5 @@ mod tests;
 pub use owned::scan_state;
 pub use pass_end::PassEnd;
 pub use settling::settle;
+pub use shared_pass::run_pass;
 pub use summary::Summary;

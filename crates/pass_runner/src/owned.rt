@@ -189,7 +189,7 @@ fn end_of<W: Truth, K: Keeper<W>>(alloc: Global, state: &State<W, K>, plan: &Pla
 }
 
 /// A copy of a miss.
-fn copy_miss(alloc: Global, miss: &Miss) -> Result<Miss, AllocError>
+pub(crate) fn copy_miss(alloc: Global, miss: &Miss) -> Result<Miss, AllocError>
     ensures { IfOk result (λ copy. copy ≡ miss.now) }
 {
     Ok(Miss {

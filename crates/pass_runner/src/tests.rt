@@ -6,5 +6,7 @@ mod events;
 mod helpers;
 mod missed;
 mod passes;
+mod shared;
+mod tokens;
 mod trees;
 mod whole;

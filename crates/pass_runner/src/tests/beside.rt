@@ -13,26 +13,26 @@ use std::thread::Threads;
 use tree_trait::{Hold, MemTree, NoGate, TurnGate};
 
 /// The folders of the reference tree.
-static FOLDERS: [&str; 3] = ["/srv/bin", "/srv/debug", "/w"];
+pub static FOLDERS: [&str; 3] = ["/srv/bin", "/srv/debug", "/w"];
 
 /// What a hand has, and the calls of it that fail.
-struct Holds {
+pub struct Holds {
     files: Files,
     later: Option<(u64, Files)>,
     bad_calls: &'static [u64],
 }
 
 /// A pass, with its hands in order.
-struct Pass {
-    shows: &'static str,
-    hands: &'static [Holds],
-    roots: &'static [&'static str],
-    end: &'static str,
-    rows: &'static str,
+pub struct Pass {
+    pub shows: &'static str,
+    pub hands: &'static [Holds],
+    pub roots: &'static [&'static str],
+    pub end: &'static str,
+    pub rows: &'static str,
 }
 
 /// The hands.
-fn hands_of(alloc: Global, hands: &[Holds]) -> Result<Vec<MemTree<SampleWorld>>, AllocError> {
+pub fn hands_of(alloc: Global, hands: &[Holds]) -> Result<Vec<MemTree<SampleWorld>>, AllocError> {
     let mut trees = Vec::new(alloc);
     for hand in hands {
         trees.push(tree_of(alloc, hand.files, hand.later, hand.bad_calls)?)?;
@@ -41,7 +41,7 @@ fn hands_of(alloc: Global, hands: &[Holds]) -> Result<Vec<MemTree<SampleWorld>>,
 }
 
 /// Passes over one index, one after the other.
-static MOVED: [Pass; 5] = [
+pub static MOVED: [Pass; 5] = [
     Pass {
         shows: "a file that changed for those that read is missed as the first hand finds it",
         hands: &[
@@ -177,7 +177,7 @@ fn the_first_hand_decides_what_others_left(rt: HostRuntime) -> Result<(), Fail> 
 }
 
 /// So many hands with the reference tree.
-fn many(alloc: Global, count: u64) -> Result<Vec<MemTree<SampleWorld>>, AllocError> {
+pub fn many(alloc: Global, count: u64) -> Result<Vec<MemTree<SampleWorld>>, AllocError> {
     let mut trees = Vec::new(alloc);
     for _ in 0..count {
         trees.push(tree_of(alloc, Files::Reference, None, &[])?)?;

@@ -5,7 +5,7 @@ use crate::tests::trees::Files;
 use std::test::Fail;
 
 /// A walk of `/srv` with one file makes three calls.
-static MISSED: [Step; 8] = [
+pub static MISSED: [Step; 8] = [
     Step {
         shows: "a file is read",
         files: Files::Before,

@@ -84,7 +84,7 @@ fn summary_text(alloc: Global, numbers: &Summary) -> Result<String, AllocError> 
 }
 
 /// The end, in words.
-fn end_text(alloc: Global, end: &PassEnd) -> Result<String, AllocError> {
+pub fn end_text(alloc: Global, end: &PassEnd) -> Result<String, AllocError> {
     match end {
         PassEnd::Whole(summary) => summary_text(alloc, summary),
         PassEnd::Missed(miss) => miss_text(alloc, miss),
@@ -97,7 +97,7 @@ fn end_text(alloc: Global, end: &PassEnd) -> Result<String, AllocError> {
 }
 
 /// The texts, one after the other.
-fn joined(alloc: Global, texts: &[&str]) -> Result<String, AllocError> {
+pub fn joined(alloc: Global, texts: &[&str]) -> Result<String, AllocError> {
     let mut all = String::new(alloc);
     for text in texts {
         all.push_str(text)?;

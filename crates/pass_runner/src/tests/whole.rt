@@ -19,7 +19,7 @@ const SOURCES: &str = "/w/src/inc/util.h 0, /w/src/main.c 26, ";
 
 /// A walk of the three folders makes 20 calls: a look at each root, a reading of each of them and of
 /// two below them, and a look at each of the twelve files.
-static WHOLE: [Step; 7] = [
+pub static WHOLE: [Step; 7] = [
     Step {
         shows: "the first pass reads all files",
         files: Files::Reference,

@@ -1,0 +1,59 @@
+-- The first hold, the helpers, and what the first hand settles.
+use Rattle.std.proofs.Common.{inl, inr, List, ap, refl, subst, ◌∙◌}
+use Rattle.std.specs.List.{AllZip}
+use Rattle.row_types.specs.Name.{NameFacts}
+use Rattle.row_types.specs.Rules.{rules}
+use Rattle.index_lock.proofs.Later.{later_trans}
+use Rattle.index_state.specs.State.{Origin}
+use Rattle.lock_crew.proofs.Zips.{zip_weaker}
+use Rattle.pass_runner.specs.Helped.{HelpedFrom}
+use Rattle.index_state.specs.declared.answer.Begun.{Begun}
+use Rattle.pass_runner.specs.Leading.{BeginShows}
+use Rattle.pass_runner.specs.declared.helper.Helper.{Helper}
+use Rattle.pass_runner.specs.declared.pass_end.PassEnd.TheVariants.{Broken, OutOfMemory}
+use Rattle.pass_runner.proofs.PlannedLemmas.{leads_again, leads_early}
+use Rattle.pass_runner.proofs.coordinate.pass_parts.Goals as goal
+
+pub settle_last-seat-requires-clause-spared : goal.settle_last-seat-requires-clause-spared
+settle_last-seat-requires-clause-spared g c = λ κs within.
+    ap (λ (o : Origin). o.spared) (later_trans c.begin_one-seat.ensures.later c.run_crew-seat.ensures.later).origin
+    ∙ c.requires.spared
+
+pub returns-in-Begun-clause-later : goal.returns-in-Begun-clause-later
+returns-in-Begun-clause-later g c =
+    later_trans (later_trans c.begin_one-seat.ensures.later c.run_crew-seat.ensures.later) c.settle_last-seat.ensures.later
+
+pub returns-in-Begun-clause-over : goal.returns-in-Begun-clause-over
+returns-in-Begun-clause-over g c =
+    leads_again (rules g.W.Truth.version g.W.Truth.true_row g.W.Truth.told) c.args.seat.seen c.begin_one-seat.result.0.seen
+    c.run_crew-seat.result.0.seen c.settle_last-seat.result.0.seen c.settle_last-seat.result.1
+    c.begin_one-seat.ensures.later.log
+    (subst (λ (b : Begun). BeginShows c.args.listing b c.begin_one-seat.result.0.seen) c.in-Begun.is
+    c.begin_one-seat.ensures.shows) c.run_crew-seat.ensures.later.log
+    c.settle_last-seat.ensures.later.log c.requires.again.1 c.requires.again.0 c.settle_last-seat.ensures.over
+
+pub returns-in-Begun-clause-helped : goal.returns-in-Begun-clause-helped
+returns-in-Begun-clause-helped g c =
+    inl (subst (λ (spared : List NameFacts). AllZip (HelpedFrom (λ (place : Helper g.row.T.Denot). g.T.Tree.shows place.hand)
+    (λ place. place.task) (λ place. place.asked) g.T.Tree.told g.W.Truth.version spared) c.args.helpers.items
+    c.run_crew-seat.result.1.items)
+    (ap (λ (o : Origin). o.spared) c.begin_one-seat.ensures.later.origin ∙ c.requires.spared)
+    (zip_weaker (λ before after ran. ran.made) c.args.helpers.items c.run_crew-seat.result.1.items c.run_crew-seat.ensures.ran))
+
+pub returns-in-Broken-clause-over : goal.returns-in-Broken-clause-over
+returns-in-Broken-clause-over g c =
+    leads_early (rules g.W.Truth.version g.W.Truth.true_row g.W.Truth.told) c.args.listing c.args.needs.roots.items
+    c.args.seat.seen c.begin_one-seat.result.0.seen Broken
+    (subst (λ (b : Begun). BeginShows c.args.listing b c.begin_one-seat.result.0.seen) c.in-Broken.is
+    c.begin_one-seat.ensures.shows)
+
+pub returns-in-Broken-clause-helped : goal.returns-in-Broken-clause-helped
+returns-in-Broken-clause-helped g c = inr refl
+
+pub returns-in-OutOfMemory-clause-over : goal.returns-in-OutOfMemory-clause-over
+returns-in-OutOfMemory-clause-over g c =
+    leads_early (rules g.W.Truth.version g.W.Truth.true_row g.W.Truth.told) c.args.listing c.args.needs.roots.items
+    c.args.seat.seen c.begin_one-seat.result.0.seen OutOfMemory tt
+
+pub returns-in-OutOfMemory-clause-helped : goal.returns-in-OutOfMemory-clause-helped
+returns-in-OutOfMemory-clause-helped g c = inr refl

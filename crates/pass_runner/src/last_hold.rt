@@ -1,0 +1,177 @@
+//! How a pass over a shared index ends, by its last hold.
+
+ghost use Rattle.std.specs.Prelude.{◌≡◌, [], Contains, IfSome, IsSome, IsTrue, Some};
+ghost use Rattle.groomer.specs.Judged.{GoesOn};
+ghost use Rattle.index_lock.specs.Tokens.{IsLater};
+ghost use Rattle.index_state.specs.Judge.{is_under};
+ghost use Rattle.row_types.specs.Name.{stamp_at};
+ghost use Rattle.row_types.specs.Rules.{rules};
+ghost use Rattle.pass_runner.specs.Leading.{BeginsLast, EndsOpen, LastShows, is_none_left};
+ghost use Rattle.pass_runner.specs.SharedPass.{IsOfPass, IsStray};
+
+use crate::owned::copy_miss;
+use crate::pass_end::PassEnd;
+use crate::summary::summary_of;
+use index_keeper::Keeper;
+use index_lock::{Seat, TurnLock};
+use index_rows::LOG_LIMIT;
+use index_state::{Begun, Plan, Standing, State, show_index};
+use path_canon::is_under;
+use row_types::{CanonPath, Name, Truth};
+use scan_queue::{Cause, Listing, Miss};
+use std::alloc::Global;
+use std::sync::Wait;
+
+/// Decides how a pass ended, in one hold: by a plan over a copy of its listing, and then by the
+/// first name that was missed, if the hand that leads missed it itself.
+pub(crate) fn end_one<W: Truth, K: Keeper<W>, Rt: Wait + Sync>(
+    rt: &Rt,
+    alloc: Global,
+    lock: &TurnLock<State<W, K>>,
+    seat: Seat<State<W, K>>,
+    listing: Listing,
+    roots: Vec<CanonPath>,
+    plan: &Plan,
+    met: &[Miss],
+) -> (Seat<State<W, K>>, PassEnd)
+    requires lock { seat.lock ≡ lock.now }
+    requires spared { seat.origin.spared ≡ [] }
+    ensures later { IsLater seat result.0 }
+    ensures shows { LastShows (rules W.version W.true_row W.told) listing roots.items plan.now
+        met.now result.0.seen result.1 }
+{
+    let mut held = lock.enter(rt, seat);
+    let end = end_held(alloc, held.value_mut(), listing, roots, plan, met);
+    (lock.leave(held), end)
+}
+
+/// Decides how a pass ended in an index that is held and skips no name.
+fn end_held<W: Truth, K: Keeper<W>>(
+    alloc: Global,
+    state: &mut State<W, K>,
+    listing: Listing,
+    roots: Vec<CanonPath>,
+    plan: &Plan,
+    met: &[Miss],
+) -> PassEnd
+    requires spared { state.old.origin.spared ≡ [] }
+    ensures goes_on { GoesOn state.old state.new }
+    ensures shows { LastShows (rules W.version W.true_row W.told) listing roots.items plan.now
+        met.now state.new.log result }
+{
+    let own = own_miss(alloc, state.first_miss(), met, &listing, roots.as_slice());
+    let end = begin_last(alloc, state, listing, roots, plan, own);
+    show_index(state);
+    end
+}
+
+/// Begins a pass again, and decides how it ended.
+fn begin_last<W: Truth, K: Keeper<W>>(
+    alloc: Global,
+    state: &mut State<W, K>,
+    listing: Listing,
+    roots: Vec<CanonPath>,
+    plan: &Plan,
+    own: Option<Miss>,
+) -> PassEnd
+    ensures { BeginsLast (rules W.version W.true_row W.told) K.told K.shows listing roots.items
+        plan.now own state.old state.new result }
+{
+    match state.begin(alloc, listing, roots) {
+        Begun::Begun(_) => end_begun(state, plan, own),
+        Begun::Broken => PassEnd::KeeperFault,
+        Begun::OutOfMemory => PassEnd::OutOfMemory,
+    }
+}
+
+/// Decides how a pass ended by what is to be done of it once it was begun again.
+fn end_begun<W: Truth, K: Keeper<W>>(state: &State<W, K>, plan: &Plan, own: Option<Miss>) -> PassEnd
+    requires open { IsSome state.now.pass }
+    ensures { EndsOpen (rules W.version W.true_row W.told) K.told K.shows plan.now own state.now
+        result }
+{
+    let standing = state.standing();
+    if is_done(&standing) {
+        return PassEnd::Whole(summary_of(state, plan));
+    }
+    if standing.log == LOG_LIMIT as u64 {
+        return PassEnd::LogFull;
+    }
+    match own {
+        Some(miss) => PassEnd::Missed(miss),
+        None => PassEnd::OutOfMemory,
+    }
+}
+
+/// Whether no name is left.
+fn is_done(standing: &Standing) -> bool
+    ensures { result ≡ is_none_left standing.now }
+{
+    standing.todo == 0 && standing.out == 0 && standing.groom == 0 && standing.missed == 0
+}
+
+/// The first name that was missed, if it is one of the pass and the hand that leads missed it
+/// itself, and memory was there for it.
+fn own_miss(
+    alloc: Global,
+    first: Option<&Miss>,
+    met: &[Miss],
+    listing: &Listing,
+    roots: &[CanonPath],
+) -> Option<Miss>
+    ensures among { IfSome result (λ miss. Contains met.now miss) }
+    ensures of_pass { IfSome result (λ miss. IsOfPass listing.now roots.now miss.name miss.cause) }
+{
+    let Some(first) = first else {
+        return None;
+    };
+    for miss in met {
+        if miss.name == first.name && miss.cause == first.cause {
+            if !is_of_pass(miss.cause, &miss.name, listing, roots) {
+                return None;
+            }
+            return copy_miss(alloc, miss).ok();
+        }
+    }
+    None
+}
+
+/// Whether a name that was missed by another file is listed with its stamp, and one that appeared
+/// lies under a root and isn't.
+fn is_of_pass(cause: Cause, name: &Name, listing: &Listing, roots: &[CanonPath]) -> bool
+    ensures { IsTrue result → IsOfPass listing.now roots.now name.now cause }
+{
+    match cause {
+        Cause::ReadFault => true,
+        Cause::Altered { .. } => is_listed(name, listing),
+        Cause::Appeared => is_stray(&name.path, listing, roots),
+    }
+}
+
+/// Whether the name is listed.
+fn is_listed(name: &Name, listing: &Listing) -> bool
+    ensures { IsTrue result → stamp_at listing.now name.now.path ≡ Some name.now.stamp }
+{
+    match listing.stamp_of(&name.path) {
+        Some(stamp) => stamp == name.stamp,
+        None => false,
+    }
+}
+
+/// Whether the path isn't listed, and lies under a root.
+fn is_stray(path: &CanonPath, listing: &Listing, roots: &[CanonPath]) -> bool
+    ensures { IsTrue result → IsStray listing.now roots.now path.now }
+{
+    let _text = path.text();
+    match listing.stamp_of(path) {
+        Some(_) => false,
+        None => is_under_any(roots, path),
+    }
+}
+
+/// Whether the path is that of a root, or lies under one.
+fn is_under_any(roots: &[CanonPath], path: &CanonPath) -> bool
+    ensures { result ≡ is_under roots.now path.now }
+{
+    roots.iter().any(|root| is_under(path, root))
+}

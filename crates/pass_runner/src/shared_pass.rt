@@ -1,0 +1,77 @@
+//! A pass over an index that is shared.
+
+ghost use Rattle.std.specs.Prelude.{◌≡◌, ◌<◌, [], drop, length, vec_len, IsTrue};
+ghost use Rattle.row_types.specs.Rules.{rules};
+ghost use Rattle.index_lock.specs.Tokens.{IsLater};
+ghost use Rattle.tree_trait.specs.Shown.{HandsOn};
+ghost use Rattle.pass_runner.specs.Owned.{HandsGo, Helps, is_hand_fault, is_unwalked};
+ghost use Rattle.pass_runner.specs.SharedPass.{EndsShared, IsDoneShared, IsUnhinderedPass};
+
+use crate::coordinate::pass_listed;
+use crate::pass_end::PassEnd;
+use index_keeper::Keeper;
+use index_lock::{Seat, TurnLock};
+use index_state::State;
+use row_types::{CanonPath, Truth};
+use std::alloc::Global;
+use std::sync::Wait;
+use std::thread::Threads;
+use tree_trait::{Gate, Reader, Tree};
+use tree_walk::{Walk, walk};
+
+/// Makes one pass over the roots with an index that others share: the first hand walks, a pass over
+/// what was listed begins, and the other hands help with it in threads of their own, as in
+/// `scan_state`. Then the first hand tries again what they left, and decides in one hold of the
+/// lock how the pass ended: whole where nothing is left to be done for its listing, else by a full
+/// log, by the first name that was missed, or by want of memory. A miss is told where the first
+/// hand met it itself; where another token's stands first, the end is want of memory. The token
+/// must skip no name. The hands come back in their order.
+pub fn run_pass<
+    W: Truth + Send + Sync,
+    K: Keeper<W>,
+    T: Tree<W>,
+    R: Reader<W> + Sync,
+    G: Gate,
+    Rt: Threads + Wait + Sync,
+>(
+    rt: &Rt,
+    alloc: Global,
+    lock: &TurnLock<State<W, K>>,
+    seat: Seat<State<W, K>>,
+    hands: Vec<T>,
+    roots: &[CanonPath],
+    reader: &R,
+    gate: &G,
+) -> (Seat<State<W, K>>, Vec<T>, PassEnd)
+    requires lock { seat.lock ≡ lock.now }
+    requires hand { 0 < vec_len hands }
+    requires spared { seat.origin.spared ≡ [] }
+    ensures later { IsLater seat result.0 }
+    ensures pass { HandsGo
+        (λ hand later. EndsShared (rules W.version W.true_row W.told) T.told roots.now seat.seen
+        result.0.seen (T.shows hand) (T.shows later) result.2)
+        (λ hand later. Helps T.told W.version [] [] (T.shows hand) (T.shows later))
+        hands.items result.1.items }
+    ensures hands { HandsGo
+        (λ hand later. HandsOn T.told W.version (T.shows hand) (T.shows later)
+        (0 < length roots.now) (IsTrue (is_hand_fault result.2)))
+        (λ hand later. HandsOn T.told W.version (T.shows hand) (T.shows later) ⊥ ⊥)
+        hands.items result.1.items }
+    ensures idle { IsTrue (is_unwalked result.2) → drop 1 result.1.items ≡ drop 1 hands.items }
+    ensures complete { HandsGo
+        (λ hand later. IsUnhinderedPass T.told roots.now result.0.seen (T.shows hand)
+        (T.shows later) → IsDoneShared result.0.seen result.2)
+        (λ hand later. HandsOn T.told W.version (T.shows hand) (T.shows later) ⊥ ⊥)
+        hands.items result.1.items }
+{
+    let mut hands = hands;
+    match walk(alloc, &mut hands[0], roots) {
+        Ok(
+            Walk {
+                listing,
+                skipped: _,
+            },
+        ) => pass_listed(rt, alloc, lock, seat, hands, listing, roots, reader, gate),
+        Err(fault) => (seat, hands, PassEnd::Walk(fault)),
+    }
+}
