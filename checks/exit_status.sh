@@ -30,13 +30,13 @@ judge() { # WANTED STATUS OUT ERR WHAT
 # Words that can't be read, and commands that aren't built yet.
 for words in '' 'frobnicate' '--help' 'ident' 'ident a b' 'sources' 'sources a b' 'section a' 'section a b c' 'scan' \
   'scan -d m usr' 'scan -d m /usr usr' 'scan /usr' 'scan -d m' 'scan -d m /usr -c 0' 'scan -d m -d m /usr' 'query' \
-  'query -d m' 'query -d m 00f' 'query -d m -c 2 00ff'; do
+  'query -d m' 'query -d m 00f' 'query -d m -c 2 00ff' 'trial' 'trial 7 40' 'trial 7 0 1' 'trial 7 40 65'; do
   # shellcheck disable=SC2086
   ends 2 '' "$usage"$'\n' "$program" $words
 done
 ends 2 '' "$usage"$'\n' "$program" ident $'a\xffb'
 ends 2 '' "$usage"$'\n' "$program" $'ident\xff' a
-for words in 'serve -d m /usr' 'trial 1 2 3'; do
+for words in 'serve -d m /usr' 'serve'; do
   # shellcheck disable=SC2086
   ends 8 '' $'dbgd: not built yet\n' "$program" $words
 done

@@ -1,6 +1,8 @@
 pub mod CauseLemmas
 pub mod ChangedLemmas
 pub mod Codes
+pub mod CountLemmas
+pub mod ForgedLemmas
 pub mod HandLemmas
 pub mod PassLemmas
 pub mod QueryLemmas
@@ -8,3 +10,5 @@ pub mod RowLemmas
 pub mod RunLemmas
 pub mod ScanLemmas
 pub mod StoreLemmas
+pub mod TrialEnds
+pub mod TrialLemmas

@@ -1,15 +1,16 @@
 -- A run, by what its words ask.
 use Rattle.std.proofs.Common.{◌≡◌, ◌⊎◌, ℕ, ◌<◌, List, [], length, inl, inr, refl, sym, subst}
 use Rattle.index_state.specs.declared.open_fault.OpenFault.TheVariants as refusal
-use Rattle.dbgd_words.specs.Words.{Line, asks_help, asks_ident, asks_query, asks_scan, asks_section, asks_sources, line_of, unbuilt, unreadable}
+use Rattle.dbgd_words.specs.Words.{Line, asks_help, asks_ident, asks_query, asks_scan, asks_section, asks_sources, asks_trial, line_of, unbuilt, unreadable}
 use Rattle.dbgd_words.proofs.OptionLemmas.{AsksByOptions, options_ask}
-use Rattle.dbgd_run.specs.Causes.{HasStatus, HelpStatus}
+use Rattle.dbgd_run.specs.Causes.{HasStatus, HelpStatus, TrialStatus}
 use Rattle.dbgd_run.specs.Endings.{Ends, WantsMemory, out_saying}
 use Rattle.dbgd_run.specs.Query.{RunsQuery}
 use Rattle.dbgd_run.specs.Runs.{DoesWords, IsRun, LacksRoom, Runs, SaysHelp}
 use Rattle.dbgd_run.specs.Scan.{RunsScan, Scans}
 use Rattle.dbgd_run.specs.Scene.{Scene, Setting}
 use Rattle.dbgd_run.specs.Statuses.{code_of}
+use Rattle.dbgd_run.specs.Trial.{RunsTrial, SaysTrial, trial_line}
 use Rattle.dbgd_run.specs.declared.query_end.QueryEnd.TheVariants as looked
 use Rattle.dbgd_run.specs.declared.scan_end.ScanEnd.TheVariants as scanned
 use Rattle.dbgd_run.specs.declared.status.Status.{Status}
@@ -29,6 +30,21 @@ module _ {T : Type 0} (s : Setting T) (words : List (List ℕ)) (before after : 
       go (inl ends) = by_ends (HelpStatus before after) (out_saying run.text status.Done) tt (λ rose. rose) ends
       go (inr wants) = subst (HelpStatus before after) (sym wants.ends) tt
 
+  -- what the status of a trial says
+  trial_status : (seed files : ℕ) → RunsTrial seed files before after end → TrialStatus seed files before after end
+  trial_status seed files run = go run.says
+    where
+      go : SaysTrial seed files before.streams after.streams end → TrialStatus seed files before after end
+      go (inl told) = said told.says
+        where
+          said : Ends (out_saying (trial_line files told.rows) status.Done) before.streams after.streams end
+              → TrialStatus seed files before after end
+          said (inl whole) =
+              subst (TrialStatus seed files before after) (sym whole.ends)
+              (record { rows = told.rows; rows_are = told.rows_are; line = whole.out })
+          said (inr cut) = subst (TrialStatus seed files before after) (sym cut.ends) cut.out.rose
+      go (inr wants) = subst (TrialStatus seed files before after) (sym wants.ends) tt
+
   -- what the status says
   has_status : (line : Line) → Runs s line before after end → HasStatus s words line before after end
   has_status (asks_ident path) run = ident_status s before after end path run
@@ -36,6 +52,7 @@ module _ {T : Type 0} (s : Setting T) (words : List (List ℕ)) (before after : 
   has_status (asks_section path name) run = section_status s before after end path name run
   has_status (asks_query path id) run = query_status s path id before after end run
   has_status (asks_scan path workers roots) run = scan_status s path roots before after end run
+  has_status (asks_trial seed files workers) run = trial_status seed files run
   has_status asks_help run = help_status run
   has_status unbuilt run = run.says.ends
   has_status unreadable run = subst (λ e. HasStatus s words unreadable before after e) (sym run.says.ends) tt
@@ -54,6 +71,7 @@ module _ {T : Type 0} (s : Setting T) (words : List (List ℕ)) (before after : 
     scan = λ path workers roots is.
         let does : RunsScan s path roots before after end = subst (λ (l : Line). Runs s l before after end) is run in
         record { does = does; ends = scan_ends s path roots before after end does };
+    trial = λ seed files workers is. subst (λ (l : Line). Runs s l before after end) is run;
     help = λ is. subst (λ (l : Line). Runs s l before after end) is run;
     not_built = λ is. subst (λ (l : Line). Runs s l before after end) is run;
     usage = λ is. inl (subst (λ (l : Line). Runs s l before after end) is run);
@@ -90,6 +108,7 @@ module _ {T : Type 0} (s : Setting T) (words : List (List ℕ)) (before after : 
     lacks_status (asks_section path name) never = absurd never
     lacks_status (asks_query path id) asked = tt
     lacks_status (asks_scan path workers roots) asked = tt
+    lacks_status (asks_trial seed files workers) never = absurd never
     lacks_status asks_help asked = tt
     lacks_status unbuilt never = absurd never
     lacks_status unreadable asked = lacks.options
@@ -104,6 +123,7 @@ module _ {T : Type 0} (s : Setting T) (words : List (List ℕ)) (before after : 
       query = λ path id is. record { does = query_lacks path id; ends = query_ends s path id before after end (query_lacks path id) };
       scan = λ path workers roots is.
           record { does = scan_lacks path roots; ends = scan_ends s path roots before after end (scan_lacks path roots) };
+      trial = λ seed files workers is. absurd (asks (asks_trial seed files workers) is);
       help = λ is. record { text = []; says = inr lacks.alone.says; hands = lacks.alone.hands; store = lacks.alone.store };
       not_built = λ is. absurd (asks unbuilt is);
       usage = λ is. inr lacks;

@@ -24,7 +24,8 @@ use Rattle.dbgd_run.specs.Scan.{EndsPassed}
 use Rattle.dbgd_run.specs.Scene.{FirstRose, OfFirst, Scene, Setting}
 use Rattle.dbgd_run.specs.Texts.{summary_line}
 use Rattle.dbgd_words.specs.Words.{Line, asks_help, asks_ident, asks_query, asks_scan, asks_section}
-use Rattle.dbgd_words.specs.Words.{asks_sources, has_options, unbuilt, unreadable}
+use Rattle.dbgd_run.specs.Trial.{AreForgedRows, trial_line}
+use Rattle.dbgd_words.specs.Words.{asks_sources, asks_trial, has_options, unbuilt, unreadable}
 use Rattle.dbgd_run.specs.declared.status.Status.{Status}
 use Rattle.dbgd_run.specs.declared.status.Status.TheVariants.{Done, Fault, Usage, Absent, Altered}
 use Rattle.dbgd_run.specs.declared.status.Status.TheVariants.{Limit, OutOfMemory, BadRow, NotBuilt}
@@ -119,6 +120,20 @@ ScanStatus s roots before after OutOfMemory = Unit {0}
 ScanStatus s roots before after BadRow = OpensOn s.tells_tables before.store after.store HasBad
 ScanStatus s roots before after _ = ⊥
 
+-- the standard output got the line of rows of exactly the generated files
+pub record HasTold {T : Type 0} (seed files : ℕ) (before after : Scene T) : Type 0 where
+  pub rows : List RowFacts
+  pub rows_are : AreForgedRows seed files rows
+  pub line : GetsAll (trial_line files rows) before.streams.out after.streams.out
+
+-- of a trial: only the standard output can fail
+abbrev pub TrialStatus : {T : Type 0} → ℕ → ℕ → Scene T → Scene T → Status → Type 0
+TrialStatus seed files before after Done = HasTold seed files before after
+TrialStatus seed files before after Fault =
+    Rose before.streams.out.write_faults after.streams.out.write_faults
+TrialStatus seed files before after OutOfMemory = Unit {0}
+TrialStatus seed files before after _ = ⊥
+
 -- of a help or version: only the standard output can fail
 abbrev pub HelpStatus : {T : Type 0} → Scene T → Scene T → Status → Type 0
 HelpStatus before after Done = Unit {0}
@@ -141,6 +156,8 @@ HasStatus s words (asks_section path name) before after status = FileStatus s be
 HasStatus s words (asks_query path id) before after status = QueryStatus s id before after status
 HasStatus s words (asks_scan path workers roots) before after status =
     ScanStatus s roots before after status
+HasStatus s words (asks_trial seed files workers) before after status =
+    TrialStatus seed files before after status
 HasStatus s words asks_help before after status = HelpStatus before after status
 HasStatus s words unbuilt before after status = status ≡ NotBuilt
 HasStatus s words unreadable before after status = UsageStatus words status

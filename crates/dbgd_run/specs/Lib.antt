@@ -16,3 +16,6 @@ pub mod Section
 pub mod Sources
 pub mod Statuses
 pub mod Texts
+pub mod Trial
+pub mod TrialKeeper
+pub mod TrialPass

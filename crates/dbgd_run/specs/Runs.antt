@@ -1,7 +1,7 @@
 -- What a run does, by its words (this project's rule).
 use Rattle.std.specs.Prelude.{◌≡◌, ◌⊎◌, ℕ, Bool, true, false, List, IsTrue}
 use Rattle.dbgd_words.specs.Words.{Line, asks_help, asks_ident, asks_query, asks_scan, asks_section}
-use Rattle.dbgd_words.specs.Words.{asks_sources, has_options, line_of, unbuilt, unreadable}
+use Rattle.dbgd_words.specs.Words.{asks_sources, asks_trial, has_options, line_of, unbuilt, unreadable}
 use Rattle.dbgd_run.specs.Causes.{HasStatus, ScanEnds}
 use Rattle.dbgd_run.specs.Endings.{Ends, EndsWhole, Saying, WantsMemory, error_saying}
 use Rattle.dbgd_run.specs.Endings.{no_memory_saying, not_built_saying, out_saying}
@@ -15,6 +15,7 @@ use Rattle.dbgd_run.specs.Section.{SaysSection}
 use Rattle.dbgd_run.specs.Sources.{SaysSources}
 use Rattle.dbgd_run.specs.Statuses.{code_of}
 use Rattle.dbgd_run.specs.Texts.{usage_text}
+use Rattle.dbgd_run.specs.Trial.{RunsTrial}
 use Rattle.dbgd_run.specs.declared.status.Status.{Status}
 use Rattle.dbgd_run.specs.declared.status.Status.TheVariants.{Done, Usage}
 
@@ -50,9 +51,10 @@ pub record IsScanRun {T : Type 0} (s : Setting T) (path : List ℕ) (roots : Lis
   pub does : RunsScan s path roots before after status
   pub ends : ScanEnds s roots before after status
 
--- whether a line asks for a scan
+-- whether a line asks for a scan, of folders or of generated files
 abbrev pub is_scan : Line → Bool
 is_scan (asks_scan path workers roots) = true
+is_scan (asks_trial seed files workers) = true
 is_scan _ = false
 
 -- what a line of words does, by what it asks
@@ -65,6 +67,7 @@ Runs s (asks_section path name) before after status =
     RunsFile s path (SaysSection path name) before after status
 Runs s (asks_query path id) before after status = RunsQuery s path id before after status
 Runs s (asks_scan path workers roots) before after status = RunsScan s path roots before after status
+Runs s (asks_trial seed files workers) before after status = RunsTrial seed files before after status
 Runs s asks_help before after status = SaysHelp before after status
 Runs s unbuilt before after status = SaysAlone not_built_saying before after status
 Runs s unreadable before after status = SaysAlone usage_saying before after status
@@ -97,6 +100,8 @@ pub record IsRun {T : Type 0} (s : Setting T) (words : List (List ℕ)) (before 
   pub scan : (path : List ℕ) (workers : ℕ) (roots : List (List ℕ))
       → line_of words ≡ asks_scan path workers roots
       → IsScanRun s path roots before after status
+  pub trial : (seed files workers : ℕ) → line_of words ≡ asks_trial seed files workers
+      → RunsTrial seed files before after status
   pub help : line_of words ≡ asks_help → SaysHelp before after status
   pub not_built : line_of words ≡ unbuilt → SaysAlone not_built_saying before after status
   pub usage : line_of words ≡ unreadable

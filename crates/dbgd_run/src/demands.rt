@@ -20,14 +20,18 @@ pub fn needs(alloc: Global, words: &[String]) -> Result<Needs, AllocError>
     })
 }
 
-/// How many hands a line needs: one for a file, none for rows, and two and one for each worker for a
-/// scan.
+/// How many hands a line needs: one for a file, none for rows or generated files, and two and one
+/// for each worker for a scan of folders.
 fn hands_for(line: &Line<'_>) -> u64
     ensures { result ≡ hands_of (asked_by line.now) }
 {
     match line {
         Line::Ident { .. } | Line::Sources { .. } | Line::Section { .. } => 1,
         Line::Scan { workers, .. } => workers.saturating_add(2),
-        Line::Query { .. } | Line::Help { .. } | Line::NotBuilt | Line::Usage => 0,
+        Line::Query { .. }
+        | Line::Trial { .. }
+        | Line::Help { .. }
+        | Line::NotBuilt
+        | Line::Usage => 0,
     }
 }

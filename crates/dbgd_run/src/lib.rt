@@ -18,6 +18,10 @@ mod status;
 #[cfg(test)]
 mod tests;
 mod texts;
+mod trial;
+mod trial_keeper;
+mod trial_sum;
+mod trial_text;
 mod wants;
 
 pub use demands::needs;

@@ -1,13 +1,17 @@
 //! The top call: all that the program does with what is handed in.
 
-ghost use Rattle.std.specs.Prelude.{◌≡◌, ◌<◌, drop, false, map, true, vec_len, IfNone, IfSome};
+ghost use Rattle.std.specs.Prelude.{◌≡◌, ◌⊎◌, ◌<◌, drop, false, map, true, vec_len, IfNone, IfSome};
 ghost use Rattle.std.specs.String.{string_bytes};
 ghost use Rattle.row_types.specs.Rules.{rules};
+ghost use Rattle.dbgd_words.specs.Limits.{FitsLimits};
 ghost use Rattle.dbgd_words.specs.Lines.{asked_by};
 ghost use Rattle.dbgd_words.specs.Words.{line_of};
 ghost use Rattle.dbgd_run.specs.Endings.{EndsWhole, streams};
 ghost use Rattle.dbgd_run.specs.Runs.{DoesWords, IsRun, Runs, is_scan, usage_saying};
 ghost use Rattle.dbgd_run.specs.Scene.{scene, setting};
+ghost use Rattle.dbgd_run.specs.Statuses.{code_of};
+ghost use Rattle.dbgd_run.specs.TrialKeeper.{IsPinnedRoom};
+ghost use Rattle.dbgd_run.specs.declared.status.Status.TheVariants.{OutOfMemory};
 
 use crate::ident::run_ident;
 use crate::query::run_query;
@@ -16,6 +20,7 @@ use crate::section::run_section;
 use crate::sources::run_sources;
 use crate::speech::{say, say_error, say_no_memory, say_not_built};
 use crate::status::Status;
+use crate::trial::run_trial;
 use dbgd_words::{Line, read_line};
 use elf_reading::ElfTruth;
 use http_wire::Sink;
@@ -52,7 +57,7 @@ fn say_usage<O: Sink>(out: &mut O, err: &mut O) -> Status
     )
 }
 
-/// Does what a line of words asks that is no scan.
+/// Does what a line of words asks that is no scan, of folders or of generated files.
 fn run_alone<W: ElfTruth + Send + Sync, T: Tree<W>, S: Store<W>, O: Sink, G: Gate + Drop>(
     alloc: Global,
     line: Line<'_>,
@@ -79,7 +84,7 @@ fn run_alone<W: ElfTruth + Send + Sync, T: Tree<W>, S: Store<W>, O: Sink, G: Gat
             run_section(alloc, path, name, &mut outside.hands[0], out, err)
         }
         Line::Query { store, id } => { run_query(alloc, store, &id, &mut outside.store, out, err) }
-        Line::Scan { .. } => unreachable!(),
+        Line::Scan { .. } | Line::Trial { .. } => unreachable!(),
         Line::Help { text } => say(text.as_bytes(), Status::Done, out, err),
         Line::NotBuilt => say_not_built(out, err),
         Line::Usage => say_usage(out, err),
@@ -95,7 +100,8 @@ fn run_line<
     G: Gate + Drop,
     Rt: Threads + Wait + Sync,
 >(rt: &Rt, alloc: Global, line: Line<'_>, outside: &mut Outside<W, T, S, O, G>) -> Status
-    requires { 0 < vec_len outside.old.hands }
+    requires hand { 0 < vec_len outside.old.hands }
+    requires fits { FitsLimits (asked_by line) }
     ensures law { Runs
         (setting (rules W.version W.true_row W.told) T.told T.shows S.K.told)
         (asked_by line.entry)
@@ -117,6 +123,20 @@ fn run_line<
             roots.as_slice(),
             &mut outside.hands,
             &mut outside.store,
+            &mut outside.out,
+            &mut outside.err,
+            &outside.gate,
+        ),
+        Line::Trial {
+            seed,
+            files,
+            workers,
+        } => run_trial(
+            rt,
+            alloc,
+            seed,
+            files,
+            workers,
             &mut outside.out,
             &mut outside.err,
             &outside.gate,
@@ -151,7 +171,7 @@ fn run_words<
 }
 
 /// Does what the words after the program's name ask, and gives the exit status, unless they ask for
-/// a scan. Then nothing was read or written.
+/// a scan, of folders or of generated files. Then nothing was read or written.
 pub fn run_local<W: ElfTruth + Send + Sync, T: Tree<W>, S: Store<W>, O: Sink, G: Gate + Drop>(
     alloc: Global,
     words: &[String],
@@ -159,6 +179,8 @@ pub fn run_local<W: ElfTruth + Send + Sync, T: Tree<W>, S: Store<W>, O: Sink, G:
 ) -> Option<u8>
     requires { 0 < vec_len outside.old.hands }
     ensures none { IfNone result (is_scan (line_of (map string_bytes words.now)) ≡ true) }
+    ensures some { IfSome result (λ code. (is_scan (line_of (map string_bytes words.now)) ≡ false)
+        ⊎ (code ≡ code_of OutOfMemory)) }
     ensures idle { IfNone result (outside.new ≡ outside.old) }
     ensures run { IfSome result (IsRun
         (setting (rules W.version W.true_row W.told) T.told T.shows S.K.told)
@@ -171,7 +193,7 @@ pub fn run_local<W: ElfTruth + Send + Sync, T: Tree<W>, S: Store<W>, O: Sink, G:
     ensures others { drop 1 outside.new.hands.items ≡ drop 1 outside.old.hands.items }
 {
     match read_line(alloc, words) {
-        Ok(Line::Scan { .. }) => None,
+        Ok(Line::Scan { .. } | Line::Trial { .. }) => None,
         Ok(line) => Some(run_alone(alloc, line, outside).code()),
         Err(_) => Some(say_no_memory(&mut outside.out, &mut outside.err).code()),
     }
@@ -194,6 +216,7 @@ pub fn run<
         (scene outside.new.hands.items (S.shows outside.new.store)
         (streams O.shows outside.new.out outside.new.err)) result }
     ensures hands { vec_len outside.new.hands ≡ vec_len outside.old.hands }
+    ensures room { IsPinnedRoom }
 {
     run_words(rt, alloc, words, outside).code()
 }

@@ -36,7 +36,7 @@ fn show_path(path: &CanonPath)
 }
 
 /// Shows the same of the path of a name that was missed.
-fn show_end(end: &PassEnd)
+pub fn show_end(end: &PassEnd)
     ensures { HasPath end.now }
 {
     if let PassEnd::Missed(miss) = end {

@@ -8,6 +8,7 @@ mod queries;
 mod rig;
 mod rows;
 mod scans;
+mod trials;
 mod words;
 mod workers;
 mod worlds;

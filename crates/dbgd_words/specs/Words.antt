@@ -1,5 +1,5 @@
 -- Command lines (this project's rule): what the words after the program's name ask.
-use Rattle.std.specs.Prelude.{ℕ, ◌&&◌, ◌||◌, nat_le, Bool, false, true, List, [], ◌∷◌, if◌then◌else◌, length, map, codes}
+use Rattle.std.specs.Prelude.{ℕ, ◌-◌, ◌^◌, ◌&&◌, ◌||◌, nat_le, Bool, false, true, List, [], ◌∷◌, if◌then◌else◌, length, map, codes}
 use Rattle.std.specs.Prelude.{Option, Some, None, option_and_then, Result, Ok, Err}
 use Rattle.std.specs.List.{list_all, list_any}
 use Rattle.std.specs.Option.{option_map_or}
@@ -17,16 +17,18 @@ use Rattle.row_types.specs.declared.limits.TheConstants.{PATH_LIMIT}
 use Rattle.dbgd_words.specs.Numbers.{is_within, number_in}
 use Rattle.dbgd_words.specs.Options.{query_faults, query_rows, scan_faults, scan_rows}
 use Rattle.dbgd_words.specs.declared.scan.TheConstants.{MOST_WORKERS}
+use Rattle.dbgd_words.specs.declared.trial.TheConstants.{MOST_FILES}
 
 -- what a line asks: the identity of the file at a path, its source paths, the section of a name of it, the rows that a
--- store holds of an id, a scan of folders into a store by so many workers, the help or version of a command, a command
--- that isn't built yet, or nothing that can be read
+-- store holds of an id, a scan of folders into a store by so many workers, one of so many generated files of a seed, the
+-- help or version of a command, a command that isn't built yet, or nothing that can be read
 pub data Line : Type 0 where
   asks_ident : (path : List ℕ) → Line
   asks_sources : (path : List ℕ) → Line
   asks_section : (path : List ℕ) (name : List ℕ) → Line
   asks_query : (store : List ℕ) (id : List ℕ) → Line
   asks_scan : (store : List ℕ) (workers : ℕ) (roots : List (List ℕ)) → Line
+  asks_trial : (seed : ℕ) (files : ℕ) (workers : ℕ) → Line
   asks_help : Line
   unbuilt : Line
   unreadable : Line
@@ -102,9 +104,20 @@ query_line words = query_said (query_faults words) (query_rows words)
 abbrev pub scan_line : List (List ℕ) → Line
 scan_line words = scan_said (scan_faults words) (scan_rows words)
 
+-- a seed below 2^64, a number of files, 1 to 100,000, and one of workers, 1 to 64
+abbrev pub trial_asked : List ℕ → List ℕ → List ℕ → Line
+trial_asked seed files workers = option_map_or (λ seed.
+    option_map_or (λ files. option_map_or (asks_trial seed files) (number_in 1 MOST_WORKERS workers) unreadable)
+    (number_in 1 MOST_FILES files) unreadable) (number_in 0 (2 ^ 64 - 1) seed) unreadable
+
+-- the words of `trial`: three numbers
+abbrev pub trial_line : List (List ℕ) → Line
+trial_line (seed ∷ files ∷ workers ∷ []) = trial_asked seed files workers
+trial_line _ = unreadable
+
 -- the commands that aren't built yet, whatever follows them
 abbrev pub unbuilt_commands : List (List ℕ)
-unbuilt_commands = codes "serve" ∷ codes "trial" ∷ []
+unbuilt_commands = codes "serve" ∷ []
 
 -- what the words ask: the first one names the command
 abbrev pub line_of : List (List ℕ) → Line
@@ -115,7 +128,8 @@ line_of (command ∷ rest) =
     else (if bytes_eq command (codes "section") then section_line rest
     else (if bytes_eq command (codes "query") then query_line (command ∷ rest)
     else (if bytes_eq command (codes "scan") then scan_line (command ∷ rest)
-    else (if list_any (bytes_eq command) unbuilt_commands then unbuilt else unreadable)))))
+    else (if bytes_eq command (codes "trial") then trial_line rest
+    else (if list_any (bytes_eq command) unbuilt_commands then unbuilt else unreadable))))))
 
 -- whether the words are read as options, which takes memory
 abbrev pub has_options : List (List ℕ) → Bool

@@ -12,6 +12,7 @@ mod roots;
 mod scan;
 #[cfg(test)]
 mod tests;
+mod trial;
 
 pub use line::Line;
 pub use reading::read_line;

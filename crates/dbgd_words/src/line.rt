@@ -29,6 +29,13 @@ pub enum Line<'a> {
         workers: u64,
         roots: Vec<CanonPath>,
     },
+    /// A scan of generated files: the seed of their bytes, how many they are, and by how many
+    /// workers.
+    Trial {
+        seed: u64,
+        files: u64,
+        workers: u64,
+    },
     /// The help or the version of a command: the whole text that is its answer.
     Help {
         text: String,

@@ -10,6 +10,7 @@ ghost use Rattle.dbgd_words.specs.Words.{sources_line};
 use crate::line::Line;
 use crate::query::read_query;
 use crate::scan::read_scan;
+use crate::trial::trial;
 use std::alloc::{AllocError, Global};
 
 /// Reads the words after the program's name. Those that are options take memory, and so does a help
@@ -28,7 +29,8 @@ pub fn read_line(alloc: Global, words: &[String]) -> Result<Line<'_>, AllocError
         "section" => Ok(section(rest)),
         "query" => read_query(alloc, words),
         "scan" => read_scan(alloc, words),
-        "serve" | "trial" => Ok(Line::NotBuilt),
+        "trial" => Ok(trial(rest)),
+        "serve" => Ok(Line::NotBuilt),
         _ => Ok(Line::Usage),
     }
 }

@@ -38,6 +38,11 @@ fn said(alloc: Global, line: &Line<'_>) -> Result<String, Fail> {
             }
             Ok(text)
         }
+        Line::Trial {
+            seed,
+            files,
+            workers,
+        } => Ok(format!(in alloc; "trial {seed} {files} {workers}")?),
         Line::Help { text } => Ok(format!(in alloc; "{text}")?),
         Line::NotBuilt => Ok(String::from_str(alloc, "not built")?),
         Line::Usage => Ok(String::from_str(alloc, "usage")?),
@@ -49,7 +54,7 @@ fn said(alloc: Global, line: &Line<'_>) -> Result<String, Fail> {
 struct Case<'a>(&'a [&'a str], &'a str);
 
 /// Lines of one file.
-static FILES: [Case; 11] = [
+static FILES: [Case; 10] = [
     Case(&["ident", "/w/a"], "ident /w/a"),
     Case(&["ident", "--help"], "ident --help"),
     Case(&["sources", "/w/a"], "sources /w/a"),
@@ -60,7 +65,39 @@ static FILES: [Case; 11] = [
     Case(&["ident"], "usage"),
     Case(&["sources", "/w/a", "/w/a"], "usage"),
     Case(&["serve", "--help"], "not built"),
-    Case(&["trial", "7", "40", "1"], "not built"),
+];
+
+/// Lines of `trial`. A number has 1 to 20 digits.
+static TRIALS: [Case; 23] = [
+    Case(&["trial", "7", "40", "1"], "trial 7 40 1"),
+    Case(&["trial", "0", "1", "64"], "trial 0 1 64"),
+    Case(
+        &["trial", "18446744073709551615", "100000", "1"],
+        "trial 18446744073709551615 100000 1",
+    ),
+    Case(
+        &["trial", "00000000000000000007", "040", "03"],
+        "trial 7 40 3",
+    ),
+    Case(&["trial", "18446744073709551616", "1", "1"], "usage"),
+    Case(&["trial", "000000000000000000007", "1", "1"], "usage"),
+    Case(&["trial", "7", "0", "1"], "usage"),
+    Case(&["trial", "7", "100001", "1"], "usage"),
+    Case(&["trial", "7", "40", "0"], "usage"),
+    Case(&["trial", "7", "40", "65"], "usage"),
+    Case(&["trial", "+7", "40", "1"], "usage"),
+    Case(&["trial", "-7", "40", "1"], "usage"),
+    Case(&["trial", "7", "+40", "1"], "usage"),
+    Case(&["trial", "7", "40", " 1"], "usage"),
+    Case(&["trial", "", "40", "1"], "usage"),
+    Case(&["trial", "7", "", "1"], "usage"),
+    Case(&["trial", "0x7", "40", "1"], "usage"),
+    Case(&["trial", "7", "4e1", "1"], "usage"),
+    Case(&["trial"], "usage"),
+    Case(&["trial", "7", "40"], "usage"),
+    Case(&["trial", "7", "40", "1", "1"], "usage"),
+    Case(&["trial", "--help"], "usage"),
+    Case(&["trial", "7", "40", "--version"], "usage"),
 ];
 
 /// Lines of `query`. An id has 4 to 128 digits, an even number.
@@ -219,6 +256,7 @@ fn each_says(rt: &impl Abort, alloc: Global, cases: &[Case<'_>]) -> Result<(), F
 fn words_ask_what_they_say(rt: HostRuntime) -> Result<(), Fail> {
     let alloc = rt.alloc();
     each_says(&rt, alloc, &FILES)?;
+    each_says(&rt, alloc, &TRIALS)?;
     each_says(&rt, alloc, &QUERIES)?;
     each_says(&rt, alloc, &SCANS)?;
     each_says(&rt, alloc, &OPTIONS)?;

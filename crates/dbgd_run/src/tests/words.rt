@@ -13,7 +13,7 @@ const USAGE: &str = "usage: dbgd ident FILE, sources FILE, section FILE NAME, qu
     scan -d DB DIR, serve -d DB DIR, trial SEED FILES WORKERS\n";
 
 /// Lines that can't be read.
-static UNREADABLE: [&[&str]; 20] = [
+static UNREADABLE: [&[&str]; 27] = [
     &[],
     &[""],
     &["frobnicate"],
@@ -34,15 +34,17 @@ static UNREADABLE: [&[&str]; 20] = [
     &["scan", "-d", "m", "/w", "./w"],
     &["scan", "-d", "m", "-c", "0", "/w"],
     &["scan", "-d", "m", "-d", "m", "/w"],
+    &["trial"],
+    &["trial", "--help"],
+    &["trial", "7", "40"],
+    &["trial", "7", "0", "1"],
+    &["trial", "7", "40", "65"],
+    &["trial", "7", "+40", "1"],
+    &["trial", "18446744073709551616", "40", "1"],
 ];
 
 /// Lines of commands that aren't built yet, whatever follows.
-static UNBUILT: [&[&str]; 4] = [
-    &["serve"],
-    &["serve", "--help", ""],
-    &["trial"],
-    &["trial", "--help", ""],
-];
+static UNBUILT: [&[&str]; 2] = [&["serve"], &["serve", "--help", ""]];
 
 /// Runs each line alone: it says this on err, with this status.
 fn each_says<Rt: Threads + Wait + Sync + Abort>(

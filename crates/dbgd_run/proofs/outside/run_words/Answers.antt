@@ -1,4 +1,8 @@
-use Rattle.std.proofs.Common.{inl, inr, refl}
+use Rattle.std.proofs.Common.{inl, inr, refl, subst, sym}
+use Rattle.std.specs.Prelude.{map}
+use Rattle.std.specs.String.{string_bytes}
+use Rattle.dbgd_words.specs.Limits.{FitsLimits}
+use Rattle.dbgd_words.proofs.LimitLemmas.{line_fits}
 use Rattle.dbgd_run.proofs.outside.run_words.Goals as goal
 
 pub returns-in-Ok-clause-law : goal.returns-in-Ok-clause-law
@@ -7,3 +11,7 @@ returns-in-Ok-clause-law g c = inl (rw (← c.in-Ok.ensures.line) c.run_line.ens
 pub returns-in-Err-clause-law : goal.returns-in-Err-clause-law
 returns-in-Err-clause-law g c =
     inr (record { options = c.in-Err.ensures.memory; alone = record { says = c.say_no_memory.ensures; hands = refl; store = refl } })
+
+pub run_line-requires-clause-fits : goal.run_line-requires-clause-fits
+run_line-requires-clause-fits g c = λ κs within.
+    subst FitsLimits (sym c.in-Ok.ensures.line) (line_fits (map string_bytes c.args.words.now))

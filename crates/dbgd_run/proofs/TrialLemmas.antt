@@ -1,0 +1,111 @@
+-- A trial: its sum row by row, its hands, and its log.
+use Rattle.std.proofs.Common.{◌≡◌, inl, inr, ℕ, zero, suc, ◌<◌, ◌≤◌, true}
+use Rattle.std.proofs.Common.{List, [], ◌∷◌, ◌++◌, length, Some, refl, sym, ◌∙◌, ap, subst, arith}
+use Rattle.std.specs.Prelude.{replicate}
+use Rattle.row_types.specs.Row.{RowFacts}
+use Rattle.sha2.specs.Hashers.{Holds256}
+use Rattle.sha2.specs.declared.Sha256.{Sha256}
+use Rattle.index_keeper.specs.Answers.{for_rows, rows_in}
+use Rattle.index_keeper.specs.Keeper.{Asks}
+use Rattle.index_keeper.specs.Tables.{EditFacts, KeptFacts}
+use Rattle.index_keeper.specs.declared.answer.KeptAnswer.{KeptAnswer}
+use Rattle.index_keeper.specs.declared.answer.KeptAnswer.TheVariants.{All as AllRows, Failed as RowsFailed}
+use Rattle.index_keeper.specs.declared.answer.KeptAnswer.TheVariants.{OutOfMemory as RowsNoMemory}
+use Rattle.index_rows.specs.declared.change.Change.{Change}
+use Rattle.index_state.specs.Changes.{HasOrigin, MadeFor, TellsSince}
+use Rattle.index_rows.specs.declared.rows.TheConstants.{LOG_LIMIT}
+use Rattle.index_state.specs.Kept.{tables_of}
+use Rattle.index_state.specs.Opening.{CountsFault, Refuses, current}
+use Rattle.index_state.specs.State.{Origin}
+use Rattle.index_state.specs.declared.open_fault.OpenFault.{OpenFault}
+use Rattle.index_state.specs.declared.open_fault.OpenFault.TheVariants as refusal
+use Rattle.pass_runner.specs.Owned.{HandsGo}
+use Rattle.dbgd_run.specs.TrialKeeper.{IsNewKeeper, RoomFacts, shown_sure}
+use Rattle.dbgd_run.specs.Trial.{joined}
+
+-- ---- the sum
+
+-- the digest holds some bytes, and those of the rows that are left are all that lacks of the bytes of all rows
+pub record Completes (digest : Sha256) (rest all : List RowFacts) : Type 0 where
+  pub so_far : List ℕ
+  pub holds : Holds256 digest so_far
+  pub parts : so_far ++ joined rest ≡ joined all
+
+-- ---- the hands
+
+-- what the first of some hands did, where all began alike
+pub first_of_alike : {T : Type 0} (First Other Goes Stays : T → T → Type 0) (hand : T) (count : ℕ) (left : List T)
+    → 1 ≤ count
+    → HandsGo First Other (replicate count hand) left → HandsGo Goes Stays (replicate count hand) left
+    → (later : T) × First hand later × Goes hand later
+first_of_alike First Other Goes Stays hand zero left some first goes = absurd (omega (arith, some))
+first_of_alike First Other Goes Stays hand (suc n) [] some first goes = absurd first
+first_of_alike First Other Goes Stays hand (suc n) (later ∷ left) some first goes = (later, first.0, goes.0)
+
+-- ---- the log
+
+-- the store made a change for each change of the log
+as_many : (true_row : RowFacts → Type 0) (log : List Change) (edits : List EditFacts) → MadeFor true_row log edits
+    → length log ≡ length edits
+as_many true_row [] [] made = refl
+as_many true_row [] (edit ∷ edits) made = absurd made
+as_many true_row (change ∷ log) [] made = absurd made
+as_many true_row (change ∷ log) (edit ∷ edits) made = ap suc (as_many true_row log edits made.1)
+
+no_first : (log : List Change) → length log ≡ 0 → log ≡ []
+no_first [] e = refl
+no_first (change ∷ log) e = absurd (omega (arith, e))
+
+-- a log that began with none, on a store that had made none, is no longer than what the store has made
+pub log_few : {true_row : RowFacts → Type 0} (origin : Origin) (edits : List EditFacts) (log : List Change)
+    → origin.puts ≡ 0 → origin.made ≡ Some [] → HasOrigin true_row origin (Some edits) log
+    → length log ≡ length edits
+log_few {true_row} origin edits log none new has =
+    let told = subst (λ made. TellsSince true_row has.since made (Some edits)) new has.told in
+    let since : log ≡ has.since
+    = has.parts ∙ ap (λ first. first ++ has.since) (no_first has.first (has.count ∙ none)) in
+    ap length since ∙ as_many true_row has.since told.since told.each ∙ ap length (sym told.parts)
+
+-- ---- the opening
+
+nothing_in : (values : List KeptFacts) (answer : KeptAnswer) (keeper asked : RoomFacts) → keeper.kept.shelf.tables ≡ []
+    → Asks true (shown_sure keeper) (shown_sure asked) (for_rows answer) → rows_in answer ≡ Some values → values ≡ []
+nothing_in values (AllRows rows) keeper asked none heard gave =
+    let tells = heard.tells refl in
+    some_values gave ∙ tells.whole ∙ tells.stays.same ∙ none
+  where
+    some_values : Some rows.items ≡ Some values → values ≡ rows.items
+    some_values e = cc
+nothing_in values RowsFailed keeper asked none heard gave = absurd (cc)
+nothing_in values RowsNoMemory keeper asked none heard gave = absurd (cc)
+
+no_parts : (before behind : List KeptFacts) (value : KeptFacts) → [] ≡ before ++ value ∷ behind → ⊥
+no_parts [] behind value e = absurd (cc)
+no_parts (first ∷ before) behind value e = absurd (cc)
+
+no_rows : (rows : List RowFacts) → [] ≡ tables_of rows → rows ≡ []
+no_rows [] e = refl
+no_rows (row ∷ rows) e = absurd (cc)
+
+-- an index on a new store can't be opened for want of memory alone
+pub only_memory : (keeper given : RoomFacts) (fault : OpenFault) → IsNewKeeper keeper
+    → Refuses true shown_sure keeper fault given → CountsFault (shown_sure keeper) (shown_sure given) fault
+    → fault ≡ refusal.OutOfMemory
+only_memory keeper given refusal.OutOfMemory new why counts = refl
+only_memory keeper given refusal.KeeperFault new why counts =
+    let rose = counts.rose refl in absurd (omega (arith, rose))
+only_memory keeper given (refusal.BadRow kept fault) new (inl none) counts = absurd none.why
+only_memory keeper given (refusal.BadRow kept fault) new (inr why) counts =
+    let first = why.why.0 in
+    absurd (no_parts first.before first.behind kept
+    (sym (nothing_in why.values why.gave.answer keeper why.asked new.tables why.gave.heard why.gave.gave)
+    ∙ first.parts))
+only_memory keeper given refusal.LogFull new (inl none) counts = absurd none.why
+only_memory keeper given refusal.LogFull new (inr why) counts =
+    let over = why.why.0 in
+    let none = no_rows over.rows
+    (sym (nothing_in why.values why.gave.answer keeper why.asked new.tables why.gave.heard why.gave.gave)
+    ∙ over.sound.kept) in
+    let many : LOG_LIMIT < length (current over.rows) = over.many in
+    let few : length (current over.rows) ≡ 0 = ap (λ rows. length (current rows)) none in
+    absurd (omega (arith, many, few))

@@ -1,0 +1,150 @@
+//! The command `trial`.
+
+ghost use Rattle.std.specs.Prelude.{◌≡◌, ◌≤◌, replicate, IfOk};
+ghost use Rattle.std.specs.String.{string_bytes};
+ghost use Rattle.elf_forge.specs.Tree.{fresh_tree};
+ghost use Rattle.elf_forge.specs.declared.digits.TheConstants.{FILES_LIMIT};
+ghost use Rattle.dbgd_run.specs.Endings.{streams};
+ghost use Rattle.pass_runner.specs.declared.pass_end.PassEnd.TheVariants.{Whole};
+ghost use Rattle.dbgd_run.specs.Trial.{HasScanned, IsLineOf, SaysTrial, forged_root};
+ghost use Rattle.dbgd_run.specs.TrialPass.{EndsWell, IsNewIndex};
+ghost use Rattle.dbgd_words.specs.Limits.{IsTrialFit};
+
+use crate::scan::show_end;
+use crate::speech::{say, say_no_memory};
+use crate::status::Status;
+use crate::trial_keeper::TrialKeeper;
+use crate::trial_sum::totals_in;
+use crate::trial_text::totals_line;
+use elf_forge::ForgeTree;
+use elf_reading::ElfReader;
+use http_wire::Sink;
+use index_state::{OpenFault, State, open_state, show_index};
+use pass_runner::{PassEnd, Summary, scan_state};
+use row_types::{CanonPath, OpenWorld};
+use std::alloc::{AllocError, Global};
+use std::sync::Wait;
+use std::thread::Threads;
+use tree_trait::Gate;
+use tree_walk::WalkFault;
+
+/// The index of a trial.
+type Index = State<OpenWorld, TrialKeeper>;
+
+/// The folder of the generated files.
+fn root(alloc: Global) -> Result<CanonPath, AllocError>
+    ensures { IfOk result (λ path. path ≡ forged_root) }
+{
+    match CanonPath::check(String::from_str(alloc, "/t")?) {
+        Ok(path) => Ok(path),
+        Err(_) => unreachable!(),
+    }
+}
+
+/// So many hands, each with all the generated files.
+fn hands_of(alloc: Global, seed: u64, files: u64, count: u64) -> Result<Vec<ForgeTree>, AllocError>
+    requires { files ≤ FILES_LIMIT }
+    ensures { IfOk result (λ hands. hands.items ≡ replicate count (fresh_tree seed files)) }
+{
+    let mut hands = Vec::new(alloc);
+    for _ in 0..count {
+        hands.push(ForgeTree::new(alloc, seed, files))?;
+    }
+    Ok(hands)
+}
+
+/// An index without rows, on a new store.
+fn new_index(alloc: Global) -> Result<Index, AllocError>
+    ensures { IfOk result IsNewIndex }
+{
+    match open_state(alloc, TrialKeeper::open(alloc)?) {
+        Ok(state) => Ok(state),
+        Err((fault, _)) => {
+            let wants_memory = matches!(fault, OpenFault::OutOfMemory);
+            prove!(wants_memory);
+            Err(AllocError)
+        }
+    }
+}
+
+/// The numbers of a pass that was whole, or the want of memory that it met.
+fn numbers_of(end: PassEnd) -> Result<Summary, AllocError>
+    requires { EndsWell end }
+    ensures { IfOk result (λ summary. end ≡ Whole summary) }
+{
+    match end {
+        PassEnd::Whole(summary) => Ok(summary),
+        PassEnd::OutOfMemory | PassEnd::Walk(WalkFault::OutOfMemory) => Err(AllocError),
+        PassEnd::Walk(
+            WalkFault::Failed
+            | WalkFault::TooMany
+            | WalkFault::TooManyEntries
+            | WalkFault::RootGone(_),
+        ) => unreachable!(),
+        PassEnd::Missed(_) => unreachable!(),
+        PassEnd::Broken | PassEnd::KeeperFault | PassEnd::LogFull => unreachable!(),
+    }
+}
+
+/// Scans the generated files into a new index: gives it, with the numbers of the pass.
+fn scanned<G: Gate, Rt: Threads + Wait + Sync>(
+    rt: &Rt,
+    alloc: Global,
+    seed: u64,
+    files: u64,
+    workers: u64,
+    gate: &G,
+) -> Result<(Index, Summary), AllocError>
+    requires { IsTrialFit files workers }
+    ensures { IfOk result (λ found. HasScanned seed files found.0.rows found.1) }
+{
+    let root = root(alloc)?;
+    let hands = hands_of(alloc, seed, files, workers + 2)?;
+    let state = new_index(alloc)?;
+    let (state, _, end) = scan_state(rt, alloc, state, hands, &[root], &ElfReader, gate);
+    show_index(&state);
+    show_end(&end);
+    if matches!(end, PassEnd::LogFull) {
+        // The log has no more changes than the store made, which has room for fewer than a log.
+        state.into_keeper().show_few();
+        unreachable!()
+    }
+    Ok((state, numbers_of(end)?))
+}
+
+/// The line of a scan of the generated files.
+fn line_of<G: Gate, Rt: Threads + Wait + Sync>(
+    rt: &Rt,
+    alloc: Global,
+    seed: u64,
+    files: u64,
+    workers: u64,
+    gate: &G,
+) -> Result<String, AllocError>
+    requires { IsTrialFit files workers }
+    ensures { IfOk result (λ text. IsLineOf seed files (string_bytes text)) }
+{
+    let (state, summary) = scanned(rt, alloc, seed, files, workers, gate)?;
+    totals_line(alloc, files, &summary, &totals_in(alloc, &state)?)
+}
+
+/// Scans generated files into a new index in memory, by so many workers, and says what it has then.
+pub fn run_trial<O: Sink, G: Gate, Rt: Threads + Wait + Sync>(
+    rt: &Rt,
+    alloc: Global,
+    seed: u64,
+    files: u64,
+    workers: u64,
+    out: &mut O,
+    err: &mut O,
+    gate: &G,
+) -> Status
+    requires { IsTrialFit files workers }
+    ensures { SaysTrial seed files
+        (streams O.shows out.old err.old) (streams O.shows out.new err.new) result }
+{
+    match line_of(rt, alloc, seed, files, workers, gate) {
+        Ok(line) => say(line.as_bytes(), Status::Done, out, err),
+        Err(_) => say_no_memory(out, err),
+    }
+}

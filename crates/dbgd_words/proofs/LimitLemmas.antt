@@ -1,0 +1,98 @@
+-- The numbers of a line that was read are within their limits.
+use Rattle.std.proofs.Common.{◌≡◌, ◌≤◌, ℕ, Bool, true, false, ◌&&◌, List, [], ◌∷◌, Option, Some, None, codes, cond, refl, subst}
+use Rattle.std.specs.List.{list_all, list_any}
+use Rattle.std.specs.Option.{option_map_or}
+use Rattle.std.specs.Prelude.{◌-◌, ◌^◌, map, nat_le, option_and_then}
+use Rattle.std.specs.Str.{bytes_eq}
+use Rattle.std.specs.Str.Parse.{digits_value}
+use Rattle.std.proofs.lemmas.Bool.{and_parts, leb-true}
+use Rattle.clap.specs.Kinds.{Kinds}
+use Rattle.clap.specs.Walk.{Row, all_of, first_of}
+use Rattle.row_types.specs.Canon.{canon}
+use Rattle.dbgd_words.specs.Limits.{FitsLimits}
+use Rattle.dbgd_words.specs.Numbers.{is_number, is_within, number_in}
+use Rattle.dbgd_words.specs.Options.{query_faults, query_rows, scan_faults, scan_rows}
+use Rattle.dbgd_words.specs.Words.{Line, asks_help, asks_query, asks_scan, asks_trial, id_of, ident_line, is_help, is_root, line_of}
+use Rattle.dbgd_words.specs.Words.{query_line, query_said, refused_line, scan_line, scan_said, section_line, sources_line}
+use Rattle.dbgd_words.specs.Words.{trial_asked, trial_line, unbuilt, unbuilt_commands, unreadable}
+use Rattle.dbgd_words.specs.declared.scan.TheConstants.{MOST_WORKERS}
+use Rattle.dbgd_words.specs.declared.trial.TheConstants.{MOST_FILES}
+
+some_is : {a b : ℕ} → Some a ≡ Some b → a ≡ b
+some_is e = cc
+
+-- a number that is read is one of those that may stand there
+number_fits : (least most : ℕ) (text : List ℕ) (n : ℕ) → number_in least most text ≡ Some n → (least ≤ n) × (n ≤ most)
+number_fits least most text n e = go (is_number text && is_within least most (digits_value 10 text)) refl e
+  where
+    go : (b : Bool) → (is_number text && is_within least most (digits_value 10 text)) ≡ b
+        → cond b (Some (digits_value 10 text)) None ≡ Some n → (least ≤ n) × (n ≤ most)
+    go true is found =
+        let within = (and_parts (is_number text) (is_within least most (digits_value 10 text)) is).1 in
+        let ends = and_parts (nat_le least (digits_value 10 text)) (nat_le (digits_value 10 text) most) within in
+        subst (λ m. (least ≤ m) × (m ≤ most)) (some_is found)
+        (leb-true least (digits_value 10 text) ends.0, leb-true (digits_value 10 text) most ends.1)
+    go false is found = absurd (cc)
+
+by_test : (test : Bool) (left right : Line) → FitsLimits left → FitsLimits right → FitsLimits (cond test left right)
+by_test true left right a b = a
+by_test false left right a b = b
+
+by_option : {X : Type 0} (f : X → Line) (o : Option X) → ((x : X) → o ≡ Some x → FitsLimits (f x)) → FitsLimits (option_map_or f o unreadable)
+by_option f None each = tt
+by_option f (Some x) each = each x refl
+
+trial_fits : (words : List (List ℕ)) → FitsLimits (trial_line words)
+trial_fits (seed ∷ files ∷ workers ∷ []) =
+    by_option _ (number_in 0 (2 ^ 64 - 1) seed) (λ s _.
+    by_option _ (number_in 1 MOST_FILES files) (λ f is.
+    by_option (asks_trial s f) (number_in 1 MOST_WORKERS workers) (λ w at.
+    let a = number_fits 1 MOST_FILES files f is in
+    let b = number_fits 1 MOST_WORKERS workers w at in
+    record { some = a.0; few = a.1; one = b.0; most = b.1 })))
+trial_fits [] = tt
+trial_fits (a ∷ []) = tt
+trial_fits (a ∷ b ∷ []) = tt
+trial_fits (a ∷ b ∷ c ∷ d ∷ more) = tt
+
+ident_fits : (words : List (List ℕ)) → FitsLimits (ident_line words)
+ident_fits [] = tt
+ident_fits (a ∷ []) = tt
+ident_fits (a ∷ b ∷ more) = tt
+
+sources_fits : (words : List (List ℕ)) → FitsLimits (sources_line words)
+sources_fits [] = tt
+sources_fits (a ∷ []) = tt
+sources_fits (a ∷ b ∷ more) = tt
+
+section_fits : (words : List (List ℕ)) → FitsLimits (section_line words)
+section_fits [] = tt
+section_fits (a ∷ []) = tt
+section_fits (a ∷ b ∷ []) = tt
+section_fits (a ∷ b ∷ c ∷ more) = tt
+
+query_fits : (kinds : Kinds) (rows : List Row) → FitsLimits (query_said kinds rows)
+query_fits [] rows =
+    by_option _ (first_of (codes "database") rows) (λ store _.
+    by_option (asks_query store) (option_and_then id_of (first_of (codes "ID") rows)) (λ id _. tt))
+query_fits (kind ∷ more) rows = by_test (is_help kind) asks_help unreadable tt tt
+
+scan_fits : (kinds : Kinds) (rows : List Row) → FitsLimits (scan_said kinds rows)
+scan_fits [] rows =
+    by_option _ (first_of (codes "database") rows) (λ store _.
+    by_option _ (option_and_then (number_in 1 MOST_WORKERS) (first_of (codes "concurrency") rows)) (λ workers _.
+    by_option _ (all_of (codes "DIR") rows) (λ folders _.
+    by_test (list_all is_root folders) (asks_scan store workers (map canon folders)) unreadable tt tt)))
+scan_fits (kind ∷ more) rows = by_test (is_help kind) asks_help unreadable tt tt
+
+-- whatever the words are
+pub line_fits : (words : List (List ℕ)) → FitsLimits (line_of words)
+line_fits [] = tt
+line_fits (command ∷ rest) =
+    by_test (bytes_eq command (codes "ident")) _ _ (ident_fits rest)
+    (by_test (bytes_eq command (codes "sources")) _ _ (sources_fits rest)
+    (by_test (bytes_eq command (codes "section")) _ _ (section_fits rest)
+    (by_test (bytes_eq command (codes "query")) _ _ (query_fits (query_faults (command ∷ rest)) (query_rows (command ∷ rest)))
+    (by_test (bytes_eq command (codes "scan")) _ _ (scan_fits (scan_faults (command ∷ rest)) (scan_rows (command ∷ rest)))
+    (by_test (bytes_eq command (codes "trial")) _ _ (trial_fits rest)
+    (by_test (list_any (bytes_eq command) unbuilt_commands) unbuilt unreadable tt tt))))))

@@ -1,0 +1,17 @@
+-- What is known of the numbers of a line that was read (this project's rule).
+use Rattle.std.specs.Prelude.{ℕ, ◌≤◌}
+use Rattle.dbgd_words.specs.Words.{Line, asks_trial}
+use Rattle.dbgd_words.specs.declared.scan.TheConstants.{MOST_WORKERS}
+use Rattle.dbgd_words.specs.declared.trial.TheConstants.{MOST_FILES}
+
+-- a trial has 1 to 100,000 files and 1 to 64 workers
+pub record IsTrialFit (files workers : ℕ) : Type 0 where
+  pub some : 1 ≤ files
+  pub few : files ≤ MOST_FILES
+  pub one : 1 ≤ workers
+  pub most : workers ≤ MOST_WORKERS
+
+-- so is it of a line that asks for one
+abbrev pub FitsLimits : Line → Type 0
+FitsLimits (asks_trial seed files workers) = IsTrialFit files workers
+FitsLimits _ = Unit {0}
