@@ -3,9 +3,12 @@
 # the store for each file, and then again, when each file is kept. The second scan's time is told by the file, beside
 # `find DIR -type f -exec cat {} +`. What a scan of an empty folder takes is the start's, and would hide that the time of
 # a file grows: it is taken off before a file's time is compared, which must not grow by more than a quarter from step to
-# step. It stands outside the gate, since the time of a busy machine says nothing.
+# step. At last a folder of programs is scanned into a new file with one worker and with four, in turn, beside `find` and
+# `cat` of it: a first scan has a commit of the store for each file, one after the other, so that four workers share the
+# reading alone. It stands outside the gate, since the time of a busy machine says nothing.
 #
-# usage: bench/scan.sh [PROGRAM]      PROGRAM is ./dbgd of the repository's top unless given
+# usage: bench/scan.sh [PROGRAM]      PROGRAM is ./dbgd of the repository's top unless given; FOLDER: of programs, /usr/bin
+#                                     unless given
 source "$(dirname -- "$(readlink -f -- "${BASH_SOURCE[0]}")")/../checks/lib/head.sh" || exit 1
 
 # The least of nine runs, in microseconds.
@@ -56,3 +59,24 @@ for count in 1000 4000 16000; do
   before=$each
 done
 [ "$grown" = 0 ] || { say "the time of a file grew by more than a quarter"; exit 1; }
+
+# How long a first scan of the folder takes with so many workers, in microseconds: the least of three runs in turn.
+folder=${FOLDER:-/usr/bin}
+one=0 four=0
+for run in 1 2 3; do
+  for workers in 1 4; do
+    rm -f "$work/new.db" "$work/new.db-wal"
+    begun=$(date +%s%N)
+    "$program" scan -d "$work/new.db" -c "$workers" "$folder" >"$work/line.$workers" || { say "the scan of $folder failed"; exit 1; }
+    took=$((($(date +%s%N) - begun) / 1000))
+    case $workers in
+      1) [ "$one" = 0 ] || [ "$took" -lt "$one" ] && one=$took ;;
+      4) [ "$four" = 0 ] || [ "$took" -lt "$four" ] && four=$took ;;
+    esac
+  done
+done
+cmp -s "$work/line.1" "$work/line.4" || { say "one worker and four said different lines"; exit 1; }
+read=$(least read_all "$folder")
+say "$(cat "$work/line.4") ($folder)"
+say "$(printf 'one worker %d us, four %d us (%d.%02d of one), find and cat %d us (four take %d.%02d times that)' \
+  "$one" "$four" $((four / one)) $((four * 100 / one % 100)) "$read" $((four / read)) $((four * 100 / read % 100)))"
