@@ -2,7 +2,6 @@
 
 ghost use Rattle.std.specs.Prelude.{◌≡◌, ℕ, List, Some};
 ghost use Rattle.file_formats.specs.Table.{IsSectionAnswer};
-ghost use Rattle.answer_check.specs.Certified.{IsCertified};
 ghost use Rattle.answer_core.specs.Section.{HasNamed, named};
 
 use answer_check::Certified;

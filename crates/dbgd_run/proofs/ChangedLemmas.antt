@@ -1,91 +1,24 @@
 -- A scan that ends at a file that was another, or at one that appeared.
-use Rattle.std.proofs.Common.{◌≡◌, ℕ, ◌||◌, Bool, true, false, List, [], ◌∷◌, ◌++◌, refl, sym, ◌∙◌, subst, Some, None, arith}
-use Rattle.std.specs.Prelude.{◌&&◌, if◌then◌else◌}
+use Rattle.std.proofs.Common.{◌≡◌, ℕ, Bool, true, false, List, ◌++◌, sym, ◌∙◌, Some}
 use Rattle.std.specs.List.{All, Contains}
-use Rattle.std.specs.Option.{option_or}
-use Rattle.std.specs.Str.{bytes_eq}
 use Rattle.std.proofs.lemmas.Bool.{true≢false}
-use Rattle.std.proofs.lemmas.List.Elements.{All-head, All-tail, All-nil, All-cons, All-contains, Contains-append_right}
-use Rattle.std.proofs.lemmas.List.Folds.{list_any_at}
-use Rattle.std.proofs.lemmas.Slice.Eq.{bytes_eq-Decides}
+use Rattle.std.proofs.lemmas.List.Elements.{All-contains, Contains-append_right}
 use Rattle.row_types.specs.Canon.{IsCanonPath}
-use Rattle.row_types.specs.Name.{NameFacts, same_name, stamp_at}
-use Rattle.scan_queue.specs.Names.{is_in}
+use Rattle.row_types.specs.Name.{NameFacts, stamp_at}
 use Rattle.scan_queue.specs.declared.miss.Cause.{Cause}
 use Rattle.scan_queue.specs.declared.miss.Cause.TheVariants.{ReadFault, Altered, Appeared}
-use Rattle.scan_queue.specs.declared.miss.Seen.{Seen}
-use Rattle.scan_queue.proofs.NameTests.{same_name-Decides}
 use Rattle.index_state.specs.Judge.{is_under}
-use Rattle.scan_worker.specs.Read.{FindsOther, load_of}
+use Rattle.scan_worker.specs.Read.{load_of}
 use Rattle.tree_trait.specs.Asks.{IsTold}
 use Rattle.tree_trait.specs.Found.{Versions}
 use Rattle.tree_trait.specs.Heard.{Heard, stat}
-use Rattle.tree_trait.specs.Load.{LoadFacts, loaded, too_large, gone, TellsLoad}
 use Rattle.tree_trait.specs.Shown.{ShownTree}
-use Rattle.tree_trait.specs.Stat.{TellsStat}
-use Rattle.tree_trait.specs.declared.stat.StatAnswer.{StatAnswer}
 use Rattle.tree_trait.specs.declared.stat.StatAnswer.TheVariants.{File}
-use Rattle.tree_walk.specs.Answers.{first_look, is_look_answer}
 use Rattle.tree_walk.specs.declared.walked.Walk.{Walk}
 use Rattle.pass_runner.proofs.NameLists.{in_by_stamp}
+use Rattle.pass_runner.proofs.StillLemmas.{all_front, contained, first_told, is_contained, none_other}
 use Rattle.pass_runner.specs.Owned.{HearsPass, TellsStill}
 use Rattle.pass_runner.specs.Settled.{IsBacked, IsWanted}
-
--- what holds of each holds of those in front
-all_front : {X : Type 0} (P : X → Type 0) (xs ys : List X) → All P (xs ++ ys) → All P xs
-all_front P [] ys h = All-nil P
-all_front P (x ∷ xs) ys h = All-cons P x xs (All-head P x (xs ++ ys) h) (all_front P xs ys (All-tail P x (xs ++ ys) h))
-
-some_one : {a b : StatAnswer} → Some a ≡ Some b → a ≡ b
-some_one e = cc
-
--- the first look of told answers at a path is told
-first_told : (present : List NameFacts) (path : List ℕ) (answers : List Heard) (answer : StatAnswer)
-    → All (IsTold present) answers → first_look answers path ≡ Some answer
-    → TellsStat present path answer
-first_told present path [] answer told e = absurd (cc)
-first_told present path (stat asked given ∷ rest) answer told e =
-    look_told (All-head (IsTold present) (stat asked given) rest told)
-    (λ h. first_told present path rest answer (All-tail (IsTold present) (stat asked given) rest told) h)
-    (bytes_eq asked path) refl (is_look_answer given) e
-  where
-    look_told : TellsStat present asked given
-        → (first_look rest path ≡ Some answer → TellsStat present path answer) → (same : Bool)
-        → bytes_eq asked path ≡ same → (answered : Bool)
-        → option_or (if same && answered then Some given else None) (first_look rest path) ≡ Some answer
-        → TellsStat present path answer
-    look_told here later true is true e =
-        subst (λ (a : StatAnswer). TellsStat present path a) (some_one e)
-        (subst (λ (p : List ℕ). TellsStat present p given) ((bytes_eq-Decides asked path).0 is) here)
-    look_told here later true is false e = later e
-    look_told here later false is answered e = later e
-first_told present path (asked ∷ rest) answer told e =
-    first_told present path rest answer (All-tail (IsTold present) asked rest told) e
-
--- a load of the files that are there shows no other file
-none_other : (present : List NameFacts) (name : NameFacts) (answer : LoadFacts) (met : Seen)
-    → stamp_at present name.path ≡ Some name.stamp → TellsLoad present name.path answer
-    → FindsOther name answer met → ⊥
-none_other present name (loaded found) met there tells finds = finds.0 (cc)
-none_other present name (too_large stamp) met there tells finds = finds.0 (cc)
-none_other present name gone met there tells finds = absurd (cc)
-none_other present name _ met there tells finds = finds
-
--- a name of the list is one of its elements
-contained : (names : List NameFacts) (name : NameFacts) → is_in names name ≡ true → Contains names name
-contained [] name e = absurd (cc)
-contained (n ∷ names) name e = step (same_name name n) refl (λ h. contained names name h) e
-  where
-    step : (b : Bool) → same_name name n ≡ b → (is_in names name ≡ true → Contains names name)
-        → (b || is_in names name) ≡ true → Contains (n ∷ names) name
-    step true same further here = (0, omega arith, sym ((same_name-Decides name n).0 same))
-    step false differs further later = Contains-append_right (n ∷ []) names name (further later)
-
--- and so back
-is_contained : (names : List NameFacts) (name : NameFacts) → Contains names name → is_in names name ≡ true
-is_contained names name h =
-    list_any_at (same_name name) names h.0 name h.1
-    (subst (λ (n : NameFacts). same_name name n ≡ true) (sym h.2) ((same_name-Decides name name).1 refl))
 
 -- whether a name was missed since a file is another by now
 abbrev pub IsChange : Cause → Type 0

@@ -13,8 +13,8 @@ use Rattle.dbgd_words.specs.Limits.{FitsLimits}
 use Rattle.dbgd_words.specs.Numbers.{is_number, is_within, number_in}
 use Rattle.dbgd_words.specs.Options.{query_faults, query_rows, scan_faults, scan_rows}
 use Rattle.dbgd_words.specs.Words.{Line, asks_help, asks_query, asks_scan, asks_trial, id_of, ident_line, is_help, is_root, line_of}
-use Rattle.dbgd_words.specs.Words.{query_line, query_said, refused_line, scan_line, scan_said, section_line, sources_line}
-use Rattle.dbgd_words.specs.Words.{trial_asked, trial_line, unbuilt, unbuilt_commands, unreadable}
+use Rattle.dbgd_words.specs.Words.{query_said, scan_said, section_line, sources_line}
+use Rattle.dbgd_words.specs.Words.{trial_line, unbuilt, unbuilt_commands, unreadable}
 use Rattle.dbgd_words.specs.declared.scan.TheConstants.{MOST_WORKERS}
 use Rattle.dbgd_words.specs.declared.trial.TheConstants.{MOST_FILES}
 

@@ -12,7 +12,7 @@ use Rattle.row_types.specs.Canon.{canon}
 use Rattle.dbgd_words.specs.Numbers.{number_in}
 use Rattle.dbgd_words.specs.Options.{query_faults, query_rows, scan_faults, scan_rows}
 use Rattle.dbgd_words.specs.Words.{Line, asks_help, asks_query, asks_scan, has_options, id_of, is_help, is_root, line_of}
-use Rattle.dbgd_words.specs.Words.{query_asked, query_line, query_said, refused_line, scan_asked, scan_line, scan_said, unreadable}
+use Rattle.dbgd_words.specs.Words.{query_said, refused_line, scan_said, unreadable}
 use Rattle.dbgd_words.specs.declared.scan.TheConstants.{MOST_WORKERS}
 
 -- what words that are read as options may ask

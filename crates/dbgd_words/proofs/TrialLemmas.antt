@@ -1,5 +1,5 @@
 -- Lines of `trial` with more or fewer words than three.
-use Rattle.std.proofs.Common.{◌≡◌, ◌≢◌, ℕ, List, [], ◌∷◌, length, refl, arith}
+use Rattle.std.proofs.Common.{◌≡◌, ◌≢◌, ℕ, List, [], ◌∷◌, length, refl}
 use Rattle.dbgd_words.specs.Words.{trial_line, unreadable}
 
 pub no_three : (words : List (List ℕ)) → length words ≢ 3 → unreadable ≡ trial_line words

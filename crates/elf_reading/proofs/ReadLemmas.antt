@@ -6,7 +6,7 @@ use Rattle.file_formats.specs.DwarfUnits.{DebugSections}
 use Rattle.file_formats.specs.declared.fault.Why.TheVariants.{TooLarge}
 use Rattle.row_types.specs.Ascends.{Ascends}
 use Rattle.row_types.specs.Name.{NameFacts}
-use Rattle.row_types.specs.Reading.{IsReading, IsTrueRow, IsVersionRead, ReadsBytes}
+use Rattle.row_types.specs.Reading.{IsReading, IsTrueRow, ReadsBytes}
 use Rattle.row_types.specs.Row.{too_large_row}
 use Rattle.row_types.specs.Sources.{AreSourcesOf, IsSource}
 use Rattle.row_types.specs.Stamp.{StampFacts}

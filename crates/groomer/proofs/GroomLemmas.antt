@@ -1,5 +1,5 @@
 -- The work of a groomer, step by step.
-use Rattle.std.proofs.Common.{◌≡◌, ℕ, ◌+◌, ◌≤◌, Bool, Option, Some, refl, subst, arith}
+use Rattle.std.proofs.Common.{◌≡◌, Bool, Option, Some, refl, subst, arith}
 use Rattle.index_lock.proofs.Later.{later_self, later_trans}
 use Rattle.index_lock.specs.Tokens.{IsLater, SeatFacts}
 use Rattle.index_rows.specs.declared.change.Change.{Change}

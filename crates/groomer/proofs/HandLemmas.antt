@@ -1,5 +1,5 @@
 -- The looks of a hand, one after the other.
-use Rattle.std.proofs.Common.{◌≡◌, ℕ, ◌+◌, ◌≤◌, Bool, true, false, cond, List, [], ◌∷◌, ◌++◌, refl, sym, ◌∙◌, ap, subst, arith}
+use Rattle.std.proofs.Common.{◌≡◌, ℕ, ◌+◌, ◌≤◌, Bool, true, false, cond, List, [], ◌++◌, refl, sym, ap, subst, arith}
 use Rattle.std.specs.List.{All, count_by}
 use Rattle.std.specs.Bool.{OnTrue, OnFalse}
 use Rattle.std.proofs.lemmas.Bool.{OnTrue_at, OnFalse_at}
@@ -9,7 +9,6 @@ use Rattle.row_types.specs.Faults.{raised}
 use Rattle.row_types.specs.Name.{NameFacts}
 use Rattle.scan_queue.specs.declared.miss.Seen.{Seen}
 use Rattle.scan_queue.specs.declared.miss.Seen.TheVariants as seen
-use Rattle.tree_trait.specs.Asks.{Asks}
 use Rattle.tree_trait.specs.Found.{Versions}
 use Rattle.tree_trait.specs.Heard.{Heard, stat, has_failed}
 use Rattle.tree_trait.specs.Shown.{ShownTree}

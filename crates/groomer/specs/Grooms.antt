@@ -1,6 +1,6 @@
 -- Grooming (this project's rule), by the token and the hand that a groomer was given and gives back. Nothing is subtracted:
 -- what was there before stands on the other side.
-use Rattle.std.specs.Prelude.{◌≡◌, ℕ, ◌+◌, ◌≤◌, Bool}
+use Rattle.std.specs.Prelude.{◌+◌, ◌≤◌, Bool}
 use Rattle.row_types.specs.Faults.{raised}
 use Rattle.index_lock.specs.Tokens.{IsLater, SeatFacts}
 use Rattle.index_rows.specs.declared.change.Change.{Change}

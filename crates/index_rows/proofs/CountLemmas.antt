@@ -1,5 +1,5 @@
 -- How many rows an index has: no more than changes.
-use Rattle.std.proofs.Common.{◌≡◌, ℕ, ◌+◌, ◌≤◌, suc, true, false, not, cond, List, [], ◌∷◌, ◌++◌, length, map, refl, ap, arith, length-append}
+use Rattle.std.proofs.Common.{◌≡◌, ◌+◌, ◌≤◌, true, false, not, cond, List, [], ◌∷◌, length, map, refl, ap, arith, length-append}
 use Rattle.std.specs.List.{filter, fold}
 use Rattle.std.specs.Prelude.{Bool, if◌then◌else◌}
 use Rattle.std.proofs.lemmas.List.{length-map}
@@ -8,8 +8,8 @@ use Rattle.row_types.specs.Name.{NameFacts, same_name}
 use Rattle.row_types.specs.Row.{RowFacts}
 use Rattle.row_types.proofs.AscendsLemmas.{before_from_test}
 use Rattle.index_rows.specs.ByPath.{put_at}
-use Rattle.index_rows.specs.Log.{after_change, replay}
-use Rattle.index_rows.specs.Rows.{IsIndex, RowsFacts, row_names}
+use Rattle.index_rows.specs.Log.{after_change}
+use Rattle.index_rows.specs.Rows.{IsIndex, RowsFacts}
 use Rattle.index_rows.specs.declared.change.Change.{Change}
 use Rattle.index_rows.proofs.PathLemmas.{fails_after}
 

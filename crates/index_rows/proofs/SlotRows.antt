@@ -18,7 +18,7 @@ use Rattle.std.proofs.lemmas.Slice.Eq.{bytes_eq-Decides}
 use Rattle.row_types.specs.Ascends.{IsBefore}
 use Rattle.row_types.specs.Row.{RowFacts}
 use Rattle.index_rows.specs.Rows.{row_at, row_path, with_row, without_row}
-use Rattle.index_rows.specs.Slots.{AreSlots, HasSlot, IsOwn, Slot, rows_in, slot_at}
+use Rattle.index_rows.specs.Slots.{AreSlots, IsOwn, Slot, rows_in, slot_at}
 use Rattle.index_rows.proofs.ApartLemmas.{IsApart, found_apart, put_apart, without_apart}
 use Rattle.index_rows.proofs.SlotLemmas.{HasCut, IsCut, cut_of, insert_cut, own_slot, remove_cut, set_cut, slot_cut}
 

@@ -1,6 +1,6 @@
 //! Skipped names, and an index behind a lock.
 
-ghost use Rattle.std.specs.Prelude.{◌≡◌, Some, length};
+ghost use Rattle.std.specs.Prelude.{◌≡◌, Some};
 ghost use Rattle.index_state.specs.Invariant.{IndexInvariant};
 ghost use Rattle.index_state.specs.Spare.{after_spare};
 

@@ -30,7 +30,7 @@ use Rattle.pass_runner.specs.Owned.{TellsStill}
 use Rattle.pass_runner.specs.SharedPass.{HearsShared, HeardOther, HeardThere, IsStray}
 
 -- what holds of each holds of those in front
-all_front : {X : Type 0} (P : X → Type 0) (xs ys : List X) → All P (xs ++ ys) → All P xs
+pub all_front : {X : Type 0} (P : X → Type 0) (xs ys : List X) → All P (xs ++ ys) → All P xs
 all_front P [] ys h = All-nil P
 all_front P (x ∷ xs) ys h = All-cons P x xs (All-head P x (xs ++ ys) h) (all_front P xs ys (All-tail P x (xs ++ ys) h))
 
@@ -38,7 +38,7 @@ some_one : {a b : StatAnswer} → Some a ≡ Some b → a ≡ b
 some_one e = cc
 
 -- the first look of told answers at a path is told
-first_told : (present : List NameFacts) (path : List ℕ) (answers : List Heard) (answer : StatAnswer)
+pub first_told : (present : List NameFacts) (path : List ℕ) (answers : List Heard) (answer : StatAnswer)
     → All (IsTold present) answers → first_look answers path ≡ Some answer
     → TellsStat present path answer
 first_told present path [] answer told e = absurd (cc)
@@ -61,7 +61,7 @@ first_told present path (asked ∷ rest) answer told e =
     first_told present path rest answer (All-tail (IsTold present) asked rest told) e
 
 -- a load of the files that are there shows no other file
-none_other : (present : List NameFacts) (name : NameFacts) (answer : LoadFacts) (met : Seen)
+pub none_other : (present : List NameFacts) (name : NameFacts) (answer : LoadFacts) (met : Seen)
     → stamp_at present name.path ≡ Some name.stamp → TellsLoad present name.path answer
     → FindsOther name answer met → ⊥
 none_other present name (loaded found) met there tells finds = finds.0 (cc)
@@ -80,7 +80,7 @@ contained (n ∷ names) name e = step (same_name name n) refl (λ h. contained n
     step false differs further later = Contains-append_right (n ∷ []) names name (further later)
 
 -- and so back
-is_contained : (names : List NameFacts) (name : NameFacts) → Contains names name → is_in names name ≡ true
+pub is_contained : (names : List NameFacts) (name : NameFacts) → Contains names name → is_in names name ≡ true
 is_contained names name h =
     list_any_at (same_name name) names h.0 name h.1
     (subst (λ (n : NameFacts). same_name name n ≡ true) (sym h.2) ((same_name-Decides name name).1 refl))

@@ -1,6 +1,6 @@
 //! A pass over an index that is owned.
 
-ghost use Rattle.std.specs.Prelude.{◌≡◌, ℕ, ◌<◌, ◌≤◌, List, drop, false, length, vec_len, IfOk, IsTrue};
+ghost use Rattle.std.specs.Prelude.{◌≡◌, ◌<◌, ◌≤◌, List, drop, false, length, vec_len, IfOk, IsTrue};
 ghost use Rattle.row_types.specs.Faults.{HasCause};
 ghost use Rattle.row_types.specs.Name.{NameFacts};
 ghost use Rattle.row_types.specs.Rules.{rules};

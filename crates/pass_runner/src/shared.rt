@@ -3,8 +3,7 @@
 ghost use Rattle.std.specs.Prelude.{◌≡◌, ◌≤◌, [], vec_capacity, vec_len, IfErr, IfOk};
 ghost use Rattle.std.specs.List.{AllZip};
 ghost use mathlib.Core.List.{IsPrefix};
-ghost use Rattle.lock_crew.specs.Runs.{RunsBy};
-ghost use Rattle.pass_runner.specs.Helped.{HelpedFrom, HelpsFrom};
+ghost use Rattle.pass_runner.specs.Helped.{HelpedFrom};
 
 use crate::crew::run_crew;
 use crate::helper::Helper;

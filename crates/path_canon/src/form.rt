@@ -1,6 +1,6 @@
 //! The canonical path of a text.
 
-ghost use Rattle.std.specs.Prelude.{◌≡◌, ◌↔◌, ◌<◌, [], length, map, fold, nat_eq, Err};
+ghost use Rattle.std.specs.Prelude.{◌≡◌, ◌↔◌, ◌<◌, [], map, fold, nat_eq, Err};
 ghost use Rattle.std.specs.Prelude.{IsTrue, IfOk, OnOk, string_bytes};
 ghost use Rattle.path_canon.specs.Absolute.{AskedFor};
 ghost use Rattle.row_types.specs.Absolute.{is_absolute};

@@ -1,11 +1,8 @@
 -- Lists of names (this project's rule): a list is by path where each path stands before each later one.
-use Rattle.std.specs.Prelude.{ℕ, ◌≤◌, Bool, not, List, Option, length, filter, find}
+use Rattle.std.specs.Prelude.{◌≤◌, Bool, not, List, length, filter}
 use Rattle.std.specs.List.{list_any}
-use Rattle.std.specs.Option.{option_map}
-use Rattle.std.specs.Str.{bytes_eq}
 use Rattle.row_types.specs.Ascends.{AscendsBy}
 use Rattle.row_types.specs.Name.{NameFacts, same_name}
-use Rattle.row_types.specs.Stamp.{StampFacts}
 use Rattle.scan_queue.specs.declared.listing.TheConstants.{LISTING_LIMIT}
 
 -- whether the name is in the list

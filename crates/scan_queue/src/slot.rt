@@ -1,8 +1,8 @@
 //! The slots of a pass.
 
-ghost use Rattle.std.specs.Prelude.{◌≡◌, ◌<◌, ◌≤◌, ◌↔◌, true, false, length, count_by, IsTrue};
+ghost use Rattle.std.specs.Prelude.{◌≡◌, ◌<◌, ◌≤◌, ◌↔◌, true, false, length, IsTrue};
 ghost use Rattle.std.specs.Prelude.{IfOk, IfErr, OnOk, MatchOption, All};
-ghost use Rattle.std.specs.List.{HoldsAt, list_all};
+ghost use Rattle.std.specs.List.{HoldsAt};
 ghost use Rattle.std.specs.List.Sorted.{IsPartitionPoint};
 ghost use Rattle.row_types.specs.Ascends.{is_before};
 ghost use Rattle.row_types.specs.Name.{same_name};

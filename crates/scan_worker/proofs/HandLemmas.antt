@@ -1,16 +1,15 @@
 -- What a worker asks of its hand, and what it counts.
-use Rattle.std.proofs.Common.{◌≡◌, ℕ, ◌+◌, ◌-◌, ◌^◌, ◌≤◌, min, Bool, List, [], ◌∷◌, ◌++◌, None, refl, sym, ◌∙◌, ap, subst, arith}
+use Rattle.std.proofs.Common.{◌≡◌, ℕ, ◌+◌, ◌-◌, ◌^◌, ◌≤◌, min, Bool, List, [], sym, ap, subst, arith}
 use Rattle.std.specs.List.{All}
-use Rattle.std.proofs.lemmas.List.Elements.{All-nil, All-append}
-use Rattle.row_types.specs.Name.{NameFacts, stamp_at}
+use Rattle.std.proofs.lemmas.List.Elements.{All-nil}
+use Rattle.row_types.specs.Name.{NameFacts}
 use Rattle.tree_trait.specs.Found.{Versions}
-use Rattle.tree_trait.specs.Heard.{Heard}
 use Rattle.tree_trait.specs.Listens.{heard_of, loads}
 use Rattle.tree_trait.specs.Load.{LoadFacts, loaded, too_large, gone, failed, no_memory}
 use Rattle.tree_trait.specs.Shown.{ShownTree}
-use Rattle.tree_trait.proofs.ListenLemmas.{all_heard, listens_none, listens_then, loads_both}
+use Rattle.tree_trait.proofs.ListenLemmas.{listens_none}
 use Rattle.scan_worker.specs.Read.{LeadsTo, load_of}
-use Rattle.scan_worker.specs.Turns.{AsksFor, CountsLoad, counted_by}
+use Rattle.scan_worker.specs.Turns.{CountsLoad, counted_by}
 use Rattle.scan_worker.specs.Works.{HandLoads, IsSparingLoad}
 use Rattle.scan_worker.specs.declared.read.NameRead.{NameRead}
 use Rattle.scan_worker.specs.declared.read.NameRead.TheVariants.{Row, Altered, Failed, OutOfMemory}

@@ -1,5 +1,7 @@
 //! A gate that holds one point until another has come.
 
+ghost use Rattle.std.specs.Prelude.{◌≡◌};
+
 use crate::gate::{Gate, Point};
 use std::sync::Wait;
 use std::sync::atomic::{AtomicBool, Ordering};
@@ -46,7 +48,11 @@ pub struct TurnGate {
 
 impl TurnGate {
     /// A gate that holds the first point until the second came.
-    pub fn new(held: Hold, until: Hold, turns: u64) -> TurnGate {
+    pub fn new(held: Hold, until: Hold, turns: u64) -> TurnGate
+        ensures held { result.held ≡ held }
+        ensures until { result.until ≡ until }
+        ensures turns { result.turns ≡ turns }
+    {
         TurnGate {
             held,
             until,

@@ -1,6 +1,6 @@
 //! The walk.
 
-ghost use Rattle.std.specs.Prelude.{◌≡◌, ◌+◌, ◌≤◌, ◌<◌, ℕ, List, [], true, ◌∷◌, ◌++◌, ◌^◌, length};
+ghost use Rattle.std.specs.Prelude.{◌≡◌, ◌+◌, ◌≤◌, ◌<◌, ℕ, List, [], ◌∷◌, ◌++◌, ◌^◌, length};
 ghost use Rattle.std.specs.Prelude.{IsTrue, IfErr, IfOk, OnOk};
 ghost use Rattle.std.specs.String.{string_bytes};
 ghost use Rattle.row_types.specs.Canon.{IsCanonPath};

@@ -1,5 +1,5 @@
 -- A slot is taken in which nothing was.
-use Rattle.std.proofs.Common.{◌≡◌, List, Option, None, Some, sym, ◌∙◌, ap, subst, length}
+use Rattle.std.proofs.Common.{◌≡◌, Option, None, Some, sym, ◌∙◌, ap, subst, length}
 use Rattle.std.specs.Prelude.{IsSome}
 use Rattle.row_types.specs.Row.{RowFacts}
 use Rattle.index_rows.specs.Slots.{HasSlot, rows_in, slot_at}

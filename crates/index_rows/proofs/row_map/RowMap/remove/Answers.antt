@@ -1,7 +1,6 @@
 -- The path's slot is taken with its row.
-use Rattle.std.proofs.Common.{List, Option, sym, ◌∙◌, ap, subst, arith}
+use Rattle.std.proofs.Common.{List, sym, ◌∙◌, ap, subst, arith}
 use Rattle.std.specs.Prelude.{IsSome}
-use Rattle.row_types.specs.Row.{RowFacts}
 use Rattle.index_rows.specs.Rows.{row_at, without_row}
 use Rattle.index_rows.specs.Slots.{Slot, rows_in}
 use Rattle.index_rows.proofs.SlotRows.{removal_done, row_slot}
