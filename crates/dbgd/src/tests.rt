@@ -6,6 +6,8 @@ mod closed;
 mod paths;
 mod refusals;
 mod refusing;
+mod stopping;
+mod stops;
 
 use std::fs::{File, Permissions};
 use std::io::{Error, ErrorKind};

@@ -1,5 +1,5 @@
 -- The laws of the sample world (this project's example): a path and a time name one sample.
-use Rattle.std.proofs.Common.{◌≡◌, sym, ◌∙◌, ap, refl, ℕ, List, [], ◌∷◌, Option, Some, ◌&&◌}
+use Rattle.std.proofs.Common.{◌≡◌, sym, ◌∙◌, ap, refl, ℕ, List, ◌∷◌, Option, Some, ◌&&◌}
 use Rattle.std.specs.Prelude.{ℤ}
 use Rattle.std.specs.List.{find}
 use Rattle.std.specs.Option.{option_map_or}
@@ -13,9 +13,8 @@ use Rattle.row_types.specs.Stamp.{StampFacts}
 use Rattle.sample_world.specs.Samples.{sample_path, sample_secs, sample_bytes, IsSample}
 use Rattle.sample_world.specs.declared.sample.TheConstants.{REFERENCE_TREE}
 use Rattle.sample_world.specs.declared.sample.Sample.{Sample}
-use Rattle.sample_world.specs.declared.sample.Sample.TheVariants.{Empty, FirstLibrary, SecondLibrary, Program}
-use Rattle.sample_world.specs.declared.sample.Sample.TheVariants.{Script, Tool, Notes, OtherMachine}
-use Rattle.sample_world.specs.declared.sample.Sample.TheVariants.{ToolDebug, Readme, Header, Source, Before}
+use Rattle.sample_world.specs.declared.sample.Sample.TheVariants.{Empty}
+use Rattle.sample_world.specs.declared.sample.Sample.TheVariants.{Before}
 use Rattle.sample_world.specs.declared.sample.Sample.TheVariants.{After}
 
 -- all samples

@@ -9,5 +9,5 @@ mod trees;
 mod world;
 
 pub use sample::{REFERENCE_TREE, Sample};
-pub use trees::{changed_file_script, files_of, reference_script};
+pub use trees::{changed_file_script, files_of, open_files, open_script, reference_script};
 pub use world::SampleWorld;

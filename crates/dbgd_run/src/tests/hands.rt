@@ -1,7 +1,6 @@
 //! The hands of the tests.
 
-ghost use Rattle.std.specs.Prelude.{◌≡◌, map, IfOk, IsTrue};
-ghost use Rattle.sample_world.specs.Samples.{sample_found};
+ghost use Rattle.std.specs.Prelude.{◌≡◌, IfOk, IsTrue};
 ghost use Rattle.tree_trait.specs.Script.{is_stage};
 
 use row_types::{OpenWorld, Stamp};
@@ -9,7 +8,7 @@ use sample_files::{
     ID_A, ID_B, big_endian_debug, both_classes, chosen_ids, debug_companion, dwarf_five,
     eight_aligned_notes, executable, extended_counts,
 };
-use sample_world::{REFERENCE_TREE, Sample};
+use sample_world::open_script;
 use std::alloc::{AllocError, Global};
 use std::test::Fail;
 use tree_trait::{DirAnswer, Found, LoadAnswer, MemTree, Script, StatAnswer, Tree, TwoWorld};
@@ -179,31 +178,9 @@ pub fn turning(
     Ok(MemTree::new(alloc, script))
 }
 
-/// The files, in the open world.
-fn open_files(alloc: Global, samples: &[Sample]) -> Result<Vec<Found<OpenWorld>>, AllocError>
-    ensures { IfOk result (λ files. files.items ≡ map sample_found samples.now) }
-{
-    let mut files = Vec::with_capacity(alloc, samples.len())?;
-    for sample in samples {
-        let Found {
-            path,
-            stamp,
-            bytes,
-            ..
-        } = sample.found(alloc)?;
-        files.push(Found::new(path, stamp, bytes))?;
-    }
-    Ok(files)
-}
-
 /// A hand of the open world that has the reference tree.
 pub fn reference(alloc: Global) -> Result<MemTree<OpenWorld>, Fail> {
-    let script = Script {
-        stages: vec![in alloc; open_files(alloc, &REFERENCE_TREE)?]?,
-        moves: Vec::new(alloc),
-        bad_calls: Vec::new(alloc),
-    };
-    Ok(MemTree::new(alloc, script))
+    Ok(MemTree::new(alloc, open_script(alloc)?))
 }
 
 /// A hand of the told world of one byte a file, which has `/w/a`.
