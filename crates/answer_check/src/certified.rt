@@ -11,7 +11,7 @@ use row_types::{BuildId, Ident, Kind, Why};
 use std::marker::Model;
 
 /// Why bytes are not certified. The variants stand in the order of the tests.
-#[derive(Clone, Copy, Debug, PartialEq, Eq)]
+#[derive(Clone, Copy, PartialEq, Eq)]
 pub enum CheckFault {
     /// The file has no identity, for this reason.
     Plain(Why),

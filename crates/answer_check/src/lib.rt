@@ -3,7 +3,5 @@
 #![tactic(auto)]
 
 mod certified;
-#[cfg(test)]
-mod tests;
 
 pub use certified::{Certified, CheckFault, certify};

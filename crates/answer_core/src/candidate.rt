@@ -3,7 +3,7 @@
 use row_types::{CanonPath, Kind};
 
 /// A file that may answer a route.
-#[derive(Debug, Drop)]
+#[derive(Drop)]
 pub struct Candidate {
     /// The class that its row has and that its bytes are to have. None: a source, of which any
     /// bytes pass.

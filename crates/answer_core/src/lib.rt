@@ -11,8 +11,6 @@ mod file_section;
 mod local;
 mod look_up;
 mod passed;
-#[cfg(test)]
-mod tests;
 
 pub use candidate::Candidate;
 pub use file_section::FileSection;

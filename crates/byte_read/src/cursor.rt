@@ -14,7 +14,7 @@ use file_formats::Order;
 use std::marker::Model;
 
 /// A place in bytes. Contracts see it as its bytes, its order and its place.
-#[derive(Debug, Drop)]
+#[derive(Drop)]
 pub struct Cursor<'a> {
     bytes: &'a [u8],
     order: Order,

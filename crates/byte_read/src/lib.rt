@@ -13,6 +13,3 @@ pub use cursor::Cursor;
 pub use fault::Fault;
 pub use file_formats::Order;
 pub use places::{text_at, u16_at, u32_at, u64_at};
-
-#[cfg(test)]
-mod tests;

@@ -8,8 +8,6 @@ mod method;
 mod reason;
 mod report;
 mod send;
-#[cfg(test)]
-mod tests;
 mod turn;
 
 pub use connection::{REQUESTS, serve_connection};

@@ -8,7 +8,7 @@ use http_wire::HeadFault;
 use webapi_routes::RouteFault;
 
 /// Why a request gets its reply.
-#[derive(Clone, Copy, Debug, PartialEq, Eq)]
+#[derive(Clone, Copy, PartialEq, Eq)]
 pub enum Reason {
     /// A file here passed.
     Local,

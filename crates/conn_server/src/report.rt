@@ -6,7 +6,7 @@ use webapi_routes::{Route, RouteFault};
 
 /// What a request asks for, or the first reason why it asks for nothing. The variants stand in the
 /// order in which they are looked for from the end: the head first, the route last.
-#[derive(Debug, PartialEq, Eq, Drop)]
+#[derive(PartialEq, Eq, Drop)]
 pub enum Asked {
     /// A route.
     Route(Route),
@@ -21,7 +21,7 @@ pub enum Asked {
 }
 
 /// One request with its reply, which was written whole.
-#[derive(Debug, PartialEq, Eq, Drop)]
+#[derive(PartialEq, Eq, Drop)]
 pub struct Served {
     /// What was asked.
     pub asked: Asked,
@@ -36,7 +36,7 @@ pub struct Served {
 }
 
 /// How a connection ended.
-#[derive(Clone, Copy, Debug, PartialEq, Eq)]
+#[derive(Clone, Copy, PartialEq, Eq)]
 pub enum ConnEnd {
     /// The source ended before a head's first byte, or a reply closed.
     Closed,
@@ -55,7 +55,7 @@ pub enum ConnEnd {
 }
 
 /// What is told of a connection.
-#[derive(Debug, Drop)]
+#[derive(Drop)]
 pub struct ConnReport {
     /// The requests that were answered, in order.
     pub served: Vec<Served>,

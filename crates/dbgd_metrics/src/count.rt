@@ -2,7 +2,7 @@
 use crate::number::RouteName;
 
 /// What happened.
-#[derive(Clone, Copy, Debug, PartialEq, Eq)]
+#[derive(Clone, Copy, PartialEq, Eq)]
 pub enum Count {
     /// A reply was written whole.
     Request {
@@ -21,7 +21,7 @@ pub enum Count {
 }
 
 /// Whether it was counted.
-#[derive(Clone, Copy, Debug, PartialEq, Eq)]
+#[derive(Clone, Copy, PartialEq, Eq)]
 pub enum Counted {
     /// It was.
     Done,

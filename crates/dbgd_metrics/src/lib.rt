@@ -5,14 +5,10 @@
 mod book;
 mod count;
 mod counting;
-#[cfg(test)]
-mod expected;
 mod number;
 mod page;
 mod plays;
 mod share;
-#[cfg(test)]
-mod tests;
 mod totals;
 mod view;
 

@@ -9,7 +9,7 @@ pub const NUMBERS: u64 = 53;
 pub const STATUSES: [u16; 8] = [200, 400, 404, 405, 431, 502, 503, 507];
 
 /// What a request asked for.
-#[derive(Clone, Copy, Debug, PartialEq, Eq)]
+#[derive(Clone, Copy, PartialEq, Eq)]
 pub enum RouteName {
     /// The debug file of a build-id.
     Debuginfo,
@@ -26,7 +26,7 @@ pub enum RouteName {
 }
 
 /// One number of a share.
-#[derive(Clone, Copy, Debug, PartialEq, Eq)]
+#[derive(Clone, Copy, PartialEq, Eq)]
 pub enum Number {
     /// Requests of this route that were replied to with this status.
     Requests {

@@ -15,8 +15,6 @@ mod section;
 mod sources;
 mod speech;
 mod status;
-#[cfg(test)]
-mod tests;
 mod texts;
 mod trial;
 mod trial_keeper;
@@ -28,5 +26,7 @@ pub use demands::needs;
 pub use elf_reading::ElfTruth;
 pub use http_wire::{MemSink, Sink, Stream, WriteAnswer, WriteFault, write_all};
 pub use outside::{Outside, run, run_local};
+pub use scan_end::ScanEnd;
+pub use scan_sayings::say_end;
 pub use status::Status;
 pub use wants::Needs;

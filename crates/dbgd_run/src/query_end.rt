@@ -3,7 +3,7 @@
 use index_state::OpenFault;
 
 /// How a query ends.
-#[derive(Debug, Drop)]
+#[derive(Drop)]
 pub enum QueryEnd {
     /// The store could not be opened, or no index on it.
     Refused(OpenFault),

@@ -4,7 +4,7 @@ use index_state::OpenFault;
 use pass_runner::PassEnd;
 
 /// How a scan ends.
-#[derive(Debug, Drop)]
+#[derive(Drop)]
 pub enum ScanEnd {
     /// The store could not be opened, or no index on it.
     Refused(OpenFault),

@@ -10,8 +10,6 @@ mod reading;
 mod refusal;
 mod roots;
 mod scan;
-#[cfg(test)]
-mod tests;
 mod trial;
 
 pub use line::Line;

@@ -3,7 +3,7 @@
 use row_types::{BuildId, CanonPath};
 
 /// What a command line asks.
-#[derive(Debug, Drop)]
+#[derive(Drop)]
 pub enum Line<'a> {
     /// The identity of the file at a path.
     Ident {

@@ -21,6 +21,3 @@ pub use raw::{RawValue, read_raw};
 pub use strings::Strings;
 pub use text::{Text, texts_in};
 pub use value::{Value, read_form};
-
-#[cfg(test)]
-mod tests;

@@ -9,7 +9,7 @@ use byte_read::Cursor;
 use file_formats::dwarf_forms::Width;
 
 /// What the size of a value depends on beside its form.
-#[derive(Clone, Copy, Debug, PartialEq, Eq)]
+#[derive(Clone, Copy, PartialEq, Eq)]
 pub struct Format {
     /// Whether places in sections have eight bytes and not four.
     pub wide: bool,

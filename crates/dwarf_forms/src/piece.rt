@@ -12,7 +12,7 @@ use byte_read::{Cursor, Order};
 use file_formats::dwarf_units::{RESERVED_LENGTHS, WIDE_LENGTH};
 
 /// The bytes behind an initial length.
-#[derive(Clone, Copy, Debug)]
+#[derive(Clone, Copy)]
 pub struct Piece<'a> {
     /// The bytes, without the length.
     pub bytes: &'a [u8],

@@ -12,7 +12,7 @@ use byte_read::Cursor;
 use file_formats::dwarf_forms::{DW_FORM_IMPLICIT_CONST, DW_FORM_INDIRECT, Layout, Sense, Width};
 
 /// A value as it stands.
-#[derive(Clone, Copy, Debug)]
+#[derive(Clone, Copy)]
 pub enum RawValue<'a> {
     /// A number, and what it means.
     Numbered(Sense, u64),

@@ -14,7 +14,7 @@ use byte_read::Order;
 use file_formats::dwarf_forms::Sense;
 
 /// What texts are taken from.
-#[derive(Clone, Copy, Debug)]
+#[derive(Clone, Copy)]
 pub struct Strings<'a> {
     /// The texts of .debug_str.
     pub str: &'a [u8],

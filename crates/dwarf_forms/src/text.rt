@@ -13,7 +13,7 @@ use byte_read::{Cursor, text_at};
 use memchr::memrchr;
 
 /// A text. Contracts see it as its bytes, which end before the first 0.
-#[derive(Clone, Copy, Debug)]
+#[derive(Clone, Copy)]
 pub struct Text<'a> {
     /// The text's bytes, and those behind it.
     pub(crate) from: &'a [u8],

@@ -13,7 +13,7 @@ use crate::text::Text;
 use byte_read::Cursor;
 
 /// A value as a reader of attributes is told it.
-#[derive(Clone, Copy, Debug)]
+#[derive(Clone, Copy)]
 pub enum Value<'a> {
     /// A number of data1, data2, data4, data8, udata or sec_offset.
     Number(u64),

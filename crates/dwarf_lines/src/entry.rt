@@ -15,7 +15,7 @@ use dwarf_forms::{Format, RawValue, Strings, Text, Value};
 use file_formats::dwarf_lines::FieldFormat;
 
 /// A file of a line table.
-#[derive(Clone, Copy, Debug)]
+#[derive(Clone, Copy)]
 pub struct LineFile<'a> {
     /// The file's path, None where its text isn't there.
     pub path: Option<Text<'a>>,

@@ -13,7 +13,7 @@ use file_formats::dwarf_forms::DW_FORM_INDIRECT;
 use file_formats::dwarf_lines::{DW_LNCT_DIRECTORY_INDEX, DW_LNCT_PATH, FieldFormat};
 
 /// The values of an entry's fields that are read; None where no field has the content type.
-#[derive(Clone, Copy, Debug)]
+#[derive(Clone, Copy)]
 pub(crate) struct FieldValues<'a> {
     /// The path.
     pub(crate) path: Option<RawValue<'a>>,

@@ -10,6 +10,3 @@ mod table;
 
 pub use entry::LineFile;
 pub use table::{LineTable, line_table};
-
-#[cfg(test)]
-mod tests;

@@ -20,7 +20,7 @@ use std::alloc::{AllocError, Global};
 use std::marker::Model;
 
 /// What a line table lists. Contracts see it as the paths of its directories, and its files.
-#[derive(Debug, Drop)]
+#[derive(Drop)]
 pub struct LineTable<'a> {
     /// The paths of the directories, by their indexes from 0; None where the text isn't there.
     pub dirs: Vec<Option<Text<'a>>>,

@@ -23,7 +23,7 @@ use dwarf_forms::{DebugParts, Format, RawValue, Sense, Strings, Text, Value, Wid
 use file_formats::dwarf_units::UnitHead;
 
 /// What a unit's first entry says.
-#[derive(Clone, Copy, Debug)]
+#[derive(Clone, Copy)]
 pub struct UnitDie<'a> {
     /// Where the unit's line table begins in .debug_line, in bytes.
     pub stmt_list: Option<u64>,

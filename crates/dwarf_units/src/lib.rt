@@ -12,6 +12,3 @@ mod start;
 pub use entry::{UnitDie, unit_die};
 pub use list::{Unit, Units};
 pub use start::units;
-
-#[cfg(test)]
-mod tests;

@@ -12,7 +12,7 @@ use dwarf_forms::{Format, RawValue, read_raw};
 use file_formats::dwarf_units::{DW_AT_COMP_DIR, DW_AT_STMT_LIST, DW_AT_STR_OFFSETS_BASE};
 
 /// The values of the attributes that are read; None where the entry doesn't have the attribute.
-#[derive(Clone, Copy, Debug)]
+#[derive(Clone, Copy)]
 pub(crate) struct RawAttributes<'a> {
     /// The place of the unit's line table.
     pub(crate) stmt_list: Option<RawValue<'a>>,

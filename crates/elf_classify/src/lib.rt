@@ -6,8 +6,6 @@
 mod identity;
 mod named;
 mod parts;
-#[cfg(test)]
-mod tests;
 
 pub use dwarf_forms::DebugParts;
 pub use identity::ident;

@@ -11,7 +11,7 @@ use std::alloc::{AllocError, Global};
 use tree_trait::{Entry, EntryKind};
 
 /// A folder with files below it.
-#[derive(Clone, Copy, Debug, PartialEq, Eq)]
+#[derive(Clone, Copy, PartialEq, Eq)]
 pub enum Folder {
     /// The root, `/`.
     Root,

@@ -8,8 +8,6 @@ mod forging;
 mod kind;
 mod place;
 mod question;
-#[cfg(test)]
-mod tests;
 mod tree;
 
 pub use digits::FILES_LIMIT;

@@ -7,7 +7,7 @@ ghost use Rattle.elf_forge.specs.Tree.{dir_answer, heard_of, load_answer, stat_a
 use std::alloc::{AllocError, Global};
 
 /// A question to a tree. Its answer follows from it.
-#[derive(Debug, Drop)]
+#[derive(Drop)]
 pub enum Question {
     /// The load of a file.
     Load {

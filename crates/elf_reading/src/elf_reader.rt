@@ -14,7 +14,7 @@ use std::alloc::{AllocError, Global};
 use tree_trait::{Found, Reader};
 
 /// Makes the row of a file by its identity and the source paths that its DWARF 5 names.
-#[derive(Clone, Copy, Debug)]
+#[derive(Clone, Copy)]
 pub struct ElfReader;
 
 impl<W: ElfTruth> Reader<W> for ElfReader {

@@ -5,8 +5,6 @@
 mod elf_reader;
 mod elf_truth;
 mod sources;
-#[cfg(test)]
-mod tests;
 
 pub use elf_reader::{ElfReader, large_row};
 pub use elf_truth::ElfTruth;

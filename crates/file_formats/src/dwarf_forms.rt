@@ -131,7 +131,7 @@ pub const DW_FORM_ADDRX3: u64 = 0x2b;
 pub const DW_FORM_ADDRX4: u64 = 0x2c;
 
 /// How many bytes a number takes.
-#[derive(Clone, Copy, Debug, PartialEq, Eq)]
+#[derive(Clone, Copy, PartialEq, Eq)]
 pub enum Width {
     /// One byte.
     One,
@@ -150,7 +150,7 @@ pub enum Width {
 }
 
 /// What a number means.
-#[derive(Clone, Copy, Debug, PartialEq, Eq)]
+#[derive(Clone, Copy, PartialEq, Eq)]
 pub enum Sense {
     /// A number, as a directory's index.
     Number,
@@ -169,7 +169,7 @@ pub enum Sense {
 }
 
 /// How a value stands in the bytes.
-#[derive(Clone, Copy, Debug, PartialEq, Eq)]
+#[derive(Clone, Copy, PartialEq, Eq)]
 pub enum Layout {
     /// A number.
     Numbered(Width, Sense),

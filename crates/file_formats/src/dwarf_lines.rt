@@ -28,7 +28,7 @@ pub const HEADER_LENGTH_PLACE: usize = 4;
 pub const LINE_PARAMETERS_SIZE: usize = 5;
 
 /// What a line table's header says of the place of its lists.
-#[derive(Clone, Copy, Debug, PartialEq, Eq)]
+#[derive(Clone, Copy, PartialEq, Eq)]
 pub struct LineHead {
     /// The size of an address, in bytes.
     pub address_size: u8,
@@ -39,7 +39,7 @@ pub struct LineHead {
 }
 
 /// What a directory's or file's format says of one of its fields.
-#[derive(Clone, Copy, Debug, PartialEq, Eq)]
+#[derive(Clone, Copy, PartialEq, Eq)]
 pub struct FieldFormat {
     /// What the field means.
     pub content_type: u64,

@@ -38,7 +38,7 @@ pub const DW_AT_COMP_DIR: u64 = 0x1b;
 pub const DW_AT_STR_OFFSETS_BASE: u64 = 0x72;
 
 /// What a unit's header says.
-#[derive(Clone, Copy, Debug, PartialEq, Eq)]
+#[derive(Clone, Copy, PartialEq, Eq)]
 pub struct UnitHead {
     /// The size of an address, in bytes.
     pub address_size: u8,
@@ -49,7 +49,7 @@ pub struct UnitHead {
 }
 
 /// A form, as an abbreviation gives it.
-#[derive(Clone, Copy, Debug, PartialEq, Eq)]
+#[derive(Clone, Copy, PartialEq, Eq)]
 pub struct FormSpec {
     /// The form's code.
     pub form: u64,
@@ -58,7 +58,7 @@ pub struct FormSpec {
 }
 
 /// A pair of an abbreviation.
-#[derive(Clone, Copy, Debug, PartialEq, Eq)]
+#[derive(Clone, Copy, PartialEq, Eq)]
 pub struct Pair {
     /// The attribute's code.
     pub attribute: u64,

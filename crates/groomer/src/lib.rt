@@ -7,8 +7,6 @@ mod grooming;
 mod holds;
 mod looking;
 mod report;
-#[cfg(test)]
-mod tests;
 
 pub use grooming::groom;
 pub use looking::{Looked, look};

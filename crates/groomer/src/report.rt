@@ -8,7 +8,7 @@ use index_state::Judged;
 use scan_worker::WorkEnd;
 
 /// What a groomer did, and how it ended. The numbers stay at 2^64 - 1 once they are there.
-#[derive(Clone, Copy, Debug, PartialEq, Eq)]
+#[derive(Clone, Copy, PartialEq, Eq)]
 pub struct GroomReport {
     /// The rows that it dropped.
     pub dropped: u64,
@@ -19,7 +19,7 @@ pub struct GroomReport {
 }
 
 /// What a groomer has counted so far.
-#[derive(Clone, Copy, Debug, PartialEq, Eq)]
+#[derive(Clone, Copy, PartialEq, Eq)]
 pub(crate) struct Tally {
     /// The rows that it dropped.
     pub(crate) dropped: u64,

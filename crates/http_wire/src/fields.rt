@@ -13,7 +13,7 @@ use httparse::is_space_or_tab;
 use httparse::spans::HeaderSpan;
 
 /// What the fields of a head say together.
-#[derive(Clone, Copy, Debug)]
+#[derive(Clone, Copy)]
 pub(crate) struct Said {
     /// Whether one asks to close the connection.
     pub close: bool,

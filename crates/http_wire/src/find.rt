@@ -10,7 +10,7 @@ use crate::look::{Found, Look, look_at};
 use crate::source::{ReadAnswer, Source};
 
 /// What was found.
-#[derive(Clone, Copy, Debug)]
+#[derive(Clone, Copy)]
 pub(crate) enum Find {
     /// A head.
     Whole(Found),

@@ -1,7 +1,7 @@
 //! Heads of requests, and why bytes are none.
 
 /// The head of a request, over the bytes that the reader holds.
-#[derive(Clone, Copy, Debug)]
+#[derive(Clone, Copy)]
 pub struct Head<'a> {
     pub method: &'a [u8],
     /// As it was sent.
@@ -30,7 +30,7 @@ pub enum HeadFault {
 }
 
 /// What the next bytes of a source are.
-#[derive(Clone, Copy, Debug)]
+#[derive(Clone, Copy)]
 pub enum HeadAnswer<'a> {
     /// A head.
     Head(Head<'a>),

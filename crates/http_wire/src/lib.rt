@@ -15,8 +15,6 @@ mod reply_lines;
 mod sink;
 mod source;
 mod stream;
-#[cfg(test)]
-mod tests;
 
 pub use head::{Head, HeadAnswer, HeadFault};
 pub use limits::{FIELD_LIMIT, HEAD_LIMIT};

@@ -14,7 +14,7 @@ use std::alloc::{AllocError, Global};
 const SMALL_BODY: usize = 4096;
 
 /// The head of a reply.
-#[derive(Debug, Drop)]
+#[derive(Drop)]
 pub struct ReplyHead {
     /// One of 200, 400, 404, 405, 431, 502, 503 and 507.
     pub status: u16,

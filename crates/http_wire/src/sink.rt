@@ -6,7 +6,7 @@ ghost use Rattle.http_wire.specs.Sink.{GetsAll, GetsPart, Writes};
 use crate::stream::Stream;
 
 /// What a write answers.
-#[derive(Clone, Copy, Debug, PartialEq, Eq)]
+#[derive(Clone, Copy, PartialEq, Eq)]
 pub enum WriteAnswer {
     /// So many bytes from the front were written, at least one.
     Took(usize),

@@ -6,7 +6,7 @@ ghost use Rattle.http_wire.specs.Source.{Reads};
 use crate::stream::Stream;
 
 /// What a read answers.
-#[derive(Clone, Copy, Debug, PartialEq, Eq)]
+#[derive(Clone, Copy, PartialEq, Eq)]
 pub enum ReadAnswer {
     /// So many bytes came into the front of the room, at least one.
     Bytes(usize),

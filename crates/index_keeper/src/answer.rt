@@ -3,7 +3,7 @@
 use crate::kept::Kept;
 
 /// What came of a change.
-#[derive(Clone, Copy, Debug, PartialEq, Eq)]
+#[derive(Clone, Copy, PartialEq, Eq)]
 pub enum KeepAnswer {
     /// The tables have the change.
     Done,
@@ -14,7 +14,7 @@ pub enum KeepAnswer {
 }
 
 /// What a keeper keeps.
-#[derive(Debug, Drop)]
+#[derive(Drop)]
 pub enum KeptAnswer {
     /// All that is kept, by path.
     All(Vec<Kept>),
@@ -25,7 +25,7 @@ pub enum KeptAnswer {
 }
 
 /// What came of an opening.
-#[derive(Debug, Drop)]
+#[derive(Drop)]
 pub enum StoreAnswer<K> {
     /// The store is open.
     Opened(K),

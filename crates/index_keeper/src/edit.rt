@@ -8,7 +8,7 @@ use std::marker::Model;
 
 /// A path with the bytes that are kept under it from then on, or none. Contracts see it as a record
 /// of the two.
-#[derive(Debug, Drop)]
+#[derive(Drop)]
 pub struct Edit {
     /// The path.
     pub path: String,

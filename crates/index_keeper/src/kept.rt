@@ -6,7 +6,7 @@ use std::alloc::{AllocError, Global};
 use std::marker::Model;
 
 /// A path and the bytes that are kept under it. Contracts see it as a record of the two.
-#[derive(Debug, Drop)]
+#[derive(Drop)]
 pub struct Kept {
     /// The path.
     pub path: String,

@@ -13,8 +13,6 @@ mod plan;
 mod shelf;
 mod store;
 mod tables;
-#[cfg(test)]
-mod tests;
 
 pub use answer::{KeepAnswer, KeptAnswer, StoreAnswer};
 pub use keeper::Keeper;

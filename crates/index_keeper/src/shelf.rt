@@ -11,7 +11,7 @@ use std::alloc::{AllocError, Global};
 use std::marker::Model;
 
 /// All that is kept. Contracts see it as a record.
-#[derive(Debug, Drop)]
+#[derive(Drop)]
 pub struct Shelf {
     /// The rows that are kept.
     pub tables: Tables,

@@ -13,7 +13,7 @@ use std::marker::Model;
 
 /// Rows by path, each path once, in a tree; those that a store begins with stand in a list before
 /// it until the first change. Contracts see all of them as one list.
-#[derive(Debug, Drop)]
+#[derive(Drop)]
 pub struct Tables {
     given: Vec<Kept>,
     tree: BTreeMap<String, Vec<u8>>,

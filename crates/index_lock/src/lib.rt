@@ -8,8 +8,6 @@ mod lock;
 mod logged;
 mod plays;
 mod seat;
-#[cfg(test)]
-mod tests;
 mod view;
 
 pub use held::Held;

@@ -6,7 +6,7 @@ ghost use Rattle.std.specs.Vec.{vec_capacity};
 use row_types::Name;
 
 /// A change of the rows' names.
-#[derive(Debug, PartialEq, Eq, Drop)]
+#[derive(PartialEq, Eq, Drop)]
 pub struct Change {
     /// Whether the name was put, and not dropped.
     pub put: bool,

@@ -8,8 +8,6 @@ mod prepared;
 mod row_iter;
 mod row_map;
 mod rows;
-#[cfg(test)]
-mod tests;
 
 pub use change::Change;
 pub use fault::RowsFault;

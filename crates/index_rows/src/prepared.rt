@@ -7,7 +7,7 @@ use crate::change::Change;
 use row_types::{Name, Row};
 
 /// The change that room was made for last, until it is made.
-#[derive(Debug, Drop)]
+#[derive(Drop)]
 pub enum Prepared {
     /// None, or it was made.
     Nothing,

@@ -11,7 +11,7 @@ use std::collections::btree_map::Values;
 use std::marker::Model;
 
 /// Which rows are lent.
-#[derive(Clone, Copy, Debug)]
+#[derive(Clone, Copy)]
 pub(crate) enum Pick {
     /// All.
     All,

@@ -24,6 +24,5 @@ pub mod Runs
 pub mod Spares
 pub mod Steps
 pub mod StoreSteps
-pub mod TwoWorldRows
 pub mod VoidEnds
 pub mod Whole

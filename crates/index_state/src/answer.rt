@@ -54,7 +54,7 @@ pub enum Published {
 }
 
 /// A name that is to be looked for.
-#[derive(Debug, PartialEq, Eq, Drop)]
+#[derive(PartialEq, Eq, Drop)]
 pub struct GroomTask {
     /// The name.
     pub name: Name,

@@ -31,7 +31,7 @@ pub enum Event<W: Truth> {
 }
 
 /// What was answered to an event.
-#[derive(Debug, Drop)]
+#[derive(Drop)]
 pub enum EventAnswer {
     /// The answer to `begin`.
     Begin(Begun),

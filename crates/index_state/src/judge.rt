@@ -20,7 +20,7 @@ use scan_queue::{Cause, Seen};
 use std::alloc::Global;
 
 /// What is found of a name that is judged.
-#[derive(Clone, Copy, Debug, PartialEq, Eq)]
+#[derive(Clone, Copy, PartialEq, Eq)]
 pub(crate) enum Weighed {
     /// The index is broken.
     Broken,

@@ -23,8 +23,6 @@ mod spare;
 mod state;
 mod stored;
 mod sweep;
-#[cfg(test)]
-mod tests;
 
 pub use answer::{Begun, GroomTask, Judged, Plan, Published, Standing};
 pub use events::{Event, EventAnswer, EventsEnd};

@@ -16,7 +16,7 @@ use row_types::{Name, Stamp, TrueRow, Truth};
 use std::alloc::Global;
 
 /// What is found of the name of a row that is published.
-#[derive(Clone, Copy, Debug, PartialEq, Eq)]
+#[derive(Clone, Copy, PartialEq, Eq)]
 pub(crate) enum Finding {
     /// The index is broken.
     Broken,

@@ -16,7 +16,7 @@ use row_types::{CanonPath, EDITION, Row, TrueRow, Truth};
 use std::alloc::{AllocError, Global};
 
 /// Why a kept value isn't read.
-#[derive(Clone, Copy, Debug)]
+#[derive(Clone, Copy)]
 pub(crate) enum Unread {
     /// It isn't a row under its path: the bytes have this fault, or they are a row of another path.
     Bad(Option<CodecFault>),

@@ -2,7 +2,5 @@
 #![tactic(auto)]
 
 mod crew;
-#[cfg(test)]
-mod tests;
 
 pub use crew::{Slot, rooms, seats_in, seats_out};

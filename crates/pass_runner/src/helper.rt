@@ -17,7 +17,7 @@ use std::sync::Wait;
 use tree_trait::{Gate, Reader, Tree};
 
 /// What a hand helps with.
-#[derive(Clone, Copy, Debug, PartialEq, Eq)]
+#[derive(Clone, Copy, PartialEq, Eq)]
 pub(crate) enum Task {
     /// Looking for the files of rows that are no longer listed.
     Look,

@@ -18,8 +18,6 @@ mod settling;
 mod shared;
 mod shared_pass;
 mod summary;
-#[cfg(test)]
-mod tests;
 
 pub use owned::scan_state;
 pub use pass_end::PassEnd;

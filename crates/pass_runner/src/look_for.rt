@@ -20,7 +20,7 @@ use std::alloc::Global;
 use tree_trait::{StatAnswer, Tree};
 
 /// What a look for the file of a row gives.
-#[derive(Clone, Copy, Debug, PartialEq, Eq)]
+#[derive(Clone, Copy, PartialEq, Eq)]
 pub(crate) enum Looked {
     /// What stands at its path.
     Saw(Seen),

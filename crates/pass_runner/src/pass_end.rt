@@ -5,7 +5,7 @@ use scan_queue::Miss;
 use tree_walk::WalkFault;
 
 /// How a pass ends.
-#[derive(Debug, Drop)]
+#[derive(Drop)]
 pub enum PassEnd {
     /// The index is one scan of what the walk listed.
     Whole(Summary),

@@ -8,7 +8,7 @@ use index_state::{Plan, State};
 use row_types::{Kind, Reading, Truth};
 
 /// What a pass did with the rows of an index, and what stands in it then.
-#[derive(Clone, Copy, Debug, PartialEq, Eq)]
+#[derive(Clone, Copy, PartialEq, Eq)]
 pub struct Summary {
     /// Listed files.
     pub files: u64,

@@ -4,8 +4,6 @@
 
 mod fault;
 mod form;
-#[cfg(test)]
-mod tests;
 mod under;
 
 pub use fault::PathFault;

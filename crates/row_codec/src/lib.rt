@@ -6,8 +6,6 @@ mod fault;
 mod left;
 mod parts;
 mod read;
-#[cfg(test)]
-mod tests;
 mod write;
 
 pub use codes::{DEBUG_FLAG, ELF_TAG, EXEC_FLAG, PLAIN_TAG};

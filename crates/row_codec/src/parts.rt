@@ -69,7 +69,7 @@ fn why_of(number: u8) -> Option<Why>
 }
 
 /// Whether there is code to run and debug information.
-#[derive(Clone, Copy, Debug)]
+#[derive(Clone, Copy)]
 pub(crate) struct Flags {
     exec: bool,
     debug: bool,

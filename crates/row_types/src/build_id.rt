@@ -17,7 +17,7 @@ pub const SHORTEST_ID: usize = 2;
 pub const LONGEST_ID: usize = 64;
 
 /// A build-id of 2 to 64 bytes. Contracts see it as the list of its bytes, by which ids are ordered.
-#[derive(Clone, Copy, Debug)]
+#[derive(Clone, Copy)]
 pub struct BuildId {
     bytes: [u8; 64],
     len: usize,

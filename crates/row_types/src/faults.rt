@@ -7,7 +7,7 @@ use std::marker::Model;
 
 /// How often an object has failed. Contracts see it as that number. It never falls, and stands still at
 /// 2^64 - 1.
-#[derive(Clone, Copy, Debug, PartialEq, Eq)]
+#[derive(Clone, Copy, PartialEq, Eq)]
 pub struct Faults {
     count: u64,
 }

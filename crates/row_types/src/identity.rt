@@ -13,7 +13,7 @@ pub enum Kind {
 }
 
 /// The identity of a file. Contracts see it as a record of the id's bytes and the two tests.
-#[derive(Clone, Copy, Debug, PartialEq, Eq)]
+#[derive(Clone, Copy, PartialEq, Eq)]
 pub struct Ident {
     /// The build-id.
     pub id: BuildId,

@@ -13,8 +13,6 @@ mod reading;
 mod row;
 mod sources;
 mod stamp;
-#[cfg(test)]
-mod tests;
 mod true_row;
 mod world;
 

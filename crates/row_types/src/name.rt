@@ -7,7 +7,7 @@ use crate::stamp::Stamp;
 use std::alloc::{AllocError, Global};
 
 /// A file's path and stamp. Contracts see it as a record of the two.
-#[derive(Debug, PartialEq, Eq, Drop)]
+#[derive(PartialEq, Eq, Drop)]
 pub struct Name {
     /// Where the file is.
     pub path: CanonPath,

@@ -13,7 +13,7 @@ use std::marker::Model;
 
 /// A path that is its own canonical form and has at most 4096 bytes. Contracts see it as the list of its
 /// bytes, by which paths are ordered.
-#[derive(Debug, Drop)]
+#[derive(Drop)]
 pub struct CanonPath {
     text: String,
 }

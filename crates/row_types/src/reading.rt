@@ -8,7 +8,7 @@ use file_formats::Why;
 use std::alloc::{AllocError, Global};
 
 /// What a file is found to be.
-#[derive(Debug, Drop)]
+#[derive(Drop)]
 pub enum Reading {
     /// A file without an identity.
     Plain(Why),

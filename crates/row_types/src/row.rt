@@ -8,7 +8,7 @@ use std::alloc::{AllocError, Global};
 use std::marker::Model;
 
 /// What a file was found to be, by the rules of an edition. Contracts see it as a record of the three.
-#[derive(Debug, Drop)]
+#[derive(Drop)]
 pub struct Row {
     /// Which file it is.
     pub name: Name,

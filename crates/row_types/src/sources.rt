@@ -8,7 +8,7 @@ use std::alloc::{AllocError, Global};
 use std::marker::Model;
 
 /// Source paths in order, each once. Contracts see them as a list.
-#[derive(Debug, Drop)]
+#[derive(Drop)]
 pub struct Sources {
     paths: Vec<CanonPath>,
 }

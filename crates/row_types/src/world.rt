@@ -32,7 +32,7 @@ pub trait Truth {
 
 /// The world of real files, which isn't told: each content is one of each name, and each row of the edition
 /// is true.
-#[derive(Clone, Copy, Debug)]
+#[derive(Clone, Copy)]
 pub struct OpenWorld;
 
 impl Truth for OpenWorld {

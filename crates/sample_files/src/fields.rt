@@ -8,7 +8,7 @@ use crate::shape::{Class, Order, Shape};
 use std::alloc::AllocError;
 
 /// A field of a header.
-#[derive(Clone, Copy, Debug, PartialEq, Eq)]
+#[derive(Clone, Copy, PartialEq, Eq)]
 pub(crate) enum Field {
     /// Two bytes.
     Half(u16),

@@ -26,6 +26,3 @@ pub use samples::{
     null_debug,
 };
 pub use shape::{Class, Counts, Order, Shape};
-
-#[cfg(test)]
-mod tests;

@@ -1,7 +1,7 @@
 //! What a sample's header says.
 
 /// The order in which a number's bytes stand.
-#[derive(Clone, Copy, Debug, PartialEq, Eq)]
+#[derive(Clone, Copy, PartialEq, Eq)]
 pub enum Order {
     /// The least significant byte comes first.
     Little,
@@ -10,7 +10,7 @@ pub enum Order {
 }
 
 /// The size of a file's places and sizes.
-#[derive(Clone, Copy, Debug, PartialEq, Eq)]
+#[derive(Clone, Copy, PartialEq, Eq)]
 pub enum Class {
     /// Four bytes.
     Elf32,
@@ -19,7 +19,7 @@ pub enum Class {
 }
 
 /// What a class has for numbers.
-#[derive(Clone, Copy, Debug, PartialEq, Eq)]
+#[derive(Clone, Copy, PartialEq, Eq)]
 pub(crate) struct ClassNumbers {
     /// Byte 4 of the file.
     pub(crate) byte: u8,
@@ -56,7 +56,7 @@ impl Class {
 }
 
 /// Where a file says how many section headers it has, and which section holds the names.
-#[derive(Clone, Copy, Debug, PartialEq, Eq)]
+#[derive(Clone, Copy, PartialEq, Eq)]
 pub enum Counts {
     /// In its header.
     Plain,
@@ -65,7 +65,7 @@ pub enum Counts {
 }
 
 /// What a file's header says beside the places of its parts.
-#[derive(Clone, Copy, Debug, PartialEq, Eq)]
+#[derive(Clone, Copy, PartialEq, Eq)]
 pub struct Shape {
     pub class: Class,
     pub order: Order,

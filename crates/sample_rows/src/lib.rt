@@ -6,8 +6,6 @@
 mod fault;
 mod naming;
 mod rows;
-#[cfg(test)]
-mod tests;
 mod texts;
 
 pub use fault::SampleFault;

@@ -3,8 +3,6 @@
 #![tactic(auto)]
 
 mod sample;
-#[cfg(test)]
-mod tests;
 mod trees;
 mod world;
 

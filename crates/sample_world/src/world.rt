@@ -5,7 +5,7 @@ use row_types::Truth;
 
 /// The told world in which the samples are the files, and no other file has a content. A row is
 /// true where it says what such a file is found to be, or that a file is too large.
-#[derive(Clone, Copy, Debug)]
+#[derive(Clone, Copy)]
 pub struct SampleWorld;
 
 impl Truth for SampleWorld {

@@ -8,8 +8,6 @@ mod miss;
 mod pass;
 mod slot;
 mod slots;
-#[cfg(test)]
-mod tests;
 
 pub use listing::{LISTING_LIMIT, Listing};
 pub use miss::{Cause, Miss, Seen};

@@ -16,7 +16,7 @@ pub const LISTING_LIMIT: usize = 0x10_0000;
 
 /// The names of files, by path, each path once, and at most 2^20. Contracts see it as the list of
 /// the names.
-#[derive(Debug, Drop)]
+#[derive(Drop)]
 pub struct Listing {
     names: Vec<Name>,
 }

@@ -19,7 +19,7 @@ use std::marker::Model;
 /// A listing, and the names that are still to be looked at, each in one of four lists: to be read,
 /// out, to be looked for, missed. Contracts see it as a record of the listing and the lists, and
 /// whether each name that is out or missed has its copy.
-#[derive(Debug, Drop)]
+#[derive(Drop)]
 pub struct Pass {
     listing: Listing,
     slots: Vec<Slot>,

@@ -5,8 +5,6 @@
 
 mod read;
 mod tally;
-#[cfg(test)]
-mod tests;
 mod turn;
 mod work_end;
 mod worker;

@@ -9,7 +9,7 @@ use crate::work_end::WorkEnd;
 use row_types::Truth;
 
 /// What a worker reports. Each number stays at 2^64 - 1 once it is there.
-#[derive(Clone, Copy, Debug, PartialEq, Eq)]
+#[derive(Clone, Copy, PartialEq, Eq)]
 pub struct WorkReport {
     /// The loads that were answered. One for which memory was refused isn't counted, nor one of
     /// which no row could be made for want of memory.
@@ -23,7 +23,7 @@ pub struct WorkReport {
 }
 
 /// The numbers of a report, while the work goes on.
-#[derive(Clone, Copy, Debug, PartialEq, Eq)]
+#[derive(Clone, Copy, PartialEq, Eq)]
 pub(crate) struct Tally {
     pub(crate) asked: u64,
     pub(crate) published: u64,

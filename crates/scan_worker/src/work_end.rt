@@ -1,7 +1,7 @@
 //! How the work on a pass ends.
 
 /// How the work on a pass ends.
-#[derive(Clone, Copy, Debug, PartialEq, Eq)]
+#[derive(Clone, Copy, PartialEq, Eq)]
 pub enum WorkEnd {
     /// No name is left to be handed out.
     Empty,

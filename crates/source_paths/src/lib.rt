@@ -10,6 +10,3 @@ mod paths;
 mod tables;
 
 pub use paths::sources;
-
-#[cfg(test)]
-mod tests;

@@ -17,7 +17,7 @@ use std::alloc::{AllocError, Global};
 use std::collections::BTreeSet;
 
 /// What a unit says of its line table. Units that say the same have the same sources.
-#[derive(Clone, Copy, Debug, PartialEq, Eq, PartialOrd, Ord)]
+#[derive(Clone, Copy, PartialEq, Eq, PartialOrd, Ord)]
 pub(crate) struct TableKey<'a> {
     /// Where the table begins in .debug_line, in bytes.
     pub(crate) offset: u64,

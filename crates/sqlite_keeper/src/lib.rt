@@ -11,8 +11,6 @@ mod keeper;
 mod rows;
 mod sql;
 mod telling;
-#[cfg(test)]
-mod tests;
 
 pub use adopt::AdoptAnswer;
 pub use file_keeper::FileKeeper;

@@ -7,7 +7,7 @@ use crate::entry::Entry;
 use std::alloc::{AllocError, Global};
 
 /// What a folder has.
-#[derive(Debug, Drop)]
+#[derive(Drop)]
 pub enum DirAnswer {
     /// The folder's entries.
     Listed {

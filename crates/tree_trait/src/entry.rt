@@ -9,7 +9,7 @@ use row_types::SEPARATOR;
 use std::marker::Model;
 
 /// What an entry of a folder is.
-#[derive(Clone, Copy, Debug, PartialEq, Eq)]
+#[derive(Clone, Copy, PartialEq, Eq)]
 pub enum EntryKind {
     /// A folder.
     Folder,
@@ -21,7 +21,7 @@ pub enum EntryKind {
 
 /// An entry of a folder. Its name isn't empty, isn't `.` or `..`, and has no slash. Contracts see
 /// it as a record of its name's bytes and its kind.
-#[derive(Debug, Drop)]
+#[derive(Drop)]
 pub struct Entry {
     /// The last piece of its path.
     pub name: String,

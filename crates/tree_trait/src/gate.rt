@@ -3,7 +3,7 @@
 use std::sync::Wait;
 
 /// A point that a thread passes.
-#[derive(Clone, Copy, Debug)]
+#[derive(Clone, Copy)]
 pub enum Point<'a> {
     /// The file at this path is about to be loaded for a pass.
     Loading(&'a str),
@@ -23,7 +23,7 @@ pub trait Gate: Sync {
 }
 
 /// Holds no thread.
-#[derive(Clone, Copy, Debug)]
+#[derive(Clone, Copy)]
 pub struct NoGate;
 
 impl Gate for NoGate {

@@ -15,8 +15,6 @@ mod reader;
 mod script;
 mod stage;
 mod stat;
-#[cfg(test)]
-mod tests;
 mod tree;
 mod turn_gate;
 mod two_world;

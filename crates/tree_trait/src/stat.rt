@@ -3,7 +3,7 @@
 use row_types::Stamp;
 
 /// What stands at a path.
-#[derive(Clone, Copy, Debug, PartialEq, Eq)]
+#[derive(Clone, Copy, PartialEq, Eq)]
 pub enum StatAnswer {
     /// A folder.
     Folder,

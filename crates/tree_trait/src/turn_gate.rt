@@ -8,7 +8,7 @@ use std::sync::atomic::{AtomicBool, Ordering};
 use std::thread;
 
 /// A point by its own text or number.
-#[derive(Debug, Drop)]
+#[derive(Drop)]
 pub enum Hold {
     /// The point `Loading` of this path.
     Loading(String),
@@ -36,7 +36,7 @@ impl Hold {
 /// Holds the first thread that comes to one point until another point has come, but for no more
 /// than a stated number of turns. In a turn the held thread lets others run. Any other thread and
 /// any other point passes.
-#[derive(Debug, Drop)]
+#[derive(Drop)]
 pub struct TurnGate {
     held: Hold,
     until: Hold,

@@ -4,7 +4,7 @@ use row_types::Truth;
 
 /// The world in which `/w/a` is `x` at one time and `yy` at another, and no other file has a
 /// content.
-#[derive(Clone, Copy, Debug)]
+#[derive(Clone, Copy)]
 pub struct TwoWorld;
 
 impl Truth for TwoWorld {

@@ -8,8 +8,6 @@ mod reading;
 mod route;
 mod section_name;
 mod target;
-#[cfg(test)]
-mod tests;
 mod written;
 
 pub use fault::RouteFault;

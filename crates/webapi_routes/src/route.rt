@@ -7,7 +7,7 @@ use crate::section_name::SectionName;
 use row_types::{BuildId, CanonPath};
 
 /// What a target asks for, of a build-id.
-#[derive(Debug, PartialEq, Eq, Drop)]
+#[derive(PartialEq, Eq, Drop)]
 pub enum Route {
     /// The file with debug information.
     Debuginfo(BuildId),

@@ -1,0 +1,213 @@
+//! Whether the clauses say what the standard means.
+
+use byte_read::{Cursor, Order};
+use dwarf_forms::{FormFault, RawValue, Sense, Strings, Value, piece_at, read_form};
+
+/// Texts of a small file: .debug_str_offsets has 8 bytes of head, and its places are 4 and 0.
+fn strings(base: Option<u64>, wide: bool) -> Strings<'static> {
+    Strings {
+        str: b"one\0two\0end",
+        line_str: b"a.c\0",
+        offsets: b"\x14\0\0\0\x05\0\0\0\x04\0\0\0\0\0\0\0",
+        base,
+        wide,
+        order: Order::Little,
+    }
+}
+
+/// What a value says, a text by its bytes.
+#[derive(Clone, Copy, Debug, PartialEq, Eq)]
+enum Told<'a> {
+    Number(u64),
+    Text(Option<&'a [u8]>),
+    Other,
+}
+
+fn value_told(value: Value<'_>) -> Told<'_> {
+    match value {
+        Value::Number(number) => Told::Number(number),
+        Value::Text(Some(text)) => Told::Text(text.within(8)),
+        Value::Text(None) => Told::Text(None),
+        Value::Other => Told::Other,
+    }
+}
+
+// DWARF 5, section 7.5.6, table 7.6, and section 7.5.5: a form, and how many bytes the value takes
+// that begins with a byte 3 and goes on with bytes 0, in the 32-bit and in the 64-bit format.
+static SIZES: [(u64, usize, usize); 41] = [
+    (0x01, 8, 8),
+    (0x03, 5, 5),
+    (0x04, 7, 7),
+    (0x05, 2, 2),
+    (0x06, 4, 4),
+    (0x07, 8, 8),
+    (0x08, 2, 2),
+    (0x09, 4, 4),
+    (0x0a, 4, 4),
+    (0x0b, 1, 1),
+    (0x0c, 1, 1),
+    (0x0d, 1, 1),
+    (0x0e, 4, 8),
+    (0x0f, 1, 1),
+    (0x10, 4, 8),
+    (0x11, 1, 1),
+    (0x12, 2, 2),
+    (0x13, 4, 4),
+    (0x14, 8, 8),
+    (0x15, 1, 1),
+    (0x17, 4, 8),
+    (0x18, 4, 4),
+    (0x19, 0, 0),
+    (0x1a, 1, 1),
+    (0x1b, 1, 1),
+    (0x1c, 4, 4),
+    (0x1d, 4, 8),
+    (0x1e, 16, 16),
+    (0x1f, 4, 8),
+    (0x20, 8, 8),
+    (0x22, 1, 1),
+    (0x23, 1, 1),
+    (0x24, 8, 8),
+    (0x25, 1, 1),
+    (0x26, 2, 2),
+    (0x27, 3, 3),
+    (0x28, 4, 4),
+    (0x29, 1, 1),
+    (0x2a, 2, 2),
+    (0x2b, 3, 3),
+    (0x2c, 4, 4),
+];
+
+const BYTES: &[u8] = b"\x03\0\0\0\0\0\0\0\0\0\0\0\0\0\0\0\0";
+
+#[test]
+fn each_form_takes_its_bytes(rt: HostRuntime) {
+    for (form, narrow, wide) in SIZES {
+        let mut cursor = Cursor::new(BYTES, Order::Little);
+        let read = read_form(&mut cursor, form, None, 8, &strings(None, false));
+        assert!(rt; read.is_ok(), "form {form}");
+        assert_eq!(rt; cursor.at(), narrow, "form {form}");
+        let mut cursor = Cursor::new(BYTES, Order::Little);
+        let read = read_form(&mut cursor, form, None, 8, &strings(None, true));
+        assert!(rt; read.is_ok(), "wide form {form}");
+        assert_eq!(rt; cursor.at(), wide, "wide form {form}");
+    }
+}
+
+// data1, data2, data4, data8, udata and sec_offset; sdata, flag, ref4 and addrx are no numbers.
+#[test]
+fn six_forms_give_numbers(rt: HostRuntime) {
+    for form in [0x0b, 0x05, 0x06, 0x07, 0x0f, 0x17] {
+        let mut cursor = Cursor::new(BYTES, Order::Little);
+        let read = read_form(&mut cursor, form, None, 8, &strings(None, false));
+        assert_eq!(rt; read.map(value_told), Ok(Told::Number(3)), "form {form}");
+    }
+    for form in [0x0d, 0x0c, 0x13, 0x1b] {
+        let mut cursor = Cursor::new(BYTES, Order::Little);
+        let read = read_form(&mut cursor, form, None, 8, &strings(None, false));
+        assert_eq!(rt; read.map(value_told), Ok(Told::Other), "form {form}");
+    }
+}
+
+#[test]
+fn texts_are_there_or_absent(rt: HostRuntime) {
+    let cases: [(u64, &[u8], Option<u64>, Option<&[u8]>); 11] = [
+        (0x08, b"in\0", None, Some(b"in")),
+        (0x0e, b"\x04\0\0\0", None, Some(b"two")),
+        (0x1f, b"\x02\0\0\0", None, Some(b"c")),
+        (0x1d, b"\0\0\0\0", None, None),
+        (0x1a, b"\0", Some(8), Some(b"two")),
+        (0x25, b"\x01", Some(8), Some(b"one")),
+        (0x25, b"\x01", None, None),
+        (0x25, b"\x02", Some(8), None),
+        (0x25, b"\x01", Some(0xffff_ffff_ffff_fffc), None),
+        (0x0e, b"\x08\0\0\0", None, None),
+        (0x0e, b"\x0b\0\0\0", None, None),
+    ];
+    for (form, bytes, base, text) in cases {
+        let mut cursor = Cursor::new(bytes, Order::Little);
+        let read = read_form(&mut cursor, form, None, 8, &strings(base, false));
+        assert_eq!(rt; read.map(value_told), Ok(Told::Text(text)), "form {form}");
+    }
+}
+
+// A text is given where it has no more bytes than are asked for, whether the section ends with a 0
+// or not.
+#[test]
+fn a_text_has_so_many_bytes_at_most(rt: HostRuntime) {
+    let cases: [(&[u8], u64, usize, Option<&[u8]>); 9] = [
+        (b"abc\0de\0", 0, 2, None),
+        (b"abc\0de\0", 0, 3, Some(b"abc")),
+        (b"abc\0de\0", 1, usize::MAX, Some(b"bc")),
+        (b"abc\0de\0", 3, 0, Some(b"")),
+        (b"abc\0de\0", 4, 1, None),
+        (b"abc\0de", 0, 2, None),
+        (b"abc\0de", 0, 3, Some(b"abc")),
+        (b"abc\0de", 3, 0, Some(b"")),
+        (b"abc\0de", 4, 9, None),
+    ];
+    for (str, place, limit, expected) in cases {
+        let strings = Strings {
+            str,
+            ..strings(None, false)
+        };
+        let found = match strings.value(RawValue::Numbered(Sense::Str, place)) {
+            Value::Text(Some(text)) => text.within(limit),
+            _ => None,
+        };
+        assert_eq!(rt; found, expected, "place {place}, limit {limit}");
+    }
+}
+
+// Indirect forms lead through one another; implicit_const has its constant from the abbreviation.
+#[test]
+fn a_chain_of_indirect_forms_leads_to_one(rt: HostRuntime) {
+    let cases: [(u64, &[u8], Option<i64>, Result<Told<'static>, FormFault>); 10] = [
+        (0x16, b"\x0b\x07", None, Ok(Told::Number(7))),
+        (0x16, b"\x16\x16\x0f\x07", None, Ok(Told::Number(7))),
+        (0x16, b"\x16\x16", None, Err(FormFault::Short)),
+        (0x16, b"\x21", Some(1), Err(FormFault::UnknownForm(0x21))),
+        (0x16, b"\x02", None, Err(FormFault::UnknownForm(2))),
+        (0x21, b"", Some(-1), Ok(Told::Other)),
+        (0x21, b"\0", None, Err(FormFault::UnknownForm(0x21))),
+        (
+            0x1f20,
+            b"\0\0\0\0",
+            None,
+            Err(FormFault::UnknownForm(0x1f20)),
+        ),
+        (0x09, b"\x03\0\0", None, Err(FormFault::Short)),
+        (
+            0x0f,
+            b"\x80\x80\x80\x80\x80\x80\x80\x80\x80\x02",
+            None,
+            Err(FormFault::Wide),
+        ),
+    ];
+    for (form, bytes, constant, answer) in cases {
+        let mut cursor = Cursor::new(bytes, Order::Big);
+        let read = read_form(&mut cursor, form, constant, 8, &strings(None, false));
+        assert_eq!(rt; read.map(value_told), answer, "form {form}");
+    }
+}
+
+// DWARF 5, section 7.4: four bytes below 0xfffffff0, or 0xffffffff and eight bytes; section 7.2.2.
+#[test]
+fn an_initial_length_is_narrow_or_wide(rt: HostRuntime) {
+    let cases: [(&[u8], Option<(&[u8], bool, u64)>); 7] = [
+        (b"\x02\0\0\0abc", Some((b"ab", false, 6))),
+        (b"\0\0\0\0", Some((b"", false, 4))),
+        (
+            b"\xff\xff\xff\xff\x01\0\0\0\0\0\0\0ab",
+            Some((b"a", true, 13)),
+        ),
+        (b"\xf0\xff\xff\xffab", None),
+        (b"\xfe\xff\xff\xffab", None),
+        (b"\x03\0\0\0ab", None),
+        (b"\x03\0\0", None),
+    ];
+    for (bytes, answer) in cases {
+        let piece = piece_at(bytes, 0, Order::Little).map(|p| (p.bytes, p.wide, p.next));
+        assert_eq!(rt; piece, answer);
+    }
+}

@@ -1,0 +1,192 @@
+//! What no clause says: that memory suffices, and whole files beside those that another program
+//! made from the description of the format.
+
+use elf_forge::{FILES_LIMIT, ForgeTree, forge};
+use row_types::OpenWorld;
+use sha2::{Digest, Sha256};
+use std::alloc::Global;
+use std::test::Fail;
+use tree_trait::{DirAnswer, EntryKind, LoadAnswer, StatAnswer, Tree};
+
+/// Seeds and numbers, with the size and the SHA-256 of the file that python's hashlib and struct
+/// made of them.
+static FILES: [(u64, u64, usize, &str); 8] = [
+    (
+        7,
+        0,
+        1024,
+        "67f576891082290787746fb253981a5765fedc91c7a97644ca46258ddbac9442",
+    ),
+    (
+        7,
+        1,
+        408,
+        "1fb0bd405637f6a92b423011928287937151115168ebc5bb5efff688025fbe69",
+    ),
+    (
+        7,
+        2,
+        584,
+        "0559a77d4b75303febe8c2e76f6b52832364546f52dd7b793cb1776acfdfd936",
+    ),
+    (
+        7,
+        3,
+        12,
+        "16a0f2410f3c74070e070ebadc73ad012d47eb7aa168961cef14875242590f86",
+    ),
+    (
+        1,
+        123_456,
+        1024,
+        "a26dc9e34fc3882e0fddd2cebc371358d87439d9ed3ac1401eb2321660d245f3",
+    ),
+    (
+        1,
+        999_997,
+        408,
+        "d092c9a55304e67f6e91d479ae4767ba0eb08ac16f772133a487c51829cf70e7",
+    ),
+    (
+        u64::MAX,
+        999_998,
+        584,
+        "d44215513a282440cadc8195e828a8cc29d6a22ee7842a393e346b77e27d8020",
+    ),
+    (
+        0,
+        999_999,
+        12,
+        "55986d38961329e112c8d2ec31a4cb72b6e6ca82d1b8a1987bc0b2b9aa112128",
+    ),
+];
+
+#[test]
+fn files_are_those_of_another_program(rt: HostRuntime) -> Result<(), Fail> {
+    let alloc = rt.alloc();
+    for (seed, k, size, digest) in &FILES {
+        if *k >= FILES_LIMIT {
+            return Err("a number above the last".into());
+        }
+        let bytes = forge(alloc, *seed, *k)?;
+        assert_eq!(rt; bytes.len(), *size, "{seed}, {k}");
+        let found = hex::encode(alloc, Sha256::digest(bytes.as_slice()).as_slice())?;
+        assert_eq!(rt; found.as_str(), *digest, "{seed}, {k}");
+    }
+    Ok(())
+}
+
+/// What a look answers: a file's size, or a word.
+fn stat_text(alloc: Global, answer: StatAnswer) -> Result<String, Fail> {
+    Ok(match answer {
+        StatAnswer::File(stamp) => {
+            format!(in alloc; "{} {} {}", stamp.size, stamp.secs, stamp.nanos)?
+        }
+        StatAnswer::Folder => String::from_str(alloc, "folder")?,
+        StatAnswer::Gone => String::from_str(alloc, "gone")?,
+        _ => String::from_str(alloc, "other")?,
+    })
+}
+
+/// Paths in a tree of six files, and what a look answers.
+static LOOKS: [(&str, &str); 14] = [
+    ("", "folder"),
+    ("/", "folder"),
+    ("/t", "folder"),
+    ("/t/f", "folder"),
+    ("/t/f/000000", "1024 0 0"),
+    ("/t/f/000001", "408 0 0"),
+    ("/t/f/000002", "584 0 0"),
+    ("/t/f/000003", "12 0 0"),
+    ("/t/f/000005", "408 0 0"),
+    ("/t/f/000006", "gone"),
+    ("/t/f/00005", "gone"),
+    ("/t/f/ 00005", "gone"),
+    ("/t/g/000005", "gone"),
+    ("/t/f/", "gone"),
+];
+
+#[test]
+fn files_stand_at_their_numbers(rt: HostRuntime) -> Result<(), Fail> {
+    let alloc = rt.alloc();
+    let mut tree = ForgeTree::new(alloc, 7, 6);
+    for (path, want) in &LOOKS {
+        let text = stat_text(alloc, tree.stat(alloc, path))?;
+        assert_eq!(rt; text.as_str(), *want, "{path}");
+    }
+    let mut none = ForgeTree::new(alloc, 7, 0);
+    assert_eq!(rt; none.stat(alloc, "/"), StatAnswer::Gone);
+    Ok(())
+}
+
+/// What a load answers: a file's bytes, or a word.
+fn load_text(alloc: Global, answer: &LoadAnswer<OpenWorld>) -> Result<String, Fail> {
+    Ok(match answer {
+        LoadAnswer::Found(found) => hex::encode(alloc, found.bytes.as_slice())?,
+        LoadAnswer::TooLarge { stamp } => format!(in alloc; "above {}", stamp.size)?,
+        LoadAnswer::Gone => String::from_str(alloc, "gone")?,
+        _ => String::from_str(alloc, "other")?,
+    })
+}
+
+/// Paths and limits, and what a load answers. The bytes are `text 000003` and a line feed.
+static LOADS: [(&str, u64, &str); 4] = [
+    ("/t/f/000003", 12, "74657874203030303030330a"),
+    ("/t/f/000003", 11, "above 12"),
+    ("/t/f/000006", 4096, "gone"),
+    ("/t/f", 4096, "gone"),
+];
+
+#[test]
+fn a_file_is_made_when_it_is_loaded(rt: HostRuntime) -> Result<(), Fail> {
+    let alloc = rt.alloc();
+    let mut tree = ForgeTree::new(alloc, 7, 6);
+    for (path, limit, want) in &LOADS {
+        let text = load_text(alloc, &tree.load(alloc, path, *limit))?;
+        assert_eq!(rt; text.as_str(), *want, "{path}");
+    }
+    Ok(())
+}
+
+/// The names of a folder's entries, a slash behind those of folders.
+fn dir_text(alloc: Global, answer: &DirAnswer) -> Result<String, Fail> {
+    let mut text = String::new(alloc);
+    match answer {
+        DirAnswer::Listed { entries, skipped } => {
+            for entry in entries {
+                text.push_str(entry.name())?;
+                text.push_str(if entry.kind == EntryKind::Folder {
+                    "/ "
+                } else {
+                    " "
+                })?;
+            }
+            if *skipped > 0 {
+                text.push_str("and more")?;
+            }
+        }
+        DirAnswer::Gone => text.push_str("gone")?,
+        _ => text.push_str("other")?,
+    }
+    Ok(text)
+}
+
+/// Folders of a tree of six files, and their entries.
+static FOLDERS: [(&str, &str); 5] = [
+    ("/", "t/ "),
+    ("/t", "f/ "),
+    ("/t/f", "000000 000001 000002 000003 000004 000005 "),
+    ("/t/f/000000", "gone"),
+    ("/f", "gone"),
+];
+
+#[test]
+fn folders_have_their_entries(rt: HostRuntime) -> Result<(), Fail> {
+    let alloc = rt.alloc();
+    let mut tree = ForgeTree::new(alloc, 7, 6);
+    for (path, want) in &FOLDERS {
+        let text = dir_text(alloc, &tree.read_dir(alloc, path))?;
+        assert_eq!(rt; text.as_str(), *want, "{path}");
+    }
+    Ok(())
+}

@@ -1,0 +1,7 @@
+//! Tests.
+#![tactic(auto)]
+
+#[cfg(test)]
+mod runs;
+#[cfg(test)]
+mod words;

@@ -1,0 +1,142 @@
+//! Scans into stores that hold rows, and over files that come, change and go.
+
+use crate::runs::hands::Files::{self, Altered, First, Later, Three, Two, Wide};
+use crate::runs::hands::{hand_of, reference, turning};
+use crate::runs::rig::{Run, SOUND, run_all, run_over};
+use index_keeper::{Kept, MemStore};
+use row_types::OpenWorld;
+use std::alloc::Global;
+use std::test::Fail;
+
+const SCAN: &[&str] = &["scan", "-d", "m", "/srv"];
+
+const OTHER: &[&str] = &["scan", "-d", "m", "/w"];
+
+/// Of three files one stays, one changes, one goes, and one comes.
+const TURNED: &[Run<'static>] = &[
+    Run(
+        SCAN,
+        b"scan: 3 files, 3 added, 0 replaced, 0 dropped, 0 kept, 1 executables, 1 debuginfo\n",
+        "",
+        0,
+    ),
+    Run(
+        SCAN,
+        b"scan: 3 files, 3 added, 0 replaced, 0 dropped, 0 kept, 1 executables, 1 debuginfo\n\
+        scan: 3 files, 1 added, 1 replaced, 1 dropped, 1 kept, 2 executables, 1 debuginfo\n",
+        "",
+        0,
+    ),
+];
+
+/// Rows that lie under no folder of the second scan go.
+static ELSEWHERE: [Run; 2] = [
+    Run(
+        SCAN,
+        b"scan: 2 files, 2 added, 0 replaced, 0 dropped, 0 kept, 1 executables, 1 debuginfo\n",
+        "",
+        0,
+    ),
+    Run(
+        OTHER,
+        b"scan: 2 files, 2 added, 0 replaced, 0 dropped, 0 kept, 1 executables, 1 debuginfo\n\
+        scan: 1 files, 1 added, 0 replaced, 2 dropped, 0 kept, 0 executables, 0 debuginfo\n",
+        "",
+        0,
+    ),
+];
+
+const ALTERED: &str = "dbgd: altered /srv/a listed 488:100:000000000 seen 7:100:000000000\n";
+
+/// The first of two files is another by the time that it is loaded; the second is kept.
+const REST_IS_KEPT: &[Run<'static>] = &[
+    Run(SCAN, b"", ALTERED, 4),
+    Run(
+        SCAN,
+        b"scan: 2 files, 1 added, 0 replaced, 0 dropped, 1 kept, 0 executables, 0 debuginfo\n",
+        ALTERED,
+        0,
+    ),
+];
+
+/// A file of a row isn't listed, and stands when it is looked for.
+const APPEARED: &[Run<'static>] = &[
+    Run(
+        SCAN,
+        b"scan: 2 files, 2 added, 0 replaced, 0 dropped, 0 kept, 1 executables, 1 debuginfo\n",
+        "",
+        0,
+    ),
+    Run(
+        SCAN,
+        b"scan: 2 files, 2 added, 0 replaced, 0 dropped, 0 kept, 1 executables, 1 debuginfo\n",
+        "dbgd: appeared /srv/b 6:100:000000000\n",
+        4,
+    ),
+];
+
+/// Files by stages, the calls before which a stage comes, and runs over them.
+struct Turns<'a>(&'a [Files; 3], [u64; 2], &'a [Run<'a>]);
+
+/// A scan of three files makes eight calls, one of two files six: a look at the folder, its reading,
+/// a look at each file, and the loads.
+static TURNS: [Turns; 3] = [
+    Turns(&[Three, Later, Later], [8, 9], TURNED),
+    Turns(&[Two, Altered, Altered], [4, 5], REST_IS_KEPT),
+    Turns(&[Two, First, Two], [6, 9], APPEARED),
+];
+
+#[test]
+fn rows_follow_the_files(rt: HostRuntime) -> Result<(), Fail> {
+    let alloc = rt.alloc();
+    for Turns(files, calls, runs) in &TURNS {
+        run_all(&rt, alloc, turning(alloc, files, *calls)?, &SOUND, runs)?;
+    }
+    let wide = hand_of(alloc, &Wide, &[])?;
+    run_all(&rt, alloc, wide, &SOUND, &ELSEWHERE)
+}
+
+/// The row bytes of `/old/x`, of one byte and changed at second 1, no ELF file, by edition 1.
+static OLD: &[u8] = b"\x01\x06\0\0\0/old/x\x01\0\0\0\0\0\0\0\x01\0\0\0\0\0\0\0\0\0\0\0\0\x01";
+
+/// Those of `/srv/bin/run.sh`, of ten bytes and changed at second 100, by edition 9.
+static STRAY: &[u8] =
+    b"\x09\x0f\0\0\0/srv/bin/run.sh\x0a\0\0\0\0\0\0\0\x64\0\0\0\0\0\0\0\0\0\0\0\0\x01";
+
+/// A store that keeps those two.
+fn old_store(alloc: Global) -> Result<MemStore<OpenWorld>, Fail> {
+    let first = Kept::of(alloc, "/old/x", OLD)?;
+    let second = Kept::of(alloc, "/srv/bin/run.sh", STRAY)?;
+    let kept = vec![in alloc; first, second]?;
+    Ok(MemStore::new(alloc, kept, None, Vec::new(alloc)))
+}
+
+/// A store that keeps a value which is no row.
+fn bad_store(alloc: Global) -> Result<MemStore<OpenWorld>, Fail> {
+    let kept = vec![in alloc; Kept::of(alloc, "/a", &[0])?]?;
+    Ok(MemStore::new(alloc, kept, None, Vec::new(alloc)))
+}
+
+/// The row of another edition is read anew, and the other one lies under no folder. A folder may be
+/// named twice, or with one that it lies under.
+static OVERLAPPING: [Run; 1] = [Run(
+    &["scan", "-d", "m", "/srv/bin", "/srv", "/srv/bin"],
+    b"scan: 9 files, 9 added, 0 replaced, 1 dropped, 0 kept, 4 executables, 4 debuginfo\n",
+    "",
+    0,
+)];
+
+/// Both scans find the value.
+static BAD: [Run; 2] = [
+    Run(SCAN, b"", "dbgd: bad row /a\n", 7),
+    Run(SCAN, b"", "dbgd: bad row /a\ndbgd: bad row /a\n", 7),
+];
+
+#[test]
+fn stores_that_hold_rows_are_opened(rt: HostRuntime) -> Result<(), Fail> {
+    let alloc = rt.alloc();
+    let tree = reference(alloc)?;
+    run_over(&rt, alloc, tree, old_store(alloc)?, &SOUND, &OVERLAPPING)?;
+    let two = hand_of(alloc, &Two, &[])?;
+    run_over(&rt, alloc, two, bad_store(alloc)?, &SOUND, &BAD)
+}

@@ -1,0 +1,194 @@
+//! Runs over told worlds, and over trees of one answer.
+
+use crate::runs::hands::{Crowded, one_byte};
+use crate::runs::rig::{Plan, Run, SOUND, run_all};
+use sample_world::{SampleWorld, changed_file_script, reference_script};
+use std::test::Fail;
+use tree_trait::MemTree;
+
+const IDENT: &[&str] = &["ident", "/w/a"];
+
+const SOURCES: &[&str] = &["sources", "/w/a"];
+
+const SCAN: &[&str] = &["scan", "-d", "m", "/srv"];
+
+/// The line of a scan of one file.
+const ONE: &[u8] =
+    b"scan: 1 files, 1 added, 0 replaced, 0 dropped, 0 kept, 0 executables, 0 debuginfo\n";
+
+/// Runs over the reference tree. `/srv/bin/tool` has code of one byte.
+static REFERENCE: [Run; 6] = [
+    Run(
+        &["ident", "/srv/debug/ppc.debug"],
+        b"a0a1a2a3a4a5a6a7 debuginfo\n",
+        "",
+        0,
+    ),
+    Run(
+        &["ident", "/w/README"],
+        b"a0a1a2a3a4a5a6a7 debuginfo\nplain not-elf\n",
+        "",
+        3,
+    ),
+    Run(
+        &["section", "/srv/bin/tool", ".text"],
+        b"a0a1a2a3a4a5a6a7 debuginfo\nplain not-elf\n\xc3",
+        "",
+        0,
+    ),
+    Run(
+        &["section", "/w/README", ".text"],
+        b"a0a1a2a3a4a5a6a7 debuginfo\nplain not-elf\n\xc3",
+        "dbgd: plain not-elf\n",
+        3,
+    ),
+    Run(
+        &["scan", "-d", "m", "/srv/bin", "/srv/debug", "/w"],
+        b"a0a1a2a3a4a5a6a7 debuginfo\nplain not-elf\n\xc3scan: 12 files, 12 added, \
+            0 replaced, 0 dropped, 0 kept, 4 executables, 4 debuginfo\n",
+        "dbgd: plain not-elf\n",
+        0,
+    ),
+    Run(
+        &["sources", "/srv/bin/prog"],
+        b"a0a1a2a3a4a5a6a7 debuginfo\nplain not-elf\n\xc3scan: 12 files, 12 added, \
+            0 replaced, 0 dropped, 0 kept, 4 executables, 4 debuginfo\n\
+            /w/src/inc/util.h\n/w/src/main.c\n",
+        "dbgd: plain not-elf\n",
+        0,
+    ),
+];
+
+const ALTERED: &str = "dbgd: altered /srv/a listed 6:100:000000000 seen 7:101:000000000\n";
+
+/// A scan of the file that changes, and another one after it.
+static CHANGED: [Run; 2] = [Run(SCAN, b"", ALTERED, 4), Run(SCAN, ONE, ALTERED, 0)];
+
+#[test]
+fn the_sample_world_is_read_and_scanned(rt: HostRuntime) -> Result<(), Fail> {
+    let alloc = rt.alloc();
+    let script = reference_script(alloc, Vec::new(alloc))?;
+    let reference: MemTree<SampleWorld> = MemTree::new(alloc, script);
+    run_all(&rt, alloc, reference, &SOUND, &REFERENCE)?;
+    // The load comes after a look at the root, its entries, and a look at the file.
+    let changed: MemTree<SampleWorld> = MemTree::new(alloc, changed_file_script(alloc, 3)?);
+    run_all(&rt, alloc, changed, &SOUND, &CHANGED)
+}
+
+/// Twelve rows of the reference tree, and then the same rows.
+static TWICE: [Run; 2] = [
+    Run(
+        &["scan", "-d", "m", "/srv/bin", "/srv/debug", "/w"],
+        b"scan: 12 files, 12 added, 0 replaced, 0 dropped, 0 kept, 4 executables, 4 debuginfo\n",
+        "",
+        0,
+    ),
+    Run(
+        &["scan", "-d", "m", "/srv/bin", "/srv/debug", "/w"],
+        b"scan: 12 files, 12 added, 0 replaced, 0 dropped, 0 kept, 4 executables, 4 debuginfo\n\
+            scan: 12 files, 0 added, 0 replaced, 0 dropped, 12 kept, 4 executables, 4 debuginfo\n",
+        "",
+        0,
+    ),
+];
+
+#[test]
+fn a_second_scan_loads_nothing(rt: HostRuntime) -> Result<(), Fail> {
+    let alloc = rt.alloc();
+    // A walk makes 20 calls: three looks at the roots, five readings, twelve looks. Twelve loads
+    // follow, and then the second walk; each call behind it fails.
+    let bad_calls = Vec::from_slice(alloc, &[52, 53, 54, 55, 56, 57, 58, 59, 60, 61, 62, 63])?;
+    let script = reference_script(alloc, bad_calls)?;
+    let hand: MemTree<SampleWorld> = MemTree::new(alloc, script);
+    run_all(&rt, alloc, hand, &SOUND, &TWICE)
+}
+
+const FIVE: &[&str] = &["scan", "-d", "m", "/srv/debug", "/w/src"];
+
+/// The line of the scan after a stop at each call of the store: its opening, its rows, five puts.
+static AFTER_STOP: [&[u8]; 7] = [
+    b"scan: 5 files, 5 added, 0 replaced, 0 dropped, 0 kept, 0 executables, 2 debuginfo\n",
+    b"scan: 5 files, 5 added, 0 replaced, 0 dropped, 0 kept, 0 executables, 2 debuginfo\n",
+    b"scan: 5 files, 5 added, 0 replaced, 0 dropped, 0 kept, 0 executables, 2 debuginfo\n",
+    b"scan: 5 files, 3 added, 0 replaced, 0 dropped, 2 kept, 0 executables, 2 debuginfo\n",
+    b"scan: 5 files, 3 added, 0 replaced, 0 dropped, 2 kept, 0 executables, 2 debuginfo\n",
+    b"scan: 5 files, 1 added, 0 replaced, 0 dropped, 4 kept, 0 executables, 2 debuginfo\n",
+    b"scan: 5 files, 1 added, 0 replaced, 0 dropped, 4 kept, 0 executables, 2 debuginfo\n",
+];
+
+#[test]
+fn a_scan_after_a_stop_at_each_store_call_has_the_five_rows(rt: HostRuntime) -> Result<(), Fail> {
+    let alloc = rt.alloc();
+    let mut number = 0u64;
+    for line in &AFTER_STOP {
+        let plan = Plan {
+            stop_at: Some(number),
+            ..SOUND
+        };
+        let script = reference_script(alloc, Vec::new(alloc))?;
+        let hand: MemTree<SampleWorld> = MemTree::new(alloc, script);
+        let stopped = Run(FIVE, b"", "dbgd: fault store\n", 1);
+        let mended = Run(FIVE, line, "dbgd: fault store\n", 0);
+        run_all(&rt, alloc, hand, &plan, &[stopped, mended])?;
+        number = number.saturating_add(1);
+    }
+    Ok(())
+}
+
+/// What is said of the file of one byte, in a told world.
+static BYTE: [Run; 3] = [
+    Run(IDENT, b"plain not-elf\n", "", 3),
+    Run(
+        &["scan", "-d", "m", "/w"],
+        b"plain not-elf\nscan: 1 files, 1 added, 0 replaced, 0 dropped, 0 kept, \
+            0 executables, 0 debuginfo\n",
+        "",
+        0,
+    ),
+    Run(
+        SOURCES,
+        b"plain not-elf\nscan: 1 files, 1 added, 0 replaced, 0 dropped, 0 kept, \
+            0 executables, 0 debuginfo\n",
+        "dbgd: plain not-elf\n",
+        3,
+    ),
+];
+
+/// What is said of a file above the size limit.
+static LARGE: [Run; 3] = [
+    Run(IDENT, b"plain too-large\n", "", 3),
+    Run(
+        &["scan", "-d", "m", "/large"],
+        b"plain too-large\nscan: 1 files, 1 added, 0 replaced, 0 dropped, 0 kept, \
+            0 executables, 0 debuginfo\n",
+        "",
+        0,
+    ),
+    Run(
+        SOURCES,
+        b"plain too-large\nscan: 1 files, 1 added, 0 replaced, 0 dropped, 0 kept, \
+            0 executables, 0 debuginfo\n",
+        "dbgd: plain too-large\n",
+        3,
+    ),
+];
+
+/// What is said where there is no memory for any file.
+static WANTS: [Run; 3] = [
+    Run(IDENT, b"", "dbgd: out of memory\n", 6),
+    Run(SCAN, b"", "dbgd: out of memory\ndbgd: out of memory\n", 6),
+    Run(
+        SOURCES,
+        b"",
+        "dbgd: out of memory\ndbgd: out of memory\ndbgd: out of memory\n",
+        6,
+    ),
+];
+
+#[test]
+fn other_trees_are_read_and_scanned(rt: HostRuntime) -> Result<(), Fail> {
+    let alloc = rt.alloc();
+    run_all(&rt, alloc, one_byte(alloc)?, &SOUND, &BYTE)?;
+    run_all(&rt, alloc, Crowded::TooLarge, &SOUND, &LARGE)?;
+    run_all(&rt, alloc, Crowded::NoMemory, &SOUND, &WANTS)
+}

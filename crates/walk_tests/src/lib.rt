@@ -1,0 +1,9 @@
+//! Tests.
+#![tactic(auto)]
+
+#[cfg(test)]
+mod trees;
+#[cfg(test)]
+mod walks;
+#[cfg(test)]
+mod worlds;

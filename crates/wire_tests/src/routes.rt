@@ -1,0 +1,301 @@
+//! What no clause says: that memory suffices, and what targets say that are known from elsewhere.
+
+ghost use Rattle.std.specs.Prelude.{◌≡◌, Ok};
+ghost use Rattle.webapi_routes.specs.Printed.{CanBeAsked};
+ghost use Rattle.webapi_routes.specs.Targets.{UnlessMemory};
+
+use row_types::{BuildId, CanonPath};
+use std::alloc::{AllocError, Global};
+use std::fmt::Write;
+use std::test::Fail;
+use webapi_routes::{Route, RouteFault, SectionName, parse, print};
+
+/// A target, and what it says.
+#[derive(Clone, Copy)]
+struct Case(&'static [u8], &'static str);
+
+/// The requests of the reference tree, and at the edges.
+static REQUESTS: [Case; 13] = [
+    Case(
+        b"/buildid/202122232425262728292a2b2c2d2e2f30313233/debuginfo",
+        "debuginfo 202122232425262728292a2b2c2d2e2f30313233",
+    ),
+    Case(
+        b"/buildid/404142434445464748494a4b4c4d4e4f50515253/executable",
+        "executable 404142434445464748494a4b4c4d4e4f50515253",
+    ),
+    Case(
+        b"/buildid/404142434445464748494a4b4c4d4e4f50515253/debuginfo",
+        "debuginfo 404142434445464748494a4b4c4d4e4f50515253",
+    ),
+    Case(
+        b"/buildid/404142434445464748494a4b4c4d4e4f50515253/section/.text",
+        "section 404142434445464748494a4b4c4d4e4f50515253 .text",
+    ),
+    Case(
+        b"/buildid/404142434445464748494a4b4c4d4e4f50515253/section/.debug_zz",
+        "section 404142434445464748494a4b4c4d4e4f50515253 .debug_zz",
+    ),
+    Case(
+        b"/buildid/202122232425262728292a2b2c2d2e2f30313233/source/w/src/main.c",
+        "source 202122232425262728292a2b2c2d2e2f30313233 /w/src/main.c",
+    ),
+    Case(
+        b"/buildid/a0a1a2a3a4a5a6a7/executable",
+        "executable a0a1a2a3a4a5a6a7",
+    ),
+    Case(
+        b"/buildid/202122232425262728292A2B2C2D2E2F30313233/debuginfo",
+        "debuginfo 202122232425262728292a2b2c2d2e2f30313233",
+    ),
+    Case(b"/buildid/abc/debuginfo", "BadId"),
+    Case(
+        b"/buildid/202122232425262728292a2b2c2d2e2f30313233/source/w/src/inc/%2e%2e/main.c",
+        "source 202122232425262728292a2b2c2d2e2f30313233 /w/src/main.c",
+    ),
+    Case(
+        b"/buildid/202122232425262728292a2b2c2d2e2f30313233/debug%zz",
+        "BadEscape",
+    ),
+    Case(b"/metrics", "NoRoute"),
+    Case(b"/nothing", "NoRoute"),
+];
+
+/// Forms that are nearly a route's, queries, and faults in their order.
+static FORMS: [Case; 29] = [
+    Case(b"", "NoRoute"),
+    Case(b"?", "NoRoute"),
+    Case(b"/", "NoRoute"),
+    Case(b"/buildid/", "NoRoute"),
+    Case(b"/buildid/abcd", "NoRoute"),
+    Case(b"/buildid/abcd/", "NoRoute"),
+    Case(b"/buildid/debuginfo", "NoRoute"),
+    Case(b"/buildid//debuginfo", "BadId"),
+    Case(b"/buildid/abcd/debuginfo", "debuginfo abcd"),
+    Case(b"/buildid/abcd/debuginfo/", "NoRoute"),
+    Case(b"/buildid/abcd/Debuginfo", "NoRoute"),
+    Case(b"/buildid/abcd//debuginfo", "NoRoute"),
+    Case(b"//buildid/abcd/debuginfo", "NoRoute"),
+    Case(b"buildid/abcd/debuginfo", "NoRoute"),
+    Case(b"http://host/buildid/abcd/debuginfo", "NoRoute"),
+    Case(b"/buildid/abcd/executable?/debuginfo", "executable abcd"),
+    Case(b"/buildid/abcd?/executable", "NoRoute"),
+    Case(b"/buildid/abcd/debuginfo?%zz\x00", "debuginfo abcd"),
+    Case(b"/buildid/abcd/source", "NoRoute"),
+    Case(b"/buildid/abcd/sources/a", "NoRoute"),
+    Case(b"/buildid/abcd/source/", "source abcd /"),
+    Case(b"/buildid/abcd/source//a/./b/../c/", "source abcd /a/c"),
+    Case(b"/buildid/abcd/section", "NoRoute"),
+    Case(b"/buildid/abcd/section/", "NoRoute"),
+    Case(b"/buildid/abcd/section/a/../b", "section abcd a/../b"),
+    Case(b"/nothing/%zz", "BadEscape"),
+    Case(b"/buildid/xyz/nothing", "NoRoute"),
+    Case(b"/buildid/ab/debuginfo", "BadId"),
+    Case(b"/buildid/abcg/source/a", "BadId"),
+];
+
+// The examples of RFC 3986, 2.5, are U+00C0 and U+30A2; one in ISO 8859-1 is `%E4`.
+static ESCAPES: [Case; 17] = [
+    Case(b"%", "BadEscape"),
+    Case(b"/%4", "BadEscape"),
+    Case(b"/%g1", "BadEscape"),
+    Case(b"/%1g", "BadEscape"),
+    Case(b"/%%41", "BadEscape"),
+    Case(b"/%41%", "BadEscape"),
+    Case(b"/%41", "NoRoute"),
+    Case(b"/%62uildid%2Fabcd%2fdebuginf%6F", "debuginfo abcd"),
+    Case(b"/buildid/%61%42cd/debuginfo", "debuginfo abcd"),
+    Case(b"/buildid/ab%2Fcd/debuginfo", "NoRoute"),
+    Case(
+        b"/buildid/abcd/section/%C3%80%e3%82%a2",
+        "section abcd \u{c0}\u{30a2}",
+    ),
+    Case(b"/buildid/abcd/section/%2541%3f", "section abcd %41?"),
+    Case(b"/buildid/abcd/section/%E4", "BadEscape"),
+    Case(b"/buildid/abcd/section/\xe4", "BadEscape"),
+    Case(b"/buildid/abcd/section/\xc3\x80", "section abcd \u{c0}"),
+    Case(b"/buildid/abcd/section/a%00", "BadEscape"),
+    Case(b"/buildid/abcd/section/a\x00", "BadEscape"),
+];
+
+/// A route, or a fault, as a line.
+fn line_of(alloc: Global, said: &Result<Route, RouteFault>) -> Result<String, Fail> {
+    let mut line = String::new(alloc);
+    match said {
+        Ok(route) => {
+            let id = route.id().print(alloc)?;
+            match route {
+                Route::Debuginfo(_) => write!(line, "debuginfo {id}")?,
+                Route::Executable(_) => write!(line, "executable {id}")?,
+                Route::Source(_, path) => write!(line, "source {id} {}", path.text())?,
+                Route::Section(_, name) => {
+                    write!(line, "section {id} {}", str::from_utf8(name.bytes())?)?;
+                }
+            }
+        }
+        Err(fault) => write!(line, "{fault:?}")?,
+    }
+    Ok(line)
+}
+
+#[test]
+fn a_target_says_a_route_or_its_first_fault(rt: HostRuntime) -> Result<(), Fail> {
+    for cases in [REQUESTS.as_slice(), FORMS.as_slice(), ESCAPES.as_slice()] {
+        for Case(target, want) in cases {
+            let line = line_of(rt.alloc(), &parse(rt.alloc(), target))?;
+            assert_eq!(rt; line.as_str(), *want);
+        }
+    }
+    Ok(())
+}
+
+/// A target: a front, so many times a byte, and a back.
+fn long_target(
+    alloc: Global,
+    front: &[u8],
+    times: usize,
+    back: &[u8],
+) -> Result<Vec<u8>, AllocError> {
+    let mut target = Vec::new(alloc);
+    target.extend_from_slice(front)?;
+    for _ in 0..times {
+        target.push(b'a')?;
+    }
+    target.extend_from_slice(back)?;
+    Ok(target)
+}
+
+#[test]
+fn an_id_has_4_to_128_digits_and_a_path_up_to_4096_bytes(rt: HostRuntime) -> Result<(), Fail> {
+    for (digits, fault) in [
+        (2, Some(RouteFault::BadId)),
+        (4, None),
+        (127, Some(RouteFault::BadId)),
+        (128, None),
+        (130, Some(RouteFault::BadId)),
+    ] {
+        let target = long_target(rt.alloc(), b"/buildid/", digits, b"/executable")?;
+        let said = parse(rt.alloc(), target.as_slice());
+        assert_eq!(rt; said.err(), fault, "{digits} digits");
+    }
+    for (front, bytes, fault) in [
+        (b"/buildid/abcd/source/".as_slice(), 4095, None),
+        (b"/buildid/abcd/source/", 4096, Some(RouteFault::BadPath)),
+        (b"/buildid/abcd/source//../", 4091, None),
+        (
+            b"/buildid/abcd/source//../",
+            4092,
+            Some(RouteFault::BadPath),
+        ),
+        (b"/buildid/abc/source/", 4096, Some(RouteFault::BadId)),
+        (b"/buildid/abcd/section/", 4096, None),
+    ] {
+        let target = long_target(rt.alloc(), front, bytes, b"")?;
+        let said = parse(rt.alloc(), target.as_slice());
+        assert_eq!(rt; said.err(), fault, "{bytes} bytes");
+    }
+    Ok(())
+}
+
+/// The route of a target's parts.
+fn route(alloc: Global, kind: &str, rest: &[u8]) -> Result<Route, Fail> {
+    let id = BuildId::new(&[0xab, 0x0c]).ok_or("two bytes are an id")?;
+    match kind {
+        "debuginfo" => Ok(Route::Debuginfo(id)),
+        "executable" => Ok(Route::Executable(id)),
+        "source" => {
+            let path = CanonPath::check(String::from_str(alloc, str::from_utf8(rest)?)?);
+            Ok(Route::Source(id, path.ok().ok_or("the path is canonical")?))
+        }
+        _ => {
+            let mut name = Vec::new(alloc);
+            name.extend_from_slice(rest)?;
+            Ok(Route::Section(id, SectionName::new(name)))
+        }
+    }
+}
+
+/// What a route's target says.
+fn said_again(alloc: Global, route: &Route) -> Result<Route, RouteFault>
+    ensures { CanBeAsked route.now → UnlessMemory result (result ≡ Ok route.now) }
+{
+    let target = print(alloc, route)?;
+    parse(alloc, target.as_slice())
+}
+
+/// What a route asks, and of what, and its target.
+#[derive(Clone, Copy)]
+struct Printed(&'static str, &'static [u8], &'static str);
+
+// The reserved characters are those of RFC 3986, 2.2, and the unreserved those of 2.3.
+static PRINTED: [Printed; 8] = [
+    Printed("debuginfo", b"", "/buildid/ab0c/debuginfo"),
+    Printed("executable", b"", "/buildid/ab0c/executable"),
+    Printed("source", b"/", "/buildid/ab0c/source/"),
+    Printed(
+        "source",
+        b"/w/a b/%25.c",
+        "/buildid/ab0c/source/w/a%20b/%2525.c",
+    ),
+    Printed("section", b".text", "/buildid/ab0c/section/.text"),
+    Printed(
+        "section",
+        b"AZaz09-._~/",
+        "/buildid/ab0c/section/AZaz09-._~/",
+    ),
+    Printed(
+        "section",
+        b":/?#[]@!$&'()*+,;=",
+        "/buildid/ab0c/section/%3A/%3F%23%5B%5D%40%21%24%26%27%28%29%2A%2B%2C%3B%3D",
+    ),
+    Printed(
+        "section",
+        b"\xc3\x80\x7f\x01",
+        "/buildid/ab0c/section/%C3%80%7F%01",
+    ),
+];
+
+#[test]
+fn a_route_is_printed_and_its_target_says_it_again(rt: HostRuntime) -> Result<(), Fail> {
+    for Printed(kind, rest, want) in &PRINTED {
+        let route = route(rt.alloc(), kind, rest)?;
+        let target = print(rt.alloc(), &route)?;
+        assert_eq!(rt; str::from_utf8(target.as_slice())?, *want);
+        assert!(rt; said_again(rt.alloc(), &route) == Ok(route), "of {want}");
+    }
+    Ok(())
+}
+
+// The bytes of a section's name that no target can ask for are printed all the same.
+#[test]
+fn a_name_that_no_target_asks_for_is_printed(rt: HostRuntime) -> Result<(), Fail> {
+    for (name, want, fault) in [
+        (
+            b"".as_slice(),
+            "/buildid/ab0c/section/",
+            RouteFault::NoRoute,
+        ),
+        (b"\xff", "/buildid/ab0c/section/%FF", RouteFault::BadEscape),
+        (
+            b"a\x00",
+            "/buildid/ab0c/section/a%00",
+            RouteFault::BadEscape,
+        ),
+    ] {
+        let route = route(rt.alloc(), "section", name)?;
+        let target = print(rt.alloc(), &route)?;
+        assert_eq!(rt; str::from_utf8(target.as_slice())?, want);
+        assert_eq!(rt; said_again(rt.alloc(), &route).err(), Some(fault));
+    }
+    Ok(())
+}
+
+#[test]
+fn a_name_gives_its_bytes_back(rt: HostRuntime) -> Result<(), Fail> {
+    let mut bytes = Vec::new(rt.alloc());
+    bytes.extend_from_slice(b".text")?;
+    let name = SectionName::new(bytes);
+    assert_eq!(rt; name.bytes(), b".text".as_slice());
+    assert_eq!(rt; name.into_bytes().as_slice(), b".text".as_slice());
+    Ok(())
+}
