@@ -126,7 +126,11 @@ fn reads_id(rt: &impl Abort, alloc: Global, digits: u64, fits: bool) {
 /// The folder `/w` with so many slashes behind it says this.
 fn reads_folder(rt: &impl Abort, alloc: Global, slashes: u64, want: &str) {
     let folder = lengthened(rt, alloc, "/w", '/', slashes);
-    each_says(rt, alloc, &[Case(&["scan", "-d", "m", folder.as_str()], want)]);
+    each_says(
+        rt,
+        alloc,
+        &[Case(&["scan", "-d", "m", folder.as_str()], want)],
+    );
 }
 
 // An id has up to 128 digits, a folder up to 4096 bytes.

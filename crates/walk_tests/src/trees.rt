@@ -63,7 +63,10 @@ fn a_script_is_answered_call_by_call(rt: HostRuntime) {
     let alloc = rt.alloc();
     let mut tree = changing_tree(&rt, alloc);
     for (limit, word) in &LOADS {
-        assert!(rt; load_word(alloc, &mut tree, *limit) == *word, "{limit} {word}");
+        assert!(rt;
+            load_word(alloc, &mut tree, *limit) == *word,
+            "{limit} {word}"
+        );
     }
 }
 

@@ -60,9 +60,21 @@ const LARGEST: Stamp = Stamp {
 fn what_stands_in_a_file_s_place_is_said(rt: HostRuntime) {
     let alloc = rt.alloc();
     let gone = altered(&rt, alloc, Seen::Gone);
-    says(&rt, alloc, &gone, "dbgd: altered /srv/a listed 0:-2:999999999 seen gone\n", 4);
+    says(
+        &rt,
+        alloc,
+        &gone,
+        "dbgd: altered /srv/a listed 0:-2:999999999 seen gone\n",
+        4,
+    );
     let other = altered(&rt, alloc, Seen::Other);
-    says(&rt, alloc, &other, "dbgd: altered /srv/a listed 0:-2:999999999 seen other\n", 4);
+    says(
+        &rt,
+        alloc,
+        &other,
+        "dbgd: altered /srv/a listed 0:-2:999999999 seen other\n",
+        4,
+    );
     let largest = altered(&rt, alloc, Seen::File(LARGEST));
     says(
         &rt,

@@ -24,11 +24,17 @@ fn each_says<Rt: Threads + Wait + Sync + Abort>(
 ) {
     for (file, out, err, status) in cases {
         let case = Run(words, out, err, *status);
-        run_all(rt, alloc, hand_of(rt, alloc, &One(*file), &[]), &SOUND, &[case]);
+        run_all(
+            rt,
+            alloc,
+            hand_of(rt, alloc, &One(*file), &[]),
+            &SOUND,
+            &[case],
+        );
     }
 }
 
-/// Files, with the line of the identity, here A twice, or of why there is none.
+/// Files, with the line of the identity or of why there is none. The id of 20 bytes is A.
 static IDENTITIES: [Said; 10] = [
     (
         Both,
@@ -130,7 +136,13 @@ static LOADS: [&[&str]; 3] = [
 /// Runs the words over a file at `/w/a`, whose load fails.
 fn load_fails<Rt: Threads + Wait + Sync + Abort>(rt: &Rt, alloc: Global, words: &[&str]) {
     let case = Run(words, b"", "dbgd: fault file\n", 1);
-    run_all(rt, alloc, hand_of(rt, alloc, &One(Both), &[0]), &SOUND, &[case]);
+    run_all(
+        rt,
+        alloc,
+        hand_of(rt, alloc, &One(Both), &[0]),
+        &SOUND,
+        &[case],
+    );
 }
 
 /// Words, the writes that fail on out and on err, how many bytes a write takes at most, and what is
@@ -209,7 +221,13 @@ fn each_writes<Rt: Threads + Wait + Sync + Abort>(rt: &Rt, alloc: Global, cases:
             ..SOUND
         };
         let case = Run(words, out, err, *status);
-        run_all(rt, alloc, hand_of(rt, alloc, &One(*file), &[]), &plan, &[case]);
+        run_all(
+            rt,
+            alloc,
+            hand_of(rt, alloc, &One(*file), &[]),
+            &plan,
+            &[case],
+        );
     }
 }
 

@@ -11,7 +11,7 @@ use sample_files::{
 use sample_world::{SampleWorld, changed_file_script, open_script, reference_script};
 use std::alloc::{AllocError, Global};
 use std::process::Abort;
-use tree_trait::{DirAnswer, Found, LoadAnswer, MemTree, Script, StatAnswer, Tree, TwoWorld};
+use tree_trait::{Found, MemTree, Script, TwoWorld};
 
 /// What a file holds.
 #[derive(Clone, Copy)]
@@ -120,34 +120,37 @@ fn files_of(rt: &impl Abort, alloc: Global, files: &Files) -> Vec<Found<OpenWorl
     ensures { IsTrue (is_stage result.items) }
 {
     match files {
-        Files::One(file) => {
-            vec![in alloc; found(rt, alloc, "/w/a", file)].expect(rt, "memory")
-        }
+        Files::One(file) => { vec![in alloc; found(rt, alloc, "/w/a", file)].expect(rt, "memory") }
         Files::Two => vec![in alloc;
             found(rt, alloc, "/srv/a", &File::Both),
-            found(rt, alloc, "/srv/b", &File::Text)]
+            found(rt, alloc, "/srv/b", &File::Text),
+        ]
         .expect(rt, "memory"),
         Files::First => {
             vec![in alloc; found(rt, alloc, "/srv/a", &File::Both)].expect(rt, "memory")
         }
         Files::Altered => vec![in alloc;
             found(rt, alloc, "/srv/a", &File::LongText),
-            found(rt, alloc, "/srv/b", &File::Text)]
+            found(rt, alloc, "/srv/b", &File::Text),
+        ]
         .expect(rt, "memory"),
         Files::Three => vec![in alloc;
             found(rt, alloc, "/srv/a", &File::Both),
             found(rt, alloc, "/srv/b", &File::Text),
-            found(rt, alloc, "/srv/c", &File::Empty)]
+            found(rt, alloc, "/srv/c", &File::Empty),
+        ]
         .expect(rt, "memory"),
         Files::Later => vec![in alloc;
             found(rt, alloc, "/srv/a", &File::Both),
             found(rt, alloc, "/srv/b", &File::LongText),
-            found(rt, alloc, "/srv/d", &File::Executable)]
+            found(rt, alloc, "/srv/d", &File::Executable),
+        ]
         .expect(rt, "memory"),
         Files::Wide => vec![in alloc;
             found(rt, alloc, "/srv/a", &File::Both),
             found(rt, alloc, "/srv/b", &File::Text),
-            found(rt, alloc, "/w/a", &File::Empty)]
+            found(rt, alloc, "/w/a", &File::Empty),
+        ]
         .expect(rt, "memory"),
     }
 }
@@ -223,48 +226,4 @@ pub fn one_byte(rt: &impl Abort, alloc: Global) -> MemTree<TwoWorld> {
         bad_calls: Vec::new(alloc),
     };
     MemTree::new(alloc, script)
-}
-
-/// The stamp of a file of one byte more than 1 GiB.
-const LARGE: Stamp = Stamp {
-    size: 1_073_741_825,
-    secs: 100,
-    nanos: 0,
-};
-
-/// A tree that has one file above the size limit, at every path, or no memory for any.
-#[derive(Drop)]
-pub enum Crowded {
-    TooLarge,
-    NoMemory,
-}
-
-impl Tree<OpenWorld> for Crowded {
-    ghost use Rattle.std.specs.Prelude.{false, None, []};
-
-    ghost told = { false };
-
-    ghost shows = { λ _. record { present = []; Still = ⊥; heard = None; faults = 0 } };
-
-    fn load(&mut self, _alloc: Global, _path: &str, limit: u64) -> LoadAnswer<OpenWorld> {
-        match self {
-            Crowded::NoMemory => LoadAnswer::OutOfMemory,
-            Crowded::TooLarge if limit < LARGE.size => LoadAnswer::TooLarge { stamp: LARGE },
-            Crowded::TooLarge => LoadAnswer::Gone,
-        }
-    }
-
-    fn stat(&mut self, _alloc: Global, _path: &str) -> StatAnswer {
-        match self {
-            Crowded::NoMemory => StatAnswer::OutOfMemory,
-            Crowded::TooLarge => StatAnswer::File(LARGE),
-        }
-    }
-
-    fn read_dir(&mut self, _alloc: Global, _path: &str) -> DirAnswer {
-        match self {
-            Crowded::NoMemory => DirAnswer::OutOfMemory,
-            Crowded::TooLarge => DirAnswer::Gone,
-        }
-    }
 }

@@ -46,7 +46,13 @@ static REFERENCE: [Run; 3] = [
 fn the_rows_of_an_id_are_printed_by_path(rt: HostRuntime) {
     let alloc = rt.alloc();
     run_all(&rt, alloc, reference(&rt, alloc), &SOUND, &REFERENCE);
-    run_all(&rt, alloc, told_reference(&rt, alloc, &[]), &SOUND, &REFERENCE);
+    run_all(
+        &rt,
+        alloc,
+        told_reference(&rt, alloc, &[]),
+        &SOUND,
+        &REFERENCE,
+    );
 }
 
 const STORE_FAULT: &str = "dbgd: fault store\n";

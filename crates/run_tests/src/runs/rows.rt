@@ -92,7 +92,13 @@ fn rows_follow_the_files(rt: HostRuntime) {
     for Turns(files, calls, runs) in &TURNS {
         run_all(&rt, alloc, turning(&rt, alloc, files, calls), &SOUND, runs);
     }
-    run_all(&rt, alloc, hand_of(&rt, alloc, &Wide, &[]), &SOUND, &ELSEWHERE);
+    run_all(
+        &rt,
+        alloc,
+        hand_of(&rt, alloc, &Wide, &[]),
+        &SOUND,
+        &ELSEWHERE,
+    );
 }
 
 /// The row bytes of `/old/x`, of one byte and changed at second 1, no ELF file, by edition 1.
@@ -129,6 +135,13 @@ static BAD: [Run; 2] = [
 fn stores_that_hold_rows_are_opened(rt: HostRuntime) {
     let alloc = rt.alloc();
     let hands = vec![in alloc; reference(&rt, alloc)].expect(&rt, "memory");
-    run_over(&rt, alloc, hands, old_store(&rt, alloc), &SOUND, &OVERLAPPING);
+    run_over(
+        &rt,
+        alloc,
+        hands,
+        old_store(&rt, alloc),
+        &SOUND,
+        &OVERLAPPING,
+    );
     run_kept(&rt, alloc, &Two, &[0], &BAD);
 }

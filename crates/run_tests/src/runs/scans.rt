@@ -105,7 +105,13 @@ fn scan_twice<Rt: Threads + Wait + Sync + Abort>(
 ) {
     let stopped = Run(SCAN, b"", STORE_FAULT, 1);
     let mended = Run(SCAN, second, STORE_FAULT, 0);
-    run_all(rt, alloc, hand_of(rt, alloc, &Two, &[]), plan, &[stopped, mended]);
+    run_all(
+        rt,
+        alloc,
+        hand_of(rt, alloc, &Two, &[]),
+        plan,
+        &[stopped, mended],
+    );
 }
 
 /// The store is opened before a folder is looked at.

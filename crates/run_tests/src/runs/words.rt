@@ -86,7 +86,13 @@ fn scan_of<Rt: Threads + Wait + Sync + Abort>(
     for _ in 0..slashes {
         long.push('/').expect(rt, "memory");
     }
-    each_says(rt, alloc, &[&["scan", "-d", "m", long.as_str()]], err, status);
+    each_says(
+        rt,
+        alloc,
+        &[&["scan", "-d", "m", long.as_str()]],
+        err,
+        status,
+    );
 }
 
 // 4096 bytes are the most that a folder's word may have. The longer one ends with the usage, the other

@@ -43,7 +43,14 @@ fn any_number_of_workers_says_the_same(rt: HostRuntime) {
     let alloc = rt.alloc();
     for count in &HANDS {
         let hands = references(&rt, alloc, *count);
-        run_over(&rt, alloc, hands, empty_store(&rt, alloc, &SOUND), &SOUND, &TWICE);
+        run_over(
+            &rt,
+            alloc,
+            hands,
+            empty_store(&rt, alloc, &SOUND),
+            &SOUND,
+            &TWICE,
+        );
     }
 }
 

@@ -1,6 +1,7 @@
 //! Runs over told worlds, and over trees of one answer.
 
-use crate::runs::hands::{Crowded, changed_file, one_byte, told_reference};
+use crate::runs::crowded::Crowded;
+use crate::runs::hands::{changed_file, one_byte, told_reference};
 use crate::runs::rig::{Plan, Run, SOUND, run_all};
 
 const IDENT: &[&str] = &["ident", "/w/a"];
@@ -64,7 +65,13 @@ static CHANGED: [Run; 2] = [Run(SCAN, b"", ALTERED, 4), Run(SCAN, ONE, ALTERED, 
 #[test]
 fn the_sample_world_is_read_and_scanned(rt: HostRuntime) {
     let alloc = rt.alloc();
-    run_all(&rt, alloc, told_reference(&rt, alloc, &[]), &SOUND, &REFERENCE);
+    run_all(
+        &rt,
+        alloc,
+        told_reference(&rt, alloc, &[]),
+        &SOUND,
+        &REFERENCE,
+    );
     // The load comes after a look at the root, its entries, and a look at the file.
     run_all(&rt, alloc, changed_file(&rt, alloc, 3), &SOUND, &CHANGED);
 }
@@ -93,7 +100,13 @@ static BEHIND: [u64; 12] = [52, 53, 54, 55, 56, 57, 58, 59, 60, 61, 62, 63];
 #[test]
 fn a_second_scan_loads_nothing(rt: HostRuntime) {
     let alloc = rt.alloc();
-    run_all(&rt, alloc, told_reference(&rt, alloc, &BEHIND), &SOUND, &TWICE);
+    run_all(
+        &rt,
+        alloc,
+        told_reference(&rt, alloc, &BEHIND),
+        &SOUND,
+        &TWICE,
+    );
 }
 
 const FIVE: &[&str] = &["scan", "-d", "m", "/srv/debug", "/w/src"];
@@ -119,7 +132,13 @@ fn a_scan_after_a_stop_at_each_store_call_has_the_five_rows(rt: HostRuntime) {
         };
         let stopped = Run(FIVE, b"", "dbgd: fault store\n", 1);
         let mended = Run(FIVE, line, "dbgd: fault store\n", 0);
-        run_all(&rt, alloc, told_reference(&rt, alloc, &[]), &plan, &[stopped, mended]);
+        run_all(
+            &rt,
+            alloc,
+            told_reference(&rt, alloc, &[]),
+            &plan,
+            &[stopped, mended],
+        );
     }
 }
 
