@@ -9,7 +9,7 @@ use sample_files::{
     eight_aligned_notes, executable, extended_counts,
 };
 use sample_world::{SampleWorld, changed_file_script, open_script, reference_script};
-use std::alloc::{AllocError, Global};
+use std::alloc::Global;
 use std::process::Abort;
 use tree_trait::{Found, MemTree, Script, TwoWorld};
 
@@ -62,12 +62,12 @@ pub enum Files {
 }
 
 /// A file's bytes.
-fn bytes_of(alloc: Global, file: &File) -> Result<Vec<u8>, AllocError> {
-    match file {
+fn bytes_of(rt: &impl Abort, alloc: Global, file: &File) -> Vec<u8> {
+    let bytes = match file {
         File::Empty => Ok(Vec::new(alloc)),
         File::Text => Vec::from_slice(alloc, b"hello\n"),
         File::LongText => Vec::from_slice(alloc, b"hello!\n"),
-        File::Cut => cut_header(alloc),
+        File::Cut => Ok(cut_header(rt, alloc)),
         File::Both => both_classes(alloc),
         File::EightAligned => eight_aligned_notes(alloc),
         File::SecondId => chosen_ids(alloc, &[&[0x99], &[0xbe, 0xef]]),
@@ -79,33 +79,36 @@ fn bytes_of(alloc: Global, file: &File) -> Result<Vec<u8>, AllocError> {
         File::Executable => executable(alloc),
         File::Companion => debug_companion(alloc),
         File::DwarfFive => dwarf_five(alloc),
-        File::ManyDirectories => changed(alloc, 177, b"\0\x80\x80\x80\x80\x80\x80\x80\x80\x80\x01"),
-        File::EarlyEnd => changed(alloc, 155, b"\x38"),
-    }
+        File::ManyDirectories => {
+            let count = b"\0\x80\x80\x80\x80\x80\x80\x80\x80\x80\x01";
+            Ok(changed(rt, alloc, 177, count))
+        }
+        File::EarlyEnd => Ok(changed(rt, alloc, 155, b"\x38")),
+    };
+    bytes.expect(rt, "memory")
 }
 
 /// The sample with DWARF 5, with other bytes at a place. Its section .debug_line begins at 147.
-fn changed(alloc: Global, place: usize, bytes: &[u8]) -> Result<Vec<u8>, AllocError> {
-    let file = dwarf_five(alloc)?;
-    let mut other = Vec::new(alloc);
-    other.extend_from_slice(file.get(..place).unwrap_or(&[]))?;
-    other.extend_from_slice(bytes)?;
-    other.extend_from_slice(file.get(other.len()..).unwrap_or(&[]))?;
-    Ok(other)
+fn changed(rt: &impl Abort, alloc: Global, place: usize, bytes: &[u8]) -> Vec<u8> {
+    let mut file = dwarf_five(alloc).expect(rt, "memory");
+    for (byte, other) in file.iter_mut().skip(place).zip(bytes) {
+        *byte = *other;
+    }
+    file
 }
 
 /// 51 bytes that begin as a 32-bit header, which has 52.
-fn cut_header(alloc: Global) -> Result<Vec<u8>, AllocError> {
-    let mut bytes = Vec::from_slice(alloc, b"\x7fELF\x01\x01\x01")?;
-    bytes.extend_from_slice(&[0; 44])?;
-    Ok(bytes)
+fn cut_header(rt: &impl Abort, alloc: Global) -> Vec<u8> {
+    let mut bytes = Vec::from_slice(alloc, b"\x7fELF\x01\x01\x01").expect(rt, "memory");
+    bytes.extend_from_slice(&[0; 44]).expect(rt, "memory");
+    bytes
 }
 
 /// A file that holds this.
 fn found(rt: &impl Abort, alloc: Global, path: &str, file: &File) -> Found<OpenWorld>
     ensures { result.path ≡ path.now }
 {
-    let bytes = bytes_of(alloc, file).expect(rt, "memory");
+    let bytes = bytes_of(rt, alloc, file);
     let stamp = Stamp {
         size: bytes.len() as u64,
         secs: 100,
