@@ -4,8 +4,8 @@ use Rattle.std.specs.Prelude.{Result, Ok, Err}
 use Rattle.row_types.specs.Faults.{raised}
 use Rattle.tree_trait.specs.Entry.{EntryFacts, is_entry_name}
 use Rattle.tree_trait.specs.declared.entry.EntryKind.{EntryKind}
-use Rattle.dbgd.specs.declared.read_fault.ReadFault.{ReadFault}
-use Rattle.dbgd.specs.declared.read_fault.ReadFault.TheVariants as fault
+use Rattle.dbgd_edges.specs.declared.read_fault.ReadFault.{ReadFault}
+use Rattle.dbgd_edges.specs.declared.read_fault.ReadFault.TheVariants as fault
 
 -- the entries so far, how many were passed over, and how many of those for an error of the system
 pub record FolderFacts : Type 0 where

@@ -5,9 +5,9 @@ ghost use Rattle.std.specs.IoError.{raw_os_error};
 ghost use Rattle.tree_trait.specs.Dir.{dir_facts};
 ghost use Rattle.tree_trait.specs.Heard.{load, stat, read_dir, wants_memory};
 ghost use Rattle.tree_trait.specs.Load.{load_facts};
-ghost use Rattle.dbgd.specs.Errors.{fault_in_listing, is_counted, is_no_process};
-ghost use Rattle.dbgd.specs.Errors.{load_of, stat_of, dir_of};
-ghost use Rattle.dbgd.specs.Numbers.{ArePinnedErrors};
+ghost use Rattle.dbgd_edges.specs.Errors.{fault_in_listing, is_counted, is_no_process};
+ghost use Rattle.dbgd_edges.specs.Errors.{load_of, stat_of, dir_of};
+ghost use Rattle.dbgd_edges.specs.Numbers.{ArePinnedErrors};
 
 use row_types::OpenWorld;
 use std::alloc::{AllocError, Global};
@@ -101,7 +101,7 @@ impl ReadFault {
 
 impl From<AllocError> for ReadFault {
     ghost use Rattle.std.specs.Prelude.{◌≡◌};
-    ghost use Rattle.dbgd.specs.declared.read_fault.ReadFault.TheVariants.{OutOfMemory};
+    ghost use Rattle.dbgd_edges.specs.declared.read_fault.ReadFault.TheVariants.{OutOfMemory};
 
     ghost from_gives = { λ _ fault. fault ≡ OutOfMemory };
 
@@ -112,7 +112,7 @@ impl From<AllocError> for ReadFault {
 
 impl From<io::Error> for ReadFault {
     ghost use Rattle.std.specs.Prelude.{◌≡◌};
-    ghost use Rattle.dbgd.specs.Errors.{fault_of};
+    ghost use Rattle.dbgd_edges.specs.Errors.{fault_of};
 
     ghost from_gives = { λ error fault. fault ≡ fault_of error };
 

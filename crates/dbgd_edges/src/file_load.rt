@@ -3,7 +3,7 @@
 ghost use Rattle.std.specs.Prelude.{◌≡◌, ◌≢◌, ◌↔◌, ◌+◌, ◌-◌, ◌^◌, min, take, length};
 ghost use Rattle.std.specs.Prelude.{Err, IfOk, IfErr, IfSome};
 ghost use Rattle.tree_trait.specs.Load.{load_facts, loaded};
-ghost use Rattle.dbgd.specs.Answered.{IsAnswered};
+ghost use Rattle.dbgd_edges.specs.Answered.{IsAnswered};
 
 use crate::look::{regular, stamp_of, unchanged};
 use crate::read_fault::ReadFault;

@@ -2,9 +2,9 @@
 
 ghost use Rattle.std.specs.Prelude.{◌≡◌, ◌≢◌, ◌≤◌, Err, Ok, IfOk, IfErr, OnOk, MatchBool};
 ghost use Rattle.std.specs.IoError.{error_kind};
-ghost use Rattle.dbgd.specs.Errors.{fault_in_listing};
-ghost use Rattle.dbgd.specs.FolderRead.{nothing_read, passed_over, refused, with_entry};
-ghost use Rattle.dbgd.specs.FolderRead.{after_look, is_passed_over};
+ghost use Rattle.dbgd_edges.specs.Errors.{fault_in_listing};
+ghost use Rattle.dbgd_edges.specs.FolderRead.{nothing_read, passed_over, refused, with_entry};
+ghost use Rattle.dbgd_edges.specs.FolderRead.{after_look, is_passed_over};
 
 use crate::look::{kind_of, unmoved};
 use crate::read_fault::ReadFault;
@@ -30,7 +30,7 @@ pub struct FolderRead {
 
 impl Model for FolderRead {
     ghost use Rattle.std.specs.Prelude.{◌≤◌};
-    ghost use Rattle.dbgd.specs.FolderRead.{FolderFacts};
+    ghost use Rattle.dbgd_edges.specs.FolderRead.{FolderFacts};
 
     ghost Value = { FolderFacts };
 

@@ -1,9 +1,9 @@
--- The numbers of the program, pinned (this project's rule, but for those of the system): code and
+-- The numbers of the real outside, pinned (this project's rule, but for those of the system): code and
 -- definitions share the constants.
 use Rattle.std.specs.Prelude.{◌≡◌, pos}
-use Rattle.dbgd.specs.declared.look.TheConstants.{READABLE}
-use Rattle.dbgd.specs.declared.read_fault.TheConstants.{NO_SUCH_PROCESS}
-use Rattle.dbgd.specs.declared.tries.TheConstants.{TRIES}
+use Rattle.dbgd_edges.specs.declared.look.TheConstants.{READABLE}
+use Rattle.dbgd_edges.specs.declared.read_fault.TheConstants.{NO_SUCH_PROCESS}
+use Rattle.dbgd_edges.specs.declared.tries.TheConstants.{TRIES}
 
 -- the system's number of ESRCH (Linux, asm-generic/errno-base.h)
 abbrev pub ArePinnedErrors : Type 0

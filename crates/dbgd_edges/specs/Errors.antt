@@ -14,9 +14,9 @@ use Rattle.tree_trait.specs.Dir.{DirFacts, listed, no_dir, dir_failed, dir_no_me
 use Rattle.tree_trait.specs.Load.{LoadFacts, gone, failed, no_memory}
 use Rattle.tree_trait.specs.declared.stat.StatAnswer.{StatAnswer}
 use Rattle.tree_trait.specs.declared.stat.StatAnswer.TheVariants as stat
-use Rattle.dbgd.specs.declared.read_fault.ReadFault.{ReadFault}
-use Rattle.dbgd.specs.declared.read_fault.ReadFault.TheVariants as fault
-use Rattle.dbgd.specs.declared.read_fault.TheConstants.{NO_SUCH_PROCESS}
+use Rattle.dbgd_edges.specs.declared.read_fault.ReadFault.{ReadFault}
+use Rattle.dbgd_edges.specs.declared.read_fault.ReadFault.TheVariants as fault
+use Rattle.dbgd_edges.specs.declared.read_fault.TheConstants.{NO_SUCH_PROCESS}
 
 -- the number is that of an error for a process that isn't there
 abbrev pub is_no_process : Option ℤ → Bool

@@ -1,29 +1,29 @@
-//! The program's output streams.
+//! The standard streams as sinks.
 
 ghost use Rattle.std.specs.Prelude.{◌≡◌, ◌≤◌, length, IfOk};
 
-use dbgd_run::{Sink, WriteAnswer};
+use http_wire::{Sink, Stream, WriteAnswer};
 use row_types::Faults;
 use std::io::{Result, Stderr, Stdout, Write};
 
-/// A stream of the program.
+/// A standard stream that is written.
 #[derive(Drop)]
-pub enum Stream {
+pub enum StdStream {
     Out(Stdout),
     Err(Stderr),
 }
 
-/// A sink over a stream of the program. It doesn't tell what was written. A write that takes nothing
+/// A sink over a standard stream. It doesn't tell what was written. A write that takes nothing
 /// is counted as a fault.
 #[derive(Drop)]
 pub struct RealSink {
-    stream: Stream,
+    stream: StdStream,
     faults: Faults,
 }
 
 impl RealSink {
     /// A sink over a stream that hasn't failed.
-    pub fn new(stream: Stream) -> RealSink
+    pub fn new(stream: StdStream) -> RealSink
         ensures stream { result.stream ≡ stream }
         ensures faults { result.faults ≡ 0 }
     {
@@ -39,13 +39,13 @@ impl RealSink {
         ensures faults { self.new.faults ≡ self.old.faults }
     {
         match &mut self.stream {
-            Stream::Out(stream) => stream.write(bytes),
-            Stream::Err(stream) => stream.write(bytes),
+            StdStream::Out(stream) => stream.write(bytes),
+            StdStream::Err(stream) => stream.write(bytes),
         }
     }
 }
 
-impl dbgd_run::Stream for RealSink {
+impl Stream for RealSink {
     ghost use Rattle.std.specs.Prelude.{None};
 
     ghost shows = { λ s.

@@ -3,10 +3,10 @@
 ghost use Rattle.std.specs.Prelude.{◌≡◌, ◌↔◌, bit_and, unsigned_abs, IsTrue, IsOk, IfOk, IfErr};
 ghost use Rattle.std.specs.Bool.{OnTrue};
 ghost use Rattle.std.specs.Fs.{IsDir, IsFile, file_type, metadata_len, metadata_mode};
-ghost use Rattle.dbgd.specs.Answered.{IsSeen};
-ghost use Rattle.dbgd.specs.Errors.{fault_of};
-ghost use Rattle.dbgd.specs.Numbers.{ArePinnedModes};
-ghost use Rattle.dbgd.specs.Stamped.{IsNanos};
+ghost use Rattle.dbgd_edges.specs.Answered.{IsSeen};
+ghost use Rattle.dbgd_edges.specs.Errors.{fault_of};
+ghost use Rattle.dbgd_edges.specs.Numbers.{ArePinnedModes};
+ghost use Rattle.dbgd_edges.specs.Stamped.{IsNanos};
 
 use crate::read_fault::ReadFault;
 use crate::tries::settled;

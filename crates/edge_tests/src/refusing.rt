@@ -1,12 +1,12 @@
 //! A file system that refuses one kind of call, or in which a file changes as it is opened.
 
-use super::{set_mode, set_time};
+use crate::folders::{set_mode, set_time};
 use std::alloc::{Allocator, Global};
 use std::fs::{self, File, Files, Metadata, OpenOptions};
 use std::io::{Error, Read, Result, Write};
 
 /// The calls that can be refused.
-#[derive(Clone, Copy, Debug, PartialEq, Eq)]
+#[derive(Clone, Copy, PartialEq, Eq)]
 pub enum Call {
     Look,
     Open,
@@ -14,8 +14,20 @@ pub enum Call {
     List,
 }
 
+impl Call {
+    /// Its name.
+    pub fn name(self) -> &'static str {
+        match self {
+            Call::Look => "looking at",
+            Call::Open => "opening",
+            Call::Enter => "entering",
+            Call::List => "listing",
+        }
+    }
+}
+
 /// What is refused: a call on the paths with this end, with the error of this number.
-#[derive(Clone, Copy, Debug)]
+#[derive(Clone, Copy)]
 pub struct Refusal(pub Call, pub &'static str, pub i32);
 
 /// What becomes of each file just before it is opened.
@@ -85,23 +97,29 @@ impl Refusing {
         }
     }
 
+    /// Another file takes a file's place.
+    fn give_way(&self, path: &str) -> Result<()> {
+        let other = format!(in self.rt.alloc(); "{path}.other")?;
+        fs::write(&self.rt, other.as_str(), "four")?;
+        set_mode(&self.rt, other.as_str(), 0o600)?;
+        fs::rename(&self.rt, other.as_str(), path)
+    }
+
     /// Changes a file.
     fn change(&self, path: &str) -> Result<()> {
         match self.change {
-            Some(Change::Grows) => {
-                let mut file = File::options().append(true).open(&self.rt, path)?;
-                file.write_all(b"!")?;
-                set_time(&file)
-            }
-            Some(Change::GivesWay) => {
-                let other = format!(in self.rt.alloc(); "{path}.other")?;
-                fs::write(&self.rt, other.as_str(), "four")?;
-                set_mode(&self.rt, other.as_str(), 0o600)?;
-                fs::rename(&self.rt, other.as_str(), path)
-            }
+            Some(Change::Grows) => grow(&self.rt, path),
+            Some(Change::GivesWay) => self.give_way(path),
             None => Ok(()),
         }
     }
+}
+
+/// Adds a byte to a file, which keeps its time.
+fn grow(rt: &HostRuntime, path: &str) -> Result<()> {
+    let mut file = File::options().append(true).open(rt, path)?;
+    file.write_all(b"!")?;
+    set_time(&file)
 }
 
 impl Alloc for Refusing {

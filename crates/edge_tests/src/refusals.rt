@@ -1,13 +1,14 @@
 //! What the real tree answers where the system refuses.
 
-use super::asking::Question::{self, Load, ReadDir, Stat};
-use super::asking::{ask, ask_all};
-use super::make_folder;
-use super::refusing::Call::{self, Enter, List, Look, Open};
-use super::refusing::{Refusal, Refusing};
-use crate::real_tree::RealTree;
+use crate::asking::Question::{self, Load, ReadDir, Stat};
+use crate::asking::{ask, ask_all};
+use crate::folders::{below, folder_of, make_folder};
+use crate::refusing::Call::{self, Enter, List, Look, Open};
+use crate::refusing::{Refusal, Refusing};
+use dbgd_edges::RealTree;
+use std::alloc::Global;
 use std::fs;
-use std::test::Fail;
+use std::process::Abort;
 
 // Numbers of Linux (asm-generic/errno-base.h and errno.h).
 const EPERM: i32 = 1;
@@ -35,12 +36,12 @@ const ESTALE: i32 = 116;
 /// The names that a folder lists. `n\xff` isn't UTF-8, and nothing stands at `away`.
 const NAMES: &[u8] = b".\0a\0..\0inner\0n\xff\0away\0";
 
-/// The real tree over a file system that refuses so.
-fn tree_of(rt: &HostRuntime, refusal: Refusal) -> RealTree<Refusing> {
+/// The files of this machine, but for what is refused, and for what each folder lists.
+fn refusing(rt: &HostRuntime, refusal: Refusal) -> Refusing {
     let mut files = Refusing::nothing(*rt);
     files.refusal = Some(refusal);
     files.names = Some(NAMES);
-    RealTree::new(files)
+    files
 }
 
 /// The number of an error of the first look at a folder, what a look, a load and a read of it
@@ -71,21 +72,37 @@ static REFUSED: [Refused; 11] = [
     (EIO, "failed | failed | failed", 3, "failed"),
 ];
 
+/// Asks about a folder and the one above, and compares.
+fn compare_refused(
+    rt: &impl Abort,
+    alloc: Global,
+    tree: &mut RealTree<Refusing>,
+    folder: &str,
+    case: &Refused,
+) {
+    let (number, wanted, count, above) = case;
+    let path = below(rt, alloc, folder, "/inner");
+    let text = ask_all(rt, alloc, tree, path.as_str());
+    assert!(rt; text.as_str() == *wanted, "error {number}: {text}");
+    assert!(rt; tree.count() == *count, "faults by error {number}");
+    let text = ask(rt, alloc, tree, ReadDir, folder, 4);
+    assert!(rt; text.as_str() == *above, "above error {number}: {text}");
+    assert!(rt;
+        tree.count() == count / 3 * 4,
+        "faults above error {number}"
+    );
+}
+
 #[test]
-fn each_error_has_its_answers(rt: HostRuntime) -> Result<(), Fail> {
-    let folder = make_folder(&rt, "errors")?;
-    let path = format!(in rt.alloc(); "{folder}/inner")?;
-    for (number, wanted, count, above) in &REFUSED {
-        let mut tree = tree_of(&rt, Refusal(Look, "/inner", *number));
-        let text = ask_all(rt.alloc(), &mut tree, path.as_str())?;
-        assert_eq!(rt; text.as_str(), *wanted, "error {number}");
-        assert_eq!(rt; tree.count(), *count, "faults by error {number}");
-        let text = ask(rt.alloc(), &mut tree, ReadDir, folder.as_str(), 4)?;
-        assert_eq!(rt; text.as_str(), *above, "above error {number}");
-        assert_eq!(rt; tree.count(), count / 3 * 4, "faults above error {number}");
+fn each_error_has_its_answers(rt: HostRuntime) {
+    let folder = folder_of(&rt, "errors").expect(&rt, "a path");
+    let folder = folder.as_str();
+    make_folder(&rt, folder);
+    for case in &REFUSED {
+        let mut tree = RealTree::new(refusing(&rt, Refusal(Look, "/inner", case.0)));
+        compare_refused(&rt, rt.alloc(), &mut tree, folder, case);
     }
-    fs::remove_dir_all(&rt, folder.as_str())?;
-    Ok(())
+    fs::remove_dir_all(&rt, folder).expect(&rt, "its removal");
 }
 
 /// A call that is refused on the paths with this end, with the error of this number, a question at
@@ -114,25 +131,41 @@ static LATER: [Case; 17] = [
     (List, "/inner/", EIO, ReadDir, "failed", 1),
 ];
 
+/// Asks at the path of a case, and compares.
+fn compare_later(
+    rt: &impl Abort,
+    alloc: Global,
+    tree: &mut RealTree<Refusing>,
+    folder: &str,
+    case: &Case,
+) {
+    let (call, end, number, what, want, count) = case;
+    let path = below(
+        rt,
+        alloc,
+        folder,
+        end.trim_end_matches('.').trim_end_matches('/'),
+    );
+    let text = ask(rt, alloc, tree, *what, path.as_str(), 4);
+    let (call, what) = (call.name(), what.name());
+    assert!(rt;
+        text.as_str() == *want,
+        "{what} after {call} {end} {number}: {text}"
+    );
+    assert!(rt;
+        tree.count() == *count,
+        "faults of {what} after {call} {end} {number}"
+    );
+}
+
 #[test]
-fn an_error_after_the_look_has_its_answer(rt: HostRuntime) -> Result<(), Fail> {
-    let folder = make_folder(&rt, "later")?;
-    for (call, end, number, what, want, count) in &LATER {
-        let mut tree = tree_of(&rt, Refusal(*call, end, *number));
-        let path = format!(in rt.alloc(); "{folder}{}", end.trim_end_matches('.'))?;
-        let path = path.as_str().trim_end_matches('/');
-        let text = ask(rt.alloc(), &mut tree, *what, path, 4)?;
-        assert_eq!(rt;
-            text.as_str(),
-            *want,
-            "{what:?} after {call:?} {end} {number}"
-        );
-        assert_eq!(rt;
-            tree.count(),
-            *count,
-            "faults after {call:?} {end} {number}"
-        );
+fn an_error_after_the_look_has_its_answer(rt: HostRuntime) {
+    let folder = folder_of(&rt, "later").expect(&rt, "a path");
+    let folder = folder.as_str();
+    make_folder(&rt, folder);
+    for case in &LATER {
+        let mut tree = RealTree::new(refusing(&rt, Refusal(case.0, case.1, case.2)));
+        compare_later(&rt, rt.alloc(), &mut tree, folder, case);
     }
-    fs::remove_dir_all(&rt, folder.as_str())?;
-    Ok(())
+    fs::remove_dir_all(&rt, folder).expect(&rt, "its removal");
 }

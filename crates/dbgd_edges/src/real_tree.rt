@@ -1,7 +1,7 @@
 //! The real file system as a tree.
 
 ghost use Rattle.std.specs.Prelude.{◌≡◌, ◌≤◌};
-ghost use Rattle.dbgd.specs.Errors.{counted};
+ghost use Rattle.dbgd_edges.specs.Errors.{counted};
 
 use crate::file_load::load_file;
 use crate::folder_read::read_folder;
@@ -43,10 +43,7 @@ impl<R: Drop> RealTree<R> {
             self.faults.raise();
         }
     }
-}
 
-#[cfg(test)]
-impl<R: Drop> RealTree<R> {
     /// How often the tree has failed.
     pub fn count(&self) -> u64
         ensures { result ≡ self.now.faults }
