@@ -18,7 +18,7 @@ use tree_trait::{DirAnswer, LoadAnswer, StatAnswer};
 pub const NO_SUCH_PROCESS: i32 = 3;
 
 /// Why a try to read what stands at a path gave nothing.
-#[derive(Clone, Copy, Debug, PartialEq, Eq)]
+#[derive(Clone, Copy)]
 pub enum ReadFault {
     /// Nothing of the kind that was asked for is there.
     Gone,
