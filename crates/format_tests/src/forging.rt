@@ -76,7 +76,7 @@ fn files_are_those_of_another_program(rt: HostRuntime) {
     }
 }
 
-/// A text of its own.
+/// An owned copy of the text.
 fn text(rt: &impl Abort, alloc: Global, text: &str) -> String {
     String::from_str(alloc, text).expect(rt, "memory")
 }

@@ -29,7 +29,7 @@ fn a_section_is_the_first_of_its_name_with_plain_contents(rt: HostRuntime) {
     let program = executable(rt.alloc()).expect(&rt, "memory");
     assert!(rt;
         section_of(&program, b".text") == Some([0xc3].as_slice()),
-        "code"
+        "code is there"
     );
     assert!(rt; section_of(&program, b".tex").is_none());
     assert!(rt;
