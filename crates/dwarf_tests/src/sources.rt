@@ -195,23 +195,29 @@ fn a_folder_may_be_too_long(rt: HostRuntime) {
     holds(&rt, alloc, &of_table);
 }
 
-// Two files by line_strp, at 0 and at 5: a text is there where a 0 follows.
+// Two files by line_strp, at 0 and at 5: a text is there where a 0 follows. The section of texts,
+// and the paths.
+static ENDS: [(&[u8], &[&str]); 4] = [
+    (b"/a.c\0/b.c\0", &["/a.c", "/b.c"]),
+    (b"/a.c\0/b.c", &["/a.c"]),
+    (b"/a.c/b.c", &[]),
+    (b"", &[]),
+];
+
+/// Checks that these are the paths of the two files whose texts stand in this section.
+fn texts_lead_to(rt: &impl Abort, alloc: Global, line_str: &[u8], paths: &[&str]) {
+    let line = with_header(rt, alloc, b"\0\0\x01\x01\x1f\x02\0\0\0\0\x05\0\0\0");
+    let units = Units {
+        dirs: &[None],
+        line: line.as_slice(),
+        line_str,
+    };
+    units_lead_to(rt, alloc, "ends", &units, paths);
+}
+
 #[test]
 fn a_text_ends_with_a_0(rt: HostRuntime) {
-    let alloc = rt.alloc();
-    let line = with_header(&rt, alloc, b"\0\0\x01\x01\x1f\x02\0\0\0\0\x05\0\0\0");
-    let cases: [(&[u8], &[&str]); 4] = [
-        (b"/a.c\0/b.c\0", &["/a.c", "/b.c"]),
-        (b"/a.c\0/b.c", &["/a.c"]),
-        (b"/a.c/b.c", &[]),
-        (b"", &[]),
-    ];
-    for (line_str, paths) in cases {
-        let units = Units {
-            dirs: &[None],
-            line: line.as_slice(),
-            line_str,
-        };
-        units_lead_to(&rt, alloc, "ends", &units, paths);
+    for (line_str, paths) in &ENDS {
+        texts_lead_to(&rt, rt.alloc(), line_str, paths);
     }
 }
