@@ -47,6 +47,8 @@ fn length_of(alloc: Global, text: &str) -> Result<usize, PathFault> {
     }
 }
 
+static NOT_ABSOLUTE: [&str; 5] = ["", "a", "./a", "a/b", "../a"];
+
 /// A slash, 4094 times b, and so many slashes.
 fn long_text(rt: &impl Abort, alloc: Global, slashes: usize) -> String {
     let mut long = String::from_str(alloc, "/").expect(rt, "memory");
@@ -59,23 +61,34 @@ fn long_text(rt: &impl Abort, alloc: Global, slashes: usize) -> String {
     long
 }
 
+/// How long the path is of 4095 bytes and so many slashes, or why there is none.
+fn long_length(rt: &impl Abort, alloc: Global, slashes: usize) -> Result<usize, PathFault> {
+    let long = long_text(rt, alloc, slashes);
+    length_of(alloc, long.as_str())
+}
+
 #[test]
 fn a_text_without_a_slash_or_above_4096_bytes_has_no_path(rt: HostRuntime) {
-    let alloc = rt.alloc();
-    for text in ["", "a", "./a", "a/b", "../a"] {
-        assert!(rt;
-            length_of(alloc, text) == Err(PathFault::NotAbsolute),
-            "of {text}"
-        );
+    for text in &NOT_ABSOLUTE {
+        let found = length_of(rt.alloc(), text);
+        assert!(rt; found == Err(PathFault::NotAbsolute), "of {text}");
     }
-    for (slashes, want) in [(1, Ok(4095)), (2, Err(PathFault::TooLong))] {
-        let long = long_text(&rt, alloc, slashes);
-        assert!(rt;
-            length_of(alloc, long.as_str()) == want,
-            "{slashes} at the end"
-        );
-    }
+    assert!(rt; long_length(&rt, rt.alloc(), 1) == Ok(4095));
+    assert!(rt; long_length(&rt, rt.alloc(), 2) == Err(PathFault::TooLong));
 }
+
+/// Paths, roots, and whether the path lies under the root.
+static UNDER: [(&str, &str, bool); 9] = [
+    ("/srv", "/srv", true),
+    ("/srv/a", "/srv", true),
+    ("/srv/a/b", "/srv", true),
+    ("/srvx", "/srv", false),
+    ("/sr", "/srv", false),
+    ("/", "/srv", false),
+    ("/srv", "/", true),
+    ("/", "/", true),
+    ("/x/srv", "/srv", false),
+];
 
 /// Whether the one path lies under the other, None where one of them is no path.
 fn lies_under(alloc: Global, path: &str, root: &str) -> Option<bool> {
@@ -87,21 +100,8 @@ fn lies_under(alloc: Global, path: &str, root: &str) -> Option<bool> {
 
 #[test]
 fn what_lies_under_a_root_begins_with_it_and_a_slash(rt: HostRuntime) {
-    let cases = [
-        ("/srv", "/srv", true),
-        ("/srv/a", "/srv", true),
-        ("/srv/a/b", "/srv", true),
-        ("/srvx", "/srv", false),
-        ("/sr", "/srv", false),
-        ("/", "/srv", false),
-        ("/srv", "/", true),
-        ("/", "/", true),
-        ("/x/srv", "/srv", false),
-    ];
-    for (path, root, want) in cases {
-        assert!(rt;
-            lies_under(rt.alloc(), path, root) == Some(want),
-            "{path} and {root}"
-        );
+    for (path, root, want) in &UNDER {
+        let found = lies_under(rt.alloc(), path, root);
+        assert!(rt; found == Some(*want), "{path} and {root}");
     }
 }

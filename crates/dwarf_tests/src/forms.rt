@@ -116,13 +116,17 @@ fn bytes_said(form: u64) -> Result<Told<'static>, FormFault> {
 }
 
 // data1, data2, data4, data8, udata and sec_offset; sdata, flag, ref4 and addrx are no numbers.
+static NUMBERS: [u64; 6] = [0x0b, 0x05, 0x06, 0x07, 0x0f, 0x17];
+
+static NO_NUMBERS: [u64; 4] = [0x0d, 0x0c, 0x13, 0x1b];
+
 #[test]
 fn six_forms_give_numbers(rt: HostRuntime) {
-    for form in [0x0b, 0x05, 0x06, 0x07, 0x0f, 0x17] {
-        assert!(rt; bytes_said(form) == Ok(Told::Number(3)), "form {form}");
+    for form in &NUMBERS {
+        assert!(rt; bytes_said(*form) == Ok(Told::Number(3)), "form {form}");
     }
-    for form in [0x0d, 0x0c, 0x13, 0x1b] {
-        assert!(rt; bytes_said(form) == Ok(Told::Other), "form {form}");
+    for form in &NO_NUMBERS {
+        assert!(rt; bytes_said(*form) == Ok(Told::Other), "form {form}");
     }
 }
 

@@ -202,16 +202,18 @@ fn of_one<'a>(folder: &'a [u8], file: Said<'a>) -> Told<'a> {
     }
 }
 
+/// Checks that the table behind three bytes says this, and that none begins a byte on or past the
+/// end.
+fn stands_at_3(rt: &impl Abort, alloc: Global, line: &[u8], order: Order, expected: Told<'_>) {
+    assert!(rt; table_said(rt, alloc, line, 3, order) == Some(expected));
+    assert!(rt; table_said(rt, alloc, line, 4, order).is_none());
+    assert!(rt; table_said(rt, alloc, line, u64::MAX, order).is_none());
+}
+
 #[test]
 fn a_table_has_a_format_and_an_order(rt: HostRuntime) {
-    let alloc = rt.alloc();
-    let cases: [(&[u8], Order, &[u8], Said<'static>); 2] = [
-        (WIDE, Order::Little, b"/w", (Some(b"main.c"), Some(0))),
-        (BIG, Order::Big, b"w", (Some(b"inc"), Some(0x102))),
-    ];
-    for (line, order, folder, file) in cases {
-        assert!(rt; table_said(&rt, alloc, line, 3, order) == Some(of_one(folder, file)));
-        assert!(rt; table_said(&rt, alloc, line, 4, order).is_none());
-        assert!(rt; table_said(&rt, alloc, line, u64::MAX, order).is_none());
-    }
+    let wide = of_one(b"/w", (Some(b"main.c"), Some(0)));
+    stands_at_3(&rt, rt.alloc(), WIDE, Order::Little, wide);
+    let big = of_one(b"w", (Some(b"inc"), Some(0x102)));
+    stands_at_3(&rt, rt.alloc(), BIG, Order::Big, big);
 }

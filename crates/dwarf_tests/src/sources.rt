@@ -127,23 +127,25 @@ fn repeated(rt: &impl Abort, alloc: Global, part: &[u8], count: usize, end: &[u8
     bytes
 }
 
+/// Checks that a file of `./` 2046 times and this end, in /w, leads to these paths.
+fn joined_leads_to(rt: &impl Abort, alloc: Global, end: &[u8], paths: &[&str]) {
+    let path = repeated(rt, alloc, b"./", 2046, end);
+    let case = Case {
+        what: "joined",
+        units: &[Some(b"/w")],
+        dirs: &[],
+        files: &[(path.as_slice(), 0)],
+        paths,
+    };
+    holds(rt, alloc, &case);
+}
+
 // 4096 bytes are the longest path, before it is made canonical: a slash, w, and a slash, then 2046
 // times `./`, and one byte or two.
 #[test]
 fn the_joined_text_has_at_most_4096_bytes(rt: HostRuntime) {
-    let alloc = rt.alloc();
-    let cases: [(&[u8], &[&str]); 2] = [(b"a", &["/w/a"]), (b"ab", &[])];
-    for (end, paths) in cases {
-        let path = repeated(&rt, alloc, b"./", 2046, end);
-        let case = Case {
-            what: "joined",
-            units: &[Some(b"/w")],
-            dirs: &[],
-            files: &[(path.as_slice(), 0)],
-            paths,
-        };
-        holds(&rt, alloc, &case);
-    }
+    joined_leads_to(&rt, rt.alloc(), b"a", &["/w/a"]);
+    joined_leads_to(&rt, rt.alloc(), b"ab", &[]);
 }
 
 /// One line table, of many units and of none.

@@ -2,6 +2,7 @@
 
 use dwarf_forms::DebugParts;
 use file_formats::Order;
+use row_types::CanonPath;
 use source_paths::sources;
 use std::alloc::Global;
 use std::process::Abort;
@@ -69,13 +70,21 @@ pub struct Units<'a> {
     pub line_str: &'a [u8],
 }
 
+/// Whether these are the texts of the paths.
+fn are(paths: &[CanonPath], texts: &[&str]) -> bool {
+    let mut texts = texts.iter();
+    for path in paths {
+        if texts.next().copied() != Some(path.text()) {
+            return false;
+        }
+    }
+    texts.next().is_none()
+}
+
 /// Checks that these are the paths of the sources.
 pub fn lead_to(rt: &impl Abort, alloc: Global, what: &str, parts: &DebugParts<'_>, paths: &[&str]) {
     let found = sources(alloc, parts).expect(rt, "memory");
-    assert!(rt; found.paths().len() == paths.len(), "{what}");
-    for (path, text) in found.paths().iter().zip(paths) {
-        assert!(rt; path.text() == *text, "{what}");
-    }
+    assert!(rt; are(found.paths(), paths), "{what}");
 }
 
 /// Checks that these are the paths of the units' sources.
