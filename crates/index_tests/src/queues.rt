@@ -27,49 +27,37 @@ fn name_of(rt: &impl Abort, alloc: Global, file: (&str, u64)) -> Name {
     name(alloc, file.0, file.1).expect(rt, "a name")
 }
 
-/// Adds the path and the size of a name.
-fn add(rt: &impl Abort, alloc: Global, text: &mut String, name: &Name) {
-    let part = name_text(alloc, name).expect(rt, "memory");
-    text.push_str(part.as_str()).expect(rt, "memory");
+/// A list of a pass whose first name can be had.
+#[derive(Clone, Copy)]
+enum Place {
+    /// The names that are to be read.
+    Todo,
+    /// Those that are to be looked for.
+    Groom,
+    /// Those that were missed.
+    Missed,
 }
 
-/// The names that are to be read, in order; each is taken off the pass.
-fn todo_text(rt: &impl Abort, alloc: Global, pass: &mut Pass) -> String {
-    let mut text = String::new(alloc);
-    for _ in 0..NAMES.len() {
-        if let Some(name) = pass.take() {
-            assert!(rt; pass.done(&name));
-            add(rt, alloc, &mut text, &name);
+/// The first name of a list.
+fn first_of(rt: &impl Abort, alloc: Global, pass: &mut Pass, place: Place) -> Option<Name> {
+    match place {
+        Place::Todo => pass.take(),
+        Place::Groom => pass.groom_take(),
+        Place::Missed => {
+            let miss = pass.first_miss()?;
+            Some(miss.name.copy(alloc).expect(rt, "memory"))
         }
     }
-    text
 }
 
-/// The names that are to be looked for, in order; each is taken off the pass.
-fn groom_text(rt: &impl Abort, alloc: Global, pass: &mut Pass) -> String {
+/// The names of a list, in order; each is taken off the pass.
+fn emptied(rt: &impl Abort, alloc: Global, pass: &mut Pass, place: Place) -> String {
     let mut text = String::new(alloc);
     for _ in 0..NAMES.len() {
-        if let Some(name) = pass.groom_take() {
+        if let Some(name) = first_of(rt, alloc, pass, place) {
             assert!(rt; pass.done(&name));
-            add(rt, alloc, &mut text, &name);
-        }
-    }
-    text
-}
-
-/// A copy of the first name that was missed.
-fn first_missed(rt: &impl Abort, alloc: Global, pass: &Pass) -> Option<Name> {
-    let miss = pass.first_miss()?;
-    Some(miss.name.copy(alloc).expect(rt, "memory"))
-}
-
-/// The names that were missed, in order; each is taken off the pass.
-fn missed_text(rt: &impl Abort, alloc: Global, pass: &mut Pass) -> String {
-    let mut text = String::new(alloc);
-    for _ in 0..NAMES.len() {
-        if let Some(name) = first_missed(rt, alloc, pass) {
-            assert!(rt; pass.done(&name));
-            add(rt, alloc, &mut text, &name);
+            let part = name_text(alloc, &name).expect(rt, "memory");
+            text.push_str(part.as_str()).expect(rt, "memory");
         }
     }
     text
@@ -87,32 +75,15 @@ fn miss_all(rt: &impl Abort, alloc: Global, pass: &mut Pass) {
 static NAMES: [(&str, u64); 5] = [("/a", 1), ("/b", 2), ("/b", 1), ("/c", 4), ("/d", 3)];
 
 /// The names that are to be read, out, to be looked for and missed, each list before a `;`. Those
-/// that are out are seen once they are missed, when no other name is left. The pass has none in the
-/// end, and each list had as many as it counted.
+/// that are out are seen once they are missed, when the other lists are empty. In the end all are.
 fn lists(rt: &impl Abort, alloc: Global, pass: &mut Pass) -> String {
-    let [todo, out, groom, missed] = pass.counts();
-    let missed_names = missed_text(rt, alloc, pass);
-    assert!(rt;
-        pass.counts() == [todo, out, groom, 0],
-        "{missed} were missed"
-    );
-    let todo_names = todo_text(rt, alloc, pass);
-    assert!(rt;
-        pass.counts() == [0, out, groom, 0],
-        "{todo} were to be read"
-    );
-    let groom_names = groom_text(rt, alloc, pass);
-    assert!(rt;
-        pass.counts() == [0, out, 0, 0],
-        "{groom} were to be looked for"
-    );
+    let missed = emptied(rt, alloc, pass, Place::Missed);
+    let todo = emptied(rt, alloc, pass, Place::Todo);
+    let groom = emptied(rt, alloc, pass, Place::Groom);
     miss_all(rt, alloc, pass);
-    assert!(rt; pass.counts() == [0, 0, 0, out], "{out} were out");
-    let out_names = missed_text(rt, alloc, pass);
+    let out = emptied(rt, alloc, pass, Place::Missed);
     assert!(rt; pass.is_whole());
-    format!(in alloc; "{todo_names}; {out_names}; {groom_names}; {missed_names}; ").expect(
-        rt, "memory",
-    )
+    format!(in alloc; "{todo}; {out}; {groom}; {missed}; ").expect(rt, "memory")
 }
 
 /// A call of a pass.

@@ -4,77 +4,14 @@ use crate::states::calls::task_text;
 use crate::states::helpers::{
     Index, NOTHING, ended, found_rows, listing, opened, store_stopping_at,
 };
-use crate::states::told::{Version, listed, name_of, row_of, scan, stamp_of};
+use crate::states::told::{Step, Version, events_of, scan};
 use index_keeper::MemStore;
 use index_state::{Event, EventAnswer, EventsEnd, OpenFault, Standing, run_events};
 use row_types::{BuildId, CanonPath, Kind, OpenWorld, TrueRow, Truth};
 use sample_rows::{elf, name_text, paths, row};
-use scan_queue::{Cause, Listing, Seen};
 use std::alloc::Global;
 use std::process::Abort;
 use tree_trait::TwoWorld;
-
-/// An event of the world of two versions.
-#[derive(Clone, Copy)]
-enum Step {
-    /// A pass over the version begins.
-    Begin(Version),
-    /// The first name that is to be read goes out.
-    Take,
-    /// The version's row is published.
-    Publish(Version),
-    /// The first name that is to be looked for goes out.
-    GroomTake,
-    /// The first version's name is judged where the second stands.
-    Judge,
-    /// The version's name is missed, since it could not be read.
-    Miss(Version),
-    /// The names that are out or missed are tried again.
-    Retry,
-    /// The executables of an id are looked up.
-    Look,
-    /// The index is opened again.
-    Reopen,
-}
-
-/// A pass begins under this root.
-fn begin<W: Truth>(rt: &impl Abort, alloc: Global, files: Listing, root: &str) -> Event<W> {
-    Event::Begin(files, paths(alloc, &[root]).expect(rt, "a root"))
-}
-
-/// The executables of an id are looked up.
-fn look<W: Truth>(rt: &impl Abort, id: &[u8]) -> Event<W> {
-    let id = BuildId::new(id).expect(rt, "two bytes are an id");
-    Event::Look(id, Kind::Executable)
-}
-
-/// The event, as it happens to an index.
-fn event_of(rt: &impl Abort, alloc: Global, step: Step) -> Event<TwoWorld> {
-    match step {
-        Step::Begin(version) => begin(rt, alloc, listed(rt, alloc, version), "/w"),
-        Step::Take => Event::Take,
-        Step::Publish(version) => Event::Publish(row_of(rt, alloc, version)),
-        Step::GroomTake => Event::GroomTake,
-        Step::Judge => {
-            let seen = Seen::File(stamp_of(Version::Second));
-            Event::Judge(name_of(rt, alloc, Version::First), seen)
-        }
-        Step::Miss(version) => Event::Miss(name_of(rt, alloc, version), Cause::ReadFault),
-        Step::Retry => Event::Retry,
-        Step::Look => look(rt, &[0xab, 0xcd]),
-        Step::Reopen => Event::Reopen,
-    }
-}
-
-/// The events, in order.
-fn events_of(rt: &impl Abort, alloc: Global, steps: &[Step]) -> Vec<Event<TwoWorld>> {
-    let mut events = Vec::new(alloc);
-    for step in steps {
-        let event = event_of(rt, alloc, *step);
-        events.push(event).expect(rt, "memory");
-    }
-    events
-}
 
 /// The paths, each with a space behind it.
 fn paths_text(rt: &impl Abort, alloc: Global, found: &[CanonPath]) -> String {
@@ -232,10 +169,12 @@ fn executable(rt: &impl Abort, alloc: Global, text: &str, size: u64) -> TrueRow<
 /// Two executables of one id are published, and looked up.
 fn publishes_and_looks(rt: &impl Abort, alloc: Global) -> Vec<Event<OpenWorld>> {
     let files = listing(rt, alloc, &[("/a", 4), ("/b", 3)]);
-    let begins = begin(rt, alloc, files, "/");
+    let begins = Event::Begin(files, paths(alloc, &["/"]).expect(rt, "a root"));
     let first = Event::Publish(executable(rt, alloc, "/b", 3));
     let second = Event::Publish(executable(rt, alloc, "/a", 4));
-    vec![in alloc; begins, first, second, look(rt, b"ab")].expect(rt, "memory")
+    let id = BuildId::new(b"ab").expect(rt, "two bytes are an id");
+    let looks = Event::Look(id, Kind::Executable);
+    vec![in alloc; begins, first, second, looks].expect(rt, "memory")
 }
 
 /// What is answered to each of them.

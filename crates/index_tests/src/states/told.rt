@@ -6,10 +6,10 @@ ghost use Rattle.tree_trait.specs.TwoWorld.{first_stamp, path as only_path, seco
 use crate::states::helpers::{
     Index, NO_PLAN, NOTHING, ended, found_rows, listing_of, opened, store_stopping_at, taken_text,
 };
-use index_state::{Begun, Plan, Published, Standing};
-use row_types::{EDITION, Name, Reading, Row, Stamp, TrueRow, Why};
+use index_state::{Begun, Event, Plan, Published, Standing};
+use row_types::{BuildId, CanonPath, EDITION, Kind, Name, Reading, Row, Stamp, TrueRow, Why};
 use sample_rows::{path, paths, rows_text};
-use scan_queue::Listing;
+use scan_queue::{Cause, Listing, Seen};
 use std::alloc::Global;
 use std::process::Abort;
 use tree_trait::TwoWorld;
@@ -68,6 +68,65 @@ pub fn row_of(rt: &impl Abort, alloc: Global, version: Version) -> TrueRow<TwoWo
     TrueRow::new(Row::new(name, EDITION, Reading::Plain(Why::NotElf)))
 }
 
+/// The roots of a pass.
+fn roots(rt: &impl Abort, alloc: Global) -> Vec<CanonPath> {
+    paths(alloc, &["/w"]).expect(rt, "a root")
+}
+
+/// An event of the world of two versions.
+#[derive(Clone, Copy)]
+pub enum Step {
+    /// A pass over the version begins.
+    Begin(Version),
+    /// The first name that is to be read goes out.
+    Take,
+    /// The version's row is published.
+    Publish(Version),
+    /// The first name that is to be looked for goes out.
+    GroomTake,
+    /// The first version's name is judged where the second stands.
+    Judge,
+    /// The version's name is missed, since it could not be read.
+    Miss(Version),
+    /// The names that are out or missed are tried again.
+    Retry,
+    /// The executables of an id are looked up.
+    Look,
+    /// The index is opened again.
+    Reopen,
+}
+
+/// The event, as it happens to an index.
+fn event_of(rt: &impl Abort, alloc: Global, step: Step) -> Event<TwoWorld> {
+    match step {
+        Step::Begin(version) => Event::Begin(listed(rt, alloc, version), roots(rt, alloc)),
+        Step::Take => Event::Take,
+        Step::Publish(version) => Event::Publish(row_of(rt, alloc, version)),
+        Step::GroomTake => Event::GroomTake,
+        Step::Judge => {
+            let seen = Seen::File(stamp_of(Version::Second));
+            Event::Judge(name_of(rt, alloc, Version::First), seen)
+        }
+        Step::Miss(version) => Event::Miss(name_of(rt, alloc, version), Cause::ReadFault),
+        Step::Retry => Event::Retry,
+        Step::Look => {
+            let id = BuildId::new(&[0xab, 0xcd]).expect(rt, "two bytes are an id");
+            Event::Look(id, Kind::Executable)
+        }
+        Step::Reopen => Event::Reopen,
+    }
+}
+
+/// The events, in order.
+pub fn events_of(rt: &impl Abort, alloc: Global, steps: &[Step]) -> Vec<Event<TwoWorld>> {
+    let mut events = Vec::new(alloc);
+    for step in steps {
+        let event = event_of(rt, alloc, *step);
+        events.push(event).expect(rt, "memory");
+    }
+    events
+}
+
 /// Begins a pass over a version.
 pub fn begin_over(
     rt: &impl Abort,
@@ -75,8 +134,7 @@ pub fn begin_over(
     index: &mut Index<TwoWorld>,
     version: Version,
 ) -> Begun {
-    let roots = paths(alloc, &["/w"]).expect(rt, "a root");
-    index.begin(alloc, listed(rt, alloc, version), roots)
+    index.begin(alloc, listed(rt, alloc, version), roots(rt, alloc))
 }
 
 /// A pass over a version: its name is taken, and its row is published. What was answered.
