@@ -72,15 +72,23 @@ fn row_of(rt: &impl Abort, alloc: Global, bytes: &[u8]) -> Row {
     read_row(alloc, bytes).expect(rt, "row bytes")
 }
 
+/// The bytes of the row that these bytes are read as.
+fn written_again(rt: &impl Abort, alloc: Global, bytes: &[u8]) -> Vec<u8> {
+    let row = row_of(rt, alloc, bytes);
+    write_row(alloc, &row).expect(rt, "memory")
+}
+
 #[test]
 fn what_was_written_is_read(rt: HostRuntime) {
-    let alloc = rt.alloc();
     for bytes in [EXAMPLE.as_slice(), WITH_IDENTITY.as_slice()] {
-        let row = row_of(&rt, alloc, bytes);
-        let again = write_row(alloc, &row).expect(&rt, "memory");
+        let again = written_again(&rt, rt.alloc(), bytes);
         assert!(rt; again.as_slice() == bytes);
     }
-    let row = row_of(&rt, alloc, EXAMPLE.as_slice());
+}
+
+#[test]
+fn the_example_is_read_part_for_part(rt: HostRuntime) {
+    let row = row_of(&rt, rt.alloc(), EXAMPLE.as_slice());
     assert!(rt; row.name.path.text() == "/a");
     assert!(rt; Some(row.name.stamp) == Stamp::new(0, 100, 0));
     assert!(rt; matches!(row.reading, Reading::Plain(Why::NotElf)));
