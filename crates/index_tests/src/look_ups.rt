@@ -1,7 +1,7 @@
 //! What no clause says: that memory suffices, and what puts, drops and look-ups come to on rows
 //! that are known from elsewhere.
 
-use index_rows::Rows;
+use index_rows::{RowIter, Rows};
 use row_types::{BuildId, Kind, OpenWorld, TrueRow};
 use sample_rows::{elf, name_text, path, plain, row, rows_text};
 use std::alloc::Global;
@@ -11,11 +11,6 @@ use std::process::Abort;
 fn put(rt: &impl Abort, rows: &mut Rows<OpenWorld>, row: TrueRow<OpenWorld>) {
     rows.reserve(&row).expect(rt, "room for the row");
     rows.put(row);
-}
-
-/// Puts the row of a file of this path and size, which is no ELF file.
-fn put_plain(rt: &impl Abort, alloc: Global, rows: &mut Rows<OpenWorld>, text: &str, size: u64) {
-    put(rt, rows, plain(alloc, text, size).expect(rt, "a row"));
 }
 
 /// The paths and sizes of copies of the rows' names, as `/a 1, /b 2, `.
@@ -28,16 +23,26 @@ fn names_text(rt: &impl Abort, alloc: Global, rows: &Rows<OpenWorld>) -> String 
     text
 }
 
+/// The paths and sizes of the rows.
+fn text_of(rt: &impl Abort, alloc: Global, rows: RowIter<'_>) -> String {
+    rows_text(alloc, rows).expect(rt, "memory")
+}
+
+/// The rows of these files, which are no ELF files, put one after the other.
+fn rows_with(rt: &impl Abort, alloc: Global, files: &[(&str, u64)]) -> Rows<OpenWorld> {
+    let mut rows = Rows::new(alloc);
+    for (text, size) in files {
+        put(rt, &mut rows, plain(alloc, text, *size).expect(rt, "a row"));
+    }
+    rows
+}
+
 #[test]
 fn a_put_replaces_the_row_of_its_path(rt: HostRuntime) {
     let alloc = rt.alloc();
-    let mut rows = Rows::new(alloc);
-    for (text, size) in [("/b", 1), ("/a", 2), ("/c", 3), ("/b", 4)] {
-        put_plain(&rt, alloc, &mut rows, text, size);
-    }
+    let rows = rows_with(&rt, alloc, &[("/b", 1), ("/a", 2), ("/c", 3), ("/b", 4)]);
     assert!(rt; rows.len() == 3 && rows.log_len() == 4);
-    let found = rows_text(alloc, rows.rows()).expect(&rt, "memory");
-    assert!(rt; found.as_str() == "/a 2, /b 4, /c 3, ");
+    assert!(rt; text_of(&rt, alloc, rows.rows()).as_str() == "/a 2, /b 4, /c 3, ");
     assert!(rt; names_text(&rt, alloc, &rows).as_str() == "/a 2, /b 4, /c 3, ");
 }
 
@@ -60,14 +65,10 @@ fn drop_path(rt: &impl Abort, alloc: Global, rows: &mut Rows<OpenWorld>, text: &
 
 #[test]
 fn a_dropped_row_is_gone(rt: HostRuntime) {
-    let alloc = rt.alloc();
-    let mut rows = Rows::new(alloc);
-    put_plain(&rt, alloc, &mut rows, "/a", 1);
-    put_plain(&rt, alloc, &mut rows, "/b", 2);
-    drop_path(&rt, alloc, &mut rows, "/a");
+    let mut rows = rows_with(&rt, rt.alloc(), &[("/a", 1), ("/b", 2)]);
+    drop_path(&rt, rt.alloc(), &mut rows, "/a");
     assert!(rt; rows.log_len() == 3);
-    let found = rows_text(alloc, rows.rows()).expect(&rt, "memory");
-    assert!(rt; found.as_str() == "/b 2, ");
+    assert!(rt; text_of(&rt, rt.alloc(), rows.rows()).as_str() == "/b 2, ");
 }
 
 /// Files: the path, the size, the id, whether it is an executable or else has debug information,
@@ -95,15 +96,11 @@ fn rows_are_looked_up_by_id_and_kind(rt: HostRuntime) {
     let alloc = rt.alloc();
     let rows = rows_of_files(&rt, alloc);
     let id = BuildId::new(b"ab").expect(&rt, "two bytes are an id");
-    for (kind, want) in [
-        (Kind::Executable, "/a 4, /d 1, "),
-        (Kind::Debuginfo, "/c 2, "),
-    ] {
-        let found = rows_text(alloc, rows.with_class(&id, kind)).expect(&rt, "memory");
-        assert!(rt; found.as_str() == want, "{kind:?}");
-    }
-    let found = rows_text(alloc, rows.rows_of(&id)).expect(&rt, "memory");
-    assert!(rt; found.as_str() == "/a 4, /c 2, /d 1, ");
+    let executables = text_of(&rt, alloc, rows.with_class(&id, Kind::Executable));
+    assert!(rt; executables.as_str() == "/a 4, /d 1, ");
+    let others = text_of(&rt, alloc, rows.with_class(&id, Kind::Debuginfo));
+    assert!(rt; others.as_str() == "/c 2, ");
+    assert!(rt; text_of(&rt, alloc, rows.rows_of(&id)).as_str() == "/a 4, /c 2, /d 1, ");
 }
 
 #[test]

@@ -3,6 +3,8 @@
 
 use row_types::{BuildId, Name, OpenWorld, Reading, Stamp, TrueRow, Why, is_canonical};
 use sample_rows::{elf, path, row};
+use std::alloc::Global;
+use std::process::Abort;
 
 #[test]
 fn an_id_is_read_in_either_case_and_printed_in_lower_case(rt: HostRuntime) {
@@ -67,17 +69,18 @@ fn a_row_is_copied_whole(rt: HostRuntime) {
     }
 }
 
+/// The row of a file of this size that says that it is too large, where it is.
+fn too_large(rt: &impl Abort, alloc: Global, size: u64) -> Option<TrueRow<OpenWorld>> {
+    let name = Name {
+        path: path(alloc, "/core").expect(rt, "a path"),
+        stamp: Stamp::new(size, -1, 999_999_999).expect(rt, "below a second"),
+    };
+    TrueRow::too_large(name).ok()
+}
+
 #[test]
 fn only_a_file_above_the_limit_is_too_large(rt: HostRuntime) {
-    for (size, large) in [(0x4000_0000, false), (0x4000_0001, true)] {
-        let name = Name {
-            path: path(rt.alloc(), "/core").expect(&rt, "a path"),
-            stamp: Stamp::new(size, -1, 999_999_999).expect(&rt, "below a second"),
-        };
-        let row: Option<TrueRow<OpenWorld>> = TrueRow::too_large(name).ok();
-        assert!(rt; row.is_some() == large, "at {size}");
-        if let Some(row) = row {
-            assert!(rt; matches!(&row.row().reading, Reading::Plain(Why::TooLarge)));
-        }
-    }
+    assert!(rt; too_large(&rt, rt.alloc(), 0x4000_0000).is_none());
+    let row = too_large(&rt, rt.alloc(), 0x4000_0001).expect(&rt, "the file is too large");
+    assert!(rt; matches!(&row.row().reading, Reading::Plain(Why::TooLarge)));
 }
