@@ -88,10 +88,11 @@ fn what_was_written_is_read(rt: HostRuntime) {
 
 #[test]
 fn the_example_is_read_part_for_part(rt: HostRuntime) {
+    let stamp = Stamp::new(0, 100, 0).expect(&rt, "a stamp");
     let row = row_of(&rt, rt.alloc(), EXAMPLE.as_slice());
     assert!(rt; row.name.path.text() == "/a");
-    assert!(rt; Some(row.name.stamp) == Stamp::new(0, 100, 0));
-    assert!(rt; matches!(row.reading, Reading::Plain(Why::NotElf)));
+    assert!(rt; row.name.stamp == stamp);
+    assert!(rt; matches!(&row.reading, Reading::Plain(Why::NotElf)));
 }
 
 /// The bytes with another byte at a place, or with that byte behind them.
