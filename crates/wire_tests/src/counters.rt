@@ -1,4 +1,6 @@
-ghost use Rattle.std.specs.Prelude.{◌≡◌, IsSome, IfSome, None};
+//! What no clause says: that memory suffices, that what threads count adds up, and the pages.
+
+ghost use Rattle.std.specs.Prelude.{◌≡◌, ◌≤◌, IsSome, IfSome, None};
 ghost use Rattle.std.specs.Thread.{IsSync};
 ghost use Rattle.dbgd_metrics.specs.Counts.{CanCount};
 ghost use Rattle.dbgd_metrics.specs.declared.count.Count.TheVariants.{Request};
@@ -9,11 +11,12 @@ use crate::counters::expected::{
     AT_THE_END, EACH_ROUTE_AND_STATUS, FOUR_THREADS, TWO_REQUESTS_AND_A_PASS, TWO_THREADS, ZEROS,
 };
 use dbgd_metrics::{Book, Count, Counted, Drawn, RouteName, Share, ShareSplit};
+use std::alloc::Global;
+use std::process::Abort;
 use std::sync::Wait;
-use std::test::Fail;
 use std::thread::{Threads, join};
 
-// The share with a row, if there was one left.
+/// The share with a row, if there was one left.
 fn drawn<R: Wait>(rt: &R, book: &Book, share: Share) -> Option<Share>
     requires book { share.book ≡ book.now.id }
     requires no_row { share.row ≡ None }
@@ -25,7 +28,7 @@ fn drawn<R: Wait>(rt: &R, book: &Book, share: Share) -> Option<Share>
     }
 }
 
-// Two shares of one.
+/// Two shares of one.
 fn cut(book: &Book, share: Share) -> (Share, Share)
     requires book { share.book ≡ book.now.id }
     requires no_row { share.row ≡ None }
@@ -38,6 +41,7 @@ fn cut(book: &Book, share: Share) -> (Share, Share)
     }
 }
 
+/// A request to count.
 fn request(route: RouteName, status: u16, bytes: u64) -> Count
     ensures { result ≡ Request route status bytes }
 {
@@ -48,7 +52,7 @@ fn request(route: RouteName, status: u16, bytes: u64) -> Count
     }
 }
 
-// Counts the same so many times.
+/// Counts the same so many times.
 fn count_often(book: &Book, mut share: Share, what: Count, times: u64) -> Share
     requires book { share.book ≡ book.now.id }
     requires row { IsSome share.row }
@@ -61,7 +65,7 @@ fn count_often(book: &Book, mut share: Share, what: Count, times: u64) -> Share
     share
 }
 
-// Two threads count 10,000 requests each.
+/// Two threads count 10,000 requests each.
 fn count_by_two<R: Threads + Sync>(
     rt: &R,
     book: &Book,
@@ -84,7 +88,7 @@ fn count_by_two<R: Threads + Sync>(
     )
 }
 
-// Four threads count 10,000 requests each, two of them the one and two the other.
+/// Four threads count 10,000 requests each, two of them the one and two the other.
 fn count_by_four<R: Threads + Sync>(
     rt: &R,
     book: &Book,
@@ -122,7 +126,7 @@ fn count_by_four<R: Threads + Sync>(
     (left.0, right.0)
 }
 
-// Two shares with a row each, if there were two left.
+/// Two shares with a row each, if there were two left.
 fn drawn_pair<R: Wait>(rt: &R, book: &Book, share: Share) -> Option<(Share, Share)>
     requires book { share.book ≡ book.now.id }
     requires no_row { share.row ≡ None }
@@ -135,7 +139,7 @@ fn drawn_pair<R: Wait>(rt: &R, book: &Book, share: Share) -> Option<(Share, Shar
     Some((first, second))
 }
 
-// What is answered at each of these, and whether the share is marked then.
+/// What is answered at each of these, and whether the share is marked then.
 fn answers(
     book: &Book,
     share: &mut Share,
@@ -154,10 +158,39 @@ fn answers(
     [first, second, third]
 }
 
+/// A table of so many rows, and a share that has one of them.
+fn one_drawn<R: Abort + Wait>(rt: &R, alloc: Global, rows: u64) -> (Book, Share)
+    requires { (1 ≤ rows) × (rows ≤ 65) }
+    ensures { (result.1.book ≡ result.0.id) × IsSome result.1.row }
+{
+    let (book, share) = Book::make(alloc, rows).expect(rt, "memory");
+    let share = drawn(rt, &book, share).expect(rt, "a row");
+    (book, share)
+}
+
+/// A table of two rows, and the shares that have them.
+fn two_drawn<R: Abort + Wait>(rt: &R, alloc: Global) -> (Book, Share, Share)
+    ensures first { (result.1.book ≡ result.0.id) × IsSome result.1.row }
+    ensures second { (result.2.book ≡ result.0.id) × IsSome result.2.row }
+{
+    let (book, share) = Book::make(alloc, 2).expect(rt, "memory");
+    let (first, second) = drawn_pair(rt, &book, share).expect(rt, "two rows");
+    (book, first, second)
+}
+
+/// The page is this.
+fn compare(rt: &impl Abort, alloc: Global, book: &Book, share: &mut Share, wanted: &str)
+    requires book { share.old.book ≡ book.now.id }
+    requires row { IsSome share.old.row }
+    ensures { (share.new.book ≡ book.now.id) × IsSome share.new.row }
+{
+    let page = book.text(alloc, share).expect(rt, "memory");
+    assert!(rt; page.as_str() == wanted, "{page}");
+}
+
 #[test]
-fn the_page_after_two_requests_and_a_pass(rt: HostRuntime) -> Result<(), Fail> {
-    let (book, share) = Book::make(rt.alloc(), 1)?;
-    let mut share = drawn(&rt, &book, share).ok_or("a row")?;
+fn the_page_after_two_requests_and_a_pass(rt: HostRuntime) {
+    let (book, mut share) = one_drawn(&rt, rt.alloc(), 1);
     let found = request(RouteName::Debuginfo, 200, 1016);
     let not_found = request(RouteName::Executable, 404, 10);
     let pass = Count::Pass {
@@ -166,26 +199,19 @@ fn the_page_after_two_requests_and_a_pass(rt: HostRuntime) -> Result<(), Fail> {
         dropped: 0,
     };
     let answers = answers(&book, &mut share, found, not_found, pass);
-    assert_eq!(rt; answers, [(Counted::Done, false); 3]);
-    assert_eq!(rt;
-        book.text(rt.alloc(), &mut share)?.as_str(),
-        TWO_REQUESTS_AND_A_PASS
-    );
-    Ok(())
+    assert!(rt; answers == [(Counted::Done, false); 3]);
+    compare(&rt, rt.alloc(), &book, &mut share, TWO_REQUESTS_AND_A_PASS);
 }
 
 #[test]
-fn the_page_of_zeros_has_no_requests(rt: HostRuntime) -> Result<(), Fail> {
-    let (book, share) = Book::make(rt.alloc(), 65)?;
-    let mut share = drawn(&rt, &book, share).ok_or("a row")?;
-    assert_eq!(rt; book.text(rt.alloc(), &mut share)?.as_str(), ZEROS);
-    Ok(())
+fn the_page_of_zeros_has_no_requests(rt: HostRuntime) {
+    let (book, mut share) = one_drawn(&rt, rt.alloc(), 65);
+    compare(&rt, rt.alloc(), &book, &mut share, ZEROS);
 }
 
 #[test]
-fn lines_stand_by_route_and_status(rt: HostRuntime) -> Result<(), Fail> {
-    let (book, share) = Book::make(rt.alloc(), 1)?;
-    let share = drawn(&rt, &book, share).ok_or("a row")?;
+fn lines_stand_by_route_and_status(rt: HostRuntime) {
+    let (book, share) = one_drawn(&rt, rt.alloc(), 1);
     let share = count_often(&book, share, request(RouteName::Other, 507, 1), 8);
     let share = count_often(&book, share, request(RouteName::Other, 503, 1), 7);
     let share = count_often(&book, share, request(RouteName::Metrics, 502, 1), 6);
@@ -200,66 +226,56 @@ fn lines_stand_by_route_and_status(rt: HostRuntime) -> Result<(), Fail> {
         dropped: 5,
     };
     let mut share = count_often(&book, share, pass, 1);
-    assert_eq!(rt;
-        book.text(rt.alloc(), &mut share)?.as_str(),
-        EACH_ROUTE_AND_STATUS
-    );
-    Ok(())
+    compare(&rt, rt.alloc(), &book, &mut share, EACH_ROUTE_AND_STATUS);
 }
 
 #[test]
-fn the_totals_are_what_two_threads_counted(rt: HostRuntime) -> Result<(), Fail> {
-    let (book, share) = Book::make(rt.alloc(), 2)?;
-    let (first, second) = drawn_pair(&rt, &book, share).ok_or("two rows")?;
+fn the_totals_are_what_two_threads_counted(rt: HostRuntime) {
+    let (book, first, second) = two_drawn(&rt, rt.alloc());
     let what = request(RouteName::Section, 200, 3);
     let (mut first, mut second) = count_by_two(&rt, &book, first, second, what);
-    assert_eq!(rt; book.text(rt.alloc(), &mut first)?.as_str(), TWO_THREADS);
-    assert_eq!(rt; book.text(rt.alloc(), &mut second)?.as_str(), TWO_THREADS);
-    Ok(())
+    compare(&rt, rt.alloc(), &book, &mut first, TWO_THREADS);
+    compare(&rt, rt.alloc(), &book, &mut second, TWO_THREADS);
 }
 
 #[test]
-fn the_totals_are_what_four_threads_counted(rt: HostRuntime) -> Result<(), Fail> {
-    let (book, share) = Book::make(rt.alloc(), 5)?;
+fn the_totals_are_what_four_threads_counted(rt: HostRuntime) {
+    let (book, share) = Book::make(rt.alloc(), 5).expect(&rt, "memory");
     let (left, right) = cut(&book, share);
-    let (first, second) = drawn_pair(&rt, &book, left).ok_or("two rows")?;
-    let (third, fourth) = drawn_pair(&rt, &book, right).ok_or("two rows")?;
+    let (first, second) = drawn_pair(&rt, &book, left).expect(&rt, "two rows");
+    let (third, fourth) = drawn_pair(&rt, &book, right).expect(&rt, "two rows");
     let (mut left, mut right) = count_by_four(&rt, &book, first, second, third, fourth);
-    assert_eq!(rt; book.text(rt.alloc(), &mut left)?.as_str(), FOUR_THREADS);
-    assert_eq!(rt; book.text(rt.alloc(), &mut right)?.as_str(), FOUR_THREADS);
-    Ok(())
+    compare(&rt, rt.alloc(), &book, &mut left, FOUR_THREADS);
+    compare(&rt, rt.alloc(), &book, &mut right, FOUR_THREADS);
 }
 
+/// The answers where the bytes stand at their end, and whether the share is marked then.
+static AT_ITS_END: [(Counted, bool); 3] = [
+    (Counted::Done, false),
+    (Counted::Full, true),
+    (Counted::Done, true),
+];
+
 #[test]
-fn a_number_at_its_end_stays_and_marks_the_share(rt: HostRuntime) -> Result<(), Fail> {
-    let (book, share) = Book::make(rt.alloc(), 2)?;
-    let (mut first, second) = drawn_pair(&rt, &book, share).ok_or("two rows")?;
+fn a_number_at_its_end_stays_and_marks_the_share(rt: HostRuntime) {
+    let (book, mut first, second) = two_drawn(&rt, rt.alloc());
     let most = request(RouteName::Other, 200, u64::MAX);
     let more = request(RouteName::Other, 404, 1);
     let none = request(RouteName::Other, 405, 0);
     let answers = answers(&book, &mut first, most, more, none);
-    assert_eq!(rt;
-        answers,
-        [
-            (Counted::Done, false),
-            (Counted::Full, true),
-            (Counted::Done, true)
-        ]
-    );
+    assert!(rt; answers == AT_ITS_END);
     let mut second = count_often(&book, second, most, 1);
     assert!(rt; !second.is_marked());
-    assert_eq!(rt; book.text(rt.alloc(), &mut second)?.as_str(), AT_THE_END);
-    Ok(())
+    compare(&rt, rt.alloc(), &book, &mut second, AT_THE_END);
 }
 
 #[test]
-fn rows_are_drawn_until_none_is_left(rt: HostRuntime) -> Result<(), Fail> {
-    let (book, share) = Book::make(rt.alloc(), 2)?;
+fn rows_are_drawn_until_none_is_left(rt: HostRuntime) {
+    let (book, share) = Book::make(rt.alloc(), 2).expect(&rt, "memory");
     let (left, right) = cut(&book, share);
     assert!(rt; drawn_pair(&rt, &book, left).is_some());
     let Drawn::Full(right) = book.draw(&rt, right) else {
-        return Err(Fail::from("a third row of two"));
+        panic!(rt; "a third row of two");
     };
     assert!(rt; drawn(&rt, &book, right).is_none());
-    Ok(())
 }

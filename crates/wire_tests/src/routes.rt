@@ -4,10 +4,10 @@ ghost use Rattle.std.specs.Prelude.{◌≡◌, Ok};
 ghost use Rattle.webapi_routes.specs.Printed.{CanBeAsked};
 ghost use Rattle.webapi_routes.specs.Targets.{UnlessMemory};
 
-use row_types::{BuildId, CanonPath};
+use row_types::BuildId;
+use sample_rows::path;
 use std::alloc::{AllocError, Global};
-use std::fmt::Write;
-use std::test::Fail;
+use std::process::Abort;
 use webapi_routes::{Route, RouteFault, SectionName, parse, print};
 
 /// A target, and what it says.
@@ -118,99 +118,96 @@ static ESCAPES: [Case; 17] = [
     Case(b"/buildid/abcd/section/a\x00", "BadEscape"),
 ];
 
-/// A route, or a fault, as a line.
-fn line_of(alloc: Global, said: &Result<Route, RouteFault>) -> Result<String, Fail> {
-    let mut line = String::new(alloc);
-    match said {
-        Ok(route) => {
-            let id = route.id().print(alloc)?;
-            match route {
-                Route::Debuginfo(_) => write!(line, "debuginfo {id}")?,
-                Route::Executable(_) => write!(line, "executable {id}")?,
-                Route::Source(_, path) => write!(line, "source {id} {}", path.text())?,
-                Route::Section(_, name) => {
-                    write!(line, "section {id} {}", str::from_utf8(name.bytes())?)?;
-                }
-            }
+/// A route as a line.
+fn line_of_route(rt: &impl Abort, alloc: Global, route: &Route) -> Result<String, AllocError> {
+    let id = route.id().print(alloc).expect(rt, "memory");
+    match route {
+        Route::Debuginfo(_) => format!(in alloc; "debuginfo {id}"),
+        Route::Executable(_) => format!(in alloc; "executable {id}"),
+        Route::Source(_, path) => format!(in alloc; "source {id} {}", path.text()),
+        Route::Section(_, name) => {
+            let name = str::from_utf8(name.bytes()).expect(rt, "a text");
+            format!(in alloc; "section {id} {name}")
         }
-        Err(fault) => write!(line, "{fault:?}")?,
     }
-    Ok(line)
+}
+
+/// What a target says, as a line: a route, or a fault.
+fn line_of(rt: &impl Abort, alloc: Global, target: &[u8]) -> String {
+    let line = match parse(alloc, target) {
+        Ok(route) => line_of_route(rt, alloc, &route),
+        Err(fault) => format!(in alloc; "{fault:?}"),
+    };
+    line.expect(rt, "memory")
 }
 
 #[test]
-fn a_target_says_a_route_or_its_first_fault(rt: HostRuntime) -> Result<(), Fail> {
+fn a_target_says_a_route_or_its_first_fault(rt: HostRuntime) {
     for cases in [REQUESTS.as_slice(), FORMS.as_slice(), ESCAPES.as_slice()] {
-        for Case(target, want) in cases {
-            let line = line_of(rt.alloc(), &parse(rt.alloc(), target))?;
-            assert_eq!(rt; line.as_str(), *want);
+        for Case(target, wanted) in cases {
+            let line = line_of(&rt, rt.alloc(), target);
+            assert!(rt; line.as_str() == *wanted, "{target:?}");
         }
     }
-    Ok(())
 }
 
 /// A target: a front, so many times a byte, and a back.
-fn long_target(
-    alloc: Global,
-    front: &[u8],
-    times: usize,
-    back: &[u8],
-) -> Result<Vec<u8>, AllocError> {
-    let mut target = Vec::new(alloc);
-    target.extend_from_slice(front)?;
+fn long_target(rt: &impl Abort, alloc: Global, front: &[u8], times: usize, back: &[u8]) -> Vec<u8> {
+    let mut target = Vec::from_slice(alloc, front).expect(rt, "memory");
     for _ in 0..times {
-        target.push(b'a')?;
+        target.push(b'a').expect(rt, "memory");
     }
-    target.extend_from_slice(back)?;
-    Ok(target)
+    target.extend_from_slice(back).expect(rt, "memory");
+    target
 }
 
+/// The front of a target, how many times a byte follows, the back, and the fault.
+static LIMITS: [(&[u8], usize, &[u8], Option<RouteFault>); 11] = [
+    (b"/buildid/", 2, b"/executable", Some(RouteFault::BadId)),
+    (b"/buildid/", 4, b"/executable", None),
+    (b"/buildid/", 127, b"/executable", Some(RouteFault::BadId)),
+    (b"/buildid/", 128, b"/executable", None),
+    (b"/buildid/", 130, b"/executable", Some(RouteFault::BadId)),
+    (b"/buildid/abcd/source/", 4095, b"", None),
+    (
+        b"/buildid/abcd/source/",
+        4096,
+        b"",
+        Some(RouteFault::BadPath),
+    ),
+    (b"/buildid/abcd/source//../", 4091, b"", None),
+    (
+        b"/buildid/abcd/source//../",
+        4092,
+        b"",
+        Some(RouteFault::BadPath),
+    ),
+    (b"/buildid/abc/source/", 4096, b"", Some(RouteFault::BadId)),
+    (b"/buildid/abcd/section/", 4096, b"", None),
+];
+
 #[test]
-fn an_id_has_4_to_128_digits_and_a_path_up_to_4096_bytes(rt: HostRuntime) -> Result<(), Fail> {
-    for (digits, fault) in [
-        (2, Some(RouteFault::BadId)),
-        (4, None),
-        (127, Some(RouteFault::BadId)),
-        (128, None),
-        (130, Some(RouteFault::BadId)),
-    ] {
-        let target = long_target(rt.alloc(), b"/buildid/", digits, b"/executable")?;
-        let said = parse(rt.alloc(), target.as_slice());
-        assert_eq!(rt; said.err(), fault, "{digits} digits");
+fn an_id_has_4_to_128_digits_and_a_path_up_to_4096_bytes(rt: HostRuntime) {
+    for (front, times, back, wanted) in &LIMITS {
+        let target = long_target(&rt, rt.alloc(), front, *times, back);
+        let fault = parse(rt.alloc(), target.as_slice()).err();
+        assert!(rt; fault == *wanted, "{times} bytes behind {front:?}");
     }
-    for (front, bytes, fault) in [
-        (b"/buildid/abcd/source/".as_slice(), 4095, None),
-        (b"/buildid/abcd/source/", 4096, Some(RouteFault::BadPath)),
-        (b"/buildid/abcd/source//../", 4091, None),
-        (
-            b"/buildid/abcd/source//../",
-            4092,
-            Some(RouteFault::BadPath),
-        ),
-        (b"/buildid/abc/source/", 4096, Some(RouteFault::BadId)),
-        (b"/buildid/abcd/section/", 4096, None),
-    ] {
-        let target = long_target(rt.alloc(), front, bytes, b"")?;
-        let said = parse(rt.alloc(), target.as_slice());
-        assert_eq!(rt; said.err(), fault, "{bytes} bytes");
-    }
-    Ok(())
 }
 
 /// The route of a target's parts.
-fn route(alloc: Global, kind: &str, rest: &[u8]) -> Result<Route, Fail> {
-    let id = BuildId::new(&[0xab, 0x0c]).ok_or("two bytes are an id")?;
+fn route(rt: &impl Abort, alloc: Global, kind: &str, rest: &[u8]) -> Route {
+    let id = BuildId::new(&[0xab, 0x0c]).expect(rt, "two bytes are an id");
     match kind {
-        "debuginfo" => Ok(Route::Debuginfo(id)),
-        "executable" => Ok(Route::Executable(id)),
+        "debuginfo" => Route::Debuginfo(id),
+        "executable" => Route::Executable(id),
         "source" => {
-            let path = CanonPath::check(String::from_str(alloc, str::from_utf8(rest)?)?);
-            Ok(Route::Source(id, path.ok().ok_or("the path is canonical")?))
+            let text = str::from_utf8(rest).expect(rt, "a text");
+            Route::Source(id, path(alloc, text).expect(rt, "the path is canonical"))
         }
         _ => {
-            let mut name = Vec::new(alloc);
-            name.extend_from_slice(rest)?;
-            Ok(Route::Section(id, SectionName::new(name)))
+            let name = Vec::from_slice(alloc, rest).expect(rt, "memory");
+            Route::Section(id, SectionName::new(name))
         }
     }
 }
@@ -221,6 +218,17 @@ fn said_again(alloc: Global, route: &Route) -> Result<Route, RouteFault>
 {
     let target = print(alloc, route)?;
     parse(alloc, target.as_slice())
+}
+
+/// Whether the target of a route is this.
+fn is_printed(rt: &impl Abort, alloc: Global, route: &Route, wanted: &str) -> bool {
+    let target = print(alloc, route).expect(rt, "memory");
+    target.as_slice() == wanted.as_bytes()
+}
+
+/// Whether a route's target says the route.
+fn says_itself(alloc: Global, route: &Route) -> bool {
+    said_again(alloc, route).is_ok_and(|said| said == *route)
 }
 
 /// What a route asks, and of what, and its target.
@@ -256,46 +264,40 @@ static PRINTED: [Printed; 8] = [
 ];
 
 #[test]
-fn a_route_is_printed_and_its_target_says_it_again(rt: HostRuntime) -> Result<(), Fail> {
-    for Printed(kind, rest, want) in &PRINTED {
-        let route = route(rt.alloc(), kind, rest)?;
-        let target = print(rt.alloc(), &route)?;
-        assert_eq!(rt; str::from_utf8(target.as_slice())?, *want);
-        assert!(rt; said_again(rt.alloc(), &route) == Ok(route), "of {want}");
+fn a_route_is_printed_and_its_target_says_it_again(rt: HostRuntime) {
+    for Printed(kind, rest, wanted) in &PRINTED {
+        let route = route(&rt, rt.alloc(), kind, rest);
+        assert!(rt; is_printed(&rt, rt.alloc(), &route, wanted), "{wanted}");
+        assert!(rt; says_itself(rt.alloc(), &route), "of {wanted}");
     }
-    Ok(())
 }
+
+/// Names that no target can ask for, their targets, and the fault of these.
+static NOT_ASKED: [(&[u8], &str, RouteFault); 3] = [
+    (b"", "/buildid/ab0c/section/", RouteFault::NoRoute),
+    (b"\xff", "/buildid/ab0c/section/%FF", RouteFault::BadEscape),
+    (
+        b"a\x00",
+        "/buildid/ab0c/section/a%00",
+        RouteFault::BadEscape,
+    ),
+];
 
 // The bytes of a section's name that no target can ask for are printed all the same.
 #[test]
-fn a_name_that_no_target_asks_for_is_printed(rt: HostRuntime) -> Result<(), Fail> {
-    for (name, want, fault) in [
-        (
-            b"".as_slice(),
-            "/buildid/ab0c/section/",
-            RouteFault::NoRoute,
-        ),
-        (b"\xff", "/buildid/ab0c/section/%FF", RouteFault::BadEscape),
-        (
-            b"a\x00",
-            "/buildid/ab0c/section/a%00",
-            RouteFault::BadEscape,
-        ),
-    ] {
-        let route = route(rt.alloc(), "section", name)?;
-        let target = print(rt.alloc(), &route)?;
-        assert_eq!(rt; str::from_utf8(target.as_slice())?, want);
-        assert_eq!(rt; said_again(rt.alloc(), &route).err(), Some(fault));
+fn a_name_that_no_target_asks_for_is_printed(rt: HostRuntime) {
+    for (name, wanted, fault) in &NOT_ASKED {
+        let route = route(&rt, rt.alloc(), "section", name);
+        assert!(rt; is_printed(&rt, rt.alloc(), &route, wanted), "{wanted}");
+        let said = said_again(rt.alloc(), &route).err();
+        assert!(rt; said == Some(*fault), "of {wanted}");
     }
-    Ok(())
 }
 
 #[test]
-fn a_name_gives_its_bytes_back(rt: HostRuntime) -> Result<(), Fail> {
-    let mut bytes = Vec::new(rt.alloc());
-    bytes.extend_from_slice(b".text")?;
+fn a_name_gives_its_bytes_back(rt: HostRuntime) {
+    let bytes = Vec::from_slice(rt.alloc(), b".text").expect(&rt, "memory");
     let name = SectionName::new(bytes);
-    assert_eq!(rt; name.bytes(), b".text".as_slice());
-    assert_eq!(rt; name.into_bytes().as_slice(), b".text".as_slice());
-    Ok(())
+    assert!(rt; name.bytes() == b".text".as_slice());
+    assert!(rt; name.into_bytes().as_slice() == b".text".as_slice());
 }
