@@ -4,45 +4,50 @@ ghost use Rattle.std.specs.Prelude.{◌≡◌};
 
 use crate::answers::helpers::{Case, Wanted, answer_to};
 use crate::indexes::{Index, add, begin, empty_index};
-use row_types::{OpenWorld, Stamp, TrueRow};
+use row_types::{Name, OpenWorld, Stamp, TrueRow};
 use sample_files::{ID_A, ID_C, debug_companion, executable};
-use sample_rows::{elf, names, row};
+use sample_rows::{elf, name, row};
 use std::alloc::Global;
 use std::process::Abort;
 use std::sync::Wait;
 use tree_trait::{Found, MemTree, Script};
 
-/// The files of the index, and their sizes.
-static FILES: [(&str, u64); 6] = [
-    ("/bin/a", 1),
-    ("/bin/b", 1),
-    ("/bin/c", 1),
-    ("/bin/d", 1),
-    ("/dbg/a", 1),
-    ("/dbg/b", 1),
+/// The files of the index: the path, and whether its row says code or debug information.
+static FILES: [(&str, bool); 6] = [
+    ("/bin/a", true),
+    ("/bin/b", true),
+    ("/bin/c", true),
+    ("/bin/d", true),
+    ("/dbg/a", false),
+    ("/dbg/b", false),
 ];
 
-/// The row of a file: it has code, and was made from a source, or it has debug information.
-fn row_of(rt: &impl Abort, alloc: Global, path: &str, size: u64) -> TrueRow<OpenWorld> {
-    let found = if path.starts_with("/bin/") {
+/// The names of the files, by path.
+fn listed(rt: &impl Abort, alloc: Global) -> Vec<Name> {
+    let mut listed = Vec::new(alloc);
+    for (path, _) in &FILES {
+        let name = name(alloc, path, 1).expect(rt, "a canonical path");
+        listed.push(name).expect(rt, "memory");
+    }
+    listed
+}
+
+/// The row of a file.
+fn row_of(rt: &impl Abort, alloc: Global, path: &str, is_code: bool) -> TrueRow<OpenWorld> {
+    let found = if is_code {
         elf(alloc, &ID_C, true, false, &["/w/main.c"])
     } else {
         elf(alloc, &ID_C, false, true, &[])
     };
-    row(alloc, path, size, found.expect(rt, "a reading")).expect(rt, "a row")
+    row(alloc, path, 1, found.expect(rt, "a reading")).expect(rt, "a row")
 }
 
 /// The index of the files.
 fn index(rt: &impl Abort, alloc: Global) -> Index<OpenWorld> {
     let mut index = empty_index(rt, alloc);
-    begin(
-        rt,
-        alloc,
-        &mut index,
-        names(alloc, &FILES).expect(rt, "names"),
-    );
-    for (path, size) in &FILES {
-        let row = row_of(rt, alloc, path, *size);
+    begin(rt, alloc, &mut index, listed(rt, alloc));
+    for (path, is_code) in &FILES {
+        let row = row_of(rt, alloc, path, *is_code);
         add(rt, alloc, &mut index, row);
     }
     index
@@ -57,35 +62,44 @@ fn file(rt: &impl Abort, alloc: Global, path: &str, bytes: Vec<u8>) -> Found<Ope
         secs: 1,
         nanos: 0,
     };
-    Found::new(
-        String::from_str(alloc, path).expect(rt, "memory"),
-        stamp,
-        bytes,
-    )
+    let path = String::from_str(alloc, path).expect(rt, "memory");
+    Found::new(path, stamp, bytes)
+}
+
+/// A text at a path.
+fn text(rt: &impl Abort, alloc: Global, path: &str, bytes: &[u8]) -> Found<OpenWorld>
+    ensures { result.path ≡ path.now }
+{
+    let bytes = Vec::from_slice(alloc, bytes).expect(rt, "memory");
+    file(rt, alloc, path, bytes)
+}
+
+/// An executable at a path.
+fn code(rt: &impl Abort, alloc: Global, path: &str) -> Found<OpenWorld>
+    ensures { result.path ≡ path.now }
+{
+    let bytes = executable(alloc).expect(rt, "memory");
+    file(rt, alloc, path, bytes)
+}
+
+/// The debug information of the executable, at a path.
+fn debug(rt: &impl Abort, alloc: Global, path: &str) -> Found<OpenWorld>
+    ensures { result.path ≡ path.now }
+{
+    let bytes = debug_companion(alloc).expect(rt, "memory");
+    file(rt, alloc, path, bytes)
 }
 
 /// The tree: `/bin/a` has become a text, `/bin/b` has debug information and no code, `/dbg/a` is
 /// gone. The calls of these numbers fail.
 fn tree(rt: &impl Abort, alloc: Global, bad_calls: &[u64]) -> MemTree<OpenWorld> {
-    let text = Vec::from_slice(alloc, b"text").expect(rt, "memory");
-    let text = file(rt, alloc, "/bin/a", text);
-    let other = file(
-        rt,
-        alloc,
-        "/bin/b",
-        debug_companion(alloc).expect(rt, "memory"),
-    );
-    let third = file(rt, alloc, "/bin/c", executable(alloc).expect(rt, "memory"));
-    let fourth = file(rt, alloc, "/bin/d", executable(alloc).expect(rt, "memory"));
-    let debug = file(
-        rt,
-        alloc,
-        "/dbg/b",
-        debug_companion(alloc).expect(rt, "memory"),
-    );
-    let source = Vec::from_slice(alloc, b"int x;").expect(rt, "memory");
-    let source = file(rt, alloc, "/w/main.c", source);
-    let files = vec![in alloc; text, other, third, fourth, debug, source].expect(rt, "memory");
+    let first = text(rt, alloc, "/bin/a", b"text");
+    let second = debug(rt, alloc, "/bin/b");
+    let third = code(rt, alloc, "/bin/c");
+    let fourth = code(rt, alloc, "/bin/d");
+    let fifth = debug(rt, alloc, "/dbg/b");
+    let source = text(rt, alloc, "/w/main.c", b"int x;");
+    let files = vec![in alloc; first, second, third, fourth, fifth, source].expect(rt, "memory");
     let script = Script {
         stages: vec![in alloc; files].expect(rt, "memory"),
         moves: Vec::new(alloc),
