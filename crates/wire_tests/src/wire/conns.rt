@@ -28,14 +28,19 @@ static READS: [(ReadAnswer, &[u8]); 7] = [
     (ReadAnswer::End, b""),
 ];
 
+/// The next read is answered so, and gives these bytes.
+fn compare_read(rt: &impl Abort, conn: &mut MemConn, wanted: ReadAnswer, bytes: &[u8]) {
+    let mut room = [0; 4];
+    let answer = conn.read(&mut room);
+    assert!(rt; answer == wanted, "at {bytes:?}");
+    assert!(rt; room.starts_with(bytes), "at {bytes:?}");
+}
+
 #[test]
 fn a_connection_gives_its_input_in_cuts(rt: HostRuntime) {
     let mut conn = conn(&rt, rt.alloc());
     for (wanted, bytes) in &READS {
-        let mut room = [0; 4];
-        let answer = conn.read(&mut room);
-        assert!(rt; answer == *wanted, "at {bytes:?}");
-        assert!(rt; room.starts_with(bytes), "at {bytes:?}");
+        compare_read(&rt, &mut conn, *wanted, bytes);
     }
     assert!(rt; conn.write(b"no") == WriteAnswer::Failed);
     assert!(rt; conn.write(b"yes") == WriteAnswer::Took(3));
