@@ -1,7 +1,7 @@
 -- What was printed says the route, and nothing else is answered.
 use Rattle.std.proofs.Common.{Ok, subst, sym}
 use Rattle.webapi_routes.specs.Targets.{TargetSays}
-use Rattle.webapi_routes.proofs.tests.said_again.Goals as goal
+use Rattle.wire_tests.proofs.routes.printed.said_again.Goals as goal
 
 pub returns : goal.returns
 returns c asked =
