@@ -1,12 +1,12 @@
 //! The trees of the sample world.
 
-ghost use Rattle.std.specs.Prelude.{IsTrue};
+ghost use Rattle.std.specs.Prelude.{IfOk, IsTrue};
 ghost use Rattle.tree_trait.specs.Script.{is_stage};
 
 use row_types::Name;
 use sample_rows::path;
 use sample_world::{REFERENCE_TREE, Sample, SampleWorld, files_of};
-use std::alloc::Global;
+use std::alloc::{AllocError, Global};
 use std::process::Abort;
 use tree_trait::{Found, MemTree, Script};
 
@@ -54,10 +54,10 @@ static NO_README: [Sample; 11] = [
 ];
 
 /// The files, as a tree finds them.
-fn stage_of(rt: &impl Abort, alloc: Global, files: Files) -> Vec<Found<SampleWorld>>
-    ensures { IsTrue (is_stage result.items) }
+fn stage_of(alloc: Global, files: Files) -> Result<Vec<Found<SampleWorld>>, AllocError>
+    ensures { IfOk result (λ found. IsTrue (is_stage found.items)) }
 {
-    let found = match files {
+    match files {
         Files::Nothing => Ok(Vec::new(alloc)),
         Files::Reference => files_of(alloc, &REFERENCE_TREE),
         Files::NoReadme => files_of(alloc, &NO_README),
@@ -65,8 +65,7 @@ fn stage_of(rt: &impl Abort, alloc: Global, files: Files) -> Vec<Found<SampleWor
         Files::After => files_of(alloc, &[Sample::After]),
         Files::Script => files_of(alloc, &[Sample::Script]),
         Files::ScriptAndAfter => files_of(alloc, &[Sample::Script, Sample::After]),
-    };
-    found.expect(rt, "memory")
+    }
 }
 
 /// A tree of these files, which has the others from the call of a number on, and fails at the calls
@@ -78,12 +77,12 @@ pub fn sample_tree(
     later: Option<(u64, Files)>,
     bad_calls: &[u64],
 ) -> MemTree<SampleWorld> {
-    let mut stages = vec![in alloc; stage_of(rt, alloc, files)].expect(rt, "memory");
+    let first = stage_of(alloc, files).expect(rt, "memory");
+    let mut stages = vec![in alloc; first].expect(rt, "memory");
     let mut moves = Vec::new(alloc);
     if let Some((call, others)) = later {
-        stages
-            .push(stage_of(rt, alloc, others))
-            .expect(rt, "memory");
+        let second = stage_of(alloc, others).expect(rt, "memory");
+        stages.push(second).expect(rt, "memory");
         moves.push(call).expect(rt, "memory");
     }
     let script = Script {
