@@ -28,7 +28,7 @@ judge() { # WANTED STATUS OUT ERR WHAT
 }
 
 # Words that can't be read, and commands that aren't built yet.
-for words in '' 'frobnicate' '--help' 'ident' 'ident a b' 'sources' 'sources a b' 'section a' 'section a b c' 'scan' \
+for words in '' 'frobnicate' '--help ident' '-V --version' '--helping' 'ident' 'ident a b' 'sources' 'sources a b' 'section a' 'section a b c' 'scan' \
   'scan -d m usr' 'scan -d m /usr usr' 'scan /usr' 'scan -d m' 'scan -d m /usr -c 0' 'scan -d m -d m /usr' 'query' \
   'query -d m' 'query -d m 00f' 'query -d m -c 2 00ff' 'trial' 'trial 7 40' 'trial 7 0 1' 'trial 7 40 65'; do
   # shellcheck disable=SC2086
@@ -63,6 +63,10 @@ for words in 'scan --version' 'scan -d m /usr -V'; do
   # shellcheck disable=SC2086
   ends 0 $'dbgd scan 0.1.0\n' '' "$program" $words
 done
+for word in --version -V; do
+  ends 0 $'dbgd 0.1.0\n' '' "$program" "$word"
+done
+ends 0 "$("$program" --help)"$'\n' '' "$program" -h
 mkdir "$work/one"
 printf 'text\n' >"$work/one/text"
 ends 0 $'scan: 1 files, 1 added, 0 replaced, 0 dropped, 0 kept, 0 executables, 0 debuginfo\n' '' \

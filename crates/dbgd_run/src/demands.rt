@@ -30,6 +30,7 @@ fn hands_for(line: &Line<'_>) -> u64
         Line::Scan { workers, .. } => workers.saturating_add(2),
         Line::Query { .. }
         | Line::Trial { .. }
+        | Line::Program { .. }
         | Line::Help { .. }
         | Line::NotBuilt
         | Line::Usage => 0,

@@ -14,7 +14,7 @@ use Rattle.dbgd_words.specs.Numbers.{is_number, is_within, number_in}
 use Rattle.dbgd_words.specs.Options.{query_faults, query_rows, scan_faults, scan_rows}
 use Rattle.dbgd_words.specs.Words.{Line, asks_help, asks_query, asks_scan, asks_trial, id_of, ident_line, is_help, is_root, line_of}
 use Rattle.dbgd_words.specs.Words.{query_said, scan_said, section_line, sources_line}
-use Rattle.dbgd_words.specs.Words.{trial_line, unbuilt, unbuilt_commands, unreadable}
+use Rattle.dbgd_words.specs.Words.{program_line, program_words, trial_line, unbuilt, unbuilt_commands, unreadable}
 use Rattle.dbgd_words.specs.declared.scan.TheConstants.{MOST_WORKERS}
 use Rattle.dbgd_words.specs.declared.trial.TheConstants.{MOST_FILES}
 
@@ -71,6 +71,10 @@ section_fits (a ∷ []) = tt
 section_fits (a ∷ b ∷ []) = tt
 section_fits (a ∷ b ∷ c ∷ more) = tt
 
+program_fits : (words : List (List ℕ)) → FitsLimits (program_line words)
+program_fits [] = tt
+program_fits (a ∷ more) = tt
+
 query_fits : (kinds : Kinds) (rows : List Row) → FitsLimits (query_said kinds rows)
 query_fits [] rows =
     by_option _ (first_of (codes "database") rows) (λ store _.
@@ -95,4 +99,5 @@ line_fits (command ∷ rest) =
     (by_test (bytes_eq command (codes "query")) _ _ (query_fits (query_faults (command ∷ rest)) (query_rows (command ∷ rest)))
     (by_test (bytes_eq command (codes "scan")) _ _ (scan_fits (scan_faults (command ∷ rest)) (scan_rows (command ∷ rest)))
     (by_test (bytes_eq command (codes "trial")) _ _ (trial_fits rest)
-    (by_test (list_any (bytes_eq command) unbuilt_commands) unbuilt unreadable tt tt))))))
+    (by_test (list_any (bytes_eq command) program_words) _ _ (program_fits rest)
+    (by_test (list_any (bytes_eq command) unbuilt_commands) unbuilt unreadable tt tt)))))))

@@ -21,7 +21,7 @@ use Rattle.dbgd_words.specs.declared.trial.TheConstants.{MOST_FILES}
 
 -- what a line asks: the identity of the file at a path, its source paths, the section of a name of it, the rows that a
 -- store holds of an id, a scan of folders into a store by so many workers, one of so many generated files of a seed, the
--- help or version of a command, a command that isn't built yet, or nothing that can be read
+-- help or version of the program or of a command, a command that isn't built yet, or nothing that can be read
 pub data Line : Type 0 where
   asks_ident : (path : List ℕ) → Line
   asks_sources : (path : List ℕ) → Line
@@ -115,6 +115,15 @@ abbrev pub trial_line : List (List ℕ) → Line
 trial_line (seed ∷ files ∷ workers ∷ []) = trial_asked seed files workers
 trial_line _ = unreadable
 
+-- the words that ask for the help or the version of the program
+abbrev pub program_words : List (List ℕ)
+program_words = codes "--help" ∷ codes "-h" ∷ codes "--version" ∷ codes "-V" ∷ []
+
+-- what such a word asks, by those that follow it: it stands alone
+abbrev pub program_line : List (List ℕ) → Line
+program_line [] = asks_help
+program_line _ = unreadable
+
 -- the commands that aren't built yet, whatever follows them
 abbrev pub unbuilt_commands : List (List ℕ)
 unbuilt_commands = codes "serve" ∷ []
@@ -129,7 +138,8 @@ line_of (command ∷ rest) =
     else (if bytes_eq command (codes "query") then query_line (command ∷ rest)
     else (if bytes_eq command (codes "scan") then scan_line (command ∷ rest)
     else (if bytes_eq command (codes "trial") then trial_line rest
-    else (if list_any (bytes_eq command) unbuilt_commands then unbuilt else unreadable))))))
+    else (if list_any (bytes_eq command) program_words then program_line rest
+    else (if list_any (bytes_eq command) unbuilt_commands then unbuilt else unreadable)))))))
 
 -- whether the words are read as options, which takes memory
 abbrev pub has_options : List (List ℕ) → Bool

@@ -54,7 +54,7 @@ pub fn concurrency<'a>(alloc: Global) -> Arg<'a>
         .short('c')
         .long("concurrency")
         .value_name("N")
-        .help("The number of workers, 1 to 64; one does the work so far")
+        .help("How many files are read at a time, 1 to 64")
         .default_value("4")
         .action(ArgAction::Set)
 }

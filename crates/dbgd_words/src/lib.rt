@@ -5,6 +5,7 @@
 mod arguments;
 mod line;
 mod number;
+mod program;
 mod query;
 mod reading;
 mod refusal;

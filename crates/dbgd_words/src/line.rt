@@ -36,6 +36,10 @@ pub enum Line<'a> {
         files: u64,
         workers: u64,
     },
+    /// The help or the version of the program: the whole text that is its answer.
+    Program {
+        text: &'static str,
+    },
     /// The help or the version of a command: the whole text that is its answer.
     Help {
         text: String,

@@ -8,6 +8,7 @@ ghost use Rattle.dbgd_words.specs.Words.{has_options, ident_line, line_of, secti
 ghost use Rattle.dbgd_words.specs.Words.{sources_line};
 
 use crate::line::Line;
+use crate::program::{HELP, VERSION, program};
 use crate::query::read_query;
 use crate::scan::read_scan;
 use crate::trial::trial;
@@ -30,6 +31,8 @@ pub fn read_line(alloc: Global, words: &[String]) -> Result<Line<'_>, AllocError
         "query" => read_query(alloc, words),
         "scan" => read_scan(alloc, words),
         "trial" => Ok(trial(rest)),
+        "--help" | "-h" => Ok(program(rest, HELP)),
+        "--version" | "-V" => Ok(program(rest, VERSION)),
         "serve" => Ok(Line::NotBuilt),
         _ => Ok(Line::Usage),
     }

@@ -27,8 +27,8 @@ Walks the folders, reads each file that has no row yet, and keeps the rows in th
 line of counts: files, rows added, replaced, dropped and kept, executables, debug information.
 
 Exit status: 0 done, 1 a call of the file system, the store or the output failed, 2 words that can't
-be read, 3 nothing is at a folder's path, 4 a file was altered meanwhile, 5 too many files, entries,
-rows or changes, 6 memory was refused, 7 a value that is no row.
+be read, 3 nothing is at a folder's path, 4 a file was altered or appeared meanwhile, 5 too many files,
+entries, rows or changes, 6 memory was refused, 7 a value that is no row.
 
 Example: dbgd scan -d index.db /usr/bin /usr/lib/debug";
 
