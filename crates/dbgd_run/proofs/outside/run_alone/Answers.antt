@@ -34,7 +34,12 @@ returns-in-Section-clause-law g c =
 pub returns-in-Query-clause-law : goal.returns-in-Query-clause-law
 returns-in-Query-clause-law g c = rw c.in-Query.is (record { answers = c.run_query.ensures; hands = refl })
 
+pub returns-in-Program-clause-law : goal.returns-in-Program-clause-law
+returns-in-Program-clause-law g c =
+    rw c.in-Program.is
+    (record { text = c.as_bytes.result.now; says = inl c.say.ensures; hands = refl; store = refl })
+
 pub returns-in-Help-clause-law : goal.returns-in-Help-clause-law
 returns-in-Help-clause-law g c =
     rw c.in-Help.is
-    (record { text = c.as_bytes.result.now; says = inl c.say.ensures; hands = refl; store = refl })
+    (record { text = c.as_bytes-in-Help.result.now; says = inl c.say-in-Help.ensures; hands = refl; store = refl })
