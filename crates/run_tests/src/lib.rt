@@ -1,4 +1,4 @@
-//! Tests.
+//! Tests of the words of a command line, and of the runs of the commands.
 #![tactic(auto)]
 
 #[cfg(test)]

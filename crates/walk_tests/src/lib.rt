@@ -1,4 +1,4 @@
-//! Tests.
+//! Tests of trees in memory, of walks over them, and of the told world of the sample files.
 #![tactic(auto)]
 
 #[cfg(test)]

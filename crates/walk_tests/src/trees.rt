@@ -1,36 +1,45 @@
 //! What no clause says: that memory suffices, and what a script answers, call by call.
 
-ghost use Rattle.std.specs.Prelude.{◌≡◌, IfOk};
+ghost use Rattle.std.specs.Prelude.{◌≡◌, IsTrue};
+ghost use Rattle.tree_trait.specs.Script.{is_stage};
 
 mod gates;
 
 use row_types::{OpenWorld, Stamp};
-use std::alloc::{AllocError, Global};
-use std::test::Fail;
+use std::alloc::Global;
+use std::process::Abort;
 use tree_trait::{
-    DirAnswer, EntryKind, Found, LoadAnswer, MemTree, Script, StatAnswer, Tree, TwoWorld,
+    DirAnswer, Entry, EntryKind, Found, LoadAnswer, MemTree, Script, StatAnswer, Tree, TwoWorld,
 };
 
-/// The tree of `yy` at `/w/a`, whose call 2 fails, and which is empty from call 3 on.
-fn changing_tree(alloc: Global) -> Result<MemTree<TwoWorld>, AllocError> {
+/// A stage of one file, `yy` at `/w/a`.
+fn stage_of(rt: &impl Abort, alloc: Global) -> Vec<Found<TwoWorld>>
+    ensures { IsTrue (is_stage result.items) }
+{
     let stamp = Stamp {
         size: 2,
         secs: 2,
         nanos: 0,
     };
-    let path = String::from_str(alloc, "/w/a")?;
-    let found: Found<TwoWorld> = Found::new(path, stamp, vec![in alloc; b'y', b'y']?);
-    let script = Script {
-        stages: vec![in alloc; vec![in alloc; found]?, vec![in alloc]?]?,
-        moves: vec![in alloc; 3, 4]?,
-        bad_calls: vec![in alloc; 2]?,
-    };
-    Ok(MemTree::new(alloc, script))
+    let path = String::from_str(alloc, "/w/a").expect(rt, "memory");
+    let bytes = Vec::from_slice(alloc, b"yy").expect(rt, "memory");
+    vec![in alloc; Found::new(path, stamp, bytes)].expect(rt, "memory")
 }
 
-/// What a load answers, in a word.
-fn load_word(answer: &LoadAnswer<TwoWorld>) -> &'static str {
-    match answer {
+/// The tree of `yy` at `/w/a`, whose call 2 fails, and which is empty from call 3 on.
+fn changing_tree(rt: &impl Abort, alloc: Global) -> MemTree<TwoWorld> {
+    let stage = stage_of(rt, alloc);
+    let script = Script {
+        stages: vec![in alloc; stage, Vec::new(alloc)].expect(rt, "memory"),
+        moves: vec![in alloc; 3, 4].expect(rt, "memory"),
+        bad_calls: vec![in alloc; 2].expect(rt, "memory"),
+    };
+    MemTree::new(alloc, script)
+}
+
+/// What a load of `/w/a` answers, in a word.
+fn load_word(alloc: Global, tree: &mut MemTree<TwoWorld>, limit: u64) -> &'static str {
+    match tree.load(alloc, "/w/a", limit) {
         LoadAnswer::Found(found) if found.bytes.as_slice() == b"yy".as_slice() => "yy",
         LoadAnswer::Found(_) => "found",
         LoadAnswer::TooLarge { .. } => "too large",
@@ -50,39 +59,42 @@ static LOADS: [(u64, &str); 5] = [
 ];
 
 #[test]
-fn a_script_is_answered_call_by_call(rt: HostRuntime) -> Result<(), Fail> {
+fn a_script_is_answered_call_by_call(rt: HostRuntime) {
     let alloc = rt.alloc();
-    let mut tree = changing_tree(alloc)?;
+    let mut tree = changing_tree(&rt, alloc);
     for (limit, word) in &LOADS {
-        let answer = tree.load(alloc, "/w/a", *limit);
-        assert_eq!(rt; load_word(&answer), *word);
+        assert!(rt;
+            load_word(alloc, &mut tree, *limit) == *word,
+            "{limit} {word}"
+        );
     }
-    Ok(())
 }
 
 /// An empty file.
-fn empty_file(alloc: Global, path: &str) -> Result<Found<OpenWorld>, AllocError>
-    ensures { IfOk result (λ file. file.path ≡ path.now) }
+fn empty_file(rt: &impl Abort, alloc: Global, path: &str) -> Found<OpenWorld>
+    ensures { result.path ≡ path.now }
 {
     let stamp = Stamp {
         size: 0,
         secs: 1,
         nanos: 0,
     };
-    Ok(Found::new(String::from_str(alloc, path)?, stamp, vec![in alloc]?))
+    let path = String::from_str(alloc, path).expect(rt, "memory");
+    Found::new(path, stamp, Vec::new(alloc))
 }
 
 /// The tree of three files under `/srv`, whose call 4 fails.
-fn folder_tree(alloc: Global) -> Result<MemTree<OpenWorld>, AllocError> {
-    let first = empty_file(alloc, "/srv/a")?;
-    let second = empty_file(alloc, "/srv/sub/b")?;
-    let third = empty_file(alloc, "/srv/sub/c")?;
+fn folder_tree(rt: &impl Abort, alloc: Global) -> MemTree<OpenWorld> {
+    let first = empty_file(rt, alloc, "/srv/a");
+    let second = empty_file(rt, alloc, "/srv/sub/b");
+    let third = empty_file(rt, alloc, "/srv/sub/c");
+    let files = vec![in alloc; first, second, third].expect(rt, "memory");
     let script = Script {
-        stages: vec![in alloc; vec![in alloc; first, second, third]?]?,
-        moves: vec![in alloc]?,
-        bad_calls: vec![in alloc; 4]?,
+        stages: vec![in alloc; files].expect(rt, "memory"),
+        moves: Vec::new(alloc),
+        bad_calls: vec![in alloc; 4].expect(rt, "memory"),
     };
-    Ok(MemTree::new(alloc, script))
+    MemTree::new(alloc, script)
 }
 
 /// What a look answers, in a word.
@@ -95,25 +107,28 @@ fn stat_word(answer: StatAnswer) -> &'static str {
     }
 }
 
+/// The entries of a folder, in a word.
+fn entries_word(entries: &[Entry]) -> &'static str {
+    let file = entries
+        .iter()
+        .any(|e| e.name() == "a" && e.kind == EntryKind::File);
+    let folder = entries
+        .iter()
+        .any(|e| e.name() == "sub" && e.kind == EntryKind::Folder);
+    if file && folder && entries.len() == 2 {
+        "a and sub"
+    } else {
+        "others"
+    }
+}
+
 /// What the reading of a folder answers, in a word.
-fn dir_word(answer: &DirAnswer) -> &'static str {
-    match answer {
+fn dir_word(alloc: Global, tree: &mut MemTree<OpenWorld>, path: &str) -> &'static str {
+    match tree.read_dir(alloc, path) {
         DirAnswer::Listed {
             entries,
             skipped: 0,
-        } => {
-            let file = entries
-                .iter()
-                .any(|e| e.name() == "a" && e.kind == EntryKind::File);
-            let folder = entries
-                .iter()
-                .any(|e| e.name() == "sub" && e.kind == EntryKind::Folder);
-            if file && folder && entries.len() == 2 {
-                "a and sub"
-            } else {
-                "others"
-            }
-        }
+        } => entries_word(entries.as_slice()),
         DirAnswer::Listed { .. } => "others",
         DirAnswer::Gone => "gone",
         DirAnswer::Failed => "failed",
@@ -136,14 +151,13 @@ static READINGS: [(&str, &str); 3] = [
 ];
 
 #[test]
-fn a_folder_is_looked_at_and_listed(rt: HostRuntime) -> Result<(), Fail> {
+fn a_folder_is_looked_at_and_listed(rt: HostRuntime) {
     let alloc = rt.alloc();
-    let mut tree = folder_tree(alloc)?;
+    let mut tree = folder_tree(&rt, alloc);
     for (path, word) in &LOOKS {
-        assert_eq!(rt; stat_word(tree.stat(alloc, path)), *word, "{path}");
+        assert!(rt; stat_word(tree.stat(alloc, path)) == *word, "{path}");
     }
     for (path, word) in &READINGS {
-        assert_eq!(rt; dir_word(&tree.read_dir(alloc, path)), *word, "{path}");
+        assert!(rt; dir_word(alloc, &mut tree, path) == *word, "{path}");
     }
-    Ok(())
 }

@@ -1,6 +1,6 @@
 //! What no clause says: that memory suffices, and what a walk finds in small trees.
 
-ghost use Rattle.std.specs.Prelude.{◌≡◌, ◌&&◌, map, IfOk, IsTrue};
+ghost use Rattle.std.specs.Prelude.{◌≡◌, ◌&&◌, map, IsTrue};
 ghost use Rattle.std.specs.List.{list_all};
 ghost use Rattle.row_types.specs.Canon.{is_canonical};
 ghost use Rattle.tree_trait.specs.Present.{are_distinct};
@@ -8,56 +8,64 @@ ghost use Rattle.tree_trait.specs.Script.{is_stage};
 
 use row_types::{CanonPath, OpenWorld, Stamp};
 use std::alloc::{AllocError, Global};
-use std::test::Fail;
+use std::process::Abort;
 use tree_trait::{
     DirAnswer, Entry, EntryKind, Found, LoadAnswer, MemTree, Script, StatAnswer, Tree,
 };
-use tree_walk::{WalkFault, walk};
+use tree_walk::{Walk, WalkFault, walk};
 
-/// Empty files at the paths.
-fn files_at(alloc: Global, paths: &[&str]) -> Result<Vec<Found<OpenWorld>>, AllocError>
-    ensures { IfOk result (λ files.
-        map (λ file. file.path) files.items ≡ map (λ path. path.now) paths.now) }
+/// An empty file.
+fn file_at(rt: &impl Abort, alloc: Global, path: &str) -> Found<OpenWorld>
+    ensures { result.path ≡ path.now }
 {
     let stamp = Stamp {
         size: 0,
         secs: 100,
         nanos: 0,
     };
+    let path = String::from_str(alloc, path).expect(rt, "memory");
+    Found::new(path, stamp, Vec::new(alloc))
+}
+
+/// Empty files at the paths.
+fn files_at(rt: &impl Abort, alloc: Global, paths: &[&str]) -> Vec<Found<OpenWorld>>
+    ensures { map (λ file. file.path) result.items ≡ map (λ path. path.now) paths.now }
+{
     let mut files = Vec::new(alloc);
     for path in paths {
-        files.push(Found::new(String::from_str(alloc, path)?, stamp, vec![in alloc]?))?;
+        files.push(file_at(rt, alloc, path)).expect(rt, "memory");
     }
-    Ok(files)
+    files
 }
 
 /// The tree of these files, of which the call of this number fails.
 fn tree_of(
+    rt: &impl Abort,
     alloc: Global,
     files: Vec<Found<OpenWorld>>,
     bad_call: u64,
-) -> Result<MemTree<OpenWorld>, AllocError>
+) -> MemTree<OpenWorld>
     requires { IsTrue (is_stage files.items) }
 {
     let script = Script {
-        stages: vec![in alloc; files]?,
-        moves: vec![in alloc]?,
-        bad_calls: vec![in alloc; bad_call]?,
+        stages: vec![in alloc; files].expect(rt, "memory"),
+        moves: Vec::new(alloc),
+        bad_calls: vec![in alloc; bad_call].expect(rt, "memory"),
     };
-    Ok(MemTree::new(alloc, script))
+    MemTree::new(alloc, script)
 }
 
 /// The tree of empty files at the paths, of which the call of this number fails.
-fn tree_at(alloc: Global, paths: &[&str], bad_call: u64) -> Result<MemTree<OpenWorld>, AllocError>
+fn tree_at(rt: &impl Abort, alloc: Global, paths: &[&str], bad_call: u64) -> MemTree<OpenWorld>
     requires { let texts = map (λ path. path.now) paths.now in
         IsTrue (list_all is_canonical texts && are_distinct texts) }
 {
-    let files = files_at(alloc, paths)?;
-    tree_of(alloc, files, bad_call)
+    let files = files_at(rt, alloc, paths);
+    tree_of(rt, alloc, files, bad_call)
 }
 
 /// Twelve files under three folders. The call of this number fails.
-fn three_folders(alloc: Global, bad_call: u64) -> Result<MemTree<OpenWorld>, AllocError> {
+fn three_folders(rt: &impl Abort, alloc: Global, bad_call: u64) -> MemTree<OpenWorld> {
     let paths = [
         "/srv/bin/prog",
         "/srv/bin/tool",
@@ -72,39 +80,64 @@ fn three_folders(alloc: Global, bad_call: u64) -> Result<MemTree<OpenWorld>, All
         "/w/src/inc/util.h",
         "/w/README",
     ];
-    tree_at(alloc, &paths, bad_call)
+    tree_at(rt, alloc, &paths, bad_call)
 }
 
-/// How many entries a walk passes over, and the files that it lists; or why it ends early.
-fn walk_text<T: Tree<OpenWorld>>(
-    alloc: Global,
-    hand: &mut T,
-    roots: &[&str],
-) -> Result<String, Fail> {
+/// The paths of these texts.
+fn paths_of(rt: &impl Abort, alloc: Global, texts: &[&str]) -> Vec<CanonPath> {
     let mut paths = Vec::new(alloc);
-    for root in roots {
-        let path = CanonPath::check(String::from_str(alloc, root)?);
-        paths.push(path.ok().ok_or("a canonical path")?)?;
+    for text in texts {
+        let text = String::from_str(alloc, text).expect(rt, "memory");
+        let path = CanonPath::check(text).ok().expect(rt, "a canonical path");
+        paths.push(path).expect(rt, "memory");
     }
-    let found = match walk(alloc, hand, paths.as_slice()) {
-        Ok(found) => found,
-        Err(fault) => return Ok(fault_text(alloc, &fault)?),
-    };
-    let mut text = format!(in alloc; "{}", found.skipped)?;
-    for name in found.listing.names() {
-        text.push_str(" ")?;
-        text.push_str(name.path.text())?;
-    }
-    Ok(text)
+    paths
 }
 
-/// Why a walk ends early.
-fn fault_text(alloc: Global, fault: &WalkFault) -> Result<String, AllocError> {
-    match fault {
+/// How many entries a walk passed over, and the files that it listed.
+fn found_text(rt: &impl Abort, alloc: Global, found: &Walk) -> String {
+    let mut text = format!(in alloc; "{}", found.skipped).expect(rt, "memory");
+    for name in found.listing.names() {
+        text.push_str(" ").expect(rt, "memory");
+        text.push_str(name.path.text()).expect(rt, "memory");
+    }
+    text
+}
+
+/// Why a walk ended early.
+fn fault_text(rt: &impl Abort, alloc: Global, fault: &WalkFault) -> String {
+    let text = match fault {
         WalkFault::RootGone(path) => format!(in alloc; "nothing at {}", path.text()),
         WalkFault::Failed => String::from_str(alloc, "failed"),
         _ => String::from_str(alloc, "another fault"),
+    };
+    text.expect(rt, "memory")
+}
+
+/// What a walk finds.
+fn walk_text<T: Tree<OpenWorld>>(
+    rt: &impl Abort,
+    alloc: Global,
+    hand: &mut T,
+    roots: &[CanonPath],
+) -> String {
+    match walk(alloc, hand, roots) {
+        Ok(found) => found_text(rt, alloc, &found),
+        Err(fault) => fault_text(rt, alloc, &fault),
     }
+}
+
+/// Walks, and compares what is found.
+fn finds<T: Tree<OpenWorld>>(
+    rt: &impl Abort,
+    alloc: Global,
+    hand: &mut T,
+    roots: &[&str],
+    want: &str,
+) {
+    let paths = paths_of(rt, alloc, roots);
+    let text = walk_text(rt, alloc, hand, paths.as_slice());
+    assert!(rt; text.as_str() == want, "{roots:?}: {text}");
 }
 
 /// The roots, the number of the call that fails, and what the walk finds.
@@ -130,12 +163,12 @@ static CASES: [Case; 5] = [
 ];
 
 #[test]
-fn a_walk_lists_the_files_under_its_roots_by_path(rt: HostRuntime) -> Result<(), Fail> {
-    for (roots, bad_call, text) in &CASES {
-        let mut tree = three_folders(rt.alloc(), *bad_call)?;
-        assert_eq!(rt; walk_text(rt.alloc(), &mut tree, roots)?.as_str(), *text);
+fn a_walk_lists_the_files_under_its_roots_by_path(rt: HostRuntime) {
+    let alloc = rt.alloc();
+    for (roots, bad_call, want) in &CASES {
+        let mut tree = three_folders(&rt, alloc, *bad_call);
+        finds(&rt, alloc, &mut tree, roots, want);
     }
-    Ok(())
 }
 
 /// A tree in which each path is a folder with one file of a name of 4096 bytes, and no path is a
@@ -183,8 +216,6 @@ impl Tree<OpenWorld> for LongNames {
 }
 
 #[test]
-fn a_path_that_is_too_long_is_passed_over(rt: HostRuntime) -> Result<(), Fail> {
-    let mut tree = LongNames;
-    assert_eq!(rt; walk_text(rt.alloc(), &mut tree, &["/srv"])?.as_str(), "3");
-    Ok(())
+fn a_path_that_is_too_long_is_passed_over(rt: HostRuntime) {
+    finds(&rt, rt.alloc(), &mut LongNames, &["/srv"], "3");
 }

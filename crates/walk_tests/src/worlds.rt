@@ -1,9 +1,10 @@
 //! What no clause says: that memory suffices, and that the samples are the files that are meant.
 
+use row_types::Stamp;
 use sample_files::{ID_A, ID_B, ID_BIG, ID_C};
 use sample_world::{REFERENCE_TREE, Sample, SampleWorld, changed_file_script, reference_script};
 use std::alloc::Global;
-use std::test::Fail;
+use std::process::Abort;
 use tree_trait::{DirAnswer, LoadAnswer, MemTree, StatAnswer, Tree};
 
 /// A path of the reference tree and the number of its file's bytes.
@@ -27,46 +28,56 @@ static SIZES: [Size; 12] = [
 /// Where the note of a sample's build-id stands, and the id.
 type Id = (Sample, usize, &'static [u8]);
 
-/// The bytes that a load found.
-fn found_bytes(answer: &LoadAnswer<SampleWorld>) -> Option<&[u8]> {
-    match answer {
-        LoadAnswer::Found(found) => Some(found.bytes.as_slice()),
+/// The reference tree, whose calls of these numbers fail.
+fn reference_tree(rt: &impl Abort, alloc: Global, bad_calls: &[u64]) -> MemTree<SampleWorld> {
+    let bad_calls = Vec::from_slice(alloc, bad_calls).expect(rt, "memory");
+    let script = reference_script(alloc, bad_calls).expect(rt, "memory");
+    MemTree::new(alloc, script)
+}
+
+/// The stamp that a look finds.
+fn stamp_at(alloc: Global, tree: &mut MemTree<SampleWorld>, path: &str) -> Option<Stamp> {
+    match tree.stat(alloc, path) {
+        StatAnswer::File(stamp) => Some(stamp),
         _ => None,
     }
 }
 
-/// The reference tree.
-fn reference_tree(alloc: Global) -> Result<MemTree<SampleWorld>, Fail> {
-    let script = reference_script(alloc, Vec::new(alloc))?;
-    Ok(MemTree::new(alloc, script))
+/// A load of at most so many bytes finds these.
+fn finds(
+    alloc: Global,
+    tree: &mut MemTree<SampleWorld>,
+    path: &str,
+    limit: u64,
+    bytes: &[u8],
+) -> bool {
+    match tree.load(alloc, path, limit) {
+        LoadAnswer::Found(found) => found.bytes.as_slice() == bytes,
+        _ => false,
+    }
 }
 
 #[test]
-fn each_file_has_its_path_and_its_stamp(rt: HostRuntime) -> Result<(), Fail> {
-    let mut tree = reference_tree(rt.alloc())?;
+fn each_file_has_its_path_and_its_stamp(rt: HostRuntime) {
+    let alloc = rt.alloc();
+    let mut tree = reference_tree(&rt, alloc, &[]);
     for (path, size) in &SIZES {
-        match tree.stat(rt.alloc(), path) {
-            StatAnswer::File(stamp) => {
-                assert_eq!(rt; stamp.size, *size, "size of {path}");
-                assert_eq!(rt; stamp.secs, 100, "time of {path}");
-                assert_eq!(rt; stamp.nanos, 0, "time of {path}");
-            }
-            _ => panic!(rt; "{path} is a file"),
-        }
+        let stamp = stamp_at(alloc, &mut tree, path).expect(&rt, "a file");
+        assert!(rt; stamp.size == *size, "size of {path}");
+        assert!(rt; stamp.secs == 100, "time of {path}");
+        assert!(rt; stamp.nanos == 0, "time of {path}");
     }
-    Ok(())
 }
 
 #[test]
-fn each_file_is_loaded_whole(rt: HostRuntime) -> Result<(), Fail> {
-    let mut tree = reference_tree(rt.alloc())?;
+fn each_file_is_loaded_whole(rt: HostRuntime) {
+    let alloc = rt.alloc();
+    let mut tree = reference_tree(&rt, alloc, &[]);
     for (sample, (path, size)) in REFERENCE_TREE.into_iter().zip(&SIZES) {
-        let answer = tree.load(rt.alloc(), path, *size);
-        let want = sample.bytes(rt.alloc())?;
-        let bytes = found_bytes(&answer).ok_or("a file")?;
-        assert_eq!(rt; bytes, want.as_slice(), "{path}");
+        let bytes = sample.bytes(alloc).expect(&rt, "memory");
+        let found = finds(alloc, &mut tree, path, *size, bytes.as_slice());
+        assert!(rt; found, "{path}");
     }
-    Ok(())
 }
 
 /// The note follows the header, in `liby.so` behind another note of 32 bytes.
@@ -80,43 +91,33 @@ static IDS: [Id; 6] = [
 ];
 
 #[test]
-fn each_elf_file_has_its_id(rt: HostRuntime) -> Result<(), Fail> {
+fn each_elf_file_has_its_id(rt: HostRuntime) {
     for (sample, place, id) in &IDS {
-        let bytes = sample.bytes(rt.alloc())?;
-        let note = bytes.get(*place..).ok_or("a note")?;
-        assert_eq!(rt;
-            note.get(12..16),
-            Some(b"GNU\0".as_slice()),
-            "owner in {sample:?}"
-        );
-        let descriptor = note.get(16..).ok_or("a descriptor")?;
+        let bytes = sample.bytes(rt.alloc()).expect(&rt, "memory");
+        let note = bytes.get(*place..).expect(&rt, "a note");
+        let owner = note.get(12..16).expect(&rt, "an owner");
+        assert!(rt; owner == b"GNU\0".as_slice(), "owner in {sample:?}");
+        let descriptor = note.get(16..).expect(&rt, "a descriptor");
         assert!(rt; descriptor.starts_with(id), "id of {sample:?}");
     }
-    Ok(())
 }
 
 #[test]
-fn a_listed_call_fails(rt: HostRuntime) -> Result<(), Fail> {
-    let bad_calls = vec![in rt.alloc(); 1]?;
-    let mut tree = MemTree::new(rt.alloc(), reference_script(rt.alloc(), bad_calls)?);
-    assert!(rt; matches!(&tree.stat(rt.alloc(), "/w/src"), StatAnswer::Folder));
-    assert!(rt; matches!(&tree.read_dir(rt.alloc(), "/w/src"), DirAnswer::Failed));
-    assert!(rt; matches!(&tree.read_dir(rt.alloc(), "/w"), DirAnswer::Listed { .. }));
-    Ok(())
+fn a_listed_call_fails(rt: HostRuntime) {
+    let alloc = rt.alloc();
+    let mut tree = reference_tree(&rt, alloc, &[1]);
+    assert!(rt; matches!(&tree.stat(alloc, "/w/src"), StatAnswer::Folder));
+    assert!(rt; matches!(&tree.read_dir(alloc, "/w/src"), DirAnswer::Failed));
+    assert!(rt; matches!(&tree.read_dir(alloc, "/w"), DirAnswer::Listed { .. }));
 }
 
 #[test]
-fn the_file_changes_before_the_call(rt: HostRuntime) -> Result<(), Fail> {
-    let script = changed_file_script(rt.alloc(), 1)?;
-    let mut tree = MemTree::new(rt.alloc(), script);
-    let answer = tree.load(rt.alloc(), "/srv/a", 7);
-    assert_eq!(rt; found_bytes(&answer), Some(b"hello\n".as_slice()));
-    match tree.stat(rt.alloc(), "/srv/a") {
-        StatAnswer::File(stamp) => {
-            assert_eq!(rt; stamp.size, 7);
-            assert_eq!(rt; stamp.secs, 101);
-        }
-        _ => panic!(rt; "a file"),
-    }
-    Ok(())
+fn the_file_changes_before_the_call(rt: HostRuntime) {
+    let alloc = rt.alloc();
+    let script = changed_file_script(alloc, 1).expect(&rt, "memory");
+    let mut tree = MemTree::new(alloc, script);
+    assert!(rt; finds(alloc, &mut tree, "/srv/a", 7, b"hello\n"));
+    let stamp = stamp_at(alloc, &mut tree, "/srv/a").expect(&rt, "a file");
+    assert!(rt; stamp.size == 7);
+    assert!(rt; stamp.secs == 101);
 }

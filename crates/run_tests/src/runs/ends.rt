@@ -9,31 +9,44 @@ use row_types::{CanonPath, Name, Stamp};
 use scan_queue::{Cause, Miss, Seen};
 use std::alloc::Global;
 use std::process::Abort;
-use std::test::Fail;
 use tree_walk::WalkFault;
 
 /// Says an end, and compares what the standard error got and the status.
-fn says(rt: &impl Abort, alloc: Global, end: &ScanEnd, line: &str, status: u8) -> Result<(), Fail> {
+fn says(rt: &impl Abort, alloc: Global, end: &ScanEnd, line: &str, status: u8) {
     let mut out = MemSink::new(alloc, Vec::new(alloc));
     let mut err = MemSink::new(alloc, Vec::new(alloc));
     let said = say_end(alloc, end, &mut out, &mut err).code();
-    compare(rt, &out, b"", "out", &[line])?;
-    compare(rt, &err, line.as_bytes(), "err", &[line])?;
-    assert_eq!(rt; said, status, "status of {line}");
-    Ok(())
+    compare(rt, &out, b"", "out", &[line]);
+    compare(rt, &err, line.as_bytes(), "err", &[line]);
+    assert!(rt; said == status, "status of {line}");
 }
 
 #[test]
-fn each_limit_has_its_line(rt: HostRuntime) -> Result<(), Fail> {
+fn each_limit_has_its_line(rt: HostRuntime) {
     let alloc = rt.alloc();
     let files = ScanEnd::Passed(PassEnd::Walk(WalkFault::TooMany));
-    says(&rt, alloc, &files, "dbgd: limit files\n", 5)?;
+    says(&rt, alloc, &files, "dbgd: limit files\n", 5);
     let entries = ScanEnd::Passed(PassEnd::Walk(WalkFault::TooManyEntries));
-    says(&rt, alloc, &entries, "dbgd: limit entries\n", 5)?;
+    says(&rt, alloc, &entries, "dbgd: limit entries\n", 5);
     let rows = ScanEnd::Refused(OpenFault::LogFull);
-    says(&rt, alloc, &rows, "dbgd: limit changes\n", 5)?;
+    says(&rt, alloc, &rows, "dbgd: limit changes\n", 5);
     let changes = ScanEnd::Passed(PassEnd::LogFull);
-    says(&rt, alloc, &changes, "dbgd: limit changes\n", 5)
+    says(&rt, alloc, &changes, "dbgd: limit changes\n", 5);
+}
+
+/// The end at a file that was another: it was listed one second and one nanosecond before 1970.
+fn altered(rt: &impl Abort, alloc: Global, seen: Seen) -> ScanEnd {
+    let text = String::from_str(alloc, "/srv/a").expect(rt, "memory");
+    let path = CanonPath::check(text).ok().expect(rt, "a path");
+    let stamp = Stamp {
+        size: 0,
+        secs: -2,
+        nanos: 999_999_999,
+    };
+    ScanEnd::Passed(PassEnd::Missed(Miss {
+        name: Name { path, stamp },
+        cause: Cause::Altered { seen },
+    }))
 }
 
 /// The largest stamp of a file, seven nanoseconds after 1970.
@@ -43,42 +56,26 @@ const LARGEST: Stamp = Stamp {
     nanos: 7,
 };
 
-/// The end at a file that was another: it was listed one second and one nanosecond before 1970.
-fn altered(alloc: Global, seen: Seen) -> Result<ScanEnd, Fail> {
-    let Ok(path) = CanonPath::check(String::from_str(alloc, "/srv/a")?) else {
-        return Err("a path".into());
-    };
-    let stamp = Stamp {
-        size: 0,
-        secs: -2,
-        nanos: 999_999_999,
-    };
-    Ok(ScanEnd::Passed(PassEnd::Missed(Miss {
-        name: Name { path, stamp },
-        cause: Cause::Altered { seen },
-    })))
-}
-
 #[test]
-fn what_stands_in_a_file_s_place_is_said(rt: HostRuntime) -> Result<(), Fail> {
+fn what_stands_in_a_file_s_place_is_said(rt: HostRuntime) {
     let alloc = rt.alloc();
-    let gone = altered(alloc, Seen::Gone)?;
+    let gone = altered(&rt, alloc, Seen::Gone);
     says(
         &rt,
         alloc,
         &gone,
         "dbgd: altered /srv/a listed 0:-2:999999999 seen gone\n",
         4,
-    )?;
-    let other = altered(alloc, Seen::Other)?;
+    );
+    let other = altered(&rt, alloc, Seen::Other);
     says(
         &rt,
         alloc,
         &other,
         "dbgd: altered /srv/a listed 0:-2:999999999 seen other\n",
         4,
-    )?;
-    let largest = altered(alloc, Seen::File(LARGEST))?;
+    );
+    let largest = altered(&rt, alloc, Seen::File(LARGEST));
     says(
         &rt,
         alloc,
@@ -86,5 +83,5 @@ fn what_stands_in_a_file_s_place_is_said(rt: HostRuntime) -> Result<(), Fail> {
         "dbgd: altered /srv/a listed 0:-2:999999999 \
         seen 18446744073709551615:0:000000007\n",
         4,
-    )
+    );
 }

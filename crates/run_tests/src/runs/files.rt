@@ -1,257 +1,243 @@
 //! What `ident`, `sources` and `section` say of a file.
 
 use crate::runs::hands::File::{
-    BigEndian, Both, Companion, Cut, DwarfFive, EarlyEnd, EightAligned, Empty, Executable,
+    self, BigEndian, Both, Companion, Cut, DwarfFive, EarlyEnd, EightAligned, Empty, Executable,
     Extended, LongestId, ManyDirectories, SecondId, TooLongId, TwoIds,
 };
 use crate::runs::hands::Files::One;
-use crate::runs::rig::{Case, Plan, Run, SOUND, run_cases};
-use std::test::Fail;
+use crate::runs::hands::hand_of;
+use crate::runs::rig::{Plan, Run, SOUND, run_all};
+use std::alloc::Global;
+use std::process::Abort;
+use std::sync::Wait;
+use std::thread::Threads;
 
-const IDENT: &[&str] = &["ident", "/w/a"];
+/// A file at `/w/a`, what out and err get, and the status.
+type Said = (File, &'static [u8], &'static str, u8);
 
-const SOURCES: &[&str] = &["sources", "/w/a"];
-
-const SECTION: &[&str] = &["section", "/w/a", ".text"];
-
-/// The line of the id A, and of an id of 64 bytes.
-const BOTH: &[u8] = b"000102030405060708090a0b0c0d0e0f10111213 both\n";
-
-const LONGEST: &[u8] = b"\
-    1111111111111111111111111111111111111111111111111111111111111111\
-    1111111111111111111111111111111111111111111111111111111111111111 executable\n";
-
-/// Files, with the line of the identity or of why there is none.
-static IDENTITIES: [Case; 10] = [
-    Case(One(Both), &[], SOUND, &[Run(IDENT, BOTH, "", 0)]),
-    Case(
-        One(EightAligned),
-        &[],
-        SOUND,
-        &[Run(IDENT, b"abcdef executable\n", "", 0)],
-    ),
-    Case(
-        One(SecondId),
-        &[],
-        SOUND,
-        &[Run(IDENT, b"beef executable\n", "", 0)],
-    ),
-    Case(One(TwoIds), &[], SOUND, &[Run(IDENT, FIRST_ID, "", 0)]),
-    Case(One(LongestId), &[], SOUND, &[Run(IDENT, LONGEST, "", 0)]),
-    Case(
-        One(Empty),
-        &[],
-        SOUND,
-        &[Run(IDENT, b"plain not-elf\n", "", 3)],
-    ),
-    Case(
-        One(Cut),
-        &[],
-        SOUND,
-        &[Run(IDENT, b"plain bad-elf\n", "", 3)],
-    ),
-    Case(
-        One(TooLongId),
-        &[],
-        SOUND,
-        &[Run(IDENT, b"plain no-build-id\n", "", 3)],
-    ),
-    Case(
-        One(BigEndian),
-        &[],
-        SOUND,
-        &[Run(IDENT, b"a0a1a2a3a4a5a6a7 debuginfo\n", "", 0)],
-    ),
-    Case(One(Extended), &[], SOUND, &[Run(IDENT, BOTH, "", 0)]),
-];
-
-/// The line of code alone under the id A.
-const FIRST_ID: &[u8] = b"000102030405060708090a0b0c0d0e0f10111213 executable\n";
-
-#[test]
-fn an_identity_or_the_reason_is_printed(rt: HostRuntime) -> Result<(), Fail> {
-    run_cases(&rt, rt.alloc(), &IDENTITIES)
+/// Runs the words over each file, where nothing fails.
+fn each_says<Rt: Threads + Wait + Sync + Abort>(
+    rt: &Rt,
+    alloc: Global,
+    words: &[&str],
+    cases: &[Said],
+) {
+    for (file, out, err, status) in cases {
+        let case = Run(words, out, err, *status);
+        run_all(
+            rt,
+            alloc,
+            hand_of(rt, alloc, &One(*file), &[]),
+            &SOUND,
+            &[case],
+        );
+    }
 }
 
-const NO_SECTION: &str = "dbgd: no section\n";
-
-const NAMES: &[u8] = b"\0.note.gnu.build-id\0.text\0.shstrtab\0";
-
-/// Files, with sections that are there, and that aren't: of the companion, the first takes no bytes
-/// in the file, the second is compressed, the third isn't there.
-static SECTIONS: [Case; 7] = [
-    Case(
-        One(Companion),
-        &[],
-        SOUND,
-        &[Run(SECTION, b"", NO_SECTION, 3)],
+/// Files, with the line of the identity or of why there is none. The id of 20 bytes is A.
+static IDENTITIES: [Said; 10] = [
+    (
+        Both,
+        b"000102030405060708090a0b0c0d0e0f10111213 both\n",
+        "",
+        0,
     ),
-    Case(
-        One(Companion),
-        &[],
-        SOUND,
-        &[Run(&["section", "/w/a", ".debug_zz"], b"", NO_SECTION, 3)],
+    (EightAligned, b"abcdef executable\n", "", 0),
+    (SecondId, b"beef executable\n", "", 0),
+    (
+        TwoIds,
+        b"000102030405060708090a0b0c0d0e0f10111213 executable\n",
+        "",
+        0,
     ),
-    Case(
-        One(Companion),
-        &[],
-        SOUND,
-        &[Run(&["section", "/w/a", ".debug_line"], b"", NO_SECTION, 3)],
+    (
+        LongestId,
+        b"\
+        1111111111111111111111111111111111111111111111111111111111111111\
+        1111111111111111111111111111111111111111111111111111111111111111 executable\n",
+        "",
+        0,
     ),
-    Case(One(Executable), &[], SOUND, &[Run(SECTION, b"\xc3", "", 0)]),
-    Case(
-        One(Executable),
-        &[],
-        SOUND,
-        &[Run(&["section", "/w/a", ".shstrtab"], NAMES, "", 0)],
-    ),
-    Case(
-        One(Both),
-        &[],
-        SOUND,
-        &[Run(&["section", "/w/a", ".debug_info"], b"", "", 0)],
-    ),
-    Case(
-        One(TooLongId),
-        &[],
-        SOUND,
-        &[Run(SECTION, b"", "dbgd: plain no-build-id\n", 3)],
+    (Empty, b"plain not-elf\n", "", 3),
+    (Cut, b"plain bad-elf\n", "", 3),
+    (TooLongId, b"plain no-build-id\n", "", 3),
+    (BigEndian, b"a0a1a2a3a4a5a6a7 debuginfo\n", "", 0),
+    (
+        Extended,
+        b"000102030405060708090a0b0c0d0e0f10111213 both\n",
+        "",
+        0,
     ),
 ];
 
 #[test]
-fn a_section_is_written_as_it_stands(rt: HostRuntime) -> Result<(), Fail> {
-    run_cases(&rt, rt.alloc(), &SECTIONS)
+fn an_identity_or_the_reason_is_printed(rt: HostRuntime) {
+    each_says(&rt, rt.alloc(), &["ident", "/w/a"], &IDENTITIES);
 }
 
-/// The paths that the sample's line table lists.
-const PATHS: &[u8] = b"/w/src/inc/util.h\n/w/src/main.c\n";
+/// Names of sections, with files that have them or haven't: of the companion, the first takes no
+/// bytes in the file, the second is compressed, the third isn't there.
+static SECTIONS: [(&str, Said); 7] = [
+    (".text", (Companion, b"", "dbgd: no section\n", 3)),
+    (".debug_zz", (Companion, b"", "dbgd: no section\n", 3)),
+    (".debug_line", (Companion, b"", "dbgd: no section\n", 3)),
+    (".text", (Executable, b"\xc3", "", 0)),
+    (
+        ".shstrtab",
+        (
+            Executable,
+            b"\0.note.gnu.build-id\0.text\0.shstrtab\0",
+            "",
+            0,
+        ),
+    ),
+    (".debug_info", (Both, b"", "", 0)),
+    (".text", (TooLongId, b"", "dbgd: plain no-build-id\n", 3)),
+];
+
+#[test]
+fn a_section_is_written_as_it_stands(rt: HostRuntime) {
+    for (name, case) in &SECTIONS {
+        each_says(&rt, rt.alloc(), &["section", "/w/a", *name], &[*case]);
+    }
+}
 
 /// Files, with the source paths that they name: of a line table that can't be read none, and none of
-/// a file without debug information.
-static PATHS_OF: [Case; 7] = [
-    Case(One(DwarfFive), &[], SOUND, &[Run(SOURCES, PATHS, "", 0)]),
-    Case(
-        One(ManyDirectories),
-        &[],
-        SOUND,
-        &[Run(SOURCES, b"", "", 0)],
-    ),
-    Case(One(EarlyEnd), &[], SOUND, &[Run(SOURCES, b"", "", 0)]),
-    Case(One(Executable), &[], SOUND, &[Run(SOURCES, b"", "", 0)]),
-    Case(
-        One(Empty),
-        &[],
-        SOUND,
-        &[Run(SOURCES, b"", "dbgd: plain not-elf\n", 3)],
-    ),
-    Case(
-        One(Cut),
-        &[],
-        SOUND,
-        &[Run(SOURCES, b"", "dbgd: plain bad-elf\n", 3)],
-    ),
-    Case(
-        One(TooLongId),
-        &[],
-        SOUND,
-        &[Run(SOURCES, b"", "dbgd: plain no-build-id\n", 3)],
-    ),
+/// a file without debug information. The paths are those that the sample's line table lists.
+static PATHS_OF: [Said; 7] = [
+    (DwarfFive, b"/w/src/inc/util.h\n/w/src/main.c\n", "", 0),
+    (ManyDirectories, b"", "", 0),
+    (EarlyEnd, b"", "", 0),
+    (Executable, b"", "", 0),
+    (Empty, b"", "dbgd: plain not-elf\n", 3),
+    (Cut, b"", "dbgd: plain bad-elf\n", 3),
+    (TooLongId, b"", "dbgd: plain no-build-id\n", 3),
 ];
 
 #[test]
-fn the_source_paths_are_printed(rt: HostRuntime) -> Result<(), Fail> {
-    run_cases(&rt, rt.alloc(), &PATHS_OF)
+fn the_source_paths_are_printed(rt: HostRuntime) {
+    each_says(&rt, rt.alloc(), &["sources", "/w/a"], &PATHS_OF);
 }
 
-/// The plans in which a sink fails, or takes three bytes at a time.
-const BAD_OUT: Plan = Plan {
-    bad_out: &[0],
-    ..SOUND
-};
+/// Words that name a file which isn't there.
+static GONE: [(&[&str], &str); 3] = [
+    (&["ident", "w//b"], "dbgd: gone w//b\n"),
+    (&["section", "/b", ".text"], "dbgd: gone /b\n"),
+    (&["sources", "/w/a/"], "dbgd: gone /w/a/\n"),
+];
 
-const BAD_BOTH: Plan = Plan {
-    bad_out: &[0],
-    bad_err: &[0],
-    ..SOUND
-};
+/// Words whose load fails.
+static LOADS: [&[&str]; 3] = [
+    &["sources", "/w/a"],
+    &["ident", "/w/a"],
+    &["section", "/w/a", ".text"],
+];
 
-const BAD_ERR: Plan = Plan {
-    bad_err: &[1],
-    ..SOUND
-};
+/// Runs the words over a file at `/w/a`, whose load fails.
+fn load_fails<Rt: Threads + Wait + Sync + Abort>(rt: &Rt, alloc: Global, words: &[&str]) {
+    let case = Run(words, b"", "dbgd: fault file\n", 1);
+    run_all(
+        rt,
+        alloc,
+        hand_of(rt, alloc, &One(Both), &[0]),
+        &SOUND,
+        &[case],
+    );
+}
 
-const NARROW: Plan = Plan { width: 3, ..SOUND };
+/// Words, the writes that fail on out and on err, how many bytes a write takes at most, and what is
+/// said.
+type Written = (
+    &'static [&'static str],
+    &'static [u64],
+    &'static [u64],
+    usize,
+    Said,
+);
 
-const NARROW_CUT: Plan = Plan {
-    width: 3,
-    bad_out: &[4],
-    ..SOUND
-};
+/// The line of an output that fails.
+const FAULT: &str = "dbgd: fault output\n";
 
-const FILE_FAULT: &str = "dbgd: fault file\n";
-
-const OUTPUT_FAULT: &str = "dbgd: fault output\n";
-
-/// What is gone, and what fails.
-static MISHAPS: [Case; 14] = [
-    Case(
-        One(Both),
+/// Sinks that fail, or take three bytes at a time.
+static SINKS: [Written; 8] = [
+    (
+        &["sources", "/w/a"],
+        &[0],
         &[],
-        SOUND,
-        &[Run(&["ident", "w//b"], b"", "dbgd: gone w//b\n", 3)],
+        1000,
+        (DwarfFive, b"", FAULT, 1),
     ),
-    Case(
-        One(Both),
+    (
+        &["sources", "/w/a"],
+        &[4],
         &[],
-        SOUND,
-        &[Run(&["section", "/b", ".text"], b"", "dbgd: gone /b\n", 3)],
+        3,
+        (DwarfFive, b"/w/src/inc/u", FAULT, 1),
     ),
-    Case(
-        One(Both),
+    (&["ident", "/w/a"], &[0], &[], 1000, (Both, b"", FAULT, 1)),
+    (
+        &["section", "/w/a", ".text"],
+        &[0],
         &[],
-        SOUND,
-        &[Run(&["sources", "/w/a/"], b"", "dbgd: gone /w/a/\n", 3)],
+        1000,
+        (Executable, b"", FAULT, 1),
     ),
-    Case(One(Both), &[0], SOUND, &[Run(SOURCES, b"", FILE_FAULT, 1)]),
-    Case(
-        One(DwarfFive),
+    (&["ident", "/w/a"], &[0], &[0], 1000, (Both, b"", "", 1)),
+    (
+        &["ident", "/w/b"],
         &[],
-        BAD_OUT,
-        &[Run(SOURCES, b"", OUTPUT_FAULT, 1)],
+        &[1],
+        1000,
+        (Both, b"", "dbgd: gone ", 3),
     ),
-    Case(
-        One(DwarfFive),
+    (
+        &["ident", "/w/a"],
         &[],
-        NARROW_CUT,
-        &[Run(SOURCES, b"/w/src/inc/u", OUTPUT_FAULT, 1)],
+        &[],
+        3,
+        (
+            Both,
+            b"000102030405060708090a0b0c0d0e0f10111213 both\n",
+            "",
+            0,
+        ),
     ),
-    Case(One(Both), &[0], SOUND, &[Run(IDENT, b"", FILE_FAULT, 1)]),
-    Case(One(Both), &[0], SOUND, &[Run(SECTION, b"", FILE_FAULT, 1)]),
-    Case(One(Both), &[], BAD_OUT, &[Run(IDENT, b"", OUTPUT_FAULT, 1)]),
-    Case(
-        One(Executable),
+    (
+        &["ident", "/w/a"],
+        &[4],
         &[],
-        BAD_OUT,
-        &[Run(SECTION, b"", OUTPUT_FAULT, 1)],
-    ),
-    Case(One(Both), &[], BAD_BOTH, &[Run(IDENT, b"", "", 1)]),
-    Case(
-        One(Both),
-        &[],
-        BAD_ERR,
-        &[Run(&["ident", "/w/b"], b"", "dbgd: gone ", 3)],
-    ),
-    Case(One(Both), &[], NARROW, &[Run(IDENT, BOTH, "", 0)]),
-    Case(
-        One(Both),
-        &[],
-        NARROW_CUT,
-        &[Run(IDENT, b"000102030405", OUTPUT_FAULT, 1)],
+        3,
+        (Both, b"000102030405", FAULT, 1),
     ),
 ];
 
+/// Runs each with its sinks.
+fn each_writes<Rt: Threads + Wait + Sync + Abort>(rt: &Rt, alloc: Global, cases: &[Written]) {
+    for (words, bad_out, bad_err, width, (file, out, err, status)) in cases {
+        let plan = Plan {
+            bad_out,
+            bad_err,
+            width: *width,
+            ..SOUND
+        };
+        let case = Run(words, out, err, *status);
+        run_all(
+            rt,
+            alloc,
+            hand_of(rt, alloc, &One(*file), &[]),
+            &plan,
+            &[case],
+        );
+    }
+}
+
 #[test]
-fn what_fails_is_said_and_left_as_it_is(rt: HostRuntime) -> Result<(), Fail> {
-    run_cases(&rt, rt.alloc(), &MISHAPS)
+fn what_fails_is_said_and_left_as_it_is(rt: HostRuntime) {
+    for (words, line) in &GONE {
+        each_says(&rt, rt.alloc(), words, &[(Both, b"", *line, 3)]);
+    }
+    for words in &LOADS {
+        load_fails(&rt, rt.alloc(), words);
+    }
+    each_writes(&rt, rt.alloc(), &SINKS);
 }

@@ -1,6 +1,6 @@
 //! The hands of the tests.
 
-ghost use Rattle.std.specs.Prelude.{◌≡◌, IfOk, IsTrue};
+ghost use Rattle.std.specs.Prelude.{◌≡◌, IsTrue};
 ghost use Rattle.tree_trait.specs.Script.{is_stage};
 
 use row_types::{OpenWorld, Stamp};
@@ -8,14 +8,19 @@ use sample_files::{
     ID_A, ID_B, big_endian_debug, both_classes, chosen_ids, debug_companion, dwarf_five,
     eight_aligned_notes, executable, extended_counts,
 };
-use sample_world::open_script;
-use std::alloc::{AllocError, Global};
-use std::test::Fail;
-use tree_trait::{DirAnswer, Found, LoadAnswer, MemTree, Script, StatAnswer, Tree, TwoWorld};
+use sample_world::{SampleWorld, changed_file_script, open_script, reference_script};
+use std::alloc::Global;
+use std::process::Abort;
+use tree_trait::{Found, MemTree, Script, TwoWorld};
 
 /// What a file holds.
+#[derive(Clone, Copy)]
 pub enum File {
     Empty,
+    /// `hello` and the end of the line.
+    Text,
+    /// That text, one byte longer.
+    LongText,
     /// An ELF header that is one byte short.
     Cut,
     Both,
@@ -38,6 +43,7 @@ pub enum File {
 }
 
 /// The files of a hand of the open world.
+#[derive(Clone, Copy)]
 pub enum Files {
     /// `/w/a`.
     One(File),
@@ -56,10 +62,12 @@ pub enum Files {
 }
 
 /// A file's bytes.
-fn bytes_of(alloc: Global, file: &File) -> Result<Vec<u8>, AllocError> {
-    match file {
+fn bytes_of(rt: &impl Abort, alloc: Global, file: &File) -> Vec<u8> {
+    let bytes = match file {
         File::Empty => Ok(Vec::new(alloc)),
-        File::Cut => cut_header(alloc),
+        File::Text => Vec::from_slice(alloc, b"hello\n"),
+        File::LongText => Vec::from_slice(alloc, b"hello!\n"),
+        File::Cut => Ok(cut_header(rt, alloc)),
         File::Both => both_classes(alloc),
         File::EightAligned => eight_aligned_notes(alloc),
         File::SecondId => chosen_ids(alloc, &[&[0x99], &[0xbe, 0xef]]),
@@ -71,178 +79,154 @@ fn bytes_of(alloc: Global, file: &File) -> Result<Vec<u8>, AllocError> {
         File::Executable => executable(alloc),
         File::Companion => debug_companion(alloc),
         File::DwarfFive => dwarf_five(alloc),
-        File::ManyDirectories => changed(alloc, 177, b"\0\x80\x80\x80\x80\x80\x80\x80\x80\x80\x01"),
-        File::EarlyEnd => changed(alloc, 155, b"\x38"),
-    }
+        File::ManyDirectories => {
+            let count = b"\0\x80\x80\x80\x80\x80\x80\x80\x80\x80\x01";
+            Ok(changed(rt, alloc, 177, count))
+        }
+        File::EarlyEnd => Ok(changed(rt, alloc, 155, b"\x38")),
+    };
+    bytes.expect(rt, "memory")
 }
 
 /// The sample with DWARF 5, with other bytes at a place. Its section .debug_line begins at 147.
-fn changed(alloc: Global, place: usize, bytes: &[u8]) -> Result<Vec<u8>, AllocError> {
-    let file = dwarf_five(alloc)?;
-    let mut other = Vec::new(alloc);
-    other.extend_from_slice(file.get(..place).unwrap_or(&[]))?;
-    other.extend_from_slice(bytes)?;
-    other.extend_from_slice(file.get(other.len()..).unwrap_or(&[]))?;
-    Ok(other)
+fn changed(rt: &impl Abort, alloc: Global, place: usize, bytes: &[u8]) -> Vec<u8> {
+    let mut file = dwarf_five(alloc).expect(rt, "memory");
+    for (byte, other) in file.iter_mut().skip(place).zip(bytes) {
+        *byte = *other;
+    }
+    file
 }
 
 /// 51 bytes that begin as a 32-bit header, which has 52.
-fn cut_header(alloc: Global) -> Result<Vec<u8>, AllocError> {
-    let mut bytes = Vec::from_slice(alloc, b"\x7fELF\x01\x01\x01")?;
-    bytes.extend_from_slice(&[0; 44])?;
-    Ok(bytes)
+fn cut_header(rt: &impl Abort, alloc: Global) -> Vec<u8> {
+    let mut bytes = Vec::from_slice(alloc, b"\x7fELF\x01\x01\x01").expect(rt, "memory");
+    bytes.extend_from_slice(&[0; 44]).expect(rt, "memory");
+    bytes
 }
 
-/// A file of these bytes.
-fn file_of(alloc: Global, path: &str, bytes: Vec<u8>) -> Result<Found<OpenWorld>, Fail>
-    ensures { IfOk result (λ file. file.path ≡ path.now) }
+/// A file that holds this.
+fn found(rt: &impl Abort, alloc: Global, path: &str, file: &File) -> Found<OpenWorld>
+    ensures { result.path ≡ path.now }
 {
+    let bytes = bytes_of(rt, alloc, file);
     let stamp = Stamp {
         size: bytes.len() as u64,
         secs: 100,
         nanos: 0,
     };
-    Ok(Found::new(String::from_str(alloc, path)?, stamp, bytes))
+    let path = String::from_str(alloc, path).expect(rt, "memory");
+    Found::new(path, stamp, bytes)
 }
 
 /// The files of a hand.
-fn files_of(alloc: Global, files: &Files) -> Result<Vec<Found<OpenWorld>>, Fail>
-    ensures { IfOk result (λ found. IsTrue (is_stage found.items)) }
+fn files_of(rt: &impl Abort, alloc: Global, files: &Files) -> Vec<Found<OpenWorld>>
+    ensures { IsTrue (is_stage result.items) }
 {
     match files {
-        Files::One(file) => {
-            let found = file_of(alloc, "/w/a", bytes_of(alloc, file)?)?;
-            Ok(vec![in alloc; found]?)
-        }
-        Files::Two => {
-            let first = file_of(alloc, "/srv/a", both_classes(alloc)?)?;
-            let second = file_of(alloc, "/srv/b", Vec::from_slice(alloc, b"hello\n")?)?;
-            Ok(vec![in alloc; first, second]?)
-        }
+        Files::One(file) => { vec![in alloc; found(rt, alloc, "/w/a", file)].expect(rt, "memory") }
+        Files::Two => vec![in alloc;
+            found(rt, alloc, "/srv/a", &File::Both),
+            found(rt, alloc, "/srv/b", &File::Text),
+        ]
+        .expect(rt, "memory"),
         Files::First => {
-            let found = file_of(alloc, "/srv/a", both_classes(alloc)?)?;
-            Ok(vec![in alloc; found]?)
+            vec![in alloc; found(rt, alloc, "/srv/a", &File::Both)].expect(rt, "memory")
         }
-        Files::Altered => {
-            let first = file_of(alloc, "/srv/a", Vec::from_slice(alloc, b"hello!\n")?)?;
-            let second = file_of(alloc, "/srv/b", Vec::from_slice(alloc, b"hello\n")?)?;
-            Ok(vec![in alloc; first, second]?)
-        }
-        Files::Three => {
-            let first = file_of(alloc, "/srv/a", both_classes(alloc)?)?;
-            let second = file_of(alloc, "/srv/b", Vec::from_slice(alloc, b"hello\n")?)?;
-            let third = file_of(alloc, "/srv/c", Vec::new(alloc))?;
-            Ok(vec![in alloc; first, second, third]?)
-        }
-        Files::Later => {
-            let first = file_of(alloc, "/srv/a", both_classes(alloc)?)?;
-            let second = file_of(alloc, "/srv/b", Vec::from_slice(alloc, b"hello!\n")?)?;
-            let fourth = file_of(alloc, "/srv/d", executable(alloc)?)?;
-            Ok(vec![in alloc; first, second, fourth]?)
-        }
-        Files::Wide => {
-            let first = file_of(alloc, "/srv/a", both_classes(alloc)?)?;
-            let second = file_of(alloc, "/srv/b", Vec::from_slice(alloc, b"hello\n")?)?;
-            let other = file_of(alloc, "/w/a", Vec::new(alloc))?;
-            Ok(vec![in alloc; first, second, other]?)
-        }
+        Files::Altered => vec![in alloc;
+            found(rt, alloc, "/srv/a", &File::LongText),
+            found(rt, alloc, "/srv/b", &File::Text),
+        ]
+        .expect(rt, "memory"),
+        Files::Three => vec![in alloc;
+            found(rt, alloc, "/srv/a", &File::Both),
+            found(rt, alloc, "/srv/b", &File::Text),
+            found(rt, alloc, "/srv/c", &File::Empty),
+        ]
+        .expect(rt, "memory"),
+        Files::Later => vec![in alloc;
+            found(rt, alloc, "/srv/a", &File::Both),
+            found(rt, alloc, "/srv/b", &File::LongText),
+            found(rt, alloc, "/srv/d", &File::Executable),
+        ]
+        .expect(rt, "memory"),
+        Files::Wide => vec![in alloc;
+            found(rt, alloc, "/srv/a", &File::Both),
+            found(rt, alloc, "/srv/b", &File::Text),
+            found(rt, alloc, "/w/a", &File::Empty),
+        ]
+        .expect(rt, "memory"),
     }
 }
 
 /// A hand that has these files, and fails at these calls.
-pub fn hand_of(alloc: Global, files: &Files, bad: &[u64]) -> Result<MemTree<OpenWorld>, Fail> {
+pub fn hand_of(rt: &impl Abort, alloc: Global, files: &Files, bad: &[u64]) -> MemTree<OpenWorld> {
+    let files = files_of(rt, alloc, files);
     let script = Script {
-        stages: vec![in alloc; files_of(alloc, files)?]?,
+        stages: vec![in alloc; files].expect(rt, "memory"),
         moves: Vec::new(alloc),
-        bad_calls: Vec::from_slice(alloc, bad)?,
+        bad_calls: Vec::from_slice(alloc, bad).expect(rt, "memory"),
     };
-    Ok(MemTree::new(alloc, script))
+    MemTree::new(alloc, script)
 }
 
 /// A hand that has the first files, the next ones from the call of one number on, and the last ones
 /// from that of the other.
 pub fn turning(
+    rt: &impl Abort,
     alloc: Global,
     files: &[Files; 3],
-    calls: [u64; 2],
-) -> Result<MemTree<OpenWorld>, Fail> {
+    calls: &[u64; 2],
+) -> MemTree<OpenWorld> {
     let [first, next, last] = files;
-    let first = files_of(alloc, first)?;
-    let next = files_of(alloc, next)?;
-    let last = files_of(alloc, last)?;
+    let first = files_of(rt, alloc, first);
+    let next = files_of(rt, alloc, next);
+    let last = files_of(rt, alloc, last);
     let script = Script {
-        stages: vec![in alloc; first, next, last]?,
-        moves: Vec::from_slice(alloc, &calls)?,
+        stages: vec![in alloc; first, next, last].expect(rt, "memory"),
+        moves: Vec::from_slice(alloc, calls).expect(rt, "memory"),
         bad_calls: Vec::new(alloc),
     };
-    Ok(MemTree::new(alloc, script))
+    MemTree::new(alloc, script)
 }
 
 /// A hand of the open world that has the reference tree.
-pub fn reference(alloc: Global) -> Result<MemTree<OpenWorld>, Fail> {
-    Ok(MemTree::new(alloc, open_script(alloc)?))
+pub fn reference(rt: &impl Abort, alloc: Global) -> MemTree<OpenWorld> {
+    MemTree::new(alloc, open_script(alloc).expect(rt, "memory"))
 }
 
-/// A hand of the told world of one byte a file, which has `/w/a`.
-pub fn one_byte(alloc: Global) -> Result<MemTree<TwoWorld>, Fail> {
+/// A hand of the told world that has the reference tree, and fails at these calls.
+pub fn told_reference(rt: &impl Abort, alloc: Global, bad: &[u64]) -> MemTree<SampleWorld> {
+    let bad_calls = Vec::from_slice(alloc, bad).expect(rt, "memory");
+    let script = reference_script(alloc, bad_calls).expect(rt, "memory");
+    MemTree::new(alloc, script)
+}
+
+/// A hand of the told world that has the file which changes before this call.
+pub fn changed_file(rt: &impl Abort, alloc: Global, call: u64) -> MemTree<SampleWorld> {
+    MemTree::new(alloc, changed_file_script(alloc, call).expect(rt, "memory"))
+}
+
+/// The file of one byte, in its told world.
+fn byte_file(rt: &impl Abort, alloc: Global) -> Found<TwoWorld>
+    ensures { result.path ≡ codes "/w/a" }
+{
+    let path = String::from_str(alloc, "/w/a").expect(rt, "memory");
+    let bytes = vec![in alloc; b'x'].expect(rt, "memory");
     let stamp = Stamp {
         size: 1,
         secs: 1,
         nanos: 0,
     };
-    let found: Found<TwoWorld> = Found::new(
-        String::from_str(alloc, "/w/a")?,
-        stamp,
-        vec![in alloc; b'x']?,
-    );
+    Found::new(path, stamp, bytes)
+}
+
+/// A hand of the told world of one byte a file, which has `/w/a`.
+pub fn one_byte(rt: &impl Abort, alloc: Global) -> MemTree<TwoWorld> {
+    let files = vec![in alloc; byte_file(rt, alloc)].expect(rt, "memory");
     let script = Script {
-        stages: vec![in alloc; vec![in alloc; found]?]?,
+        stages: vec![in alloc; files].expect(rt, "memory"),
         moves: Vec::new(alloc),
         bad_calls: Vec::new(alloc),
     };
-    Ok(MemTree::new(alloc, script))
-}
-
-/// The stamp of a file of one byte more than 1 GiB.
-const LARGE: Stamp = Stamp {
-    size: 1_073_741_825,
-    secs: 100,
-    nanos: 0,
-};
-
-/// A tree that has one file above the size limit, at every path, or no memory for any.
-#[derive(Drop)]
-pub enum Crowded {
-    TooLarge,
-    NoMemory,
-}
-
-impl Tree<OpenWorld> for Crowded {
-    ghost use Rattle.std.specs.Prelude.{false, None, []};
-
-    ghost told = { false };
-
-    ghost shows = { λ _. record { present = []; Still = ⊥; heard = None; faults = 0 } };
-
-    fn load(&mut self, _alloc: Global, _path: &str, limit: u64) -> LoadAnswer<OpenWorld> {
-        match self {
-            Crowded::NoMemory => LoadAnswer::OutOfMemory,
-            Crowded::TooLarge if limit < LARGE.size => LoadAnswer::TooLarge { stamp: LARGE },
-            Crowded::TooLarge => LoadAnswer::Gone,
-        }
-    }
-
-    fn stat(&mut self, _alloc: Global, _path: &str) -> StatAnswer {
-        match self {
-            Crowded::NoMemory => StatAnswer::OutOfMemory,
-            Crowded::TooLarge => StatAnswer::File(LARGE),
-        }
-    }
-
-    fn read_dir(&mut self, _alloc: Global, _path: &str) -> DirAnswer {
-        match self {
-            Crowded::NoMemory => DirAnswer::OutOfMemory,
-            Crowded::TooLarge => DirAnswer::Gone,
-        }
-    }
+    MemTree::new(alloc, script)
 }

@@ -1,14 +1,8 @@
 //! What `query` says, by what the store holds.
 
 use crate::runs::hands::Files::{One, Two};
-use crate::runs::hands::{File, hand_of, reference};
-use crate::runs::rig::{Case, Plan, Run, SOUND, run_all, run_cases, run_over};
-use index_keeper::{Kept, MemStore};
-use row_types::OpenWorld;
-use sample_world::{SampleWorld, reference_script};
-use std::alloc::Global;
-use std::test::Fail;
-use tree_trait::MemTree;
+use crate::runs::hands::{File, reference, told_reference};
+use crate::runs::rig::{Case, Plan, Run, SOUND, run_all, run_cases, run_kept};
 
 const SCAN: &[&str] = &["scan", "-d", "m", "-c", "2", "/srv/bin", "/srv/debug", "/w"];
 
@@ -49,12 +43,16 @@ static REFERENCE: [Run; 3] = [
 ];
 
 #[test]
-fn the_rows_of_an_id_are_printed_by_path(rt: HostRuntime) -> Result<(), Fail> {
+fn the_rows_of_an_id_are_printed_by_path(rt: HostRuntime) {
     let alloc = rt.alloc();
-    run_all(&rt, alloc, reference(alloc)?, &SOUND, &REFERENCE)?;
-    let script = reference_script(alloc, Vec::new(alloc))?;
-    let told: MemTree<SampleWorld> = MemTree::new(alloc, script);
-    run_all(&rt, alloc, told, &SOUND, &REFERENCE)
+    run_all(&rt, alloc, reference(&rt, alloc), &SOUND, &REFERENCE);
+    run_all(
+        &rt,
+        alloc,
+        told_reference(&rt, alloc, &[]),
+        &SOUND,
+        &REFERENCE,
+    );
 }
 
 const STORE_FAULT: &str = "dbgd: fault store\n";
@@ -104,36 +102,29 @@ static FAULTS: [Case; 4] = [
 ];
 
 #[test]
-fn a_query_ends_as_it_is_met(rt: HostRuntime) -> Result<(), Fail> {
-    run_cases(&rt, rt.alloc(), &FAULTS)
-}
-
-/// A store that keeps a value under `/a`.
-fn store_of(alloc: Global, bytes: &[u8]) -> Result<MemStore<OpenWorld>, Fail> {
-    let kept = vec![in alloc; Kept::of(alloc, "/a", bytes)?]?;
-    Ok(MemStore::new(alloc, kept, None, Vec::new(alloc)))
+fn a_query_ends_as_it_is_met(rt: HostRuntime) {
+    run_cases(&rt, rt.alloc(), &FAULTS);
 }
 
 /// The row bytes of `/a`, code with the id 99be, by edition 1 and by edition 9.
-static ROW: &[u8] = b"\x01\x02\0\0\0/a\x01\0\0\0\0\0\0\0\x01\0\0\0\0\0\0\0\0\0\0\0\x01\x01\
+const ROW: &[u8] = b"\x01\x02\0\0\0/a\x01\0\0\0\0\0\0\0\x01\0\0\0\0\0\0\0\0\0\0\0\x01\x01\
     \x02\x99\xbe\0\0\0\0";
 
-static STRAY: &[u8] = b"\x09\x02\0\0\0/a\x01\0\0\0\0\0\0\0\x01\0\0\0\0\0\0\0\0\0\0\0\x01\x01\
+const STRAY: &[u8] = b"\x09\x02\0\0\0/a\x01\0\0\0\0\0\0\0\x01\0\0\0\0\0\0\0\0\0\0\0\x01\x01\
     \x02\x99\xbe\0\0\0\0";
 
 const KEPT: &[&str] = &["query", "-d", "m", "99be"];
 
-const BAD: &str = "dbgd: bad row /a\n";
+/// What is kept under `/a`, and a query.
+static ROWS: [(&[u8], Run); 3] = [
+    (ROW, Run(KEPT, b"executable /a\n", "", 0)),
+    (STRAY, Run(KEPT, b"", NOTHING, 3)),
+    (b"\0", Run(KEPT, b"", "dbgd: bad row /a\n", 7)),
+];
 
 #[test]
-fn a_query_reads_the_rows_of_the_edition(rt: HostRuntime) -> Result<(), Fail> {
-    let alloc = rt.alloc();
-    let found = [Run(KEPT, b"executable /a\n", "", 0)];
-    let nothing = [Run(KEPT, b"", NOTHING, 3)];
-    let bad = [Run(KEPT, b"", BAD, 7)];
-    for (bytes, runs) in [(ROW, &found), (STRAY, &nothing), (b"\0".as_slice(), &bad)] {
-        let hand = hand_of(alloc, &One(File::Empty), &[])?;
-        run_over(&rt, alloc, hand, store_of(alloc, bytes)?, &SOUND, runs)?;
+fn a_query_reads_the_rows_of_the_edition(rt: HostRuntime) {
+    for (bytes, case) in &ROWS {
+        run_kept(&rt, rt.alloc(), &One(File::Empty), bytes, &[*case]);
     }
-    Ok(())
 }

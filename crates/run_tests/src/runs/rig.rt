@@ -1,18 +1,16 @@
 //! One harness for all runs: words are run over objects in memory, and what comes of each is
 //! compared.
 
-ghost use Rattle.std.specs.Prelude.{◌<◌};
-
 use crate::runs::hands::{Files, hand_of};
-use dbgd_run::{Outside, run};
+use dbgd_run::{Outside, run, run_local};
 use elf_reading::ElfTruth;
 use http_wire::{MemSink, Sink, Stream, WriteAnswer};
-use index_keeper::MemStore;
+use index_keeper::{Kept, MemStore};
+use row_types::OpenWorld;
 use std::alloc::Global;
 use std::marker::PhantomData;
 use std::process::Abort;
 use std::sync::Wait;
-use std::test::Fail;
 use std::thread::Threads;
 use tree_trait::{NoGate, Tree};
 
@@ -42,6 +40,7 @@ pub const SOUND: Plan<'static> = Plan {
 pub struct Run<'a>(pub &'a [&'a str], pub &'a [u8], pub &'a str, pub u8);
 
 /// What a hand has, its calls that fail, what else fails, and runs over it, one after the other.
+#[derive(Clone, Copy)]
 pub struct Case<'a>(pub Files, pub &'a [u64], pub Plan<'a>, pub &'a [Run<'a>]);
 
 /// A sink in memory that takes so many bytes at most at a time.
@@ -68,61 +67,68 @@ impl Sink for Narrow {
 type Memory<W, T> = Outside<W, T, MemStore<W>, Narrow, NoGate>;
 
 /// The words as the program gets them.
-pub fn words_of(alloc: Global, words: &[&str]) -> Result<Vec<String>, Fail> {
+pub fn words_of(rt: &impl Abort, alloc: Global, words: &[&str]) -> Vec<String> {
     let mut texts = Vec::new(alloc);
     for word in words {
-        texts.push(String::from_str(alloc, word)?)?;
+        let text = String::from_str(alloc, word).expect(rt, "memory");
+        texts.push(text).expect(rt, "memory");
     }
-    Ok(texts)
+    texts
 }
 
 /// A sink of a plan.
-fn sink_of(alloc: Global, bad_writes: &[u64], width: usize) -> Result<Narrow, Fail> {
-    Ok(Narrow {
-        sink: MemSink::new(alloc, Vec::from_slice(alloc, bad_writes)?),
+fn sink_of(rt: &impl Abort, alloc: Global, bad_writes: &[u64], width: usize) -> Narrow {
+    let bad_writes = Vec::from_slice(alloc, bad_writes).expect(rt, "memory");
+    Narrow {
+        sink: MemSink::new(alloc, bad_writes),
         width,
-    })
+    }
 }
 
 /// A store that keeps nothing yet, by a plan.
 pub fn empty_store<W: ElfTruth + Send + Sync>(
+    rt: &impl Abort,
     alloc: Global,
     plan: &Plan<'_>,
-) -> Result<MemStore<W>, Fail> {
-    let bad_calls = Vec::from_slice(alloc, plan.bad_calls)?;
-    Ok(MemStore::new(alloc, Vec::new(alloc), plan.stop_at, bad_calls))
+) -> MemStore<W> {
+    let bad_calls = Vec::from_slice(alloc, plan.bad_calls).expect(rt, "memory");
+    MemStore::new(alloc, Vec::new(alloc), plan.stop_at, bad_calls)
 }
 
-/// The objects around a hand and a store, by a plan.
-pub fn outside_of<W: ElfTruth + Send + Sync, T: Tree<W>>(
+/// The objects around hands and a store, by a plan.
+fn outside_of<W: ElfTruth + Send + Sync, T: Tree<W>>(
+    rt: &impl Abort,
     alloc: Global,
-    hand: T,
+    hands: Vec<T>,
     store: MemStore<W>,
     plan: &Plan<'_>,
-) -> Result<Memory<W, T>, Fail> {
-    let mut hands = Vec::new(alloc);
-    hands.push(hand)?;
-    Ok(Outside {
+) -> Memory<W, T> {
+    Outside {
         hands,
         store,
-        out: sink_of(alloc, plan.bad_out, plan.width)?,
-        err: sink_of(alloc, plan.bad_err, plan.width)?,
+        out: sink_of(rt, alloc, plan.bad_out, plan.width),
+        err: sink_of(rt, alloc, plan.bad_err, plan.width),
         gate: NoGate,
         of: PhantomData::<W>,
-    })
+    }
 }
 
 /// Compares what a sink got by the end of a run of these words.
-pub fn compare(
-    rt: &impl Abort,
-    sink: &MemSink,
-    want: &[u8],
-    name: &str,
+pub fn compare(rt: &impl Abort, sink: &MemSink, want: &[u8], name: &str, words: &[&str]) {
+    let got = sink.written().expect(rt, "told");
+    assert!(rt; got == want, "{name} of {words:?}: {got:?}");
+}
+
+/// The status of a run of these words.
+fn status_of<W: ElfTruth + Send + Sync, T: Tree<W>, Rt: Threads + Wait + Sync + Abort>(
+    rt: &Rt,
+    alloc: Global,
+    outside: &mut Memory<W, T>,
     words: &[&str],
-) -> Result<(), Fail> {
-    let got = sink.written().ok_or("told")?;
-    assert_eq!(rt; got, want, "{name} of {words:?}");
-    Ok(())
+) -> u8 {
+    assert!(rt; !outside.hands.is_empty(), "a hand");
+    let texts = words_of(rt, alloc, words);
+    run(rt, alloc, texts.as_slice(), outside)
 }
 
 /// Runs once, and compares.
@@ -131,42 +137,27 @@ fn run_once<W: ElfTruth + Send + Sync, T: Tree<W>, Rt: Threads + Wait + Sync + A
     alloc: Global,
     outside: &mut Memory<W, T>,
     case: &Run<'_>,
-) -> Result<(), Fail> {
+) {
     let Run(words, out, err, status) = case;
-    if outside.hands.is_empty() {
-        return Err("a hand".into());
-    }
-    let texts = words_of(alloc, words)?;
-    let ended = run(rt, alloc, texts.as_slice(), outside);
-    compare(rt, &outside.out.sink, out, "out", words)?;
-    compare(rt, &outside.err.sink, err.as_bytes(), "err", words)?;
-    assert_eq!(rt; ended, *status, "status of {words:?}");
-    Ok(())
+    let ended = status_of(rt, alloc, outside, words);
+    compare(rt, &outside.out.sink, out, "out", words);
+    compare(rt, &outside.err.sink, err.as_bytes(), "err", words);
+    assert!(rt; ended == *status, "status of {words:?}: {ended}");
 }
 
-/// Runs one after the other.
-pub fn run_each<W: ElfTruth + Send + Sync, T: Tree<W>, Rt: Threads + Wait + Sync + Abort>(
-    rt: &Rt,
-    alloc: Global,
-    outside: &mut Memory<W, T>,
-    runs: &[Run<'_>],
-) -> Result<(), Fail> {
-    for case in runs {
-        run_once(rt, alloc, outside, case)?;
-    }
-    Ok(())
-}
-
-/// Runs one after the other over a hand and a store.
+/// Runs one after the other over hands and a store.
 pub fn run_over<W: ElfTruth + Send + Sync, T: Tree<W>, Rt: Threads + Wait + Sync + Abort>(
     rt: &Rt,
     alloc: Global,
-    hand: T,
+    hands: Vec<T>,
     store: MemStore<W>,
     plan: &Plan<'_>,
     runs: &[Run<'_>],
-) -> Result<(), Fail> {
-    run_each(rt, alloc, &mut outside_of(alloc, hand, store, plan)?, runs)
+) {
+    let mut outside = outside_of(rt, alloc, hands, store, plan);
+    for case in runs {
+        run_once(rt, alloc, &mut outside, case);
+    }
 }
 
 /// Runs one after the other over a hand and the objects of a plan. The store keeps nothing yet.
@@ -176,18 +167,78 @@ pub fn run_all<W: ElfTruth + Send + Sync, T: Tree<W>, Rt: Threads + Wait + Sync 
     hand: T,
     plan: &Plan<'_>,
     runs: &[Run<'_>],
-) -> Result<(), Fail> {
-    run_over(rt, alloc, hand, empty_store(alloc, plan)?, plan, runs)
+) {
+    let hands = vec![in alloc; hand].expect(rt, "memory");
+    run_over(rt, alloc, hands, empty_store(rt, alloc, plan), plan, runs);
+}
+
+/// A store that keeps a value under `/a`.
+fn store_of(rt: &impl Abort, alloc: Global, bytes: &[u8]) -> MemStore<OpenWorld> {
+    let value = Kept::of(alloc, "/a", bytes).expect(rt, "memory");
+    let kept = vec![in alloc; value].expect(rt, "memory");
+    MemStore::new(alloc, kept, None, Vec::new(alloc))
+}
+
+/// Runs one after the other over a hand of the open world, and a store that keeps a value under
+/// `/a`. Nothing fails.
+pub fn run_kept<Rt: Threads + Wait + Sync + Abort>(
+    rt: &Rt,
+    alloc: Global,
+    files: &Files,
+    bytes: &[u8],
+    runs: &[Run<'_>],
+) {
+    let hands = vec![in alloc; hand_of(rt, alloc, files, &[])].expect(rt, "memory");
+    run_over(rt, alloc, hands, store_of(rt, alloc, bytes), &SOUND, runs);
 }
 
 /// Runs each case over a hand of the open world.
-pub fn run_cases<Rt: Threads + Wait + Sync + Abort>(
+pub fn run_cases<Rt: Threads + Wait + Sync + Abort>(rt: &Rt, alloc: Global, cases: &[Case<'_>]) {
+    for Case(files, bad_calls, plan, runs) in cases {
+        run_all(rt, alloc, hand_of(rt, alloc, files, bad_calls), plan, runs);
+    }
+}
+
+/// What the local part answers to these words.
+fn local_answer<W: ElfTruth + Send + Sync, T: Tree<W>>(
+    rt: &impl Abort,
+    alloc: Global,
+    outside: &mut Memory<W, T>,
+    words: &[&str],
+) -> Option<u8> {
+    assert!(rt; !outside.hands.is_empty(), "a hand");
+    let texts = words_of(rt, alloc, words);
+    run_local(alloc, texts.as_slice(), outside)
+}
+
+/// Compares what the local part answers to these words, one after the other.
+pub fn answer_locally<W: ElfTruth + Send + Sync, T: Tree<W>>(
+    rt: &impl Abort,
+    alloc: Global,
+    hand: T,
+    cases: &[(&[&str], Option<u8>)],
+) {
+    let hands = vec![in alloc; hand].expect(rt, "memory");
+    let store = empty_store(rt, alloc, &SOUND);
+    let mut outside = outside_of(rt, alloc, hands, store, &SOUND);
+    for (words, want) in cases {
+        let answer = local_answer(rt, alloc, &mut outside, words);
+        assert!(rt; answer == *want, "{words:?}: {answer:?}");
+    }
+}
+
+/// What out got by the end of a run of these words, which ends with 0.
+pub fn said_by<W: ElfTruth + Send + Sync, T: Tree<W>, Rt: Threads + Wait + Sync + Abort>(
     rt: &Rt,
     alloc: Global,
-    cases: &[Case<'_>],
-) -> Result<(), Fail> {
-    for Case(files, bad_calls, plan, runs) in cases {
-        run_all(rt, alloc, hand_of(alloc, files, bad_calls)?, plan, runs)?;
-    }
-    Ok(())
+    hand: T,
+    words: &[&str],
+) -> Vec<u8> {
+    let hands = vec![in alloc; hand].expect(rt, "memory");
+    let store = empty_store(rt, alloc, &SOUND);
+    let mut outside = outside_of(rt, alloc, hands, store, &SOUND);
+    let ended = status_of(rt, alloc, &mut outside, words);
+    assert!(rt; ended == 0, "{words:?}: {ended}");
+    let got = outside.out.sink.written().expect(rt, "told");
+    Vec::from_slice(alloc, got).expect(rt, "memory")
 }

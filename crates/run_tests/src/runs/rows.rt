@@ -2,11 +2,11 @@
 
 use crate::runs::hands::Files::{self, Altered, First, Later, Three, Two, Wide};
 use crate::runs::hands::{hand_of, reference, turning};
-use crate::runs::rig::{Run, SOUND, run_all, run_over};
+use crate::runs::rig::{Run, SOUND, run_all, run_kept, run_over};
 use index_keeper::{Kept, MemStore};
 use row_types::OpenWorld;
 use std::alloc::Global;
-use std::test::Fail;
+use std::process::Abort;
 
 const SCAN: &[&str] = &["scan", "-d", "m", "/srv"];
 
@@ -87,34 +87,33 @@ static TURNS: [Turns; 3] = [
 ];
 
 #[test]
-fn rows_follow_the_files(rt: HostRuntime) -> Result<(), Fail> {
+fn rows_follow_the_files(rt: HostRuntime) {
     let alloc = rt.alloc();
     for Turns(files, calls, runs) in &TURNS {
-        run_all(&rt, alloc, turning(alloc, files, *calls)?, &SOUND, runs)?;
+        run_all(&rt, alloc, turning(&rt, alloc, files, calls), &SOUND, runs);
     }
-    let wide = hand_of(alloc, &Wide, &[])?;
-    run_all(&rt, alloc, wide, &SOUND, &ELSEWHERE)
+    run_all(
+        &rt,
+        alloc,
+        hand_of(&rt, alloc, &Wide, &[]),
+        &SOUND,
+        &ELSEWHERE,
+    );
 }
 
 /// The row bytes of `/old/x`, of one byte and changed at second 1, no ELF file, by edition 1.
-static OLD: &[u8] = b"\x01\x06\0\0\0/old/x\x01\0\0\0\0\0\0\0\x01\0\0\0\0\0\0\0\0\0\0\0\0\x01";
+const OLD: &[u8] = b"\x01\x06\0\0\0/old/x\x01\0\0\0\0\0\0\0\x01\0\0\0\0\0\0\0\0\0\0\0\0\x01";
 
 /// Those of `/srv/bin/run.sh`, of ten bytes and changed at second 100, by edition 9.
-static STRAY: &[u8] =
+const STRAY: &[u8] =
     b"\x09\x0f\0\0\0/srv/bin/run.sh\x0a\0\0\0\0\0\0\0\x64\0\0\0\0\0\0\0\0\0\0\0\0\x01";
 
 /// A store that keeps those two.
-fn old_store(alloc: Global) -> Result<MemStore<OpenWorld>, Fail> {
-    let first = Kept::of(alloc, "/old/x", OLD)?;
-    let second = Kept::of(alloc, "/srv/bin/run.sh", STRAY)?;
-    let kept = vec![in alloc; first, second]?;
-    Ok(MemStore::new(alloc, kept, None, Vec::new(alloc)))
-}
-
-/// A store that keeps a value which is no row.
-fn bad_store(alloc: Global) -> Result<MemStore<OpenWorld>, Fail> {
-    let kept = vec![in alloc; Kept::of(alloc, "/a", &[0])?]?;
-    Ok(MemStore::new(alloc, kept, None, Vec::new(alloc)))
+fn old_store(rt: &impl Abort, alloc: Global) -> MemStore<OpenWorld> {
+    let first = Kept::of(alloc, "/old/x", OLD).expect(rt, "memory");
+    let second = Kept::of(alloc, "/srv/bin/run.sh", STRAY).expect(rt, "memory");
+    let kept = vec![in alloc; first, second].expect(rt, "memory");
+    MemStore::new(alloc, kept, None, Vec::new(alloc))
 }
 
 /// The row of another edition is read anew, and the other one lies under no folder. A folder may be
@@ -126,17 +125,23 @@ static OVERLAPPING: [Run; 1] = [Run(
     0,
 )];
 
-/// Both scans find the value.
+/// Both scans find a value that is no row.
 static BAD: [Run; 2] = [
     Run(SCAN, b"", "dbgd: bad row /a\n", 7),
     Run(SCAN, b"", "dbgd: bad row /a\ndbgd: bad row /a\n", 7),
 ];
 
 #[test]
-fn stores_that_hold_rows_are_opened(rt: HostRuntime) -> Result<(), Fail> {
+fn stores_that_hold_rows_are_opened(rt: HostRuntime) {
     let alloc = rt.alloc();
-    let tree = reference(alloc)?;
-    run_over(&rt, alloc, tree, old_store(alloc)?, &SOUND, &OVERLAPPING)?;
-    let two = hand_of(alloc, &Two, &[])?;
-    run_over(&rt, alloc, two, bad_store(alloc)?, &SOUND, &BAD)
+    let hands = vec![in alloc; reference(&rt, alloc)].expect(&rt, "memory");
+    run_over(
+        &rt,
+        alloc,
+        hands,
+        old_store(&rt, alloc),
+        &SOUND,
+        &OVERLAPPING,
+    );
+    run_kept(&rt, alloc, &Two, &[0], &BAD);
 }

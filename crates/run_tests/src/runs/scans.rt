@@ -1,8 +1,12 @@
 //! What `scan` does and says, by what the hand and the store answer.
 
 use crate::runs::hands::Files::Two;
-use crate::runs::rig::{Case, Plan, Run, SOUND, run_cases};
-use std::test::Fail;
+use crate::runs::hands::hand_of;
+use crate::runs::rig::{Case, Plan, Run, SOUND, run_all, run_cases};
+use std::alloc::Global;
+use std::process::Abort;
+use std::sync::Wait;
+use std::thread::Threads;
 
 const SCAN: &[&str] = &["scan", "-d", "m", "/srv"];
 
@@ -68,93 +72,71 @@ static TWO_FILES: [Case; 9] = [
 ];
 
 #[test]
-fn a_scan_of_two_files_ends_as_it_is_met(rt: HostRuntime) -> Result<(), Fail> {
-    run_cases(&rt, rt.alloc(), &TWO_FILES)
+fn a_scan_of_two_files_ends_as_it_is_met(rt: HostRuntime) {
+    run_cases(&rt, rt.alloc(), &TWO_FILES);
 }
 
-const STOP_AT_0: Plan = Plan {
-    stop_at: Some(0),
-    ..SOUND
-};
+/// The line of a second scan, where the store kept one row, and both.
+const ONE: &[u8] =
+    b"scan: 2 files, 1 added, 0 replaced, 0 dropped, 1 kept, 1 executables, 1 debuginfo\n";
 
-const STOP_AT_1: Plan = Plan {
-    stop_at: Some(1),
-    ..SOUND
-};
+const BOTH: &[u8] =
+    b"scan: 2 files, 0 added, 0 replaced, 0 dropped, 2 kept, 1 executables, 1 debuginfo\n";
 
-const STOP_AT_2: Plan = Plan {
-    stop_at: Some(2),
-    ..SOUND
-};
-
-const STOP_AT_3: Plan = Plan {
-    stop_at: Some(3),
-    ..SOUND
-};
-
-const FAIL_0: Plan = Plan {
-    bad_calls: &[0],
-    ..SOUND
-};
-
-const FAIL_1: Plan = Plan {
-    bad_calls: &[1],
-    ..SOUND
-};
-
-const FAIL_2: Plan = Plan {
-    bad_calls: &[2],
-    ..SOUND
-};
-
-const FAIL_3: Plan = Plan {
-    bad_calls: &[3],
-    ..SOUND
-};
-
-/// The first scan, in which the store fails.
-const FAULT: Run = Run(SCAN, b"", STORE_FAULT, 1);
-
-/// The second scan, where the store kept nothing, one row, and both.
-const NONE: Run = Run(SCAN, TWO, STORE_FAULT, 0);
-
-const ONE: Run = Run(
-    SCAN,
-    b"scan: 2 files, 1 added, 0 replaced, 0 dropped, 1 kept, 1 executables, 1 debuginfo\n",
-    STORE_FAULT,
-    0,
-);
-
-const BOTH: Run = Run(
-    SCAN,
-    b"scan: 2 files, 0 added, 0 replaced, 0 dropped, 2 kept, 1 executables, 1 debuginfo\n",
-    STORE_FAULT,
-    0,
-);
-
-/// Scans with a store that fails. Its calls are its opening, its rows, and two puts; a put at an
-/// even number isn't made. It is opened before a folder is looked at.
-static STORES: [Case; 9] = [
-    Case(Two, &[], STOP_AT_0, &[FAULT, NONE]),
-    Case(Two, &[], STOP_AT_1, &[FAULT, NONE]),
-    Case(Two, &[], STOP_AT_2, &[FAULT, NONE]),
-    Case(Two, &[], STOP_AT_3, &[FAULT, BOTH]),
-    Case(Two, &[], FAIL_0, &[FAULT, NONE]),
-    Case(Two, &[], FAIL_1, &[FAULT, NONE]),
-    Case(Two, &[], FAIL_2, &[FAULT, NONE]),
-    Case(Two, &[], FAIL_3, &[FAULT, ONE]),
-    Case(
-        Two,
-        &[],
-        STOP_AT_0,
-        &[Run(NOWHERE, b"", STORE_FAULT, 1), GONE_AFTER],
-    ),
+/// From which call of the store on it fails, its calls that fail once, and the line of a second scan.
+static STORES: [(Option<u64>, &[u64], &[u8]); 8] = [
+    (Some(0), &[], TWO),
+    (Some(1), &[], TWO),
+    (Some(2), &[], TWO),
+    (Some(3), &[], BOTH),
+    (None, &[0], TWO),
+    (None, &[1], TWO),
+    (None, &[2], TWO),
+    (None, &[3], ONE),
 ];
 
-/// A second scan of a folder that isn't there.
-const GONE_AFTER: Run = Run(NOWHERE, b"", "dbgd: fault store\ndbgd: gone /none\n", 3);
+/// Scans with a store that fails, and after that. Its calls are its opening, its rows, and two puts;
+/// a put at an even number isn't made.
+fn scan_twice<Rt: Threads + Wait + Sync + Abort>(
+    rt: &Rt,
+    alloc: Global,
+    plan: &Plan<'_>,
+    second: &[u8],
+) {
+    let stopped = Run(SCAN, b"", STORE_FAULT, 1);
+    let mended = Run(SCAN, second, STORE_FAULT, 0);
+    run_all(
+        rt,
+        alloc,
+        hand_of(rt, alloc, &Two, &[]),
+        plan,
+        &[stopped, mended],
+    );
+}
+
+/// The store is opened before a folder is looked at.
+static STORE_FIRST: [Case; 1] = [Case(
+    Two,
+    &[],
+    Plan {
+        stop_at: Some(0),
+        ..SOUND
+    },
+    &[
+        Run(NOWHERE, b"", STORE_FAULT, 1),
+        Run(NOWHERE, b"", "dbgd: fault store\ndbgd: gone /none\n", 3),
+    ],
+)];
 
 #[test]
-fn a_store_that_fails_ends_the_scan(rt: HostRuntime) -> Result<(), Fail> {
-    run_cases(&rt, rt.alloc(), &STORES)
+fn a_store_that_fails_ends_the_scan(rt: HostRuntime) {
+    for (stop_at, bad_calls, second) in &STORES {
+        let plan = Plan {
+            stop_at: *stop_at,
+            bad_calls,
+            ..SOUND
+        };
+        scan_twice(&rt, rt.alloc(), &plan, second);
+    }
+    run_cases(&rt, rt.alloc(), &STORE_FIRST);
 }

@@ -1,9 +1,12 @@
 //! Scans by several workers, and the hands that words need.
 
 use crate::runs::hands::reference;
-use crate::runs::rig::{Run, SOUND, empty_store, outside_of, run_each, words_of};
+use crate::runs::rig::{Run, SOUND, empty_store, run_over, words_of};
 use dbgd_run::needs;
-use std::test::Fail;
+use row_types::OpenWorld;
+use std::alloc::Global;
+use std::process::Abort;
+use tree_trait::MemTree;
 
 /// The first scan of the reference tree, and one that finds nothing new. The lines are those of the
 /// worked row of this tree.
@@ -23,22 +26,32 @@ static TWICE: [Run; 2] = [
     ),
 ];
 
-#[test]
-fn any_number_of_workers_says_the_same(rt: HostRuntime) -> Result<(), Fail> {
-    let alloc = rt.alloc();
-    for workers in [1, 2, 7, 64] {
-        let mut outside = outside_of(
-            alloc,
-            reference(alloc)?,
-            empty_store(alloc, &SOUND)?,
-            &SOUND,
-        )?;
-        for _ in 0..workers + 1 {
-            outside.hands.push(reference(alloc)?)?;
-        }
-        run_each(&rt, alloc, &mut outside, &TWICE)?;
+/// So many hands, each of which has the reference tree.
+fn references(rt: &impl Abort, alloc: Global, count: u64) -> Vec<MemTree<OpenWorld>> {
+    let mut hands = Vec::new(alloc);
+    for _ in 0..count {
+        hands.push(reference(rt, alloc)).expect(rt, "memory");
     }
-    Ok(())
+    hands
+}
+
+/// Numbers of hands: two, and one for each worker.
+static HANDS: [u64; 4] = [3, 4, 9, 66];
+
+#[test]
+fn any_number_of_workers_says_the_same(rt: HostRuntime) {
+    let alloc = rt.alloc();
+    for count in &HANDS {
+        let hands = references(&rt, alloc, *count);
+        run_over(
+            &rt,
+            alloc,
+            hands,
+            empty_store(&rt, alloc, &SOUND),
+            &SOUND,
+            &TWICE,
+        );
+    }
 }
 
 /// Words, and how many hands they need.
@@ -53,12 +66,16 @@ static NEEDS: [(&[&str], u64); 8] = [
     (&[], 0),
 ];
 
+/// How many hands these words need.
+fn hands_for(rt: &impl Abort, alloc: Global, words: &[&str]) -> u64 {
+    let texts = words_of(rt, alloc, words);
+    needs(alloc, texts.as_slice()).expect(rt, "memory").hands
+}
+
 #[test]
-fn words_need_hands(rt: HostRuntime) -> Result<(), Fail> {
+fn words_need_hands(rt: HostRuntime) {
     for (words, hands) in &NEEDS {
-        let texts = words_of(rt.alloc(), words)?;
-        let needed = needs(rt.alloc(), texts.as_slice())?;
-        assert_eq!(rt; needed.hands, *hands, "{words:?}");
+        let needed = hands_for(&rt, rt.alloc(), words);
+        assert!(rt; needed == *hands, "{words:?}: {needed}");
     }
-    Ok(())
 }

@@ -1,10 +1,8 @@
 //! Runs over told worlds, and over trees of one answer.
 
-use crate::runs::hands::{Crowded, one_byte};
+use crate::runs::crowded::Crowded;
+use crate::runs::hands::{changed_file, one_byte, told_reference};
 use crate::runs::rig::{Plan, Run, SOUND, run_all};
-use sample_world::{SampleWorld, changed_file_script, reference_script};
-use std::test::Fail;
-use tree_trait::MemTree;
 
 const IDENT: &[&str] = &["ident", "/w/a"];
 
@@ -65,14 +63,17 @@ const ALTERED: &str = "dbgd: altered /srv/a listed 6:100:000000000 seen 7:101:00
 static CHANGED: [Run; 2] = [Run(SCAN, b"", ALTERED, 4), Run(SCAN, ONE, ALTERED, 0)];
 
 #[test]
-fn the_sample_world_is_read_and_scanned(rt: HostRuntime) -> Result<(), Fail> {
+fn the_sample_world_is_read_and_scanned(rt: HostRuntime) {
     let alloc = rt.alloc();
-    let script = reference_script(alloc, Vec::new(alloc))?;
-    let reference: MemTree<SampleWorld> = MemTree::new(alloc, script);
-    run_all(&rt, alloc, reference, &SOUND, &REFERENCE)?;
+    run_all(
+        &rt,
+        alloc,
+        told_reference(&rt, alloc, &[]),
+        &SOUND,
+        &REFERENCE,
+    );
     // The load comes after a look at the root, its entries, and a look at the file.
-    let changed: MemTree<SampleWorld> = MemTree::new(alloc, changed_file_script(alloc, 3)?);
-    run_all(&rt, alloc, changed, &SOUND, &CHANGED)
+    run_all(&rt, alloc, changed_file(&rt, alloc, 3), &SOUND, &CHANGED);
 }
 
 /// Twelve rows of the reference tree, and then the same rows.
@@ -92,15 +93,20 @@ static TWICE: [Run; 2] = [
     ),
 ];
 
+/// A walk makes 20 calls: three looks at the roots, five readings, twelve looks. Twelve loads follow,
+/// and then the second walk; each call behind it fails.
+static BEHIND: [u64; 12] = [52, 53, 54, 55, 56, 57, 58, 59, 60, 61, 62, 63];
+
 #[test]
-fn a_second_scan_loads_nothing(rt: HostRuntime) -> Result<(), Fail> {
+fn a_second_scan_loads_nothing(rt: HostRuntime) {
     let alloc = rt.alloc();
-    // A walk makes 20 calls: three looks at the roots, five readings, twelve looks. Twelve loads
-    // follow, and then the second walk; each call behind it fails.
-    let bad_calls = Vec::from_slice(alloc, &[52, 53, 54, 55, 56, 57, 58, 59, 60, 61, 62, 63])?;
-    let script = reference_script(alloc, bad_calls)?;
-    let hand: MemTree<SampleWorld> = MemTree::new(alloc, script);
-    run_all(&rt, alloc, hand, &SOUND, &TWICE)
+    run_all(
+        &rt,
+        alloc,
+        told_reference(&rt, alloc, &BEHIND),
+        &SOUND,
+        &TWICE,
+    );
 }
 
 const FIVE: &[&str] = &["scan", "-d", "m", "/srv/debug", "/w/src"];
@@ -117,22 +123,23 @@ static AFTER_STOP: [&[u8]; 7] = [
 ];
 
 #[test]
-fn a_scan_after_a_stop_at_each_store_call_has_the_five_rows(rt: HostRuntime) -> Result<(), Fail> {
+fn a_scan_after_a_stop_at_each_store_call_has_the_five_rows(rt: HostRuntime) {
     let alloc = rt.alloc();
-    let mut number = 0u64;
-    for line in &AFTER_STOP {
+    for (number, line) in (0u64..).zip(&AFTER_STOP) {
         let plan = Plan {
             stop_at: Some(number),
             ..SOUND
         };
-        let script = reference_script(alloc, Vec::new(alloc))?;
-        let hand: MemTree<SampleWorld> = MemTree::new(alloc, script);
         let stopped = Run(FIVE, b"", "dbgd: fault store\n", 1);
         let mended = Run(FIVE, line, "dbgd: fault store\n", 0);
-        run_all(&rt, alloc, hand, &plan, &[stopped, mended])?;
-        number = number.saturating_add(1);
+        run_all(
+            &rt,
+            alloc,
+            told_reference(&rt, alloc, &[]),
+            &plan,
+            &[stopped, mended],
+        );
     }
-    Ok(())
 }
 
 /// What is said of the file of one byte, in a told world.
@@ -186,9 +193,9 @@ static WANTS: [Run; 3] = [
 ];
 
 #[test]
-fn other_trees_are_read_and_scanned(rt: HostRuntime) -> Result<(), Fail> {
+fn other_trees_are_read_and_scanned(rt: HostRuntime) {
     let alloc = rt.alloc();
-    run_all(&rt, alloc, one_byte(alloc)?, &SOUND, &BYTE)?;
-    run_all(&rt, alloc, Crowded::TooLarge, &SOUND, &LARGE)?;
-    run_all(&rt, alloc, Crowded::NoMemory, &SOUND, &WANTS)
+    run_all(&rt, alloc, one_byte(&rt, alloc), &SOUND, &BYTE);
+    run_all(&rt, alloc, Crowded::TooLarge, &SOUND, &LARGE);
+    run_all(&rt, alloc, Crowded::NoMemory, &SOUND, &WANTS);
 }

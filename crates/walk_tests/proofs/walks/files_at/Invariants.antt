@@ -1,5 +1,5 @@
 use Rattle.std.proofs.Common.{◌≡◌, map, take}
-use Rattle.tree_walk.proofs.tests.files_at.Given as goal
+use Rattle.walk_tests.proofs.walks.files_at.Given as goal
 
 abbrev pub invariant-loop-path : goal.invariant-loop-path
 invariant-loop-path l = map (λ file. file.path) l.files.items ≡ map (λ path. path.now)

@@ -5,7 +5,7 @@ use Rattle.row_types.specs.Canon.{is_canonical}
 use Rattle.tree_trait.specs.Found.{FoundFacts}
 use Rattle.tree_trait.specs.Present.{are_distinct}
 use Rattle.tree_trait.specs.Script.{is_stage}
-use Rattle.tree_walk.proofs.tests.tree_at.Goals as goal
+use Rattle.walk_tests.proofs.walks.tree_at.Goals as goal
 
 stage_at : (files : List FoundFacts) (paths : List (List ℕ)) → map (λ file. file.path) files ≡ paths
     → (list_all is_canonical paths && are_distinct paths) ≡ true → is_stage files ≡ true

@@ -1,0 +1,49 @@
+//! A tree that has one large file at every path, or no memory.
+
+use row_types::{OpenWorld, Stamp};
+use std::alloc::Global;
+use tree_trait::{DirAnswer, LoadAnswer, StatAnswer, Tree};
+
+/// The stamp of a file of one byte more than 1 GiB.
+const LARGE: Stamp = Stamp {
+    size: 1_073_741_825,
+    secs: 100,
+    nanos: 0,
+};
+
+/// A tree that has one file above the size limit, at every path, or no memory for any.
+#[derive(Drop)]
+pub enum Crowded {
+    TooLarge,
+    NoMemory,
+}
+
+impl Tree<OpenWorld> for Crowded {
+    ghost use Rattle.std.specs.Prelude.{false, None, []};
+
+    ghost told = { false };
+
+    ghost shows = { λ _. record { present = []; Still = ⊥; heard = None; faults = 0 } };
+
+    fn load(&mut self, _alloc: Global, _path: &str, limit: u64) -> LoadAnswer<OpenWorld> {
+        match self {
+            Crowded::NoMemory => LoadAnswer::OutOfMemory,
+            Crowded::TooLarge if limit < LARGE.size => LoadAnswer::TooLarge { stamp: LARGE },
+            Crowded::TooLarge => LoadAnswer::Gone,
+        }
+    }
+
+    fn stat(&mut self, _alloc: Global, _path: &str) -> StatAnswer {
+        match self {
+            Crowded::NoMemory => StatAnswer::OutOfMemory,
+            Crowded::TooLarge => StatAnswer::File(LARGE),
+        }
+    }
+
+    fn read_dir(&mut self, _alloc: Global, _path: &str) -> DirAnswer {
+        match self {
+            Crowded::NoMemory => DirAnswer::OutOfMemory,
+            Crowded::TooLarge => DirAnswer::Gone,
+        }
+    }
+}

@@ -1,0 +1,66 @@
+//! Lines that are answered with a text, whatever else follows.
+
+use crate::words::Case;
+
+/// Lines that ask for the help of `scan`.
+pub static SCAN_HELPS: [&[&str]; 3] = [
+    &["scan", "--help"],
+    &["scan", "-h", "--bad"],
+    &["scan", "-d", "m", "/w", "--help"],
+];
+
+/// The help of `scan`.
+pub static SCAN_HELP: &str = "Keeps a row for each file under folders
+
+Usage: dbgd scan [OPTIONS] --database <FILE> <DIR>...
+
+Arguments:
+  <DIR>...  The folders, each from / on and of at most 4096 bytes
+
+Options:
+  -d, --database <FILE>  The store of the index; it is made where it isn't there
+  -c, --concurrency <N>  The number of workers, 1 to 64; one does the work so far [default: 4]
+  -F, --scan-file-dir    Changes nothing: files in folders are what is scanned
+  -h, --help             Print help
+  -V, --version          Print version
+
+Walks the folders, reads each file that has no row yet, and keeps the rows in the store. Prints one
+line of counts: files, rows added, replaced, dropped and kept, executables, debug information.
+
+Exit status: 0 done, 1 a call of the file system, the store or the output failed, 2 words that can't
+be read, 3 nothing is at a folder's path, 4 a file was altered meanwhile, 5 too many files, entries,
+rows or changes, 6 memory was refused, 7 a value that is no row.
+
+Example: dbgd scan -d index.db /usr/bin /usr/lib/debug
+";
+
+/// Lines that ask for the help of `query`.
+pub static QUERY_HELPS: [&[&str]; 2] = [&["query", "--help"], &["query", "-h"]];
+
+/// The help of `query`.
+pub static QUERY_HELP: &str = "Prints the files of a build-id that an index has
+
+Usage: dbgd query --database <FILE> <ID>
+
+Arguments:
+  <ID>  A build-id: 4 to 128 hexadecimal digits, two for each byte
+
+Options:
+  -d, --database <FILE>  The store of the index; it is made where it isn't there
+  -h, --help             Print help
+  -V, --version          Print version
+
+Prints a line for each row of the id that the store holds, by path: executable, debuginfo, both or
+none, a space, and the path.
+
+Exit status: 0 done, 1 a call of the store or the output failed, 2 words that can't be read,
+3 no row has the id, 5 too many rows, 6 memory was refused, 7 a value that is no row.
+
+Example: dbgd query -d index.db 15dfff3239aa7c3b16a71e6b2e3b6e4009dab998
+";
+
+/// Lines that ask for a version.
+pub static VERSIONS: [Case; 2] = [
+    Case(&["query", "--version"], "dbgd query 0.1.0\n"),
+    Case(&["scan", "-V"], "dbgd scan 0.1.0\n"),
+];

@@ -1,0 +1,135 @@
+//! Lines of words, and what they say.
+
+use crate::words::Case;
+
+/// Lines of one file.
+pub static FILES: [Case; 10] = [
+    Case(&["ident", "/w/a"], "ident /w/a"),
+    Case(&["ident", "--help"], "ident --help"),
+    Case(&["sources", "/w/a"], "sources /w/a"),
+    Case(&["section", "/w/a", ".text"], "section /w/a .text"),
+    Case(&[], "usage"),
+    Case(&["IDENT", "/w/a"], "usage"),
+    Case(&["--help"], "usage"),
+    Case(&["ident"], "usage"),
+    Case(&["sources", "/w/a", "/w/a"], "usage"),
+    Case(&["serve", "--help"], "not built"),
+];
+
+/// Lines of `trial`. A number has 1 to 20 digits.
+pub static TRIALS: [Case; 23] = [
+    Case(&["trial", "7", "40", "1"], "trial 7 40 1"),
+    Case(&["trial", "0", "1", "64"], "trial 0 1 64"),
+    Case(
+        &["trial", "18446744073709551615", "100000", "1"],
+        "trial 18446744073709551615 100000 1",
+    ),
+    Case(
+        &["trial", "00000000000000000007", "040", "03"],
+        "trial 7 40 3",
+    ),
+    Case(&["trial", "18446744073709551616", "1", "1"], "usage"),
+    Case(&["trial", "000000000000000000007", "1", "1"], "usage"),
+    Case(&["trial", "7", "0", "1"], "usage"),
+    Case(&["trial", "7", "100001", "1"], "usage"),
+    Case(&["trial", "7", "40", "0"], "usage"),
+    Case(&["trial", "7", "40", "65"], "usage"),
+    Case(&["trial", "+7", "40", "1"], "usage"),
+    Case(&["trial", "-7", "40", "1"], "usage"),
+    Case(&["trial", "7", "+40", "1"], "usage"),
+    Case(&["trial", "7", "40", " 1"], "usage"),
+    Case(&["trial", "", "40", "1"], "usage"),
+    Case(&["trial", "7", "", "1"], "usage"),
+    Case(&["trial", "0x7", "40", "1"], "usage"),
+    Case(&["trial", "7", "4e1", "1"], "usage"),
+    Case(&["trial"], "usage"),
+    Case(&["trial", "7", "40"], "usage"),
+    Case(&["trial", "7", "40", "1", "1"], "usage"),
+    Case(&["trial", "--help"], "usage"),
+    Case(&["trial", "7", "40", "--version"], "usage"),
+];
+
+/// Lines of `query`. An id has 4 to 128 digits, an even number.
+pub static QUERIES: [Case; 19] = [
+    Case(&["query", "-d", "m", "99be"], "query m 99be"),
+    Case(&["query", "--database", "m", "99BE"], "query m 99be"),
+    Case(&["query", "--database=m", "99Be"], "query m 99be"),
+    Case(&["query", "99be", "-dm"], "query m 99be"),
+    Case(&["query", "-d=m", "--", "99be"], "query m 99be"),
+    Case(
+        &["query", "-d", "/srv/a b", "000000"],
+        "query /srv/a b 000000",
+    ),
+    Case(&["query"], "usage"),
+    Case(&["query", "99be"], "usage"),
+    Case(&["query", "-d", "m"], "usage"),
+    Case(&["query", "-d"], "usage"),
+    Case(&["query", "-d", "m", ""], "usage"),
+    Case(&["query", "-d", "m", "99"], "usage"),
+    Case(&["query", "-d", "m", "99b"], "usage"),
+    Case(&["query", "-d", "m", "99bg"], "usage"),
+    Case(&["query", "-d", "m", "0x99be"], "usage"),
+    Case(&["query", "-d", "m", "99be", "99be"], "usage"),
+    Case(&["query", "-d", "m", "-d", "m", "99be"], "usage"),
+    Case(&["query", "-d", "m", "-c", "2", "99be"], "usage"),
+    Case(&["query", "-d", "m", "-x", "99be"], "usage"),
+];
+
+/// Lines of `scan`. Options may stand before and behind the folders.
+pub static SCANS: [Case; 15] = [
+    Case(&["scan", "-d", "m", "/w"], "scan m 4 /w"),
+    Case(
+        &["scan", "-d", "m", "-c", "2", "/srv/bin", "/w/"],
+        "scan m 2 /srv/bin /w",
+    ),
+    Case(
+        &["scan", "/w", "-c", "64", "--database=m", "/a"],
+        "scan m 64 /w /a",
+    ),
+    Case(&["scan", "-Fdm", "/w"], "scan m 4 /w"),
+    Case(
+        &["scan", "--scan-file-dir", "-d", "m", "-c1", "/"],
+        "scan m 1 /",
+    ),
+    Case(
+        &["scan", "--concurrency=007", "-d", "m", "//w/.././a/"],
+        "scan m 7 /a",
+    ),
+    Case(&["scan", "-d", "m", "/w", "--", "/-x"], "scan m 4 /w /-x"),
+    Case(
+        &["scan", "-d", "m", "-c", "00000000000000000064", "/w"],
+        "scan m 64 /w",
+    ),
+    Case(&["scan", "-d", "m", "/w", "w"], "usage"),
+    Case(&["scan", "-d", "m", "--", "-x"], "usage"),
+    Case(&["scan", "-d", "m", ""], "usage"),
+    Case(&["scan", "-d", "m"], "usage"),
+    Case(&["scan", "/w"], "usage"),
+    Case(&["scan", "/w", "-d"], "usage"),
+    Case(&["scan"], "usage"),
+];
+
+/// Lines of `scan` with an option that can't be read.
+pub static OPTIONS: [Case; 15] = [
+    Case(&["scan", "-d", "m", "-c", "0", "/w"], "usage"),
+    Case(&["scan", "-d", "m", "-c", "65", "/w"], "usage"),
+    Case(&["scan", "-d", "m", "-c", "+4", "/w"], "usage"),
+    Case(&["scan", "-d", "m", "-c", "-4", "/w"], "usage"),
+    Case(&["scan", "-d", "m", "-c", "4 ", "/w"], "usage"),
+    Case(&["scan", "-d", "m", "-c", "", "/w"], "usage"),
+    Case(&["scan", "-d", "m", "-c", "four", "/w"], "usage"),
+    Case(
+        &["scan", "-d", "m", "-c", "000000000000000000004", "/w"],
+        "usage",
+    ),
+    Case(
+        &["scan", "-d", "m", "-c", "18446744073709551620", "/w"],
+        "usage",
+    ),
+    Case(&["scan", "-d", "m", "-c", "4", "-c", "4", "/w"], "usage"),
+    Case(&["scan", "-d", "m", "--database", "m", "/w"], "usage"),
+    Case(&["scan", "-d", "m", "-F", "-F", "/w"], "usage"),
+    Case(&["scan", "-d", "m", "-F=1", "/w"], "usage"),
+    Case(&["scan", "-d", "m", "-R", "/w"], "usage"),
+    Case(&["scan", "-d", "m", "--port", "80", "/w"], "usage"),
+];
