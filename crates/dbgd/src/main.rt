@@ -1,21 +1,8 @@
 //! The program: it makes the real objects, hands them to the top call, and ends with its status.
 #![tactic(auto)]
 
-mod file_load;
-mod folder_read;
-mod hands;
-mod look;
-mod read_fault;
-mod real_sink;
-mod real_tree;
-#[cfg(test)]
-mod tests;
-mod tries;
-
+use dbgd_edges::{RealSink, StdStream, real_hands};
 use dbgd_run::{Outside, Status, needs, run, write_all};
-use hands::real_hands;
-use real_sink::{RealSink, Stream};
-use real_tree::RealTree;
 use row_types::OpenWorld;
 use sqlite_keeper::SqliteStore;
 use std::alloc::AllocError;
@@ -46,8 +33,8 @@ fn run_real<Rt: Threads + Wait + Sync>(rt: &HostRuntime, threads: &Rt) -> Result
     let mut outside = Outside {
         hands,
         store: SqliteStore::new(*rt),
-        out: RealSink::new(Stream::Out(rt.stdout())),
-        err: RealSink::new(Stream::Err(rt.stderr())),
+        out: RealSink::new(StdStream::Out(rt.stdout())),
+        err: RealSink::new(StdStream::Err(rt.stderr())),
         gate: NoGate,
         of: PhantomData::<OpenWorld>,
     };
@@ -59,7 +46,7 @@ fn main(rt: HostRuntime) -> ExitCode {
         Ok(status) => ExitCode::from(status),
         Err(_) => {
             let _ = write_all(
-                &mut RealSink::new(Stream::Err(rt.stderr())),
+                &mut RealSink::new(StdStream::Err(rt.stderr())),
                 b"dbgd: out of memory\n",
             );
             ExitCode::from(Status::OutOfMemory.code())

@@ -1,4 +1,5 @@
-//! Tests.
+//! Tests of the crates that read DWARF 5: forms, units, line tables, the source paths of a file's
+//! debug sections, and canonical paths.
 #![tactic(auto)]
 
 #[cfg(test)]

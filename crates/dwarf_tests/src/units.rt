@@ -2,7 +2,7 @@
 
 use byte_read::Order;
 use dwarf_forms::DebugParts;
-use dwarf_units::{Unit, unit_die, units};
+use dwarf_units::{Unit, Units, unit_die, units};
 
 /// The sections of a small file with these abbreviations: its text 0 is /w/src.
 fn parts(abbrev: &[u8]) -> DebugParts<'_> {
@@ -31,60 +31,43 @@ fn narrow<'a>(bytes: &'a [u8], abbrev: &'a [u8]) -> Option<Answer<'a>> {
 }
 
 /// A file's units: comp_dir by strx1, then str_offsets_base and stmt_list by sec_offset.
-const ABBREV: &[u8] = b"\x01\x11\0\x1b\x25\x72\x17\x10\x17\0\0\0";
+static ABBREV: &[u8] = b"\x01\x11\0\x1b\x25\x72\x17\x10\x17\0\0\0";
 
 /// Version 5, compile, addresses of 8 bytes, abbreviations at 0; code 1, text 0, base 8, line table
 /// 0x30.
-const COMPILE: &[u8] = b"\x05\0\x01\x08\0\0\0\0\x01\0\x08\0\0\0\x30\0\0\0";
+static COMPILE: &[u8] = b"\x05\0\x01\x08\0\0\0\0\x01\0\x08\0\0\0\x30\0\0\0";
 
-const SAID: Answer<'static> = (Some(0x30), Some(b"/w/src"), Some(8));
+/// What that unit says.
+static SAID: Answer<'static> = (Some(0x30), Some(b"/w/src"), Some(8));
 
 #[test]
 fn the_first_entry_leads_to_the_sources(rt: HostRuntime) {
-    assert_eq!(rt; narrow(COMPILE, ABBREV), Some(SAID));
+    assert!(rt; narrow(COMPILE, ABBREV) == Some(SAID));
 }
 
-// DWARF 5, sections 7.5.1.1 to 7.5.1.3, and table 7.2: what each type adds to the header.
+// DWARF 5, sections 7.5.1.1 to 7.5.1.3, and table 7.2: what each type adds to the header. A unit's
+// bytes, whether it is of the 64-bit format, and whether its first entry can be read.
+static TYPES: [(&[u8], bool, bool); 9] = [
+    (b"\x05\0\x01\x08\0\0\0\0\x01\x07", false, true),
+    (b"\x05\0\x03\x08\0\0\0\0\x01\x07", false, true),
+    (b"\x05\0\x04\x08\0\0\0\0........\x01\x07", false, true),
+    (b"\x05\0\x05\x08\0\0\0\0........\x01\x07", false, true),
+    (b"\x05\0\x02\x08\0\0\0\0............\x01\x07", false, true),
+    (b"\x05\0\x06\x08\0\0\0\0............\x01\x07", false, true),
+    (
+        b"\x05\0\x02\x08\0\0\0\0\0\0\0\0................\x01\x07",
+        true,
+        true,
+    ),
+    (b"\x05\0\x07\x08\0\0\0\0\x01\x07", false, false),
+    (b"\x05\0\x80\x08\0\0\0\0\x01\x07", false, false),
+];
+
 #[test]
 fn each_unit_type_adds_its_bytes(rt: HostRuntime) {
-    let cases: [(&[u8], bool, bool); 9] = [
-        (b"\x05\0\x01\x08\0\0\0\0\x01\x07", false, true),
-        (b"\x05\0\x03\x08\0\0\0\0\x01\x07", false, true),
-        (b"\x05\0\x04\x08\0\0\0\0........\x01\x07", false, true),
-        (b"\x05\0\x05\x08\0\0\0\0........\x01\x07", false, true),
-        (b"\x05\0\x02\x08\0\0\0\0............\x01\x07", false, true),
-        (b"\x05\0\x06\x08\0\0\0\0............\x01\x07", false, true),
-        (
-            b"\x05\0\x02\x08\0\0\0\0\0\0\0\0................\x01\x07",
-            true,
-            true,
-        ),
-        (b"\x05\0\x07\x08\0\0\0\0\x01\x07", false, false),
-        (b"\x05\0\x80\x08\0\0\0\0\x01\x07", false, false),
-    ];
-    for (bytes, wide, read) in cases {
+    for &(bytes, wide, read) in &TYPES {
         let die = unit_die(&Unit { bytes, wide }, &parts(b"\x01\x11\0\x10\x0b\0\0\0"));
-        assert_eq!(rt; die.is_some(), read, "type {:?}", bytes.get(2));
-    }
-}
-
-// A number of form data1 is no place, so stmt_list is absent; of a repeated one the first counts.
-#[test]
-fn the_first_of_a_repeated_attribute_counts(rt: HostRuntime) {
-    let cases: [(&[u8], &[u8], Option<u64>); 5] = [
-        (b"\x10\x06\x10\x06\0\0", b"\x01\0\0\0\x02\0\0\0", Some(1)),
-        (b"\x10\x0b\x10\x06\0\0", b"\x07\x02\0\0\0", None),
-        (b"\x10\x16\0\0", b"\x06\x09\0\0\0", Some(9)),
-        (b"\0\x0b\x10\x06\0\0", b"\x07\x02\0\0\0", Some(2)),
-        (b"\x03\x21\x7f\x10\x06\0\0", b"\x02\0\0\0", Some(2)),
-    ];
-    for (pairs, values, stmt_list) in cases {
-        let mut bytes = [0; 24];
-        let mut abbrev = [0; 24];
-        put(&mut bytes, b"\x05\0\x01\x08\0\0\0\0\x01", values);
-        put(&mut abbrev, b"\x01\x11\0", pairs);
-        let die = narrow(&bytes, &abbrev);
-        assert_eq!(rt; die.map(|die| die.0), Some(stmt_list));
+        assert!(rt; die.is_some() == read, "type {:?}", bytes.get(2));
     }
 }
 
@@ -95,65 +78,99 @@ fn put(to: &mut [u8; 24], head: &[u8], tail: &[u8]) {
     }
 }
 
+/// What a unit with these attributes and values says of its line table's place.
+fn stmt_list(pairs: &[u8], values: &[u8]) -> Option<Option<u64>> {
+    let mut bytes = [0; 24];
+    let mut abbrev = [0; 24];
+    put(&mut bytes, b"\x05\0\x01\x08\0\0\0\0\x01", values);
+    put(&mut abbrev, b"\x01\x11\0", pairs);
+    let said = narrow(&bytes, &abbrev)?;
+    Some(said.0)
+}
+
+// A number of form data1 is no place, so stmt_list is absent; of a repeated one the first counts.
+// Attributes, their values, and stmt_list.
+static REPEATED: [(&[u8], &[u8], Option<u64>); 5] = [
+    (b"\x10\x06\x10\x06\0\0", b"\x01\0\0\0\x02\0\0\0", Some(1)),
+    (b"\x10\x0b\x10\x06\0\0", b"\x07\x02\0\0\0", None),
+    (b"\x10\x16\0\0", b"\x06\x09\0\0\0", Some(9)),
+    (b"\0\x0b\x10\x06\0\0", b"\x07\x02\0\0\0", Some(2)),
+    (b"\x03\x21\x7f\x10\x06\0\0", b"\x02\0\0\0", Some(2)),
+];
+
 #[test]
-fn the_first_abbreviation_of_the_code_counts(rt: HostRuntime) {
-    let cases: [(&[u8], bool); 6] = [
-        (
-            b"\x02\x2e\0\x03\x08\0\0\x01\x11\0\x1b\x25\x72\x17\x10\x17\0\0\0",
-            true,
-        ),
-        (
-            b"\x01\x11\0\x1b\x25\x72\x17\x10\x17\0\0\x01\x11\0\x1b",
-            true,
-        ),
-        (b"\x01\x11\0\x1b\x25\x72\x17\x10\x17\0\0\x81", true),
-        (
-            b"\x02\x2e\0\x03\x08\0\0\0\x01\x11\0\x1b\x25\x72\x17\x10\x17\0\0\0",
-            false,
-        ),
-        (b"\x02\x2e\0\x03", false),
-        (b"\x01\x11\0\x1b\x25\x72\x17\x10\x17", false),
-    ];
-    for (abbrev, read) in cases {
-        let die = narrow(COMPILE, abbrev);
-        assert_eq!(rt; die, if read { Some(SAID) } else { None }, "{abbrev:?}");
+fn the_first_of_a_repeated_attribute_counts(rt: HostRuntime) {
+    for (pairs, values, place) in &REPEATED {
+        assert!(rt; stmt_list(pairs, values) == Some(*place), "{pairs:?}");
     }
 }
+
+/// Abbreviations, and whether the unit says what it says by its own.
+static ABBREVIATIONS: [(&[u8], bool); 6] = [
+    (
+        b"\x02\x2e\0\x03\x08\0\0\x01\x11\0\x1b\x25\x72\x17\x10\x17\0\0\0",
+        true,
+    ),
+    (
+        b"\x01\x11\0\x1b\x25\x72\x17\x10\x17\0\0\x01\x11\0\x1b",
+        true,
+    ),
+    (b"\x01\x11\0\x1b\x25\x72\x17\x10\x17\0\0\x81", true),
+    (
+        b"\x02\x2e\0\x03\x08\0\0\0\x01\x11\0\x1b\x25\x72\x17\x10\x17\0\0\0",
+        false,
+    ),
+    (b"\x02\x2e\0\x03", false),
+    (b"\x01\x11\0\x1b\x25\x72\x17\x10\x17", false),
+];
+
+#[test]
+fn the_first_abbreviation_of_the_code_counts(rt: HostRuntime) {
+    for (abbrev, read) in &ABBREVIATIONS {
+        let expected = if *read { Some(SAID) } else { None };
+        assert!(rt; narrow(COMPILE, abbrev) == expected, "{abbrev:?}");
+    }
+}
+
+/// The bytes of units, and abbreviations.
+static FAULTY: [(&[u8], &[u8]); 7] = [
+    (
+        b"\x04\0\x01\x08\0\0\0\0\x01\x07",
+        b"\x01\x11\0\x10\x0b\0\0\0",
+    ),
+    (b"\x05\0\x01\x08\0\0\0", b"\x01\x11\0\x10\x0b\0\0\0"),
+    (b"\x05\0\x01\x08\0\0\0\0\0\x07", b"\0\x11\0\x10\x0b\0\0\0"),
+    (b"\x05\0\x01\x08\0\0\0\0\x80", b"\x01\x11\0\x10\x0b\0\0\0"),
+    (b"\x05\0\x01\x08\0\0\0\0\x01", b"\x01\x11\0\x10\x0b\0\0\0"),
+    (b"\x05\0\x01\x08\0\0\0\0\x01\x07", b"\x01\x11\0\x10\0\0\0\0"),
+    (
+        b"\x05\0\x01\x08\xff\0\0\0\x01\x07",
+        b"\x01\x11\0\x10\x0b\0\0\0",
+    ),
+];
 
 #[test]
 fn a_unit_that_is_faulty_has_no_entry(rt: HostRuntime) {
-    let cases: [(&[u8], &[u8]); 7] = [
-        (
-            b"\x04\0\x01\x08\0\0\0\0\x01\x07",
-            b"\x01\x11\0\x10\x0b\0\0\0",
-        ),
-        (b"\x05\0\x01\x08\0\0\0", b"\x01\x11\0\x10\x0b\0\0\0"),
-        (b"\x05\0\x01\x08\0\0\0\0\0\x07", b"\0\x11\0\x10\x0b\0\0\0"),
-        (b"\x05\0\x01\x08\0\0\0\0\x80", b"\x01\x11\0\x10\x0b\0\0\0"),
-        (b"\x05\0\x01\x08\0\0\0\0\x01", b"\x01\x11\0\x10\x0b\0\0\0"),
-        (b"\x05\0\x01\x08\0\0\0\0\x01\x07", b"\x01\x11\0\x10\0\0\0\0"),
-        (
-            b"\x05\0\x01\x08\xff\0\0\0\x01\x07",
-            b"\x01\x11\0\x10\x0b\0\0\0",
-        ),
-    ];
-    for (bytes, abbrev) in cases {
-        assert_eq!(rt; narrow(bytes, abbrev), None, "{bytes:?}");
+    for (bytes, abbrev) in &FAULTY {
+        assert!(rt; narrow(bytes, abbrev).is_none(), "{bytes:?}");
     }
 }
 
+/// The next unit's bytes, and whether it is of the 64-bit format.
+fn next_unit<'a>(list: &mut Units<'a>) -> Option<(&'a [u8], bool)> {
+    let unit = list.next()?;
+    Some((unit.bytes, unit.wide))
+}
+
 // DWARF 5, section 7.4: a unit without bytes, a narrow one, a wide one, a length past the end.
+static INFO: &[u8] = b"\0\0\0\0\x01\0\0\0a\xff\xff\xff\xff\x02\0\0\0\0\0\0\0bc\x09\0\0\0d";
+
 #[test]
 fn units_stand_one_behind_the_other(rt: HostRuntime) {
-    let info = b"\0\0\0\0\x01\0\0\0a\xff\xff\xff\xff\x02\0\0\0\0\0\0\0bc\x09\0\0\0d";
-    let mut list = units(info, Order::Little);
-    let expected: [(&[u8], bool); 3] = [(b"", false), (b"a", false), (b"bc", true)];
-    for unit in expected {
-        assert_eq!(rt;
-            list.next().map(|found| (found.bytes, found.wide)),
-            Some(unit)
-        );
-    }
-    assert!(rt; list.next().is_none());
-    assert!(rt; list.next().is_none());
+    let mut list = units(INFO, Order::Little);
+    assert!(rt; next_unit(&mut list) == Some((b"", false)));
+    assert!(rt; next_unit(&mut list) == Some((b"a", false)));
+    assert!(rt; next_unit(&mut list) == Some((b"bc", true)));
+    assert!(rt; next_unit(&mut list).is_none());
+    assert!(rt; next_unit(&mut list).is_none());
 }

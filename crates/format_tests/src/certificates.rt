@@ -3,40 +3,52 @@
 use answer_check::{CheckFault, certify};
 use row_types::{BuildId, Kind, Why};
 use sample_files::{ID_A, ID_C, debug_companion, executable};
-use std::test::Fail;
+use std::alloc::AllocError;
+use std::process::Abort;
 
-#[test]
-fn a_program_is_certified_for_its_id_and_class(rt: HostRuntime) -> Result<(), Fail> {
-    let id = BuildId::new(&ID_C).ok_or("20 bytes are an id")?;
-    let file = match certify(Kind::Executable, &id, executable(rt.alloc())?) {
-        Ok(file) => file,
-        Err(_) => return Err("the id and class are the file's".into()),
-    };
-    assert_eq!(rt; file.kind(), Kind::Executable);
-    assert_eq!(rt; *file.id(), id);
-    assert_eq!(rt; file.bytes().len(), 408);
-    assert_eq!(rt;
-        file.section(b".text").ok_or("code is there")?,
-        [0xc3].as_slice()
-    );
-    Ok(())
+/// The id of these 20 bytes.
+fn id_of(rt: &impl Abort, bytes: &[u8]) -> BuildId {
+    BuildId::new(bytes).expect(rt, "20 bytes are an id")
 }
 
 #[test]
-fn other_files_are_refused_in_order(rt: HostRuntime) -> Result<(), Fail> {
-    let id = BuildId::new(&ID_C).ok_or("20 bytes are an id")?;
-    let other = BuildId::new(&ID_A).ok_or("20 bytes are an id")?;
-    for (wanted, fault) in [(id, None), (other, Some(CheckFault::OtherId(id)))] {
-        let seen = certify(Kind::Debuginfo, &wanted, debug_companion(rt.alloc())?);
-        assert_eq!(rt; seen.err().map(|refused| refused.0), fault);
-    }
-    let text = b"text".to_vec(rt.alloc())?;
-    let plain = certify(Kind::Debuginfo, &id, text);
-    assert_eq!(rt;
-        plain.err().map(|refused| refused.0),
-        Some(CheckFault::Plain(Why::NotElf))
+fn a_program_is_certified_for_its_id_and_class(rt: HostRuntime) {
+    let id = id_of(&rt, &ID_C);
+    let bytes = executable(rt.alloc()).expect(&rt, "memory");
+    let Ok(file) = certify(Kind::Executable, &id, bytes) else {
+        panic!(rt; "the id and class are the file's");
+    };
+    assert!(rt; file.kind() == Kind::Executable);
+    assert!(rt; *file.id() == id);
+    assert!(rt; file.bytes().len() == 408);
+    assert!(rt;
+        file.section(b".text") == Some([0xc3].as_slice()),
+        "code is there"
     );
-    let code = certify(Kind::Debuginfo, &id, executable(rt.alloc())?);
-    assert!(rt; matches!(code.err(), Some((CheckFault::OtherClass(_), _))));
-    Ok(())
+}
+
+/// Why these bytes are no debug file of the id.
+fn refusal(
+    rt: &impl Abort,
+    id: &BuildId,
+    bytes: Result<Vec<u8>, AllocError>,
+) -> Option<CheckFault> {
+    match certify(Kind::Debuginfo, id, bytes.expect(rt, "memory")) {
+        Ok(_) => None,
+        Err((fault, _)) => Some(fault),
+    }
+}
+
+#[test]
+fn other_files_are_refused_in_order(rt: HostRuntime) {
+    let alloc = rt.alloc();
+    let id = id_of(&rt, &ID_C);
+    let other = id_of(&rt, &ID_A);
+    assert!(rt; refusal(&rt, &id, debug_companion(alloc)).is_none());
+    let fault = refusal(&rt, &other, debug_companion(alloc));
+    assert!(rt; fault == Some(CheckFault::OtherId(id)));
+    let fault = refusal(&rt, &id, b"text".to_vec(alloc));
+    assert!(rt; fault == Some(CheckFault::Plain(Why::NotElf)));
+    let fault = refusal(&rt, &id, executable(alloc));
+    assert!(rt; matches!(fault, Some(CheckFault::OtherClass(_))));
 }

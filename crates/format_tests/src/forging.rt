@@ -5,8 +5,8 @@ use elf_forge::{FILES_LIMIT, ForgeTree, forge};
 use row_types::OpenWorld;
 use sha2::{Digest, Sha256};
 use std::alloc::Global;
-use std::test::Fail;
-use tree_trait::{DirAnswer, EntryKind, LoadAnswer, StatAnswer, Tree};
+use std::process::Abort;
+use tree_trait::{DirAnswer, Entry, EntryKind, LoadAnswer, StatAnswer, Tree};
 
 /// Seeds and numbers, with the size and the SHA-256 of the file that python's hashlib and struct
 /// made of them.
@@ -62,30 +62,41 @@ static FILES: [(u64, u64, usize, &str); 8] = [
 ];
 
 #[test]
-fn files_are_those_of_another_program(rt: HostRuntime) -> Result<(), Fail> {
+fn files_are_those_of_another_program(rt: HostRuntime) {
     let alloc = rt.alloc();
     for (seed, k, size, digest) in &FILES {
-        if *k >= FILES_LIMIT {
-            return Err("a number above the last".into());
-        }
-        let bytes = forge(alloc, *seed, *k)?;
-        assert_eq!(rt; bytes.len(), *size, "{seed}, {k}");
-        let found = hex::encode(alloc, Sha256::digest(bytes.as_slice()).as_slice())?;
-        assert_eq!(rt; found.as_str(), *digest, "{seed}, {k}");
+        assert!(rt; *k < FILES_LIMIT, "a number above the last");
+        let bytes = forge(alloc, *seed, *k).expect(&rt, "memory");
+        assert!(rt; bytes.len() == *size, "{seed}, {k}");
+        let found = hex::encode(alloc, Sha256::digest(bytes.as_slice()).as_slice());
+        assert!(rt;
+            found.expect(&rt, "memory").as_str() == *digest,
+            "{seed}, {k}"
+        );
     }
-    Ok(())
 }
 
-/// What a look answers: a file's size, or a word.
-fn stat_text(alloc: Global, answer: StatAnswer) -> Result<String, Fail> {
-    Ok(match answer {
+/// An owned copy of the text.
+fn text(rt: &impl Abort, alloc: Global, text: &str) -> String {
+    String::from_str(alloc, text).expect(rt, "memory")
+}
+
+/// What a look answers: a file's size and time, or a word.
+fn stat_text(rt: &impl Abort, alloc: Global, answer: StatAnswer) -> String {
+    match answer {
         StatAnswer::File(stamp) => {
-            format!(in alloc; "{} {} {}", stamp.size, stamp.secs, stamp.nanos)?
+            format!(in alloc; "{} {} {}", stamp.size, stamp.secs, stamp.nanos).expect(rt, "memory")
         }
-        StatAnswer::Folder => String::from_str(alloc, "folder")?,
-        StatAnswer::Gone => String::from_str(alloc, "gone")?,
-        _ => String::from_str(alloc, "other")?,
-    })
+        StatAnswer::Folder => text(rt, alloc, "folder"),
+        StatAnswer::Gone => text(rt, alloc, "gone"),
+        _ => text(rt, alloc, "other"),
+    }
+}
+
+/// Whether a look at the path in the tree answers so.
+fn looks_as(rt: &impl Abort, alloc: Global, tree: &mut ForgeTree, path: &str, want: &str) -> bool {
+    let answer = tree.stat(alloc, path);
+    stat_text(rt, alloc, answer).as_str() == want
 }
 
 /// Paths in a tree of six files, and what a look answers.
@@ -107,26 +118,44 @@ static LOOKS: [(&str, &str); 14] = [
 ];
 
 #[test]
-fn files_stand_at_their_numbers(rt: HostRuntime) -> Result<(), Fail> {
+fn files_stand_at_their_numbers(rt: HostRuntime) {
     let alloc = rt.alloc();
     let mut tree = ForgeTree::new(alloc, 7, 6);
     for (path, want) in &LOOKS {
-        let text = stat_text(alloc, tree.stat(alloc, path))?;
-        assert_eq!(rt; text.as_str(), *want, "{path}");
+        assert!(rt; looks_as(&rt, alloc, &mut tree, path, want), "{path}");
     }
-    let mut none = ForgeTree::new(alloc, 7, 0);
-    assert_eq!(rt; none.stat(alloc, "/"), StatAnswer::Gone);
-    Ok(())
+}
+
+#[test]
+fn a_tree_of_no_files_has_no_folder(rt: HostRuntime) {
+    let mut none = ForgeTree::new(rt.alloc(), 7, 0);
+    assert!(rt; none.stat(rt.alloc(), "/") == StatAnswer::Gone);
 }
 
 /// What a load answers: a file's bytes, or a word.
-fn load_text(alloc: Global, answer: &LoadAnswer<OpenWorld>) -> Result<String, Fail> {
-    Ok(match answer {
-        LoadAnswer::Found(found) => hex::encode(alloc, found.bytes.as_slice())?,
-        LoadAnswer::TooLarge { stamp } => format!(in alloc; "above {}", stamp.size)?,
-        LoadAnswer::Gone => String::from_str(alloc, "gone")?,
-        _ => String::from_str(alloc, "other")?,
-    })
+fn load_text(rt: &impl Abort, alloc: Global, answer: &LoadAnswer<OpenWorld>) -> String {
+    match answer {
+        LoadAnswer::Found(found) => {
+            hex::encode(alloc, found.bytes.as_slice()).expect(rt, "memory")
+        }
+        LoadAnswer::TooLarge { stamp } => {
+            format!(in alloc; "above {}", stamp.size).expect(rt, "memory")
+        }
+        LoadAnswer::Gone => text(rt, alloc, "gone"),
+        _ => text(rt, alloc, "other"),
+    }
+}
+
+/// Whether a load from the tree answers so.
+fn loads_as(
+    rt: &impl Abort,
+    alloc: Global,
+    tree: &mut ForgeTree,
+    asked: (&str, u64),
+    want: &str,
+) -> bool {
+    let answer = tree.load(alloc, asked.0, asked.1);
+    load_text(rt, alloc, &answer).as_str() == want
 }
 
 /// Paths and limits, and what a load answers. The bytes are `text 000003` and a line feed.
@@ -138,37 +167,45 @@ static LOADS: [(&str, u64, &str); 4] = [
 ];
 
 #[test]
-fn a_file_is_made_when_it_is_loaded(rt: HostRuntime) -> Result<(), Fail> {
+fn a_file_is_made_when_it_is_loaded(rt: HostRuntime) {
     let alloc = rt.alloc();
     let mut tree = ForgeTree::new(alloc, 7, 6);
     for (path, limit, want) in &LOADS {
-        let text = load_text(alloc, &tree.load(alloc, path, *limit))?;
-        assert_eq!(rt; text.as_str(), *want, "{path}");
+        assert!(rt;
+            loads_as(&rt, alloc, &mut tree, (path, *limit), want),
+            "{path}"
+        );
     }
-    Ok(())
 }
 
-/// The names of a folder's entries, a slash behind those of folders.
-fn dir_text(alloc: Global, answer: &DirAnswer) -> Result<String, Fail> {
-    let mut text = String::new(alloc);
+/// The names of a folder's entries, a slash behind those of folders, or a word.
+fn dir_text(rt: &impl Abort, alloc: Global, answer: &DirAnswer) -> String {
     match answer {
-        DirAnswer::Listed { entries, skipped } => {
-            for entry in entries {
-                text.push_str(entry.name())?;
-                text.push_str(if entry.kind == EntryKind::Folder {
-                    "/ "
-                } else {
-                    " "
-                })?;
-            }
-            if *skipped > 0 {
-                text.push_str("and more")?;
-            }
-        }
-        DirAnswer::Gone => text.push_str("gone")?,
-        _ => text.push_str("other")?,
+        DirAnswer::Listed { entries, skipped } => names_text(rt, alloc, entries, *skipped),
+        DirAnswer::Gone => text(rt, alloc, "gone"),
+        _ => text(rt, alloc, "other"),
     }
-    Ok(text)
+}
+
+/// The names of entries, and whether there were more.
+fn names_text(rt: &impl Abort, alloc: Global, entries: &[Entry], skipped: u64) -> String {
+    let mut text = String::new(alloc);
+    for entry in entries {
+        let is_folder = entry.kind == EntryKind::Folder;
+        text.push_str(entry.name()).expect(rt, "memory");
+        text.push_str(if is_folder { "/ " } else { " " })
+            .expect(rt, "memory");
+    }
+    if skipped > 0 {
+        text.push_str("and more").expect(rt, "memory");
+    }
+    text
+}
+
+/// Whether the folder of the tree has these entries.
+fn lists_as(rt: &impl Abort, alloc: Global, tree: &mut ForgeTree, path: &str, want: &str) -> bool {
+    let answer = tree.read_dir(alloc, path);
+    dir_text(rt, alloc, &answer).as_str() == want
 }
 
 /// Folders of a tree of six files, and their entries.
@@ -181,12 +218,10 @@ static FOLDERS: [(&str, &str); 5] = [
 ];
 
 #[test]
-fn folders_have_their_entries(rt: HostRuntime) -> Result<(), Fail> {
+fn folders_have_their_entries(rt: HostRuntime) {
     let alloc = rt.alloc();
     let mut tree = ForgeTree::new(alloc, 7, 6);
     for (path, want) in &FOLDERS {
-        let text = dir_text(alloc, &tree.read_dir(alloc, path))?;
-        assert_eq!(rt; text.as_str(), *want, "{path}");
+        assert!(rt; lists_as(&rt, alloc, &mut tree, path, want), "{path}");
     }
-    Ok(())
 }

@@ -1,4 +1,5 @@
-//! Tests.
+//! Tests of the crates that read ELF files: numbers and texts in bytes, identities and sections,
+//! rows, certificates, and the sample and generated files.
 #![tactic(auto)]
 
 #[cfg(test)]

@@ -1,4 +1,6 @@
-//! Tests.
+//! The tests of the index and of what it stands on: values, the lock, the keeper, rows, their
+//! codec, the queue of a pass, and the index's state. Each module has the tests of one crate, by its
+//! public items alone.
 #![tactic(auto)]
 
 #[cfg(test)]

@@ -1,10 +1,12 @@
-ghost use Rattle.std.specs.Prelude.{◌≡◌, ℕ, ◌<◌, ◌≤◌, ◌++◌, List, [], ◌∷◌, IfOk, IsTrue, vec_len};
+//! What no clause says: that memory suffices, that waking works, and that threads come to their end.
+
+ghost use Rattle.std.specs.Prelude.{◌≡◌, ℕ, ◌<◌, ◌≤◌, ◌++◌, List, [], ◌∷◌, IsTrue, vec_len};
 ghost use mathlib.Core.List.{IsPrefix};
 
 use index_lock::{Logged, Seat, Split, TurnLock};
 use std::alloc::Global;
+use std::process::Abort;
 use std::sync::Wait;
-use std::test::Fail;
 use std::thread::{Threads, join};
 
 /// A list of numbers, which is its own log.
@@ -33,7 +35,7 @@ impl Logged for Numbers {
 impl Numbers {
     ghost use Rattle.std.specs.Prelude.{◌≡◌, ◌++◌, [], ◌∷◌, MatchBool};
 
-    // Whether there was room.
+    /// Puts a number behind the others. Whether there was room.
     fn push(&mut self, number: u64) -> bool
         ensures { MatchBool result
             (self.new.items.items ≡ self.old.items.items ++ number ∷ [])
@@ -43,7 +45,7 @@ impl Numbers {
     }
 }
 
-// Puts a number behind the others. Afterwards the token has seen it.
+/// Puts a number behind the others. Afterwards the token has seen it.
 fn put<R: Wait>(
     rt: &R,
     lock: &TurnLock<Numbers>,
@@ -61,6 +63,7 @@ fn put<R: Wait>(
     (lock.leave(held), done)
 }
 
+/// Puts the numbers of a range behind the others, one by one.
 fn put_all<R: Wait>(
     rt: &R,
     lock: &TurnLock<Numbers>,
@@ -78,7 +81,7 @@ fn put_all<R: Wait>(
     seat
 }
 
-// Enters a thousand times. Halfway the token is cut in two and made whole again.
+/// Enters a thousand times. Halfway the token is cut in two and made whole again.
 fn put_thousand<R: Wait>(
     rt: &R,
     lock: &TurnLock<Numbers>,
@@ -97,7 +100,7 @@ fn put_thousand<R: Wait>(
     put_all(rt, lock, seat, from + 500, from + 1000)
 }
 
-// Two threads enter a thousand times each.
+/// Two threads enter a thousand times each.
 fn put_by_two<R: Threads + Wait + Sync>(
     rt: &R,
     lock: &TurnLock<Numbers>,
@@ -118,7 +121,7 @@ fn put_by_two<R: Threads + Wait + Sync>(
     lock.join(first, second)
 }
 
-// TakesLock the lock of any value, and leaves it as it was.
+/// Takes the lock of any value, and leaves it as it was.
 fn pass<S: Logged, R: Wait>(rt: &R, lock: &TurnLock<S>, seat: Seat<S>) -> Seat<S>
     requires { seat.lock ≡ lock.now }
     ensures lock { result.lock ≡ lock.now }
@@ -128,7 +131,7 @@ fn pass<S: Logged, R: Wait>(rt: &R, lock: &TurnLock<S>, seat: Seat<S>) -> Seat<S
     lock.leave(lock.enter(rt, seat))
 }
 
-// Two threads share a lock over any value that may cross threads, with a token each.
+/// Two threads share a lock over any value that may cross threads, with a token each.
 fn pass_by_two<S: Logged + Send, R: Threads + Wait + Sync>(
     rt: &R,
     lock: &TurnLock<S>,
@@ -143,13 +146,13 @@ fn pass_by_two<S: Logged + Send, R: Threads + Wait + Sync>(
     lock.join(first, second)
 }
 
-// The numbers of one thread stand there once each, in their order.
+/// The numbers of one thread stand there once each, in their order.
 fn has_in_order(items: &[u64], from: u64, to: u64) -> bool {
     let own = items.iter().copied().filter(|x| from <= *x && *x < to);
     own.eq(from..to)
 }
 
-// Two tokens of one, with what each has seen.
+/// Two tokens of one, with what each has seen.
 fn cut(lock: &TurnLock<Numbers>, seat: Seat<Numbers>) -> (Seat<Numbers>, Seat<Numbers>)
     requires { seat.lock ≡ lock.now }
     ensures { (result.0 ≡ seat) × (result.1 ≡ seat) }
@@ -160,67 +163,111 @@ fn cut(lock: &TurnLock<Numbers>, seat: Seat<Numbers>) -> (Seat<Numbers>, Seat<Nu
     }
 }
 
-// No numbers behind a lock, and its token.
-fn numbers_behind_a_lock(alloc: Global) -> Result<(TurnLock<Numbers>, Seat<Numbers>), Fail>
-    ensures { IfOk result (λ made. made.1.lock ≡ made.0) }
+/// Two threads enter a thousand times each, with the tokens of one that is cut.
+fn put_by_halves<R: Threads + Wait + Sync>(
+    rt: &R,
+    lock: &TurnLock<Numbers>,
+    seat: Seat<Numbers>,
+    from: u64,
+) -> Seat<Numbers>
+    requires lock { seat.lock ≡ lock.now }
+    requires small { from < 100000 }
+    ensures { result.lock ≡ lock.now }
+{
+    let (first, second) = cut(lock, seat);
+    put_by_two(rt, lock, first, second, from)
+}
+
+/// No numbers behind a lock, and its token.
+fn numbers_behind_a_lock(rt: &impl Abort, alloc: Global) -> (TurnLock<Numbers>, Seat<Numbers>)
+    ensures { result.1.lock ≡ result.0 }
 {
     let numbers = Numbers {
         items: Vec::new(alloc),
     };
-    Ok(
-        TurnLock::make(alloc, numbers)
-            .ok()
-            .ok_or("memory for the lock")?,
-    )
+    TurnLock::make(alloc, numbers)
+        .ok()
+        .expect(rt, "memory for the lock")
 }
 
-#[test]
-fn numbers_pass_from_token_to_token(rt: HostRuntime) -> Result<(), Fail> {
-    let (lock, seat) = numbers_behind_a_lock(rt.alloc())?;
-    let (first, second) = cut(&lock, seat);
-    let (first, done) = put(&rt, &lock, first, 5);
+/// The numbers behind the lock, which ends.
+fn last_numbers<R: Wait>(rt: &R, lock: TurnLock<Numbers>, seat: Seat<Numbers>) -> Numbers
+    requires { seat.lock ≡ lock }
+{
+    let held = lock.enter(rt, seat);
+    TurnLock::into_value(lock, held)
+}
+
+/// What one token puts is found by another, and stands behind the lock in the end.
+fn pass_five<R: Threads + Wait + Abort + Sync>(
+    rt: &R,
+    lock: &TurnLock<Numbers>,
+    seat: Seat<Numbers>,
+) -> Seat<Numbers>
+    requires { seat.lock ≡ lock.now }
+    ensures { result.lock ≡ lock.now }
+{
+    let (first, second) = cut(lock, seat);
+    let (first, done) = put(rt, lock, first, 5);
     assert!(rt; done);
-    let held = lock.enter(&rt, second);
-    let found = held.value().items.as_slice() == [5].as_slice();
+    let held = lock.enter(rt, second);
+    assert!(rt; held.value().items.as_slice() == [5].as_slice());
     let second = lock.leave(held);
-    assert!(rt; found);
-    let seat = pass_by_two(&rt, &lock, first, second);
-    let held = lock.enter(&rt, seat);
-    let numbers = TurnLock::into_value(lock, held);
-    assert_eq!(rt; numbers.items.as_slice(), [5].as_slice());
-    Ok(())
+    pass_by_two(rt, lock, first, second)
 }
 
 #[test]
-fn two_threads_put_each_number_once_and_in_order(rt: HostRuntime) -> Result<(), Fail> {
-    let (lock, seat) = numbers_behind_a_lock(rt.alloc())?;
-    let (first, second) = cut(&lock, seat);
-    let seat = put_by_two(&rt, &lock, first, second, 0);
-    let held = lock.enter(&rt, seat);
-    let numbers = TurnLock::into_value(lock, held);
-    let items = numbers.items.as_slice();
-    assert_eq!(rt; items.len(), 2000);
-    assert!(rt; has_in_order(items, 0, 1000) && has_in_order(items, 1000, 2000));
-    Ok(())
+fn numbers_pass_from_token_to_token(rt: HostRuntime) {
+    let (lock, seat) = numbers_behind_a_lock(&rt, rt.alloc());
+    let seat = pass_five(&rt, &lock, seat);
+    let numbers = last_numbers(&rt, lock, seat);
+    assert!(rt; numbers.items.as_slice() == [5].as_slice());
 }
 
 #[test]
-fn four_threads_put_each_number_once_and_in_order(rt: HostRuntime) -> Result<(), Fail> {
-    let (lock, seat) = numbers_behind_a_lock(rt.alloc())?;
-    let (left, right) = cut(&lock, seat);
-    let (first, second) = cut(&lock, left);
-    let (third, fourth) = cut(&lock, right);
-    let (left, right) = join(
-        &rt,
-        || put_by_two(&rt, &lock, first, second, 0),
-        || put_by_two(&rt, &lock, third, fourth, 2000),
-    );
-    let held = lock.enter(&rt, lock.join(left, right));
-    let numbers = TurnLock::into_value(lock, held);
-    let items = numbers.items.as_slice();
-    assert_eq!(rt; items.len(), 4000);
-    for from in [0, 1000, 2000, 3000] {
-        assert!(rt; has_in_order(items, from, from + 1000), "from {from}");
+fn two_threads_put_each_number_once_and_in_order(rt: HostRuntime) {
+    let (lock, seat) = numbers_behind_a_lock(&rt, rt.alloc());
+    let seat = put_by_halves(&rt, &lock, seat, 0);
+    let numbers = last_numbers(&rt, lock, seat);
+    assert!(rt; numbers.items.len() == 2000);
+    for from in [0, 1000] {
+        assert!(rt;
+            has_in_order(numbers.items.as_slice(), from, from + 1000),
+            "from {from}"
+        );
     }
-    Ok(())
+}
+
+/// Four threads enter a thousand times each.
+fn put_by_four<R: Threads + Wait + Sync>(
+    rt: &R,
+    lock: &TurnLock<Numbers>,
+    first: Seat<Numbers>,
+    second: Seat<Numbers>,
+) -> Seat<Numbers>
+    requires first { first.lock ≡ lock.now }
+    requires second { second.lock ≡ lock.now }
+    ensures { result.lock ≡ lock.now }
+{
+    let (first, second) = join(
+        rt,
+        || put_by_halves(rt, lock, first, 0),
+        || put_by_halves(rt, lock, second, 2000),
+    );
+    lock.join(first, second)
+}
+
+#[test]
+fn four_threads_put_each_number_once_and_in_order(rt: HostRuntime) {
+    let (lock, seat) = numbers_behind_a_lock(&rt, rt.alloc());
+    let (first, second) = cut(&lock, seat);
+    let seat = put_by_four(&rt, &lock, first, second);
+    let numbers = last_numbers(&rt, lock, seat);
+    assert!(rt; numbers.items.len() == 4000);
+    for from in [0, 1000, 2000, 3000] {
+        assert!(rt;
+            has_in_order(numbers.items.as_slice(), from, from + 1000),
+            "from {from}"
+        );
+    }
 }

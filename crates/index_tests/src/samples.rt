@@ -4,51 +4,59 @@ use row_types::{Reading, Why};
 use sample_rows::{
     SECOND, SampleFault, elf, name, name_text, names, path, paths, plain, row, rows_text, stamp,
 };
-use std::test::Fail;
 
 #[test]
-fn what_is_no_path_is_refused(rt: HostRuntime) -> Result<(), Fail> {
+fn what_is_no_path_is_refused(rt: HostRuntime) {
     for text in ["", "a", "/a/", "/../a"] {
-        assert_eq!(rt;
-            path(rt.alloc(), text).err(),
-            Some(SampleFault::NotAPath),
-            "{text}"
-        );
+        let fault = path(rt.alloc(), text).err();
+        assert!(rt; fault == Some(SampleFault::NotAPath), "{text}");
     }
-    assert_eq!(rt; path(rt.alloc(), "/a/b")?.text(), "/a/b");
-    assert_eq!(rt; paths(rt.alloc(), &["/b", "/a"])?.len(), 2);
-    Ok(())
+    let found = path(rt.alloc(), "/a/b").expect(&rt, "a path");
+    assert!(rt; found.text() == "/a/b");
+}
+
+/// Ids and sources of a reading, and its fault.
+static READINGS: [(&[u8], &[&str], Option<SampleFault>); 3] = [
+    (b"a", &["/a", "/b"], Some(SampleFault::NotAnId)),
+    (b"ab", &["/b", "/a"], Some(SampleFault::NotByPath)),
+    (b"ab", &["/a", "/b"], None),
+];
+
+#[test]
+fn an_id_and_sources_are_looked_at(rt: HostRuntime) {
+    for (id, sources, fault) in &READINGS {
+        assert!(rt; elf(rt.alloc(), id, true, true, sources).err() == *fault);
+    }
 }
 
 #[test]
-fn an_id_and_sources_are_looked_at(rt: HostRuntime) -> Result<(), Fail> {
+fn a_text_has_each_path_and_size(rt: HostRuntime) {
     let alloc = rt.alloc();
-    for (id, sources, fault) in [
-        (b"a".as_slice(), &["/a", "/b"], Some(SampleFault::NotAnId)),
-        (
-            b"ab".as_slice(),
-            &["/b", "/a"],
-            Some(SampleFault::NotByPath),
-        ),
-        (b"ab".as_slice(), &["/a", "/b"], None),
-    ] {
-        assert_eq!(rt; elf(alloc, id, true, true, sources).err(), fault);
-    }
-    Ok(())
+    assert!(rt; stamp(7).secs == SECOND);
+    let name = name(alloc, "/a", 7).expect(&rt, "a name");
+    let text = name_text(alloc, &name).expect(&rt, "memory");
+    assert!(rt; text.as_str() == "/a 7, ");
 }
 
 #[test]
-fn a_text_has_each_path_and_size(rt: HostRuntime) -> Result<(), Fail> {
+fn a_list_has_each_path_and_name(rt: HostRuntime) {
     let alloc = rt.alloc();
-    assert_eq!(rt; stamp(7).secs, SECOND);
-    assert_eq!(rt;
-        name_text(alloc, &name(alloc, "/a", 7)?)?.as_str(),
-        "/a 7, "
+    assert!(rt; paths(alloc, &["/b", "/a"]).expect(&rt, "paths").len() == 2);
+    assert!(rt;
+        names(alloc, &[("/a", 1), ("/b", 2)])
+            .expect(&rt, "names")
+            .len()
+            == 2
     );
-    assert_eq!(rt; names(alloc, &[("/a", 1), ("/b", 2)])?.len(), 2);
-    let first = plain(alloc, "/b", 1)?.into_row();
-    let second = row(alloc, "/a", 2, Reading::Plain(Why::Core))?.into_row();
-    let rows = vec![in alloc; first, second]?;
-    assert_eq!(rt; rows_text(alloc, rows.iter())?.as_str(), "/b 1, /a 2, ");
-    Ok(())
+}
+
+#[test]
+fn a_text_has_the_rows_as_they_are_given(rt: HostRuntime) {
+    let alloc = rt.alloc();
+    let first = plain(alloc, "/b", 1).expect(&rt, "a row").into_row();
+    let reading = Reading::Plain(Why::Core);
+    let second = row(alloc, "/a", 2, reading).expect(&rt, "a row").into_row();
+    let rows = vec![in alloc; first, second].expect(&rt, "memory");
+    let text = rows_text(alloc, rows.iter()).expect(&rt, "memory");
+    assert!(rt; text.as_str() == "/b 1, /a 2, ");
 }

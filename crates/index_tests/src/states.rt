@@ -8,6 +8,5 @@ mod looks;
 mod opens;
 mod orders;
 mod passes;
-mod spared;
 mod stops;
 mod told;

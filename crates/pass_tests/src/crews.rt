@@ -1,10 +1,12 @@
+//! Slots that go out with tokens, and come back.
+
 ghost use Rattle.std.specs.Prelude.{◌≤◌, vec_len};
 
-use index_lock::{Logged, Seat, TurnLock};
+use index_lock::{Logged, TurnLock};
 use lock_crew::{rooms, seats_in, seats_out};
 use std::alloc::Global;
+use std::process::Abort;
 use std::sync::Wait;
-use std::test::Fail;
 
 /// A list of numbers, which is its own log.
 #[derive(Drop)]
@@ -29,35 +31,35 @@ impl Logged for Numbers {
     }
 }
 
-/// Sends the numbers out as places, has each token enter once, and brings all back.
-fn out_and_back<R: Wait>(rt: &R, alloc: Global, numbers: &[u64]) -> Result<(Vec<u64>, u64), Fail> {
+/// Sends the numbers out as places, has each token come back, and gives the places as they came back
+/// and how many slots there were.
+fn out_and_back<R: Abort + Wait>(rt: &R, alloc: Global, numbers: &[u64]) -> (Vec<u64>, u64) {
     let log = Numbers {
         items: Vec::new(alloc),
     };
-    let (lock, seat) = TurnLock::make(alloc, log)
-        .ok()
-        .ok_or("memory for the lock")?;
-    let (slots, back) = rooms(alloc, numbers.len())?;
-    let (seat, slots) = seats_out(&lock, seat, Vec::from_slice(alloc, numbers)?, slots);
+    let Ok((lock, seat)) = TurnLock::make(alloc, log) else {
+        panic!(rt; "memory for the lock")
+    };
+    let (slots, back) = rooms(alloc, numbers.len()).expect(rt, "memory");
+    let places = Vec::from_slice(alloc, numbers).expect(rt, "memory");
+    let (seat, slots) = seats_out(&lock, seat, places, slots);
     let count = slots.len() as u64;
     let (seat, places) = seats_in(&lock, seat, slots, back);
     let held = lock.enter(rt, seat);
     let _log = TurnLock::into_value(lock, held);
-    Ok((places, count))
+    (places, count)
 }
 
 #[test]
-fn places_go_out_with_a_token_each_and_come_back_in_order(rt: HostRuntime) -> Result<(), Fail> {
-    let (places, count) = out_and_back(&rt, rt.alloc(), &[3, 1, 4, 1, 5])?;
-    assert_eq!(rt; places.as_slice(), [3, 1, 4, 1, 5].as_slice());
-    assert_eq!(rt; count, 5);
-    Ok(())
+fn places_go_out_with_a_token_each_and_come_back_in_order(rt: HostRuntime) {
+    let (places, count) = out_and_back(&rt, rt.alloc(), &[3, 1, 4, 1, 5]);
+    assert!(rt; places.as_slice() == [3, 1, 4, 1, 5].as_slice());
+    assert!(rt; count == 5);
 }
 
 #[test]
-fn no_place_is_no_slot(rt: HostRuntime) -> Result<(), Fail> {
-    let (places, count) = out_and_back(&rt, rt.alloc(), &[])?;
+fn no_place_is_no_slot(rt: HostRuntime) {
+    let (places, count) = out_and_back(&rt, rt.alloc(), &[]);
     assert!(rt; places.is_empty());
-    assert_eq!(rt; count, 0);
-    Ok(())
+    assert!(rt; count == 0);
 }

@@ -1,4 +1,5 @@
-//! Tests.
+//! The tests of a pass over an index, from the slots of its threads to the whole: what no clause of
+//! `lock_crew`, `scan_worker`, `groomer` and `pass_runner` says.
 #![tactic(auto)]
 
 #[cfg(test)]
@@ -7,5 +8,7 @@ mod crews;
 mod grooming;
 #[cfg(test)]
 mod passes;
+#[cfg(test)]
+mod rig;
 #[cfg(test)]
 mod workers;

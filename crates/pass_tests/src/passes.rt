@@ -2,11 +2,10 @@
 
 mod beside;
 mod cases;
+mod ends;
 mod events;
-mod helpers;
 mod missed;
 mod passes;
 mod shared;
 mod tokens;
-mod trees;
 mod whole;

@@ -199,10 +199,4 @@ impl Pass {
     {
         &self.listing
     }
-
-    /// The slots, in order.
-    #[cfg(test)]
-    pub(crate) fn slots(&self) -> &[Slot] {
-        self.slots.as_slice()
-    }
 }

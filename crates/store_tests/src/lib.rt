@@ -2,4 +2,6 @@
 #![tactic(auto)]
 
 #[cfg(test)]
+mod stops;
+#[cfg(test)]
 mod stores;

@@ -1,5 +1,5 @@
 //! What no clause says: that memory suffices, and which routes are answered by which file.
 
 mod helpers;
-mod routes;
+mod open;
 mod told;

@@ -1,4 +1,5 @@
-//! Tests.
+//! The tests of the crates that serve: streams and heads, routes, local answers, connections and
+//! counters. They use what is public alone, and no code stands on them.
 #![tactic(auto)]
 
 #[cfg(test)]
@@ -7,6 +8,8 @@ mod answers;
 mod connections;
 #[cfg(test)]
 mod counters;
+#[cfg(test)]
+mod indexes;
 #[cfg(test)]
 mod routes;
 #[cfg(test)]

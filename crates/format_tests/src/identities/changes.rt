@@ -2,27 +2,37 @@
 
 use super::identity;
 use elf_classify::ident;
-use row_types::Why;
+use row_types::{Ident, Why};
 use sample_files::{ID_A, big_endian_debug, both_classes, extended_counts};
-use std::alloc::Global;
+use std::alloc::{AllocError, Global};
 use std::process::Abort;
-use std::test::Fail;
 
 /// A change and the reason that it leads to: what it is, where the changed bytes begin in the file,
 /// and the bytes.
 type Change = (&'static str, usize, &'static [u8], Why);
 
 /// The file with other bytes at a place.
-pub fn changed(alloc: Global, file: &[u8], place: usize, bytes: &[u8]) -> Result<Vec<u8>, Fail> {
-    let before = file.get(..place).ok_or("the place is in the file")?;
-    let rest = file.get(place..).ok_or("the place is in the file")?;
+pub fn changed(rt: &impl Abort, alloc: Global, file: &[u8], place: usize, bytes: &[u8]) -> Vec<u8> {
+    let before = file.get(..place).expect(rt, "the place is in the file");
+    let rest = file.get(place..).expect(rt, "the place is in the file");
     let after = rest
         .get(bytes.len()..)
-        .ok_or("the change ends in the file")?;
-    let mut copy = Vec::from_slice(alloc, before)?;
-    copy.extend_from_slice(bytes)?;
-    copy.extend_from_slice(after)?;
-    Ok(copy)
+        .expect(rt, "the change ends in the file");
+    let mut copy = Vec::from_slice(alloc, before).expect(rt, "memory");
+    copy.extend_from_slice(bytes).expect(rt, "memory");
+    copy.extend_from_slice(after).expect(rt, "memory");
+    copy
+}
+
+/// The identity of the file with other bytes at a place.
+fn changed_ident(
+    rt: &impl Abort,
+    alloc: Global,
+    file: &[u8],
+    place: usize,
+    bytes: &[u8],
+) -> Result<Ident, Why> {
+    ident(&changed(rt, alloc, file, place, bytes))
 }
 
 /// The sample of both classes has its section table at 168: the header of its notes stands at 232,
@@ -75,43 +85,46 @@ static EXTENDED: [Change; 5] = [
     ("names without contents", 428, &[8], Why::BadElf),
 ];
 
-/// Whether each change of the file leads to its reason.
+/// Checks that each change of the file leads to its reason.
 fn leads_to_reasons(
     rt: &impl Abort,
     alloc: Global,
-    file: &[u8],
+    file: Result<Vec<u8>, AllocError>,
     changes: &[Change],
-) -> Result<(), Fail> {
+) {
+    let file = file.expect(rt, "memory");
     for (what, place, bytes, why) in changes {
-        let other = changed(alloc, file, *place, bytes)?;
-        assert_eq!(rt; ident(&other), Err(*why), "{what}");
+        let found = changed_ident(rt, alloc, &file, *place, bytes);
+        assert!(rt; found == Err(*why), "{what}");
     }
-    Ok(())
 }
 
 #[test]
-fn each_change_has_its_reason(rt: HostRuntime) -> Result<(), Fail> {
+fn each_change_has_its_reason(rt: HostRuntime) {
     let alloc = rt.alloc();
-    leads_to_reasons(&rt, alloc, &both_classes(alloc)?, &WIDE)?;
-    leads_to_reasons(&rt, alloc, &big_endian_debug(alloc)?, &NARROW)?;
-    leads_to_reasons(&rt, alloc, &extended_counts(alloc)?, &EXTENDED)
+    leads_to_reasons(&rt, alloc, both_classes(alloc), &WIDE);
+    leads_to_reasons(&rt, alloc, big_endian_debug(alloc), &NARROW);
+    leads_to_reasons(&rt, alloc, extended_counts(alloc), &EXTENDED);
 }
 
 #[test]
-fn a_file_without_names_has_no_debug_information(rt: HostRuntime) -> Result<(), Fail> {
-    let file = both_classes(rt.alloc())?;
-    let nameless = changed(rt.alloc(), &file, 62, &[0])?;
-    assert_eq!(rt; ident(&nameless), Ok(identity(&ID_A, true, false)?));
-    Ok(())
+fn a_file_without_names_has_no_debug_information(rt: HostRuntime) {
+    let file = both_classes(rt.alloc()).expect(&rt, "memory");
+    let found = changed_ident(&rt, rt.alloc(), &file, 62, &[0]);
+    assert!(rt; found == Ok(identity(&rt, &ID_A, true, false)));
+}
+
+/// The sample of both classes whose section 0 has the header of its notes, too.
+fn notes_in_zero(rt: &impl Abort, alloc: Global) -> Vec<u8> {
+    let file = both_classes(alloc).expect(rt, "memory");
+    let notes = file.get(232..296).expect(rt, "the file has 488 bytes");
+    changed(rt, alloc, &file, 168, notes)
 }
 
 #[test]
-fn section_zero_is_never_looked_at(rt: HostRuntime) -> Result<(), Fail> {
-    let file = both_classes(rt.alloc())?;
-    let notes = file.get(232..296).ok_or("the file has 488 bytes")?;
-    let in_both = changed(rt.alloc(), &file, 168, notes)?;
-    assert_eq!(rt; ident(&in_both), Ok(identity(&ID_A, true, true)?));
-    let in_zero_alone = changed(rt.alloc(), &in_both, 236, &[0])?;
-    assert_eq!(rt; ident(&in_zero_alone), Err(Why::NoBuildId));
-    Ok(())
+fn section_zero_is_never_looked_at(rt: HostRuntime) {
+    let in_both = notes_in_zero(&rt, rt.alloc());
+    assert!(rt; ident(&in_both) == Ok(identity(&rt, &ID_A, true, true)));
+    let in_zero_alone = changed_ident(&rt, rt.alloc(), &in_both, 236, &[0]);
+    assert!(rt; in_zero_alone == Err(Why::NoBuildId));
 }

@@ -1,14 +1,12 @@
 //! Tables of calls of an index, each with its answer.
 
-use crate::states::helpers::{Index, listing, opened, store_stopping_at, taken_text};
-use index_keeper::{MemStore, Store};
-use index_state::{Begun, GroomTask, Standing};
-use row_types::OpenWorld;
-use sample_rows::{name, name_text, paths, plain, rows_text, stamp};
+use crate::states::helpers::{Index, begin, ended, opened, store_stopping_at, taken_text};
+use index_state::{GroomTask, Standing};
+use row_types::{Name, OpenWorld};
+use sample_rows::{name, name_text, plain, stamp};
 use scan_queue::{Cause, Miss, Seen};
 use std::alloc::Global;
 use std::process::Abort;
-use std::test::Fail;
 
 /// What is seen at a path.
 #[derive(Clone, Copy)]
@@ -89,108 +87,97 @@ pub struct Case {
     pub standing: Standing,
 }
 
-/// Begins a pass under this root over files of these paths and sizes.
-pub fn begin(
-    alloc: Global,
-    index: &mut Index<OpenWorld>,
-    root: &str,
-    files: &[(&str, u64)],
-) -> Result<Begun, Fail> {
-    let listing = listing(alloc, files)?;
-    Ok(index.begin(alloc, listing, paths(alloc, &[root])?))
-}
-
-/// Begins such a pass. What was answered, as a text.
-fn begun_text(
-    alloc: Global,
-    index: &mut Index<OpenWorld>,
-    root: &str,
-    files: &[(&str, u64)],
-) -> Result<String, Fail> {
-    let begun = begin(alloc, index, root, files)?;
-    Ok(format!(in alloc; "{begun:?}")?)
+/// The name of this path and size.
+fn name_of(rt: &impl Abort, alloc: Global, text: &str, size: u64) -> Name {
+    name(alloc, text, size).expect(rt, "a name")
 }
 
 /// The name that is to be looked for, with whether it is under a root, or nothing.
-pub fn task_text(alloc: Global, task: &Option<GroomTask>) -> Result<String, Fail> {
-    let Some(task) = task else {
-        return Ok(String::new(alloc));
+pub fn task_text(rt: &impl Abort, alloc: Global, task: Option<&GroomTask>) -> String {
+    let Some(GroomTask { name, under }) = task else {
+        return String::new(alloc);
     };
-    let mut text = name_text(alloc, &task.name)?;
-    text.push_str(if task.under {
-        "under a root"
-    } else {
-        "under none"
-    })?;
-    Ok(text)
+    let name = name_text(alloc, name).expect(rt, "memory");
+    let place = if *under { "under a root" } else { "under none" };
+    format!(in alloc; "{name}{place}").expect(rt, "memory")
 }
 
 /// The name that was missed, with its cause, or nothing.
-fn miss_text(alloc: Global, miss: Option<&Miss>) -> Result<String, Fail> {
+fn miss_text(rt: &impl Abort, alloc: Global, miss: Option<&Miss>) -> String {
     let Some(Miss { name, cause }) = miss else {
-        return Ok(String::new(alloc));
+        return String::new(alloc);
     };
-    let mut text = name_text(alloc, name)?;
-    let why = format!(in alloc; "{cause:?}")?;
-    text.push_str(why.as_str())?;
-    Ok(text)
+    let name = name_text(alloc, name).expect(rt, "memory");
+    format!(in alloc; "{name}{cause:?}").expect(rt, "memory")
 }
 
-/// Makes a call. What was answered.
-fn answer_to(alloc: Global, index: &mut Index<OpenWorld>, call: Call) -> Result<String, Fail> {
-    match call {
-        Call::Begin(files) => begun_text(alloc, index, "/", files),
-        Call::BeginUnder(root, files) => begun_text(alloc, index, root, files),
-        Call::Take => taken_text(alloc, index.take()),
-        Call::Publish(text, size) => {
-            let said = index.publish(alloc, plain(alloc, text, size)?);
-            Ok(format!(in alloc; "{said:?}")?)
-        }
-        Call::GroomTake => task_text(alloc, &index.groom_take()),
-        Call::Judge(text, size, sight) => {
-            let judged = index.judge(alloc, &name(alloc, text, size)?, seen_of(sight));
-            Ok(format!(in alloc; "{judged:?}")?)
-        }
-        Call::Miss(text, size, reason) => {
-            let was_out = index.miss(&name(alloc, text, size)?, cause_of(reason));
-            Ok(format!(in alloc; "{was_out:?}")?)
-        }
-        Call::FirstMiss => miss_text(alloc, index.first_miss()),
-        Call::Retry => {
-            index.refill()?;
-            let count = index.retry();
-            Ok(format!(in alloc; "{count:?}")?)
-        }
-        Call::Spare => {
-            index.spare();
-            Ok(String::new(alloc))
-        }
-    }
-}
-
-/// Makes the calls of the case, and compares the rows and how the index stands at the end.
-fn make_calls(
+/// Begins a pass. What was answered, as a text.
+fn begun_text(
     rt: &impl Abort,
     alloc: Global,
     index: &mut Index<OpenWorld>,
-    case: &Case,
-) -> Result<(), Fail> {
-    for (call, want) in case.calls {
-        let answer = answer_to(alloc, index, *call)?;
-        assert_eq!(rt; answer.as_str(), *want, "{}", case.shows);
-    }
-    let rows = rows_text(alloc, index.rows())?;
-    assert_eq!(rt; rows.as_str(), case.rows, "{}", case.shows);
-    assert_eq!(rt; index.standing(), case.standing, "{}", case.shows);
-    Ok(())
+    root: &str,
+    files: &[(&str, u64)],
+) -> String {
+    let begun = begin(rt, alloc, index, root, files);
+    format!(in alloc; "{begun:?}").expect(rt, "memory")
 }
 
-/// Runs the case on a new store, which it gives.
-pub fn run_case(rt: &impl Abort, alloc: Global, case: &Case) -> Result<MemStore<OpenWorld>, Fail> {
+/// Publishes the row of a file, which is no ELF file. What was answered, as a text.
+fn published_text(
+    rt: &impl Abort,
+    alloc: Global,
+    index: &mut Index<OpenWorld>,
+    text: &str,
+    size: u64,
+) -> String {
+    let row = plain(alloc, text, size).expect(rt, "a row");
+    let said = index.publish(alloc, row);
+    format!(in alloc; "{said:?}").expect(rt, "memory")
+}
+
+/// Lets the names that are out or missed be tried again. Their number, as a text.
+fn retried_text(rt: &impl Abort, alloc: Global, index: &mut Index<OpenWorld>) -> String {
+    index.refill().expect(rt, "memory");
+    let count = index.retry();
+    format!(in alloc; "{count:?}").expect(rt, "memory")
+}
+
+/// Makes a call. What was answered.
+fn answer_to(rt: &impl Abort, alloc: Global, index: &mut Index<OpenWorld>, call: Call) -> String {
+    match call {
+        Call::Begin(files) => begun_text(rt, alloc, index, "/", files),
+        Call::BeginUnder(root, files) => begun_text(rt, alloc, index, root, files),
+        Call::Take => taken_text(rt, alloc, index.take()),
+        Call::Publish(text, size) => published_text(rt, alloc, index, text, size),
+        Call::GroomTake => task_text(rt, alloc, index.groom_take().as_ref()),
+        Call::Judge(text, size, sight) => {
+            let judged = index.judge(alloc, &name_of(rt, alloc, text, size), seen_of(sight));
+            format!(in alloc; "{judged:?}").expect(rt, "memory")
+        }
+        Call::Miss(text, size, reason) => {
+            let was_out = index.miss(&name_of(rt, alloc, text, size), cause_of(reason));
+            format!(in alloc; "{was_out:?}").expect(rt, "memory")
+        }
+        Call::FirstMiss => miss_text(rt, alloc, index.first_miss()),
+        Call::Retry => retried_text(rt, alloc, index),
+        Call::Spare => {
+            index.spare();
+            String::new(alloc)
+        }
+    }
+}
+
+/// Runs the case on a new store, and compares each answer, and the rows and how the index stands at
+/// the end.
+pub fn run_case(rt: &impl Abort, alloc: Global, case: &Case) {
     let mut store = store_stopping_at(alloc, case.stop_at);
-    let mut index = opened(alloc, &mut store)?;
-    let made = make_calls(rt, alloc, &mut index, case);
-    store.give_back(index.into_keeper());
-    made?;
-    Ok(store)
+    let mut index = opened(rt, alloc, &mut store);
+    for (call, want) in case.calls {
+        let answer = answer_to(rt, alloc, &mut index, *call);
+        assert!(rt; answer.as_str() == *want, "{}: {answer}", case.shows);
+    }
+    let (rows, standing) = ended(rt, alloc, &mut store, index);
+    assert!(rt; rows.as_str() == case.rows, "{}: {rows}", case.shows);
+    assert!(rt; standing == case.standing, "{}", case.shows);
 }

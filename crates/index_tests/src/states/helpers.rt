@@ -1,32 +1,26 @@
 //! What the tests share: stores, listings, and what an index is to answer.
 
 use index_keeper::{MemKeeper, MemStore, Store, StoreAnswer};
-use index_state::{OpenFault, Plan, Standing, State, open_state};
-use row_types::{Name, Truth};
-use sample_rows::{name_text, names};
+use index_state::{Begun, OpenFault, Plan, Standing, State, open_state};
+use row_types::{Name, OpenWorld, Truth};
+use sample_rows::{name_text, names, paths, rows_text};
 use scan_queue::Listing;
 use std::alloc::Global;
-use std::test::Fail;
+use std::process::Abort;
 
 /// An index on a store in memory.
 pub type Index<W> = State<W, MemKeeper<W>>;
 
 /// The listing of files of these paths and sizes.
-pub fn listing(alloc: Global, files: &[(&str, u64)]) -> Result<Listing, Fail> {
-    Ok(
-        Listing::new(names(alloc, files)?)
-            .ok()
-            .ok_or("names by path")?,
-    )
+pub fn listing(rt: &impl Abort, alloc: Global, files: &[(&str, u64)]) -> Listing {
+    let names = names(alloc, files).expect(rt, "names");
+    Listing::new(names).ok().expect(rt, "names by path")
 }
 
 /// The listing of this name alone.
-pub fn listing_of(alloc: Global, name: Name) -> Result<Listing, Fail> {
-    Ok(
-        Listing::new(vec![in alloc; name]?)
-            .ok()
-            .ok_or("one name is by path")?,
-    )
+pub fn listing_of(rt: &impl Abort, alloc: Global, name: Name) -> Listing {
+    let names = vec![in alloc; name].expect(rt, "memory");
+    Listing::new(names).ok().expect(rt, "one name is by path")
 }
 
 /// A store without rows, which stops at this call.
@@ -36,35 +30,72 @@ pub fn store_stopping_at<W: Truth>(alloc: Global, number: Option<u64>) -> MemSto
 
 /// What comes of opening an index on the store; the keeper is given back where it is refused.
 pub fn open<W: Truth + Send>(
+    rt: &impl Abort,
     alloc: Global,
     store: &mut MemStore<W>,
-) -> Result<Result<Index<W>, OpenFault>, Fail> {
-    match store.open_store(alloc, "m") {
-        StoreAnswer::Opened(keeper) => match open_state(alloc, keeper) {
-            Ok(index) => Ok(Ok(index)),
-            Err((fault, keeper)) => {
-                store.give_back(keeper);
-                Ok(Err(fault))
-            }
-        },
-        _ => Err("the store opens".into()),
+) -> Result<Index<W>, OpenFault> {
+    let StoreAnswer::Opened(keeper) = store.open_store(alloc, "m") else {
+        panic!(rt; "the store opens")
+    };
+    match open_state(alloc, keeper) {
+        Ok(index) => Ok(index),
+        Err((fault, keeper)) => {
+            store.give_back(keeper);
+            Err(fault)
+        }
     }
 }
 
-/// The index on a store without rows.
-pub fn opened<W: Truth + Send>(alloc: Global, store: &mut MemStore<W>) -> Result<Index<W>, Fail> {
-    Ok(
-        open(alloc, store)?
-            .ok()
-            .ok_or("the store opens with its index")?,
-    )
+/// The index on the store, which opens with it.
+pub fn opened<W: Truth + Send>(
+    rt: &impl Abort,
+    alloc: Global,
+    store: &mut MemStore<W>,
+) -> Index<W> {
+    let index = open(rt, alloc, store).ok();
+    index.expect(rt, "the store opens with its index")
+}
+
+/// The rows of the index, and how it stands. Its keeper is given back.
+pub fn ended<W: Truth + Send>(
+    rt: &impl Abort,
+    alloc: Global,
+    store: &mut MemStore<W>,
+    index: Index<W>,
+) -> (String, Standing) {
+    let rows = rows_text(alloc, index.rows()).expect(rt, "memory");
+    let standing = index.standing();
+    store.give_back(index.into_keeper());
+    (rows, standing)
+}
+
+/// The rows that an opening finds.
+pub fn found_rows<W: Truth + Send>(
+    rt: &impl Abort,
+    alloc: Global,
+    store: &mut MemStore<W>,
+) -> String {
+    let index = opened(rt, alloc, store);
+    ended(rt, alloc, store, index).0
+}
+
+/// Begins a pass under this root over files of these paths and sizes.
+pub fn begin(
+    rt: &impl Abort,
+    alloc: Global,
+    index: &mut Index<OpenWorld>,
+    root: &str,
+    files: &[(&str, u64)],
+) -> Begun {
+    let listing = listing(rt, alloc, files);
+    index.begin(alloc, listing, paths(alloc, &[root]).expect(rt, "a root"))
 }
 
 /// The path and the size of the name that is handed out, or nothing.
-pub fn taken_text(alloc: Global, taken: Option<Name>) -> Result<String, Fail> {
+pub fn taken_text(rt: &impl Abort, alloc: Global, taken: Option<Name>) -> String {
     match taken {
-        Some(name) => Ok(name_text(alloc, &name)?),
-        None => Ok(String::new(alloc)),
+        Some(name) => name_text(alloc, &name).expect(rt, "memory"),
+        None => String::new(alloc),
     }
 }
 

@@ -3,7 +3,6 @@
 use crate::states::calls::{Call, Case, Reason, Sight, run_case};
 use crate::states::helpers::NOTHING;
 use index_state::Standing;
-use std::test::Fail;
 
 /// Passes, each on a store of its own.
 static CASES: &[Case] = &[
@@ -133,9 +132,8 @@ static CASES: &[Case] = &[
 ];
 
 #[test]
-fn names_are_judged_by_the_table(rt: HostRuntime) -> Result<(), Fail> {
+fn names_are_judged_by_the_table(rt: HostRuntime) {
     for case in CASES {
-        let _store = run_case(&rt, rt.alloc(), case)?;
+        run_case(&rt, rt.alloc(), case);
     }
-    Ok(())
 }

@@ -2,16 +2,13 @@
 //! and the first is judged by what stands there, in both orders.
 
 use crate::states::helpers::{
-    Index, NO_PLAN, NOTHING, listing_of, opened, store_stopping_at, taken_text,
+    Index, NO_PLAN, NOTHING, ended, opened, store_stopping_at, taken_text,
 };
-use crate::states::told::{FIRST, SECOND, name_of, row_of, scan};
-use index_keeper::Store;
+use crate::states::told::{Version, begin_over, name_of, row_of, scan, stamp_of};
 use index_state::{Begun, GroomTask, Judged, Plan, Published, Standing};
-use sample_rows::{paths, rows_text};
 use scan_queue::Seen;
 use std::alloc::Global;
 use std::process::Abort;
-use std::test::Fail;
 use tree_trait::TwoWorld;
 
 /// An order of the two calls, and what they come to.
@@ -44,91 +41,74 @@ static ORDERS: &[Order] = &[
 ];
 
 /// Has the first version's row, and begins a pass over the second. Both names go out.
-fn have_both_out(rt: &impl Abort, alloc: Global, index: &mut Index<TwoWorld>) -> Result<(), Fail> {
-    let _scanned = scan(alloc, index, FIRST)?;
-    let listing = listing_of(alloc, name_of(alloc, SECOND)?)?;
-    let begun = index.begin(alloc, listing, paths(alloc, &["/w"])?);
-    assert_eq!(rt;
-        begun,
-        Begun::Begun(Plan {
-            files: 1,
-            replace: 1,
-            ..NO_PLAN
-        })
-    );
+fn have_both_out(rt: &impl Abort, alloc: Global, index: &mut Index<TwoWorld>) {
+    let _scanned = scan(rt, alloc, index, Version::First);
+    let plan = Plan {
+        files: 1,
+        replace: 1,
+        ..NO_PLAN
+    };
+    assert!(rt; begin_over(rt, alloc, index, Version::Second) == Begun::Begun(plan));
     let task = GroomTask {
-        name: name_of(alloc, FIRST)?,
+        name: name_of(rt, alloc, Version::First),
         under: true,
     };
-    assert_eq!(rt; index.groom_take(), Some(task));
-    assert_eq!(rt; taken_text(alloc, index.take())?.as_str(), "/w/a 2, ");
-    Ok(())
+    assert!(rt; index.groom_take() == Some(task));
+    assert!(rt; taken_text(rt, alloc, index.take()).as_str() == "/w/a 2, ");
 }
 
-/// Publishes the second version's row and judges the first version's name, in this order or the
-/// other.
-fn end_pass(
-    alloc: Global,
-    index: &mut Index<TwoWorld>,
-    judges_first: bool,
-) -> Result<(Published, Judged), Fail> {
-    let row = row_of(alloc, SECOND)?;
-    let name = name_of(alloc, FIRST)?;
-    if judges_first {
-        let judged = index.judge(alloc, &name, Seen::File(SECOND));
-        Ok((index.publish(alloc, row), judged))
-    } else {
-        let published = index.publish(alloc, row);
-        Ok((published, index.judge(alloc, &name, Seen::File(SECOND))))
-    }
+/// Publishes the second version's row.
+fn publish(rt: &impl Abort, alloc: Global, index: &mut Index<TwoWorld>) -> Published {
+    index.publish(alloc, row_of(rt, alloc, Version::Second))
 }
 
-/// The pass in this order, which ends with the second version's row. What was answered to both
-/// calls.
+/// Judges the first version's name where the second stands.
+fn judge(rt: &impl Abort, alloc: Global, index: &mut Index<TwoWorld>) -> Judged {
+    let name = name_of(rt, alloc, Version::First);
+    index.judge(alloc, &name, Seen::File(stamp_of(Version::Second)))
+}
+
+/// Both calls in this order. What was answered to the publishing and to the judging.
 fn answers_in_order(
     rt: &impl Abort,
     alloc: Global,
     index: &mut Index<TwoWorld>,
-    judges_first: bool,
-) -> Result<String, Fail> {
-    have_both_out(rt, alloc, index)?;
-    let (published, judged) = end_pass(alloc, index, judges_first)?;
-    let rows = rows_text(alloc, index.rows())?;
-    assert_eq!(rt; rows.as_str(), "/w/a 2, ");
-    Ok(format!(in alloc; "{published:?}, {judged:?}")?)
+    order: &Order,
+) -> String {
+    let (published, judged) = if order.judges_first {
+        let judged = judge(rt, alloc, index);
+        (publish(rt, alloc, index), judged)
+    } else {
+        let published = publish(rt, alloc, index);
+        (published, judge(rt, alloc, index))
+    };
+    format!(in alloc; "{published:?}, {judged:?}").expect(rt, "memory")
 }
 
-/// The pass in this order. No name is left.
-fn pass_in_order(
-    rt: &impl Abort,
-    alloc: Global,
-    index: &mut Index<TwoWorld>,
-    order: Order,
-) -> Result<(), Fail> {
-    let answers = answers_in_order(rt, alloc, index, order.judges_first)?;
-    assert_eq!(rt; answers.as_str(), order.answers, "{}", order.shows);
-    assert_eq!(rt;
-        index.standing(),
-        Standing {
-            log: order.log,
-            rows: 1,
-            ..NOTHING
-        },
-        "{}",
+/// The pass in this order, which ends with the second version's row. No name is left.
+fn pass_in_order(rt: &impl Abort, alloc: Global, order: &Order) {
+    let mut store = store_stopping_at(alloc, None);
+    let mut index = opened(rt, alloc, &mut store);
+    have_both_out(rt, alloc, &mut index);
+    let answers = answers_in_order(rt, alloc, &mut index, order);
+    assert!(rt;
+        answers.as_str() == order.answers,
+        "{}: {answers}",
         order.shows
     );
-    Ok(())
+    let (rows, standing) = ended(rt, alloc, &mut store, index);
+    assert!(rt; rows.as_str() == "/w/a 2, ", "{}", order.shows);
+    let left = Standing {
+        log: order.log,
+        rows: 1,
+        ..NOTHING
+    };
+    assert!(rt; standing == left, "{}", order.shows);
 }
 
 #[test]
-fn the_listed_version_stands_in_both_orders(rt: HostRuntime) -> Result<(), Fail> {
-    let alloc = rt.alloc();
+fn the_listed_version_stands_in_both_orders(rt: HostRuntime) {
     for order in ORDERS {
-        let mut store = store_stopping_at(alloc, None);
-        let mut index = opened(alloc, &mut store)?;
-        let passed = pass_in_order(&rt, alloc, &mut index, *order);
-        store.give_back(index.into_keeper());
-        passed?;
+        pass_in_order(&rt, rt.alloc(), order);
     }
-    Ok(())
 }

@@ -1,15 +1,13 @@
 //! A store that stops at one of its calls, and is opened again.
 
-use crate::states::calls::begin;
-use crate::states::helpers::{Index, opened, store_stopping_at};
+use crate::states::helpers::{Index, begin, found_rows, store_stopping_at};
 use index_keeper::{MemStore, Store, StoreAnswer};
 use index_state::{OpenFault, open_state};
 use row_types::OpenWorld;
-use sample_rows::{name, plain, rows_text};
+use sample_rows::{name, plain};
 use scan_queue::Seen;
 use std::alloc::Global;
 use std::process::Abort;
-use std::test::Fail;
 
 /// A call at which the store stops, and the rows that the next opening finds.
 #[derive(Clone, Copy)]
@@ -52,63 +50,46 @@ static STOPS: &[Stop] = &[
     },
 ];
 
+/// Publishes the row of a file of this path and size, which is no ELF file.
+fn publish(rt: &impl Abort, alloc: Global, index: &mut Index<OpenWorld>, text: &str, size: u64) {
+    let _said = index.publish(alloc, plain(alloc, text, size).expect(rt, "a row"));
+}
+
 /// Two files are published; then the first has changed, and the second is gone.
-fn two_passes(alloc: Global, index: &mut Index<OpenWorld>) -> Result<(), Fail> {
-    let _first = begin(alloc, index, "/", &[("/a", 1), ("/b", 2)])?;
-    let _added = index.publish(alloc, plain(alloc, "/a", 1)?);
-    let _added = index.publish(alloc, plain(alloc, "/b", 2)?);
-    let _second = begin(alloc, index, "/", &[("/a", 3)])?;
-    let _replaced = index.publish(alloc, plain(alloc, "/a", 3)?);
-    let _dropped = index.judge(alloc, &name(alloc, "/b", 2)?, Seen::Gone);
-    Ok(())
+fn two_passes(rt: &impl Abort, alloc: Global, index: &mut Index<OpenWorld>) {
+    let _first = begin(rt, alloc, index, "/", &[("/a", 1), ("/b", 2)]);
+    publish(rt, alloc, index, "/a", 1);
+    publish(rt, alloc, index, "/b", 2);
+    let _second = begin(rt, alloc, index, "/", &[("/a", 3)]);
+    publish(rt, alloc, index, "/a", 3);
+    let gone = name(alloc, "/b", 2).expect(rt, "a name");
+    let _dropped = index.judge(alloc, &gone, Seen::Gone);
 }
 
 /// Makes both passes on the store, if it opens.
-fn pass_twice(
-    rt: &impl Abort,
-    alloc: Global,
-    store: &mut MemStore<OpenWorld>,
-    what: &str,
-) -> Result<(), Fail> {
+fn pass_twice(rt: &impl Abort, alloc: Global, store: &mut MemStore<OpenWorld>, what: &str) {
     let StoreAnswer::Opened(keeper) = store.open_store(alloc, "m") else {
-        return Ok(());
+        return;
     };
     match open_state(alloc, keeper) {
         Ok(mut index) => {
-            let passed = two_passes(alloc, &mut index);
+            two_passes(rt, alloc, &mut index);
             store.give_back(index.into_keeper());
-            passed
         }
         Err((fault, keeper)) => {
             store.give_back(keeper);
             assert!(rt; matches!(fault, OpenFault::KeeperFault), "{what}");
-            Ok(())
         }
     }
 }
 
-/// The rows that the next opening finds.
-fn found_rows(alloc: Global, store: &mut MemStore<OpenWorld>) -> Result<String, Fail> {
-    let index = opened(alloc, store)?;
-    let rows = rows_text(alloc, index.rows())?;
-    store.give_back(index.into_keeper());
-    Ok(rows)
-}
-
-/// Makes both passes on a store that stops at the call, and compares the rows.
-fn stops_at(rt: &impl Abort, alloc: Global, stop: &Stop) -> Result<(), Fail> {
-    let (call, what) = stop.call;
-    let mut store = store_stopping_at(alloc, Some(call));
-    pass_twice(rt, alloc, &mut store, what)?;
-    let rows = found_rows(alloc, &mut store)?;
-    assert_eq!(rt; rows.as_str(), stop.rows, "{what}");
-    Ok(())
-}
-
 #[test]
-fn a_stop_at_any_call_leaves_the_rows_before_it_or_after_it(rt: HostRuntime) -> Result<(), Fail> {
+fn a_stop_at_any_call_leaves_the_rows_before_it_or_after_it(rt: HostRuntime) {
     for stop in STOPS {
-        stops_at(&rt, rt.alloc(), stop)?;
+        let (call, what) = stop.call;
+        let mut store = store_stopping_at(rt.alloc(), Some(call));
+        pass_twice(&rt, rt.alloc(), &mut store, what);
+        let rows = found_rows(&rt, rt.alloc(), &mut store);
+        assert!(rt; rows.as_str() == stop.rows, "{what}: {rows}");
     }
-    Ok(())
 }

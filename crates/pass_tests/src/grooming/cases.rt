@@ -1,14 +1,15 @@
 //! What becomes of one row, case by case.
 
-use crate::grooming::helpers::{Index, Outcome, begin, file, index_of, outcome_of_one};
+use crate::grooming::helpers::{index_of, outcome_of_one};
+use crate::rig::{Index, begin, file, still_tree};
 use index_state::Published;
 use row_types::OpenWorld;
 use sample_rows::{names, plain};
 use scan_worker::WorkEnd;
-use std::alloc::{AllocError, Global};
+use std::alloc::Global;
+use std::process::Abort;
 use std::sync::Wait;
-use std::test::Fail;
-use tree_trait::{MemTree, Script};
+use tree_trait::MemTree;
 
 /// A row at `/srv/x` that isn't listed any more, and what becomes of it.
 struct Case {
@@ -146,66 +147,59 @@ static CASES: [Case; 8] = [
 
 /// The tree of a file of this size at `/srv/x`, or of nothing, whose first call fails or not.
 fn tree_of(
+    rt: &impl Abort,
     alloc: Global,
     there: Option<usize>,
     fails: bool,
-) -> Result<MemTree<OpenWorld>, AllocError> {
-    let mut files = vec![in alloc]?;
-    if let Some(size) = there {
-        files.push(file(alloc, "/srv/x", size)?)?;
+) -> MemTree<OpenWorld> {
+    let bad_calls: &[u64] = if fails { &[0] } else { &[] };
+    match there {
+        Some(size) => {
+            let found = file(rt, alloc, "/srv/x", size);
+            let files = vec![in alloc; found].expect(rt, "memory");
+            still_tree(rt, alloc, files, bad_calls)
+        }
+        None => still_tree(rt, alloc, Vec::new(alloc), bad_calls),
     }
-    let mut bad_calls = vec![in alloc]?;
-    if fails {
-        bad_calls.push(0)?;
-    }
-    let script = Script {
-        stages: vec![in alloc; files]?,
-        moves: vec![in alloc]?,
-        bad_calls,
-    };
-    Ok(MemTree::new(alloc, script))
 }
 
-/// Begins the pass of a case, and hands in another row, where the case has it. The store may fail.
-fn begin_case(
-    alloc: Global,
-    index: &mut Index<OpenWorld>,
-    root: &str,
-    publishes: bool,
-) -> Result<(), Fail> {
-    let listed = names(alloc, &[("/srv/run.sh", 10)])?;
-    begin(alloc, index, listed, root)?;
-    if publishes {
-        let row = plain(alloc, "/srv/run.sh", 10)?;
-        let _said: Published = index.publish(alloc, row);
-    }
-    Ok(())
+/// Hands in another row. The store may fail.
+fn publish_other(rt: &impl Abort, alloc: Global, index: &mut Index<OpenWorld>) {
+    let row = plain(alloc, "/srv/run.sh", 10).expect(rt, "a row");
+    let _said: Published = index.publish(alloc, row);
 }
 
 /// The index in the state in which a case begins.
-fn begun(alloc: Global, case: &Case) -> Result<Index<OpenWorld>, Fail> {
-    let mut index = index_of(alloc, case.stop_at, &[("/srv/x", 1)])?;
-    begin_case(alloc, &mut index, case.root, case.publishes)?;
-    Ok(index)
+fn begun(rt: &impl Abort, alloc: Global, case: &Case) -> Index<OpenWorld> {
+    let mut index = index_of(rt, alloc, case.stop_at, &[("/srv/x", 1)]);
+    let listed = names(alloc, &[("/srv/run.sh", 10)]).expect(rt, "names");
+    begin(rt, alloc, &mut index, listed, case.root);
+    if case.publishes {
+        publish_other(rt, alloc, &mut index);
+    }
+    index
 }
 
-/// What a case comes to.
-fn run_case<R: Wait + Sync>(rt: &R, alloc: Global, case: &Case) -> Result<Outcome, Fail> {
-    let hand = tree_of(alloc, case.there, case.fails)?;
-    let index = begun(alloc, case)?;
-    outcome_of_one(rt, alloc, index, hand)
+/// Runs a case, and compares.
+fn run_case<R: Abort + Wait + Sync>(rt: &R, alloc: Global, case: &Case) {
+    let index = begun(rt, alloc, case);
+    let hand = tree_of(rt, alloc, case.there, case.fails);
+    let outcome = outcome_of_one(rt, alloc, index, hand);
+    let report = outcome.report;
+    let numbers = (report.dropped, report.missed);
+    assert!(rt; numbers == (case.dropped, case.missed), "{}", case.shows);
+    assert!(rt; report.end == case.end, "{}", case.shows);
+    assert!(rt; outcome.rows.as_str() == case.rows, "{}", case.shows);
+    assert!(rt;
+        outcome.missed.as_str() == case.missed_name,
+        "{}",
+        case.shows
+    );
 }
 
 #[test]
-fn a_row_is_groomed(rt: HostRuntime) -> Result<(), Fail> {
+fn a_row_is_groomed(rt: HostRuntime) {
     for case in &CASES {
-        let outcome = run_case(&rt, rt.alloc(), case)?;
-        let report = outcome.report;
-        let numbers = (report.dropped, report.missed);
-        assert_eq!(rt; numbers, (case.dropped, case.missed), "{}", case.shows);
-        assert_eq!(rt; report.end, case.end, "{}", case.shows);
-        assert_eq!(rt; outcome.rows.as_str(), case.rows, "{}", case.shows);
-        assert_eq!(rt; outcome.missed.as_str(), case.missed_name, "{}", case.shows);
+        run_case(&rt, rt.alloc(), case);
     }
-    Ok(())
 }

@@ -1,14 +1,12 @@
 //! What the settling of a pass comes to, case by case.
 
-use crate::passes::helpers::{Index, Version, opened, passing, store_of, tree_of};
+use crate::rig::{Index, Version, begin, empty_index, listed, rows_of, version_tree};
 use elf_reading::ElfReader;
-use index_keeper::{MemStore, Store};
 use pass_runner::settle;
-use sample_rows::rows_text;
 use scan_queue::{Cause, Miss, Seen};
 use scan_worker::WorkEnd;
 use std::alloc::Global;
-use std::test::Fail;
+use std::process::Abort;
 use tree_trait::{MemTree, TwoWorld};
 
 /// A pass that is settled, and what it comes to.
@@ -199,54 +197,54 @@ static CASES: [Case; 12] = [
     },
 ];
 
-/// The index in the state in which a case begins: with the row of a version, or without rows.
-fn begun(
-    alloc: Global,
-    store: &mut MemStore<TwoWorld>,
-    stood: Option<Version>,
-) -> Result<Index, Fail> {
-    let index = opened(alloc, store)?;
-    if stood.is_none() {
-        return Ok(index);
-    }
-    let tree = tree_of(alloc, stood, false)?;
-    let (index, _) = settled(alloc, index, "/w", stood, tree)?;
-    Ok(index)
-}
-
 /// The index after a pass over the version, or over nothing, under this root, and how the pass was
 /// settled.
 fn settled(
+    rt: &impl Abort,
     alloc: Global,
-    index: Index,
+    mut index: Index<TwoWorld>,
     root: &str,
-    listed: Option<Version>,
-    tree: MemTree<TwoWorld>,
-) -> Result<(Index, WorkEnd), Fail> {
-    let begun = passing(alloc, index, root, listed)?;
-    let (index, _, end) = settle(alloc, begun, tree, &ElfReader);
-    Ok((index, end))
+    version: Option<Version>,
+    hand: MemTree<TwoWorld>,
+) -> (Index<TwoWorld>, WorkEnd) {
+    begin(rt, alloc, &mut index, listed(rt, alloc, version), root);
+    let (index, _, end) = settle(alloc, index, hand, &ElfReader);
+    (index, end)
 }
 
-/// What a case comes to: how it ends, the rows, and why the first missed name was missed.
-fn run_case(alloc: Global, case: &Case) -> Result<(WorkEnd, String, &'static str), Fail> {
-    let mut store = store_of(alloc, case.stop_at);
-    let index = begun(alloc, &mut store, case.stood)?;
-    let tree = tree_of(alloc, case.there, case.fails)?;
-    let (index, end) = settled(alloc, index, case.root, case.listed, tree)?;
-    let rows = rows_text(alloc, index.rows())?;
-    let missed = words_of(index.first_miss());
-    store.give_back(index.into_keeper());
-    Ok((end, rows, missed))
+/// The index in the state in which a case begins: with the row of a version, or without rows.
+fn begun(
+    rt: &impl Abort,
+    alloc: Global,
+    stop_at: Option<u64>,
+    stood: Option<Version>,
+) -> Index<TwoWorld> {
+    let index = empty_index(rt, alloc, stop_at);
+    if stood.is_none() {
+        return index;
+    }
+    let hand = version_tree(rt, alloc, stood, false);
+    settled(rt, alloc, index, "/w", stood, hand).0
+}
+
+/// Runs a case, and compares.
+fn run_case(rt: &impl Abort, alloc: Global, case: &Case) {
+    let index = begun(rt, alloc, case.stop_at, case.stood);
+    let hand = version_tree(rt, alloc, case.there, case.fails);
+    let (index, end) = settled(rt, alloc, index, case.root, case.listed, hand);
+    let rows = rows_of(rt, alloc, &index);
+    assert!(rt; end == case.end, "{}", case.shows);
+    assert!(rt; rows.as_str() == case.rows, "{}", case.shows);
+    assert!(rt;
+        words_of(index.first_miss()) == case.missed,
+        "{}",
+        case.shows
+    );
 }
 
 #[test]
-fn a_pass_is_settled(rt: HostRuntime) -> Result<(), Fail> {
+fn a_pass_is_settled(rt: HostRuntime) {
     for case in &CASES {
-        let (end, rows, missed) = run_case(rt.alloc(), case)?;
-        assert_eq!(rt; end, case.end, "{}", case.shows);
-        assert_eq!(rt; rows.as_str(), case.rows, "{}", case.shows);
-        assert_eq!(rt; missed, case.missed, "{}", case.shows);
+        run_case(&rt, rt.alloc(), case);
     }
-    Ok(())
 }

@@ -1,17 +1,15 @@
 //! A list of events with each of them, in the told world with ELF files.
 
-use crate::passes::passes::{Index, opened};
-use crate::passes::trees::{Files, tree_of};
+use crate::rig::{Files, empty_store, name_of, names_of, opened, rows_of, sample_tree};
 use elf_reading::ElfReader;
-use index_keeper::{MemStore, Store};
 use index_state::{Event, EventAnswer, EventsEnd, run_events};
 use row_types::{BuildId, CanonPath, Kind, Name, Stamp};
-use sample_rows::{name_text, path, paths, rows_text};
+use sample_rows::{name_text, paths};
 use sample_world::{Sample, SampleWorld};
 use scan_queue::{Cause, Listing, Seen};
 use scan_worker::{NameRead, read_name};
-use std::alloc::{AllocError, Global};
-use std::test::Fail;
+use std::alloc::Global;
+use std::process::Abort;
 
 /// An event of the sample world.
 type Happening = Event<SampleWorld>;
@@ -22,87 +20,95 @@ static TOOL_ID: [u8; 20] = [
     0x50, 0x51, 0x52, 0x53,
 ];
 
-/// The stamp of a file of this size and second.
-fn stamp(size: u64, secs: i64) -> Stamp {
-    Stamp {
+/// A file of this size and second, as a look sees it.
+fn seen(size: u64, secs: i64) -> Seen {
+    Seen::File(Stamp {
         size,
         secs,
         nanos: 0,
-    }
-}
-
-/// The name of a sample of this size.
-fn name_of(alloc: Global, sample: Sample, size: u64) -> Result<Name, Fail> {
-    Ok(Name {
-        path: path(alloc, sample.path())?,
-        stamp: stamp(size, sample.secs()),
     })
 }
 
 /// `/srv/a` before it changed.
-fn before(alloc: Global) -> Result<Name, Fail> {
-    name_of(alloc, Sample::Before, 6)
+fn before(rt: &impl Abort, alloc: Global) -> Name {
+    name_of(rt, alloc, Sample::Before)
 }
 
 /// `/srv/a` after it changed.
-fn after(alloc: Global) -> Result<Name, Fail> {
-    name_of(alloc, Sample::After, 7)
+fn after(rt: &impl Abort, alloc: Global) -> Name {
+    name_of(rt, alloc, Sample::After)
 }
 
 /// `/srv/bin/tool`.
-fn tool(alloc: Global) -> Result<Name, Fail> {
-    name_of(alloc, Sample::Tool, 408)
+fn tool(rt: &impl Abort, alloc: Global) -> Name {
+    name_of(rt, alloc, Sample::Tool)
 }
 
-/// A pass over these names under `/srv` begins.
-fn begin(alloc: Global, names: Vec<Name>) -> Result<Happening, Fail> {
-    let Ok(listing) = Listing::new(names) else {
-        return Err("the paths ascend".into());
+/// A pass over these samples under `/srv` begins.
+fn begin(rt: &impl Abort, alloc: Global, samples: &[Sample]) -> Happening {
+    let Ok(listing) = Listing::new(names_of(rt, alloc, samples)) else {
+        panic!(rt; "the paths ascend")
     };
-    Ok(Event::Begin(listing, paths(alloc, &["/srv"])?))
+    Event::Begin(listing, paths(alloc, &["/srv"]).expect(rt, "a path"))
 }
 
-/// The row of the name, as it is read of these files, is published.
-fn publish(alloc: Global, files: Files, name: &Name) -> Result<Happening, Fail> {
-    let mut hand = tree_of(alloc, files, None, &[])?;
-    match read_name(alloc, &mut hand, &ElfReader, name) {
-        NameRead::Row(row) => Ok(Event::Publish(row)),
-        _ => Err("the file is read".into()),
+/// The row of the sample, as it is read of these files, is published.
+fn publish(rt: &impl Abort, alloc: Global, files: Files, sample: Sample) -> Happening {
+    let name = name_of(rt, alloc, sample);
+    let mut hand = sample_tree(rt, alloc, files, None, &[]);
+    match read_name(alloc, &mut hand, &ElfReader, &name) {
+        NameRead::Row(row) => Event::Publish(row),
+        _ => panic!(rt; "the file is read"),
     }
 }
 
 /// The executables of the tool's id are looked up.
-fn look() -> Result<Happening, Fail> {
-    let id = BuildId::new(&TOOL_ID).ok_or("twenty bytes are an id")?;
-    Ok(Event::Look(id, Kind::Executable))
+fn look(rt: &impl Abort) -> Happening {
+    let id = BuildId::new(&TOOL_ID).expect(rt, "twenty bytes are an id");
+    Event::Look(id, Kind::Executable)
+}
+
+/// Adds an event.
+fn add(rt: &impl Abort, events: &mut Vec<Happening>, event: Happening) {
+    events.push(event).expect(rt, "memory");
 }
 
 /// Two files are listed and read, and the executable is found, also after a reopening.
-fn first_pass(alloc: Global, events: &mut Vec<Happening>) -> Result<(), Fail> {
-    events.push(begin(alloc, vec![in alloc; before(alloc)?, tool(alloc)?]?)?)?;
-    events.push(Event::Take)?;
-    events.push(publish(alloc, Files::Before, &before(alloc)?)?)?;
-    events.push(Event::Take)?;
-    events.push(publish(alloc, Files::Reference, &tool(alloc)?)?)?;
-    events.push(Event::Reopen)?;
-    events.push(look()?)?;
-    Ok(())
+fn first_pass(rt: &impl Abort, alloc: Global, events: &mut Vec<Happening>) {
+    add(
+        rt,
+        events,
+        begin(rt, alloc, &[Sample::Before, Sample::Tool]),
+    );
+    add(rt, events, Event::Take);
+    add(
+        rt,
+        events,
+        publish(rt, alloc, Files::Before, Sample::Before),
+    );
+    add(rt, events, Event::Take);
+    add(
+        rt,
+        events,
+        publish(rt, alloc, Files::Reference, Sample::Tool),
+    );
+    add(rt, events, Event::Reopen);
+    add(rt, events, look(rt));
 }
 
 /// One file is another by now, the other one is gone.
-fn second_pass(alloc: Global, events: &mut Vec<Happening>) -> Result<(), Fail> {
-    events.push(begin(alloc, vec![in alloc; after(alloc)?]?)?)?;
-    events.push(Event::GroomTake)?;
-    events.push(Event::Take)?;
-    events.push(Event::Miss(after(alloc)?, Cause::ReadFault))?;
-    events.push(Event::Retry)?;
-    events.push(Event::Judge(before(alloc)?, Seen::File(stamp(7, 101))))?;
-    events.push(Event::Judge(tool(alloc)?, Seen::File(stamp(408, 100))))?;
-    events.push(Event::Judge(tool(alloc)?, Seen::Gone))?;
-    events.push(publish(alloc, Files::After, &after(alloc)?)?)?;
-    events.push(look()?)?;
-    events.push(Event::Reopen)?;
-    Ok(())
+fn second_pass(rt: &impl Abort, alloc: Global, events: &mut Vec<Happening>) {
+    add(rt, events, begin(rt, alloc, &[Sample::After]));
+    add(rt, events, Event::GroomTake);
+    add(rt, events, Event::Take);
+    add(rt, events, Event::Miss(after(rt, alloc), Cause::ReadFault));
+    add(rt, events, Event::Retry);
+    add(rt, events, Event::Judge(before(rt, alloc), seen(7, 101)));
+    add(rt, events, Event::Judge(tool(rt, alloc), seen(408, 100)));
+    add(rt, events, Event::Judge(tool(rt, alloc), Seen::Gone));
+    add(rt, events, publish(rt, alloc, Files::After, Sample::After));
+    add(rt, events, look(rt));
+    add(rt, events, Event::Reopen);
 }
 
 /// What is answered to each of them.
@@ -128,64 +134,60 @@ static ANSWERS: &[&str] = &[
 ];
 
 /// A name that was handed out, or nothing.
-fn taken_text(alloc: Global, name: Option<&Name>) -> Result<String, AllocError> {
+fn taken_text(rt: &impl Abort, alloc: Global, name: Option<&Name>) -> String {
     match name {
-        Some(name) => name_text(alloc, name),
-        None => Ok(String::new(alloc)),
+        Some(name) => name_text(alloc, name).expect(rt, "memory"),
+        None => String::new(alloc),
     }
 }
 
 /// An answer, as a text.
-fn said_text(alloc: Global, answer: &EventAnswer) -> Result<String, AllocError> {
-    match answer {
+fn said_text(rt: &impl Abort, alloc: Global, answer: &EventAnswer) -> String {
+    let text = match answer {
         EventAnswer::Begin(begun) => format!(in alloc; "{begun:?}"),
-        EventAnswer::Take(name) => taken_text(alloc, name.as_ref()),
         EventAnswer::Publish(said) => format!(in alloc; "{said:?}"),
-        EventAnswer::GroomTake(task) => taken_text(alloc, task.as_ref().map(|task| &task.name)),
         EventAnswer::Judge(said) => format!(in alloc; "{said:?}"),
         EventAnswer::Miss(was_out) => format!(in alloc; "{was_out:?}"),
         EventAnswer::Retry(count) => format!(in alloc; "{count:?}"),
-        EventAnswer::Look(found) => first_text(alloc, found.as_slice()),
+        EventAnswer::Look(found) => String::from_str(alloc, first_of(found.as_slice())),
         EventAnswer::Opened => String::from_str(alloc, "Opened"),
-    }
+        EventAnswer::Take(name) => return taken_text(rt, alloc, name.as_ref()),
+        EventAnswer::GroomTake(task) => {
+            return taken_text(rt, alloc, task.as_ref().map(|task| &task.name));
+        }
+    };
+    text.expect(rt, "memory")
 }
 
 /// The first of the paths, or nothing.
-fn first_text(alloc: Global, found: &[CanonPath]) -> Result<String, AllocError> {
+fn first_of(found: &[CanonPath]) -> &str {
     match found.first() {
-        Some(path) => String::from_str(alloc, path.text()),
-        None => Ok(String::new(alloc)),
+        Some(path) => path.text(),
+        None => "",
     }
 }
 
-/// The events happen to the index.
-fn happen(
-    alloc: Global,
-    store: &mut MemStore<SampleWorld>,
-    index: Index,
-) -> Result<(Index, Vec<EventAnswer>), Fail> {
+/// The events happen to an index without rows: what is answered to them, and the rows by then.
+fn happen(rt: &impl Abort, alloc: Global) -> (Vec<EventAnswer>, String) {
     let mut events = Vec::new(alloc);
-    first_pass(alloc, &mut events)?;
-    second_pass(alloc, &mut events)?;
-    match run_events(alloc, index, store, "m", events) {
-        EventsEnd::All { state, answers } => Ok((state, answers)),
-        EventsEnd::Stopped { .. } => Err("memory suffices".into()),
-        EventsEnd::Unopened { .. } => Err("the store opens with its index".into()),
+    first_pass(rt, alloc, &mut events);
+    second_pass(rt, alloc, &mut events);
+    let mut store = empty_store(alloc, None);
+    let index = opened(rt, alloc, &mut store);
+    match run_events(alloc, index, &mut store, "m", events) {
+        EventsEnd::All { state, answers } => (answers, rows_of(rt, alloc, &state)),
+        EventsEnd::Stopped { .. } => panic!(rt; "memory suffices"),
+        EventsEnd::Unopened { .. } => panic!(rt; "the store opens with its index"),
     }
 }
 
 #[test]
-fn each_event_is_answered_over_elf_files(rt: HostRuntime) -> Result<(), Fail> {
-    let alloc = rt.alloc();
-    let mut store = MemStore::new(alloc, Vec::new(alloc), None, Vec::new(alloc));
-    let index = opened(alloc, &mut store)?;
-    let (index, answers) = happen(alloc, &mut store, index)?;
-    let rows = rows_text(alloc, index.rows())?;
-    store.give_back(index.into_keeper());
-    assert_eq!(rt; rows.as_str(), "/srv/a 7, ");
-    assert_eq!(rt; answers.len(), ANSWERS.len());
-    for (answer, want) in answers.iter().zip(ANSWERS) {
-        assert_eq!(rt; said_text(alloc, answer)?.as_str(), *want);
+fn each_event_is_answered_over_elf_files(rt: HostRuntime) {
+    let (answers, rows) = happen(&rt, rt.alloc());
+    assert!(rt; rows.as_str() == "/srv/a 7, ");
+    assert!(rt; answers.len() == ANSWERS.len());
+    for (answer, wanted) in answers.iter().zip(ANSWERS) {
+        let said = said_text(&rt, rt.alloc(), answer);
+        assert!(rt; said.as_str() == *wanted, "{said} for {wanted}");
     }
-    Ok(())
 }

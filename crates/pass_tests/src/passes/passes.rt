@@ -1,34 +1,33 @@
 //! Passes over one index, one after the other.
 
-use crate::passes::trees::{Files, tree_of};
+use crate::passes::ends::end_text;
+use crate::rig::{Files, Index, empty_index, rows_of, sample_tree};
 use elf_reading::ElfReader;
-use index_keeper::{MemKeeper, MemStore, Store, StoreAnswer};
-use index_state::{State, open_state};
-use pass_runner::{PassEnd, Summary, scan_state};
-use sample_rows::{name_text, paths, rows_text};
+use pass_runner::scan_state;
+use sample_rows::paths;
 use sample_world::SampleWorld;
-use scan_queue::{Cause, Miss, Seen};
-use std::alloc::{AllocError, Global};
+use std::alloc::Global;
 use std::process::Abort;
 use std::sync::Wait;
-use std::test::Fail;
 use std::thread::Threads;
 use tree_trait::{Gate, MemTree, NoGate};
-use tree_walk::WalkFault;
 
-/// An index on a store in memory.
-pub type Index = State<SampleWorld, MemKeeper<SampleWorld>>;
-
-/// A pass, and what it comes to.
-pub struct Step {
-    /// What it shows.
-    pub shows: &'static str,
-    /// The files of the first hand's tree.
+/// What a hand has, and the calls of it that fail.
+pub struct Holds {
+    /// The files of its tree.
     pub files: Files,
     /// The call from which on the tree has other files.
     pub later: Option<(u64, Files)>,
-    /// The first hand's calls that fail. One that must not be made is among them.
+    /// The calls that fail. One that must not be made is among them.
     pub bad_calls: &'static [u64],
+}
+
+/// A pass, and what it comes to.
+pub struct Pass {
+    /// What it shows.
+    pub shows: &'static str,
+    /// The hands, in order.
+    pub hands: &'static [Holds],
     /// The folders.
     pub roots: &'static [&'static str],
     /// How it ends.
@@ -37,103 +36,56 @@ pub struct Step {
     pub rows: &'static [&'static str],
 }
 
-/// What was seen, in words.
-fn seen_words(seen: Seen) -> &'static str {
-    match seen {
-        Seen::Gone => "gone",
-        Seen::File(_) => "another file",
-        Seen::Other => "no file",
+/// The hands of a pass, and so many more that have the files of the first one.
+pub fn hands_of(
+    rt: &impl Abort,
+    alloc: Global,
+    pass: &Pass,
+    others: u64,
+) -> Vec<MemTree<SampleWorld>> {
+    let mut trees = Vec::new(alloc);
+    for hand in pass.hands {
+        let tree = sample_tree(rt, alloc, hand.files, hand.later, hand.bad_calls);
+        trees.push(tree).expect(rt, "memory");
     }
-}
-
-/// Why a name was missed, in words.
-fn miss_text(alloc: Global, miss: &Miss) -> Result<String, AllocError> {
-    let why = match miss.cause {
-        Cause::ReadFault => "can't be read",
-        Cause::Altered { seen } => seen_words(seen),
-        Cause::Appeared => "stands there",
-    };
-    let name = name_text(alloc, &miss.name)?;
-    format!(in alloc; "missed {name}{why}")
-}
-
-/// Why the folders could not be walked, in words.
-fn walk_text(alloc: Global, fault: &WalkFault) -> Result<String, AllocError> {
-    match fault {
-        WalkFault::Failed => String::from_str(alloc, "a call of the walk failed"),
-        WalkFault::RootGone(path) => format!(in alloc; "{} is gone", path.text()),
-        WalkFault::TooMany | WalkFault::TooManyEntries => String::from_str(alloc, "too many"),
-        WalkFault::OutOfMemory => String::from_str(alloc, "no memory for the walk"),
+    if let Some(first) = pass.hands.first() {
+        for _ in 0..others {
+            let tree = sample_tree(rt, alloc, first.files, None, &[]);
+            trees.push(tree).expect(rt, "memory");
+        }
     }
-}
-
-/// The numbers, in their order.
-fn summary_text(alloc: Global, numbers: &Summary) -> Result<String, AllocError> {
-    let Summary {
-        files,
-        added,
-        replaced,
-        dropped,
-        kept,
-        executables,
-        debuginfo,
-    } = numbers;
-    format!(in alloc; "{files} {added} {replaced} {dropped} {kept} {executables} {debuginfo}")
-}
-
-/// The end, in words.
-pub fn end_text(alloc: Global, end: &PassEnd) -> Result<String, AllocError> {
-    match end {
-        PassEnd::Whole(summary) => summary_text(alloc, summary),
-        PassEnd::Missed(miss) => miss_text(alloc, miss),
-        PassEnd::Walk(fault) => walk_text(alloc, fault),
-        PassEnd::Broken => String::from_str(alloc, "broken"),
-        PassEnd::KeeperFault => String::from_str(alloc, "the store failed"),
-        PassEnd::LogFull => String::from_str(alloc, "no room"),
-        PassEnd::OutOfMemory => String::from_str(alloc, "no memory"),
-    }
+    trees
 }
 
 /// The texts, one after the other.
-pub fn joined(alloc: Global, texts: &[&str]) -> Result<String, AllocError> {
+fn joined(rt: &impl Abort, alloc: Global, texts: &[&str]) -> String {
     let mut all = String::new(alloc);
     for text in texts {
-        all.push_str(text)?;
+        all.push_str(text).expect(rt, "memory");
     }
-    Ok(all)
+    all
 }
 
-/// The index on a store without rows.
-pub fn opened(alloc: Global, store: &mut MemStore<SampleWorld>) -> Result<Index, Fail> {
-    let StoreAnswer::Opened(keeper) = store.open_store(alloc, "m") else {
-        return Err("the store opens".into());
-    };
-    match open_state(alloc, keeper) {
-        Ok(index) => Ok(index),
-        Err((_, keeper)) => {
-            store.give_back(keeper);
-            Err("an index opens on it".into())
-        }
-    }
+/// Compares how a pass ended, and the rows by then, with what it is to come to.
+pub fn compare(rt: &impl Abort, alloc: Global, pass: &Pass, end: &str, rows: &str) {
+    assert!(rt; end == pass.end, "{}: {end}", pass.shows);
+    let wanted = joined(rt, alloc, pass.rows);
+    assert!(rt; rows == wanted.as_str(), "{}: {rows}", pass.shows);
 }
 
 /// Makes a pass with these hands, and says how it ended.
-pub fn run_hands<G: Gate, Rt: Threads + Wait + Sync>(
+pub fn run_hands<G: Gate, Rt: Abort + Threads + Wait + Sync>(
     rt: &Rt,
     alloc: Global,
-    index: Index,
+    index: Index<SampleWorld>,
     hands: Vec<MemTree<SampleWorld>>,
     roots: &[&str],
     gate: &G,
-) -> Result<(Index, String), Fail> {
+) -> (Index<SampleWorld>, String) {
     let count = hands.len();
-    if count == 0 {
-        return Err("there is a hand".into());
-    }
-    if index.standing().broken {
-        return Err("the index isn't broken".into());
-    }
-    let roots = paths(alloc, roots)?;
+    assert!(rt; count > 0, "there is a hand");
+    assert!(rt; !index.standing().broken, "the index isn't broken");
+    let roots = paths(alloc, roots).expect(rt, "paths");
     let (index, hands, end) = scan_state(
         rt,
         alloc,
@@ -143,45 +95,35 @@ pub fn run_hands<G: Gate, Rt: Threads + Wait + Sync>(
         &ElfReader,
         gate,
     );
-    if hands.len() != count {
-        return Err("all hands come back".into());
-    }
-    let text = end_text(alloc, &end)?;
-    Ok((index, text))
+    assert!(rt; hands.len() == count, "all hands come back");
+    (index, end_text(rt, alloc, &end))
 }
 
-/// Makes the pass with the step's first hand and so many more, and says how it ended.
-fn run_step<Rt: Threads + Wait + Sync>(
+/// Makes the pass, with so many hands beside its own, and compares.
+fn run_one<Rt: Abort + Threads + Wait + Sync>(
     rt: &Rt,
     alloc: Global,
-    index: Index,
-    step: &Step,
+    index: Index<SampleWorld>,
+    pass: &Pass,
     others: u64,
-) -> Result<(Index, String), Fail> {
-    let mut hands = vec![in alloc; tree_of(alloc, step.files, step.later, step.bad_calls)?]?;
-    for _ in 0..others {
-        hands.push(tree_of(alloc, step.files, None, &[])?)?;
-    }
-    run_hands(rt, alloc, index, hands, step.roots, &NoGate)
+) -> Index<SampleWorld> {
+    let hands = hands_of(rt, alloc, pass, others);
+    let (index, end) = run_hands(rt, alloc, index, hands, pass.roots, &NoGate);
+    let rows = rows_of(rt, alloc, &index);
+    compare(rt, alloc, pass, end.as_str(), rows.as_str());
+    index
 }
 
-/// The passes of a test, over one index, with so many hands beside the first.
-pub fn run_steps<Rt: Threads + Wait + Sync + Abort>(
+/// Makes the passes over one index, with so many hands beside those of each.
+pub fn run_passes<Rt: Abort + Threads + Wait + Sync>(
     rt: &Rt,
     alloc: Global,
     stop_at: Option<u64>,
-    steps: &[Step],
+    passes: &[Pass],
     others: u64,
-) -> Result<(), Fail> {
-    let mut store = MemStore::new(alloc, Vec::new(alloc), stop_at, Vec::new(alloc));
-    let mut index = opened(alloc, &mut store)?;
-    for step in steps {
-        let (next, end) = run_step(rt, alloc, index, step, others)?;
-        index = next;
-        assert_eq!(rt; end.as_str(), step.end, "{}", step.shows);
-        let rows = joined(alloc, step.rows)?;
-        assert_eq!(rt; rows_text(alloc, index.rows())?, rows, "{}", step.shows);
+) {
+    let mut index = empty_index(rt, alloc, stop_at);
+    for pass in passes {
+        index = run_one(rt, alloc, index, pass, others);
     }
-    store.give_back(index.into_keeper());
-    Ok(())
 }

@@ -2,242 +2,234 @@
 
 ghost use Rattle.std.specs.Prelude.{◌≡◌, []};
 
-use crate::passes::beside::{FOLDERS, MOVED, hands_of, many};
+use crate::passes::beside::{MOVED, holding_gate, many, one_fails};
+use crate::passes::ends::end_text;
 use crate::passes::missed::MISSED;
-use crate::passes::passes::{Index, Step, end_text, joined, opened};
-use crate::passes::trees::{Files, tree_of};
+use crate::passes::passes::{Pass, compare, hands_of};
 use crate::passes::whole::WHOLE;
+use crate::rig::{FOLDERS, Index, Lock, Shared, Token, empty_index, rows_of, taken};
 use elf_reading::ElfReader;
-use index_keeper::{MemStore, Store};
-use index_lock::{Seat, TurnLock};
+use index_lock::TurnLock;
 use index_state::Begun;
 use pass_runner::run_pass;
-use sample_rows::{paths, rows_text};
+use sample_rows::paths;
 use sample_world::SampleWorld;
 use scan_queue::Listing;
 use std::alloc::Global;
 use std::process::Abort;
 use std::sync::Wait;
-use std::test::Fail;
 use std::thread::Threads;
-use tree_trait::{Gate, Hold, MemTree, NoGate, TurnGate};
+use tree_trait::{Gate, MemTree, NoGate};
 
 /// An index behind a lock, with a token that skips no name.
 #[derive(Drop)]
-pub struct Shared {
-    pub lock: TurnLock<Index>,
-    pub seat: Seat<Index>,
+pub struct Unspared {
+    pub lock: Lock<SampleWorld>,
+    pub seat: Token<SampleWorld>,
     pub ghost of_lock: { seat.lock ≡ lock },
     pub ghost spared: { seat.origin.spared ≡ [] },
 }
 
-/// The index behind a lock. A pass over nothing is begun first, so that no name is skipped.
-pub fn put_behind(alloc: Global, mut index: Index) -> Result<Shared, Fail> {
-    let none = Listing::new(Vec::new(alloc)).ok().ok_or("no name")?;
+/// The index without rows behind a lock, on a store that stops at this call. A pass over nothing is
+/// begun first, so that no name is skipped.
+pub fn empty_shared(rt: &impl Abort, alloc: Global, stop_at: Option<u64>) -> Unspared {
+    let mut index: Index<SampleWorld> = empty_index(rt, alloc, stop_at);
+    let Ok(none) = Listing::new(Vec::new(alloc)) else {
+        panic!(rt; "no name is by path")
+    };
     let Begun::Begun(_) = index.begin(alloc, none, Vec::new(alloc)) else {
-        return Err("a pass begins".into());
+        panic!(rt; "a pass begins")
     };
     let Ok((lock, seat)) = TurnLock::make(alloc, index) else {
-        return Err("there is memory for the lock".into());
+        panic!(rt; "there is memory for the lock")
     };
-    Ok(Shared { lock, seat })
+    Unspared { lock, seat }
 }
 
-/// Makes a pass with these hands, and says how it ended.
-pub fn pass<G: Gate, Rt: Threads + Wait + Sync>(
+/// Makes a pass with these hands by a token of the lock, and says how it ended.
+pub fn pass_by<G: Gate, Rt: Abort + Threads + Wait + Sync>(
     rt: &Rt,
     alloc: Global,
-    shared: Shared,
+    lock: &Lock<SampleWorld>,
+    seat: Token<SampleWorld>,
     hands: Vec<MemTree<SampleWorld>>,
     roots: &[&str],
     gate: &G,
-) -> Result<(Shared, String), Fail> {
+) -> (Token<SampleWorld>, String)
+    requires lock { seat.lock ≡ lock.now }
+    requires spared { seat.origin.spared ≡ [] }
+    ensures lock { result.0.lock ≡ lock.now }
+    ensures spared { result.0.origin.spared ≡ [] }
+{
     let count = hands.len();
-    if count == 0 {
-        return Err("there is a hand".into());
-    }
-    let roots = paths(alloc, roots)?;
-    let Shared { lock, seat } = shared;
+    assert!(rt; count > 0, "there is a hand");
+    let roots = paths(alloc, roots).expect(rt, "paths");
     let (seat, hands, end) = run_pass(
         rt,
         alloc,
-        &lock,
+        lock,
         seat,
         hands,
         roots.as_slice(),
         &ElfReader,
         gate,
     );
-    if hands.len() != count {
-        return Err("all hands come back".into());
-    }
-    let text = end_text(alloc, &end)?;
-    Ok((Shared { lock, seat }, text))
+    assert!(rt; hands.len() == count, "all hands come back");
+    (seat, end_text(rt, alloc, &end))
+}
+
+/// Makes a pass with these hands, and says how it ended.
+pub fn pass<G: Gate, Rt: Abort + Threads + Wait + Sync>(
+    rt: &Rt,
+    alloc: Global,
+    index: Unspared,
+    hands: Vec<MemTree<SampleWorld>>,
+    roots: &[&str],
+    gate: &G,
+) -> (Unspared, String) {
+    let Unspared { lock, seat } = index;
+    let (seat, end) = pass_by(rt, alloc, &lock, seat, hands, roots, gate);
+    (Unspared { lock, seat }, end)
 }
 
 /// The rows, one after the other.
-pub fn rows_of<Rt: Wait>(rt: &Rt, alloc: Global, shared: Shared) -> Result<(Shared, String), Fail> {
-    let Shared { lock, seat } = shared;
+pub fn held_rows<Rt: Abort + Wait>(rt: &Rt, alloc: Global, index: Unspared) -> (Unspared, String) {
+    let Unspared { lock, seat } = index;
     let held = lock.enter(rt, seat);
-    let text = rows_text(alloc, held.value().rows());
+    let text = rows_of(rt, alloc, held.value());
     let seat = lock.leave(held);
-    Ok((Shared { lock, seat }, text?))
+    (Unspared { lock, seat }, text)
 }
 
-/// The index, taken out again.
-pub fn taken<Rt: Wait>(rt: &Rt, shared: Shared) -> Index {
-    let Shared { lock, seat } = shared;
-    let held = lock.enter(rt, seat);
-    TurnLock::into_value(lock, held)
-}
-
-/// The passes of a test, over one index, with so many hands beside the first.
-fn share_steps<Rt: Threads + Wait + Sync + Abort>(
+/// Makes the pass, with so many hands beside its own, and compares.
+fn share_one<Rt: Abort + Threads + Wait + Sync>(
     rt: &Rt,
     alloc: Global,
-    steps: &[Step],
+    index: Unspared,
+    step: &Pass,
     others: u64,
-) -> Result<(), Fail> {
-    let mut store = MemStore::new(alloc, Vec::new(alloc), None, Vec::new(alloc));
-    let mut index = put_behind(alloc, opened(alloc, &mut store)?)?;
+) -> Unspared {
+    let hands = hands_of(rt, alloc, step, others);
+    let (index, end) = pass(rt, alloc, index, hands, step.roots, &NoGate);
+    let (index, rows) = held_rows(rt, alloc, index);
+    compare(rt, alloc, step, end.as_str(), rows.as_str());
+    index
+}
+
+/// Makes the passes over one index, with so many hands beside those of each.
+fn share_passes<Rt: Abort + Threads + Wait + Sync>(
+    rt: &Rt,
+    alloc: Global,
+    steps: &[Pass],
+    others: u64,
+) {
+    let mut index = empty_shared(rt, alloc, None);
     for step in steps {
-        let mut hands = vec![in alloc; tree_of(alloc, step.files, step.later, step.bad_calls)?]?;
-        for _ in 0..others {
-            hands.push(tree_of(alloc, step.files, None, &[])?)?;
-        }
-        let (next, end) = pass(rt, alloc, index, hands, step.roots, &NoGate)?;
-        assert_eq!(rt; end.as_str(), step.end, "{}", step.shows);
-        let (next, rows) = rows_of(rt, alloc, next)?;
-        index = next;
-        assert_eq!(rt; rows, joined(alloc, step.rows)?, "{}", step.shows);
+        index = share_one(rt, alloc, index, step, others);
     }
-    store.give_back(taken(rt, index).into_keeper());
-    Ok(())
 }
 
 #[test]
-fn one_hand_does_what_changed(rt: HostRuntime) -> Result<(), Fail> {
-    share_steps(&rt, rt.alloc(), &WHOLE, 0)
+fn one_hand_does_what_changed(rt: HostRuntime) {
+    share_passes(&rt, rt.alloc(), &WHOLE, 0);
 }
 
 // One that looks for files and none that reads, then one, two, seven and 64 that read twelve files.
 #[test]
-fn any_number_of_hands_does_the_same_over_a_lock(rt: HostRuntime) -> Result<(), Fail> {
+fn any_number_of_hands_does_the_same_over_a_lock(rt: HostRuntime) {
     for others in [1, 2, 3, 8, 65] {
-        share_steps(&rt, rt.alloc(), &WHOLE, others)?;
+        share_passes(&rt, rt.alloc(), &WHOLE, others);
     }
-    Ok(())
 }
 
 #[test]
-fn the_first_miss_of_its_own_is_told(rt: HostRuntime) -> Result<(), Fail> {
-    share_steps(&rt, rt.alloc(), &MISSED, 0)
+fn the_first_miss_of_its_own_is_told(rt: HostRuntime) {
+    share_passes(&rt, rt.alloc(), &MISSED, 0);
 }
 
 #[test]
-fn the_first_hand_tries_again_what_others_left(rt: HostRuntime) -> Result<(), Fail> {
-    let alloc = rt.alloc();
-    let mut store = MemStore::new(alloc, Vec::new(alloc), None, Vec::new(alloc));
-    let mut index = put_behind(alloc, opened(alloc, &mut store)?)?;
-    for step in &MOVED {
-        let hands = hands_of(alloc, step.hands)?;
-        let (next, end) = pass(&rt, alloc, index, hands, step.roots, &NoGate)?;
-        assert_eq!(rt; end.as_str(), step.end, "{}", step.shows);
-        let (next, rows) = rows_of(&rt, alloc, next)?;
-        index = next;
-        assert_eq!(rt; rows.as_str(), step.rows, "{}", step.shows);
-    }
-    store.give_back(taken(&rt, index).into_keeper());
-    Ok(())
+fn the_first_hand_tries_again_what_others_left(rt: HostRuntime) {
+    share_passes(&rt, rt.alloc(), &MOVED, 0);
 }
 
-/// The end of a first pass over the reference tree with these hands, and the rows by then, where
-/// the store stops at this call; and the end of a second pass, with one hand.
-fn two_passes<Rt: Threads + Wait + Sync>(
+/// The end of a first pass over the reference tree with these hands, where the store stops at this
+/// call; the end of a second pass, with one hand; and the number of rows by then.
+fn two_passes<Rt: Abort + Threads + Wait + Sync>(
     rt: &Rt,
     alloc: Global,
     stop_at: Option<u64>,
     hands: Vec<MemTree<SampleWorld>>,
-) -> Result<(String, u64, String), Fail> {
-    let mut store = MemStore::new(alloc, Vec::new(alloc), stop_at, Vec::new(alloc));
-    let index = put_behind(alloc, opened(alloc, &mut store)?)?;
-    let (index, end) = pass(rt, alloc, index, hands, &FOLDERS, &NoGate)?;
-    let (index, then) = pass(rt, alloc, index, many(alloc, 1)?, &FOLDERS, &NoGate)?;
-    let index = taken(rt, index);
-    let rows = index.standing().rows;
-    store.give_back(index.into_keeper());
-    Ok((end, rows, then))
+) -> (String, String, u64) {
+    let index = empty_shared(rt, alloc, stop_at);
+    let (index, end) = pass(rt, alloc, index, hands, &FOLDERS, &NoGate);
+    let (index, then) = pass(rt, alloc, index, many(rt, alloc, 1), &FOLDERS, &NoGate);
+    let Unspared { lock, seat } = index;
+    let rows = taken(rt, Shared { lock, seat }).standing().rows;
+    (end, then, rows)
 }
 
-// The store's calls are the opening, the rows, and a put for each file.
-#[test]
-fn a_store_that_failed_leaves_a_broken_index(rt: HostRuntime) -> Result<(), Fail> {
-    let alloc = rt.alloc();
-    for puts in 0..12 {
-        let (end, rows, then) = two_passes(&rt, alloc, Some(puts + 2), many(alloc, 5)?)?;
-        assert_eq!(rt;
-            (end.as_str(), rows, then.as_str()),
-            ("the store failed", puts, "broken"),
-            "after {puts}"
-        );
-    }
-    Ok(())
-}
-
-/// A call of one hand of five that fails in a first pass over the reference tree: how that pass
-/// ends, and the next one.
-fn fails_at<Rt: Threads + Wait + Sync + Abort>(
+/// Compares the ends of two passes, and the number of rows by then, with what they are to be, where
+/// the store stops after so many puts of the first one, with five hands.
+fn stops_after<Rt: Abort + Threads + Wait + Sync>(
     rt: &Rt,
     alloc: Global,
-    hand: usize,
-    call: u64,
-    ends: (&str, &str),
-) -> Result<(), Fail> {
-    let mut hands = many(alloc, 5)?;
-    if let Some(failing) = hands.get_mut(hand) {
-        *failing = tree_of(alloc, Files::Reference, None, &[call])?;
+    puts: u64,
+    wanted: (&str, &str, u64),
+) {
+    // The store's calls are the opening, the rows, and a put for each file.
+    let stop_at = Some(puts.saturating_add(2));
+    let (end, then, rows) = two_passes(rt, alloc, stop_at, many(rt, alloc, 5));
+    assert!(rt;
+        (end.as_str(), then.as_str(), rows) == wanted,
+        "after {puts}"
+    );
+}
+
+#[test]
+fn a_store_that_failed_leaves_a_broken_index(rt: HostRuntime) {
+    for puts in 0..12 {
+        stops_after(&rt, rt.alloc(), puts, ("the store failed", "broken", puts));
     }
-    let (end, rows, then) = two_passes(rt, alloc, None, hands)?;
-    assert_eq!(rt;
-        (end.as_str(), then.as_str()),
-        ends,
+}
+
+/// Compares the same, where one hand of five fails at a call in the first pass.
+fn fails_at<Rt: Abort + Threads + Wait + Sync>(
+    rt: &Rt,
+    alloc: Global,
+    hand: u64,
+    call: u64,
+    wanted: (&str, &str, u64),
+) {
+    let hands = one_fails(rt, alloc, hand, call);
+    let (end, then, rows) = two_passes(rt, alloc, None, hands);
+    assert!(rt;
+        (end.as_str(), then.as_str(), rows) == wanted,
         "call {call} of hand {hand}"
     );
-    assert_eq!(rt; rows, 12, "after call {call} of hand {hand}");
-    Ok(())
 }
 
 #[test]
-fn a_hand_that_fails_beside_costs_nothing(rt: HostRuntime) -> Result<(), Fail> {
+fn a_hand_that_fails_beside_costs_nothing(rt: HostRuntime) {
     for call in 0..13 {
-        let ends = ("12 12 0 0 0 4 4", "12 0 0 0 12 4 4");
-        fails_at(&rt, rt.alloc(), 2, call, ends)?;
+        let wanted = ("12 12 0 0 0 4 4", "12 0 0 0 12 4 4", 12);
+        fails_at(&rt, rt.alloc(), 2, call, wanted);
     }
-    Ok(())
 }
 
 #[test]
-fn a_first_hand_whose_walk_fails_leaves_the_index(rt: HostRuntime) -> Result<(), Fail> {
+fn a_first_hand_whose_walk_fails_leaves_the_index(rt: HostRuntime) {
     for call in 0..20 {
-        let ends = ("a call of the walk failed", "12 12 0 0 0 4 4");
-        fails_at(&rt, rt.alloc(), 0, call, ends)?;
+        let wanted = ("a call of the walk failed", "12 12 0 0 0 4 4", 12);
+        fails_at(&rt, rt.alloc(), 0, call, wanted);
     }
-    Ok(())
 }
 
 #[test]
-fn a_file_is_read_over_a_lock_while_another_is_held(rt: HostRuntime) -> Result<(), Fail> {
+fn a_file_is_read_over_a_lock_while_another_is_held(rt: HostRuntime) {
     let alloc = rt.alloc();
-    let gate = TurnGate::new(
-        Hold::Loading(String::from_str(alloc, "/srv/bin/empty")?),
-        Hold::Published(String::from_str(alloc, "/srv/bin/libx.so")?),
-        1_000_000,
-    );
-    let mut store = MemStore::new(alloc, Vec::new(alloc), None, Vec::new(alloc));
-    let index = put_behind(alloc, opened(alloc, &mut store)?)?;
-    let (index, end) = pass(&rt, alloc, index, many(alloc, 4)?, &FOLDERS, &gate)?;
-    assert_eq!(rt; end.as_str(), "12 12 0 0 0 4 4");
+    let gate = holding_gate(&rt, alloc);
+    let index = empty_shared(&rt, alloc, None);
+    let (_, end) = pass(&rt, alloc, index, many(&rt, alloc, 4), &FOLDERS, &gate);
+    assert!(rt; end.as_str() == "12 12 0 0 0 4 4", "{end}");
     assert!(rt; gate.met());
-    store.give_back(taken(&rt, index).into_keeper());
-    Ok(())
 }

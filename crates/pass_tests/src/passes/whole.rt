@@ -1,8 +1,7 @@
 //! Passes over the reference tree as it changes.
 
-use crate::passes::passes::{Step, run_steps};
-use crate::passes::trees::Files;
-use std::test::Fail;
+use crate::passes::passes::{Holds, Pass, run_passes};
+use crate::rig::Files;
 
 /// The rows of the reference tree under `/srv/bin`.
 const BIN: &str =
@@ -19,66 +18,80 @@ const SOURCES: &str = "/w/src/inc/util.h 0, /w/src/main.c 26, ";
 
 /// A walk of the three folders makes 20 calls: a look at each root, a reading of each of them and of
 /// two below them, and a look at each of the twelve files.
-pub static WHOLE: [Step; 7] = [
-    Step {
+pub static WHOLE: [Pass; 7] = [
+    Pass {
         shows: "the first pass reads all files",
-        files: Files::Reference,
-        later: None,
-        bad_calls: &[32],
+        hands: &[Holds {
+            files: Files::Reference,
+            later: None,
+            bad_calls: &[32],
+        }],
         roots: &["/srv/bin", "/srv/debug", "/w"],
         end: "12 12 0 0 0 4 4",
         rows: &[BIN, TOOLS, DEBUG, "/w/README 0, ", SOURCES],
     },
-    Step {
+    Pass {
         shows: "the second one loads nothing",
-        files: Files::Reference,
-        later: None,
-        bad_calls: &[20],
+        hands: &[Holds {
+            files: Files::Reference,
+            later: None,
+            bad_calls: &[20],
+        }],
         roots: &["/srv/bin", "/srv/debug", "/w"],
         end: "12 0 0 0 12 4 4",
         rows: &[BIN, TOOLS, DEBUG, "/w/README 0, ", SOURCES],
     },
-    Step {
+    Pass {
         shows: "the row of a file that went is dropped after one look",
-        files: Files::NoReadme,
-        later: None,
-        bad_calls: &[20],
+        hands: &[Holds {
+            files: Files::NoReadme,
+            later: None,
+            bad_calls: &[20],
+        }],
         roots: &["/srv/bin", "/srv/debug", "/w"],
         end: "11 0 0 1 11 4 4",
         rows: &[BIN, TOOLS, DEBUG, SOURCES],
     },
-    Step {
+    Pass {
         shows: "a file that came is loaded, and no other",
-        files: Files::Reference,
-        later: None,
-        bad_calls: &[21],
+        hands: &[Holds {
+            files: Files::Reference,
+            later: None,
+            bad_calls: &[21],
+        }],
         roots: &["/srv/bin", "/srv/debug", "/w"],
         end: "12 1 0 0 11 4 4",
         rows: &[BIN, TOOLS, DEBUG, "/w/README 0, ", SOURCES],
     },
-    Step {
+    Pass {
         shows: "rows under no root any more are dropped without a look",
-        files: Files::Reference,
-        later: None,
-        bad_calls: &[13],
+        hands: &[Holds {
+            files: Files::Reference,
+            later: None,
+            bad_calls: &[13],
+        }],
         roots: &["/srv/bin", "/srv/debug"],
         end: "9 0 0 3 9 4 4",
         rows: &[BIN, TOOLS, DEBUG],
     },
-    Step {
+    Pass {
         shows: "a root that is gone leaves all rows",
-        files: Files::Script,
-        later: None,
-        bad_calls: &[],
+        hands: &[Holds {
+            files: Files::Script,
+            later: None,
+            bad_calls: &[],
+        }],
         roots: &["/srv/bin", "/srv/debug"],
         end: "/srv/debug is gone",
         rows: &[BIN, TOOLS, DEBUG],
     },
-    Step {
+    Pass {
         shows: "so does a walk that fails",
-        files: Files::Reference,
-        later: None,
-        bad_calls: &[12],
+        hands: &[Holds {
+            files: Files::Reference,
+            later: None,
+            bad_calls: &[12],
+        }],
         roots: &["/srv/bin", "/srv/debug"],
         end: "a call of the walk failed",
         rows: &[BIN, TOOLS, DEBUG],
@@ -87,31 +100,32 @@ pub static WHOLE: [Step; 7] = [
 
 // The numbers are those of the worked rows of the scan of this tree.
 #[test]
-fn each_pass_does_what_changed(rt: HostRuntime) -> Result<(), Fail> {
-    run_steps(&rt, rt.alloc(), None, &WHOLE, 0)
+fn each_pass_does_what_changed(rt: HostRuntime) {
+    run_passes(&rt, rt.alloc(), None, &WHOLE, 0);
 }
 
 // One that looks for files and none that reads, then one, two, seven and 64 that read twelve files.
 #[test]
-fn any_number_of_hands_does_the_same(rt: HostRuntime) -> Result<(), Fail> {
+fn any_number_of_hands_does_the_same(rt: HostRuntime) {
     for others in [1, 2, 3, 8, 65] {
-        run_steps(&rt, rt.alloc(), None, &WHOLE, others)?;
+        run_passes(&rt, rt.alloc(), None, &WHOLE, others);
     }
-    Ok(())
 }
 
 /// The store's calls are the opening, the rows, and a put for each file.
-static STOPPED: [Step; 1] = [Step {
+static STOPPED: [Pass; 1] = [Pass {
     shows: "a store that stops at the third put",
-    files: Files::Reference,
-    later: None,
-    bad_calls: &[],
+    hands: &[Holds {
+        files: Files::Reference,
+        later: None,
+        bad_calls: &[],
+    }],
     roots: &["/srv/debug", "/w"],
     end: "the store failed",
     rows: &["/srv/debug/notes.txt 0, ", "/srv/debug/ppc.debug 324, "],
 }];
 
 #[test]
-fn a_store_that_fails_ends_the_pass(rt: HostRuntime) -> Result<(), Fail> {
-    run_steps(&rt, rt.alloc(), Some(4), &STOPPED, 0)
+fn a_store_that_fails_ends_the_pass(rt: HostRuntime) {
+    run_passes(&rt, rt.alloc(), Some(4), &STOPPED, 0);
 }

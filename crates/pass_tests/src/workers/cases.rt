@@ -1,25 +1,12 @@
 //! What the work on one listed file comes to, case by case.
 
-ghost use Rattle.std.specs.Prelude.{◌≡◌};
-ghost use Rattle.tree_trait.specs.TwoWorld.{first_stamp, second_stamp};
-
-use crate::workers::helpers::{Index, Outcome, begin, empty_index, outcome_of_one};
-use row_types::{Name, Stamp};
-use sample_rows::path;
+use crate::rig::{Version, listed, passing, version_tree};
+use crate::workers::helpers::outcome_of_one;
 use scan_worker::WorkEnd;
-use std::alloc::{AllocError, Global};
+use std::alloc::Global;
+use std::process::Abort;
 use std::sync::Wait;
-use std::test::Fail;
-use tree_trait::{Found, MemTree, NoGate, Script, TwoWorld};
-
-/// A version of `/w/a`.
-#[derive(Clone, Copy)]
-enum Version {
-    /// `x`.
-    First,
-    /// `yy`.
-    Second,
-}
+use tree_trait::NoGate;
 
 /// The work on one listed file, and what it comes to.
 struct Case {
@@ -124,102 +111,23 @@ static CASES: [Case; 7] = [
     },
 ];
 
-/// The stamp of `x`.
-fn first() -> Stamp
-    ensures { result ≡ first_stamp }
-{
-    Stamp {
-        size: 1,
-        secs: 1,
-        nanos: 0,
-    }
-}
-
-/// The stamp of `yy`.
-fn second() -> Stamp
-    ensures { result ≡ second_stamp }
-{
-    Stamp {
-        size: 2,
-        secs: 2,
-        nanos: 0,
-    }
-}
-
-/// The stamp of a version.
-fn stamp_of(version: Version) -> Stamp {
-    match version {
-        Version::First => first(),
-        Version::Second => second(),
-    }
-}
-
-/// The version at `/w/a`, as a tree has it.
-fn found_of(alloc: Global, version: Version) -> Result<Found<TwoWorld>, AllocError> {
-    let path = String::from_str(alloc, "/w/a")?;
-    match version {
-        Version::First => Ok(Found::new(path, first(), vec![in alloc; b'x']?)),
-        Version::Second => Ok(Found::new(path, second(), vec![in alloc; b'y', b'y']?)),
-    }
-}
-
-/// The tree of a version, or of nothing, whose first call fails or not.
-fn tree_of(
-    alloc: Global,
-    version: Option<Version>,
-    fails: bool,
-) -> Result<MemTree<TwoWorld>, AllocError> {
-    let mut files = vec![in alloc]?;
-    if let Some(version) = version {
-        files.push(found_of(alloc, version)?)?;
-    }
-    let mut bad_calls = vec![in alloc]?;
-    if fails {
-        bad_calls.push(0)?;
-    }
-    let script = Script {
-        stages: vec![in alloc; files]?,
-        moves: vec![in alloc]?,
-        bad_calls,
-    };
-    Ok(MemTree::new(alloc, script))
-}
-
-/// The index in a pass over the version, or over nothing, on a store that stops at this call.
-fn index_of(
-    alloc: Global,
-    listed: Option<Version>,
-    stop_at: Option<u64>,
-) -> Result<Index<TwoWorld>, Fail> {
-    let mut index = empty_index(alloc, stop_at)?;
-    let mut names = vec![in alloc]?;
-    if let Some(version) = listed {
-        names.push(Name {
-            path: path(alloc, "/w/a")?,
-            stamp: stamp_of(version),
-        })?;
-    }
-    begin(alloc, &mut index, names, "/w")?;
-    Ok(index)
-}
-
-/// What a case comes to.
-fn run_case<Rt: Wait + Sync>(rt: &Rt, alloc: Global, case: &Case) -> Result<Outcome, Fail> {
-    let hand = tree_of(alloc, case.there, case.fails)?;
-    let index = index_of(alloc, case.listed, case.stop_at)?;
-    outcome_of_one(rt, alloc, index, hand, &NoGate)
+/// Runs a case, and compares.
+fn run_case<Rt: Abort + Wait + Sync>(rt: &Rt, alloc: Global, case: &Case) {
+    let names = listed(rt, alloc, case.listed);
+    let index = passing(rt, alloc, case.stop_at, names, "/w");
+    let hand = version_tree(rt, alloc, case.there, case.fails);
+    let outcome = outcome_of_one(rt, alloc, index, hand, &NoGate);
+    let report = outcome.report;
+    let numbers = (report.asked, report.published, report.missed);
+    assert!(rt; numbers == case.numbers, "{}", case.shows);
+    assert!(rt; report.end == case.end, "{}", case.shows);
+    assert!(rt; outcome.rows.as_str() == case.rows, "{}", case.shows);
+    assert!(rt; outcome.missed.as_str() == case.missed, "{}", case.shows);
 }
 
 #[test]
-fn a_listed_file_is_worked_on(rt: HostRuntime) -> Result<(), Fail> {
+fn a_listed_file_is_worked_on(rt: HostRuntime) {
     for case in &CASES {
-        let outcome = run_case(&rt, rt.alloc(), case)?;
-        let report = outcome.report;
-        let numbers = (report.asked, report.published, report.missed);
-        assert_eq!(rt; numbers, case.numbers, "{}", case.shows);
-        assert_eq!(rt; report.end, case.end, "{}", case.shows);
-        assert_eq!(rt; outcome.rows.as_str(), case.rows, "{}", case.shows);
-        assert_eq!(rt; outcome.missed.as_str(), case.missed, "{}", case.shows);
+        run_case(&rt, rt.alloc(), case);
     }
-    Ok(())
 }

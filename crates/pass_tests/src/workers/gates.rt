@@ -1,16 +1,15 @@
 //! The points that a worker passes, in order.
 
-ghost use Rattle.std.specs.Prelude.{◌≡◌, IfOk};
-
-use crate::workers::helpers::{Index, begin, empty_index, outcome_of_one};
+use crate::rig::{file, passing, still_tree};
+use crate::workers::helpers::{outcome_of_one, report};
 use row_types::OpenWorld;
-use sample_rows::{names, stamp};
+use sample_rows::names;
 use scan_worker::{WorkEnd, WorkReport};
-use std::alloc::{AllocError, Global};
+use std::alloc::Global;
+use std::process::Abort;
 use std::sync::Wait;
 use std::sync::atomic::{AtomicBool, AtomicUsize, Ordering};
-use std::test::Fail;
-use tree_trait::{Found, Gate, MemTree, Point, Script};
+use tree_trait::{Gate, MemTree, Point};
 
 /// The points that are wanted: `/a` is read, `/b` is another file by then, `/c` can't be read, and
 /// `/d` is read.
@@ -56,53 +55,31 @@ impl Gate for InOrder {
     }
 }
 
-/// The file of this size at a path.
-fn file(alloc: Global, path: &str, size: usize) -> Result<Found<OpenWorld>, AllocError>
-    ensures { IfOk result (λ file. file.path ≡ path.now) }
-{
-    let bytes = vec![in alloc; b'x'; size]?;
-    let stamp = stamp(size as u64);
-    Ok(Found::new(String::from_str(alloc, path)?, stamp, bytes))
-}
-
 /// The tree of four files, of which the third can't be read.
-fn four_files(alloc: Global) -> Result<MemTree<OpenWorld>, AllocError> {
-    let first = file(alloc, "/a", 1)?;
-    let second = file(alloc, "/b", 2)?;
-    let third = file(alloc, "/c", 1)?;
-    let fourth = file(alloc, "/d", 1)?;
-    let script = Script {
-        stages: vec![in alloc; vec![in alloc; first, second, third, fourth]?]?,
-        moves: Vec::new(alloc),
-        bad_calls: vec![in alloc; 2]?,
-    };
-    Ok(MemTree::new(alloc, script))
+fn four_files(rt: &impl Abort, alloc: Global) -> MemTree<OpenWorld> {
+    let first = file(rt, alloc, "/a", 1);
+    let second = file(rt, alloc, "/b", 2);
+    let third = file(rt, alloc, "/c", 1);
+    let fourth = file(rt, alloc, "/d", 1);
+    let files = vec![in alloc; first, second, third, fourth].expect(rt, "memory");
+    still_tree(rt, alloc, files, &[2])
 }
 
-/// The index in a pass over the four files, with one byte each.
-fn index_of_four(alloc: Global) -> Result<Index<OpenWorld>, Fail> {
-    let mut index = empty_index(alloc, None)?;
-    let listed = names(alloc, &[("/a", 1), ("/b", 1), ("/c", 1), ("/d", 1)])?;
-    begin(alloc, &mut index, listed, "/")?;
-    Ok(index)
+/// The report of a worker on the four files, listed with one byte each.
+fn report_of<G: Gate, Rt: Abort + Wait + Sync>(rt: &Rt, alloc: Global, gate: &G) -> WorkReport {
+    let listed = names(alloc, &[("/a", 1), ("/b", 1), ("/c", 1), ("/d", 1)]).expect(rt, "names");
+    let index = passing(rt, alloc, None, listed, "/");
+    outcome_of_one(rt, alloc, index, four_files(rt, alloc), gate).report
 }
 
 #[test]
-fn a_worker_passes_the_gate_before_loads_and_after_rows(rt: HostRuntime) -> Result<(), Fail> {
-    let alloc = rt.alloc();
+fn a_worker_passes_the_gate_before_loads_and_after_rows(rt: HostRuntime) {
     let gate = InOrder {
         passed: AtomicUsize::new(0),
         is_wrong: AtomicBool::new(false),
     };
-    let outcome = outcome_of_one(&rt, alloc, index_of_four(alloc)?, four_files(alloc)?, &gate)?;
-    let wanted = WorkReport {
-        asked: 4,
-        published: 2,
-        missed: 2,
-        end: WorkEnd::Empty,
-    };
-    assert_eq!(rt; outcome.report, wanted);
-    assert_eq!(rt; gate.passed.load(Ordering::SeqCst), WANTED.len());
+    let said = report_of(&rt, rt.alloc(), &gate);
+    assert!(rt; said == report(4, 2, 2, WorkEnd::Empty));
+    assert!(rt; gate.passed.load(Ordering::SeqCst) == WANTED.len());
     assert!(rt; !gate.is_wrong.load(Ordering::SeqCst));
-    Ok(())
 }

@@ -1,11 +1,11 @@
 //! Requests at the edges: what is refused, and how connections end.
 
-use crate::connections::helpers::{Plan, serve, whole};
-use crate::connections::texts::text_reply;
+use crate::connections::helpers::{Plan, compare, serve, whole};
+use crate::connections::texts::{no_routes, text_reply};
 use conn_server::ConnEnd;
 use std::alloc::Global;
+use std::process::Abort;
 use std::sync::Wait;
-use std::test::Fail;
 
 /// The bytes of a request, the status line, the text, what the reply says of the connection, and
 /// its end.
@@ -77,124 +77,108 @@ static CASES: [Case; 8] = [
 ];
 
 #[test]
-fn each_refusal_has_its_reply(rt: HostRuntime) -> Result<(), Fail> {
+fn each_refusal_has_its_reply(rt: HostRuntime) {
     let alloc = rt.alloc();
     for (input, line, body, connection, end) in &CASES {
-        let seen = serve(&rt, alloc, &whole(input.as_bytes()))?;
-        let want = text_reply(alloc, line, body, connection)?;
-        assert_eq!(rt; seen.written.as_slice(), want.as_bytes(), "{input}");
-        assert_eq!(rt; seen.end, *end, "{input}");
-        assert_eq!(rt; seen.served, 1, "{input}");
+        let wanted = text_reply(&rt, alloc, line, body, connection);
+        compare(&rt, alloc, &whole(input), wanted.as_bytes(), 1, *end);
     }
-    Ok(())
 }
 
 #[test]
-fn another_method_is_refused_with_those_that_are_served(rt: HostRuntime) -> Result<(), Fail> {
-    let seen = serve(&rt, rt.alloc(), &whole(b"POST /metrics HTTP/1.1\r\n\r\n"))?;
-    let want = b"HTTP/1.1 405 Method Not Allowed\r\nContent-Type: text/plain\r\n\
+fn another_method_is_refused_with_those_that_are_served(rt: HostRuntime) {
+    let wanted = b"HTTP/1.1 405 Method Not Allowed\r\nContent-Type: text/plain\r\n\
         Content-Length: 11\r\nAllow: GET, HEAD\r\nConnection: keep-alive\r\n\r\nbad method\n";
-    assert_eq!(rt; seen.written.as_slice(), want.as_slice());
-    assert_eq!(rt; seen.end, ConnEnd::Closed);
-    Ok(())
+    let plan = whole("POST /metrics HTTP/1.1\r\n\r\n");
+    compare(&rt, rt.alloc(), &plan, wanted, 1, ConnEnd::Closed);
 }
 
-/// Whether the bytes are refused for their size.
-fn is_too_large<R: Wait + Sync>(rt: &R, alloc: Global, input: &[u8]) -> Result<bool, Fail> {
-    let seen = serve(rt, alloc, &whole(input))?;
+/// The bytes are refused for their size.
+fn is_too_large<R: Abort + Wait + Sync>(rt: &R, alloc: Global, input: &str) {
     let status = "431 Request Header Fields Too Large";
-    let want = text_reply(alloc, status, "too large", "close")?;
-    Ok(
-        seen.written.as_slice() == want.as_bytes()
-            && seen.end == ConnEnd::Refused
-            && seen.served == 1,
-    )
+    let wanted = text_reply(rt, alloc, status, "too large", "close");
+    compare(
+        rt,
+        alloc,
+        &whole(input),
+        wanted.as_bytes(),
+        1,
+        ConnEnd::Refused,
+    );
 }
 
-#[test]
-fn a_head_that_is_too_large_is_refused(rt: HostRuntime) -> Result<(), Fail> {
-    let alloc = rt.alloc();
-    let mut long = Vec::from_slice(alloc, b"GET /")?;
-    for _ in 0..16_380 {
-        long.push(b'a')?;
+/// A front, and a piece so many times.
+fn repeated(rt: &impl Abort, alloc: Global, front: &str, piece: &str, times: usize) -> String {
+    let mut text = String::from_str(alloc, front).expect(rt, "memory");
+    for _ in 0..times {
+        text.push_str(piece).expect(rt, "memory");
     }
-    assert!(rt; is_too_large(&rt, alloc, long.as_slice())?);
-    let mut many = Vec::from_slice(alloc, b"GET / HTTP/1.1\r\n")?;
-    for _ in 0..65 {
-        many.extend_from_slice(b"a: b\r\n")?;
-    }
-    many.extend_from_slice(b"\r\n")?;
-    assert!(rt; is_too_large(&rt, alloc, many.as_slice())?);
-    Ok(())
+    text
 }
 
 #[test]
-fn a_head_that_is_cut_off_has_no_reply(rt: HostRuntime) -> Result<(), Fail> {
-    let seen = serve(&rt, rt.alloc(), &whole(b"GET / HT"))?;
-    assert_eq!(rt; seen.written.len(), 0);
-    assert_eq!(rt; seen.end, ConnEnd::Cut);
-    let seen = serve(&rt, rt.alloc(), &whole(b""))?;
-    assert_eq!(rt; seen.end, ConnEnd::Closed);
-    Ok(())
-}
-
-#[test]
-fn two_requests_in_one_read_have_two_replies(rt: HostRuntime) -> Result<(), Fail> {
+fn a_head_that_is_too_large_is_refused(rt: HostRuntime) {
     let alloc = rt.alloc();
-    let input = b"GET /a HTTP/1.1\r\n\r\nGET /b HTTP/1.0\r\n\r\n";
-    let first = text_reply(alloc, "404 Not Found", "no route", "keep-alive")?;
-    let second = text_reply(alloc, "404 Not Found", "no route", "close")?;
-    let mut want = first.into_bytes();
-    want.extend_from_slice(second.as_bytes())?;
+    let long = repeated(&rt, alloc, "GET /", "a", 16_380);
+    is_too_large(&rt, alloc, long.as_str());
+    let mut many = repeated(&rt, alloc, "GET / HTTP/1.1\r\n", "a: b\r\n", 65);
+    many.push_str("\r\n").expect(&rt, "memory");
+    is_too_large(&rt, alloc, many.as_str());
+}
+
+#[test]
+fn a_head_that_is_cut_off_has_no_reply(rt: HostRuntime) {
+    compare(&rt, rt.alloc(), &whole("GET / HT"), b"", 0, ConnEnd::Cut);
+    compare(&rt, rt.alloc(), &whole(""), b"", 0, ConnEnd::Closed);
+}
+
+#[test]
+fn two_requests_in_one_read_have_two_replies(rt: HostRuntime) {
+    let wanted = no_routes(&rt, rt.alloc(), 1, "close");
     for cuts in [0, 38] {
         let plan = Plan {
             cuts,
-            ..whole(input)
+            ..whole("GET /a HTTP/1.1\r\n\r\nGET /b HTTP/1.0\r\n\r\n")
         };
-        let seen = serve(&rt, alloc, &plan)?;
-        assert_eq!(rt; seen.written.as_slice(), want.as_slice(), "{cuts}");
-        assert_eq!(rt; seen.served, 2);
+        compare(
+            &rt,
+            rt.alloc(),
+            &plan,
+            wanted.as_slice(),
+            2,
+            ConnEnd::Closed,
+        );
     }
-    Ok(())
 }
 
 #[test]
-fn the_hundredth_reply_closes(rt: HostRuntime) -> Result<(), Fail> {
+fn the_hundredth_reply_closes(rt: HostRuntime) {
     let alloc = rt.alloc();
-    let reply = text_reply(alloc, "404 Not Found", "no route", "keep-alive")?;
-    let last = text_reply(alloc, "404 Not Found", "no route", "close")?;
-    let mut input = Vec::new(alloc);
-    let mut want = Vec::new(alloc);
-    for _ in 0..99 {
-        input.extend_from_slice(b"GET /a HTTP/1.1\r\n\r\n")?;
-        want.extend_from_slice(reply.as_bytes())?;
-    }
-    input.extend_from_slice(b"GET /a HTTP/1.1\r\n\r\nGET /b HTTP/1.1\r\n\r\n")?;
-    want.extend_from_slice(last.as_bytes())?;
-    let seen = serve(&rt, alloc, &whole(input.as_slice()))?;
-    assert_eq!(rt; seen.end, ConnEnd::Limit);
-    assert_eq!(rt; seen.served, 100);
-    assert_eq!(rt; seen.written.as_slice(), want.as_slice());
-    Ok(())
+    let wanted = no_routes(&rt, alloc, 99, "close");
+    let mut input = repeated(&rt, alloc, "", "GET /a HTTP/1.1\r\n\r\n", 100);
+    input
+        .push_str("GET /b HTTP/1.1\r\n\r\n")
+        .expect(&rt, "memory");
+    let plan = whole(input.as_str());
+    compare(&rt, alloc, &plan, wanted.as_slice(), 100, ConnEnd::Limit);
 }
 
+/// Two requests of no route of which a read or a write fails, how many are answered, and the end.
+static FAULTS: [(&[u64], &[u64], usize, ConnEnd); 2] = [
+    (&[1], &[], 2, ConnEnd::ReadFault),
+    (&[], &[1], 1, ConnEnd::WriteFault),
+];
+
 #[test]
-fn a_failed_read_or_write_ends_the_connection(rt: HostRuntime) -> Result<(), Fail> {
-    let alloc = rt.alloc();
-    let input = b"GET /a HTTP/1.1\r\n\r\nGET /b HTTP/1.1\r\n\r\n";
-    let reads = Plan {
-        bad_reads: &[1],
-        ..whole(input)
-    };
-    let seen = serve(&rt, alloc, &reads)?;
-    assert_eq!(rt; seen.end, ConnEnd::ReadFault);
-    assert_eq!(rt; seen.served, 2);
-    let writes = Plan {
-        bad_writes: &[1],
-        ..whole(input)
-    };
-    let seen = serve(&rt, alloc, &writes)?;
-    assert_eq!(rt; seen.end, ConnEnd::WriteFault);
-    assert_eq!(rt; seen.served, 1);
-    Ok(())
+fn a_failed_read_or_write_ends_the_connection(rt: HostRuntime) {
+    for (bad_reads, bad_writes, requests, wanted) in &FAULTS {
+        let plan = Plan {
+            bad_reads,
+            bad_writes,
+            ..whole("GET /a HTTP/1.1\r\n\r\nGET /b HTTP/1.1\r\n\r\n")
+        };
+        let (_, served, end) = serve(&rt, rt.alloc(), &plan);
+        assert!(rt; served == *requests, "{served}");
+        assert!(rt; end == *wanted, "{served}");
+    }
 }

@@ -1,10 +1,13 @@
 //! The reference requests, and the whole bytes of their replies.
 
-use crate::connections::helpers::{Plan, conn, serve, serve_on, whole};
-use crate::connections::texts::{file_head, request, text_head, text_reply};
-use conn_server::{Asked, ConnEnd, Reason};
+use crate::connections::helpers::{Plan, compare, conn, report_of, whole};
+use crate::connections::texts::{file_head, file_reply, request, text_head, text_reply};
+use conn_server::{Asked, ConnEnd, ConnReport, Reason};
 use sample_world::Sample;
-use std::test::Fail;
+use std::alloc::Global;
+use std::process::Abort;
+use std::sync::Wait;
+use tree_trait::NoGate;
 use webapi_routes::{Route, RouteFault};
 
 /// The ids of `/srv/bin/libx.so`, `/srv/bin/prog`, `/srv/bin/tool` and `/srv/debug/ppc.debug`.
@@ -47,47 +50,54 @@ static FILES: [(&str, &str, Sample, &str); 10] = [
     ),
 ];
 
+/// A request for what is asked of an id is answered by these bytes, and the connection closes.
+fn is_answered<R: Abort + Wait + Sync>(
+    rt: &R,
+    alloc: Global,
+    asked: (&str, &str, &str),
+    bad_loads: &[u64],
+    wanted: &[u8],
+) {
+    let (method, id, rest) = asked;
+    let asked = request(alloc, method, id, rest).expect(rt, "memory");
+    let plan = Plan {
+        bad_loads,
+        ..whole(asked.as_str())
+    };
+    compare(rt, alloc, &plan, wanted, 1, ConnEnd::Closed);
+}
+
 #[test]
-fn a_file_is_sent_with_its_head(rt: HostRuntime) -> Result<(), Fail> {
+fn a_file_is_sent_with_its_head(rt: HostRuntime) {
     let alloc = rt.alloc();
     for (id, rest, sample, path) in &FILES {
-        let seen = serve(
-            &rt,
-            alloc,
-            &whole(request(alloc, "GET", id, rest)?.as_bytes()),
-        )?;
-        let body = sample.bytes(alloc)?;
-        let mut want = file_head(alloc, body.len(), path)?.into_bytes();
-        want.extend_from_slice(body.as_slice())?;
-        assert_eq!(rt; seen.end, ConnEnd::Closed);
-        assert_eq!(rt; seen.written.as_slice(), want.as_slice(), "{rest}");
+        let wanted = file_reply(&rt, alloc, *sample, path);
+        is_answered(&rt, alloc, ("GET", id, rest), &[], wanted.as_slice());
     }
-    Ok(())
 }
 
 #[test]
-fn a_section_is_sent_alone(rt: HostRuntime) -> Result<(), Fail> {
+fn a_section_is_sent_alone(rt: HostRuntime) {
     let alloc = rt.alloc();
-    let asked = request(alloc, "GET", C, "section/.text")?;
-    let seen = serve(&rt, alloc, &whole(asked.as_bytes()))?;
-    let mut want = file_head(alloc, 1, "/srv/bin/tool")?.into_bytes();
-    want.push(0xc3)?;
-    assert_eq!(rt; seen.written.as_slice(), want.as_slice());
-    Ok(())
+    let head = file_head(alloc, 1, "/srv/bin/tool").expect(&rt, "memory");
+    let mut wanted = head.into_bytes();
+    wanted.push(0xc3).expect(&rt, "memory");
+    is_answered(
+        &rt,
+        alloc,
+        ("GET", C, "section/.text"),
+        &[],
+        wanted.as_slice(),
+    );
 }
 
 #[test]
-fn a_head_alone_is_sent_for_head(rt: HostRuntime) -> Result<(), Fail> {
+fn a_head_alone_is_sent_for_head(rt: HostRuntime) {
     let alloc = rt.alloc();
-    let asked = request(alloc, "HEAD", B, "debuginfo")?;
-    let seen = serve(&rt, alloc, &whole(asked.as_bytes()))?;
-    let want = file_head(alloc, 1016, "/srv/bin/prog")?;
-    assert_eq!(rt; seen.written.as_slice(), want.as_bytes());
-    let asked = request(alloc, "HEAD", B, "nothing")?;
-    let seen = serve(&rt, alloc, &whole(asked.as_bytes()))?;
-    let want = text_head(alloc, "404 Not Found", 9, "keep-alive")?;
-    assert_eq!(rt; seen.written.as_slice(), want.as_bytes());
-    Ok(())
+    let file = file_head(alloc, 1016, "/srv/bin/prog").expect(&rt, "memory");
+    is_answered(&rt, alloc, ("HEAD", B, "debuginfo"), &[], file.as_bytes());
+    let text = text_head(alloc, "404 Not Found", 9, "keep-alive").expect(&rt, "memory");
+    is_answered(&rt, alloc, ("HEAD", B, "nothing"), &[], text.as_bytes());
 }
 
 /// Ids, and what is asked of them, that no file answers.
@@ -100,49 +110,46 @@ static NOWHERE: [(&str, &str); 5] = [
 ];
 
 #[test]
-fn what_is_nowhere_is_not_found(rt: HostRuntime) -> Result<(), Fail> {
+fn what_is_nowhere_is_not_found(rt: HostRuntime) {
     let alloc = rt.alloc();
-    let want = text_reply(alloc, "404 Not Found", "not found", "keep-alive")?;
+    let wanted = text_reply(&rt, alloc, "404 Not Found", "not found", "keep-alive");
     for (id, rest) in &NOWHERE {
-        let asked = request(alloc, "GET", id, rest)?;
-        let seen = serve(&rt, alloc, &whole(asked.as_bytes()))?;
-        assert_eq!(rt; seen.written.as_slice(), want.as_bytes(), "{rest}");
+        is_answered(&rt, alloc, ("GET", id, rest), &[], wanted.as_bytes());
     }
-    Ok(())
 }
 
 #[test]
-fn a_failed_load_is_a_read_fault(rt: HostRuntime) -> Result<(), Fail> {
+fn a_failed_load_is_a_read_fault(rt: HostRuntime) {
     let alloc = rt.alloc();
-    let want = text_reply(alloc, "503 Service Unavailable", "read fault", "keep-alive")?;
-    let asked = request(alloc, "GET", C, "executable")?;
-    let plan = Plan {
-        bad_loads: &[0],
-        ..whole(asked.as_bytes())
+    let status = "503 Service Unavailable";
+    let wanted = text_reply(&rt, alloc, status, "read fault", "keep-alive");
+    is_answered(
+        &rt,
+        alloc,
+        ("GET", C, "executable"),
+        &[0],
+        wanted.as_bytes(),
+    );
+}
+
+/// What is told of these bytes.
+fn told<R: Abort + Wait + Sync>(rt: &R, alloc: Global, input: &str) -> ConnReport {
+    let mut conn = conn(rt, alloc, &whole(input));
+    report_of(rt, alloc, &mut conn, &[], &NoGate)
+}
+
+#[test]
+fn each_request_is_told_with_its_reply(rt: HostRuntime) {
+    let input = "GET /buildid/404142434445464748494a4b4c4d4e4f50515253/nothing HTTP/1.1\r\n\r\n\
+        GET /buildid/404142434445464748494a4b4c4d4e4f50515253/section/.text HTTP/1.1\r\n\r\n";
+    let report = told(&rt, rt.alloc(), input);
+    let [first, second] = report.served.as_slice() else {
+        panic!(rt; "two requests are told");
     };
-    let seen = serve(&rt, alloc, &plan)?;
-    assert_eq!(rt; seen.written.as_slice(), want.as_bytes());
-    assert_eq!(rt; seen.served, 1);
-    Ok(())
-}
-
-#[test]
-fn each_request_is_told_with_its_reply(rt: HostRuntime) -> Result<(), Fail> {
-    let alloc = rt.alloc();
-    let mut asked = request(alloc, "GET", C, "nothing")?;
-    asked.push_str(request(alloc, "GET", C, "section/.text")?.as_str())?;
-    let mut conn = conn(alloc, &whole(asked.as_bytes()))?;
-    let report = serve_on(&rt, alloc, &mut conn, &[])?;
-    match report.served.as_slice() {
-        [first, second] => {
-            assert_eq!(rt; first.asked, Asked::NotRoute(RouteFault::NoRoute));
-            assert_eq!(rt; first.reason, Reason::NoRoute);
-            assert_eq!(rt; (first.status, first.gen_, first.len), (404, 0, 9));
-            assert!(rt; matches!(&second.asked, Asked::Route(Route::Section(_, _))));
-            assert_eq!(rt; second.reason, Reason::Local);
-            assert_eq!(rt; (second.status, second.gen_, second.len), (200, 12, 1));
-            Ok(())
-        }
-        _ => Err("two requests are told".into()),
-    }
+    assert!(rt; matches!(&first.asked, Asked::NotRoute(RouteFault::NoRoute)));
+    assert!(rt; first.reason == Reason::NoRoute);
+    assert!(rt; (first.status, first.gen_, first.len) == (404, 0, 9));
+    assert!(rt; matches!(&second.asked, Asked::Route(Route::Section(_, _))));
+    assert!(rt; second.reason == Reason::Local);
+    assert!(rt; (second.status, second.gen_, second.len) == (200, 12, 1));
 }

@@ -1,7 +1,7 @@
 //! The pages that the tests expect.
 
 /// The page after two requests and a pass.
-pub(crate) const TWO_REQUESTS_AND_A_PASS: &str =
+pub(crate) static TWO_REQUESTS_AND_A_PASS: &str =
     "dbgd_requests_total{route=\"debuginfo\",status=\"200\"} 1
 dbgd_requests_total{route=\"executable\",status=\"404\"} 1
 dbgd_body_bytes_total 1026
@@ -12,7 +12,7 @@ dbgd_passes_total 1
 ";
 
 /// The page before anything was counted.
-pub(crate) const ZEROS: &str = "dbgd_body_bytes_total 0
+pub(crate) static ZEROS: &str = "dbgd_body_bytes_total 0
 dbgd_rows_added_total 0
 dbgd_rows_replaced_total 0
 dbgd_rows_dropped_total 0
@@ -20,7 +20,7 @@ dbgd_passes_total 0
 ";
 
 /// A line for each route and for each status.
-pub(crate) const EACH_ROUTE_AND_STATUS: &str =
+pub(crate) static EACH_ROUTE_AND_STATUS: &str =
     "dbgd_requests_total{route=\"debuginfo\",status=\"200\"} 1
 dbgd_requests_total{route=\"debuginfo\",status=\"400\"} 2
 dbgd_requests_total{route=\"executable\",status=\"404\"} 3
@@ -37,7 +37,7 @@ dbgd_passes_total 1
 ";
 
 /// The page after 20,000 requests of 3 bytes each.
-pub(crate) const TWO_THREADS: &str = "dbgd_requests_total{route=\"section\",status=\"200\"} 20000
+pub(crate) static TWO_THREADS: &str = "dbgd_requests_total{route=\"section\",status=\"200\"} 20000
 dbgd_body_bytes_total 60000
 dbgd_rows_added_total 0
 dbgd_rows_replaced_total 0
@@ -46,7 +46,7 @@ dbgd_passes_total 0
 ";
 
 /// The page after 20,000 requests of 3 bytes and 20,000 of 4.
-pub(crate) const FOUR_THREADS: &str = "dbgd_requests_total{route=\"source\",status=\"200\"} 20000
+pub(crate) static FOUR_THREADS: &str = "dbgd_requests_total{route=\"source\",status=\"200\"} 20000
 dbgd_requests_total{route=\"source\",status=\"503\"} 20000
 dbgd_body_bytes_total 140000
 dbgd_rows_added_total 0
@@ -56,7 +56,7 @@ dbgd_passes_total 0
 ";
 
 /// The page of two shares whose bytes are at their end, twice 2^64 - 1.
-pub(crate) const AT_THE_END: &str = "dbgd_requests_total{route=\"other\",status=\"200\"} 2
+pub(crate) static AT_THE_END: &str = "dbgd_requests_total{route=\"other\",status=\"200\"} 2
 dbgd_requests_total{route=\"other\",status=\"405\"} 1
 dbgd_body_bytes_total 36893488147419103230
 dbgd_rows_added_total 0

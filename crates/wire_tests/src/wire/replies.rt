@@ -5,15 +5,17 @@ ghost use Rattle.http_wire.specs.Reply.{IsStatus};
 
 use http_wire::{MemSink, ReplyFault, ReplyHead, Sink, Stream, WriteAnswer, write_reply};
 use row_types::CanonPath;
+use sample_rows::path;
 use std::alloc::Global;
-use std::test::Fail;
+use std::process::Abort;
 
 /// A reply's status, whether it is a text, its file, whether it closes, its body, and its bytes.
 #[derive(Clone, Copy)]
 struct Case<'a>(u16, bool, &'a str, bool, &'a [u8], &'a [u8]);
 
-/// The reply of a section of one byte, as the documents print it.
-fn section() -> Case<'static> {
+/// Replies of each status, and of each kind. The first is that of a section of one byte, as the
+/// documents print it.
+static CASES: [Case<'static>; 11] = [
     Case(
         200,
         false,
@@ -26,8 +28,122 @@ fn section() -> Case<'static> {
           X-DEBUGINFOD-SIZE: 1\r\n\
           X-DEBUGINFOD-FILE: /srv/bin/tool\r\n\
           Connection: keep-alive\r\n\r\n\xc3",
-    )
-}
+    ),
+    Case(
+        200,
+        false,
+        "",
+        true,
+        b"int",
+        b"HTTP/1.1 200 OK\r\n\
+          Content-Type: application/octet-stream\r\n\
+          Content-Length: 3\r\n\
+          X-DEBUGINFOD-SIZE: 3\r\n\
+          Connection: close\r\n\r\nint",
+    ),
+    Case(
+        200,
+        false,
+        "/a b%/\u{fc}~!\"",
+        false,
+        b"",
+        b"HTTP/1.1 200 OK\r\n\
+          Content-Type: application/octet-stream\r\n\
+          Content-Length: 0\r\n\
+          X-DEBUGINFOD-SIZE: 0\r\n\
+          X-DEBUGINFOD-FILE: /a%20b%25/%C3%BC~!\"\r\n\
+          Connection: keep-alive\r\n\r\n",
+    ),
+    Case(
+        200,
+        true,
+        "",
+        false,
+        b"dbgd 1\n",
+        b"HTTP/1.1 200 OK\r\n\
+          Content-Type: text/plain\r\n\
+          Content-Length: 7\r\n\
+          Connection: keep-alive\r\n\r\ndbgd 1\n",
+    ),
+    Case(
+        400,
+        true,
+        "",
+        true,
+        b"bad request\n",
+        b"HTTP/1.1 400 Bad Request\r\n\
+          Content-Type: text/plain\r\n\
+          Content-Length: 12\r\n\
+          Connection: close\r\n\r\nbad request\n",
+    ),
+    Case(
+        404,
+        true,
+        "",
+        false,
+        b"not found\n",
+        b"HTTP/1.1 404 Not Found\r\n\
+          Content-Type: text/plain\r\n\
+          Content-Length: 10\r\n\
+          Connection: keep-alive\r\n\r\nnot found\n",
+    ),
+    Case(
+        405,
+        true,
+        "",
+        false,
+        b"bad method\n",
+        b"HTTP/1.1 405 Method Not Allowed\r\n\
+          Content-Type: text/plain\r\n\
+          Content-Length: 11\r\n\
+          Allow: GET, HEAD\r\n\
+          Connection: keep-alive\r\n\r\nbad method\n",
+    ),
+    Case(
+        431,
+        true,
+        "",
+        true,
+        b"too large\n",
+        b"HTTP/1.1 431 Request Header Fields Too Large\r\n\
+          Content-Type: text/plain\r\n\
+          Content-Length: 10\r\n\
+          Connection: close\r\n\r\ntoo large\n",
+    ),
+    Case(
+        502,
+        true,
+        "",
+        false,
+        b"upstream fault\n",
+        b"HTTP/1.1 502 Bad Gateway\r\n\
+          Content-Type: text/plain\r\n\
+          Content-Length: 15\r\n\
+          Connection: keep-alive\r\n\r\nupstream fault\n",
+    ),
+    Case(
+        503,
+        true,
+        "",
+        false,
+        b"read fault\n",
+        b"HTTP/1.1 503 Service Unavailable\r\n\
+          Content-Type: text/plain\r\n\
+          Content-Length: 11\r\n\
+          Connection: keep-alive\r\n\r\nread fault\n",
+    ),
+    Case(
+        507,
+        true,
+        "",
+        false,
+        b"out of memory\n",
+        b"HTTP/1.1 507 Insufficient Storage\r\n\
+          Content-Type: text/plain\r\n\
+          Content-Length: 14\r\n\
+          Connection: keep-alive\r\n\r\nout of memory\n",
+    ),
+];
 
 /// A sink in memory that takes one byte at a time.
 #[derive(Drop)]
@@ -47,6 +163,11 @@ impl Sink for Slow {
     }
 }
 
+/// A sink that fails at one write.
+fn sink(rt: &impl Abort, alloc: Global, bad_write: u64) -> MemSink {
+    MemSink::new(alloc, vec![in alloc; bad_write].expect(rt, "memory"))
+}
+
 /// Whether a status is one of replies.
 fn is_status(status: u16) -> bool
     ensures { IsTrue result → IsStatus status }
@@ -55,193 +176,76 @@ fn is_status(status: u16) -> bool
 }
 
 /// The file of a path, if there is one.
-fn file_of(alloc: Global, path: &str) -> Result<Option<CanonPath>, Fail> {
-    if path.is_empty() {
-        return Ok(None);
+fn file_of(rt: &impl Abort, alloc: Global, text: &str) -> Option<CanonPath> {
+    if text.is_empty() {
+        return None;
     }
-    match CanonPath::check(String::from_str(alloc, path)?) {
-        Ok(path) => Ok(Some(path)),
-        Err(_) => Err("a canonical path")?,
-    }
+    Some(path(alloc, text).expect(rt, "a canonical path"))
 }
 
 /// Writes the reply of a case.
 fn reply<S: Sink>(
+    rt: &impl Abort,
     alloc: Global,
     sink: &mut S,
     case: &Case<'_>,
     with_body: bool,
-) -> Result<Result<(), ReplyFault>, Fail> {
+) -> Result<(), ReplyFault> {
     let Case(status, text, path, close, body, _) = *case;
+    assert!(rt; is_status(status), "{status}");
     let head = ReplyHead {
         status,
         text,
         len: body.len() as u64,
-        file: file_of(alloc, path)?,
+        file: file_of(rt, alloc, path),
         close,
     };
-    if is_status(status) {
-        Ok(write_reply(alloc, sink, &head, body, with_body))
-    } else {
-        Err("a status of replies")?
-    }
+    write_reply(alloc, sink, &head, body, with_body)
 }
 
-/// Replies of each status, and of each kind.
-fn cases() -> [Case<'static>; 11] {
-    [
-        section(),
-        Case(
-            200,
-            false,
-            "",
-            true,
-            b"int",
-            b"HTTP/1.1 200 OK\r\n\
-              Content-Type: application/octet-stream\r\n\
-              Content-Length: 3\r\n\
-              X-DEBUGINFOD-SIZE: 3\r\n\
-              Connection: close\r\n\r\nint",
-        ),
-        Case(
-            200,
-            false,
-            "/a b%/\u{fc}~!\"",
-            false,
-            b"",
-            b"HTTP/1.1 200 OK\r\n\
-              Content-Type: application/octet-stream\r\n\
-              Content-Length: 0\r\n\
-              X-DEBUGINFOD-SIZE: 0\r\n\
-              X-DEBUGINFOD-FILE: /a%20b%25/%C3%BC~!\"\r\n\
-              Connection: keep-alive\r\n\r\n",
-        ),
-        Case(
-            200,
-            true,
-            "",
-            false,
-            b"dbgd 1\n",
-            b"HTTP/1.1 200 OK\r\n\
-              Content-Type: text/plain\r\n\
-              Content-Length: 7\r\n\
-              Connection: keep-alive\r\n\r\ndbgd 1\n",
-        ),
-        Case(
-            400,
-            true,
-            "",
-            true,
-            b"bad request\n",
-            b"HTTP/1.1 400 Bad Request\r\n\
-              Content-Type: text/plain\r\n\
-              Content-Length: 12\r\n\
-              Connection: close\r\n\r\nbad request\n",
-        ),
-        Case(
-            404,
-            true,
-            "",
-            false,
-            b"not found\n",
-            b"HTTP/1.1 404 Not Found\r\n\
-              Content-Type: text/plain\r\n\
-              Content-Length: 10\r\n\
-              Connection: keep-alive\r\n\r\nnot found\n",
-        ),
-        Case(
-            405,
-            true,
-            "",
-            false,
-            b"bad method\n",
-            b"HTTP/1.1 405 Method Not Allowed\r\n\
-              Content-Type: text/plain\r\n\
-              Content-Length: 11\r\n\
-              Allow: GET, HEAD\r\n\
-              Connection: keep-alive\r\n\r\nbad method\n",
-        ),
-        Case(
-            431,
-            true,
-            "",
-            true,
-            b"too large\n",
-            b"HTTP/1.1 431 Request Header Fields Too Large\r\n\
-              Content-Type: text/plain\r\n\
-              Content-Length: 10\r\n\
-              Connection: close\r\n\r\ntoo large\n",
-        ),
-        Case(
-            502,
-            true,
-            "",
-            false,
-            b"upstream fault\n",
-            b"HTTP/1.1 502 Bad Gateway\r\n\
-              Content-Type: text/plain\r\n\
-              Content-Length: 15\r\n\
-              Connection: keep-alive\r\n\r\nupstream fault\n",
-        ),
-        Case(
-            503,
-            true,
-            "",
-            false,
-            b"read fault\n",
-            b"HTTP/1.1 503 Service Unavailable\r\n\
-              Content-Type: text/plain\r\n\
-              Content-Length: 11\r\n\
-              Connection: keep-alive\r\n\r\nread fault\n",
-        ),
-        Case(
-            507,
-            true,
-            "",
-            false,
-            b"out of memory\n",
-            b"HTTP/1.1 507 Insufficient Storage\r\n\
-              Content-Type: text/plain\r\n\
-              Content-Length: 14\r\n\
-              Connection: keep-alive\r\n\r\nout of memory\n",
-        ),
-    ]
+/// The reply of a case, with its body or without, is these bytes.
+fn compare(rt: &impl Abort, alloc: Global, case: &Case<'_>, with_body: bool, wanted: &[u8]) {
+    let mut sink = sink(rt, alloc, 1);
+    let answer = reply(rt, alloc, &mut sink, case, with_body);
+    assert!(rt; answer == Ok(()), "{wanted:?}");
+    assert!(rt; sink.written() == Some(wanted), "{wanted:?}");
 }
 
 #[test]
-fn replies_have_these_bytes(rt: HostRuntime) -> Result<(), Fail> {
-    let alloc = rt.alloc();
-    for case in cases() {
-        let mut sink = MemSink::new(alloc, vec![in alloc; 1]?);
-        assert_eq!(rt; reply(alloc, &mut sink, &case, true)?, Ok(()));
-        assert_eq!(rt; sink.written().ok_or("told")?, case.5);
-        let mut bare = MemSink::new(alloc, vec![in alloc; 1]?);
-        assert_eq!(rt; reply(alloc, &mut bare, &case, false)?, Ok(()));
+fn replies_have_these_bytes(rt: HostRuntime) {
+    for case in &CASES {
+        compare(&rt, rt.alloc(), case, true, case.5);
         let head_len = case.5.len().saturating_sub(case.4.len());
-        assert_eq!(rt; bare.written().ok_or("told")?, &case.5[..head_len]);
+        compare(&rt, rt.alloc(), case, false, &case.5[..head_len]);
     }
-    Ok(())
+}
+
+/// A case's reply, byte by byte, is cut where the write of this number fails.
+fn is_cut_at(rt: &impl Abort, alloc: Global, case: &Case<'_>, place: usize) {
+    let mut slow = Slow {
+        sink: sink(rt, alloc, place as u64),
+    };
+    let answer = reply(rt, alloc, &mut slow, case, true);
+    assert!(rt; answer == Err(ReplyFault::WriteFault), "at {place}");
+    assert!(rt; slow.sink.written() == case.5.get(..place), "at {place}");
+}
+
+/// A large body goes in a second write, of which nothing is written where it fails.
+fn is_cut_behind_the_head(rt: &impl Abort, alloc: Global, body: &[u8]) {
+    let mut sink = sink(rt, alloc, 1);
+    let case = Case(200, false, "", false, body, b"");
+    let answer = reply(rt, alloc, &mut sink, &case, true);
+    assert!(rt; answer == Err(ReplyFault::WriteFault));
+    let written = sink.written().expect(rt, "told");
+    assert!(rt; written.ends_with(b"\r\n\r\n"));
 }
 
 #[test]
-fn a_reply_is_cut_where_a_write_fails(rt: HostRuntime) -> Result<(), Fail> {
-    let alloc = rt.alloc();
-    let case = section();
-    for (place, _) in case.5.iter().enumerate() {
-        let mut slow = Slow {
-            sink: MemSink::new(alloc, vec![in alloc; place as u64]?),
-        };
-        let answer = reply(alloc, &mut slow, &case, true)?;
-        assert_eq!(rt; answer, Err(ReplyFault::WriteFault), "at {place}");
-        assert_eq!(rt; slow.sink.written().ok_or("told")?, &case.5[..place]);
+fn a_reply_is_cut_where_a_write_fails(rt: HostRuntime) {
+    let case = &CASES[0];
+    for place in 0..case.5.len() {
+        is_cut_at(&rt, rt.alloc(), case, place);
     }
-    let large = vec![in alloc; b'x'; 5000]?;
-    let mut sink = MemSink::new(alloc, vec![in alloc; 1]?);
-    let case = Case(200, false, "", false, large.as_slice(), b"");
-    assert_eq!(rt;
-        reply(alloc, &mut sink, &case, true)?,
-        Err(ReplyFault::WriteFault)
-    );
-    assert!(rt; sink.written().ok_or("told")?.ends_with(b"\r\n\r\n"));
-    Ok(())
+    let large = vec![in rt.alloc(); b'x'; 5000].expect(&rt, "memory");
+    is_cut_behind_the_head(&rt, rt.alloc(), large.as_slice());
 }

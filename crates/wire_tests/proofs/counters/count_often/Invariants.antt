@@ -1,6 +1,0 @@
-use Rattle.std.proofs.Common.{◌≡◌}
-use Rattle.std.specs.Prelude.{IsSome}
-use Rattle.dbgd_metrics.proofs.tests.count_often.Given as goal
-
-abbrev pub invariant-loop : goal.invariant-loop
-invariant-loop l = (l.share.book ≡ l.fn.book.id) × IsSome l.share.row
