@@ -1,6 +1,6 @@
 //! The hands of the tests.
 
-ghost use Rattle.std.specs.Prelude.{◌≡◌, IsTrue};
+ghost use Rattle.std.specs.Prelude.{◌≡◌, codes, IsTrue};
 ghost use Rattle.tree_trait.specs.Script.{is_stage};
 
 use row_types::{OpenWorld, Stamp};
