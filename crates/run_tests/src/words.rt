@@ -116,30 +116,39 @@ fn lengthened(rt: &impl Abort, alloc: Global, front: &str, last: char, times: u6
     text
 }
 
-/// An id of so many digits is read whole, or can't be read.
-fn reads_id(rt: &impl Abort, alloc: Global, digits: u64, fits: bool) {
+/// These words with one more behind them say this.
+fn says_behind(rt: &impl Abort, alloc: Global, words: &[&str], last: String, want: &str) {
+    let mut texts = words_of(rt, alloc, words);
+    texts.push(last).expect(rt, "memory");
+    let text = read(rt, alloc, texts.as_slice());
+    assert!(rt; text.as_str() == want, "{words:?} {text}");
+}
+
+/// An id of so many digits is read whole.
+fn reads_id(rt: &impl Abort, alloc: Global, digits: u64) {
     let id = lengthened(rt, alloc, "", 'a', digits);
     let whole = lengthened(rt, alloc, "query m ", 'a', digits);
-    let want = if fits { whole.as_str() } else { "usage" };
-    each_says(rt, alloc, &[Case(&["query", "-d", "m", id.as_str()], want)]);
+    says_behind(rt, alloc, &["query", "-d", "m"], id, whole.as_str());
+}
+
+/// An id of so many digits can't be read.
+fn refuses_id(rt: &impl Abort, alloc: Global, digits: u64) {
+    let id = lengthened(rt, alloc, "", 'a', digits);
+    says_behind(rt, alloc, &["query", "-d", "m"], id, "usage");
 }
 
 /// The folder `/w` with so many slashes behind it says this.
 fn reads_folder(rt: &impl Abort, alloc: Global, slashes: u64, want: &str) {
     let folder = lengthened(rt, alloc, "/w", '/', slashes);
-    each_says(
-        rt,
-        alloc,
-        &[Case(&["scan", "-d", "m", folder.as_str()], want)],
-    );
+    says_behind(rt, alloc, &["scan", "-d", "m"], folder, want);
 }
 
 // An id has up to 128 digits, a folder up to 4096 bytes.
 #[test]
 fn texts_have_their_limits(rt: HostRuntime) {
     let alloc = rt.alloc();
-    reads_id(&rt, alloc, 128, true);
-    reads_id(&rt, alloc, 130, false);
+    reads_id(&rt, alloc, 128);
+    refuses_id(&rt, alloc, 130);
     reads_folder(&rt, alloc, 4094, "scan m 4 /w");
     reads_folder(&rt, alloc, 4095, "usage");
 }

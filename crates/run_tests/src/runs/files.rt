@@ -23,7 +23,7 @@ fn each_says<Rt: Threads + Wait + Sync + Abort>(
     cases: &[Said],
 ) {
     for (file, out, err, status) in cases {
-        let case = Run(words, out, err, *status);
+        let case = Run(&*words, out, err, *status);
         run_all(
             rt,
             alloc,

@@ -95,6 +95,13 @@ pub fn empty_store<W: ElfTruth + Send + Sync>(
     MemStore::new(alloc, Vec::new(alloc), plan.stop_at, bad_calls)
 }
 
+/// A hand alone.
+pub fn one_hand<T: Drop>(rt: &impl Abort, alloc: Global, hand: T) -> Vec<T> {
+    let mut hands = Vec::new(alloc);
+    hands.push(hand).ok().expect(rt, "memory");
+    hands
+}
+
 /// The objects around hands and a store, by a plan.
 fn outside_of<W: ElfTruth + Send + Sync, T: Tree<W>>(
     rt: &impl Abort,
@@ -168,7 +175,7 @@ pub fn run_all<W: ElfTruth + Send + Sync, T: Tree<W>, Rt: Threads + Wait + Sync 
     plan: &Plan<'_>,
     runs: &[Run<'_>],
 ) {
-    let hands = vec![in alloc; hand].expect(rt, "memory");
+    let hands = one_hand(rt, alloc, hand);
     run_over(rt, alloc, hands, empty_store(rt, alloc, plan), plan, runs);
 }
 
@@ -218,7 +225,7 @@ pub fn answer_locally<W: ElfTruth + Send + Sync, T: Tree<W>>(
     hand: T,
     cases: &[(&[&str], Option<u8>)],
 ) {
-    let hands = vec![in alloc; hand].expect(rt, "memory");
+    let hands = one_hand(rt, alloc, hand);
     let store = empty_store(rt, alloc, &SOUND);
     let mut outside = outside_of(rt, alloc, hands, store, &SOUND);
     for (words, want) in cases {
@@ -234,7 +241,7 @@ pub fn said_by<W: ElfTruth + Send + Sync, T: Tree<W>, Rt: Threads + Wait + Sync 
     hand: T,
     words: &[&str],
 ) -> Vec<u8> {
-    let hands = vec![in alloc; hand].expect(rt, "memory");
+    let hands = one_hand(rt, alloc, hand);
     let store = empty_store(rt, alloc, &SOUND);
     let mut outside = outside_of(rt, alloc, hands, store, &SOUND);
     let ended = status_of(rt, alloc, &mut outside, words);
