@@ -60,6 +60,7 @@ fn said(rt: &impl Abort, alloc: Global, line: &Line<'_>) -> String {
             files,
             workers,
         } => format!(in alloc; "trial {seed} {files} {workers}"),
+        Line::Program { text } => String::from_str(alloc, text),
         Line::Help { text } => String::from_str(alloc, text.as_str()),
         Line::NotBuilt => String::from_str(alloc, "not built"),
         Line::Usage => String::from_str(alloc, "usage"),

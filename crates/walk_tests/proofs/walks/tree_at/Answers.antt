@@ -15,5 +15,5 @@ stage_at files paths e h =
     ∙ ap (λ (ps : List (List ℕ)). list_all is_canonical ps && are_distinct ps) e ∙ h
 
 pub tree_of-requires : goal.tree_of-requires
-tree_of-requires c = stage_at c.in_ok-files.files.items
-    (map (λ path. path.now) c.args.paths.now) c.in_ok-files.ensures c.requires
+tree_of-requires g c = stage_at c.files_at-files.result.items
+    (map (λ path. path.now) c.args.paths.now) c.files_at-files.ensures c.requires
