@@ -33,9 +33,10 @@ fn refusal(
     id: &BuildId,
     bytes: Result<Vec<u8>, AllocError>,
 ) -> Option<CheckFault> {
-    match certify(Kind::Debuginfo, id, bytes.expect(rt, "memory")) {
+    let answer = certify(Kind::Debuginfo, id, bytes.expect(rt, "memory"));
+    match &answer {
         Ok(_) => None,
-        Err((fault, _)) => Some(fault),
+        Err(refused) => Some(refused.0),
     }
 }
 
