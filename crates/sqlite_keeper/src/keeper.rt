@@ -71,7 +71,7 @@ impl<F: Alter> SqliteKeeper<F> {
     }
 
     /// How often a call has failed.
-    pub(crate) fn faults(&self) -> Faults
+    pub fn faults(&self) -> Faults
         ensures { result ≡ self.now.faults }
     {
         self.faults
