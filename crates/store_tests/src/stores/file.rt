@@ -10,7 +10,9 @@ use std::{env, fs, process};
 /// A path in the folder of temporary files, where nothing is.
 fn free_path(files: &HostRuntime, rt: &impl Abort) -> String {
     let alloc = files.alloc();
-    let name = format!(in alloc; "dbgd-store-{}", process::id(files.process())).expect(rt, "memory");
+    let name = format!(in alloc; "dbgd-store-{}", process::id(files.process())).expect(
+        rt, "memory",
+    );
     let folder = env::temp_dir(files).expect(rt, "a folder");
     let path = folder.join(alloc, name.as_str()).expect(rt, "memory");
     String::from_str(alloc, path.as_path().as_str()).expect(rt, "memory")

@@ -33,9 +33,15 @@ static NUMBERS: [(i64, u64); 5] = [(41, 42), (0, 1), (-1, 0), (-7, 0), (i64::MAX
 #[test]
 fn a_number_goes_on_or_is_refused(rt: HostRuntime) {
     let alloc = rt.alloc();
-    assert!(rt; number_of(&rt, after(&rt, alloc, "")) == 1, "a database without tables");
+    assert!(rt;
+        number_of(&rt, after(&rt, alloc, "")) == 1,
+        "a database without tables"
+    );
     for (n, want) in NUMBERS {
-        assert!(rt; number_of(&rt, numbered(&rt, alloc, n)) == want, "after {n}");
+        assert!(rt;
+            number_of(&rt, numbered(&rt, alloc, n)) == want,
+            "after {n}"
+        );
     }
 }
 
@@ -52,7 +58,9 @@ fn leave(rt: &impl Abort, connection: &mut Connection<MemStore>) {
     assert!(rt; !connection.is_autocommit());
     assert!(rt; number(rt, connection, "SELECT a FROM t") == 7);
     assert!(rt; number(rt, connection, "SELECT count(*) FROM sqlite_schema") == 1);
-    connection.execute_batch("ROLLBACK").expect(rt, "the end of the transaction");
+    connection
+        .execute_batch("ROLLBACK")
+        .expect(rt, "the end of the transaction");
 }
 
 #[test]
@@ -68,7 +76,9 @@ fn kept(rt: &impl Abort, alloc: Global) -> Connection<MemStore> {
     let mut store = HeldStore::new(after(rt, alloc, "CREATE TABLE t(a INTEGER); BEGIN"));
     assert!(rt; is_refused(alloc, &mut store, "m"), "inside a transaction");
     let mut connection = store.into_connection().expect(rt, "a connection");
-    connection.execute_batch("COMMIT").expect(rt, "the end of the transaction");
+    connection
+        .execute_batch("COMMIT")
+        .expect(rt, "the end of the transaction");
     connection
 }
 

@@ -24,7 +24,10 @@ fn count(
     assert!(rt; keeper.epoch() == epoch, "the number of the opening");
     for (call, faults) in steps {
         make_call(rt, alloc, &mut keeper, *call);
-        assert!(rt; keeper.faults().count() == *faults, "the count is to be {faults}");
+        assert!(rt;
+            keeper.faults().count() == *faults,
+            "the count is to be {faults}"
+        );
     }
     store.give_back(keeper);
 }

@@ -53,7 +53,9 @@ fn put<K: Keeper<OpenWorld>>(
     path: &str,
     size: u8,
 ) -> KeepAnswer {
-    let row = plain(alloc, path, u64::from(size)).expect(rt, "a row").into_row();
+    let row = plain(alloc, path, u64::from(size))
+        .expect(rt, "a row")
+        .into_row();
     let bytes = write_row(alloc, &row).expect(rt, "memory");
     keeper.put(alloc, row.name.path.text(), bytes.as_slice())
 }
