@@ -15,7 +15,7 @@ ghost use Rattle.sqlite_keeper.specs.Statements.{raise_text, rows_text};
 use crate::fault::SqlFault;
 use index_keeper::KeepAnswer;
 use sqlite::types::ValueRef;
-use sqlite::{Alter, Connection, Error, Row, Rows, params};
+use sqlite::{Alter, Connection, Error, Row, Rows};
 
 /// Makes the table of the rows, where it isn't there.
 const KEPT_TABLE: &str =
@@ -116,7 +116,8 @@ fn put<F: Alter>(connection: &mut Connection<F>, path: &str, bytes: &[u8]) -> Ke
     ensures { Changes F.Store put_text (Text path.now ∷ Blob bytes.now ∷ [])
         connection.old connection.new result }
 {
-    change(connection, PUT, params![path, bytes])
+    let params = [ValueRef::Text(path.as_bytes()), ValueRef::Blob(bytes)];
+    change(connection, PUT, &params)
 }
 
 /// Keeps nothing under the path.
@@ -124,7 +125,7 @@ fn remove<F: Alter>(connection: &mut Connection<F>, path: &str) -> KeepAnswer
     ensures { Changes F.Store remove_text (Text path.now ∷ [])
         connection.old connection.new result }
 {
-    change(connection, REMOVE, params![path])
+    change(connection, REMOVE, &[ValueRef::Text(path.as_bytes())])
 }
 
 /// Keeps the bytes under the path from then on, or nothing.
