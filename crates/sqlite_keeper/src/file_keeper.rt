@@ -24,7 +24,8 @@ pub struct FileKeeper {
     keeper: SqliteKeeper<FileStore<File>>,
 }
 
-// It is written out, so that callers don't prove again how each part of the database is dropped.
+// A keeper that is let go is closed, as one that is given back. It is written out, so that callers
+// don't prove again how each part of the database is dropped.
 impl Drop for FileKeeper {
     fn drop(self) {
         let _faults = self.close();
