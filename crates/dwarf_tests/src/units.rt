@@ -165,12 +165,19 @@ fn next_unit<'a>(list: &mut Units<'a>) -> Option<(&'a [u8], bool)> {
 // DWARF 5, section 7.4: a unit without bytes, a narrow one, a wide one, a length past the end.
 static INFO: &[u8] = b"\0\0\0\0\x01\0\0\0a\xff\xff\xff\xff\x02\0\0\0\0\0\0\0bc\x09\0\0\0d";
 
+/// Their bytes, and whether they are of the 64-bit format; then there are no more.
+static UNITS: [Option<(&[u8], bool)>; 5] = [
+    Some((b"", false)),
+    Some((b"a", false)),
+    Some((b"bc", true)),
+    None,
+    None,
+];
+
 #[test]
 fn units_stand_one_behind_the_other(rt: HostRuntime) {
     let mut list = units(INFO, Order::Little);
-    assert!(rt; next_unit(&mut list) == Some((b"", false)));
-    assert!(rt; next_unit(&mut list) == Some((b"a", false)));
-    assert!(rt; next_unit(&mut list) == Some((b"bc", true)));
-    assert!(rt; next_unit(&mut list).is_none());
-    assert!(rt; next_unit(&mut list).is_none());
+    for expected in &UNITS {
+        assert!(rt; next_unit(&mut list) == *expected);
+    }
 }

@@ -1,6 +1,6 @@
 //! That the answers come in their order, on the sample files.
 
-use answer_check::{CheckFault, certify};
+use answer_check::{Certified, CheckFault, certify};
 use row_types::{BuildId, Kind, Why};
 use sample_files::{ID_A, ID_C, debug_companion, executable};
 use std::alloc::AllocError;
@@ -11,20 +11,22 @@ fn id_of(rt: &impl Abort, bytes: &[u8]) -> BuildId {
     BuildId::new(bytes).expect(rt, "20 bytes are an id")
 }
 
+/// Checks that this is the sample program, certified for the id.
+fn is_program(rt: &impl Abort, file: &Certified, id: &BuildId) {
+    assert!(rt; file.kind() == Kind::Executable);
+    assert!(rt; file.id() == id);
+    assert!(rt; file.bytes().len() == 408);
+    assert!(rt; file.section(b".text") == Some(&[0xc3]), "code is there");
+}
+
 #[test]
 fn a_program_is_certified_for_its_id_and_class(rt: HostRuntime) {
     let id = id_of(&rt, &ID_C);
     let bytes = executable(rt.alloc()).expect(&rt, "memory");
-    let Ok(file) = certify(Kind::Executable, &id, bytes) else {
-        panic!(rt; "the id and class are the file's");
-    };
-    assert!(rt; file.kind() == Kind::Executable);
-    assert!(rt; *file.id() == id);
-    assert!(rt; file.bytes().len() == 408);
-    assert!(rt;
-        file.section(b".text") == Some([0xc3].as_slice()),
-        "code is there"
-    );
+    match &certify(Kind::Executable, &id, bytes) {
+        Ok(file) => is_program(&rt, file, &id),
+        Err(_) => panic!(rt; "the id and class are the file's"),
+    }
 }
 
 /// Why these bytes are no debug file of the id.
@@ -33,9 +35,10 @@ fn refusal(
     id: &BuildId,
     bytes: Result<Vec<u8>, AllocError>,
 ) -> Option<CheckFault> {
-    match certify(Kind::Debuginfo, id, bytes.expect(rt, "memory")) {
+    let answer = certify(Kind::Debuginfo, id, bytes.expect(rt, "memory"));
+    match &answer {
         Ok(_) => None,
-        Err((fault, _)) => Some(fault),
+        Err(refused) => Some(refused.0),
     }
 }
 

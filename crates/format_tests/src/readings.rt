@@ -16,10 +16,11 @@ static SOURCES: [&str; 2] = ["/w/src/inc/util.h", "/w/src/main.c"];
 
 /// Checks that these are the paths.
 fn are(rt: &impl Abort, what: &str, found: &Sources, expected: &[&str]) {
-    assert!(rt; found.paths().len() == expected.len(), "{what}");
-    for (path, text) in found.paths().iter().zip(expected) {
-        assert!(rt; path.text() == *text, "{what}");
+    let mut texts = expected.iter();
+    for path in found.paths() {
+        assert!(rt; texts.next().copied() == Some(path.text()), "{what}");
     }
+    assert!(rt; texts.next().is_none(), "{what}");
 }
 
 /// Checks that these are the paths of the file's sources.
@@ -80,20 +81,25 @@ fn sample_row(rt: &impl Abort, alloc: Global) -> TrueRow<OpenWorld> {
     ElfReader.read(alloc, name, &found).expect(rt, "memory")
 }
 
+/// Checks that this is the sample's identity and that its sources are these.
+fn is_of_sample(rt: &impl Abort, reading: &Reading) {
+    match reading {
+        Reading::Elf { ident, sources } => {
+            assert!(rt; ident.id.bytes() == ID_B.as_slice());
+            assert!(rt; ident.exec && ident.debug);
+            are(rt, "row", sources, &SOURCES);
+        }
+        Reading::Plain(_) => panic!(rt; "the sample has an identity"),
+    }
+}
+
 #[test]
 fn the_row_of_the_sample_has_its_identity_and_its_sources(rt: HostRuntime) {
     let row = sample_row(&rt, rt.alloc());
     assert!(rt; row.row().edition == 1);
     assert!(rt; row.row().name.path.text() == "/w/a");
     assert!(rt; row.row().name.stamp.size == 1016);
-    match &row.row().reading {
-        Reading::Elf { ident, sources } => {
-            assert!(rt; ident.id.bytes() == ID_B.as_slice());
-            assert!(rt; ident.exec && ident.debug);
-            are(&rt, "row", sources, &SOURCES);
-        }
-        Reading::Plain(_) => panic!(rt; "the sample has an identity"),
-    }
+    is_of_sample(&rt, &row.row().reading);
 }
 
 /// The row of a file of a told world, in which `/w/a` is `x` at one second.

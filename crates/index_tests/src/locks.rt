@@ -163,21 +163,6 @@ fn cut(lock: &TurnLock<Numbers>, seat: Seat<Numbers>) -> (Seat<Numbers>, Seat<Nu
     }
 }
 
-/// Two threads enter a thousand times each, with the tokens of one that is cut.
-fn put_by_halves<R: Threads + Wait + Sync>(
-    rt: &R,
-    lock: &TurnLock<Numbers>,
-    seat: Seat<Numbers>,
-    from: u64,
-) -> Seat<Numbers>
-    requires lock { seat.lock ≡ lock.now }
-    requires small { from < 100000 }
-    ensures { result.lock ≡ lock.now }
-{
-    let (first, second) = cut(lock, seat);
-    put_by_two(rt, lock, first, second, from)
-}
-
 /// No numbers behind a lock, and its token.
 fn numbers_behind_a_lock(rt: &impl Abort, alloc: Global) -> (TurnLock<Numbers>, Seat<Numbers>)
     ensures { result.1.lock ≡ result.0 }
@@ -227,7 +212,8 @@ fn numbers_pass_from_token_to_token(rt: HostRuntime) {
 #[test]
 fn two_threads_put_each_number_once_and_in_order(rt: HostRuntime) {
     let (lock, seat) = numbers_behind_a_lock(&rt, rt.alloc());
-    let seat = put_by_halves(&rt, &lock, seat, 0);
+    let (first, second) = cut(&lock, seat);
+    let seat = put_by_two(&rt, &lock, first, second, 0);
     let numbers = last_numbers(&rt, lock, seat);
     assert!(rt; numbers.items.len() == 2000);
     for from in [0, 1000] {
@@ -238,30 +224,18 @@ fn two_threads_put_each_number_once_and_in_order(rt: HostRuntime) {
     }
 }
 
-/// Four threads enter a thousand times each.
-fn put_by_four<R: Threads + Wait + Sync>(
-    rt: &R,
-    lock: &TurnLock<Numbers>,
-    first: Seat<Numbers>,
-    second: Seat<Numbers>,
-) -> Seat<Numbers>
-    requires first { first.lock ≡ lock.now }
-    requires second { second.lock ≡ lock.now }
-    ensures { result.lock ≡ lock.now }
-{
-    let (first, second) = join(
-        rt,
-        || put_by_halves(rt, lock, first, 0),
-        || put_by_halves(rt, lock, second, 2000),
-    );
-    lock.join(first, second)
-}
-
 #[test]
 fn four_threads_put_each_number_once_and_in_order(rt: HostRuntime) {
     let (lock, seat) = numbers_behind_a_lock(&rt, rt.alloc());
-    let (first, second) = cut(&lock, seat);
-    let seat = put_by_four(&rt, &lock, first, second);
+    let (left, right) = cut(&lock, seat);
+    let (first, second) = cut(&lock, left);
+    let (third, fourth) = cut(&lock, right);
+    let (left, right) = join(
+        &rt,
+        || put_by_two(&rt, &lock, first, second, 0),
+        || put_by_two(&rt, &lock, third, fourth, 2000),
+    );
+    let seat = lock.join(left, right);
     let numbers = last_numbers(&rt, lock, seat);
     assert!(rt; numbers.items.len() == 4000);
     for from in [0, 1000, 2000, 3000] {

@@ -4,7 +4,7 @@ use sqlite::{Error, ErrorCode};
 use std::alloc::AllocError;
 
 /// Why a statement could not be run, or what it gave not be read.
-#[derive(Clone, Copy, Debug, PartialEq, Eq)]
+#[derive(Clone, Copy)]
 pub enum SqlFault {
     /// The database refused it, or failed.
     Failed,

@@ -1,6 +1,6 @@
 //! The keeper of the store in a file.
 
-ghost use Rattle.std.specs.Prelude.{◌≡◌, [], ◌∷◌, false, IfOk};
+ghost use Rattle.std.specs.Prelude.{◌≡◌, [], ◌∷◌, false, IfOk, option_copied};
 ghost use Rattle.sqlite.specs.Files.{over_files};
 ghost use Rattle.sqlite.specs.declared.types.Value.TheVariants.{Blob, Text};
 ghost use Rattle.index_keeper.specs.Answers.{for_change};
@@ -8,7 +8,7 @@ ghost use Rattle.index_keeper.specs.Keeper.{Asks};
 ghost use Rattle.index_keeper.specs.Tables.{put_of, removal_of};
 ghost use Rattle.sqlite_keeper.specs.FileStore.{BeginsAnew};
 ghost use Rattle.sqlite_keeper.specs.Keeper.{keeper_shown};
-ghost use Rattle.sqlite_keeper.specs.Statements.{Changes, put_text, remove_text};
+ghost use Rattle.sqlite_keeper.specs.Statements.{Changes, Edits, edit_of, put_text, remove_text};
 
 use crate::fault::SqlFault;
 use crate::keeper::SqliteKeeper;
@@ -20,9 +20,16 @@ use std::alloc::Global;
 /// The keeper of a file: it passes each call on to the keeper over the file's database. It has no
 /// type parameter, so that code over a store in a file never sees what that database is made of.
 /// Contracts see it as a record of the keeper over the database.
-#[derive(Drop)]
 pub struct FileKeeper {
     keeper: SqliteKeeper<FileStore<File>>,
+}
+
+// A keeper that is let go is closed, as one that is given back. It is written out, so that callers
+// don't prove again how each part of the database is dropped.
+impl Drop for FileKeeper {
+    fn drop(self) {
+        let _faults = self.close();
+    }
 }
 
 impl FileKeeper {
@@ -33,29 +40,36 @@ impl FileKeeper {
         let connection = Connection::open(rt, path)?;
         match SqliteKeeper::open(connection, last) {
             Ok(keeper) => Ok(FileKeeper { keeper }),
-            Err((fault, _)) => Err(fault),
+            Err((fault, connection)) => {
+                let _copied = connection.close();
+                Err(fault)
+            }
         }
     }
 
-    /// How often a call has failed.
-    pub(crate) fn faults(&self) -> Faults
-        ensures { result ≡ self.now.keeper.faults }
+    /// Keeps the bytes under the path from then on, or nothing.
+    fn edit(&mut self, path: &str, bytes: Option<&[u8]>) -> KeepAnswer
+        ensures asks { Asks false (keeper_shown self.old.keeper) (keeper_shown self.new.keeper)
+            (for_change (edit_of path.now (option_copied bytes.entry)) result) }
+        ensures changes { Edits over_files path.now (option_copied bytes.entry)
+            self.old.keeper.connection self.new.keeper.connection result }
     {
-        self.keeper.faults()
+        self.keeper.edit(path, bytes)
     }
 
-    /// The number of the opening.
-    pub(crate) fn number(&self) -> u64
-        ensures { result ≡ self.now.keeper.epoch }
+    /// Ends the keeper, and says how often a call has failed. The log is copied into the file;
+    /// where that fails nothing is lost: the log keeps it.
+    pub(crate) fn close(self) -> Faults
+        ensures { result ≡ self.keeper.faults }
     {
-        self.keeper.number()
-    }
-
-    /// Ends the keeper. The log is copied into the file; where that fails nothing is lost: the log
-    /// keeps it.
-    pub(crate) fn close(self) {
         let FileKeeper { keeper } = self;
-        let _copied = keeper.into_connection().close();
+        let SqliteKeeper {
+            connection,
+            faults,
+            epoch: _,
+        } = keeper;
+        let _copied = connection.close();
+        faults
     }
 }
 
@@ -68,30 +82,30 @@ impl Keeper<OpenWorld> for FileKeeper {
     ghost shows = { λ k. keeper_shown k.keeper };
 
     fn rows(&mut self, alloc: Global) -> KeptAnswer {
-        self.keeper.rows(alloc)
+        self.keeper.read(alloc)
     }
 
-    fn put(&mut self, alloc: Global, path: &str, bytes: &[u8]) -> KeepAnswer
+    fn put(&mut self, _alloc: Global, path: &str, bytes: &[u8]) -> KeepAnswer
         ensures asks { Asks false (keeper_shown self.old.keeper) (keeper_shown self.new.keeper)
             (for_change (put_of path.now bytes.now) result) }
         ensures changes { Changes over_files put_text (Text path.now ∷ Blob bytes.now ∷ [])
             self.old.keeper.connection self.new.keeper.connection result }
     {
-        self.keeper.put(alloc, path, bytes)
+        self.edit(path, Some(bytes))
     }
 
-    fn remove(&mut self, alloc: Global, path: &str) -> KeepAnswer
+    fn remove(&mut self, _alloc: Global, path: &str) -> KeepAnswer
         ensures asks { Asks false (keeper_shown self.old.keeper) (keeper_shown self.new.keeper)
             (for_change (removal_of path.now) result) }
         ensures changes { Changes over_files remove_text (Text path.now ∷ [])
             self.old.keeper.connection self.new.keeper.connection result }
     {
-        self.keeper.remove(alloc, path)
+        self.edit(path, None)
     }
 
     fn epoch(&self) -> u64
         ensures { result ≡ self.now.keeper.epoch }
     {
-        self.keeper.epoch()
+        self.keeper.epoch
     }
 }

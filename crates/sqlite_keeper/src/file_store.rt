@@ -7,7 +7,7 @@ ghost use Rattle.sqlite_keeper.specs.Keeper.{keeper_shown};
 
 use crate::fault::SqlFault;
 use crate::file_keeper::FileKeeper;
-use index_keeper::{Store, StoreAnswer};
+use index_keeper::{Keeper, Store, StoreAnswer};
 use row_types::{Faults, OpenWorld};
 use std::alloc::Global;
 use std::marker::Model;
@@ -56,7 +56,7 @@ impl Store<OpenWorld> for SqliteStore {
     {
         match FileKeeper::open(&self.rt, path, self.epoch) {
             Ok(keeper) => {
-                self.epoch = keeper.number();
+                self.epoch = keeper.epoch();
                 StoreAnswer::Opened(keeper)
             }
             Err(SqlFault::OutOfMemory) => StoreAnswer::OutOfMemory,
@@ -72,7 +72,6 @@ impl Store<OpenWorld> for SqliteStore {
         ensures { TakesBack false (keeper_shown keeper.keeper) (file_shown self.old)
             (file_shown self.new) }
     {
-        self.faults.add(keeper.faults());
-        keeper.close();
+        self.faults.add(keeper.close());
     }
 }

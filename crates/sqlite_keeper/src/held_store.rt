@@ -81,7 +81,7 @@ impl<F: Telling + Send + Drop> Store<OpenWorld> for HeldStore<F> {
         };
         match SqliteKeeper::open(connection, self.epoch) {
             Ok(keeper) => {
-                self.epoch = keeper.number();
+                self.epoch = keeper.epoch;
                 StoreAnswer::Opened(keeper)
             }
             Err((fault, connection)) => {
@@ -102,7 +102,12 @@ impl<F: Telling + Send + Drop> Store<OpenWorld> for HeldStore<F> {
             (held_shown self.new) }
         ensures after { self.new ≡ after_giving self.old keeper }
     {
-        self.faults.add(keeper.faults());
-        self.connection = Some(keeper.into_connection());
+        let SqliteKeeper {
+            connection,
+            faults,
+            epoch: _,
+        } = keeper;
+        self.faults.add(faults);
+        self.connection = Some(connection);
     }
 }

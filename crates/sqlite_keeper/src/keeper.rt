@@ -1,13 +1,14 @@
 //! The keeper over a connection.
 
-ghost use Rattle.std.specs.Prelude.{◌≡◌, [], ◌∷◌, false, IfOk, IfErr};
+ghost use Rattle.std.specs.Prelude.{◌≡◌, [], ◌∷◌, false, IfOk, IfErr, IfSome, option_copied};
 ghost use Rattle.sqlite.specs.declared.types.Value.TheVariants.{Blob, Text};
-ghost use Rattle.index_keeper.specs.Answers.{for_change};
-ghost use Rattle.index_keeper.specs.Keeper.{Asks};
+ghost use Rattle.row_types.specs.declared.limits.TheConstants.{EDITION};
+ghost use Rattle.index_keeper.specs.Answers.{for_change, for_rows, rows_in};
+ghost use Rattle.index_keeper.specs.Keeper.{AreKept, Asks};
 ghost use Rattle.index_keeper.specs.Tables.{EditFacts, put_of, removal_of};
 ghost use Rattle.sqlite_keeper.specs.Begins.{Begins, Refuses};
 ghost use Rattle.sqlite_keeper.specs.Keeper.{keeper_shown, opened};
-ghost use Rattle.sqlite_keeper.specs.Statements.{Changes, put_text, remove_text};
+ghost use Rattle.sqlite_keeper.specs.Statements.{Changes, Edits, edit_of, put_text, remove_text};
 
 use crate::adopt::prepare;
 use crate::fault::SqlFault;
@@ -23,9 +24,9 @@ use std::marker::Model;
 /// see it as a record of its connection, its count of faults and the number of its opening.
 #[derive(Drop)]
 pub struct SqliteKeeper<F: Alter> {
-    connection: Connection<F>,
-    faults: Faults,
-    epoch: u64,
+    pub(crate) connection: Connection<F>,
+    pub(crate) faults: Faults,
+    pub(crate) epoch: u64,
 }
 
 impl<F: Alter> Model for SqliteKeeper<F> {
@@ -71,29 +72,10 @@ impl<F: Alter> SqliteKeeper<F> {
     }
 
     /// How often a call has failed.
-    pub(crate) fn faults(&self) -> Faults
+    pub fn faults(&self) -> Faults
         ensures { result ≡ self.now.faults }
     {
         self.faults
-    }
-
-    /// The number of the opening.
-    pub(crate) fn number(&self) -> u64
-        ensures { result ≡ self.now.epoch }
-    {
-        self.epoch
-    }
-
-    /// The connection, given back.
-    pub(crate) fn into_connection(self) -> Connection<F>
-        ensures { result ≡ self.connection }
-    {
-        let SqliteKeeper {
-            connection,
-            faults: _,
-            epoch: _,
-        } = self;
-        connection
     }
 
     /// Counts a fault, if the answer is one.
@@ -108,6 +90,33 @@ impl<F: Alter> SqliteKeeper<F> {
         }
         answer
     }
+
+    /// Keeps the bytes under the path from then on, or nothing.
+    pub(crate) fn edit(&mut self, path: &str, bytes: Option<&[u8]>) -> KeepAnswer
+        ensures asks { Asks false (keeper_shown self.old) (keeper_shown self.new)
+            (for_change (edit_of path.now (option_copied bytes.entry)) result) }
+        ensures changes { Edits F.Store path.now (option_copied bytes.entry)
+            self.old.connection self.new.connection result }
+    {
+        let answer = sql::edit(&mut self.connection, path, bytes);
+        self.count(answer)
+    }
+
+    /// All rows of the tables, by path.
+    pub(crate) fn read(&mut self, alloc: Global) -> KeptAnswer
+        ensures asks { Asks false (keeper_shown self.old) (keeper_shown self.new)
+            (for_rows result) }
+        ensures rows { IfSome (rows_in result) (AreKept (λ row. row.edition ≡ EDITION)) }
+    {
+        match rows::all_rows(alloc, &mut self.connection) {
+            Ok(rows) => KeptAnswer::All(rows),
+            Err(SqlFault::OutOfMemory) => KeptAnswer::OutOfMemory,
+            Err(SqlFault::Failed) => {
+                self.faults.raise();
+                KeptAnswer::Failed
+            }
+        }
+    }
 }
 
 impl<F: Telling + Send + Drop> Keeper<OpenWorld> for SqliteKeeper<F> {
@@ -119,14 +128,7 @@ impl<F: Telling + Send + Drop> Keeper<OpenWorld> for SqliteKeeper<F> {
     ghost shows = { keeper_shown };
 
     fn rows(&mut self, alloc: Global) -> KeptAnswer {
-        match rows::all_rows(alloc, &mut self.connection) {
-            Ok(rows) => KeptAnswer::All(rows),
-            Err(SqlFault::OutOfMemory) => KeptAnswer::OutOfMemory,
-            Err(SqlFault::Failed) => {
-                self.faults.raise();
-                KeptAnswer::Failed
-            }
-        }
+        self.read(alloc)
     }
 
     fn put(&mut self, _alloc: Global, path: &str, bytes: &[u8]) -> KeepAnswer
@@ -135,8 +137,7 @@ impl<F: Telling + Send + Drop> Keeper<OpenWorld> for SqliteKeeper<F> {
         ensures changes { Changes F.Store put_text (Text path.now ∷ Blob bytes.now ∷ [])
             self.old.connection self.new.connection result }
     {
-        let answer = sql::put(&mut self.connection, path, bytes);
-        self.count(answer)
+        self.edit(path, Some(bytes))
     }
 
     fn remove(&mut self, _alloc: Global, path: &str) -> KeepAnswer
@@ -145,8 +146,7 @@ impl<F: Telling + Send + Drop> Keeper<OpenWorld> for SqliteKeeper<F> {
         ensures changes { Changes F.Store remove_text (Text path.now ∷ [])
             self.old.connection self.new.connection result }
     {
-        let answer = sql::remove(&mut self.connection, path);
-        self.count(answer)
+        self.edit(path, None)
     }
 
     fn epoch(&self) -> u64

@@ -43,6 +43,21 @@ fn add(rows: &mut Vec<Kept>, row: Kept) -> Result<(), SqlFault>
     }
 }
 
+/// Adds all rows of the tables to those that there are.
+fn read_all<F: Alter>(connection: &mut Connection<F>, kept: &mut Vec<Kept>) -> Result<(), SqlFault>
+    requires { AscendsByPath kept.old.items }
+    ensures { AscendsByPath kept.new.items }
+{
+    let mut rows = sql::rows(connection)?;
+    'rows: for _ in 0..u64::MAX {
+        let Some(row) = rows.next()? else {
+            return Ok(());
+        };
+        add(kept, kept_of(row)?)?;
+    }
+    Err(SqlFault::Failed)
+}
+
 /// All rows, strictly by path; rows in another order are a fault.
 pub fn all_rows<F: Alter>(
     alloc: Global,
@@ -51,12 +66,8 @@ pub fn all_rows<F: Alter>(
     ensures { IfOk result (λ rows. AscendsByPath rows.items) }
 {
     let mut kept = Vec::new(alloc);
-    let mut rows = sql::rows(connection)?;
-    'rows: for _ in 0..u64::MAX {
-        let Some(row) = rows.next()? else {
-            return Ok(kept);
-        };
-        add(&mut kept, kept_of(row)?)?;
+    match read_all(connection, &mut kept) {
+        Ok(()) => Ok(kept),
+        Err(fault) => Err(fault),
     }
-    Err(SqlFault::Failed)
 }

@@ -1,19 +1,21 @@
 //! The texts of the store, each run by a function of its own. A file keeps the texts of its tables
 //! as they were written, so these and their order stay.
 
-ghost use Rattle.std.specs.Prelude.{◌≡◌, [], ◌∷◌, IfOk, OnOk};
+ghost use Rattle.std.specs.Prelude.{◌≡◌, [], ◌∷◌, IfOk, option_copied};
 ghost use Rattle.sqlite.specs.Given.{HasBegun};
 ghost use Rattle.sqlite.specs.Held.{state};
-ghost use Rattle.sqlite.specs.State.{HasCleanDisk, Executes, Survives, CommitsBy, QueriesRow};
+ghost use Rattle.sqlite.specs.State.{HasCleanDisk, Executes, QueriesRow};
+ghost use Rattle.sqlite.specs.Values.{bound};
 ghost use Rattle.sqlite.specs.declared.types.Value.TheVariants.{Blob, Text};
 ghost use Rattle.index_keeper.specs.declared.answer.KeepAnswer.TheVariants.{Done};
-ghost use Rattle.sqlite_keeper.specs.Statements.{Changes, IsCommitted, Raises, answer_to};
+ghost use Rattle.sqlite_keeper.specs.Statements.{Changes, Edits, IsCommitted, Raises, answer_to};
 ghost use Rattle.sqlite_keeper.specs.Statements.{kept_table, epoch_table, put_text, remove_text};
 ghost use Rattle.sqlite_keeper.specs.Statements.{raise_text, rows_text};
 
 use crate::fault::SqlFault;
 use index_keeper::KeepAnswer;
-use sqlite::{Alter, Connection, Error, Row, Rows, params};
+use sqlite::types::ValueRef;
+use sqlite::{Alter, Connection, Error, Row, Rows};
 
 /// Makes the table of the rows, where it isn't there.
 const KEPT_TABLE: &str =
@@ -74,11 +76,11 @@ pub fn raise_epoch<F: Alter>(connection: &mut Connection<F>) -> Result<u64, SqlF
 }
 
 /// Begins to read all rows, by path.
-pub fn rows<F: Alter>(connection: &mut Connection<F>) -> Result<Rows<'_, F>, SqlFault>
+pub fn rows<F: Alter>(connection: &mut Connection<F>) -> Result<Rows<'_, F>, Error>
     ensures { IfOk result (λ rows. HasCleanDisk (state F.Store rows.conn.now) →
         HasBegun F.Store rows_text [] connection.old rows.conn.now) }
 {
-    Ok(connection.query(ROWS, &[])?)
+    connection.query(ROWS, &[])
 }
 
 /// What a change came to. It is done where no transaction waits for its end.
@@ -96,47 +98,47 @@ fn settle<F: Alter>(connection: &Connection<F>, came: Result<usize, Error>) -> K
     }
 }
 
-/// Runs the statement that keeps the bytes under the path.
-fn run_put<F: Alter>(
+/// Runs a change with these parameters, and says what it came to.
+fn change<F: Alter>(
     connection: &mut Connection<F>,
-    path: &str,
-    bytes: &[u8],
-) -> Result<usize, Error>
-    ensures runs { HasCleanDisk (state F.Store connection.new) → Executes put_text
-        (Text path.now ∷ Blob bytes.now ∷ [])
-        (state F.Store connection.old) (state F.Store connection.new) result }
-    ensures survives { Survives (state F.Store connection.old) (state F.Store connection.new)
-        (CommitsBy put_text (Text path.now ∷ Blob bytes.now ∷ [])
-        (state F.Store connection.old)) }
+    sql: &str,
+    params: &[ValueRef<'_>],
+) -> KeepAnswer
+    ensures { Changes F.Store sql.now (bound params.now)
+        connection.old connection.new result }
 {
-    connection.execute(PUT, params![path, bytes])
+    let came = connection.execute(sql, params);
+    settle(connection, came)
 }
 
 /// Keeps the bytes under the path, in place of those that were kept there.
-pub fn put<F: Alter>(connection: &mut Connection<F>, path: &str, bytes: &[u8]) -> KeepAnswer
+fn put<F: Alter>(connection: &mut Connection<F>, path: &str, bytes: &[u8]) -> KeepAnswer
     ensures { Changes F.Store put_text (Text path.now ∷ Blob bytes.now ∷ [])
         connection.old connection.new result }
 {
-    let came = run_put(connection, path, bytes);
-    settle(connection, came)
-}
-
-/// Runs the statement that keeps nothing under the path.
-fn run_remove<F: Alter>(connection: &mut Connection<F>, path: &str) -> Result<usize, Error>
-    ensures runs { HasCleanDisk (state F.Store connection.new) → Executes remove_text
-        (Text path.now ∷ [])
-        (state F.Store connection.old) (state F.Store connection.new) result }
-    ensures survives { Survives (state F.Store connection.old) (state F.Store connection.new)
-        (CommitsBy remove_text (Text path.now ∷ []) (state F.Store connection.old)) }
-{
-    connection.execute(REMOVE, params![path])
+    let params = [ValueRef::Text(path.as_bytes()), ValueRef::Blob(bytes)];
+    change(connection, PUT, &params)
 }
 
 /// Keeps nothing under the path.
-pub fn remove<F: Alter>(connection: &mut Connection<F>, path: &str) -> KeepAnswer
+fn remove<F: Alter>(connection: &mut Connection<F>, path: &str) -> KeepAnswer
     ensures { Changes F.Store remove_text (Text path.now ∷ [])
         connection.old connection.new result }
 {
-    let came = run_remove(connection, path);
-    settle(connection, came)
+    change(connection, REMOVE, &[ValueRef::Text(path.as_bytes())])
+}
+
+/// Keeps the bytes under the path from then on, or nothing.
+pub fn edit<F: Alter>(
+    connection: &mut Connection<F>,
+    path: &str,
+    bytes: Option<&[u8]>,
+) -> KeepAnswer
+    ensures { Edits F.Store path.now (option_copied bytes.entry)
+        connection.old connection.new result }
+{
+    match bytes {
+        Some(bytes) => put(connection, path, bytes),
+        None => remove(connection, path),
+    }
 }

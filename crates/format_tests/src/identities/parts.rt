@@ -1,7 +1,7 @@
 //! The sections of debug information. The expected bytes are those of the sample files' description.
 
 use super::changed;
-use elf_classify::debug_parts;
+use elf_classify::{DebugParts, debug_parts};
 use file_formats::Order;
 use sample_files::{big_endian_debug, dwarf_five};
 use std::alloc::Global;
@@ -18,10 +18,8 @@ static INFO: [u8; 22] = [
 /// The place of e_type in the header.
 const E_TYPE: usize = 16;
 
-#[test]
-fn debug_sections_are_those_of_their_names(rt: HostRuntime) {
-    let file = dwarf_five(rt.alloc()).expect(&rt, "memory");
-    let parts = debug_parts(file.as_slice()).expect(&rt, "the file has sections");
+/// Checks that these are the debug sections of the sample.
+fn are_those(rt: &impl Abort, parts: &DebugParts<'_>) {
     assert!(rt; parts.info == INFO.as_slice());
     assert!(rt; parts.abbrev == ABBREV.as_slice());
     assert!(rt; parts.line.len() == 69);
@@ -29,6 +27,13 @@ fn debug_sections_are_those_of_their_names(rt: HostRuntime) {
     assert!(rt; parts.line_str == b".\0inc\0main.c\0util.h\0".as_slice());
     assert!(rt; parts.str_offsets == [8, 0, 0, 0, 5, 0, 0, 0, 0, 0, 0, 0].as_slice());
     assert!(rt; parts.order == Order::Little);
+}
+
+#[test]
+fn debug_sections_are_those_of_their_names(rt: HostRuntime) {
+    let file = dwarf_five(rt.alloc()).expect(&rt, "memory");
+    let parts = debug_parts(file.as_slice()).expect(&rt, "the file has sections");
+    are_those(&rt, &parts);
 }
 
 /// Whether the sample has debug sections where e_type is this number.

@@ -8,6 +8,11 @@ use crate::rig::{FOLDERS, ROWS, cut};
 use std::thread::join;
 use tree_trait::NoGate;
 
+/// Whether a pass ended whole with all twelve files, or was left undone for want of memory.
+fn is_whole_or_undone(end: &str) -> bool {
+    end.starts_with("12 ") || end == "no memory"
+}
+
 // What the other token began in between may make a pass begin anew, or leave it for want of memory.
 #[test]
 fn two_tokens_pass_side_by_side(rt: HostRuntime) {
@@ -20,9 +25,8 @@ fn two_tokens_pass_side_by_side(rt: HostRuntime) {
         || pass_by(&rt, alloc, &lock, one, four, &FOLDERS, &NoGate),
         || pass_by(&rt, alloc, &lock, two, three, &FOLDERS, &NoGate),
     );
-    for end in [first.as_str(), second.as_str()] {
-        assert!(rt; end.starts_with("12 ") || end == "no memory", "{end}");
-    }
+    assert!(rt; is_whole_or_undone(first.as_str()), "{first}");
+    assert!(rt; is_whole_or_undone(second.as_str()), "{second}");
     let index = Unspared {
         seat: lock.join(one, two),
         lock,

@@ -1,108 +1,113 @@
 //! Connections that are taken over, or not, and what comes back.
 
-use crate::stores::rig::{batch, number, opened};
-use index_keeper::{Keeper, Store, StoreAnswer};
+use crate::stores::rig::{after, is_refused, number, opened, session};
+use index_keeper::{Keeper, Store};
 use sqlite::{Connection, MemStore};
 use sqlite_keeper::{AdoptAnswer, HeldStore, SqliteKeeper};
 use std::alloc::Global;
 use std::process::Abort;
-use std::test::Fail;
-
-/// A connection on which these statements were run.
-fn after(rt: &HostRuntime, sql: &str) -> Result<Connection<MemStore>, Fail> {
-    let mut connection = Connection::open_in_memory(rt.alloc())?;
-    batch(&mut connection, sql)?;
-    Ok(connection)
-}
 
 /// A connection whose store was opened before, and has this number.
-fn numbered(rt: &HostRuntime, n: i64) -> Result<Connection<MemStore>, Fail> {
-    let sql = format!(in rt.alloc();
+fn numbered(rt: &impl Abort, alloc: Global, n: i64) -> Connection<MemStore> {
+    let sql = format!(in alloc;
         "CREATE TABLE epoch(one INTEGER PRIMARY KEY CHECK (one = 1), n INTEGER NOT NULL) STRICT;
         INSERT INTO epoch VALUES (1, {n})"
-    )?;
-    after(rt, sql.as_str())
+    )
+    .expect(rt, "memory");
+    after(rt, alloc, sql.as_str())
 }
 
-/// The number of the opening; 0 where the connection came back for a failure.
-fn number_of(answer: AdoptAnswer<MemStore>) -> Result<u64, Fail> {
-    match answer {
-        AdoptAnswer::Adopted(keeper) => Ok(keeper.number()),
-        AdoptAnswer::Failed(_) => Ok(0),
-        AdoptAnswer::OutOfMemory(_) => Err("no memory".into()),
+/// The number of the opening; 0 where the connection comes back for a failure.
+fn number_of(rt: &impl Abort, connection: Connection<MemStore>) -> u64 {
+    match SqliteKeeper::adopt(connection) {
+        AdoptAnswer::Adopted(keeper) => keeper.epoch(),
+        AdoptAnswer::Failed(_) => 0,
+        AdoptAnswer::OutOfMemory(_) => panic!(rt; "no memory"),
     }
 }
 
+/// The number of the last opening, and that of the next one, or 0 where it fails: one that isn't
+/// above 0, one that isn't a number of openings, and the last of all.
+static NUMBERS: [(i64, u64); 5] = [(41, 42), (0, 1), (-1, 0), (-7, 0), (i64::MAX, 0)];
+
 #[test]
-fn a_number_goes_on_or_is_refused(rt: HostRuntime) -> Result<(), Fail> {
-    let fresh = Connection::open_in_memory(rt.alloc())?;
-    assert_eq!(rt; number_of(SqliteKeeper::adopt(fresh))?, 1);
-    // A number that isn't above 0, one that isn't a number of openings, and the last of all.
-    for (n, want) in [(41, 42), (0, 1), (-1, 0), (-7, 0), (i64::MAX, 0)] {
-        let connection = numbered(&rt, n)?;
-        assert_eq!(rt;
-            number_of(SqliteKeeper::adopt(connection))?,
-            want,
+fn a_number_goes_on_or_is_refused(rt: HostRuntime) {
+    let alloc = rt.alloc();
+    assert!(rt;
+        number_of(&rt, after(&rt, alloc, "")) == 1,
+        "a database without tables"
+    );
+    for (n, want) in NUMBERS {
+        assert!(rt;
+            number_of(&rt, numbered(&rt, alloc, n)) == want,
             "after {n}"
         );
     }
-    Ok(())
 }
 
 /// The connection that a refused adoption gives back.
-fn refused(answer: AdoptAnswer<MemStore>) -> Result<Connection<MemStore>, Fail> {
-    match answer {
-        AdoptAnswer::Failed(connection) => Ok(connection),
-        _ => Err("the connection was taken over".into()),
+fn refused(rt: &impl Abort, connection: Connection<MemStore>) -> Connection<MemStore> {
+    match SqliteKeeper::adopt(connection) {
+        AdoptAnswer::Failed(connection) => connection,
+        _ => panic!(rt; "the connection was taken over"),
     }
 }
 
-#[test]
-fn a_connection_inside_a_transaction_comes_back_as_it_was(rt: HostRuntime) -> Result<(), Fail> {
-    let connection = after(
-        &rt,
-        "CREATE TABLE t(a INTEGER); BEGIN; INSERT INTO t VALUES (7)",
-    )?;
-    let mut back = refused(SqliteKeeper::adopt(connection))?;
-    assert!(rt; !back.is_autocommit());
-    assert_eq!(rt; number(&mut back, "SELECT a FROM t")?, 7);
-    assert_eq!(rt; number(&mut back, "SELECT count(*) FROM sqlite_schema")?, 1);
-    batch(&mut back, "ROLLBACK")?;
-    assert_eq!(rt; number_of(SqliteKeeper::adopt(back))?, 1);
-    Ok(())
-}
-
-/// Opens the store, which is to fail.
-fn fails(rt: &impl Abort, alloc: Global, store: &mut HeldStore<MemStore>) {
-    assert!(rt; matches!(store.open_store(alloc, "m"), StoreAnswer::Failed));
+/// Ends the transaction, in which there is one table of one row and nothing else.
+fn leave(rt: &impl Abort, connection: &mut Connection<MemStore>) {
+    assert!(rt; !connection.is_autocommit());
+    assert!(rt; number(rt, connection, "SELECT a FROM t") == 7);
+    assert!(rt; number(rt, connection, "SELECT count(*) FROM sqlite_schema") == 1);
+    connection
+        .execute_batch("ROLLBACK")
+        .expect(rt, "the end of the transaction");
 }
 
 #[test]
-fn a_refused_opening_keeps_the_connection(rt: HostRuntime) -> Result<(), Fail> {
+fn a_connection_inside_a_transaction_comes_back_as_it_was(rt: HostRuntime) {
+    let sql = "CREATE TABLE t(a INTEGER); BEGIN; INSERT INTO t VALUES (7)";
+    let mut back = refused(&rt, after(&rt, rt.alloc(), sql));
+    leave(&rt, &mut back);
+    assert!(rt; number_of(&rt, back) == 1);
+}
+
+/// The connection of a store that couldn't be opened inside a transaction, outside it.
+fn kept(rt: &impl Abort, alloc: Global) -> Connection<MemStore> {
+    let mut store = HeldStore::new(after(rt, alloc, "CREATE TABLE t(a INTEGER); BEGIN"));
+    assert!(rt; is_refused(alloc, &mut store, "m"), "inside a transaction");
+    let mut connection = store.into_connection().expect(rt, "a connection");
+    connection
+        .execute_batch("COMMIT")
+        .expect(rt, "the end of the transaction");
+    connection
+}
+
+/// The number of an opening whose keeper isn't given back.
+fn lost(rt: &impl Abort, alloc: Global, store: &mut HeldStore<MemStore>) -> u64 {
+    opened(rt, alloc, store, "m").epoch()
+}
+
+#[test]
+fn a_refused_opening_keeps_the_connection(rt: HostRuntime) {
     let alloc = rt.alloc();
-    let mut store = HeldStore::new(after(&rt, "CREATE TABLE t(a INTEGER); BEGIN")?);
-    fails(&rt, alloc, &mut store);
-    let mut connection = store.into_connection().ok_or("no connection")?;
-    batch(&mut connection, "COMMIT")?;
-    let mut store = HeldStore::new(connection);
-    assert_eq!(rt; opened(alloc, &mut store, "m")?.epoch(), 1);
+    let mut store = HeldStore::new(kept(&rt, alloc));
+    assert!(rt; lost(&rt, alloc, &mut store) == 1);
     // The keeper is gone with its connection.
-    fails(&rt, alloc, &mut store);
+    assert!(rt; is_refused(alloc, &mut store, "m"));
     assert!(rt; store.into_connection().is_none());
-    Ok(())
+}
+
+/// The keeper of another store, whose connection counts from 1.
+fn strange(rt: &impl Abort, alloc: Global) -> SqliteKeeper<MemStore> {
+    let mut other = HeldStore::new(after(rt, alloc, ""));
+    opened(rt, alloc, &mut other, "m")
 }
 
 #[test]
-fn a_number_that_fell_is_refused(rt: HostRuntime) -> Result<(), Fail> {
+fn a_number_that_fell_is_refused(rt: HostRuntime) {
     let alloc = rt.alloc();
-    let mut store = HeldStore::new(numbered(&rt, 4)?);
-    let keeper = opened(alloc, &mut store, "m")?;
-    assert_eq!(rt; keeper.epoch(), 5);
-    // Another store's keeper, whose connection counts from 1.
-    store.give_back(keeper);
-    let mut other = HeldStore::new(Connection::open_in_memory(alloc)?);
-    let keeper = opened(alloc, &mut other, "m")?;
-    store.give_back(keeper);
-    fails(&rt, alloc, &mut store);
-    Ok(())
+    let mut store = HeldStore::new(numbered(&rt, alloc, 4));
+    session(&rt, alloc, &mut store, "m", 5, &[]);
+    store.give_back(strange(&rt, alloc));
+    assert!(rt; is_refused(alloc, &mut store, "m"));
 }

@@ -1,13 +1,13 @@
-//! What the tests share: calls of a keeper with what they are to answer, and the bytes of rows.
+//! What the tests share: connections, calls of a keeper with what they are to answer, and the bytes
+//! of rows.
 
 use index_keeper::{KeepAnswer, Keeper, Kept, KeptAnswer, Store, StoreAnswer};
 use row_codec::write_row;
 use row_types::OpenWorld;
 use sample_rows::plain;
-use sqlite::{Alter, Connection, Error};
+use sqlite::{Alter, Connection, MemStore};
 use std::alloc::Global;
 use std::process::Abort;
-use std::test::Fail;
 
 /// A call of a keeper, and what it is to answer. The rows are those of files that are no ELF files,
 /// changed at second 100.
@@ -19,16 +19,21 @@ pub enum Call<'a> {
     Remove(&'a str, KeepAnswer),
     /// The rows are those of these letters and sizes, at the path of a slash and the letter.
     Rows(&'a [(u8, u8)]),
+    /// Whether the rows can be read.
+    Reads(bool),
 }
 
-/// Runs statements.
-pub fn batch<S: Alter>(connection: &mut Connection<S>, sql: &str) -> Result<(), Error> {
-    connection.execute_batch(sql)
+/// A connection in memory on which these statements were run.
+pub fn after(rt: &impl Abort, alloc: Global, sql: &str) -> Connection<MemStore> {
+    let mut connection = Connection::open_in_memory(alloc).expect(rt, "memory");
+    connection.execute_batch(sql).expect(rt, "statements");
+    connection
 }
 
 /// The number that a query gives.
-pub fn number<S: Alter>(connection: &mut Connection<S>, sql: &str) -> Result<i64, Error> {
-    connection.query_row(sql, &[])?.get(0)
+pub fn number<S: Alter>(rt: &impl Abort, connection: &mut Connection<S>, sql: &str) -> i64 {
+    let row = connection.query_row(sql, &[]).expect(rt, "a row");
+    row.get(0).expect(rt, "a number")
 }
 
 /// The bytes of such a row by the format: edition, path with its length, size, second and
@@ -41,61 +46,98 @@ fn spelled(letter: u8, size: u8) -> [u8; 29] {
 }
 
 /// Keeps the row of this path and size.
-pub fn put<K: Keeper<OpenWorld>>(
+fn put<K: Keeper<OpenWorld>>(
+    rt: &impl Abort,
     alloc: Global,
     keeper: &mut K,
     path: &str,
     size: u8,
-) -> Result<KeepAnswer, Fail> {
-    let row = plain(alloc, path, u64::from(size))?.into_row();
-    let bytes = write_row(alloc, &row)?;
-    Ok(keeper.put(alloc, row.name.path.text(), bytes.as_slice()))
-}
-
-/// All rows of a keeper.
-pub fn rows_of<K: Keeper<OpenWorld>>(alloc: Global, keeper: &mut K) -> Result<Vec<Kept>, Fail> {
-    match keeper.rows(alloc) {
-        KeptAnswer::All(rows) => Ok(rows),
-        _ => Err("the rows can't be read".into()),
-    }
+) -> KeepAnswer {
+    let row = plain(alloc, path, u64::from(size))
+        .expect(rt, "a row")
+        .into_row();
+    let bytes = write_row(alloc, &row).expect(rt, "memory");
+    keeper.put(alloc, row.name.path.text(), bytes.as_slice())
 }
 
 /// Compares rows with those of these letters and sizes.
-pub fn compare(rt: &impl Abort, rows: &[Kept], want: &[(u8, u8)]) {
-    assert_eq!(rt; rows.len(), want.len());
+fn compare(rt: &impl Abort, rows: &[Kept], want: &[(u8, u8)]) {
+    assert!(rt; rows.len() == want.len(), "the number of rows");
     for (row, (letter, size)) in rows.iter().zip(want) {
-        assert_eq!(rt; row.path.as_bytes(), [b'/', *letter].as_slice());
-        assert_eq!(rt; row.bytes.as_slice(), spelled(*letter, *size).as_slice());
+        assert!(rt; row.path.as_bytes() == [b'/', *letter].as_slice());
+        assert!(rt; row.bytes.as_slice() == spelled(*letter, *size).as_slice());
     }
 }
 
-/// Makes the calls, one after the other, and looks at what is answered.
+/// Whether the rows of a keeper can be read.
+fn reads<K: Keeper<OpenWorld>>(rt: &impl Abort, alloc: Global, keeper: &mut K) -> bool {
+    match keeper.rows(alloc) {
+        KeptAnswer::All(_) => true,
+        KeptAnswer::Failed => false,
+        KeptAnswer::OutOfMemory => panic!(rt; "no memory"),
+    }
+}
+
+/// Compares all rows of a keeper with those of these letters and sizes.
+fn compare_all<K: Keeper<OpenWorld>>(
+    rt: &impl Abort,
+    alloc: Global,
+    keeper: &mut K,
+    want: &[(u8, u8)],
+) {
+    match keeper.rows(alloc) {
+        KeptAnswer::All(rows) => compare(rt, rows.as_slice(), want),
+        _ => panic!(rt; "the rows can't be read"),
+    }
+}
+
+/// Makes a call, and looks at what is answered.
+pub fn make_call<K: Keeper<OpenWorld>>(
+    rt: &impl Abort,
+    alloc: Global,
+    keeper: &mut K,
+    call: Call<'_>,
+) {
+    match call {
+        Call::Put(path, size, want) => {
+            assert!(rt; put(rt, alloc, keeper, path, size) == want, "put of {path}")
+        }
+        Call::Remove(path, want) => {
+            assert!(rt; keeper.remove(alloc, path) == want, "removal of {path}")
+        }
+        Call::Rows(want) => compare_all(rt, alloc, keeper, want),
+        Call::Reads(want) => assert!(rt; reads(rt, alloc, keeper) == want, "all rows"),
+    }
+}
+
+/// Makes the calls, one after the other.
 pub fn make_calls<K: Keeper<OpenWorld>>(
     rt: &impl Abort,
     alloc: Global,
     keeper: &mut K,
     calls: &[Call<'_>],
-) -> Result<(), Fail> {
+) {
     for call in calls {
-        match call {
-            Call::Put(path, size, want) => {
-                assert_eq!(rt; put(alloc, keeper, path, *size)?, *want, "put of {path}")
-            }
-            Call::Remove(path, want) => {
-                assert_eq!(rt; keeper.remove(alloc, path), *want, "removal of {path}")
-            }
-            Call::Rows(want) => compare(rt, rows_of(alloc, keeper)?.as_slice(), want),
-        }
+        make_call(rt, alloc, keeper, *call);
     }
-    Ok(())
 }
 
 /// The keeper of a store that opens.
-pub fn opened<S: Store<OpenWorld>>(alloc: Global, store: &mut S, path: &str) -> Result<S::K, Fail> {
+pub fn opened<S: Store<OpenWorld>>(
+    rt: &impl Abort,
+    alloc: Global,
+    store: &mut S,
+    path: &str,
+) -> S::K {
     match store.open_store(alloc, path) {
-        StoreAnswer::Opened(keeper) => Ok(keeper),
-        _ => Err("the store doesn't open".into()),
+        StoreAnswer::Opened(keeper) => keeper,
+        _ => panic!(rt; "the store doesn't open"),
     }
+}
+
+/// Whether the store doesn't open.
+pub fn is_refused<S: Store<OpenWorld>>(alloc: Global, store: &mut S, path: &str) -> bool {
+    matches!(store.open_store(alloc, path), StoreAnswer::Failed)
 }
 
 /// Makes the calls on a keeper of the store, whose opening is to have this number, and gives it
@@ -107,10 +149,9 @@ pub fn session<S: Store<OpenWorld>>(
     path: &str,
     epoch: u64,
     calls: &[Call<'_>],
-) -> Result<(), Fail> {
-    let mut keeper = opened(alloc, store, path)?;
-    assert_eq!(rt; keeper.epoch(), epoch);
-    let made = make_calls(rt, alloc, &mut keeper, calls);
+) {
+    let mut keeper = opened(rt, alloc, store, path);
+    assert!(rt; keeper.epoch() == epoch, "the number of the opening");
+    make_calls(rt, alloc, &mut keeper, calls);
     store.give_back(keeper);
-    made
 }

@@ -1,10 +1,8 @@
 //! Rows that are put, replaced, removed and read again.
 
-use crate::stores::rig::{Call, number, session};
+use crate::stores::rig::{Call, after, number, session};
 use index_keeper::KeepAnswer;
-use sqlite::Connection;
 use sqlite_keeper::HeldStore;
-use std::test::Fail;
 
 /// The calls on a store that holds nothing.
 static FIRST: [Call<'static>; 10] = [
@@ -28,14 +26,13 @@ static LATER: [Call<'static>; 3] = [
 ];
 
 #[test]
-fn rows_come_back_by_path(rt: HostRuntime) -> Result<(), Fail> {
+fn rows_come_back_by_path(rt: HostRuntime) {
     let alloc = rt.alloc();
-    let mut store = HeldStore::new(Connection::open_in_memory(alloc)?);
-    session(&rt, alloc, &mut store, "m", 1, FIRST.as_slice())?;
-    session(&rt, alloc, &mut store, "m", 2, LATER.as_slice())?;
-    let mut connection = store.into_connection().ok_or("no connection")?;
+    let mut store = HeldStore::new(after(&rt, alloc, ""));
+    session(&rt, alloc, &mut store, "m", 1, FIRST.as_slice());
+    session(&rt, alloc, &mut store, "m", 2, LATER.as_slice());
+    let mut connection = store.into_connection().expect(&rt, "a connection");
     // The tables are those of the format, in its order.
-    assert_eq!(rt; number(&mut connection, "SELECT count(*) FROM kept")?, 1);
-    assert_eq!(rt; number(&mut connection, "SELECT n FROM epoch")?, 2);
-    Ok(())
+    assert!(rt; number(&rt, &mut connection, "SELECT count(*) FROM kept") == 1);
+    assert!(rt; number(&rt, &mut connection, "SELECT n FROM epoch") == 2);
 }

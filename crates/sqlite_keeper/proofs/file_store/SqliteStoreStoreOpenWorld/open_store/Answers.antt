@@ -7,9 +7,9 @@ pub returns-in-Ok-clause-opens : goal.returns-in-Ok-clause-opens
 returns-in-Ok-clause-opens c =
     rw (← c.self.view_is) (record {
       holds = record { tables = λ _. refl; settled = λ t. absurd (false≢true t); made = refl; faultless = c.in-Ok.ensures.begun.faultless };
-      number = sym c.number-self-inside.ensures;
-      rises = omega (arith, c.in-Ok.ensures.begun.rises, c.number-self-inside.ensures);
-      later = omega (arith, c.in-Ok.ensures.begun.rises, c.number-self-inside.ensures);
+      number = sym c.epoch-self-inside.ensures;
+      rises = omega (arith, c.in-Ok.ensures.begun.rises, c.epoch-self-inside.ensures);
+      later = omega (arith, c.in-Ok.ensures.begun.rises, c.epoch-self-inside.ensures);
       faults = refl;
       paths = refl;
     })
