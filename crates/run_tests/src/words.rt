@@ -4,7 +4,9 @@
 mod helps;
 mod lines;
 
-use crate::words::helps::{QUERY_HELP, QUERY_HELPS, SCAN_HELP, SCAN_HELPS, VERSIONS};
+use crate::words::helps::{
+    PROGRAM_HELP, PROGRAM_HELPS, QUERY_HELP, QUERY_HELPS, SCAN_HELP, SCAN_HELPS, VERSIONS,
+};
 use crate::words::lines::{FILES, OPTIONS, QUERIES, SCANS, TRIALS};
 use dbgd_words::{Line, read_line};
 use row_types::{BuildId, CanonPath};
@@ -103,6 +105,7 @@ fn words_ask_what_they_say(rt: HostRuntime) {
     each_says(&rt, alloc, &SCANS);
     each_says(&rt, alloc, &OPTIONS);
     each_says(&rt, alloc, &VERSIONS);
+    all_say(&rt, alloc, &PROGRAM_HELPS, PROGRAM_HELP);
     all_say(&rt, alloc, &SCAN_HELPS, SCAN_HELP);
     all_say(&rt, alloc, &QUERY_HELPS, QUERY_HELP);
 }

@@ -16,7 +16,7 @@ static UNREADABLE: [&[&str]; 27] = [
     &[""],
     &["frobnicate"],
     &["IDENT", "/w/a"],
-    &["--help"],
+    &["--help", "ident"],
     &["find", "/w/a"],
     &["ident"],
     &["ident", "/w/a", "/w/a"],
@@ -103,6 +103,9 @@ fn a_folder_has_at_most_4096_bytes(rt: HostRuntime) {
     scan_of(&rt, rt.alloc(), 4092, USAGE, 2);
 }
 
+/// A line that is answered with the version of the program.
+static PROGRAM: Run = Run(&["--version"], b"dbgd 0.1.0\n", "", 0);
+
 /// A line that is answered with its version.
 static VERSION: Run = Run(&["query", "--version"], b"dbgd query 0.1.0\n", "", 0);
 
@@ -115,6 +118,7 @@ fn help_and_version_go_to_the_standard_output(rt: HostRuntime) {
         bad_out: &[0],
         ..SOUND
     };
+    run_alone(&rt, rt.alloc(), &SOUND, PROGRAM);
     run_alone(&rt, rt.alloc(), &SOUND, VERSION);
     run_alone(&rt, rt.alloc(), &plan, CUT_VERSION);
 }

@@ -2,6 +2,34 @@
 
 use crate::words::Case;
 
+/// Lines that ask for the help of the program.
+pub static PROGRAM_HELPS: [&[&str]; 2] = [&["--help"], &["-h"]];
+
+/// The help of the program.
+pub static PROGRAM_HELP: &str =
+    "A debug file server: names programs, debug files and sources by build-id
+
+Usage: dbgd COMMAND WORDS..
+
+Commands:
+  ident FILE                  Prints the build-id of an ELF file, and what the file holds
+  sources FILE                Prints the source paths that the DWARF 5 of a file names
+  section FILE NAME           Writes the bytes of a section
+  scan -d DB [-c N] DIR..     Keeps a row for each file under folders in a store
+  query -d DB ID              Prints the rows of a build-id that a store holds
+  trial SEED FILES WORKERS    Scans generated files in memory, and prints what it has then
+  serve -d DB DIR..           Isn't built yet
+
+Options:
+  -h, --help       Print help
+  -V, --version    Print version
+
+`dbgd scan --help` and `dbgd query --help` have the options of these two, and their exit statuses.
+The manual is docs/COMMANDS.md.
+
+Example: dbgd scan -d index.db /usr/bin /usr/lib/debug
+";
+
 /// Lines that ask for the help of `scan`.
 pub static SCAN_HELPS: [&[&str]; 3] = [
     &["scan", "--help"],
@@ -19,7 +47,7 @@ Arguments:
 
 Options:
   -d, --database <FILE>  The store of the index; it is made where it isn't there
-  -c, --concurrency <N>  The number of workers, 1 to 64; one does the work so far [default: 4]
+  -c, --concurrency <N>  How many files are read at a time, 1 to 64 [default: 4]
   -F, --scan-file-dir    Changes nothing: files in folders are what is scanned
   -h, --help             Print help
   -V, --version          Print version
@@ -28,8 +56,8 @@ Walks the folders, reads each file that has no row yet, and keeps the rows in th
 line of counts: files, rows added, replaced, dropped and kept, executables, debug information.
 
 Exit status: 0 done, 1 a call of the file system, the store or the output failed, 2 words that can't
-be read, 3 nothing is at a folder's path, 4 a file was altered meanwhile, 5 too many files, entries,
-rows or changes, 6 memory was refused, 7 a value that is no row.
+be read, 3 nothing is at a folder's path, 4 a file was altered or appeared meanwhile, 5 too many files,
+entries, rows or changes, 6 memory was refused, 7 a value that is no row.
 
 Example: dbgd scan -d index.db /usr/bin /usr/lib/debug
 ";
@@ -60,7 +88,9 @@ Example: dbgd query -d index.db 15dfff3239aa7c3b16a71e6b2e3b6e4009dab998
 ";
 
 /// Lines that ask for a version.
-pub static VERSIONS: [Case; 2] = [
+pub static VERSIONS: [Case; 4] = [
+    Case(&["--version"], "dbgd 0.1.0\n"),
+    Case(&["-V"], "dbgd 0.1.0\n"),
     Case(&["query", "--version"], "dbgd query 0.1.0\n"),
     Case(&["scan", "-V"], "dbgd scan 0.1.0\n"),
 ];

@@ -10,7 +10,7 @@ pub static FILES: [Case; 10] = [
     Case(&["section", "/w/a", ".text"], "section /w/a .text"),
     Case(&[], "usage"),
     Case(&["IDENT", "/w/a"], "usage"),
-    Case(&["--help"], "usage"),
+    Case(&["--help", "ident"], "usage"),
     Case(&["ident"], "usage"),
     Case(&["sources", "/w/a", "/w/a"], "usage"),
     Case(&["serve", "--help"], "not built"),
