@@ -2,6 +2,7 @@
 
 use crate::stores::rig::{Call, is_refused, make_calls, opened, session};
 use index_keeper::{KeepAnswer, Keeper, Store};
+use row_types::OpenWorld;
 use sqlite_keeper::SqliteStore;
 use std::alloc::Global;
 use std::process::Abort;
@@ -35,11 +36,11 @@ static READ: [Call<'static>; 3] = [
 ];
 
 /// Writes the file by one store, while the other can't have it.
-fn write(
+fn write<S: Store<OpenWorld>>(
     rt: &impl Abort,
     alloc: Global,
-    store: &mut SqliteStore,
-    other: &mut SqliteStore,
+    store: &mut S,
+    other: &mut S,
     path: &str,
 ) {
     let mut keeper = opened(rt, alloc, store, path);
@@ -50,11 +51,11 @@ fn write(
 }
 
 /// Opens the file by one store and then by another.
-fn write_and_read(
+fn write_and_read<S: Store<OpenWorld>>(
     rt: &impl Abort,
     alloc: Global,
-    store: &mut SqliteStore,
-    other: &mut SqliteStore,
+    store: &mut S,
+    other: &mut S,
     path: &str,
 ) {
     write(rt, alloc, store, other, path);
