@@ -3,8 +3,8 @@
 
 usage: bench/gate_cost.py [COMMAND..]      COMMAND is `rt ci --anew` at the repository's top unless given
 
-While the command runs, the processor time of each prover that it starts is read from /proc some times a second:
-of the crate's proof, of its tests, of the check that its edits begin with, and of its edits. The time of a prover
+While the command runs, the processor time of each prover below it is read from /proc some times a second: of the
+crate's proof, of its tests, of the check that its edits begin with, and of its edits. The time of a prover
 between its last reading and its end is missed (a quarter of a second at most), so the sums are a little low. The
 table is written to the standard error, so that the last line of the standard output stays the command's. It exits
 with the command's status.
@@ -40,28 +40,34 @@ def state_of(process):
 
 def part_of(words):
     """The crate and the part of the gate that a prover of these words works for, if they are a prover's."""
-    if os.path.basename(words[0]) != "rattle" or "--crate-name" not in words:
+    if not words or os.path.basename(words[0]) != "rattle" or "--crate-name" not in words:
         return None
     crate = words[words.index("--crate-name") + 1]
     if "--incremental" in words:
-        over = words[words.index("--incremental") + 1]
-        return crate, "seed" if os.path.basename(over) == "seed" else "edits"
+        over = os.path.basename(words[words.index("--incremental") + 1])
+        return crate, "seed" if over == "seed" else "edits"
     return crate, "tests" if "--test" in words else "proof"
 
 
-def read(known, spent):
-    """Reads the time of each prover that runs, and of the processes that it has started, which stand behind it."""
-    for process in sorted(filter(str.isdigit, os.listdir("/proc")), key=int):
-        state = state_of(process)
-        if state is None:
-            continue
-        parent, seconds = state
-        # A process that was forked a moment ago still has its parent's words.
-        if not known.get(process):
-            words = words_of(process)
-            known[process] = (part_of(words) if words and words[0] else None) or known.get(parent)
-        if known[process]:
-            spent[process, known[process]] = seconds
+def read(run, parts, spent):
+    """Reads the time of each prover that stands below the run, and of the processes that it has started itself."""
+    states = {it: state_of(it) for it in filter(str.isdigit, os.listdir("/proc"))}
+    parents = {process: state[0] for process, state in states.items() if state}
+
+    def part_above(process):
+        """The part that a process, or one above it, works for; None where the run is none of these."""
+        found = None
+        while process in parents and process != run:
+            found = found or parts.get(process) or part_of(words_of(process))
+            if found:
+                parts[process] = found
+            process = parents[process]
+        return found if process == run else None
+
+    for process in parents:
+        part = part_above(process)
+        if part:
+            spent[process, part] = states[process][1]
 
 
 def table(spent, wall):
@@ -83,10 +89,10 @@ def main():
     command = sys.argv[1:] or ["rt", "ci", "--anew"]
     if not sys.argv[1:]:
         os.chdir(os.path.join(os.path.dirname(os.path.realpath(__file__)), ".."))
-    known, spent, begun = {}, {}, time.monotonic()
+    parts, spent, begun = {}, {}, time.monotonic()
     run = subprocess.Popen(command)
     while run.poll() is None:
-        read(known, spent)
+        read(str(run.pid), parts, spent)
         time.sleep(PAUSE)
     for line in table(spent, time.monotonic() - begun):
         print(line, file=sys.stderr)
