@@ -1,0 +1,6 @@
+pub mod PieceLemmas
+pub mod ApartLemmas
+pub mod JoinLemmas
+pub mod PutLemmas
+pub mod ReadLemmas
+pub mod AddLemmas

@@ -1,0 +1,14 @@
+-- Files that a picture may be of (this project's rule).
+use Rattle.std.specs.Prelude.{◌≡◌, ℕ, List, Option, Some, length, slice_index, map}
+use Rattle.std.specs.List.{range_with_len}
+use Rattle.std.specs.Option.{unwrap_or}
+use Rattle.file_picture.specs.Picture.{PictureFacts, byte_at}
+
+-- the file has the picture's size, and each of its bytes at its place
+pub record Agrees (b : List ℕ) (p : PictureFacts) : Type 0 where
+  pub sized : length b ≡ p.size
+  pub same : (place x : ℕ) → byte_at p place ≡ Some x → slice_index b place ≡ x
+
+-- the picture with 0 at each place whose byte isn't known: one of these files
+abbrev pub filled : PictureFacts → List ℕ
+filled p = map (λ place. unwrap_or (byte_at p place) 0) (range_with_len 0 p.size)

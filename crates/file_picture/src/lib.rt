@@ -1,0 +1,10 @@
+//! Pictures of files: the size of a file, and those of its bytes that are known, each at its place.
+//! How they are read, and what they mean, is left out.
+#![tactic(auto)]
+
+mod joins;
+mod picture;
+mod piece;
+mod places;
+
+pub use picture::Picture;
