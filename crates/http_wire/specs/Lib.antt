@@ -1,8 +1,10 @@
+pub mod Door
 pub mod Fields
 pub mod Find
 pub mod Heads
 pub mod Look
 pub mod MemConn
+pub mod MemDoor
 pub mod MemSink
 pub mod Reader
 pub mod ReaderFacts
@@ -12,3 +14,4 @@ pub mod Said
 pub mod Sink
 pub mod Source
 pub mod Stream
+pub mod Told

@@ -1,13 +1,16 @@
-//! HTTP/1.1 as bytes on a stream: the streams that bytes go through, the heads of requests, and the
-//! exact bytes of replies (RFC 9112). Nothing here knows what a target means or picks a status.
+//! HTTP/1.1 as bytes on a stream: the streams that bytes go through, the doors through which they
+//! come, the heads of requests, and the exact bytes of replies (RFC 9112). Nothing here knows what a
+//! target means or picks a status.
 #![tactic(auto)]
 
+mod door;
 mod fields;
 mod find;
 mod head;
 mod limits;
 mod look;
 mod mem_conn;
+mod mem_door;
 mod mem_sink;
 mod reader;
 mod reply;
@@ -16,9 +19,11 @@ mod sink;
 mod source;
 mod stream;
 
+pub use door::{Door, DoorAnswer, DoorSaid};
 pub use head::{Head, HeadAnswer, HeadFault};
 pub use limits::{FIELD_LIMIT, HEAD_LIMIT};
 pub use mem_conn::MemConn;
+pub use mem_door::MemDoor;
 pub use mem_sink::MemSink;
 pub use reader::HeadReader;
 pub use reply::{ReplyFault, ReplyHead, write_reply};

@@ -3,6 +3,7 @@ pub use Rattle.row_types.specs.Name
 pub use Rattle.row_types.specs.Reading
 pub use Rattle.row_types.specs.Stamp
 pub mod Asks
+pub mod Clock
 pub mod Dir
 pub mod Entry
 pub mod Folder
@@ -11,6 +12,7 @@ pub mod Heard
 pub mod HeardCalls
 pub mod Listens
 pub mod Load
+pub mod MemClock
 pub mod MemTree
 pub mod Pieces
 pub mod Present

@@ -1,15 +1,18 @@
 //! The tree of files that a scan reads: the trait that stands for it, what it answers, and a form
-//! in memory that answers by a script; the trait that stands for what reads a file; and the trait
-//! that stands for who may hold a thread at a point. The real tree stands in the program.
+//! in memory that answers by a script; the trait that stands for what reads a file; the trait that
+//! stands for who may hold a thread at a point; and the trait that stands for the time between
+//! passes, with a form in memory. The real tree and the real clock stand in `dbgd_edges`.
 #![tactic(auto)]
 
 mod answer;
+mod clock;
 mod dir;
 mod entry;
 mod folder;
 mod found;
 mod gate;
 mod heard;
+mod mem_clock;
 mod mem_tree;
 mod reader;
 mod script;
@@ -20,10 +23,12 @@ mod turn_gate;
 mod two_world;
 
 pub use answer::LoadAnswer;
+pub use clock::{Clock, Waited, Wake};
 pub use dir::DirAnswer;
 pub use entry::{Entry, EntryKind, is_entry_name};
 pub use found::Found;
 pub use gate::{Gate, NoGate, Point};
+pub use mem_clock::MemClock;
 pub use mem_tree::MemTree;
 pub use reader::Reader;
 pub use script::Script;
