@@ -12,3 +12,4 @@ pub mod TextAnswers
 pub mod Pieces
 pub mod Parts
 pub mod Tells
+pub mod Indexes

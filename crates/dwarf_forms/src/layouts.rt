@@ -2,6 +2,7 @@
 
 ghost use Rattle.std.specs.Prelude.{◌≡◌};
 ghost use Rattle.file_formats.specs.DwarfForms.{layout_of};
+ghost use Rattle.dwarf_forms.specs.Indexes.{is_index_form};
 
 use file_formats::dwarf_forms::{
     DW_FORM_ADDR, DW_FORM_ADDRX, DW_FORM_ADDRX1, DW_FORM_ADDRX2, DW_FORM_ADDRX3, DW_FORM_ADDRX4,
@@ -56,4 +57,11 @@ pub(crate) fn form_layout(form: u64) -> Option<Layout>
         _ => return None,
     };
     Some(layout)
+}
+
+/// Whether values of the form name a text by its index in .debug_str_offsets.
+pub fn is_index_form(form: u64) -> bool
+    ensures { result ≡ is_index_form form }
+{
+    matches!(form_layout(form), Some(Layout::Numbered(_, Sense::StrIndex)))
 }

@@ -14,6 +14,7 @@ mod value;
 
 pub use fault::FormFault;
 pub use file_formats::dwarf_forms::{Sense, Width};
+pub use layouts::is_index_form;
 pub use numbers::{Format, read_number};
 pub use parts::DebugParts;
 pub use piece::{Piece, number_from, piece_at};

@@ -12,6 +12,8 @@ use Rattle.file_formats.specs.DwarfSequences.{Along, ends, goes}
 use Rattle.file_formats.specs.DwarfLines.{Row, no_more, one_more, format_at, AreFormats, field_at, first_value, LineEntry, IsLineEntry, IsLineList, LineTable, AreLineLists, line_head, IsLineTable}
 use Rattle.dwarf_lines.specs.Lists.{at_map, row_at, EntryFields, one_field, with_first, fields_at, entry_with, entry_at, formats_at, entries_at, list_at, table_of, lists_at, ending_by, lists_within, lists_of, table_in, table_at}
 use Rattle.dwarf_forms.specs.Tells.{Tells}
+use Rattle.dwarf_lines.specs.declared.table.ReadTable.{ReadTable}
+use Rattle.dwarf_lines.specs.Bases.{based, IsSameForBases}
 use Rattle.dwarf_lines.specs.Finds.{as_it_is}
 use Rattle.dwarf_lines.proofs.RowLemmas.{row-zero, row-more}
 
@@ -200,11 +202,21 @@ tells : {A : Type 0} (P : A → Type 0) (o : Option A) → ((x : A) → P x → 
 tells P None found there = λ x h. let e = found x h in absurd (cc)
 tells P (Some x) found there = record { here = there x refl; only = λ y h. some_same (sym (found y h)) }
 
--- what is told of a value is told of what an answer has, where that is the value
-pub if_same : {A E : Type 0} (P : A → Type 0) {x : A} → P x → (r : Result A E) → IfOk r (λ y. y ≡ x) → IfOk r P
-if_same P here (Ok y) is = subst P (sym is) here
-if_same P here (Err e) is = tt
-
-pub table-tells : (lines : List ℕ) (p : ℕ) (texts : Texts) → Tells as_it_is (IsLineTable lines p texts) (table_at lines p texts)
+table-tells : (lines : List ℕ) (p : ℕ) (texts : Texts) → Tells as_it_is (IsLineTable lines p texts) (table_at lines p texts)
 table-tells lines p texts =
     tells (IsLineTable lines p texts) (table_at lines p texts) (table-found lines p texts) (table-there lines p texts)
+
+-- what is told of a table is told of the one that was read
+pub if_tells : {E : Type 0} (lines : List ℕ) (p : ℕ) (texts : Texts) (r : Result ReadTable E)
+    → IfOk r (λ read. read.table ≡ table_at lines p texts) → IfOk r (λ read. Tells as_it_is (IsLineTable lines p texts) read.table)
+if_tells lines p texts (Ok read) is = subst (Tells as_it_is (IsLineTable lines p texts)) (sym is) (table-tells lines p texts)
+if_tells lines p texts (Err e) is = tt
+
+-- a table without indexes is told of each place in .debug_str_offsets
+pub if_tells-based : {E : Type 0} (lines : List ℕ) (p : ℕ) (texts : Texts) (r : Result ReadTable E)
+    → IfOk r (λ read. read.table ≡ table_at lines p texts)
+    → IfOk r (λ read. read.indexed ≡ false → IsSameForBases (λ x. table_at lines p x) texts)
+    → IfOk r (λ read. read.indexed ≡ false → (base : Option ℕ) → Tells as_it_is (IsLineTable lines p (based texts base)) read.table)
+if_tells-based lines p texts (Ok read) is fixed = λ none base.
+    subst (Tells as_it_is (IsLineTable lines p (based texts base))) (fixed none base ∙ sym is) (table-tells lines p (based texts base))
+if_tells-based lines p texts (Err e) is fixed = tt

@@ -9,4 +9,4 @@ mod lists;
 mod table;
 
 pub use entry::LineFile;
-pub use table::{LineTable, line_table};
+pub use table::{LineTable, ReadTable, line_table, read_table};

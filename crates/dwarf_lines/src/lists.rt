@@ -1,9 +1,11 @@
 //! The two lists of a line table: each has its formats, its number, and its entries. DWARF 5,
 //! section 6.2.4.
 
-ghost use Rattle.std.specs.Prelude.{IfOk};
+ghost use Rattle.std.specs.Prelude.{◌≡◌, false, IfOk};
 ghost use Rattle.file_formats.specs.DwarfLines.{format_at};
+ghost use Rattle.dwarf_forms.specs.FormAnswers.{input_of};
 ghost use Rattle.dwarf_forms.specs.TextAnswers.{texts_of};
+ghost use Rattle.dwarf_lines.specs.Bases.{IsSameForBases, has_indexes};
 ghost use Rattle.dwarf_lines.specs.Finds.{Finds};
 ghost use Rattle.dwarf_lines.specs.Lists.{entries_at, entry_at, formats_at, list_at, row_at};
 ghost use Rattle.dwarf_lines.specs.Entries.{files_facts, formats_facts};
@@ -11,12 +13,28 @@ ghost use Rattle.dwarf_lines.specs.Entries.{files_facts, formats_facts};
 use crate::entry::{LineFile, read_entry};
 use crate::fields::read_format;
 use byte_read::Cursor;
-use dwarf_forms::{Format, Strings, Width, read_number};
+use dwarf_forms::{Format, Strings, Width, is_index_form, read_number};
 use file_formats::dwarf_lines::FieldFormat;
 use std::alloc::{AllocError, Global};
 
 /// The most entries for which there is room before one is read.
 const ROOM_AT_FIRST: u64 = 16;
+
+/// A list as it was read.
+#[derive(Drop)]
+pub(crate) struct ReadList<'a> {
+    /// The entries, None where the list can't be read.
+    pub(crate) entries: Option<Vec<LineFile<'a>>>,
+    /// Whether a field names texts by their indexes in .debug_str_offsets.
+    pub(crate) indexed: bool,
+}
+
+/// Whether one of the fields names texts by indexes.
+fn has_indexes(fields: &[FieldFormat]) -> bool
+    ensures { result ≡ has_indexes fields.now }
+{
+    fields.iter().any(|field| is_index_form(field.form))
+}
 
 /// Reads so many formats of fields.
 fn read_formats_row(
@@ -96,19 +114,28 @@ fn read_entries<'a>(
     read_entries_row(alloc, cursor, count, fields, format, strings)
 }
 
-/// Reads a list.
+/// Reads a list. Without indexes it is the same for each place in .debug_str_offsets.
 #[tactic(auto, unfolding(crate::specs::Lists::list_at))]
 pub(crate) fn read_list<'a>(
     alloc: Global,
     cursor: &mut Cursor<'a>,
     format: Format,
     strings: &Strings<'a>,
-) -> Result<Option<Vec<LineFile<'a>>>, AllocError>
-    ensures { IfOk result (λ found. Finds files_facts
-        (λ s. list_at s (texts_of strings.now)) format cursor.old cursor.new found) }
+) -> Result<ReadList<'a>, AllocError>
+    ensures list { IfOk result (λ read. Finds files_facts
+        (λ s. list_at s (texts_of strings.now)) format cursor.old cursor.new read.entries) }
+    ensures fixed { IfOk result (λ read. read.indexed ≡ false → IsSameForBases
+        (λ texts. list_at (input_of cursor.old format) texts cursor.old.place) (texts_of strings.now)) }
 {
     let Some(fields) = read_formats(alloc, cursor, format)? else {
-        return Ok(None);
+        return Ok(ReadList {
+            entries: None,
+            indexed: false,
+        });
     };
-    read_entries(alloc, cursor, fields.as_slice(), format, strings)
+    let entries = read_entries(alloc, cursor, fields.as_slice(), format, strings)?;
+    Ok(ReadList {
+        entries,
+        indexed: has_indexes(fields.as_slice()),
+    })
 }

@@ -1,18 +1,20 @@
 //! A line table. DWARF 5, section 6.2.4.
 
-ghost use Rattle.std.specs.Prelude.{◌≡◌, ◌≤◌, length, IfOk, map};
+ghost use Rattle.std.specs.Prelude.{◌≡◌, ◌≤◌, ℕ, Option, false, length, IfOk, map};
 ghost use Rattle.file_formats.specs.DwarfLines.{IsLineTable, LineCodes};
+ghost use Rattle.dwarf_forms.specs.FormAnswers.{input_of};
 ghost use Rattle.dwarf_forms.specs.Pieces.{piece_facts};
 ghost use Rattle.dwarf_forms.specs.TextAnswers.{texts_of};
 ghost use Rattle.dwarf_forms.specs.TextBytes.{text_said};
 ghost use Rattle.dwarf_forms.specs.Tells.{Tells};
+ghost use Rattle.dwarf_lines.specs.Bases.{IsSameForBases, based};
 ghost use Rattle.dwarf_lines.specs.Entries.{file_facts};
 ghost use Rattle.dwarf_lines.specs.Finds.{Finds, as_it_is};
 ghost use Rattle.dwarf_lines.specs.Lists.{lists_at, lists_of, path_of, table_at};
 
 use crate::entry::LineFile;
 use crate::head::read_head;
-use crate::lists::read_list;
+use crate::lists::{ReadList, read_list};
 use byte_read::Cursor;
 use dwarf_forms::{Format, Piece, Strings, Text, piece_at};
 use file_formats::dwarf_lines::LineHead;
@@ -42,6 +44,15 @@ impl<'a> Model for LineTable<'a> {
     } };
 }
 
+/// A line table as it was read.
+#[derive(Drop)]
+pub struct ReadTable<'a> {
+    /// The table, None where it can't be read.
+    pub table: Option<LineTable<'a>>,
+    /// Whether a form in one of its lists names texts by their indexes in .debug_str_offsets.
+    pub indexed: bool,
+}
+
 /// The paths of directories.
 fn paths_of<'a>(
     alloc: Global,
@@ -64,18 +75,35 @@ fn read_lists<'a>(
     cursor: &mut Cursor<'a>,
     format: Format,
     strings: &Strings<'a>,
-) -> Result<Option<LineTable<'a>>, AllocError>
-    ensures { IfOk result (λ found. Finds as_it_is (λ s. lists_at s (texts_of strings.now)) format
-        cursor.old cursor.new found) }
+) -> Result<ReadTable<'a>, AllocError>
+    ensures lists { IfOk result (λ read. Finds as_it_is (λ s. lists_at s (texts_of strings.now))
+        format cursor.old cursor.new read.table) }
+    ensures fixed { IfOk result (λ read. read.indexed ≡ false → IsSameForBases
+        (λ texts. lists_at (input_of cursor.old format) texts cursor.old.place) (texts_of strings.now)) }
 {
-    let Some(directories) = read_list(alloc, cursor, format, strings)? else {
-        return Ok(None);
+    let ReadList { entries, indexed } = read_list(alloc, cursor, format, strings)?;
+    let Some(directories) = entries else {
+        return Ok(ReadTable {
+            table: None,
+            indexed,
+        });
     };
-    let Some(files) = read_list(alloc, cursor, format, strings)? else {
-        return Ok(None);
+    let ReadList {
+        entries,
+        indexed: files_indexed,
+    } = read_list(alloc, cursor, format, strings)?;
+    let indexed = indexed || files_indexed;
+    let Some(files) = entries else {
+        return Ok(ReadTable {
+            table: None,
+            indexed,
+        });
     };
     let dirs = paths_of(alloc, directories.as_slice())?;
-    Ok(Some(LineTable { dirs, files }))
+    Ok(ReadTable {
+        table: Some(LineTable { dirs, files }),
+        indexed,
+    })
 }
 
 /// Reads the lists of a table with this header.
@@ -85,10 +113,12 @@ fn read_within<'a>(
     piece: &Piece<'a>,
     head: LineHead,
     strings: &Strings<'a>,
-) -> Result<Option<LineTable<'a>>, AllocError>
+) -> Result<ReadTable<'a>, AllocError>
     requires { head.lists ≤ length piece.now.bytes.now }
-    ensures { IfOk result (λ found. found
+    ensures lists { IfOk result (λ read. read.table
         ≡ lists_of (texts_of strings.now) (piece_facts piece.now).value head) }
+    ensures fixed { IfOk result (λ read. read.indexed ≡ false → IsSameForBases
+        (λ texts. lists_of texts (piece_facts piece.now).value head) (texts_of strings.now)) }
 {
     let strings = Strings {
         wide: piece.wide,
@@ -100,34 +130,74 @@ fn read_within<'a>(
     };
     let mut cursor = Cursor::new(piece.bytes, strings.order);
     if cursor.take(head.lists as u64).is_err() {
-        return Ok(None);
+        return Ok(ReadTable {
+            table: None,
+            indexed: true,
+        });
     }
-    let Some(table) = read_lists(alloc, &mut cursor, format, &strings)? else {
-        return Ok(None);
+    let ReadTable { table, indexed } = read_lists(alloc, &mut cursor, format, &strings)?;
+    let Some(table) = table else {
+        return Ok(ReadTable {
+            table: None,
+            indexed,
+        });
     };
     if cursor.at() as u128 > head.end {
-        return Ok(None);
+        return Ok(ReadTable {
+            table: None,
+            indexed,
+        });
     }
-    Ok(Some(table))
+    Ok(ReadTable {
+        table: Some(table),
+        indexed,
+    })
 }
 
 /// Reads the table at a place, which has one value at most.
 #[tactic(auto, unfolding(crate::specs::Lists::table_at))]
-fn read_table<'a>(
+fn read_whole<'a>(
     alloc: Global,
     line: &'a [u8],
     offset: u64,
     strings: &Strings<'a>,
-) -> Result<Option<LineTable<'a>>, AllocError>
-    ensures { IfOk result (λ found. found ≡ table_at line.now offset (texts_of strings.now)) }
+) -> Result<ReadTable<'a>, AllocError>
+    ensures table { IfOk result (λ read. read.table ≡ table_at line.now offset (texts_of strings.now)) }
+    ensures fixed { IfOk result (λ read. read.indexed ≡ false → IsSameForBases
+        (λ texts. table_at line.now offset texts) (texts_of strings.now)) }
 {
     let Some(piece) = piece_at(line, offset, strings.order) else {
-        return Ok(None);
+        return Ok(ReadTable {
+            table: None,
+            indexed: false,
+        });
     };
     let Some(head) = read_head(&piece, strings.order) else {
-        return Ok(None);
+        return Ok(ReadTable {
+            table: None,
+            indexed: false,
+        });
     };
     read_within(alloc, &piece, head, strings)
+}
+
+/// Reads the line table at a place of .debug_line, and tells whether it may be another one where
+/// texts are taken from another place of .debug_str_offsets. Texts are sought by the table's own
+/// format and not by that of `strings`. Memory is taken by what is read, and not by the counts that
+/// the table states.
+pub fn read_table<'a>(
+    alloc: Global,
+    line: &'a [u8],
+    offset: u64,
+    strings: &Strings<'a>,
+) -> Result<ReadTable<'a>, AllocError>
+    ensures table { IfOk result (λ read. Tells as_it_is
+        (IsLineTable line.now offset (texts_of strings.now)) read.table) }
+    ensures fixed { IfOk result (λ read. read.indexed ≡ false → (base : Option ℕ)
+        → Tells as_it_is (IsLineTable line.now offset (based (texts_of strings.now) base)) read.table) }
+    ensures codes { LineCodes }
+{
+    read_whole(alloc, line, offset, strings)
 }
 
 /// Reads the directories and files of the line table at a place of .debug_line, None where the
@@ -143,5 +213,6 @@ pub fn line_table<'a>(
         (IsLineTable line.now offset (texts_of strings.now))) }
     ensures codes { LineCodes }
 {
-    read_table(alloc, line, offset, strings)
+    let ReadTable { table, indexed: _ } = read_table(alloc, line, offset, strings)?;
+    Ok(table)
 }

@@ -1,5 +1,5 @@
 -- From a unit's header to its first entry, each step leads to one thing.
-use Rattle.std.proofs.Common.{◌≡◌, ℕ, false, Option, Some, None, Ok, ap, subst, sym, ◌∙◌}
+use Rattle.std.proofs.Common.{◌≡◌, ℕ, false, Option, Some, None, Result, Ok, Err, IfOk, ap, subst, sym, ◌∙◌}
 use Rattle.std.specs.Prelude.{◌==◌, drop}
 use Rattle.std.proofs.lemmas.Bool.{ne_eqb}
 use Rattle.byte_read.specs.View.{View, at_start}
@@ -114,3 +114,9 @@ module _ (s : DebugSections) (unit : Piece) (head : UnitHead) where
       (λ entry h. record { head = head; header = header; within = h })
       (λ entry h. subst (λ x. IsEntryWith s unit x entry) (some_same (sym h.header ∙ header)) h.within)
       r
+
+  -- the same of an answer that may be want of memory
+  pub if_root_with : unit_head s.order unit ≡ Some head → {R E : Type 0} (facts : R → RootEntry) (r : Result (Option R) E)
+      → IfOk r (Tells facts (IsEntryWith s unit head)) → IfOk r (Tells facts (IsRootEntry s unit))
+  if_root_with header facts (Ok r) h = root_with header facts r h
+  if_root_with header facts (Err e) h = tt

@@ -4,8 +4,8 @@ use Rattle.byte_read.specs.View.{View}
 use Rattle.file_formats.specs.DwarfReads.{Input}
 use Rattle.dwarf_forms.specs.declared.numbers.Format.{Format}
 use Rattle.dwarf_forms.specs.FormAnswers.{input_of}
-use Rattle.dwarf_units.specs.Finds.{LeadsTo, Comes, LeadsNowhere}
-use Rattle.dwarf_units.proofs.WalkLemmas.{IsSame, same-start, same-next, same-leads, same-nowhere}
+use Rattle.dwarf_units.specs.Finds.{LeadsTo, Comes, LeadsNowhere, IsSame}
+use Rattle.dwarf_units.proofs.WalkLemmas.{same-start, same-next, same-leads, same-nowhere}
 
 -- only the place has changed
 pub record HasMoved (old now : View) : Type 0 where

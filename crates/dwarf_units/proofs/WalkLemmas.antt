@@ -4,13 +4,8 @@ use Rattle.std.specs.Prelude.{◌==◌}
 use Rattle.file_formats.specs.declared.dwarf_units.Pair.{Pair}
 use Rattle.file_formats.specs.DwarfReads.{Input, At}
 use Rattle.file_formats.specs.DwarfAbbreviations.{abbreviation_at, pair_at, is_last, Pairs, ended, more, IsFirst, found, later}
-use Rattle.dwarf_units.specs.Finds.{LeadsTo, LeadsNowhere, PairsTo}
+use Rattle.dwarf_units.specs.Finds.{LeadsTo, LeadsNowhere, IsSame, PairsTo}
 use Rattle.dwarf_units.proofs.CaseLemmas.{some_same}
-
--- where a relation leads from the place is where it led from the start, both ways
-pub record IsSame (R : ℕ → ℕ → Type 0) (start here : ℕ) : Type 0 where
-  pub ahead : (q : ℕ) → R start q → R here q
-  pub back : (q : ℕ) → R here q → R start q
 
 pub same-start : (R : ℕ → ℕ → Type 0) (p : ℕ) → IsSame R p p
 same-start R p = record { ahead = λ q h. h; back = λ q h. h }

@@ -36,6 +36,11 @@ pub record Comes (R : ℕ → ℕ → Type 0) (old new : View) : Type 0 where
 abbrev pub LeadsNowhere : (ℕ → ℕ → Type 0) → ℕ → Type 0
 LeadsNowhere R p = (q : ℕ) → R p q → ⊥
 
+-- where a relation leads from the place is where it leads from the start, both ways
+pub record IsSame (R : ℕ → ℕ → Type 0) (start here : ℕ) : Type 0 where
+  pub ahead : (q : ℕ) → R start q → R here q
+  pub back : (q : ℕ) → R here q → R start q
+
 -- a walk goes where the relation leads, exactly where it leads somewhere
 abbrev pub Walks : {A : Type 0} → (Input → ℕ → ℕ → Type 0) → Format → View → View → Option A → Type 0
 Walks R f old new result =

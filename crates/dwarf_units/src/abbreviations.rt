@@ -25,7 +25,7 @@ fn pass_tag(table: &mut Cursor<'_>, format: Format) -> Option<()>
 /// its pairs begin.
 #[tactic(auto, unfolding(file_formats::specs::DwarfAbbreviations::abbreviation_at))]
 #[inline(always)]
-fn read_code(table: &mut Cursor<'_>, format: Format) -> Option<u64>
+pub(crate) fn read_code(table: &mut Cursor<'_>, format: Format) -> Option<u64>
     ensures { Finds abbreviation_at format table.old table.new result }
 {
     let code = read_number(table, Width::Leb, format).ok()?;
@@ -70,7 +70,7 @@ pub(crate) fn ends(pair: &Pair) -> bool
 }
 
 /// Passes an abbreviation's pairs and the one that ends them.
-fn pass_pairs(table: &mut Cursor<'_>, format: Format) -> Option<()>
+pub(crate) fn pass_pairs(table: &mut Cursor<'_>, format: Format) -> Option<()>
     ensures { Walks PairsTo format table.old table.new result }
 {
     while let Some(pair) = read_pair(table, format) {

@@ -34,7 +34,7 @@ pub struct UnitDie<'a> {
 }
 
 /// The bytes from a place on, none where it is past the end.
-fn rest_from(bytes: &[u8], at: u64) -> &[u8]
+pub(crate) fn rest_from(bytes: &[u8], at: u64) -> &[u8]
     ensures { result.now ≡ drop at bytes.now }
 {
     match bytes.get(at as usize..) {
@@ -66,7 +66,7 @@ fn text_in<'a>(raw: Option<RawValue<'a>>, strings: &Strings<'a>) -> Option<Text<
 }
 
 /// What the values mean, which are all read by now.
-fn entry_said<'a>(raw: RawAttributes<'a>, wide: bool, parts: &DebugParts<'a>) -> UnitDie<'a>
+pub(crate) fn entry_said<'a>(raw: RawAttributes<'a>, wide: bool, parts: &DebugParts<'a>) -> UnitDie<'a>
     ensures { die_facts result ≡ root_of (sections_of parts.now) wide (raw_entry raw.entry) }
 {
     let base = place_in(raw.str_offsets_base);

@@ -5,3 +5,4 @@ pub use Rattle.row_types.specs.Sources
 pub mod Adds
 pub mod Keys
 pub mod Lately
+pub mod Room

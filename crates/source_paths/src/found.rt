@@ -1,14 +1,17 @@
 //! The paths that were found, and the texts that named some of them lately.
 
-ghost use Rattle.std.specs.Prelude.{◌≡◌, ◌<◌, ◌∷◌, ℕ, List, [], Some, IsTrue, IfOk, OnOk, All};
+ghost use Rattle.std.specs.Prelude.{◌≡◌, ◌<◌, ◌≤◌, ◌∷◌, ℕ, List, [], Some, IsTrue, IfOk, OnOk, All};
 ghost use Rattle.std.specs.Option.{option_copied, option_map};
 ghost use Rattle.row_types.specs.SourcePaths.{behind, within};
 ghost use Rattle.row_types.specs.Sources.{MayName};
 ghost use Rattle.source_paths.specs.Adds.{Adds, Has};
 ghost use Rattle.source_paths.specs.Lately.{IsKnown, is_empty};
+ghost use Rattle.source_paths.specs.Room.{texts_room};
 
 use crate::joined::{behind, is_absolute};
 use crate::named::add_named;
+use crate::path_set::PathSet;
+use crate::room::SOURCES_LIMIT;
 use row_types::{CanonPath, SEPARATOR};
 use std::alloc::{AllocError, Global};
 use std::collections::BTreeSet;
@@ -24,7 +27,7 @@ const SPREAD: u64 = 0x9e37_79b9_7f4a_7c15;
 /// again and again: a text that named its path lately is neither joined nor sought in the set.
 #[derive(Drop)]
 pub(crate) struct Found {
-    paths: BTreeSet<CanonPath>,
+    paths: PathSet,
     /// Texts whose paths the set has, each at the place that its last bytes give.
     lately: Vec<Vec<u8>>,
 }
@@ -47,17 +50,18 @@ impl Found {
         ensures { IfOk result (λ found. found.keys ≡ []) }
     {
         Ok(Found {
-            paths: BTreeSet::new(alloc),
+            paths: PathSet::new(alloc),
             lately: empty_texts(alloc)?,
         })
     }
 
     /// The paths, given back.
     pub(crate) fn into_paths(self) -> BTreeSet<CanonPath>
-        ensures { result ≡ self }
+        ensures same { result ≡ self }
+        ensures small { texts_room result.keys ≤ SOURCES_LIMIT }
     {
         let Found { paths, lately: _ } = self;
-        paths
+        paths.into_paths()
     }
 
     /// Adds the path that a text behind a folder names.

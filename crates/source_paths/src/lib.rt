@@ -6,7 +6,10 @@ mod files;
 mod found;
 mod joined;
 mod named;
+mod path_set;
 mod paths;
+mod room;
 mod tables;
 
 pub use paths::sources;
+pub use room::{SOURCES_LIMIT, TEXT_ROOM};

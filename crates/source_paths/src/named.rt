@@ -6,10 +6,10 @@ ghost use Rattle.dwarf_lines.specs.Finds.{as_it_is};
 ghost use Rattle.row_types.specs.Sources.{Names};
 ghost use Rattle.source_paths.specs.Adds.{Adds, Has};
 
+use crate::path_set::PathSet;
 use path_canon::{PathFault, canonical};
 use row_types::CanonPath;
 use std::alloc::{AllocError, Global};
-use std::collections::BTreeSet;
 
 /// The path that a text names, which isn't its own canonical form.
 fn canonical_path(alloc: Global, text: &str) -> Result<Option<CanonPath>, AllocError>
@@ -39,7 +39,7 @@ fn path_named(alloc: Global, text: Vec<u8>) -> Result<Option<CanonPath>, AllocEr
 pub(crate) fn add_named(
     alloc: Global,
     text: Vec<u8>,
-    paths: &mut BTreeSet<CanonPath>,
+    paths: &mut PathSet,
 ) -> Result<(), AllocError>
     ensures adds { OnOk result (Adds (Names text.items) paths.old paths.new) }
     ensures kept { (path : List ℕ) → Has paths.old path → Has paths.new path }
@@ -47,6 +47,5 @@ pub(crate) fn add_named(
     let Some(path) = path_named(alloc, text)? else {
         return Ok(());
     };
-    paths.insert(path)?;
-    Ok(())
+    paths.insert(path)
 }

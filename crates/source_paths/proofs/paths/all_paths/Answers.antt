@@ -18,12 +18,12 @@ loop-unit-preserved c = record {
   read = c.in_ok-add_unit.ensures.read;
 }
 
-pub returns : goal.returns
-returns c =
+pub returns-clause-exact : goal.returns-clause-exact
+returns-clause-exact c =
     let whole = YieldsList-end
     (YieldsList-from_first unit_facts units_left {s = c.into_iter-unit-iterator.result} (units_left c.units-unit-items.result)
     (ap units_left c.into_iter-unit-iterator.ensures.into_iter_gives))
     c.loop-unit.yielded c.loop-unit.unit-iterator c.loop-unit.yielded_by c.next.result c.next.new.self c.in-None.is c.next.ensures.steps in
     subst (λ (set : BTreeSet (List ℕ)). (path : List ℕ) → Has set path ↔ IsSource (sections_of c.args.parts.now) path)
-    (sym c.into_paths.ensures)
+    (sym c.into_paths.ensures.same)
     (units-exact (sections_of c.args.parts.now) c.units-unit-items.ensures whole.0 c.in_ok-paths.ensures c.loop-unit.invariant.adds)

@@ -8,4 +8,4 @@ returns-clause-exact c =
     let parts = c.args.parts.now in
     listed-exact c.in_ok-all_paths.field-0 (c.in-Ok.ensures.value ∙ c.in_ok-paths.ensures.same)
     (exact_same c.texts_in.ensures.same c.texts_in-2.ensures.same parts.info.now parts.abbrev.now parts.line.now
-    parts.str_offsets.now parts.order c.in_ok-all_paths.ensures)
+    parts.str_offsets.now parts.order c.in_ok-all_paths.ensures.exact)

@@ -1,0 +1,8 @@
+//! How much room a list of source paths may take.
+
+/// How many bytes the texts of a list may take, with [`TEXT_ROOM`] for each, 256 MiB. A file of some
+/// hundred kilobytes can name far more.
+pub const SOURCES_LIMIT: u64 = 0x1000_0000;
+
+/// How many bytes are reckoned for a text beside its own: what holds it takes so much.
+pub const TEXT_ROOM: u64 = 64;
