@@ -1,2 +1,13 @@
+pub mod TextLemmas
+pub mod OutsideLemmas
+pub mod SurvivesLemmas
+pub mod ReadingLemmas
+pub mod HasLemmas
+pub mod KeptLemmas
+pub mod RowLemmas
+pub mod QueryLemmas
+pub mod StatementLemmas
+pub mod PutLemmas
+pub mod ToldLemmas
 pub mod AscendLemmas
 pub mod FileKeeperSends

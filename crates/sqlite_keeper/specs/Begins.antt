@@ -1,9 +1,10 @@
 -- How a keeper begins on an open connection (this project's rule), and what a refusal gives back.
-use Rattle.std.specs.Prelude.{◌≡◌, ℕ, ◌<◌, false, IsTrue}
+use Rattle.std.specs.Prelude.{◌≡◌, ℕ, ◌<◌, false, Result, IsTrue}
 use Rattle.sqlite.specs.Held.{Held}
 use Rattle.sqlite.specs.Store.{Ghosts}
+use Rattle.sqlite.specs.declared.error.Error.{Error}
 use Rattle.sqlite_keeper.specs.Keeper.{KeeperFacts}
-use Rattle.sqlite_keeper.specs.Statements.{HasPassed, Raises, epoch_table, kept_table}
+use Rattle.sqlite_keeper.specs.Statements.{HasPassed, Raises, StaysOutside, WasRaised, WasRun, epoch_table, kept_table}
 use Rattle.sqlite_keeper.specs.declared.adopt.AdoptAnswer.{AdoptAnswer}
 use Rattle.sqlite_keeper.specs.declared.adopt.AdoptAnswer.TheVariants as adopt
 use Rattle.sqlite_keeper.specs.declared.fault.SqlFault.{SqlFault}
@@ -24,13 +25,33 @@ pub record Begins {S : Type 0} (g : Ghosts S) (last : ℕ) (before : Held S) (ke
   pub rises : last < keeper.epoch
   pub faultless : keeper.faults ≡ 0
 
--- inside a transaction it fails, and the connection comes back as it was
-pub record Refuses {S : Type 0} (before : Held S) (fault : SqlFault) (after : Held S) : Type 0 where
-  pub cause : IsTrue before.in_transaction → fault ≡ Failed
+-- a front of what an opening does was done: nothing, or its first one, two or three statements, of which each that
+-- another one follows has passed
+pub data Front {S : Type 0} (g : Ghosts S) (before after : Held S) : Type 0 where
+  nothing : (same : after ≡ before) → Front g before after
+  to_kept : (came : Result ℕ Error) (runs : WasRun g kept_table before after came) → Front g before after
+  to_epoch : (first : Held S) (makes_kept : HasPassed g kept_table before first) (came : Result ℕ Error) (runs : WasRun g epoch_table first after came)
+      → Front g before after
+  to_raise : (first made : Held S) (makes_kept : HasPassed g kept_table before first) (makes_epoch : HasPassed g epoch_table first made)
+      (raises : WasRaised g made after) → Front g before after
+
+-- an opening that is refused leaves a front of what it does, and nothing else; outside a transaction it stays outside
+pub record StopsShort {S : Type 0} (g : Ghosts S) (before after : Held S) : Type 0 where
+  pub front : Front g before after
+  pub outside : StaysOutside g before after
+
+-- a connection comes back from an opening that is refused; where it came inside a transaction it is as it was
+pub record ComesBack {S : Type 0} (g : Ghosts S) (before after : Held S) : Type 0 where
   pub same : IsTrue before.in_transaction → after ≡ before
+  pub short : StopsShort g before after
+
+-- the opening is refused: inside a transaction it fails, and the connection comes back
+pub record Refuses {S : Type 0} (g : Ghosts S) (before : Held S) (fault : SqlFault) (after : Held S) : Type 0 where
+  pub cause : IsTrue before.in_transaction → fault ≡ Failed
+  pub back : ComesBack g before after
 
 -- what came of adopting the connection
 abbrev pub Adopts : {S : Type 0} → Ghosts S → Held S → AdoptAnswer S → Type 0
 Adopts g before (adopt.Adopted keeper) = Begins g 0 before keeper
-Adopts g before (adopt.Failed connection) = IsTrue before.in_transaction → connection ≡ before
-Adopts g before (adopt.OutOfMemory connection) = before.in_transaction ≡ false
+Adopts g before (adopt.Failed connection) = ComesBack g before connection
+Adopts g before (adopt.OutOfMemory connection) = (before.in_transaction ≡ false) × ComesBack g before connection

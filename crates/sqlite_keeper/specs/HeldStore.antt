@@ -1,5 +1,5 @@
 -- The store of a connection (this project's rule): the connection goes to the keeper, and comes back with it.
-use Rattle.std.specs.Prelude.{◌≡◌, ℕ, false, [], Option, Some, None, IsSomeAnd, MatchOption, IsTrue, refl}
+use Rattle.std.specs.Prelude.{◌≡◌, ℕ, false, [], Option, Some, None, IsSomeAnd, MatchOption, refl}
 use Rattle.std.specs.Coded.{Coded, code_by, coded×, coded_ℕ, coded_option}
 use Rattle.row_types.specs.Faults.{summed}
 use Rattle.index_keeper.specs.Store.{ShownStore}
@@ -7,7 +7,7 @@ use Rattle.index_keeper.specs.declared.answer.StoreAnswer.{StoreAnswer}
 use Rattle.index_keeper.specs.declared.answer.StoreAnswer.TheVariants.{Opened, Failed, OutOfMemory}
 use Rattle.sqlite.specs.Held.{Held, held_code}
 use Rattle.sqlite.specs.Store.{Ghosts}
-use Rattle.sqlite_keeper.specs.Begins.{Begins}
+use Rattle.sqlite_keeper.specs.Begins.{Begins, ComesBack}
 use Rattle.sqlite_keeper.specs.Keeper.{KeeperFacts}
 
 -- the connection, while no keeper is out; how often an opening, or a call of a keeper that was given back, failed;
@@ -36,15 +36,15 @@ pub record HandsOut {S : Type 0} (g : Ghosts S) (before after : HeldFacts S) (ke
   pub began : IsSomeAnd before.connection (λ held. Begins g before.epoch held keeper)
   pub empty : after.connection ≡ None
 
--- a connection is held afterwards where one was held before; inside a transaction it is as it was
-abbrev pub PutsBack : {S : Type 0} → Option (Held S) → Option (Held S) → Type 0
-PutsBack before after = MatchOption before (after ≡ None) (λ held. IsSomeAnd after (λ again. IsTrue held.in_transaction → again ≡ held))
+-- a connection is held afterwards where one was held before, and it comes back
+abbrev pub PutsBack : {S : Type 0} → Ghosts S → Option (Held S) → Option (Held S) → Type 0
+PutsBack g before after = MatchOption before (after ≡ None) (λ held. IsSomeAnd after (ComesBack g held))
 
 -- what an opening does with the connection, by its answer; without one it fails
 abbrev pub Hands : {S : Type 0} → Ghosts S → HeldFacts S → HeldFacts S → StoreAnswer (KeeperFacts S) → Type 0
 Hands g before after (Opened keeper) = HandsOut g before after keeper
-Hands g before after Failed = PutsBack before.connection after.connection
-Hands g before after OutOfMemory = IsSomeAnd before.connection (λ held. held.in_transaction ≡ false) × PutsBack before.connection after.connection
+Hands g before after Failed = PutsBack g before.connection after.connection
+Hands g before after OutOfMemory = IsSomeAnd before.connection (λ held. held.in_transaction ≡ false) × PutsBack g before.connection after.connection
 
 -- the store after its keeper was given back
 abbrev pub after_giving : {S : Type 0} → HeldFacts S → KeeperFacts S → HeldFacts S

@@ -5,3 +5,8 @@ pub mod Begins
 pub mod HeldStore
 pub mod FileStore
 pub mod Ascend
+pub mod Stored
+pub mod Schema
+pub mod Commands
+pub mod Told
+pub mod Reading

@@ -5,7 +5,7 @@ use Rattle.index_keeper.specs.declared.answer.KeepAnswer.{KeepAnswer}
 use Rattle.index_keeper.specs.declared.answer.KeepAnswer.TheVariants as answer
 use Rattle.sqlite.specs.Held.{Held, state}
 use Rattle.sqlite.specs.Order.{Row, column}
-use Rattle.sqlite.specs.State.{State, HasCleanDisk, Executes, Survives, CommitsBy, QueriesRow}
+use Rattle.sqlite.specs.State.{State, HasCleanDisk, Executes, Survives, CommitsBy, CommitsShowing, QueriesRow}
 use Rattle.sqlite.specs.Store.{Ghosts}
 use Rattle.sqlite.specs.declared.error.Error.{Error}
 use Rattle.sqlite.specs.declared.types.Value.TheVariants.{Int, Text, Blob}
@@ -42,10 +42,28 @@ pub record IsCommitted (now : State) : Type 0 where
   pub outside : now.in_transaction ≡ false
   pub settled : IsTrue now.is_open → now.now ≡ now.committed
 
--- the statement was run without parameters and not refused, as long as the disk has returned what was written
+-- outside a transaction it stays outside, as long as the disk has returned what was written
+abbrev pub StaysOutside : {S : Type 0} → Ghosts S → Held S → Held S → Type 0
+StaysOutside g before after = HasCleanDisk (state g after) → before.in_transaction ≡ false → after.in_transaction ≡ false
+
+-- the statement was run without parameters and answered so, as long as the disk has returned what was written; a crash
+-- leaves what it could leave before, or what this one statement commits
+pub record WasRun {S : Type 0} (g : Ghosts S) (sql : List ℕ) (before after : Held S) (came : Result ℕ Error) : Type 0 where
+  pub ran : HasCleanDisk (state g after) → Executes sql [] (state g before) (state g after) came
+  pub survives : Survives (state g before) (state g after) (CommitsBy sql [] (state g before))
+  pub outside : StaysOutside g before after
+
+-- the statement was run without parameters, and was not refused
 pub record HasPassed {S : Type 0} (g : Ghosts S) (sql : List ℕ) (before after : Held S) : Type 0 where
   pub count : ℕ
-  pub ran : HasCleanDisk (state g after) → Executes sql [] (state g before) (state g after) (Ok count)
+  pub run : WasRun g sql before after (Ok count)
+
+-- the same of the statement that raises the number of openings, which answers with a row
+pub record WasRaised {S : Type 0} (g : Ghosts S) (before after : Held S) : Type 0 where
+  pub came : Result Row Error
+  pub ran : HasCleanDisk (state g after) → QueriesRow raise_text [] (state g before) (state g after) came
+  pub survives : Survives (state g before) (state g after) (CommitsShowing raise_text [] (state g before))
+  pub outside : before.in_transaction ≡ false → after.in_transaction ≡ false
 
 -- the answer for a fault
 abbrev pub answer_for : SqlFault → KeepAnswer
@@ -65,11 +83,13 @@ pub record HasRun {S : Type 0} (g : Ghosts S) (sql : List ℕ) (params : Row) (b
   pub told : given ≡ answer_to came after.in_transaction
 
 -- a change was asked for and answered: its statement was run, as long as the disk has returned what was written; a
--- change that is done is committed; a crash leaves what it could leave before, or what this one statement commits
+-- change that is done is committed; a crash leaves what it could leave before, or what this one statement commits;
+-- outside a transaction it stays outside
 pub record Changes {S : Type 0} (g : Ghosts S) (sql : List ℕ) (params : Row) (before after : Held S) (given : KeepAnswer) : Type 0 where
   pub runs : HasCleanDisk (state g after) → HasRun g sql params before after given
   pub committed : given ≡ answer.Done → IsCommitted (state g after)
   pub survives : Survives (state g before) (state g after) (CommitsBy sql params (state g before))
+  pub outside : StaysOutside g before after
 
 -- the change after which the bytes are kept under the path, or nothing
 abbrev pub edit_of : List ℕ → Option (List ℕ) → EditFacts
@@ -90,3 +110,4 @@ pub record IsShown {S : Type 0} (g : Ghosts S) (before after : Held S) (number :
 pub record Raises {S : Type 0} (g : Ghosts S) (before after : Held S) (number : ℕ) : Type 0 where
   pub shown : HasCleanDisk (state g after) → IsShown g before after number
   pub committed : IsCommitted (state g after)
+  pub raised : WasRaised g before after

@@ -1,7 +1,7 @@
 //! Taking over an open connection.
 
 ghost use Rattle.std.specs.Prelude.{◌≡◌, Err, IfOk, IsTrue};
-ghost use Rattle.sqlite_keeper.specs.Begins.{Adopts, HasNumber};
+ghost use Rattle.sqlite_keeper.specs.Begins.{Adopts, HasNumber, StopsShort};
 
 use crate::fault::SqlFault;
 use crate::keeper::SqliteKeeper;
@@ -24,6 +24,7 @@ pub enum AdoptAnswer<F: Alter> {
 /// inside a transaction.
 pub(crate) fn prepare<F: Alter>(connection: &mut Connection<F>) -> Result<u64, SqlFault>
     ensures ok { IfOk result (HasNumber F.Store connection.old connection.new) }
+    ensures short { StopsShort F.Store connection.old connection.new }
     ensures inside { IsTrue connection.old.in_transaction →
         (result ≡ Err SqlFault.Failed) × (connection.new ≡ connection.old) }
 {

@@ -1,13 +1,15 @@
 //! The keeper of the store in a file.
 
-ghost use Rattle.std.specs.Prelude.{◌≡◌, [], ◌∷◌, false, IfOk, option_copied};
+ghost use Rattle.std.specs.Prelude.{◌≡◌, [], ◌∷◌, false, IfOk, IfSome, option_copied};
+ghost use Rattle.row_types.specs.declared.limits.TheConstants.{EDITION};
 ghost use Rattle.sqlite.specs.Files.{over_files};
 ghost use Rattle.sqlite.specs.declared.types.Value.TheVariants.{Blob, Text};
-ghost use Rattle.index_keeper.specs.Answers.{for_change};
-ghost use Rattle.index_keeper.specs.Keeper.{Asks};
+ghost use Rattle.index_keeper.specs.Answers.{for_change, for_rows, rows_in};
+ghost use Rattle.index_keeper.specs.Keeper.{AreKept, Asks};
 ghost use Rattle.index_keeper.specs.Tables.{put_of, removal_of};
 ghost use Rattle.sqlite_keeper.specs.FileStore.{BeginsAnew};
 ghost use Rattle.sqlite_keeper.specs.Keeper.{keeper_shown};
+ghost use Rattle.sqlite_keeper.specs.Reading.{Looks};
 ghost use Rattle.sqlite_keeper.specs.Statements.{Changes, Edits, edit_of, put_text, remove_text};
 
 use crate::fault::SqlFault;
@@ -81,7 +83,13 @@ impl Keeper<OpenWorld> for FileKeeper {
 
     ghost shows = { λ k. keeper_shown k.keeper };
 
-    fn rows(&mut self, alloc: Global) -> KeptAnswer {
+    fn rows(&mut self, alloc: Global) -> KeptAnswer
+        ensures asks { Asks false (keeper_shown self.old.keeper) (keeper_shown self.new.keeper)
+            (for_rows result) }
+        ensures rows { IfSome (rows_in result) (AreKept (λ row. row.edition ≡ EDITION)) }
+        ensures looks { Looks over_files self.old.keeper.connection self.new.keeper.connection
+            (rows_in result) }
+    {
         self.keeper.read(alloc)
     }
 

@@ -8,6 +8,7 @@ ghost use Rattle.index_keeper.specs.Keeper.{AreKept, Asks};
 ghost use Rattle.index_keeper.specs.Tables.{EditFacts, put_of, removal_of};
 ghost use Rattle.sqlite_keeper.specs.Begins.{Begins, Refuses};
 ghost use Rattle.sqlite_keeper.specs.Keeper.{keeper_shown, opened};
+ghost use Rattle.sqlite_keeper.specs.Reading.{Looks};
 ghost use Rattle.sqlite_keeper.specs.Statements.{Changes, Edits, edit_of, put_text, remove_text};
 
 use crate::adopt::prepare;
@@ -62,7 +63,7 @@ impl<F: Alter> SqliteKeeper<F> {
         last: u64,
     ) -> Result<SqliteKeeper<F>, (SqlFault, Connection<F>)>
         ensures ok { IfOk result (Begins F.Store last connection) }
-        ensures err { IfErr result (λ e. Refuses connection e.0 e.1) }
+        ensures err { IfErr result (λ e. Refuses F.Store connection e.0 e.1) }
     {
         match prepare(&mut connection) {
             Ok(epoch) if last < epoch => Ok(SqliteKeeper::new(connection, epoch)),
@@ -107,6 +108,8 @@ impl<F: Alter> SqliteKeeper<F> {
         ensures asks { Asks false (keeper_shown self.old) (keeper_shown self.new)
             (for_rows result) }
         ensures rows { IfSome (rows_in result) (AreKept (λ row. row.edition ≡ EDITION)) }
+        ensures looks { Looks F.Store self.old.connection self.new.connection
+            (rows_in result) }
     {
         match rows::all_rows(alloc, &mut self.connection) {
             Ok(rows) => KeptAnswer::All(rows),
@@ -127,7 +130,13 @@ impl<F: Telling + Send + Drop> Keeper<OpenWorld> for SqliteKeeper<F> {
 
     ghost shows = { keeper_shown };
 
-    fn rows(&mut self, alloc: Global) -> KeptAnswer {
+    fn rows(&mut self, alloc: Global) -> KeptAnswer
+        ensures asks { Asks false (keeper_shown self.old) (keeper_shown self.new)
+            (for_rows result) }
+        ensures rows { IfSome (rows_in result) (AreKept (λ row. row.edition ≡ EDITION)) }
+        ensures looks { Looks F.Store self.old.connection self.new.connection
+            (rows_in result) }
+    {
         self.read(alloc)
     }
 

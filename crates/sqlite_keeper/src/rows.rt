@@ -1,21 +1,46 @@
 //! All rows of the tables, read one at a time.
 
-ghost use Rattle.std.specs.Prelude.{◌≡◌, IfOk};
+ghost use Rattle.std.specs.Prelude.{◌≡◌, ◌++◌, ◌∷◌, [], false, map, IfOk, OnOk};
+ghost use Rattle.sqlite.specs.Held.{state};
+ghost use Rattle.sqlite.specs.State.{HasCleanDisk, IsUnchanged, Survives};
 ghost use Rattle.index_keeper.specs.Tables.{AscendsByPath};
 ghost use Rattle.sqlite_keeper.specs.Ascend.{stands_last};
+ghost use Rattle.sqlite_keeper.specs.Reading.{GivesAll, GivesRow, shown_kept};
 
 use crate::fault::SqlFault;
 use crate::sql;
 use index_keeper::Kept;
-use sqlite::{Alter, Connection, Row};
+use sqlite::{Alter, Connection, Row, Rows};
 use std::alloc::Global;
 
 /// The path and the bytes of a row.
-fn kept_of(row: &Row) -> Result<Kept, SqlFault> {
+fn kept_of(row: &Row) -> Result<Kept, SqlFault>
+    ensures { IfOk result (λ kept. kept ≡ shown_kept row.now) }
+{
     Ok(Kept {
         path: row.get(0)?,
         bytes: row.get(1)?,
     })
+}
+
+/// The next row, if there is one.
+fn next_of<F: Alter>(rows: &mut Rows<'_, F>) -> Result<Option<Kept>, SqlFault>
+    ensures same_reference { rows.new.conn.ghost_name ≡ rows.old.conn.ghost_name }
+    ensures gives { HasCleanDisk (state F.Store rows.new.conn.now) →
+        IfOk result (GivesRow F.Store rows.old.conn.now rows.new.conn.now) }
+    ensures same { HasCleanDisk (state F.Store rows.new.conn.now) →
+        OnOk result (IsUnchanged (state F.Store rows.old.conn.now)
+            (state F.Store rows.new.conn.now)) }
+    ensures outside { rows.old.conn.now.in_transaction ≡ false →
+        rows.new.conn.now.in_transaction ≡ false }
+    ensures survives { Survives (state F.Store rows.old.conn.now)
+        (state F.Store rows.new.conn.now) (λ _. ⊥) }
+{
+    rows.advance()?;
+    match rows.get() {
+        Some(row) => Ok(Some(kept_of(row)?)),
+        None => Ok(None),
+    }
 }
 
 /// Whether the path stands behind that of the last row.
@@ -32,7 +57,8 @@ fn stands_last(rows: &[Kept], path: &str) -> bool
 #[tactic(auto, using(crate::proofs::AscendLemmas::push_ascends))]
 fn add(rows: &mut Vec<Kept>, row: Kept) -> Result<(), SqlFault>
     requires { AscendsByPath rows.old.items }
-    ensures { AscendsByPath rows.new.items }
+    ensures ascends { AscendsByPath rows.new.items }
+    ensures added { OnOk result (rows.new.items ≡ rows.old.items ++ row ∷ []) }
 {
     if !stands_last(rows.as_slice(), row.path.as_str()) {
         return Err(SqlFault::Failed);
@@ -43,17 +69,23 @@ fn add(rows: &mut Vec<Kept>, row: Kept) -> Result<(), SqlFault>
     }
 }
 
-/// Adds all rows of the tables to those that there are.
+/// Reads all rows of the tables into a list in which there are none.
 fn read_all<F: Alter>(connection: &mut Connection<F>, kept: &mut Vec<Kept>) -> Result<(), SqlFault>
-    requires { AscendsByPath kept.old.items }
-    ensures { AscendsByPath kept.new.items }
+    requires { kept.old.items ≡ [] }
+    ensures ascends { AscendsByPath kept.new.items }
+    ensures gives { HasCleanDisk (state F.Store connection.new) →
+        OnOk result (GivesAll F.Store connection.old connection.new kept.new.items) }
+    ensures outside { connection.old.in_transaction ≡ false →
+        connection.new.in_transaction ≡ false }
+    ensures survives { Survives (state F.Store connection.old) (state F.Store connection.new)
+        (λ _. ⊥) }
 {
-    let mut rows = sql::rows(connection)?;
+    let mut rows = sql::begin_reading(connection)?;
     'rows: for _ in 0..u64::MAX {
-        let Some(row) = rows.next()? else {
+        let Some(row) = next_of(&mut rows)? else {
             return Ok(());
         };
-        add(kept, kept_of(row)?)?;
+        add(kept, row)?;
     }
     Err(SqlFault::Failed)
 }
@@ -63,7 +95,13 @@ pub fn all_rows<F: Alter>(
     alloc: Global,
     connection: &mut Connection<F>,
 ) -> Result<Vec<Kept>, SqlFault>
-    ensures { IfOk result (λ rows. AscendsByPath rows.items) }
+    ensures ascends { IfOk result (λ rows. AscendsByPath rows.items) }
+    ensures gives { HasCleanDisk (state F.Store connection.new) → IfOk result
+        (λ rows. GivesAll F.Store connection.old connection.new rows.items) }
+    ensures outside { connection.old.in_transaction ≡ false →
+        connection.new.in_transaction ≡ false }
+    ensures survives { Survives (state F.Store connection.old) (state F.Store connection.new)
+        (λ _. ⊥) }
 {
     let mut kept = Vec::new(alloc);
     match read_all(connection, &mut kept) {

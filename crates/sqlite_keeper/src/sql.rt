@@ -1,16 +1,18 @@
 //! The texts of the store, each run by a function of its own. A file keeps the texts of its tables
 //! as they were written, so these and their order stay.
 
-ghost use Rattle.std.specs.Prelude.{◌≡◌, [], ◌∷◌, IfOk, option_copied};
-ghost use Rattle.sqlite.specs.Given.{HasBegun};
+ghost use Rattle.std.specs.Borrow.{RestsIfErr, sem};
+ghost use Rattle.std.specs.Prelude.{◌≡◌, [], ◌∷◌, false, IfOk, option_copied};
+ghost use Rattle.sqlite.specs.Given.{HasBegun, IsRefused};
 ghost use Rattle.sqlite.specs.Held.{state};
-ghost use Rattle.sqlite.specs.State.{HasCleanDisk, Executes, QueriesRow};
+ghost use Rattle.sqlite.specs.State.{CommitsBy, CommitsShowing, HasCleanDisk, QueriesRow, Survives};
 ghost use Rattle.sqlite.specs.Values.{bound};
+ghost use Rattle.sqlite.specs.contracts.connection.Connection.{the_row};
 ghost use Rattle.sqlite.specs.declared.types.Value.TheVariants.{Blob, Text};
 ghost use Rattle.index_keeper.specs.declared.answer.KeepAnswer.TheVariants.{Done};
-ghost use Rattle.sqlite_keeper.specs.Statements.{Changes, Edits, IsCommitted, Raises, answer_to};
-ghost use Rattle.sqlite_keeper.specs.Statements.{kept_table, epoch_table, put_text, remove_text};
-ghost use Rattle.sqlite_keeper.specs.Statements.{raise_text, rows_text};
+ghost use Rattle.sqlite_keeper.specs.Statements.{Changes, Edits, HasRun, IsCommitted, Raises};
+ghost use Rattle.sqlite_keeper.specs.Statements.{WasRaised, WasRun, answer_to, epoch_table, kept_table};
+ghost use Rattle.sqlite_keeper.specs.Statements.{put_text, raise_text, remove_text, rows_text};
 
 use crate::fault::SqlFault;
 use index_keeper::KeepAnswer;
@@ -41,31 +43,31 @@ const RAISE: &str = "INSERT INTO epoch(one, n) VALUES (1, 1) \
 
 /// Makes the table of the rows, where it isn't there.
 pub fn make_kept<F: Alter>(connection: &mut Connection<F>) -> Result<usize, Error>
-    ensures { HasCleanDisk (state F.Store connection.new) → Executes kept_table []
-        (state F.Store connection.old) (state F.Store connection.new) result }
+    ensures { WasRun F.Store kept_table connection.old connection.new result }
 {
     connection.execute(KEPT_TABLE, &[])
 }
 
 /// Makes the table of the number of openings, where it isn't there.
 pub fn make_epoch<F: Alter>(connection: &mut Connection<F>) -> Result<usize, Error>
-    ensures { HasCleanDisk (state F.Store connection.new) → Executes epoch_table []
-        (state F.Store connection.old) (state F.Store connection.new) result }
+    ensures { WasRun F.Store epoch_table connection.old connection.new result }
 {
     connection.execute(EPOCH_TABLE, &[])
 }
 
 /// Runs the statement that raises the number of openings.
 fn run_raise<F: Alter>(connection: &mut Connection<F>) -> Result<Row, Error>
-    ensures { HasCleanDisk (state F.Store connection.new) → QueriesRow raise_text []
+    ensures runs { HasCleanDisk (state F.Store connection.new) → QueriesRow raise_text []
         (state F.Store connection.old) (state F.Store connection.new) result }
+    ensures raises { WasRaised F.Store connection.old connection.new }
 {
     connection.query_row(RAISE, &[])
 }
 
 /// Raises the number of openings, and gives it.
 pub fn raise_epoch<F: Alter>(connection: &mut Connection<F>) -> Result<u64, SqlFault>
-    ensures { IfOk result (Raises F.Store connection.old connection.new) }
+    ensures ok { IfOk result (Raises F.Store connection.old connection.new) }
+    ensures raises { WasRaised F.Store connection.old connection.new }
 {
     let row = run_raise(connection)?;
     let number = row.get(0)?;
@@ -76,9 +78,19 @@ pub fn raise_epoch<F: Alter>(connection: &mut Connection<F>) -> Result<u64, SqlF
 }
 
 /// Begins to read all rows, by path.
-pub fn rows<F: Alter>(connection: &mut Connection<F>) -> Result<Rows<'_, F>, Error>
-    ensures { IfOk result (λ rows. HasCleanDisk (state F.Store rows.conn.now) →
+pub fn begin_reading<F: Alter>(connection: &mut Connection<F>) -> Result<Rows<'_, F>, Error>
+    ensures* refused { sem 𝓛 (RestsIfErr (the_row F.row F.Store) connection.entry
+        (λ rows. rows.conn.ghost_name) result
+        (IsRefused F.Store rows_text [] connection.old result)) }
+    ensures same_reference { IfOk result
+        (λ rows. rows.conn.ghost_name ≡ connection.entry.ghost_name) }
+    ensures begun { IfOk result (λ rows. HasCleanDisk (state F.Store rows.conn.now) →
         HasBegun F.Store rows_text [] connection.old rows.conn.now) }
+    ensures outside { IfOk result (λ rows. connection.old.in_transaction ≡ false →
+        rows.conn.now.in_transaction ≡ false) }
+    ensures survives { IfOk result (λ rows. Survives (state F.Store connection.old)
+        (state F.Store rows.conn.now)
+        (CommitsShowing rows_text [] (state F.Store connection.old))) }
 {
     connection.query(ROWS, &[])
 }
@@ -104,8 +116,11 @@ fn change<F: Alter>(
     sql: &str,
     params: &[ValueRef<'_>],
 ) -> KeepAnswer
-    ensures { Changes F.Store sql.now (bound params.now)
-        connection.old connection.new result }
+    ensures runs { HasCleanDisk (state F.Store connection.new) →
+        HasRun F.Store sql.now (bound params.now) connection.old connection.new result }
+    ensures committed { result ≡ Done → IsCommitted (state F.Store connection.new) }
+    ensures survives { Survives (state F.Store connection.old) (state F.Store connection.new)
+        (CommitsBy sql.now (bound params.now) (state F.Store connection.old)) }
 {
     let came = connection.execute(sql, params);
     settle(connection, came)

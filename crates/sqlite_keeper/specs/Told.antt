@@ -1,0 +1,59 @@
+-- A database whose tables are told (this project's rule). A store of bytes in memory numbers its rows, and returns what
+-- was written; of a file both are premises.
+use Rattle.std.specs.Prelude.{◌≡◌, false, List, IsTrue}
+use Rattle.index_keeper.specs.Tables.{EditFacts, KeptFacts, edited}
+use Rattle.index_keeper.specs.declared.answer.KeepAnswer.{KeepAnswer}
+use Rattle.index_keeper.specs.declared.answer.KeepAnswer.TheVariants as answer
+use Rattle.sqlite.specs.Effect.{IsDatabase}
+use Rattle.sqlite.specs.Held.{Held, state}
+use Rattle.sqlite.specs.State.{HasCleanDisk, State}
+use Rattle.sqlite.specs.Store.{Ghosts}
+use Rattle.sqlite_trees.specs.View.{IsShaped}
+use Rattle.sqlite_trees.specs.declared.store.Shape.TheVariants.{Table}
+use Rattle.sqlite_keeper.specs.Schema.{IsStore}
+use Rattle.sqlite_keeper.specs.Stored.{tables_of}
+
+-- it has the tables of the store, and keeps their rules; no transaction is open, and all is committed
+pub record IsTold (now : State) : Type 0 where
+  pub schema : IsStore now.now.schema
+  pub sound : IsDatabase now.now
+  pub outside : now.in_transaction ≡ false
+  pub settled : now.now ≡ now.committed
+
+-- the tables, by path
+abbrev pub tables : State → List KeptFacts
+tables now = tables_of (now.now.trees 0)
+
+-- the numbers of its rows rise
+abbrev pub IsNumbered : State → Type 0
+IsNumbered now = IsShaped Table (now.now.trees 0)
+
+-- the change was made, and the database is told as before
+pub record Tells (edit : EditFacts) (old new : State) : Type 0 where
+  pub told : IsTold new
+  pub changed : tables new ≡ edited (tables old) edit
+
+-- nothing was changed, and the database is told as before
+pub record Stays (old new : State) : Type 0 where
+  pub told : IsTold new
+  pub same : tables new ≡ tables old
+
+-- what an answer to a change tells: one that isn't done changed nothing
+abbrev pub IsToldBy : KeepAnswer → EditFacts → State → State → Type 0
+IsToldBy answer.Done edit old new = Tells edit old new
+IsToldBy _ edit old new = Stays old new
+
+-- a told database is so after the call, where its disk has returned what was written, it is open still, and the numbers
+-- of its rows rise before and after
+abbrev pub IfTold : {S : Type 0} → Ghosts S → Held S → Held S → Type 0 → Type 0
+IfTold g before after So =
+    IsTold (state g before) → IsNumbered (state g before) → IsNumbered (state g after) → HasCleanDisk (state g after) → IsTrue (state g after).is_open → So
+
+-- a change of a told database, by its answer
+abbrev pub TellsChange : {S : Type 0} → Ghosts S → EditFacts → Held S → Held S → KeepAnswer → Type 0
+TellsChange g edit before after given = IfTold g before after (IsToldBy given edit (state g before) (state g after))
+
+-- the rows that were given are the tables, and the tables stay
+pub record TellsAll (rows : List KeptFacts) (old new : State) : Type 0 where
+  pub all : rows ≡ tables old
+  pub stays : Stays old new
