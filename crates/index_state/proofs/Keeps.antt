@@ -20,13 +20,16 @@ use Rattle.index_keeper.specs.Answers.{for_change}
 use Rattle.index_keeper.specs.Keeper.{Asks, ShownKeeper}
 use Rattle.index_keeper.specs.Tables.{EditFacts, edited}
 use Rattle.index_keeper.specs.declared.answer.KeepAnswer.TheVariants.{Done, Failed}
+use Rattle.index_state.specs.Bound.{voids}
 use Rattle.index_state.specs.Changes.{HasOrigin, IsMadeBy}
 use Rattle.index_state.specs.Invariant.{AgreesWithStore, IndexInvariant, ListedAccounted, RowsAccounted}
 use Rattle.index_state.specs.Keeping.{IsPut, put_row}
 use Rattle.index_state.specs.Kept.{Agrees, StandsFor, tables_of}
 use Rattle.index_state.specs.Spare.{after_spare}
-use Rattle.index_state.specs.State.{StateFacts, pass_of}
+use Rattle.index_state.specs.Spared.{Sparing}
+use Rattle.index_state.specs.State.{StateFacts, pass_of, unspared}
 use Rattle.index_state.specs.Step.{IsAwaited, IsKnown, IsOpen, TakesFrom, after_fault, after_stored}
+use Rattle.index_state.proofs.Bounds.{bounded_more, bounded_now, put_open}
 use Rattle.index_state.proofs.ByName.{stands_is_in}
 use Rattle.index_state.proofs.LogSteps.{ends_void, lasting_marked, lasting_sound, origin_more, put_changes, sound_more}
 use Rattle.index_state.proofs.Listed.{left_lists, lists, take_lists}
@@ -53,7 +56,7 @@ not_counted false sound h = absurd (true≢false (sym h))
 not_counted true broken h = absurd (true≢false broken)
 
 -- where other names are skipped
-spared_agrees : {K : Type 0} {true_row : RowFacts → Type 0} {told : Bool} {shown : ShownKeeper} {old : StateFacts K} {pass : Option PassFacts} {roots : List (List ℕ)} {at : Option ℕ} {spared : List NameFacts} → AgreesWithStore true_row told shown old → AgreesWithStore true_row told shown (record old { pass = pass; roots = roots; spared_at = at; origin = record old.origin { spared = spared } })
+spared_agrees : {K : Type 0} {true_row : RowFacts → Type 0} {told : Bool} {shown : ShownKeeper} {old : StateFacts K} {pass : Option PassFacts} {roots : List (List ℕ)} {at : Option Sparing} {spared : List NameFacts} → AgreesWithStore true_row told shown old → AgreesWithStore true_row told shown (record old { pass = pass; roots = roots; origin = record old.origin { sparing = at; spared = spared } })
 spared_agrees agrees = record {
   tables = agrees.tables;
   number = agrees.number;
@@ -72,10 +75,11 @@ module _ {K : Type 0} {true_row : RowFacts → Type 0} {told : Bool} {shows : K 
     listed_names_accounted_for = listed;
     rows_accounted_for = rows;
     skipped_names_stand = spares_same same h.skipped_names_stand;
+    log_is_bounded = h.log_is_bounded;
   }
 
   -- as a pass begins
-  pub begin_keeps : {pass : PassFacts} {roots : List (List ℕ)} (listing : List NameFacts) → IndexInvariant true_row told shows old → pass ≡ begun listing (row_names old.rows) → IsPass pass → IndexInvariant true_row told shows (record old { pass = Some pass; roots = roots; spared_at = None; origin = record old.origin { spared = [] } })
+  pub begin_keeps : {pass : PassFacts} {roots : List (List ℕ)} (listing : List NameFacts) → IndexInvariant true_row told shows old → pass ≡ begun listing (row_names old.rows) → IsPass pass → IndexInvariant true_row told shows (record old { pass = Some pass; roots = roots; origin = unspared old.origin })
   begin_keeps listing h e place = record {
     rows_sorted_and_true = h.rows_sorted_and_true;
     rows_replay_the_log = h.rows_replay_the_log;
@@ -85,6 +89,7 @@ module _ {K : Type 0} {true_row : RowFacts → Type 0} {told : Bool} {shows : K 
     listed_names_accounted_for = subst (ListedAccounted old.rows) (sym e) (begun_listed old.rows listing);
     rows_accounted_for = subst (RowsAccounted old.rows) (sym e) (begun_rows old.rows listing);
     skipped_names_stand = spares_none;
+    log_is_bounded = tt;
   }
 
   -- once the names were spared
@@ -98,6 +103,7 @@ module _ {K : Type 0} {true_row : RowFacts → Type 0} {told : Bool} {shows : K 
     listed_names_accounted_for = h.listed_names_accounted_for;
     rows_accounted_for = h.rows_accounted_for;
     skipped_names_stand = spares_all (lists old.pass) (row_names old.rows);
+    log_is_bounded = bounded_now old.broken old.log (lists old.pass) (row_names old.rows) h.rows_replay_the_log.names;
   }
 
   -- after a name was taken, or none
@@ -155,6 +161,10 @@ module _ {K : Type 0} {true_row : RowFacts → Type 0} {told : Bool} {shows : K 
         listed_names_accounted_for = h.listed_names_accounted_for;
         rows_accounted_for = h.rows_accounted_for;
         skipped_names_stand = spares_on (omega (arith, length_push old.log void)) refl (λ n listed stands. stands) h.skipped_names_stand;
+        log_is_bounded =
+            bounded_more old.origin.sparing old.log void old.broken true (row_names old.rows) (row_names old.rows) (lists old.pass)
+            h.skipped_names_stand.within h.skipped_names_stand.over
+            (omega (arith, ap voids sound)) h.log_is_bounded;
       }
 
   -- after a put that failed
@@ -210,4 +220,9 @@ module _ {K : Type 0} {true_row : RowFacts → Type 0} {told : Bool} {shows : K 
         skipped_names_stand =
             spares_on (omega (arith, length_push old.log (put_of row.name))) (left_lists row.name old.pass)
             (put_stands old.rows row (lists old.pass) (listing_path old.pass h.each_name_in_one_place) can.awaited.listed) h.skipped_names_stand;
+        log_is_bounded =
+            let fewer =
+            put_open old.rows row (lists old.pass) (listing_path old.pass h.each_name_in_one_place) can.awaited.listed can.awaited.absent in
+            bounded_more old.origin.sparing old.log (put_of row.name) old.broken old.broken (row_names old.rows) (row_names (with_row row old.rows))
+            (lists old.pass) h.skipped_names_stand.within h.skipped_names_stand.over (omega (arith, fewer)) h.log_is_bounded;
       }

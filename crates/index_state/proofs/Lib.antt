@@ -1,8 +1,10 @@
 pub mod AwayKeeps
 pub mod AwaySteps
+pub mod Bounds
 pub mod ByName
 pub mod DropKeeps
 pub mod Drops
+pub mod Fewer
 pub mod Found
 pub mod Keeps
 pub mod Lasting
@@ -18,6 +20,7 @@ pub mod OpenEnds
 pub mod Parts
 pub mod PassSteps
 pub mod Passed
+pub mod PlanBound
 pub mod PutsStand
 pub mod Rooms
 pub mod Runs

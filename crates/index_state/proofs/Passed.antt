@@ -11,7 +11,7 @@ use Rattle.index_keeper.specs.Keeper.{ShownKeeper}
 use Rattle.index_state.specs.Away.{GroomsFrom, GroomsNext, MissesFrom, MissesOut, TriesAll, TriesFrom, filled}
 use Rattle.index_state.specs.Invariant.{IndexInvariant}
 use Rattle.index_state.specs.Spare.{after_spare}
-use Rattle.index_state.specs.Spared.{spared_by}
+use Rattle.index_state.specs.Spared.{spared_by, sparing_at}
 use Rattle.index_state.specs.State.{StateFacts, pass_of, state_of}
 use Rattle.index_state.specs.Step.{IsAwaited, TakesFrom, TakesNext}
 use Rattle.index_state.specs.declared.answer.GroomTask.{GroomTask}
@@ -24,7 +24,7 @@ module _ {W K : Type 0} (shows : K → ShownKeeper) (s : Inside W K) (pass : Opt
   -- the state of the fields with another pass
   pub passed_is : lists pass ≡ lists s.pass → state_of shows (record s { pass = pass }) ≡ record (state_of shows s) { pass = pass }
   passed_is same =
-      ap (λ (l : List NameFacts). record (state_of shows s) { pass = pass; origin = record (state_of shows s).origin { spared = spared_by s.rows.log l s.spared_at } }) same
+      ap (λ (l : List NameFacts). record (state_of shows s) { pass = pass; origin = record (state_of shows s).origin { sparing = sparing_at l s.spared_at; spared = spared_by s.rows.log l s.spared_at } }) same
 
   pub passed_holds : {true_row : RowFacts → Type 0} {told : Bool} → lists pass ≡ lists s.pass → IndexInvariant true_row told shows (record (state_of shows s) { pass = pass }) → IndexInvariant true_row told shows (state_of shows (record s { pass = pass }))
   passed_holds {true_row} {told} same h =
@@ -85,9 +85,9 @@ module _ {W K : Type 0} (shows : K → ShownKeeper) (s : Inside W K) (pass : Opt
 module _ {W K : Type 0} {true_row : RowFacts → Type 0} {told : Bool} (shows : K → ShownKeeper) (s : Inside W K) {count : ℕ} (h : IndexInvariant true_row told shows (state_of shows s)) (now : count ≡ length s.rows.log) where
   spare_is : state_of shows (record s { spared_at = Some count }) ≡ after_spare (state_of shows s)
   spare_is =
-      ap (λ (l : List NameFacts). record (state_of shows s) { spared_at = Some count; origin = record (state_of shows s).origin { spared = l } })
+      ap (λ (l : List NameFacts). record (state_of shows s) { origin = record (state_of shows s).origin { sparing = Some (record { count = count; listing = lists s.pass }); spared = l } })
       (spared_now s.rows.log (lists s.pass) (row_names s.rows.rows) count now h.rows_replay_the_log.names)
-      ∙ ap (λ (n : ℕ). record (after_spare (state_of shows s)) { spared_at = Some n }) now
+      ∙ ap (λ (n : ℕ). record (after_spare (state_of shows s)) { origin = record (after_spare (state_of shows s)).origin { sparing = Some (record { count = n; listing = lists s.pass }) } }) now
 
   pub spare_holds : IndexInvariant true_row told shows (state_of shows (record s { spared_at = Some count }))
   spare_holds =

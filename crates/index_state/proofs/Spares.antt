@@ -17,7 +17,7 @@ use Rattle.scan_queue.specs.Names.{IsByPath, is_in}
 use Rattle.scan_queue.specs.Pass.{IsPass, PassFacts}
 use Rattle.scan_queue.proofs.NameTests.{same_name-Decides}
 use Rattle.index_state.specs.Judge.{is_kept}
-use Rattle.index_state.specs.Spared.{AreSpared, spared_by}
+use Rattle.index_state.specs.Spared.{AreSpared, Sparing, spared_by, sparing_at}
 use Rattle.index_state.specs.State.{pass_of}
 use Rattle.index_state.proofs.ByName.{one_of_path}
 use Rattle.index_state.proofs.Members.{differs_in, in_filter, in_put_other, in_put_self, same_name_self}
@@ -39,14 +39,18 @@ spared_now log listing names count e same =
 pub spares_none : {count : ℕ} {listing names : List NameFacts} → AreSpared None count [] listing names
 spares_none = record {
   within = tt;
+  over = tt;
+  none = λ is. refl;
   listed = λ n there. absurd (true≢false (sym there));
   stand = λ n there. absurd (true≢false (sym there));
 }
 
 -- the listed names that are rows' names
-pub spares_all : {count : ℕ} (listing names : List NameFacts) → AreSpared (Some count) count (filter (is_in names) listing) listing names
+pub spares_all : {count : ℕ} (listing names : List NameFacts) → AreSpared (Some (record { count = count; listing = listing })) count (filter (is_in names) listing) listing names
 spares_all {count} listing names = record {
   within = omega arith;
+  over = refl;
+  none = λ is. absurd (cc);
   listed = λ n there. (both n there).0;
   stand = λ n there. (both n there).1;
 }
@@ -54,20 +58,31 @@ spares_all {count} listing names = record {
     both : (n : NameFacts) → is_in (filter (is_in names) listing) n ≡ true → (is_in listing n ≡ true) × (is_in names n ≡ true)
     both n there = and_parts (is_in listing n) (is_in names n) (sym (in_filter (is_in names) n listing) ∙ there)
 
-within_more : (at : Option ℕ) (count more : ℕ) → count ≤ more → IfSome at (λ n. n ≤ count) → IfSome at (λ n. n ≤ more)
+within_more : (at : Option Sparing) (count more : ℕ) → count ≤ more → IfSome at (λ moment. moment.count ≤ count) → IfSome at (λ moment. moment.count ≤ more)
 within_more None count more grows h = tt
-within_more (Some n) count more grows h = omega (arith, grows, h)
+within_more (Some moment) count more grows h = omega (arith, grows, h)
+
+over_still : (at : Option Sparing) {listing still : List NameFacts} → still ≡ listing → IfSome at (λ moment. moment.listing ≡ listing) → IfSome at (λ moment. moment.listing ≡ still)
+over_still None same h = tt
+over_still (Some moment) same h = h ∙ sym same
+
+-- the length of the log as names were spared
+pub within_at : (listing : List NameFacts) (at : Option ℕ) (count : ℕ) → IfSome (sparing_at listing at) (λ moment. moment.count ≤ count) → IfSome at (λ n. n ≤ count)
+within_at listing None count h = tt
+within_at listing (Some n) count h = h
 
 -- after a change that leaves the listing and the listed names that are there
-pub spares_on : {at : Option ℕ} {count more : ℕ} {spared listing still names now : List NameFacts} → count ≤ more → still ≡ listing → ((n : NameFacts) → is_in listing n ≡ true → is_in names n ≡ true → is_in now n ≡ true) → AreSpared at count spared listing names → AreSpared at more spared still now
+pub spares_on : {at : Option Sparing} {count more : ℕ} {spared listing still names now : List NameFacts} → count ≤ more → still ≡ listing → ((n : NameFacts) → is_in listing n ≡ true → is_in names n ≡ true → is_in now n ≡ true) → AreSpared at count spared listing names → AreSpared at more spared still now
 spares_on {at} {count} {more} grows same keeps h = record {
   within = within_more at count more grows h.within;
+  over = over_still at same h.over;
+  none = h.none;
   listed = λ n there. ap (λ (l : List NameFacts). is_in l n) same ∙ h.listed n there;
   stand = λ n there. keeps n (h.listed n there) (h.stand n there);
 }
 
 -- with another pass over the same listing
-pub spares_same : {at : Option ℕ} {count : ℕ} {spared listing still names : List NameFacts} → still ≡ listing → AreSpared at count spared listing names → AreSpared at count spared still names
+pub spares_same : {at : Option Sparing} {count : ℕ} {spared listing still names : List NameFacts} → still ≡ listing → AreSpared at count spared listing names → AreSpared at count spared still names
 spares_same same h = spares_on (omega arith) same (λ n listed stands. stands) h
 
 -- a listing is by path
@@ -100,7 +115,7 @@ no_stamp (n ∷ names) path apart =
     ∙ no_stamp names path (λ m there. apart m (or_right (same_name m n) (is_in names m) there))
 
 -- the path of a listed name without a row is that of no skipped name
-pub not_spared : {at : Option ℕ} {count : ℕ} {spared listing names : List NameFacts} (name : NameFacts) → AreSpared at count spared listing names → IsByPath listing → is_in listing name ≡ true → is_in names name ≡ false → stamp_at spared name.path ≡ None
+pub not_spared : {at : Option Sparing} {count : ℕ} {spared listing names : List NameFacts} (name : NameFacts) → AreSpared at count spared listing names → IsByPath listing → is_in listing name ≡ true → is_in names name ≡ false → stamp_at spared name.path ≡ None
 not_spared {spared = spared} {listing = listing} {names = names} name h by_path listed absent =
     no_stamp spared name.path (λ n there. false_from_ne_true (bytes_eq n.path name.path)
     (λ same.

@@ -1,5 +1,5 @@
 -- Each step, from the fields of the state.
-use Rattle.std.proofs.Common.{◌≡◌, ℕ, ◌<◌, Bool, true, false, List, [], length, Option, Some, None, sym, ◌∙◌, ap, subst}
+use Rattle.std.proofs.Common.{◌≡◌, ℕ, ◌≤◌, ◌<◌, Bool, true, false, List, [], length, Option, Some, None, sym, ◌∙◌, ap, subst}
 use Rattle.std.specs.Option.{option_map}
 use Rattle.std.specs.Prelude.{IfSome}
 use Rattle.row_types.specs.Name.{NameFacts}
@@ -10,10 +10,11 @@ use Rattle.index_rows.specs.Rows.{RowsFacts, after_put, row_names, with_row}
 use Rattle.index_rows.specs.declared.rows.TheConstants.{LOG_LIMIT}
 use Rattle.scan_queue.specs.Pass.{IsPass, PassFacts, begun, left}
 use Rattle.index_keeper.specs.Keeper.{ShownKeeper}
+use Rattle.index_state.specs.Bound.{still_open}
 use Rattle.index_state.specs.Invariant.{IndexInvariant}
 use Rattle.index_state.specs.Keeping.{put_row}
-use Rattle.index_state.specs.Plan.{plan_of}
-use Rattle.index_state.specs.State.{StateFacts, state_of}
+use Rattle.index_state.specs.Plan.{most_changes, plan_of}
+use Rattle.index_state.specs.State.{StateFacts, state_of, unspared}
 use Rattle.index_state.specs.Step.{BeginsPass, IsOpen, Publishes, Stores, after_stored}
 use Rattle.index_state.specs.Stored.{IsMarked, IsStored, SaysKept}
 use Rattle.index_state.specs.declared.answer.Plan.{Plan}
@@ -25,11 +26,12 @@ use Rattle.index_state.proofs.Listed.{left_lists}
 use Rattle.index_state.proofs.Parts.{fault_state, made_state}
 
 -- a pass begins
-pub begin_step : {K : Type 0} {old : StateFacts K} {listing : List NameFacts} {roots : List (List ℕ)} {plan : Plan} {pass : PassFacts} → old.broken ≡ false → plan ≡ plan_of listing (row_names old.rows) → pass ≡ begun listing (row_names old.rows) → BeginsPass listing roots plan old (record old { pass = Some pass; roots = roots; spared_at = None; origin = record old.origin { spared = [] } })
-begin_step {K} {old} {listing} {roots} sound planned e = record {
+pub begin_step : {K : Type 0} {old : StateFacts K} {listing : List NameFacts} {roots : List (List ℕ)} {plan : Plan} {pass : PassFacts} → old.broken ≡ false → plan ≡ plan_of listing (row_names old.rows) → still_open listing (row_names old.rows) ≤ most_changes plan → pass ≡ begun listing (row_names old.rows) → BeginsPass listing roots plan old (record old { pass = Some pass; roots = roots; origin = unspared old.origin })
+begin_step {K} {old} {listing} {roots} sound planned few e = record {
   sound = sound;
   planned = planned;
-  after = ap (λ (p : PassFacts). record old { pass = Some p; roots = roots; spared_at = None; origin = record old.origin { spared = [] } }) e;
+  allowed = few;
+  after = ap (λ (p : PassFacts). record old { pass = Some p; roots = roots; origin = unspared old.origin }) e;
 }
 
 -- what is said of a row that is kept is said of one that was awaited

@@ -12,6 +12,7 @@ use Rattle.index_rows.specs.declared.rows.TheConstants.{LOG_LIMIT}
 use Rattle.scan_queue.specs.Names.{is_in}
 use Rattle.scan_queue.specs.Pass.{IsPass, PassFacts, missed_names}
 use Rattle.index_keeper.specs.Keeper.{ShownKeeper}
+use Rattle.index_state.specs.Bound.{IsBounded}
 use Rattle.index_state.specs.Changes.{HasOrigin, VoidWhere}
 use Rattle.index_state.specs.Kept.{Agrees}
 use Rattle.index_state.specs.Spared.{AreSpared}
@@ -73,4 +74,6 @@ pub record IndexInvariant {K : Type 0} (true_row : RowFacts → Type 0) (told : 
   -- the row of a name that isn't listed is still to be looked for, out or missed
   pub rows_accounted_for : IfSome state.pass (RowsAccounted state.rows)
   -- each skipped name is listed in the open pass, and is a row's name
-  pub skipped_names_stand : AreSpared state.spared_at (length state.log) state.origin.spared (pass_of state.pass).listing (row_names state.rows)
+  pub skipped_names_stand : AreSpared state.origin.sparing (length state.log) state.origin.spared (pass_of state.pass).listing (row_names state.rows)
+  -- since names were spared the log did not grow more than what is open of the pass became less, but for a void change
+  pub log_is_bounded : IfSome state.origin.sparing (IsBounded state.broken state.log (row_names state.rows))

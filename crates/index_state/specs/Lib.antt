@@ -18,6 +18,7 @@ pub use Rattle.index_keeper.specs.Keeper
 pub use Rattle.index_keeper.specs.Store
 pub use Rattle.index_keeper.specs.Tables
 pub mod Away
+pub mod Bound
 pub mod Changes
 pub mod Complete
 pub mod EventParts

@@ -120,8 +120,7 @@ opened_on shows rows keeper = record {
   pass = None;
   roots = [];
   broken = false;
-  spared_at = None;
-  origin = record { epoch = (shows keeper).epoch; puts = length rows; made = (shows keeper).made; spared = [] };
+  origin = record { epoch = (shows keeper).epoch; puts = length rows; made = (shows keeper).made; sparing = None; spared = [] };
 }
 
 -- the index is opened on a keeper that gave these values: each is a row under its path, and those of the edition,

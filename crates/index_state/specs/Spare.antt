@@ -7,6 +7,8 @@ use Rattle.index_state.specs.State.{StateFacts, pass_of}
 -- once the names were spared: from now on the names of the open pass's listing that are rows' names are skipped
 abbrev pub after_spare : {K : Type 0} → StateFacts K → StateFacts K
 after_spare old = record old {
-  spared_at = Some (length old.log);
-  origin = record old.origin { spared = filter (is_in (row_names old.rows)) (pass_of old.pass).listing };
+  origin = record old.origin {
+    sparing = Some (record { count = length old.log; listing = (pass_of old.pass).listing });
+    spared = filter (is_in (row_names old.rows)) (pass_of old.pass).listing;
+  };
 }

@@ -8,19 +8,25 @@ use Rattle.index_rows.specs.declared.change.Change.{Change}
 use Rattle.scan_queue.specs.Pass.{PassFacts}
 use Rattle.index_keeper.specs.Keeper.{ShownKeeper}
 use Rattle.index_keeper.specs.Tables.{EditFacts}
-use Rattle.index_state.specs.Spared.{spared_by}
+use Rattle.index_state.specs.Spared.{Sparing, spared_by, sparing_at}
 use Rattle.index_state.specs.declared.state.State.TheInside.{Inside}
 
 -- what the opening left: the number of the keeper's opening, how many puts the log began with, and the changes of
--- the store by then, where the keeper tells them; and beside these the skipped names
+-- the store by then, where the keeper tells them; and beside these the moment at which names were spared, if they were,
+-- and the skipped names
 pub record Origin : Type 0 where
   pub epoch : ℕ
   pub puts : ℕ
   pub made : Option (List EditFacts)
+  pub sparing : Option Sparing
   pub spared : List NameFacts
 
+-- the origin of an index of which no name was spared
+abbrev pub unspared : Origin → Origin
+unspared origin = record origin { sparing = None; spared = [] }
+
 -- the rows in path order, the changes that made their names, the keeper, the pass and its roots, whether the index
--- is broken, how long the log was as names were spared, if they were, and its origin
+-- is broken, and its origin
 pub record StateFacts (K : Type 0) : Type 0 where
   pub rows : List RowFacts
   pub log : List Change
@@ -28,7 +34,6 @@ pub record StateFacts (K : Type 0) : Type 0 where
   pub pass : Option PassFacts
   pub roots : List (List ℕ)
   pub broken : Bool
-  pub spared_at : Option ℕ
   pub origin : Origin
 
 -- the pass in which nothing is listed and no name stands
@@ -58,11 +63,11 @@ state_of shows s = record {
   pass = s.pass;
   roots = s.roots.items;
   broken = s.broken;
-  spared_at = s.spared_at;
   origin = record {
     epoch = s.epoch;
     puts = s.first_puts;
     made = made_first (length (lasting s.broken s.rows.log) - s.first_puts) (shows s.keeper).made;
+    sparing = sparing_at (pass_of s.pass).listing s.spared_at;
     spared = spared_by s.rows.log (pass_of s.pass).listing s.spared_at;
   };
 }

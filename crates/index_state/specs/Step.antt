@@ -1,6 +1,6 @@
 -- The index step (this project's rule): what can happen to an index while it is held, and what comes of it. What a
 -- case doesn't name stays.
-use Rattle.std.specs.Prelude.{◌≡◌, ℕ, ◌<◌, Bool, true, false, List, [], ◌∷◌, ◌++◌, length, map, filter, Option, Some, None, IsSome}
+use Rattle.std.specs.Prelude.{◌≡◌, ℕ, ◌≤◌, ◌<◌, Bool, true, false, List, [], ◌∷◌, ◌++◌, length, map, filter, Option, Some, None, IsSome}
 use Rattle.std.specs.Option.{option_map}
 use Rattle.row_types.specs.Name.{NameFacts}
 use Rattle.row_types.specs.Row.{RowFacts}
@@ -15,9 +15,10 @@ use Rattle.scan_queue.specs.Names.{is_in}
 use Rattle.scan_queue.specs.Pass.{PassFacts, TakesName, begun, left}
 use Rattle.index_keeper.specs.Keeper.{IsLeftAlone, ShownKeeper}
 use Rattle.index_keeper.specs.declared.answer.KeepAnswer.TheVariants.{Done, Failed}
+use Rattle.index_state.specs.Bound.{still_open}
 use Rattle.index_state.specs.Keeping.{IsPut}
-use Rattle.index_state.specs.Plan.{plan_of}
-use Rattle.index_state.specs.State.{StateFacts, pass_of}
+use Rattle.index_state.specs.Plan.{most_changes, plan_of}
+use Rattle.index_state.specs.State.{StateFacts, pass_of, unspared}
 use Rattle.index_state.specs.declared.answer.Plan.{Plan}
 use Rattle.index_state.specs.declared.answer.Begun.{Begun}
 use Rattle.scan_queue.specs.declared.miss.Cause.{Cause}
@@ -66,14 +67,15 @@ abbrev pub after_begin : {K : Type 0} → List NameFacts → List (List ℕ) →
 after_begin listing roots old = record old {
   pass = Some (begun listing (row_names old.rows));
   roots = roots;
-  spared_at = None;
-  origin = record old.origin { spared = [] };
+  origin = unspared old.origin;
 }
 
--- a pass begins, in place of an earlier one, and this is what it has to do
+-- a pass begins, in place of an earlier one, and this is what it has to do; what is open then is no more than the changes
+-- that its plan allows
 pub record BeginsPass {K : Type 0} (listing : List NameFacts) (roots : List (List ℕ)) (plan : Plan) (old new : StateFacts K) : Type 0 where
   pub sound : old.broken ≡ false
   pub planned : plan ≡ plan_of listing (row_names old.rows)
+  pub allowed : still_open listing (row_names old.rows) ≤ most_changes plan
   pub after : new ≡ after_begin listing roots old
 
 -- a pass begins, or not

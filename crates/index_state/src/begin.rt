@@ -1,10 +1,11 @@
 //! Beginning a pass, and handing out its names.
 
-ghost use Rattle.std.specs.Prelude.{◌≡◌, IfOk, IfSome, None};
+ghost use Rattle.std.specs.Prelude.{◌≡◌, ◌≤◌, IfOk, IfSome, None};
 ghost use Rattle.row_types.specs.Name.{stamp_at};
 ghost use Rattle.index_rows.specs.Rows.{row_names};
 ghost use Rattle.scan_queue.specs.Pass.{IsPass, begun};
-ghost use Rattle.index_state.specs.Plan.{plan_of};
+ghost use Rattle.index_state.specs.Bound.{still_open};
+ghost use Rattle.index_state.specs.Plan.{most_changes, plan_of};
 ghost use Rattle.index_state.specs.Step.{IndexStep, IsAwaited, begins, takes, to_begin, to_take};
 
 use crate::answer::{Begun, Plan};
@@ -56,6 +57,8 @@ fn pass_over<W: Truth>(
 ) -> Result<(Pass, Plan), AllocError>
     ensures pass { IfOk result (λ it. it.0 ≡ begun listing (row_names rows.now.rows)) }
     ensures plan { IfOk result (λ it. it.1 ≡ plan_of listing (row_names rows.now.rows)) }
+    ensures allowed { IfOk result (λ it. still_open listing (row_names rows.now.rows)
+        ≤ most_changes it.1) }
     ensures keeps { IfOk result (λ it. IsPass it.0) }
 {
     let names = rows.names(alloc)?;

@@ -1,17 +1,22 @@
 -- A pass with which other hands help: what they leave of the index, and how it ends.
-use Rattle.std.proofs.Common.{◌≡◌, ℕ, ◌<◌, inl, inr, Bool, true, false, List, [], Option, refl, sym, ◌∙◌, ap, subst, arith, IsTrue}
+use Rattle.std.proofs.Common.{◌≡◌, ℕ, ◌≤◌, ◌<◌, inl, inr, Bool, true, false, List, [], length, take, Option, refl, sym, ◌∙◌, ap, subst, arith, IsTrue}
 use Rattle.std.specs.List.{filter}
+use Rattle.std.specs.Prelude.{IfSome}
 use Rattle.std.proofs.lemmas.Bool.{and_from, true≢false}
+use Rattle.std.proofs.lemmas.List.{take-append-le, take_all}
 use mathlib.Core.List.{IsPrefix}
 use Rattle.row_types.specs.Name.{NameFacts}
 use Rattle.row_types.specs.Rules.{Rules}
 use Rattle.index_keeper.specs.Keeper.{ShownKeeper}
 use Rattle.index_lock.proofs.Prefixes.{prefix_self}
+use Rattle.index_rows.specs.Log.{replay}
 use Rattle.index_rows.specs.Rows.{row_names}
-use Rattle.index_state.specs.Plan.{plan_of}
+use Rattle.index_rows.specs.declared.change.Change.{Change}
+use Rattle.index_state.specs.Bound.{IsBounded, still_open, voids}
+use Rattle.index_state.specs.Plan.{most_changes, plan_of}
 use Rattle.index_state.specs.Spare.{after_spare}
-use Rattle.index_state.specs.Spared.{AreSpared}
-use Rattle.index_state.specs.State.{Origin, StateFacts, pass_of}
+use Rattle.index_state.specs.Spared.{AreSpared, Sparing}
+use Rattle.index_state.specs.State.{Origin, StateFacts, pass_of, unspared}
 use Rattle.index_state.specs.Step.{BeginsPass, after_begin}
 use Rattle.index_state.specs.declared.answer.Plan.{Plan}
 use Rattle.index_state.proofs.Members.{in_filter}
@@ -23,24 +28,45 @@ use Rattle.pass_runner.specs.Passes.{EndsBegun, EndsFound, EndsOver, IsLeft}
 use Rattle.pass_runner.specs.declared.pass_end.PassEnd.{PassEnd}
 use Rattle.pass_runner.specs.declared.pass_end.PassEnd.TheVariants.{Whole, Missed, Walk, Broken}
 use Rattle.pass_runner.specs.declared.pass_end.PassEnd.TheVariants.{KeeperFault, LogFull, OutOfMemory}
+use Rattle.pass_runner.proofs.PassEnds.{planned_open}
 
 -- an index over which a pass was begun, whose listed rows' names are skipped from now on
 abbrev pub shared_from : {K : Type 0} → List NameFacts → List (List ℕ) → StateFacts K → StateFacts K
 shared_from listing roots old = after_spare (after_begin listing roots old)
 
-module _ {K : Type 0} (count : ℕ) (some : 1 < count) (listing : List NameFacts) (roots : List (List ℕ)) (old : StateFacts K) where
+-- the names that the front of a log leaves
+front_leaves : (front log : List Change) (names : List NameFacts) → IsPrefix front log → names ≡ replay front
+    → replay (take (length front) log) ≡ names
+front_leaves front log names begins same =
+    ap (λ (l : List Change). replay (take (length front) l)) (sym begins.1)
+    ∙ ap (λ (l : List Change). replay l)
+    (take-append-le (length front) front begins.0 (omega arith) ∙ take_all (length front) front (omega arith))
+    ∙ sym same
+
+module _ {K : Type 0} (count : ℕ) (some : 1 < count) (listing : List NameFacts) (roots : List (List ℕ)) (old : StateFacts K)
+    (few : still_open listing (row_names old.rows) ≤ most_changes (plan_of listing (row_names old.rows))) where
   -- what is found behind the lock
-  pub helped_found : (found : StateFacts K) {at : Option ℕ} {long : ℕ} → IsPrefix (shared_from listing roots old).log found.log
+  pub helped_found : (found : StateFacts K) {at : Option Sparing} {long : ℕ} → old.broken ≡ false
+      → row_names old.rows ≡ replay old.log → IsPrefix (shared_from listing roots old).log found.log
       → found.origin ≡ (shared_from listing roots old).origin
       → AreSpared at long found.origin.spared (pass_of found.pass).listing (row_names found.rows)
+      → IfSome found.origin.sparing (IsBounded found.broken found.log (row_names found.rows))
       → IsHelped count listing old found
-  helped_found found log same spared = record {
+  helped_found found sound names log same spared bounded = record {
     log = log;
     stays = λ name listed there.
         spared.stand name
         (ap (λ (o : Origin). is_in o.spared name) same ∙ in_filter (is_in (row_names old.rows)) name listing
         ∙ and_from (is_in listing name) (is_in (row_names old.rows) name) listed there);
-    origin = ap (λ (o : Origin). record o { spared = [] }) same;
+    origin = ap (λ (o : Origin). unspared o) same;
+    allowed = few;
+    bounded =
+        let grown : IsBounded found.broken found.log (row_names found.rows) (record { count = length old.log; listing = listing }) =
+        subst (λ (o : Origin). IfSome o.sparing (IsBounded found.broken found.log (row_names found.rows))) same bounded in
+        let left : still_open listing (replay (take (length old.log) found.log)) ≡ still_open listing (row_names old.rows) =
+        ap (λ (l : List NameFacts). still_open listing l) (front_leaves old.log found.log (row_names old.rows) log names) in
+        let was : voids old.broken ≡ 0 = ap (λ (b : Bool). voids b) sound in
+        omega (arith, grown, left, was);
     alone = λ one. absurd (omega (arith, one, some));
   }
 
@@ -50,6 +76,8 @@ module _ {K : Type 0} (count : ℕ) (some : 1 < count) (listing : List NameFacts
     log = prefix_self old.log;
     stays = λ name listed there. there;
     origin = refl;
+    allowed = few;
+    bounded = omega arith;
     alone = λ one. absurd (omega (arith, one, some));
   }
 
@@ -149,23 +177,26 @@ module _ {K : Type 0} (count : ℕ) (some : 1 < count) {listing : List NameFacts
   not_shared hand new same = record {
     hand = refl;
     helped =
-        subst (λ (s : StateFacts K). IsHelped count listing old s) (sym (same ∙ is_shared)) (helped_none count some listing roots old);
+        subst (λ (s : StateFacts K). IsHelped count listing old s) (sym (same ∙ is_shared))
+        (helped_none count some listing roots old (planned_open begins));
     ends = ap (λ (s : StateFacts K). s.broken) (same ∙ is_shared) ∙ begins.sound;
   }
 
   -- the index came back from behind the lock, and the pass was begun again
   pub over_shared : {T : Type 0} (world : Rules) (told tells : Bool) (shows : K → ShownKeeper) (sees : T → ShownTree)
-      (before after : T) (found new : StateFacts K) {at : Option ℕ} {long : ℕ} → IsPrefix shared.log found.log
-      → found.origin ≡ shared.origin
+      (before after : T) (found new : StateFacts K) {at : Option Sparing} {long : ℕ} → row_names shared.rows ≡ replay shared.log
+      → IsPrefix shared.log found.log → found.origin ≡ shared.origin
       → AreSpared at long found.origin.spared (pass_of found.pass).listing (row_names found.rows)
+      → IfSome found.origin.sparing (IsBounded found.broken found.log (row_names found.rows))
       → {again : List NameFacts} {roots_again : List (List ℕ)} → again ≡ listing → roots_again ≡ roots → (end : PassEnd)
       → EndsAgain world told tells shows sees plan again roots_again before after found new end
       → EndsOver world told tells shows sees count listing roots before after old new end
-  over_shared world told tells shows sees before after found new log origin skips {again} {roots_again} same_names same_roots end ends =
-      over_again count some listing roots old world told tells shows sees before after found new
-      (helped_found count some listing roots old found
+  over_shared world told tells shows sees before after found new names log origin skips bounded {again} {roots_again} same_names same_roots end ends =
+      over_again count some listing roots old (planned_open begins) world told tells shows sees before after found new
+      (helped_found count some listing roots old (planned_open begins) found begins.sound
+      (sym (ap (λ (s : StateFacts K). row_names s.rows) is_shared) ∙ names ∙ ap (λ (s : StateFacts K). replay s.log) is_shared)
       (subst (λ (s : StateFacts K). IsPrefix s.log found.log) is_shared log)
-      (origin ∙ ap (λ (s : StateFacts K). s.origin) is_shared) skips) end
+      (origin ∙ ap (λ (s : StateFacts K). s.origin) is_shared) skips bounded) end
       (subst (λ (p : Plan). EndsAgain world told tells shows sees p listing roots before after found new end) begins.planned
       (subst (λ (rs : List (List ℕ)). EndsAgain world told tells shows sees plan listing rs before after found new end) same_roots
       (subst (λ (ns : List NameFacts). EndsAgain world told tells shows sees plan ns roots_again before after found new end) same_names ends)))

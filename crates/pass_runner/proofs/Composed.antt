@@ -47,6 +47,7 @@ module _ {K : Type 0} {told : Bool} {version : Versions} {shows : K → ShownKee
     brings = on.brings;
     missed = on.missed;
     todo = on.todo;
+    bounded = on.bounded;
   }
 
   pub listens_in : {before after : ShownTree} {old new : StateFacts K} (settles : Proceeds told version shows before after old new)
@@ -66,6 +67,7 @@ module _ {K : Type 0} {told : Bool} {version : Versions} {shows : K → ShownKee
     brings = settles.brings;
     missed = settles.missed;
     todo = settles.todo;
+    bounded = settles.bounded;
   }
 
   -- nothing was done
@@ -84,6 +86,7 @@ module _ {K : Type 0} {told : Bool} {version : Versions} {shows : K → ShownKee
         brings = still_brought state.rows [];
         missed = still_missed (pass_of state.pass).listing (row_names state.rows) (pass_of state.pass).missed [] (Rose hand.faults hand.faults);
         todo = λ path. omega arith;
+        bounded = omega arith;
       })
 
   -- what may be asked later might be asked before

@@ -1,7 +1,8 @@
 -- The first hand walks before the pass over the listing.
-use Rattle.std.proofs.Common.{◌≡◌, ◌+◌, ◌≤◌, ◌<◌, List, [], ◌∷◌, length, drop, slice_index_or, slice_set, refl, subst, arith}
+use Rattle.std.proofs.Common.{◌≡◌, ◌+◌, ◌≤◌, ◌<◌, List, [], ◌∷◌, length, drop, slice_index_or, slice_set, refl, sym, subst, arith, IsTrue}
+use Rattle.std.proofs.lemmas.Bool.{true≢false}
 use Rattle.tree_trait.specs.Shown.{ShownTree}
-use Rattle.pass_runner.specs.Owned.{HandsGo, HearLoads, LoadsBeside}
+use Rattle.pass_runner.specs.Owned.{HandsGo, HearLoads, LoadsBeside, is_unbegun, is_unwalked}
 use Rattle.pass_runner.specs.declared.pass_end.PassEnd.{PassEnd}
 use Rattle.pass_runner.specs.declared.pass_end.PassEnd.TheVariants.{Whole, Missed, Walk, Broken}
 use Rattle.pass_runner.specs.declared.pass_end.PassEnd.TheVariants.{KeeperFault, LogFull, OutOfMemory}
@@ -47,6 +48,16 @@ loads_alone sees hands laters OutOfMemory one = tt
 pub idle_unwalked : {T : Type 0} (hands : List T) (met : T) → drop 1 (slice_set hands 0 met) ≡ drop 1 hands
 idle_unwalked [] met = refl
 idle_unwalked (x ∷ xs) met = refl
+
+-- where no pass began, one that is known not to end as a walk does was broken already
+pub unbegun_idle : {Idle : Type 0} (end : PassEnd) → (IsTrue (is_unwalked end) → ⊥) → (end ≡ Broken → Idle) → IsTrue (is_unbegun end) → Idle
+unbegun_idle (Walk fault) walked broken is = absurd (walked refl)
+unbegun_idle Broken walked broken is = broken refl
+unbegun_idle (Whole summary) walked broken is = absurd (true≢false (sym is))
+unbegun_idle (Missed miss) walked broken is = absurd (true≢false (sym is))
+unbegun_idle KeeperFault walked broken is = absurd (true≢false (sym is))
+unbegun_idle LogFull walked broken is = absurd (true≢false (sym is))
+unbegun_idle OutOfMemory walked broken is = absurd (true≢false (sym is))
 
 -- what no first hand can do was not done
 pub goes_never : {T : Type 0} (First Other : T → T → Type 0) (hands laters : List T)

@@ -19,7 +19,8 @@ use Rattle.index_state.specs.Changes.{VoidWhere}
 use Rattle.index_state.specs.Invariant.{IndexInvariant}
 use Rattle.index_state.specs.Judge.{is_file, is_under}
 use Rattle.index_state.specs.Plan.{has_stamp, is_other, plan_of}
-use Rattle.index_state.specs.State.{Origin, StateFacts}
+use Rattle.index_state.specs.Spared.{Sparing}
+use Rattle.index_state.specs.State.{Origin, StateFacts, unspared}
 use Rattle.index_state.specs.Step.{Begins, BeginsPass, Judges, Publishes}
 use Rattle.index_state.specs.declared.answer.Begun.{Begun}
 use Rattle.index_state.specs.declared.answer.Begun.TheVariants as begun
@@ -55,8 +56,11 @@ plan_parts names by_path (n ∷ listing) =
     let c = sum_by-cons (λ (m : NameFacts). cond (is_in names m) 1 0) n listing in
     omega (arith, rest, one, a, b, c)
 
-same_origin : (o : Origin) → o.spared ≡ [] → record o { spared = [] } ≡ o
-same_origin o none = ap (λ (names : List NameFacts). record o { spared = names }) (sym none)
+-- an origin of which no name was spared
+same_origin : (o : Origin) → o.sparing ≡ None → o.spared ≡ [] → unspared o ≡ o
+same_origin o never none =
+    ap (λ (m : Option Sparing). record o { sparing = m; spared = [] }) (sym never)
+    ∙ ap (λ (names : List NameFacts). record o { spared = names }) (sym none)
 
 -- the log of a broken index ends in a void change, and that of a sound one has none
 pub void_by : {K : Type 0} (tells : Bool) (shows : K → ShownKeeper) {state : StateFacts K} {true_row : RowFacts → Type 0}
@@ -103,11 +107,12 @@ module _ {K : Type 0} (tells : Bool) (shows : K → ShownKeeper) {old new : Stat
   judged_goes name met judged.Dropped h = goes_by (drop_of name) h.drops.after refl refl
 
   -- where a pass began
-  pub begun_goes : (listing : List NameFacts) (roots : List (List ℕ)) → old.origin.spared ≡ [] → (answer : Begun)
+  pub begun_goes : (listing : List NameFacts) (roots : List (List ℕ)) → old.origin.sparing ≡ None → old.origin.spared ≡ []
+      → (answer : Begun)
       → Begins listing roots old answer new → GoesOn old new
-  begun_goes listing roots none (begun.Begun plan) h = goes_as h.after refl (same_origin old.origin none)
-  begun_goes listing roots none begun.Broken h = goes_as h.same refl refl
-  begun_goes listing roots none begun.OutOfMemory h = goes_as h.same refl refl
+  begun_goes listing roots never none (begun.Begun plan) h = goes_as h.after refl (same_origin old.origin never none)
+  begun_goes listing roots never none begun.Broken h = goes_as h.same refl refl
+  begun_goes listing roots never none begun.OutOfMemory h = goes_as h.same refl refl
 
   -- where names that were out or missed may be tried again
   pub retried_on : {mid : StateFacts K} {count : ℕ} → mid ≡ record old { pass = option_map filled old.pass }

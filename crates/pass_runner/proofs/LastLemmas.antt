@@ -5,30 +5,33 @@ use Rattle.std.specs.Prelude.{IfSome, IsSome}
 use Rattle.std.proofs.lemmas.Bool.{and_parts, cond-false, not_from_true, or_left, or_right, true≢false}
 use Rattle.std.proofs.lemmas.Bool.Decides.{nat_tests}
 use mathlib.Core.List.{IsPrefix}
-use Rattle.row_types.specs.Name.{NameFacts, same_name}
+use Rattle.row_types.specs.Name.{NameFacts, same_name, stamp_at}
 use Rattle.row_types.specs.Rules.{Rules}
 use Rattle.index_keeper.specs.Keeper.{ShownKeeper}
 use Rattle.index_lock.proofs.Prefixes.{prefix_self}
 use Rattle.index_rows.specs.Log.{replay}
 use Rattle.index_rows.specs.Rows.{row_names}
 use Rattle.index_rows.specs.declared.rows.TheConstants.{LOG_LIMIT}
-use Rattle.scan_queue.specs.Names.{is_in, not_in}
-use Rattle.scan_queue.specs.Pass.{PassFacts, begun as begun_pass}
+use Rattle.scan_queue.specs.Names.{IsByPath, is_in, not_in}
+use Rattle.scan_queue.specs.Pass.{IsPass, PassFacts, begun as begun_pass}
 use Rattle.scan_queue.specs.declared.miss.Miss.{Miss}
 use Rattle.index_state.specs.Changes.{EndsVoid}
 use Rattle.index_state.specs.Complete.{CompletePass, LeavesNone, standing_of}
 use Rattle.index_state.specs.Invariant.{IndexInvariant}
+use Rattle.index_state.specs.Plan.{has_stamp}
 use Rattle.index_state.specs.State.{StateFacts, pass_of}
 use Rattle.index_state.specs.Step.{BeginsPass, Stays}
 use Rattle.index_state.specs.declared.answer.Begun.TheVariants as begun
 use Rattle.index_state.specs.declared.answer.Plan.{Plan}
 use Rattle.index_state.specs.declared.answer.Standing.{Standing}
+use Rattle.index_state.proofs.ByName.{has_stamp_is_in, names_by_path}
+use Rattle.index_state.proofs.Keeps.{there}
 use Rattle.index_state.proofs.Members.{same_name_self}
 use Rattle.index_state.proofs.VoidEnds.{never_both}
 use Rattle.groomer.specs.Judged.{GoesOn}
-use Rattle.pass_runner.specs.Leading.{BeginsLast, EndsOpen, IsDoneAgain, IsShutAgain, LastShows, OpensLast, is_none_left}
+use Rattle.pass_runner.specs.Leading.{BeginsLast, EndsOpen, IsDoneAgain, IsOpenBy, IsShutAgain, LastShows, OpensLast, is_none_left}
 use Rattle.pass_runner.specs.Numbers.{summary_of}
-use Rattle.pass_runner.specs.SharedPass.{IsOfPass}
+use Rattle.pass_runner.specs.SharedPass.{IsOfPass, StillStands}
 use Rattle.pass_runner.specs.declared.pass_end.PassEnd.{PassEnd}
 use Rattle.pass_runner.specs.declared.pass_end.PassEnd.TheVariants.{Whole, Missed, Walk, Broken}
 use Rattle.pass_runner.specs.declared.pass_end.PassEnd.TheVariants.{KeeperFault, LogFull, OutOfMemory}
@@ -104,7 +107,8 @@ module _ {K : Type 0} (world : Rules) (tells : Bool) (shows : K → ShownKeeper)
     (roots : List (List ℕ)) (plan : Plan) (own : Option Miss) (met : List Miss) (old : StateFacts K) {new : StateFacts K}
     (holds : IndexInvariant world.true_row tells shows new)
     (among : IfSome own (λ miss. Contains met miss))
-    (of_pass : IfSome own (λ miss. IsOfPass listing roots miss.name miss.cause)) where
+    (of_pass : IfSome own (λ miss. IsOfPass listing roots miss.name miss.cause))
+    (stands : IfSome own (λ miss. IsOpenBy listing (row_names old.rows) miss.name)) where
   module _ {again : Plan} (begins : BeginsPass listing roots again old new) where
     sound_last : ¬ EndsVoid new.log
     sound_last void =
@@ -123,6 +127,18 @@ module _ {K : Type 0} (world : Rules) (tells : Bool) (shows : K → ShownKeeper)
     logged : row_names new.rows ≡ replay new.log
     logged = holds.rows_replay_the_log.names
 
+    -- a name that is open by the stamps of its path is open by the log
+    still : (name : NameFacts) → IsOpenBy listing (row_names old.rows) name → StillStands listing new.log name
+    still name h =
+        let listed : IsByPath listing =
+        (there (λ (pass : PassFacts). IsPass pass) begun_over holds.each_name_in_one_place).listing.by_path in
+        let by_path : IsByPath (row_names new.rows) = names_by_path new.rows holds.rows_sorted_and_true.ascend in
+        ap (λ (l : List NameFacts). is_in l name) (sym logged)
+        ∙ sym (has_stamp_is_in name (row_names new.rows) by_path)
+        ∙ ap (λ (s : StateFacts K). has_stamp (stamp_at (row_names s.rows) name.path) name.stamp) begins.after
+        ∙ h
+        ∙ ap not (has_stamp_is_in name listing listed)
+
     opened_shows : (end : PassEnd) → EndsOpen world tells shows plan own new end
         → LastShows world listing roots plan met new.log end
     opened_shows (Whole summary) h =
@@ -138,6 +154,7 @@ module _ {K : Type 0} (world : Rules) (tells : Bool) (shows : K → ShownKeeper)
     opened_shows (Missed miss) h = record {
       among = subst (λ (o : Option Miss). IfSome o (λ m. Contains met m)) h among;
       of_pass = subst (λ (o : Option Miss). IfSome o (λ m. IsOfPass listing roots m.name m.cause)) h of_pass;
+      stands = still miss.name (subst (λ (o : Option Miss). IfSome o (λ m. IsOpenBy listing (row_names old.rows) m.name)) h stands);
       sound = sound_last;
     }
     opened_shows LogFull h = record {
@@ -182,9 +199,9 @@ opens_last world tells shows plan own begins KeeperFault ends = absurd ends
 
 -- the log stays
 pub last_goes : {K : Type 0} (world : Rules) (tells : Bool) (shows : K → ShownKeeper) (listing : List NameFacts)
-    (roots : List (List ℕ)) (plan : Plan) (own : Option Miss) {old new : StateFacts K} → old.origin.spared ≡ []
-    → (end : PassEnd) → BeginsLast world tells shows listing roots plan own old new end → GoesOn old new
-last_goes {K} world tells shows listing roots plan own {old} {new} none end = by end
+    (roots : List (List ℕ)) (plan : Plan) (own : Option Miss) {old new : StateFacts K} → old.origin.sparing ≡ None
+    → old.origin.spared ≡ [] → (end : PassEnd) → BeginsLast world tells shows listing roots plan own old new end → GoesOn old new
+last_goes {K} world tells shows listing roots plan own {old} {new} never none end = by end
   where
     same : {Why : Type 0} → Stays Why old new → GoesOn old new
     same h = record {
@@ -193,7 +210,7 @@ last_goes {K} world tells shows listing roots plan own {old} {new} none end = by
     }
 
     opens : {e : PassEnd} → OpensLast world tells shows listing roots plan own old new e → GoesOn old new
-    opens h = begun_goes tells shows listing roots none (begun.Begun h.again) h.begins
+    opens h = begun_goes tells shows listing roots never none (begun.Begun h.again) h.begins
 
     by : (e : PassEnd) → BeginsLast world tells shows listing roots plan own old new e → GoesOn old new
     by KeeperFault h = same h

@@ -1,6 +1,7 @@
 pub mod Loops
 pub mod Moves
 pub mod NameLists
+pub mod Bounding
 pub mod Composed
 pub mod Steps
 pub mod Turning

@@ -8,6 +8,7 @@ use Rattle.row_types.specs.Name.{NameFacts, stamp_at}
 use Rattle.row_types.specs.Row.{RowFacts}
 use Rattle.index_keeper.specs.Keeper.{ShownKeeper}
 use Rattle.index_rows.specs.Rows.{row_names}
+use Rattle.index_state.specs.Bound.{StaysBounded}
 use Rattle.index_state.specs.Judge.{is_under}
 use Rattle.index_state.specs.State.{StateFacts, pass_of}
 use Rattle.scan_queue.specs.Names.{is_in}
@@ -85,6 +86,7 @@ module _ (some more : List Heard) {Failed Fails : Type 0} (among : (h : Heard) �
         (IsMissBy (pass_of old.pass).listing (row_names old.rows) (pass_of old.pass).missed more Fails)
         (miss_as (pass_of old.pass).listing (row_names old.rows) (pass_of old.pass).missed) (pass_of new.pass).missed on.missed;
     todo = on.todo;
+    bounded = on.bounded;
   }
 
 -- the names that were missed before
@@ -150,6 +152,9 @@ advances_then {K} {shows} {xs} {ys} {First} {Second} {Failed} {old} {mid} {new} 
           (pass_of new.pass).missed
           (subst (λ (l : List NameFacts). All (Later l) (pass_of new.pass).missed) listing b.missed);
       todo = λ path. let first = p.todo path in let later = q.todo path in omega (arith, first, later);
+      bounded =
+          let later : StaysBounded (pass_of old.pass).listing mid new = subst (λ (l : List NameFacts). StaysBounded l mid new) listing q.bounded in
+          omega (arith, p.bounded, later);
     }
   where
     brought : (row : RowFacts) → IsBrought mid.rows (xs ++ ys) row → IsBrought old.rows (xs ++ ys) row

@@ -1,5 +1,5 @@
 -- A pass that was begun, and how it ends.
-use Rattle.std.proofs.Common.{◌≡◌, ℕ, ◌<◌, inl, inr, Bool, false, List, [], ◌∷◌, length, Option, Some, None, refl, sym, ap, subst, arith, IsTrue}
+use Rattle.std.proofs.Common.{◌≡◌, ℕ, ◌≤◌, ◌<◌, inl, inr, Bool, false, List, [], ◌∷◌, length, Option, Some, None, refl, sym, ap, subst, arith, IsTrue}
 use Rattle.std.specs.List.{All}
 use Rattle.std.specs.Prelude.{IfSome}
 use Rattle.std.proofs.lemmas.Bool.{true≢false}
@@ -9,7 +9,9 @@ use Rattle.row_types.specs.Name.{NameFacts}
 use Rattle.row_types.specs.Rules.{Rules}
 use Rattle.index_keeper.specs.Keeper.{ShownKeeper}
 use Rattle.index_rows.specs.Rows.{row_names}
+use Rattle.index_state.specs.Bound.{still_open}
 use Rattle.index_state.specs.Complete.{CompletePass, LeavesNone, standing_of}
+use Rattle.index_state.specs.Plan.{most_changes, plan_of}
 use Rattle.index_state.specs.State.{StateFacts, pass_of}
 use Rattle.index_state.specs.Step.{BeginsPass, after_begin}
 use Rattle.index_state.specs.declared.answer.Plan.{Plan}
@@ -48,12 +50,22 @@ module _ {K : Type 0} {listing : List NameFacts} {roots : List (List ℕ)} {plan
   pub fresh_after : IsFresh mid
   fresh_after = subst (λ (s : StateFacts K). IsFresh s) (sym begins.after) fresh_begun
 
+-- what is open as the pass begins is no more than what its plan allows
+pub planned_open : {K : Type 0} {listing : List NameFacts} {roots : List (List ℕ)} {plan : Plan} {old mid : StateFacts K}
+    → BeginsPass listing roots plan old mid
+    → still_open listing (row_names old.rows) ≤ most_changes (plan_of listing (row_names old.rows))
+planned_open {listing = listing} {old = old} begins =
+    subst (λ (p : Plan). still_open listing (row_names old.rows) ≤ most_changes p) begins.planned begins.allowed
+
 -- where there is one hand alone nothing happened before it settles
-helped_alone : {K : Type 0} (listing : List NameFacts) (state : StateFacts K) → IsHelped 1 listing state state
-helped_alone listing state = record {
+helped_alone : {K : Type 0} (listing : List NameFacts) (state : StateFacts K)
+    → still_open listing (row_names state.rows) ≤ most_changes (plan_of listing (row_names state.rows)) → IsHelped 1 listing state state
+helped_alone listing state few = record {
   log = prefix_self state.log;
   stays = λ name listed there. there;
   origin = refl;
+  allowed = few;
+  bounded = omega arith;
   alone = λ one. refl;
 }
 
@@ -66,7 +78,7 @@ pub over_begun : {K T : Type 0} (world : Rules) (told tells : Bool) (shows : K �
 over_begun {K} {T} world told tells shows sees {listing} {roots} before after {plan} {old} {mid} new end begins ends =
     each end (record {
       found = old;
-      helped = helped_alone listing old;
+      helped = helped_alone listing old (planned_open begins);
       begun = subst (λ (p : Plan). EndsBegun world told tells shows p (sees before) (sees after) (after_begin listing roots old) new end)
           begins.planned
           (subst (λ (s : StateFacts K). EndsBegun world told tells shows plan (sees before) (sees after) s new end) begins.after ends);

@@ -1,5 +1,5 @@
 -- A pass whose listing was walked.
-use Rattle.std.proofs.Common.{◌≡◌, ℕ, inl, inr, Bool, true, false, List, [], Option, refl, sym, ◌∙◌, ap, subst, Ok}
+use Rattle.std.proofs.Common.{◌≡◌, ℕ, inl, inr, Bool, true, false, List, [], Option, refl, sym, ◌∙◌, ap, subst, arith, Ok}
 use Rattle.std.specs.List.{All, filter}
 use Rattle.std.proofs.lemmas.List.Elements.{All-append, All-nil, All-weaker}
 use Rattle.row_types.specs.Faults.{Rose}
@@ -91,6 +91,7 @@ module _ {K : Type 0} (world : Rules) (hands_given : ℕ) (old found : StateFact
     over = sym (ap (λ (o : Option PassFacts). (pass_of o).listing) settles.does.pass.is) ∙ same_listing settles.does.pass;
     roots = settles.does.roots;
     origin = settles.does.origin;
+    bounded = settles.does.bounded;
     stays = settles.does.stays;
     goes = settles.does.goes;
     comes = settles.does.comes;
@@ -112,6 +113,7 @@ module _ {K : Type 0} (world : Rules) (hands_given : ℕ) (old found : StateFact
     helped = helped;
     hears = heard_pass;
     leaves = left_index;
+    bounded = omega (arith, helped.allowed, helped.bounded, settles.does.bounded);
     ends = ends;
   }
 
@@ -143,6 +145,7 @@ ends_walked {K} {T} world told tells shows sees count roots before met after old
       over = refl;
       walks = subst (λ (t : T). Walks told (sees before) (sees t) roots (Ok walk)) (sym h.hand) walks;
       helped = h.helped;
+      bounded = omega (arith, h.helped.allowed, h.helped.bounded);
       ends = h.ends;
     }
 

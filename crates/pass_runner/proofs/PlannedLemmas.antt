@@ -59,7 +59,8 @@ settles_last world {listing} {roots} {plan} {seat} {mid} log {before} {after} {m
     by : (e : PassEnd) → LastShows world listing roots plan met log e
         → EndsPlanned world listing roots plan seat.seen log led.more Failed e
     by (Whole summary) h = h
-    by (Missed miss) h = record { why = own_met miss h.among; of_pass = h.of_pass; sound = h.sound }
+    by (Missed miss) h =
+        record { why = own_met miss h.among; of_pass = h.of_pass; stands = h.stands; sound = h.sound }
     by (Walk fault) h = absurd h
     by Broken h = absurd h
     by KeeperFault h = h
@@ -120,6 +121,7 @@ leads_planned world {listing} {roots} {plan} brought first mid last {before} {af
           met_as mid last brought last settled.more settled.more to_mid (prefix_self last) (λ x there. there) (λ f. f)
           miss.name miss.cause h.why;
       of_pass = h.of_pass;
+      stands = h.stands;
       sound = h.sound;
     }
     by (Walk fault) h = absurd h
@@ -150,3 +152,15 @@ pub leads_early : {told : Bool} (world : Rules) (listing : List NameFacts) (root
     → LeadsPass world told listing roots brought log hand hand end
 leads_early world listing roots brought log end ends =
     record { more = []; listens = listens_none; asks = All-nil (IsSparing []); ends = ends }
+
+-- a pass that was begun doesn't end as one that could not be
+pub settled_sound : {told : Bool} (world : Rules) {listing : List NameFacts} {roots : List (List ℕ)} {plan : Plan}
+    {brought log : List Change} {before after : ShownTree} (end : PassEnd)
+    → SettlesLast world told listing roots plan brought log before after end → end ≡ Broken → ⊥
+settled_sound world Broken h is = h.ends
+settled_sound world (Whole summary) h is = cc
+settled_sound world (Missed miss) h is = cc
+settled_sound world (Walk fault) h is = h.ends
+settled_sound world KeeperFault h is = cc
+settled_sound world LogFull h is = cc
+settled_sound world OutOfMemory h is = cc

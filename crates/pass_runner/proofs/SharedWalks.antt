@@ -78,6 +78,7 @@ ends_late world listing roots brought log more so (Missed miss) h = record {
       met_as brought log brought log more more (prefix_self brought) (prefix_self log) (λ x there. there) so
       miss.name miss.cause h.why;
   of_pass = h.of_pass;
+  stands = h.stands;
   sound = h.sound;
 }
 ends_late world listing roots brought log more so (Walk fault) h = h
@@ -151,7 +152,7 @@ module _ (world : Rules) {told : Bool} {roots : List (List ℕ)} (brought log : 
           never_other (hears_shared led.more led.listens led.asks) free.still miss.name seen listed why
       none_missed Appeared why stray =
           never_there (hears_shared led.more led.listens led.asks) free.still miss.name stray why
-  done_shared Broken led free = led.ends
+  done_shared Broken led free = led.ends.void
   done_shared KeeperFault led free = led.ends.void
   done_shared LogFull led free =
       let full = led.ends.full in let room = free.room in absurd (omega (arith, full, room))

@@ -4,6 +4,7 @@ use Rattle.std.specs.List.{All, Contains, filter}
 use Rattle.std.specs.Option.{option_map}
 use Rattle.std.specs.Prelude.{IfSome}
 use Rattle.std.proofs.lemmas.Bool.{and_parts, true≢false}
+use Rattle.std.proofs.lemmas.List.{length_push}
 use Rattle.std.proofs.lemmas.List.Elements.{All-nil, All-contains_itself, All-filter, All-weaker, Contains-append_cases, Contains-append_left, Contains-append_right, Contains-push_cases}
 use Rattle.row_types.specs.Name.{NameFacts, same_name}
 use Rattle.row_types.specs.Row.{RowFacts}
@@ -19,11 +20,14 @@ use Rattle.scan_queue.specs.declared.miss.Miss.{Miss}
 use Rattle.scan_queue.specs.declared.miss.Seen.{Seen}
 use Rattle.scan_queue.specs.declared.miss.Seen.TheVariants as seen
 use Rattle.scan_queue.proofs.NameTests.{same_stamp-Decides}
+use Rattle.index_rows.specs.Log.{drop_of, put_of}
 use Rattle.index_state.specs.Away.{MissesOut}
+use Rattle.index_state.specs.Bound.{StaysBounded}
 use Rattle.index_state.specs.Invariant.{IndexInvariant}
 use Rattle.index_state.specs.Judge.{IsGone, IsLeftOver, Removes, is_file, is_kept, is_strange, is_under}
 use Rattle.index_state.specs.State.{StateFacts, pass_of}
 use Rattle.index_state.specs.Step.{IsAwaited, Stores}
+use Rattle.index_state.proofs.Bounds.{drop_open, put_open}
 use Rattle.index_state.proofs.Keeps.{there}
 use Rattle.tree_trait.specs.Heard.{Heard, stat}
 use Rattle.tree_trait.specs.declared.stat.StatAnswer.{StatAnswer}
@@ -32,6 +36,7 @@ use Rattle.pass_runner.specs.Ends.{IsOver}
 use Rattle.pass_runner.specs.Settled.{IsBacked, IsBrought, IsMissBy, IsMissing, IsPassOn, IsReadOf, IsSeenGone, times_named}
 use Rattle.pass_runner.specs.Turns.{Advances, HasSeen, looked_of}
 use Rattle.pass_runner.specs.declared.look_for.Looked.TheVariants as looked
+use Rattle.pass_runner.proofs.Bounding.{bounded_same}
 use Rattle.pass_runner.proofs.Loads.{same_names, same_todo, times_left}
 use Rattle.pass_runner.proofs.Moves.{still_brought, still_missed}
 use Rattle.pass_runner.proofs.NameLists.{drop_comes, drop_goes, drop_stays, put_comes, put_goes, put_stays}
@@ -84,8 +89,9 @@ module _ {K : Type 0} {shows : K → ShownKeeper} {old new : StateFacts K} where
   -- nothing but the keeper changed
   pub same_on : {F : Type 0} {answers : List Heard} → IsPassOn old.pass old.pass
       → (shows old.keeper).faults ≤ (shows new.keeper).faults → new.pass ≡ old.pass → new.rows ≡ old.rows
-      → new.roots ≡ old.roots → new.origin ≡ old.origin → Advances shows answers F old new
-  same_on {F} {answers} opened keeper pass rows roots origin = record {
+      → new.roots ≡ old.roots → new.origin ≡ old.origin → StaysBounded (pass_of old.pass).listing old new
+      → Advances shows answers F old new
+  same_on {F} {answers} opened keeper pass rows roots origin bounded = record {
     keeper = keeper;
     pass = subst (λ (o : Option PassFacts). IsPassOn old.pass o) (sym pass) opened;
     roots = roots;
@@ -100,6 +106,7 @@ module _ {K : Type 0} {shows : K → ShownKeeper} {old new : StateFacts K} where
         subst (λ (o : Option PassFacts). All (IsMissBy (pass_of old.pass).listing (row_names old.rows) (pass_of old.pass).missed answers F) (pass_of o).missed)
         (sym pass) (still_missed (pass_of old.pass).listing (row_names old.rows) (pass_of old.pass).missed answers F);
     todo = same_todo pass;
+    bounded = bounded;
   }
 
   -- the pass alone changed, and no name was missed
@@ -124,6 +131,9 @@ module _ {K : Type 0} {shows : K → ShownKeeper} {old new : StateFacts K} where
         subst (λ (ms : List Miss). All (IsMissBy (pass_of old.pass).listing (row_names old.rows) (pass_of old.pass).missed answers F) ms) (sym missed)
         (still_missed (pass_of old.pass).listing (row_names old.rows) (pass_of old.pass).missed answers F);
     todo = todo;
+    bounded =
+        bounded_same old new (pass_of old.pass).listing (ap (λ (s : StateFacts K). s.log) same) (ap (λ (s : StateFacts K). s.rows) same)
+        (ap (λ (s : StateFacts K). s.broken) same);
   }
 
   -- a name whose row stands no more, or by another stamp, left
@@ -141,6 +151,7 @@ module _ {K : Type 0} {shows : K → ShownKeeper} {old new : StateFacts K} where
         brings = still_brought old.rows answers;
         missed = left_missed name old.pass (row_names old.rows) answers F;
         todo = times_left name old.pass;
+        bounded = omega arith;
       })
 
   -- the row of a listed name was put
@@ -163,6 +174,9 @@ module _ {K : Type 0} {shows : K → ShownKeeper} {old new : StateFacts K} where
         brings = put_holds (IsBrought old.rows answers) row_path row old.rows (still_brought old.rows answers) (inr read);
         missed = left_missed row.name old.pass (row_names old.rows) answers F;
         todo = times_left row.name old.pass;
+        bounded =
+            let less = put_open old.rows row (pass_of old.pass).listing by_path awaited.listed awaited.absent in
+            omega (arith, less, length_push old.log (put_of row.name));
       })
 
 -- what was seen shows that the file is gone
@@ -276,6 +290,9 @@ module _ {K : Type 0} {shows : K → ShownKeeper} {old new : StateFacts K} where
             same_names
             (ap (λ (o : Option PassFacts). (pass_of o).todo) misses.missed.is ∙ ap (λ (p : PassFacts). p.todo) misses.missed.step.same
             ∙ ap (λ (o : Option PassFacts). (pass_of o).todo) (sym misses.missed.was));
+        bounded =
+            bounded_same old new (pass_of old.pass).listing (ap (λ (s : StateFacts K). s.log) same) (ap (λ (s : StateFacts K). s.rows) same)
+            (ap (λ (s : StateFacts K). s.broken) same);
       }
   missed_on {F} {answers} false opened misses why =
       pass_on (subst (λ (o : Option PassFacts). IsPassOn old.pass o) (sym misses.missed.same) opened)
@@ -308,6 +325,10 @@ module _ {K : Type 0} {shows : K → ShownKeeper} {old new : StateFacts K} where
             (still_brought old.rows answers);
         missed = left_missed name old.pass (row_names old.rows) answers F;
         todo = times_left name old.pass;
+        bounded =
+            let less =
+            drop_open name old.rows old.log (pass_of old.pass).listing ascend left_over.stands holds.rows_replay_the_log.names unlisted in
+            omega (arith, less, length_push old.log (drop_of name));
       })
 
 module _ {K : Type 0} {old new : StateFacts K} where

@@ -7,6 +7,7 @@ use Rattle.row_types.specs.Faults.{Rose}
 use Rattle.row_types.specs.Name.{NameFacts}
 use Rattle.row_types.specs.Row.{RowFacts}
 use Rattle.index_keeper.specs.Keeper.{ShownKeeper}
+use Rattle.index_rows.specs.Log.{drop_of, put_of}
 use Rattle.index_rows.specs.Rows.{row_names}
 use Rattle.scan_queue.specs.Names.{is_in}
 use Rattle.scan_queue.specs.declared.miss.Cause.{Cause}
@@ -34,6 +35,7 @@ use Rattle.pass_runner.specs.Ends.{IsOutOfRoom, TurnsBy}
 use Rattle.pass_runner.specs.Settled.{IsBacked, IsPassOn, IsReadOf, IsWanted, times_loaded, times_named}
 use Rattle.pass_runner.specs.Turns.{Advances, HasSeen, IsLookUnder, JudgesLeft, Looks, LooksTo, PublishesNew, TurnsOver, after_judged, looked_of}
 use Rattle.pass_runner.specs.declared.look_for.Looked.TheVariants as looked
+use Rattle.pass_runner.proofs.Bounding.{bounded_same, bounded_void}
 use Rattle.pass_runner.proofs.Loads.{loads_heard, loads_looks}
 use Rattle.tree_trait.proofs.ListenLemmas.{all_heard, is_heard, listens_none, listens_one}
 use Rattle.pass_runner.proofs.NameLists.{stamp_listed}
@@ -57,15 +59,21 @@ module _ {K : Type 0} (tells : Bool) (shows : K → ShownKeeper) (old new : Stat
       same_on (listed_open old.pass row.name awaited.listed) h.keeper.asked.cause.later
       (ap (λ (s : StateFacts K). s.pass) h.after) (ap (λ (s : StateFacts K). s.rows) h.after)
       (ap (λ (s : StateFacts K). s.roots) h.after) (ap (λ (s : StateFacts K). s.origin) h.after)
+      (bounded_void old new (pass_of old.pass).listing (drop_of row.name) h.can.sound (ap (λ (s : StateFacts K). s.log) h.after)
+      (ap (λ (s : StateFacts K). s.rows) h.after) (ap (λ (s : StateFacts K). s.broken) h.after))
   published_on row (Some LogFull) holds read awaited h =
       same_on (listed_open old.pass row.name awaited.listed)
       (let e = ap (λ (s : StateFacts K). (shows s.keeper).faults) h.same in omega (arith, e))
       (ap (λ (s : StateFacts K). s.pass) h.same) (ap (λ (s : StateFacts K). s.rows) h.same)
       (ap (λ (s : StateFacts K). s.roots) h.same) (ap (λ (s : StateFacts K). s.origin) h.same)
+      (bounded_same old new (pass_of old.pass).listing (ap (λ (s : StateFacts K). s.log) h.same) (ap (λ (s : StateFacts K). s.rows) h.same)
+      (ap (λ (s : StateFacts K). s.broken) h.same))
   published_on row (Some OutOfMemory) holds read awaited h =
       same_on (listed_open old.pass row.name awaited.listed) (let e = h.keeper.faultless in omega (arith, e))
       (ap (λ (s : StateFacts K). s.pass) h.same) (ap (λ (s : StateFacts K). s.rows) h.same)
       (ap (λ (s : StateFacts K). s.roots) h.same) (ap (λ (s : StateFacts K). s.origin) h.same)
+      (bounded_same old new (pass_of old.pass).listing (ap (λ (s : StateFacts K). s.log) h.same) (ap (λ (s : StateFacts K). s.rows) h.same)
+      (ap (λ (s : StateFacts K). s.broken) h.same))
   published_on row (Some _) holds read awaited h = absurd h
 
   published_ends : (row : RowFacts) (end : Option WorkEnd) → old.broken ≡ false → IsAwaited row.name old
@@ -110,14 +118,20 @@ module _ {K : Type 0} (tells : Bool) (shows : K → ShownKeeper) (old new : Stat
         (let e = ap (λ (s : StateFacts K). (shows s.keeper).faults) h.drops.same in omega (arith, e))
         (ap (λ (s : StateFacts K). s.pass) h.drops.same) (ap (λ (s : StateFacts K). s.rows) h.drops.same)
         (ap (λ (s : StateFacts K). s.roots) h.drops.same) (ap (λ (s : StateFacts K). s.origin) h.drops.same)
+        (bounded_same old new (pass_of old.pass).listing (ap (λ (s : StateFacts K). s.log) h.drops.same)
+        (ap (λ (s : StateFacts K). s.rows) h.drops.same) (ap (λ (s : StateFacts K). s.broken) h.drops.same))
     judged_on judged.OutOfMemory holds sees h =
         same_on (out_open old.pass name out) (let e = h.drops.keeper.faultless in omega (arith, e))
         (ap (λ (s : StateFacts K). s.pass) h.drops.same) (ap (λ (s : StateFacts K). s.rows) h.drops.same)
         (ap (λ (s : StateFacts K). s.roots) h.drops.same) (ap (λ (s : StateFacts K). s.origin) h.drops.same)
+        (bounded_same old new (pass_of old.pass).listing (ap (λ (s : StateFacts K). s.log) h.drops.same)
+        (ap (λ (s : StateFacts K). s.rows) h.drops.same) (ap (λ (s : StateFacts K). s.broken) h.drops.same))
     judged_on judged.KeeperFault holds sees h =
         same_on (out_open old.pass name out) h.drops.keeper.cause.later
         (ap (λ (s : StateFacts K). s.pass) h.drops.after) (ap (λ (s : StateFacts K). s.rows) h.drops.after)
         (ap (λ (s : StateFacts K). s.roots) h.drops.after) (ap (λ (s : StateFacts K). s.origin) h.drops.after)
+        (bounded_void old new (pass_of old.pass).listing (put_of name) sound (ap (λ (s : StateFacts K). s.log) h.drops.after)
+        (ap (λ (s : StateFacts K). s.rows) h.drops.after) (ap (λ (s : StateFacts K). s.broken) h.drops.after))
     judged_on judged.Dropped holds sees h = removed_on holds (out_open old.pass name out) sees h.gone h.drops
 
     judged_ends : (answer : Judged) → Judges tells shows name met old answer new → TurnsBy name old new (after_judged answer)
@@ -320,7 +334,7 @@ module _ {K : Type 0} {told : Bool} {version : Versions} {shows : K → ShownKee
       → ((path : List ℕ) → times_loaded answers path ≤ times_named reads path)
       → TurnsOver told version shows reads name before after state state (Some OutOfMemory)
   wanting reads opened sound listens wanted loads = record {
-    settles = settles_by listens wanted (same_on opened (omega arith) refl refl refl refl);
+    settles = settles_by listens wanted (same_on opened (omega arith) refl refl refl refl (omega arith));
     loads = loads;
     ends = sound;
     keeper = record { later = omega arith; rose = λ is. absurd (cc) };

@@ -1,7 +1,7 @@
 -- What the hand that leads a pass does over a shared index (this crate's bookkeeping, which no public clause cites).
-use Rattle.std.specs.Prelude.{◌≡◌, ◌⊎◌, ℕ, ◌+◌, ◌==◌, ◌&&◌, Bool, true, false, List, [], ◌∷◌, ◌++◌, All, Contains, length, Option, Some}
+use Rattle.std.specs.Prelude.{◌≡◌, ◌⊎◌, ℕ, ◌+◌, ◌==◌, ◌&&◌, Bool, true, false, not, List, [], ◌∷◌, ◌++◌, All, Contains, length, Option, Some}
 use Rattle.row_types.specs.Faults.{Rose}
-use Rattle.row_types.specs.Name.{NameFacts}
+use Rattle.row_types.specs.Name.{NameFacts, stamp_at}
 use Rattle.row_types.specs.Row.{RowFacts}
 use Rattle.row_types.specs.Rules.{Rules}
 use Rattle.index_lock.specs.Tokens.{IsLater, SeatFacts}
@@ -10,7 +10,7 @@ use Rattle.index_keeper.specs.Keeper.{ShownKeeper}
 use Rattle.index_rows.specs.declared.change.Change.{Change}
 use Rattle.index_rows.specs.declared.rows.TheConstants.{LOG_LIMIT}
 use Rattle.index_state.specs.Changes.{EachChanges, EndsVoid}
-use Rattle.index_state.specs.Plan.{plan_of}
+use Rattle.index_state.specs.Plan.{has_stamp, plan_of}
 use Rattle.index_state.specs.Complete.{CompletePass, standing_of}
 use Rattle.index_state.specs.State.{Origin, StateFacts, pass_of}
 use Rattle.index_state.specs.Step.{BeginsPass, Stays}
@@ -29,7 +29,7 @@ use Rattle.tree_trait.specs.Listens.{Listens}
 use Rattle.tree_trait.specs.Shown.{ShownTree}
 use Rattle.pass_runner.specs.Helped.{IsSparing}
 use Rattle.pass_runner.specs.Numbers.{summary_of}
-use Rattle.pass_runner.specs.SharedPass.{AreRowsOf, EndsListed, HasNoRoom, IsMet, IsOfPass, IsOwnMiss}
+use Rattle.pass_runner.specs.SharedPass.{AreRowsOf, EndsListed, HasNoRoom, IsMet, IsOfPass, IsOwnMiss, StillStands}
 use Rattle.pass_runner.specs.declared.pass_end.PassEnd.{PassEnd}
 use Rattle.pass_runner.specs.declared.pass_end.PassEnd.TheVariants.{Whole, Missed, Walk as Unwalked, Broken}
 use Rattle.pass_runner.specs.declared.pass_end.PassEnd.TheVariants.{KeeperFault, LogFull, OutOfMemory}
@@ -85,10 +85,16 @@ pub record IsAllDone (world : Rules) (listing : List NameFacts) (plan : Plan) (l
   pub stand : AreRowsOf world listing rows
   pub numbers : summary ≡ summary_of plan rows
 
--- the miss is one of these, and one of the pass
+-- by the stamps of its path, the name is listed and has no row, or has a row and isn't listed
+abbrev pub IsOpenBy : List NameFacts → List NameFacts → NameFacts → Type 0
+IsOpenBy listing names name =
+    has_stamp (stamp_at names name.path) name.stamp ≡ not (has_stamp (stamp_at listing name.path) name.stamp)
+
+-- the miss is one of these, one of the pass, and still open
 pub record IsOneOf (listing : List NameFacts) (roots : List (List ℕ)) (met : List Miss) (log : List Change) (miss : Miss) : Type 0 where
   pub among : Contains met miss
   pub of_pass : IsOfPass listing roots miss.name miss.cause
+  pub stands : StillStands listing log miss.name
   pub sound : ¬ EndsVoid log
 
 -- what the last hold of a pass shows

@@ -12,9 +12,10 @@ use Rattle.row_types.specs.Rules.{Rules}
 use Rattle.index_keeper.specs.Keeper.{ShownKeeper}
 use Rattle.index_rows.specs.Rows.{row_names}
 use Rattle.index_state.specs.Complete.{CompletePass}
-use Rattle.index_state.specs.Plan.{plan_of}
+use Rattle.index_state.specs.Bound.{IsWithinPlan, StaysBounded, still_open}
+use Rattle.index_state.specs.Plan.{most_changes, plan_of}
 use Rattle.index_state.specs.declared.answer.Plan.{Plan}
-use Rattle.index_state.specs.State.{StateFacts, pass_of}
+use Rattle.index_state.specs.State.{StateFacts, pass_of, unspared}
 use Rattle.scan_queue.specs.Names.{is_in}
 use Rattle.scan_queue.specs.Pass.{IsWhole, PassFacts, first_missed}
 use Rattle.scan_queue.specs.declared.miss.Cause.{Cause}
@@ -62,14 +63,15 @@ pub record HearsPass (told : Bool) (version : Versions) (roots : List (List ℕ)
 -- what the pass left of the index, however it ended: a pass over the listing is open; no row of a listed name went; a row
 -- whose path isn't listed and lies under a root went only where a look did not find its file; a row that came is of a
 -- listed name; a row that wasn't there says what a load found; a name is missed only for a reason; no name is skipped, and
--- else the origin is as it was
+-- else the origin is as it was; and the log did not grow more than what is open became less, but for a void change
 pub record LeavesIndex {K : Type 0} (folders : List (List ℕ)) (listing : List NameFacts) (more : List Heard)
     (Failed : Type 0) (old new : StateFacts K) : Type 0 where
   pub pass : PassFacts
   pub is_open : new.pass ≡ Some pass
   pub over : pass.listing ≡ listing
   pub roots : new.roots ≡ folders
-  pub origin : new.origin ≡ record old.origin { spared = [] }
+  pub origin : new.origin ≡ unspared old.origin
+  pub bounded : StaysBounded listing old new
   pub stays : (name : NameFacts) → is_in listing name ≡ true
       → is_in (row_names old.rows) name ≡ true → is_in (row_names new.rows) name ≡ true
   pub goes : (name : NameFacts) → is_in (row_names old.rows) name ≡ true
@@ -80,17 +82,20 @@ pub record LeavesIndex {K : Type 0} (folders : List (List ℕ)) (listing : List 
   pub missed : All (λ miss. IsBacked listing (row_names old.rows) more Failed miss.name miss.cause) pass.missed
 
 -- what the other hands left of an index over which a pass had begun: its log goes on from the one before, no row of a
--- listed name went, and but for the names that were skipped it has the same origin; where there is one hand alone, nothing
--- happened
+-- listed name went, and but for the names that were skipped it has the same origin; the log did not grow more than what is
+-- open became less, but for a void change, and what was open is no more than what the plan allows; where there is one hand
+-- alone, nothing happened
 pub record IsHelped {K : Type 0} (hands : ℕ) (listing : List NameFacts) (old found : StateFacts K) : Type 0 where
   pub log : IsPrefix old.log found.log
   pub stays : (name : NameFacts) → is_in listing name ≡ true
       → is_in (row_names old.rows) name ≡ true → is_in (row_names found.rows) name ≡ true
-  pub origin : record found.origin { spared = [] } ≡ record old.origin { spared = [] }
+  pub origin : unspared found.origin ≡ unspared old.origin
+  pub allowed : still_open listing (row_names old.rows) ≤ most_changes (plan_of listing (row_names old.rows))
+  pub bounded : StaysBounded listing old found
   pub alone : hands ≤ 1 → found ≡ old
 
 -- the roots were walked, a pass over what was listed began, the other hands helped, the first one settled what was left,
--- and this came of it
+-- and this came of it; the log grew by no more than its plan allows, but for a void change
 pub record RunsPass {K : Type 0} (world : Rules) (told : Bool) (hands : ℕ) (roots : List (List ℕ))
     (listing : List NameFacts) (before after : ShownTree) (old new : StateFacts K)
     (Ends : StateFacts K → List Heard → Type 0) : Type 0 where
@@ -102,6 +107,7 @@ pub record RunsPass {K : Type 0} (world : Rules) (told : Bool) (hands : ℕ) (ro
   pub helped : IsHelped hands listing old found
   pub hears : HearsPass told world.version roots (row_names found.rows) walk walked more before after
   pub leaves : LeavesIndex roots listing more (Rose before.faults after.faults) found new
+  pub bounded : IsWithinPlan listing old new
   pub ends : Ends found more
 
 -- the roots could not be walked: nothing was loaded, and the index stays as it is
@@ -127,13 +133,15 @@ pub record HasMissed {K : Type 0} (miss : Miss) (Failed : Type 0) (listing : Lis
   pub why : IsBacked listing (row_names found.rows) more Failed miss.name miss.cause
   pub sound : new.broken ≡ false
 
--- the pass ended while, or as soon as, the other hands had helped: the first hand heard the walk alone
+-- the pass ended while, or as soon as, the other hands had helped: the first hand heard the walk alone, and the log grew by
+-- no more than the plan allows, but for a void change
 pub record EndsHelped {K : Type 0} (told : Bool) (hands : ℕ) (roots : List (List ℕ)) (listing : List NameFacts)
     (before after : ShownTree) (old new : StateFacts K) (Ends : Type 0) : Type 0 where
   pub walk : Walk
   pub over : walk.listing ≡ listing
   pub walks : Walks told before after roots (Ok walk)
   pub helped : IsHelped hands listing old new
+  pub bounded : IsWithinPlan listing old new
   pub ends : Ends
 
 -- memory was refused before the pass began: nothing was loaded, and the index stays as it is
@@ -181,6 +189,12 @@ is_hand_fault _ = false
 abbrev pub is_unwalked : PassEnd → Bool
 is_unwalked (Unwalked fault) = true
 is_unwalked _ = false
+
+-- whether no pass began: the roots could not be walked, or the index was broken already
+abbrev pub is_unbegun : PassEnd → Bool
+is_unbegun (Unwalked fault) = true
+is_unbegun Broken = true
+is_unbegun _ = false
 
 -- how many loads a hand that tells heard
 abbrev pub loads_told : Option (List Heard) → ℕ

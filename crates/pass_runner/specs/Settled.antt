@@ -10,6 +10,7 @@ use Rattle.row_types.specs.Stamp.{StampFacts}
 use Rattle.row_types.specs.declared.limits.TheConstants.{FILE_LIMIT}
 use Rattle.index_keeper.specs.Keeper.{ShownKeeper}
 use Rattle.index_rows.specs.Rows.{row_names}
+use Rattle.index_state.specs.Bound.{StaysBounded}
 use Rattle.index_state.specs.Judge.{is_under}
 use Rattle.index_state.specs.State.{StateFacts, pass_of}
 use Rattle.scan_queue.specs.Names.{is_in}
@@ -119,7 +120,8 @@ pub record IsPassOn (old new : Option PassFacts) : Type 0 where
 -- what the settling did from one moment to a later one: nothing else was heard; the pass goes on, over the same listing
 -- and roots; no row of a listed name went; a row whose path isn't listed and lies under a root went only where a look
 -- did not find its file; a row that came is of a listed name; a row that wasn't there says what a load found; a name is
--- missed only for a reason; and no name came to be read
+-- missed only for a reason; no name came to be read; and the log did not grow more than what is open became less, but for
+-- a void change
 pub record Proceeds {K : Type 0} (told : Bool) (version : Versions) (shows : K → ShownKeeper)
     (before after : ShownTree) (old new : StateFacts K) : Type 0 where
   pub answers : List Heard
@@ -144,6 +146,7 @@ pub record Proceeds {K : Type 0} (told : Bool) (version : Versions) (shows : K �
       (Rose before.faults after.faults)) (pass_of new.pass).missed
   pub todo : (path : List ℕ)
       → times_named (pass_of new.pass).todo path ≤ times_named (pass_of old.pass).todo path
+  pub bounded : StaysBounded (pass_of old.pass).listing old new
 
 -- and no path was loaded twice
 pub record Settles {K : Type 0} (told : Bool) (version : Versions) (shows : K → ShownKeeper)

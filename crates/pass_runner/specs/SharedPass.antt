@@ -2,7 +2,7 @@
 -- brought and of the one that came back. The first hand walks the roots; a pass over the walk listing begins; the other
 -- hands help; the first one tries again what is left, and decides alone. Whole: the log that came back leaves the walk
 -- listing, and the numbers are those of its plan against the rows of a log between the two.
-use Rattle.std.specs.Prelude.{◌≡◌, ◌≢◌, ℕ, ◌+◌, ◌<◌, ◌≤◌, Bool, true, List, [], ◌++◌, All, Contains, length, Some, None, Err}
+use Rattle.std.specs.Prelude.{◌≡◌, ◌≢◌, ℕ, ◌+◌, ◌<◌, ◌≤◌, Bool, true, not, List, [], ◌++◌, All, Contains, length, Some, None, Err}
 use mathlib.Core.List.{IsPrefix}
 use Rattle.row_types.specs.Faults.{Rose}
 use Rattle.row_types.specs.Name.{NameFacts, stamp_at}
@@ -113,17 +113,29 @@ IsOfPass listing roots name ReadFault = Unit {0}
 IsOfPass listing roots name (Altered met) = stamp_at listing name.path ≡ Some name.stamp
 IsOfPass listing roots name Appeared = IsStray listing roots name.path
 
--- the first hand missed the name itself, by this cause, and the log that came back doesn't end in a void change
+-- the name is still open by the log: it is listed and has no row, or has a row and isn't listed
+abbrev pub StillStands : List NameFacts → List Change → NameFacts → Type 0
+StillStands listing log name = is_in (replay log) name ≡ not (is_in listing name)
+
+-- the first hand missed the name itself, by this cause; it is still open by the log that came back, which doesn't end in a
+-- void change
 pub record IsOwnMiss (listing : List NameFacts) (roots : List (List ℕ)) (brought log : List Change) (answers : List Heard)
     (Failed : Type 0) (miss : Miss) : Type 0 where
   pub why : IsMet brought log answers Failed miss.name miss.cause
   pub of_pass : IsOfPass listing roots miss.name miss.cause
+  pub stands : StillStands listing log miss.name
   pub sound : ¬ EndsVoid log
 
 -- the log that came back ends in a void change, which the one that was brought didn't have
 pub record BreaksSince (brought log : List Change) : Type 0 where
   pub void : EndsVoid log
   pub since : length brought < length log
+
+-- the index was broken as the pass would begin: the log that came back ends in a void change, and nothing was heard behind
+-- the walk
+pub record IsBrokenAtOnce (log : List Change) (answers : List Heard) : Type 0 where
+  pub void : EndsVoid log
+  pub none : answers ≡ []
 
 -- the log that came back has its limit, doesn't leave the listing, and doesn't end in a void change
 pub record HasNoRoom (listing : List NameFacts) (log : List Change) : Type 0 where
@@ -138,7 +150,7 @@ EndsListed world listing roots brought log answers Failed (Whole summary) = IsOn
 EndsListed world listing roots brought log answers Failed (Missed miss) =
     IsOwnMiss listing roots brought log answers Failed miss
 EndsListed world listing roots brought log answers Failed (Unwalked fault) = ⊥
-EndsListed world listing roots brought log answers Failed Broken = EndsVoid log
+EndsListed world listing roots brought log answers Failed Broken = IsBrokenAtOnce log answers
 EndsListed world listing roots brought log answers Failed KeeperFault = BreaksSince brought log
 EndsListed world listing roots brought log answers Failed LogFull = HasNoRoom listing log
 EndsListed world listing roots brought log answers Failed OutOfMemory = Unit {0}

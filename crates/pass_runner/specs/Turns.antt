@@ -5,6 +5,7 @@ use Rattle.row_types.specs.Name.{NameFacts}
 use Rattle.row_types.specs.Row.{RowFacts}
 use Rattle.index_keeper.specs.Keeper.{ShownKeeper}
 use Rattle.index_rows.specs.Rows.{row_names}
+use Rattle.index_state.specs.Bound.{StaysBounded}
 use Rattle.index_state.specs.Judge.{is_under}
 use Rattle.index_state.specs.State.{StateFacts, pass_of}
 use Rattle.index_state.specs.Step.{Breaks, FindsNoMemory, IsShut, Judges, Stays, Stores}
@@ -44,6 +45,7 @@ pub record Advances {K : Type 0} (shows : K → ShownKeeper) (answers : List Hea
   pub missed : All (IsMissBy (pass_of old.pass).listing (row_names old.rows) (pass_of old.pass).missed answers Failed) (pass_of new.pass).missed
   pub todo : (path : List ℕ)
       → times_named (pass_of new.pass).todo path ≤ times_named (pass_of old.pass).todo path
+  pub bounded : StaysBounded (pass_of old.pass).listing old new
 
 -- what became of a name that was handed out, and how the settling goes on; no more was loaded than these names, each once
 pub record TurnsOver {K : Type 0} (told : Bool) (version : Versions) (shows : K → ShownKeeper) (reads : List NameFacts)

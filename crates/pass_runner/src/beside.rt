@@ -163,6 +163,7 @@ fn scan_parts<
     match state.begin(alloc, listing, roots) {
         Begun::Begun(plan) => {
             state.spare();
+            let _rows = state.rows();
             match run_shared(rt, alloc, state, helpers, (slots, back), reader, gate) {
                 Ok((mut state, helpers)) => {
                     show_index(&state);

@@ -1,6 +1,6 @@
 //! A pass over a listing, with an index that is shared.
 
-ghost use Rattle.std.specs.Prelude.{◌≡◌, ◌⊎◌, ◌<◌, ◌≤◌, [], vec_capacity, vec_len, IsTrue};
+ghost use Rattle.std.specs.Prelude.{◌≡◌, ◌⊎◌, ◌<◌, ◌≤◌, [], drop, vec_capacity, vec_len, IsTrue, None};
 ghost use Rattle.std.specs.List.{AllZip};
 ghost use Rattle.row_types.specs.Rules.{rules};
 ghost use Rattle.index_lock.specs.Tokens.{IsLater};
@@ -48,7 +48,7 @@ pub(crate) fn pass_listed<
 ) -> (Seat<State<W, K>>, Vec<T>, PassEnd)
     requires lock { seat.lock ≡ lock.now }
     requires hand { 0 < vec_len hands }
-    requires spared { seat.origin.spared ≡ [] }
+    requires spared { seat.origin.sparing ≡ None }
     ensures later { IsLater seat result.0 }
     ensures over { HandsGo
         (λ hand later. LeadsPass (rules W.version W.true_row W.told) T.told listing roots.now
@@ -60,6 +60,7 @@ pub(crate) fn pass_listed<
         ⊥ (IsTrue (is_hand_fault result.2)))
         (λ hand later. HandsOn T.told W.version (T.shows hand) (T.shows later) ⊥ ⊥)
         hands.items result.1.items }
+    ensures idle { result.2 ≡ PassEnd.Broken → drop 1 result.1.items ≡ drop 1 hands.items }
 {
     let Ok(needs) = needs_of(alloc, &listing, roots, hands.len()) else {
         return (seat, hands, PassEnd::OutOfMemory);
@@ -103,7 +104,7 @@ fn pass_parts<
     gate: &G,
 ) -> (Seat<State<W, K>>, T, Vec<Helper<T>>, PassEnd)
     requires lock { seat.lock ≡ lock.now }
-    requires spared { seat.origin.spared ≡ [] }
+    requires spared { seat.origin.sparing ≡ None }
     requires again { (needs.roots_again.items ≡ needs.roots.items)
         × (needs.listing_again ≡ listing) }
     requires none { (needs.slots.items ≡ []) × (needs.back.items ≡ []) }
@@ -116,6 +117,7 @@ fn pass_parts<
         (λ place. place.asked) T.told W.version []) helpers.items result.2.items
         ⊎ (result.2.items ≡ helpers.items) }
     ensures count { vec_len result.2 ≡ vec_len helpers }
+    ensures idle { result.3 ≡ PassEnd.Broken → result.2.items ≡ helpers.items }
 {
     let Needs {
         roots,
@@ -161,7 +163,7 @@ fn settle_last<W: Truth, K: Keeper<W>, T: Tree<W>, R: Reader<W>, Rt: Wait + Sync
     reader: &R,
 ) -> (Seat<State<W, K>>, PassEnd)
     requires lock { seat.lock ≡ lock.now }
-    requires spared { seat.origin.spared ≡ [] }
+    requires spared { seat.origin.sparing ≡ None }
     ensures later { IsLater seat result.0 }
     ensures over { SettlesLast (rules W.version W.true_row W.told) T.told listing roots.items
         plan.now seat.seen result.0.seen (T.shows hand.old) (T.shows hand.new) result.1 }

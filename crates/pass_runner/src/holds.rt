@@ -1,6 +1,6 @@
 //! Single holds of a shared index by the hand that leads a pass.
 
-ghost use Rattle.std.specs.Prelude.{◌≡◌, []};
+ghost use Rattle.std.specs.Prelude.{◌≡◌, [], None};
 ghost use Rattle.groomer.specs.Judged.{GoesOn};
 ghost use Rattle.index_lock.specs.Tokens.{IsLater};
 ghost use Rattle.index_state.specs.declared.answer.Judged.{Judged};
@@ -24,8 +24,9 @@ pub(crate) fn begin_one<W: Truth, K: Keeper<W>, Rt: Wait + Sync>(
     roots: Vec<CanonPath>,
 ) -> (Seat<State<W, K>>, Begun)
     requires lock { seat.lock ≡ lock.now }
-    requires spared { seat.origin.spared ≡ [] }
+    requires spared { seat.origin.sparing ≡ None }
     ensures later { IsLater seat result.0 }
+    ensures none { seat.origin.spared ≡ [] }
     ensures shows { BeginShows listing result.1 result.0.seen }
 {
     let mut held = lock.enter(rt, seat);
@@ -33,18 +34,20 @@ pub(crate) fn begin_one<W: Truth, K: Keeper<W>, Rt: Wait + Sync>(
     (lock.leave(held), begun)
 }
 
-/// Begins a pass in an index that is held and skips no name.
+/// Begins a pass in an index that is held and of which no name was spared, so that none is skipped.
 fn begin_held<W: Truth, K: Keeper<W>>(
     alloc: Global,
     state: &mut State<W, K>,
     listing: Listing,
     roots: Vec<CanonPath>,
 ) -> Begun
-    requires spared { state.old.origin.spared ≡ [] }
+    requires spared { state.old.origin.sparing ≡ None }
     ensures goes_on { GoesOn state.old state.new }
+    ensures none { state.old.origin.spared ≡ [] }
     ensures shows { BeginShows listing result state.new.log }
 {
     let _names = listing.names();
+    let _rows = state.rows();
     let begun = state.begin(alloc, listing, roots);
     show_index(state);
     begun

@@ -1,12 +1,14 @@
 //! How a pass over a shared index ends, by its last hold.
 
-ghost use Rattle.std.specs.Prelude.{◌≡◌, [], Contains, IfSome, IsSome, IsTrue, Some};
+ghost use Rattle.std.specs.Prelude.{◌≡◌, Contains, IfSome, IsSome, IsTrue, Some, None};
 ghost use Rattle.groomer.specs.Judged.{GoesOn};
 ghost use Rattle.index_lock.specs.Tokens.{IsLater};
+ghost use Rattle.index_rows.specs.Rows.{row_names};
 ghost use Rattle.index_state.specs.Judge.{is_under};
+ghost use Rattle.index_state.specs.Plan.{has_stamp};
 ghost use Rattle.row_types.specs.Name.{stamp_at};
 ghost use Rattle.row_types.specs.Rules.{rules};
-ghost use Rattle.pass_runner.specs.Leading.{BeginsLast, EndsOpen, LastShows, is_none_left};
+ghost use Rattle.pass_runner.specs.Leading.{BeginsLast, EndsOpen, IsOpenBy, LastShows, is_none_left};
 ghost use Rattle.pass_runner.specs.SharedPass.{IsOfPass, IsStray};
 
 use crate::owned::copy_miss;
@@ -17,13 +19,13 @@ use index_lock::{Seat, TurnLock};
 use index_rows::LOG_LIMIT;
 use index_state::{Begun, Plan, Standing, State, show_index};
 use path_canon::is_under;
-use row_types::{CanonPath, Name, Truth};
+use row_types::{CanonPath, Name, Stamp, Truth};
 use scan_queue::{Cause, Listing, Miss};
 use std::alloc::Global;
 use std::sync::Wait;
 
 /// Decides how a pass ended, in one hold: by a plan over a copy of its listing, and then by the
-/// first name that was missed, if the hand that leads missed it itself.
+/// first name that was missed, if it is still open and the hand that leads missed it itself.
 pub(crate) fn end_one<W: Truth, K: Keeper<W>, Rt: Wait + Sync>(
     rt: &Rt,
     alloc: Global,
@@ -35,7 +37,7 @@ pub(crate) fn end_one<W: Truth, K: Keeper<W>, Rt: Wait + Sync>(
     met: &[Miss],
 ) -> (Seat<State<W, K>>, PassEnd)
     requires lock { seat.lock ≡ lock.now }
-    requires spared { seat.origin.spared ≡ [] }
+    requires spared { seat.origin.sparing ≡ None }
     ensures later { IsLater seat result.0 }
     ensures shows { LastShows (rules W.version W.true_row W.told) listing roots.items plan.now
         met.now result.0.seen result.1 }
@@ -45,7 +47,7 @@ pub(crate) fn end_one<W: Truth, K: Keeper<W>, Rt: Wait + Sync>(
     (lock.leave(held), end)
 }
 
-/// Decides how a pass ended in an index that is held and skips no name.
+/// Decides how a pass ended in an index that is held and of which no name was spared.
 fn end_held<W: Truth, K: Keeper<W>>(
     alloc: Global,
     state: &mut State<W, K>,
@@ -54,12 +56,13 @@ fn end_held<W: Truth, K: Keeper<W>>(
     plan: &Plan,
     met: &[Miss],
 ) -> PassEnd
-    requires spared { state.old.origin.spared ≡ [] }
+    requires spared { state.old.origin.sparing ≡ None }
     ensures goes_on { GoesOn state.old state.new }
     ensures shows { LastShows (rules W.version W.true_row W.told) listing roots.items plan.now
         met.now state.new.log result }
 {
-    let own = own_miss(alloc, state.first_miss(), met, &listing, roots.as_slice());
+    let _rows = state.rows();
+    let own = own_miss(alloc, state, met, &listing, roots.as_slice());
     let end = begin_last(alloc, state, listing, roots, plan, own);
     show_index(state);
     end
@@ -110,19 +113,21 @@ fn is_done(standing: &Standing) -> bool
     standing.todo == 0 && standing.out == 0 && standing.groom == 0 && standing.missed == 0
 }
 
-/// The first name that was missed, if it is one of the pass and the hand that leads missed it
-/// itself, and memory was there for it.
-fn own_miss(
+/// The first name that was missed, if it is one of the pass and still open, the hand that leads
+/// missed it itself, and memory was there for it.
+fn own_miss<W: Truth, K: Keeper<W>>(
     alloc: Global,
-    first: Option<&Miss>,
+    state: &State<W, K>,
     met: &[Miss],
     listing: &Listing,
     roots: &[CanonPath],
 ) -> Option<Miss>
     ensures among { IfSome result (λ miss. Contains met.now miss) }
     ensures of_pass { IfSome result (λ miss. IsOfPass listing.now roots.now miss.name miss.cause) }
+    ensures stands { IfSome result (λ miss. IsOpenBy listing.now (row_names state.now.rows)
+        miss.name) }
 {
-    let Some(first) = first else {
+    let Some(first) = state.first_miss() else {
         return None;
     };
     for miss in met {
@@ -130,10 +135,46 @@ fn own_miss(
             if !is_of_pass(miss.cause, &miss.name, listing, roots) {
                 return None;
             }
+            if !is_still_open(state, &miss.name, listing) {
+                return None;
+            }
             return copy_miss(alloc, miss).ok();
         }
     }
     None
+}
+
+/// Whether the name is listed and has no row, or has a row and isn't listed.
+fn is_still_open<W: Truth, K: Keeper<W>>(
+    state: &State<W, K>,
+    name: &Name,
+    listing: &Listing,
+) -> bool
+    ensures { IsTrue result → IsOpenBy listing.now (row_names state.now.rows) name.now }
+{
+    let is_listed = is_stamp(listing.stamp_of(&name.path), name.stamp);
+    let has_row = is_stamp(row_stamp(state, &name.path), name.stamp);
+    if is_listed { !has_row } else { has_row }
+}
+
+/// The stamp of the path's row.
+fn row_stamp<W: Truth, K: Keeper<W>>(state: &State<W, K>, path: &CanonPath) -> Option<Stamp>
+    ensures { result ≡ stamp_at (row_names state.now.rows) path.now }
+{
+    match state.row_at(path) {
+        Some(row) => Some(row.name.stamp),
+        None => None,
+    }
+}
+
+/// Whether there is a stamp, and it is this one.
+fn is_stamp(found: Option<Stamp>, stamp: Stamp) -> bool
+    ensures { result ≡ has_stamp found stamp }
+{
+    match found {
+        Some(other) => stamp == other,
+        None => false,
+    }
 }
 
 /// Whether a name that was missed by another file is listed with its stamp, and one that appeared

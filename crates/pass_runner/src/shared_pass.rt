@@ -1,10 +1,10 @@
 //! A pass over an index that is shared.
 
-ghost use Rattle.std.specs.Prelude.{◌≡◌, ◌<◌, [], drop, length, vec_len, IsTrue};
+ghost use Rattle.std.specs.Prelude.{◌≡◌, ◌<◌, [], drop, length, vec_len, IsTrue, None};
 ghost use Rattle.row_types.specs.Rules.{rules};
 ghost use Rattle.index_lock.specs.Tokens.{IsLater};
 ghost use Rattle.tree_trait.specs.Shown.{HandsOn};
-ghost use Rattle.pass_runner.specs.Owned.{HandsGo, Helps, is_hand_fault, is_unwalked};
+ghost use Rattle.pass_runner.specs.Owned.{HandsGo, Helps, is_hand_fault, is_unbegun};
 ghost use Rattle.pass_runner.specs.SharedPass.{EndsShared, IsDoneShared, IsUnhinderedPass};
 
 use crate::coordinate::pass_listed;
@@ -24,8 +24,10 @@ use tree_walk::{Walk, walk};
 /// `scan_state`. Then the first hand tries again what they left, and decides in one hold of the
 /// lock how the pass ended: whole where nothing is left to be done for its listing, else by a full
 /// log, by the first name that was missed, or by want of memory. A miss is told where the first
-/// hand met it itself; where another token's stands first, the end is want of memory. The token
-/// must skip no name. The hands come back in their order.
+/// hand met it itself and it still stands: a listed name without a row, another one with its row.
+/// Where another token's stands first, the end is want of memory. An index that is broken as the
+/// pass would begin ends it at once. No name may have been spared in the token's index. The hands
+/// come back in their order.
 pub fn run_pass<
     W: Truth + Send + Sync,
     K: Keeper<W>,
@@ -45,7 +47,7 @@ pub fn run_pass<
 ) -> (Seat<State<W, K>>, Vec<T>, PassEnd)
     requires lock { seat.lock ≡ lock.now }
     requires hand { 0 < vec_len hands }
-    requires spared { seat.origin.spared ≡ [] }
+    requires spared { seat.origin.sparing ≡ None }
     ensures later { IsLater seat result.0 }
     ensures pass { HandsGo
         (λ hand later. EndsShared (rules W.version W.true_row W.told) T.told roots.now seat.seen
@@ -57,7 +59,7 @@ pub fn run_pass<
         (0 < length roots.now) (IsTrue (is_hand_fault result.2)))
         (λ hand later. HandsOn T.told W.version (T.shows hand) (T.shows later) ⊥ ⊥)
         hands.items result.1.items }
-    ensures idle { IsTrue (is_unwalked result.2) → drop 1 result.1.items ≡ drop 1 hands.items }
+    ensures idle { IsTrue (is_unbegun result.2) → drop 1 result.1.items ≡ drop 1 hands.items }
     ensures complete { HandsGo
         (λ hand later. IsUnhinderedPass T.told roots.now result.0.seen (T.shows hand)
         (T.shows later) → IsDoneShared result.0.seen result.2)

@@ -1,6 +1,6 @@
 //! Passes over an index that is shared.
 
-ghost use Rattle.std.specs.Prelude.{◌≡◌, []};
+ghost use Rattle.std.specs.Prelude.{◌≡◌, None};
 
 use crate::passes::beside::{MOVED, holding_gate, many, one_fails};
 use crate::passes::ends::end_text;
@@ -27,7 +27,7 @@ pub struct Unspared {
     pub lock: Lock<SampleWorld>,
     pub seat: Token<SampleWorld>,
     pub ghost of_lock: { seat.lock ≡ lock },
-    pub ghost spared: { seat.origin.spared ≡ [] },
+    pub ghost spared: { seat.origin.sparing ≡ None },
 }
 
 /// The index without rows behind a lock, on a store that stops at this call. A pass over nothing is
@@ -57,9 +57,9 @@ pub fn pass_by<G: Gate, Rt: Abort + Threads + Wait + Sync>(
     gate: &G,
 ) -> (Token<SampleWorld>, String)
     requires lock { seat.lock ≡ lock.now }
-    requires spared { seat.origin.spared ≡ [] }
+    requires spared { seat.origin.sparing ≡ None }
     ensures lock { result.0.lock ≡ lock.now }
-    ensures spared { result.0.origin.spared ≡ [] }
+    ensures spared { result.0.origin.sparing ≡ None }
 {
     let count = hands.len();
     assert!(rt; count > 0, "there is a hand");

@@ -14,8 +14,9 @@ pub returns-in-Ok-clause-over : goal.returns-in-Ok-clause-over
 returns-in-Ok-clause-over g c = λ hands some.
     over_shared {K = g.row.K.Denot} hands some c.in-Begun.ensures.step c.spare.ensures
     (rules g.W.Truth.version g.W.Truth.true_row g.W.Truth.told) g.T.Tree.told g.K.Keeper.told g.K.Keeper.shows g.T.Tree.shows
-    c.args.first c.settle_again-end.new.hand c.in-Ok.state c.settle_again-end.new.state c.in-Ok.ensures.log c.in-Ok.ensures.origin
-    c.show_index.ensures.skipped_names_stand c.requires.again.1 c.requires.again.0 c.settle_again-end.result
+    c.args.first c.settle_again-end.new.hand c.in-Ok.state c.settle_again-end.new.state
+    c.rows-rows.ensures.holds.rows_replay_the_log.names c.in-Ok.ensures.log c.in-Ok.ensures.origin
+    c.show_index.ensures.skipped_names_stand c.show_index.ensures.log_is_bounded c.requires.again.1 c.requires.again.0 c.settle_again-end.result
     c.settle_again-end.ensures.again
 
 pub returns-in-Ok-clause-helped : goal.returns-in-Ok-clause-helped

@@ -1,5 +1,5 @@
 -- What the parts came to, as the pass of all hands.
-use Rattle.std.proofs.Common.{◌<◌, List, [], sym, subst, IsTrue}
+use Rattle.std.proofs.Common.{◌<◌, List, [], map, drop, refl, sym, ◌∙◌, ap, subst, IsTrue}
 use Rattle.std.proofs.lemmas.Bool.{true≢false}
 use Rattle.row_types.specs.Rules.{rules}
 use Rattle.index_lock.proofs.Later.{later_self}
@@ -102,3 +102,15 @@ returns-in-Ok-apart-clause-hands g c =
     (leads_fault (rules g.W.Truth.version g.W.Truth.true_row g.W.Truth.told) out.result.3 out.ensures.over))
     (aided_hands (λ (place : Helper g.row.T.Denot). place.hand) (λ place. place.task) (λ place. place.asked) g.T.Tree.shows
     g.T.Tree.told g.W.Truth.version parts.helpers.items out.result.2.items out.ensures.helped)
+
+pub returns-in_default-clause-idle : goal.returns-in_default-clause-idle
+returns-in_default-clause-idle g c = λ is. refl
+
+pub returns-in-Err-clause-idle : goal.returns-in-Err-clause-idle
+returns-in-Err-clause-idle g c = λ is. ap (λ hands. drop 1 hands.items) c.in-Err.ensures.err
+
+pub returns-in-Ok-apart-clause-idle : goal.returns-in-Ok-apart-clause-idle
+returns-in-Ok-apart-clause-idle g c = λ is.
+    ap (λ (l : List _). drop 1 l) c.together-hands.ensures.hands
+    ∙ ap (λ (l : List (Helper g.row.T.Denot)). map (λ place. place.hand) l) (c.pass_parts-seat.ensures.idle is)
+    ∙ sym (ap (λ (l : List _). drop 1 l) c.in-Ok-apart.ensures.hands)

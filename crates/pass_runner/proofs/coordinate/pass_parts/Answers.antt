@@ -11,12 +11,12 @@ use Rattle.index_state.specs.declared.answer.Begun.{Begun}
 use Rattle.pass_runner.specs.Leading.{BeginShows}
 use Rattle.pass_runner.specs.declared.helper.Helper.{Helper}
 use Rattle.pass_runner.specs.declared.pass_end.PassEnd.TheVariants.{Broken, OutOfMemory}
-use Rattle.pass_runner.proofs.PlannedLemmas.{leads_again, leads_early}
+use Rattle.pass_runner.proofs.PlannedLemmas.{leads_again, leads_early, settled_sound}
 use Rattle.pass_runner.proofs.coordinate.pass_parts.Goals as goal
 
 pub settle_last-seat-requires-clause-spared : goal.settle_last-seat-requires-clause-spared
 settle_last-seat-requires-clause-spared g c = λ κs within.
-    ap (λ (o : Origin). o.spared) (later_trans c.begin_one-seat.ensures.later c.run_crew-seat.ensures.later).origin
+    ap (λ (o : Origin). o.sparing) (later_trans c.begin_one-seat.ensures.later c.run_crew-seat.ensures.later).origin
     ∙ c.requires.spared
 
 pub returns-in-Begun-clause-later : goal.returns-in-Begun-clause-later
@@ -37,15 +37,17 @@ returns-in-Begun-clause-helped g c =
     inl (subst (λ (spared : List NameFacts). AllZip (HelpedFrom (λ (place : Helper g.row.T.Denot). g.T.Tree.shows place.hand)
     (λ place. place.task) (λ place. place.asked) g.T.Tree.told g.W.Truth.version spared) c.args.helpers.items
     c.run_crew-seat.result.1.items)
-    (ap (λ (o : Origin). o.spared) c.begin_one-seat.ensures.later.origin ∙ c.requires.spared)
+    (ap (λ (o : Origin). o.spared) c.begin_one-seat.ensures.later.origin ∙ c.begin_one-seat.ensures.none)
     (zip_weaker (λ before after ran. ran.made) c.args.helpers.items c.run_crew-seat.result.1.items c.run_crew-seat.ensures.ran))
 
 pub returns-in-Broken-clause-over : goal.returns-in-Broken-clause-over
 returns-in-Broken-clause-over g c =
     leads_early (rules g.W.Truth.version g.W.Truth.true_row g.W.Truth.told) c.args.listing c.args.needs.roots.items
     c.args.seat.seen c.begin_one-seat.result.0.seen Broken
-    (subst (λ (b : Begun). BeginShows c.args.listing b c.begin_one-seat.result.0.seen) c.in-Broken.is
-    c.begin_one-seat.ensures.shows)
+    (record {
+      void = subst (λ (b : Begun). BeginShows c.args.listing b c.begin_one-seat.result.0.seen) c.in-Broken.is c.begin_one-seat.ensures.shows;
+      none = refl;
+    })
 
 pub returns-in-Broken-clause-helped : goal.returns-in-Broken-clause-helped
 returns-in-Broken-clause-helped g c = inr refl
@@ -57,3 +59,14 @@ returns-in-OutOfMemory-clause-over g c =
 
 pub returns-in-OutOfMemory-clause-helped : goal.returns-in-OutOfMemory-clause-helped
 returns-in-OutOfMemory-clause-helped g c = inr refl
+
+pub returns-in-Begun-clause-idle : goal.returns-in-Begun-clause-idle
+returns-in-Begun-clause-idle g c = λ is.
+    absurd (settled_sound (rules g.W.Truth.version g.W.Truth.true_row g.W.Truth.told) c.settle_last-seat.result.1
+    c.settle_last-seat.ensures.over is)
+
+pub returns-in-Broken-clause-idle : goal.returns-in-Broken-clause-idle
+returns-in-Broken-clause-idle g c = λ is. refl
+
+pub returns-in-OutOfMemory-clause-idle : goal.returns-in-OutOfMemory-clause-idle
+returns-in-OutOfMemory-clause-idle g c = λ is. refl

@@ -10,7 +10,7 @@ use Rattle.pass_runner.proofs.coordinate.settle_last.Goals as goal
 
 pub end_one-requires-clause-spared : goal.end_one-requires-clause-spared
 end_one-requires-clause-spared g c = λ κs within.
-    ap (λ (o : Origin). o.spared) c.settle_shared-seat.ensures.later.origin ∙ c.requires.spared
+    ap (λ (o : Origin). o.sparing) c.settle_shared-seat.ensures.later.origin ∙ c.requires.spared
 
 pub returns-clause-later : goal.returns-clause-later
 returns-clause-later g c = later_trans c.settle_shared-seat.ensures.later c.end_one.ensures.later

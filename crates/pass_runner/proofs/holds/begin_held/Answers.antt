@@ -4,8 +4,11 @@ use Rattle.pass_runner.proofs.holds.begin_held.Goals as goal
 
 pub returns-clause-goes_on : goal.returns-clause-goes_on
 returns-clause-goes_on g c =
-    begun_goes g.K.Keeper.told g.K.Keeper.shows c.args.listing c.args.roots.items c.requires.spared c.begin-begun.result
-    c.begin-begun.ensures.step
+    begun_goes g.K.Keeper.told g.K.Keeper.shows c.args.listing c.args.roots.items c.requires.spared
+    (c.rows-rows.ensures.holds.skipped_names_stand.none c.requires.spared) c.begin-begun.result c.begin-begun.ensures.step
+
+pub returns-clause-none : goal.returns-clause-none
+returns-clause-none g c = c.rows-rows.ensures.holds.skipped_names_stand.none c.requires.spared
 
 pub returns-clause-shows : goal.returns-clause-shows
 returns-clause-shows g c =

@@ -10,7 +10,7 @@ pub returns-clause-goes_on : goal.returns-clause-goes_on
 returns-clause-goes_on g c =
     last_goes (rules g.W.Truth.version g.W.Truth.true_row g.W.Truth.told) g.K.Keeper.told g.K.Keeper.shows c.args.listing
     c.args.roots.items c.args.plan.now c.own_miss-own.result c.requires.spared
-    c.begin_last-end.result c.begin_last-end.ensures
+    (c.rows-rows.ensures.holds.skipped_names_stand.none c.requires.spared) c.begin_last-end.result c.begin_last-end.ensures
 
 pub returns-clause-shows : goal.returns-clause-shows
 returns-clause-shows g c =
@@ -18,5 +18,5 @@ returns-clause-shows g c =
     c.args.roots.items c.args.plan.now c.own_miss-own.result c.args.met.now c.args.state.now c.show_index.ensures
     c.own_miss-own.ensures.among
     (subst (λ (roots : List (List ℕ)). IfSome c.own_miss-own.result (λ miss. IsOfPass c.args.listing roots miss.name miss.cause))
-    c.as_slice.ensures.value c.own_miss-own.ensures.of_pass)
+    c.as_slice.ensures.value c.own_miss-own.ensures.of_pass) c.own_miss-own.ensures.stands
     c.begin_last-end.result c.begin_last-end.ensures

@@ -1,5 +1,5 @@
 -- The first hand walks, and the pass over what was listed follows.
-use Rattle.std.proofs.Common.{◌<◌, [], inl, length, slice_set, refl, subst, IsTrue}
+use Rattle.std.proofs.Common.{◌<◌, [], inl, length, slice_set, refl, ◌∙◌, subst, IsTrue}
 use Rattle.row_types.specs.Rules.{rules}
 use Rattle.index_lock.proofs.Later.{later_self}
 use Rattle.tree_trait.specs.Shown.{HandsOn}
@@ -8,7 +8,7 @@ use Rattle.pass_runner.specs.Leading.{LeadsPass}
 use Rattle.pass_runner.specs.Owned.{Helps, is_hand_fault}
 use Rattle.pass_runner.specs.SharedPass.{EndsShared, IsDoneShared, IsUnhinderedPass}
 use Rattle.pass_runner.specs.declared.pass_end.PassEnd.TheVariants.{Walk as Unwalked}
-use Rattle.pass_runner.proofs.FirstHand.{goes_never, idle_unwalked, walks_first}
+use Rattle.pass_runner.proofs.FirstHand.{goes_never, idle_unwalked, unbegun_idle, walks_first}
 use Rattle.pass_runner.proofs.PassHands.{first_goes, hands_none, hands_walked}
 use Rattle.pass_runner.proofs.PassWalks.{helps_none}
 use Rattle.pass_runner.proofs.SharedHands.{goes_both}
@@ -45,14 +45,16 @@ returns-in-Ok-clause-hands g c =
     c.pass_listed.ensures.hands
 
 pub returns-in-Ok-clause-idle : goal.returns-in-Ok-clause-idle
-returns-in-Ok-clause-idle g c = λ unwalked.
-    absurd (goes_never (λ hand later. LeadsPass (rules g.W.Truth.version g.W.Truth.true_row g.W.Truth.told) g.T.Tree.told
+returns-in-Ok-clause-idle g c = λ unbegun.
+    unbegun_idle c.pass_listed.result.2
+    (λ unwalked. goes_never (λ hand later. LeadsPass (rules g.W.Truth.version g.W.Truth.true_row g.W.Truth.told) g.T.Tree.told
     c.in-Ok.field-0.listing c.args.roots.now c.args.seat.seen c.pass_listed.result.0.seen (g.T.Tree.shows hand)
     (g.T.Tree.shows later) c.pass_listed.result.2)
     (λ hand later. Helps g.T.Tree.told g.W.Truth.version [] [] (g.T.Tree.shows hand) (g.T.Tree.shows later))
     (slice_set c.args.hands.items 0 c.walk.new.hand) c.pass_listed.result.1.items
     (λ hand later led. leads_walked (rules g.W.Truth.version g.W.Truth.true_row g.W.Truth.told) c.pass_listed.result.2 led
     unwalked) c.pass_listed.ensures.over)
+    (λ is. c.pass_listed.ensures.idle is ∙ idle_unwalked c.args.hands.items c.walk.new.hand) unbegun
 
 pub returns-in-Ok-clause-complete : goal.returns-in-Ok-clause-complete
 returns-in-Ok-clause-complete g c =

@@ -13,4 +13,4 @@ pub returns-in-Ok : goal.returns-in-Ok
 returns-in-Ok g c =
     let now : StateFacts g.row.K.Denot = state_of g.K.Keeper.shows (record c.self.inside { pass = Some c.in-Ok.pass; roots = c.args.roots; spared_at = None }) in
     let P : StateFacts g.row.K.Denot → Type 0 = λ s. BeginsPass c.args.listing c.args.roots.items c.in-Ok.plan s now in
-    record { step = subst P c.self.view_is (begin_step c.if-self.false c.in-Ok.ensures.plan c.in-Ok.ensures.pass) }
+    record { step = subst P c.self.view_is (begin_step c.if-self.false c.in-Ok.ensures.plan c.in-Ok.ensures.allowed c.in-Ok.ensures.pass) }
