@@ -36,17 +36,20 @@ pub fn groom<W: Truth, K: Keeper<W>, T: Tree<W>, G: Gate, R: Wait + Sync>(
     requires { seat.lock ≡ lock.now }
     ensures { Grooms T.told W.version seat (T.shows hand) result.0 (T.shows result.1) result.2 }
 {
-    let mut desk = Desk { lock, seat };
+    let mut seat = seat;
     let mut hand = hand;
     let mut tally = Tally {
         dropped: 0,
         missed: 0,
     };
     for _ in rt.forever() {
-        let (next, end) = groom_once(rt, alloc, desk, &mut hand, &mut tally);
-        desk = next;
+        let (desk, end) = groom_once(rt, alloc, Desk { lock, seat }, &mut hand, &mut tally);
+        let Desk {
+            lock: _,
+            seat: next,
+        } = desk;
+        seat = next;
         if let Some(end) = end {
-            let Desk { lock: _, seat } = desk;
             let Tally { dropped, missed } = tally;
             let report = GroomReport {
                 dropped,

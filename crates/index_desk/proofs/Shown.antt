@@ -1,5 +1,5 @@
 -- What the log that a hold left shows of the answer.
-use Rattle.std.proofs.Common.{◌≡◌, ℕ, ◌+◌, ◌≤◌, cond, not, Bool, true, List, [], ◌∷◌, ◌++◌, length, refl, sym, ◌∙◌, ap, subst, arith}
+use Rattle.std.proofs.Common.{◌≡◌, ◌+◌, ◌≤◌, cond, not, Bool, true, List, [], ◌∷◌, ◌++◌, length, refl, sym, ◌∙◌, ap, subst, arith}
 use Rattle.std.specs.List.{count_by}
 use Rattle.std.proofs.lemmas.List.Sums.{sum_by-append}
 use mathlib.Core.List.{IsPrefix}
@@ -20,7 +20,7 @@ use Rattle.index_state.specs.declared.answer.Published.TheVariants as said
 use Rattle.scan_queue.specs.declared.miss.Seen.{Seen}
 use Rattle.index_desk.specs.Counts.{drops, puts}
 use Rattle.index_desk.specs.Ends.{JudgedShows, PublishedShows, drop_by, put_by}
-use Rattle.index_desk.specs.Holds.{Holds, HoldsEvent}
+use Rattle.index_desk.specs.Holds.{HoldsEvent}
 use Rattle.index_desk.proofs.Goes.{judge_goes, publish_goes}
 
 -- how many changes of a kind two logs have, one behind the other

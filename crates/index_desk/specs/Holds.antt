@@ -33,7 +33,7 @@ pub record LogGoesOn {K : Type 0} (old new : StateFacts K) : Type 0 where
   pub origin : new.origin ≡ old.origin
 
 -- something was done to an index, of which holds what holds of an index at every moment
-pub record Leaves {K : Type 0} (true_row : RowFacts → Type 0) (told : Bool) (shows : K → ShownKeeper)
+pub record DoneTo {K : Type 0} (true_row : RowFacts → Type 0) (told : Bool) (shows : K → ShownKeeper)
     (Does : StateFacts K → StateFacts K → Type 0) (old new : StateFacts K) : Type 0 where
   pub does : Does old new
   pub holds : IndexInvariant true_row told shows new
@@ -42,7 +42,7 @@ pub record Leaves {K : Type 0} (true_row : RowFacts → Type 0) (told : Bool) (s
 abbrev pub HoldsIndex : {K : Type 0} → (RowFacts → Type 0) → Bool → (K → ShownKeeper)
     → (StateFacts K → StateFacts K → Type 0) → SeatFacts Change Origin → SeatFacts Change Origin → Type 0
 HoldsIndex {K} true_row told shows Does seat later_seat =
-    Holds (λ (s : StateFacts K). s.log) (λ (s : StateFacts K). s.origin) (Leaves true_row told shows Does) seat later_seat
+    Holds (λ (s : StateFacts K). s.log) (λ (s : StateFacts K). s.origin) (DoneTo true_row told shows Does) seat later_seat
 
 -- an event of an index happened in one hold, and this was answered
 abbrev pub HoldsEvent : {K : Type 0} → (RowFacts → Type 0) → Bool → (K → ShownKeeper) → Event → Answer

@@ -22,7 +22,8 @@ pub fn look_once<S: Logged, A, Rt: Wait, F: FnOnce(&S) -> A>(
 {
     let held = lock.enter(rt, seat);
     let answer = look(held.value());
-    (lock.leave(held), answer)
+    let later = lock.leave(held);
+    (later, answer)
 }
 
 /// Holds the lock for what may be several events. The log has to go on, and the origin to stay.

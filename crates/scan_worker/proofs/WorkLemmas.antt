@@ -25,7 +25,6 @@ use Rattle.scan_worker.specs.declared.tally.Tally.{Tally}
 use Rattle.scan_worker.specs.declared.turn.Turn.{Turn}
 use Rattle.scan_worker.specs.declared.turn.Turn.TheVariants.{Published, Passed, Missed, Ended}
 use Rattle.index_desk.specs.declared.work_end.WorkEnd.{WorkEnd}
-use Rattle.index_desk.specs.declared.work_end.WorkEnd.TheVariants as end
 use Rattle.scan_worker.proofs.HandLemmas.{asks_none, at_most_one, count_least, count_most, count_published, count_same, row_heard}
 
 -- each name that counts as published or missed was read

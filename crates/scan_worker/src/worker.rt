@@ -39,14 +39,17 @@ pub fn work<W: Truth, K: Keeper<W>, T: Tree<W>, R: Reader<W>, G: Gate, Rt: Wait 
         reader,
         gate,
     };
-    let mut desk = Desk { lock, seat };
+    let mut seat = seat;
     let mut hand = hand;
     let mut tally = Tally::new();
     for _ in rt.forever() {
-        let (next, end) = work_once(ground, desk, &mut hand, &mut tally);
-        desk = next;
+        let (desk, end) = work_once(ground, Desk { lock, seat }, &mut hand, &mut tally);
+        let Desk {
+            lock: _,
+            seat: next,
+        } = desk;
+        seat = next;
         if let Some(end) = end {
-            let Desk { lock: _, seat } = desk;
             return (seat, hand, tally.report(end));
         }
     }

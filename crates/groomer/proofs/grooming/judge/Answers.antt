@@ -10,7 +10,7 @@ pub returns-clause-most : goal.returns-clause-most
 returns-clause-most g c =
     let missed =
     judged_missed g.K.Keeper.told g.K.Keeper.shows c.args.name.now c.args.seen c.judge-desk.ensures.holds.old
-    c.judge-desk.ensures.holds.new c.judge-desk.result.1 c.judge-desk.ensures.holds.does in
+    c.judge-desk.ensures.holds.new c.judge-desk.result.1 c.judge-desk.ensures.holds.does.does in
     omega arith
 
 pub returns-clause-ends : goal.returns-clause-ends

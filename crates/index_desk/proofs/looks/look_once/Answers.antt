@@ -6,6 +6,6 @@ use Rattle.index_desk.proofs.looks.look_once.Goals as goal
 
 pub returns : goal.returns
 returns g c =
-    held_by c.args.seat c.leave.result c.enter-held.result.value c.enter-held.result.value c.enter-held.result.value
+    held_by c.args.seat c.leave-later.result c.enter-held.result.value c.enter-held.result.value c.enter-held.result.value
     c.enter-held.ensures.begins c.enter-held.ensures.origin refl (refl, (c.value.result, c.look-answer.ensures, c.value.ensures))
-    (prefix_self (g.S.Logged.log c.enter-held.result.value)) refl (search rules) c.leave.ensures.seen (search rules)
+    (prefix_self (g.S.Logged.log c.enter-held.result.value)) refl (search rules) c.leave-later.ensures.seen (search rules)
