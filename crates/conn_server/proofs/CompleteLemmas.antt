@@ -6,7 +6,7 @@ use Rattle.answer_core.specs.Complete.{NoneIsThere}
 use Rattle.answer_core.specs.Local.{IsLocal, Sight}
 use Rattle.answer_core.specs.declared.local.Local.{Local}
 use Rattle.answer_core.specs.declared.local.Local.TheVariants as local
-use Rattle.answer_core.proofs.CompleteLemmas.{complete}
+use Rattle.answer_core.proofs.RowsLemmas.{none_is_there}
 use Rattle.conn_server.specs.Lawful.{Earns, RestsOn}
 use Rattle.conn_server.specs.PassedOver.{FindsAll}
 use Rattle.conn_server.specs.Replies.{status_of}
@@ -21,11 +21,7 @@ none_of : (sight : Sight) (route : Route) (answer : Local) (found : Option Local
 none_of sight route answer None n rests earns told still =
     let nothing : IsLocal sight route (local.Nothing n) = subst (λ (a : Local). IsLocal sight route a) earns rests in
     let of = nothing.0 in
-    record {
-      all = of.all;
-      stood = of.stood;
-      none = complete sight.hand route of.all sight.answers told still of.are;
-    }
+    none_is_there sight route of.all of.stood told still of.are
 none_of sight route answer (Some passed) n rests earns told still =
     let same : 404 ≡ 200 = ap status_of earns.local in
     absurd (omega (arith, same))

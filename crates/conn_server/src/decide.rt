@@ -83,7 +83,7 @@ fn decide_route<W: Truth, K: Keeper<W>, T: Tree<W>, G: Gate, R: Wait + Sync>(
         route result.1 (T.shows hand.new) }
 {
     gate.at(rt, &Point::Asking(number));
-    let (seat, local) = answer_local(rt, alloc, lock, seat, hand, &route, folders);
+    let (seat, local) = answer_local(rt, alloc, lock, seat, hand, &route, folders, gate);
     (seat, by_local(route, local))
 }
 
