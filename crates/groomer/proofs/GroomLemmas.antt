@@ -6,12 +6,12 @@ use Rattle.index_rows.specs.declared.change.Change.{Change}
 use Rattle.index_state.specs.State.{Origin}
 use Rattle.tree_trait.specs.Found.{Versions}
 use Rattle.tree_trait.specs.Shown.{ShownTree}
-use Rattle.scan_worker.specs.Ends.{EndsShow}
+use Rattle.index_desk.proofs.Shown.{drops_grow}
+use Rattle.index_desk.specs.Ends.{EndsShow}
 use Rattle.groomer.specs.Grooms.{Grooms, GroomsOn}
 use Rattle.groomer.specs.Looks.{HandLooks}
 use Rattle.groomer.specs.declared.report.Tally.{Tally}
-use Rattle.scan_worker.specs.declared.work_end.WorkEnd.{WorkEnd}
-use Rattle.groomer.proofs.CountLemmas.{drops_grow}
+use Rattle.index_desk.specs.declared.work_end.WorkEnd.{WorkEnd}
 use Rattle.groomer.proofs.HandLemmas.{looks_none, looks_then}
 
 module _ {told : Bool} {version : Versions} where

@@ -1,4 +1,3 @@
-mod CountLemmas
 mod GroomLemmas
 mod HandLemmas
-mod JudgeLemmas
+mod MissLemmas

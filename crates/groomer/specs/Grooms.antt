@@ -7,8 +7,8 @@ use Rattle.index_rows.specs.declared.change.Change.{Change}
 use Rattle.index_state.specs.State.{Origin}
 use Rattle.tree_trait.specs.Found.{Versions}
 use Rattle.tree_trait.specs.Shown.{ShownTree}
-use Rattle.scan_worker.specs.Counts.{drops}
-use Rattle.scan_worker.specs.Ends.{EndShows}
+use Rattle.index_desk.specs.Counts.{drops}
+use Rattle.index_desk.specs.Ends.{EndShows}
 use Rattle.groomer.specs.Looks.{HandLooks}
 use Rattle.groomer.specs.declared.report.GroomReport.{GroomReport}
 use Rattle.groomer.specs.declared.report.Tally.{Tally}

@@ -9,8 +9,8 @@ pub use Rattle.tree_trait.specs.Found
 pub use Rattle.tree_trait.specs.Heard
 pub use Rattle.tree_trait.specs.Listens
 pub use Rattle.tree_trait.specs.Shown
-pub use Rattle.scan_worker.specs.Counts
-pub use Rattle.scan_worker.specs.Ends
+pub use Rattle.index_desk.specs.Counts
+pub use Rattle.index_desk.specs.Ends
 pub mod Grooms
 pub mod Judged
 pub mod Looks

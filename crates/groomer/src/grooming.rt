@@ -3,20 +3,19 @@
 ghost use Rattle.std.specs.Prelude.{◌≡◌, ◌+◌, ◌≤◌, List};
 ghost use Rattle.index_lock.specs.Tokens.{IsLater};
 ghost use Rattle.index_rows.specs.declared.change.Change.{Change};
-ghost use Rattle.scan_worker.specs.Counts.{drops};
-ghost use Rattle.scan_worker.specs.Ends.{EndsShow};
+ghost use Rattle.index_desk.specs.Counts.{drops};
+ghost use Rattle.index_desk.specs.Ends.{EndsShow, JudgedShows};
 ghost use Rattle.groomer.specs.Grooms.{Grooms, GroomsOn};
-ghost use Rattle.groomer.specs.Judged.{JudgedShows, miss_of};
+ghost use Rattle.groomer.specs.Judged.{miss_of};
 
-use crate::holds::{judge_name, note_miss, take_task};
 use crate::looking::{Looked, look};
 use crate::report::{GroomReport, Tally};
+use index_desk::{Desk, WorkEnd};
 use index_keeper::Keeper;
 use index_lock::{Seat, TurnLock};
 use index_state::{GroomTask, Judged, State};
 use row_types::{Name, Truth};
-use scan_queue::Seen;
-use scan_worker::WorkEnd;
+use scan_queue::{Cause, Seen};
 use std::alloc::Global;
 use std::sync::Wait;
 use tree_trait::{Gate, Tree};
@@ -44,7 +43,11 @@ pub fn groom<W: Truth, K: Keeper<W>, T: Tree<W>, G: Gate, R: Wait + Sync>(
         missed: 0,
     };
     for _ in rt.forever() {
-        let (next, end) = groom_once(rt, alloc, lock, seat, &mut hand, &mut tally);
+        let (desk, end) = groom_once(rt, alloc, Desk { lock, seat }, &mut hand, &mut tally);
+        let Desk {
+            lock: _,
+            seat: next,
+        } = desk;
         seat = next;
         if let Some(end) = end {
             let Tally { dropped, missed } = tally;
@@ -60,72 +63,67 @@ pub fn groom<W: Truth, K: Keeper<W>, T: Tree<W>, G: Gate, R: Wait + Sync>(
 }
 
 /// Takes the next name, looks for its file and hands it in. Says why the groomer ends, if it does.
-fn groom_once<W: Truth, K: Keeper<W>, T: Tree<W>, R: Wait>(
+fn groom_once<'a, W: Truth, K: Keeper<W>, T: Tree<W>, R: Wait>(
     rt: &R,
     alloc: Global,
-    lock: &TurnLock<State<W, K>>,
-    seat: Seat<State<W, K>>,
+    desk: Desk<'a, W, K>,
     hand: &mut T,
     tally: &mut Tally,
-) -> (Seat<State<W, K>>, Option<WorkEnd>)
-    requires { seat.lock ≡ lock.now }
-    ensures grooms { GroomsOn T.told W.version seat (T.shows hand.old) tally.old result.0
-        (T.shows hand.new) tally.new }
-    ensures ends { EndsShow result.1 result.0.seen }
+) -> (Desk<'a, W, K>, Option<WorkEnd>)
+    ensures grooms { GroomsOn T.told W.version desk.entry.seat (T.shows hand.old) tally.old
+        result.0.seat (T.shows hand.new) tally.new }
+    ensures ends { EndsShow result.1 result.0.seat.seen }
 {
-    let (seat, task) = take_task(rt, lock, seat);
+    let (desk, task) = desk.groom_take(rt);
     match task {
-        Some(task) => look_for(rt, alloc, lock, seat, hand, tally, &task),
-        None => (seat, Some(WorkEnd::Empty)),
+        Some(task) => look_for(rt, alloc, desk, hand, tally, &task),
+        None => (desk, Some(WorkEnd::Empty)),
     }
 }
 
 /// Looks for the file of a name that was taken, and hands it in.
-fn look_for<W: Truth, K: Keeper<W>, T: Tree<W>, R: Wait>(
+fn look_for<'a, W: Truth, K: Keeper<W>, T: Tree<W>, R: Wait>(
     rt: &R,
     alloc: Global,
-    lock: &TurnLock<State<W, K>>,
-    seat: Seat<State<W, K>>,
+    desk: Desk<'a, W, K>,
     hand: &mut T,
     tally: &mut Tally,
     task: &GroomTask,
-) -> (Seat<State<W, K>>, Option<WorkEnd>)
-    requires { seat.lock ≡ lock.now }
-    ensures grooms { GroomsOn T.told W.version seat (T.shows hand.old) tally.old result.0
-        (T.shows hand.new) tally.new }
-    ensures ends { EndsShow result.1 result.0.seen }
+) -> (Desk<'a, W, K>, Option<WorkEnd>)
+    ensures grooms { GroomsOn T.told W.version desk.entry.seat (T.shows hand.old) tally.old
+        result.0.seat (T.shows hand.new) tally.new }
+    ensures ends { EndsShow result.1 result.0.seat.seen }
 {
     match look(alloc, hand, task) {
-        Looked::Saw(seen) => judge(rt, alloc, lock, seat, tally, &task.name, seen),
+        Looked::Saw(seen) => judge(rt, alloc, desk, tally, &task.name, seen),
         Looked::Failed => {
             tally.add_failed();
-            (note_miss(rt, lock, seat, &task.name), None)
+            let (desk, _) = desk.miss(rt, &task.name, Cause::ReadFault);
+            (desk, None)
         }
-        Looked::OutOfMemory => (seat, Some(WorkEnd::OutOfMemory)),
+        Looked::OutOfMemory => (desk, Some(WorkEnd::OutOfMemory)),
     }
 }
 
 /// Judges a name by what was seen at its path, and counts what comes of it.
-fn judge<W: Truth, K: Keeper<W>, R: Wait>(
+fn judge<'a, W: Truth, K: Keeper<W>, R: Wait>(
     rt: &R,
     alloc: Global,
-    lock: &TurnLock<State<W, K>>,
-    seat: Seat<State<W, K>>,
+    desk: Desk<'a, W, K>,
     tally: &mut Tally,
     name: &Name,
     seen: Seen,
-) -> (Seat<State<W, K>>, Option<WorkEnd>)
-    requires { seat.lock ≡ lock.now }
-    ensures later { IsLater seat result.0 }
-    ensures dropped { tally.new.dropped + drops seat.seen
-        ≤ tally.old.dropped + drops result.0.seen }
+) -> (Desk<'a, W, K>, Option<WorkEnd>)
+    ensures later { IsLater desk.entry.seat result.0.seat }
+    ensures dropped { tally.new.dropped + drops desk.entry.seat.seen
+        ≤ tally.old.dropped + drops result.0.seat.seen }
     ensures least { tally.old.missed ≤ tally.new.missed }
     ensures most { tally.new.missed ≤ tally.old.missed + miss_of seen }
-    ensures ends { EndsShow result.1 result.0.seen }
+    ensures ends { EndsShow result.1 result.0.seat.seen }
 {
-    let (seat, answer) = judge_name(rt, alloc, lock, seat, name, seen);
+    let (desk, answer) = desk.judge(rt, alloc, name, seen);
     tally.add(&answer);
-    (seat, end_by(answer))
+    (desk, end_by(answer))
 }
 
 /// How a groomer ends after a judgement, if it does.

@@ -4,7 +4,6 @@
 #![tactic(auto)]
 
 mod grooming;
-mod holds;
 mod looking;
 mod report;
 

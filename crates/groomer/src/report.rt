@@ -2,10 +2,11 @@
 
 ghost use Rattle.std.specs.Prelude.{◌≡◌, ◌+◌, ◌≤◌};
 ghost use Rattle.groomer.specs.Grooms.{missed_more};
-ghost use Rattle.groomer.specs.Judged.{drop_by, miss_by};
+ghost use Rattle.groomer.specs.Judged.{miss_by};
+ghost use Rattle.index_desk.specs.Ends.{drop_by};
 
+use index_desk::WorkEnd;
 use index_state::Judged;
-use scan_worker::WorkEnd;
 
 /// What a groomer did, and how it ended. The numbers stay at 2^64 - 1 once they are there.
 #[derive(Clone, Copy, PartialEq, Eq)]

@@ -30,7 +30,7 @@ use Rattle.index_state.specs.declared.answer.Plan.{Plan}
 use Rattle.index_state.specs.declared.answer.Published.{Published}
 use Rattle.index_state.specs.declared.answer.Published.TheVariants as said
 use Rattle.index_state.proofs.ByName.{has_stamp_is_in, names_by_path}
-use Rattle.groomer.specs.Judged.{GoesOn}
+use Rattle.index_desk.specs.Holds.{LogGoesOn as GoesOn}
 use Rattle.pass_runner.specs.Leading.{BeginShows, IsPlanned, IsStanding}
 
 -- each listed name is counted once by a plan

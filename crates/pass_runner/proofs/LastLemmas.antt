@@ -28,7 +28,7 @@ use Rattle.index_state.proofs.ByName.{has_stamp_is_in, names_by_path}
 use Rattle.index_state.proofs.Keeps.{there}
 use Rattle.index_state.proofs.Members.{same_name_self}
 use Rattle.index_state.proofs.VoidEnds.{never_both}
-use Rattle.groomer.specs.Judged.{GoesOn}
+use Rattle.index_desk.specs.Holds.{LogGoesOn as GoesOn}
 use Rattle.pass_runner.specs.Leading.{BeginsLast, EndsOpen, IsDoneAgain, IsOpenBy, IsShutAgain, LastShows, OpensLast, is_none_left}
 use Rattle.pass_runner.specs.Numbers.{summary_of}
 use Rattle.pass_runner.specs.SharedPass.{IsOfPass, StillStands}

@@ -19,8 +19,8 @@ use Rattle.index_state.proofs.AwaySteps.{groomed_unlisted}
 use Rattle.index_state.proofs.Keeps.{there}
 use Rattle.index_state.proofs.Members.{same_name_self}
 use Rattle.index_state.proofs.PassSteps.{in_added}
-use Rattle.scan_worker.specs.declared.work_end.WorkEnd.{WorkEnd}
-use Rattle.scan_worker.specs.declared.work_end.WorkEnd.TheVariants.{Empty, Broken, KeeperFault, LogFull, OutOfMemory}
+use Rattle.index_desk.specs.declared.work_end.WorkEnd.{WorkEnd}
+use Rattle.index_desk.specs.declared.work_end.WorkEnd.TheVariants.{Empty, Broken, KeeperFault, LogFull, OutOfMemory}
 use Rattle.tree_trait.specs.Found.{Versions}
 use Rattle.tree_trait.specs.Heard.{Heard}
 use Rattle.tree_trait.specs.Shown.{ShownTree}

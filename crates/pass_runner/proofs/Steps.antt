@@ -34,8 +34,9 @@ use Rattle.tree_trait.specs.declared.stat.StatAnswer.{StatAnswer}
 use Rattle.tree_trait.specs.declared.stat.StatAnswer.TheVariants.{Folder, File, Other, Gone, Failed, OutOfMemory}
 use Rattle.pass_runner.specs.Ends.{IsOver}
 use Rattle.pass_runner.specs.Settled.{IsBacked, IsBrought, IsMissBy, IsMissing, IsPassOn, IsReadOf, IsSeenGone, times_named}
-use Rattle.pass_runner.specs.Turns.{Advances, HasSeen, looked_of}
-use Rattle.pass_runner.specs.declared.look_for.Looked.TheVariants as looked
+use Rattle.groomer.specs.Looks.{looked_of}
+use Rattle.pass_runner.specs.Turns.{Advances, HasSeen}
+use Rattle.groomer.specs.declared.looking.Looked.TheVariants as looked
 use Rattle.pass_runner.proofs.Bounding.{bounded_same}
 use Rattle.pass_runner.proofs.Loads.{same_names, same_todo, times_left}
 use Rattle.pass_runner.proofs.Moves.{still_brought, still_missed}

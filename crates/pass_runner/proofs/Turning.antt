@@ -1,7 +1,8 @@
 -- What becomes of a name that was handed out.
 use Rattle.std.proofs.Common.{◌≡◌, ◌≢◌, ℕ, ◌≤◌, Bool, true, false, List, [], ◌∷◌, Option, Some, None, refl, sym, ◌∙◌, ap, subst, arith, IsTrue}
 use Rattle.std.specs.List.{All, Contains}
-use Rattle.std.proofs.lemmas.Bool.{true≢false}
+use Rattle.std.specs.Bool.{OnTrue, OnFalse}
+use Rattle.std.proofs.lemmas.Bool.{OnTrue_at, OnFalse_at, true≢false}
 use Rattle.std.proofs.lemmas.List.Elements.{All-nil, All-weaker}
 use Rattle.row_types.specs.Faults.{Rose}
 use Rattle.row_types.specs.Name.{NameFacts}
@@ -13,6 +14,7 @@ use Rattle.scan_queue.specs.Names.{is_in}
 use Rattle.scan_queue.specs.declared.miss.Cause.{Cause}
 use Rattle.scan_queue.specs.declared.miss.Cause.TheVariants.{ReadFault, Altered, Appeared}
 use Rattle.scan_queue.specs.declared.miss.Seen.{Seen}
+use Rattle.scan_queue.specs.declared.miss.Seen.TheVariants as seen
 use Rattle.index_state.specs.Away.{MissesOut}
 use Rattle.index_state.specs.Invariant.{IndexInvariant}
 use Rattle.index_state.specs.Judge.{is_kept, is_under}
@@ -21,8 +23,8 @@ use Rattle.index_state.specs.Step.{IsAwaited, Judges}
 use Rattle.index_state.specs.declared.answer.Judged.{Judged}
 use Rattle.index_state.specs.declared.answer.Judged.TheVariants as judged
 use Rattle.scan_worker.specs.Read.{FindsOther, Reads, load_of}
-use Rattle.scan_worker.specs.declared.work_end.WorkEnd.{WorkEnd}
-use Rattle.scan_worker.specs.declared.work_end.WorkEnd.TheVariants.{KeeperFault, LogFull, OutOfMemory}
+use Rattle.index_desk.specs.declared.work_end.WorkEnd.{WorkEnd}
+use Rattle.index_desk.specs.declared.work_end.WorkEnd.TheVariants.{KeeperFault, LogFull, OutOfMemory}
 use Rattle.tree_trait.specs.Asks.{Asks}
 use Rattle.tree_trait.specs.Found.{Versions}
 use Rattle.tree_trait.specs.Heard.{Heard, load, stat, read_dir, has_failed, wants_memory}
@@ -33,8 +35,10 @@ use Rattle.tree_trait.specs.declared.stat.StatAnswer.{StatAnswer}
 use Rattle.tree_trait.specs.declared.stat.StatAnswer.TheVariants as said
 use Rattle.pass_runner.specs.Ends.{IsOutOfRoom, TurnsBy}
 use Rattle.pass_runner.specs.Settled.{IsBacked, IsPassOn, IsReadOf, IsWanted, times_loaded, times_named}
-use Rattle.pass_runner.specs.Turns.{Advances, HasSeen, IsLookUnder, JudgesLeft, Looks, LooksTo, PublishesNew, TurnsOver, after_judged, looked_of}
-use Rattle.pass_runner.specs.declared.look_for.Looked.TheVariants as looked
+use Rattle.pass_runner.specs.Turns.{Advances, HasSeen, IsLookUnder, JudgesLeft, Looks, LooksTo, PublishesNew, TurnsOver, after_judged}
+use Rattle.groomer.specs.Looks.{LooksAt, looked_of}
+use Rattle.groomer.specs.declared.looking.Looked.{Looked}
+use Rattle.groomer.specs.declared.looking.Looked.TheVariants as looked
 use Rattle.pass_runner.proofs.Bounding.{bounded_same, bounded_void}
 use Rattle.pass_runner.proofs.Loads.{loads_heard, loads_looks}
 use Rattle.tree_trait.proofs.ListenLemmas.{all_heard, is_heard, listens_none, listens_one}
@@ -386,3 +390,21 @@ looks_none roots name apart = record {
   asked = All-nil (IsLookUnder roots);
   leads = λ under. absurd (true≢false (sym under ∙ apart));
 }
+
+-- a look was made at a path under a root, and none elsewhere
+module _ {told : Bool} {version : Versions} {T : Type 0} (shows : T → ShownTree) (before after : T) (under : Bool) where
+  pub looks_as : (roots : List (List ℕ)) (name : NameFacts) (end : Looked) → under ≡ is_under roots name.path
+      → OnTrue under (LooksAt told version name (shows before) (shows after) end)
+      → OnFalse under (end ≡ looked.Saw seen.Gone) → OnFalse under (after ≡ before)
+      → Looks told version roots name (shows before) (shows after) end
+  looks_as roots name end lies at apart same =
+      elim under as (λ b. under ≡ b → Looks told version roots name (shows before) (shows after) end) [
+        | true ↦ λ is.
+            let seen_there = OnTrue_at is at in
+            subst (λ (e : Looked). Looks told version roots name (shows before) (shows after) e) (sym seen_there.saw)
+            (looks_by roots name seen_there.answer (sym lies ∙ is) seen_there.asks)
+        | false ↦ λ is.
+            subst (λ (t : T). Looks told version roots name (shows before) (shows t) end) (sym (OnFalse_at is same))
+            (subst (λ (e : Looked). Looks told version roots name (shows before) (shows before) e) (sym (OnFalse_at is apart))
+            (looks_none roots name (sym lies ∙ is)))
+      ] refl

@@ -5,8 +5,8 @@ use Rattle.index_rows.specs.Rows.{row_names}
 use Rattle.index_rows.specs.declared.rows.TheConstants.{LOG_LIMIT}
 use Rattle.index_state.specs.State.{StateFacts, pass_of}
 use Rattle.scan_queue.specs.Names.{without}
-use Rattle.scan_worker.specs.declared.work_end.WorkEnd.{WorkEnd}
-use Rattle.scan_worker.specs.declared.work_end.WorkEnd.TheVariants.{Empty, Broken, KeeperFault, LogFull, OutOfMemory}
+use Rattle.index_desk.specs.declared.work_end.WorkEnd.{WorkEnd}
+use Rattle.index_desk.specs.declared.work_end.WorkEnd.TheVariants.{Empty, Broken, KeeperFault, LogFull, OutOfMemory}
 
 -- no name is left to be handed out; where none was out before, none is
 pub record IsSettled {K : Type 0} (old new : StateFacts K) : Type 0 where

@@ -13,19 +13,18 @@ use Rattle.index_state.specs.declared.answer.Judged.{Judged}
 use Rattle.index_state.specs.declared.answer.Judged.TheVariants.{Broken as JudgedBroken, LogFull as JudgedFull, KeeperFault as JudgedFault, OutOfMemory as JudgedNoMemory}
 use Rattle.scan_queue.specs.Names.{is_in}
 use Rattle.scan_queue.specs.declared.miss.Seen.{Seen}
-use Rattle.scan_queue.specs.declared.miss.Seen.TheVariants as seen
-use Rattle.scan_worker.specs.declared.work_end.WorkEnd.{WorkEnd}
-use Rattle.scan_worker.specs.declared.work_end.WorkEnd.TheVariants.{Broken, KeeperFault, LogFull, OutOfMemory}
+use Rattle.index_desk.specs.declared.work_end.WorkEnd.{WorkEnd}
+use Rattle.index_desk.specs.declared.work_end.WorkEnd.TheVariants.{Broken, KeeperFault, LogFull, OutOfMemory}
 use Rattle.tree_trait.specs.Found.{Versions}
 use Rattle.tree_trait.specs.Heard.{Heard, stat}
 use Rattle.tree_trait.specs.Listens.{Listens}
 use Rattle.tree_trait.specs.Shown.{ShownTree}
 use Rattle.tree_trait.specs.declared.stat.StatAnswer.{StatAnswer}
-use Rattle.tree_trait.specs.declared.stat.StatAnswer.TheVariants as said
 use Rattle.pass_runner.specs.Ends.{TurnsBy}
 use Rattle.pass_runner.specs.Settled.{IsBrought, IsMissBy, IsPassOn, MayGo, Proceeds, times_loaded, times_named}
-use Rattle.pass_runner.specs.declared.look_for.Looked.{Looked}
-use Rattle.pass_runner.specs.declared.look_for.Looked.TheVariants as looked
+use Rattle.groomer.specs.Looks.{looked_of}
+use Rattle.groomer.specs.declared.looking.Looked.{Looked}
+use Rattle.groomer.specs.declared.looking.Looked.TheVariants as looked
 
 -- the index went on, while this was heard and calls of the hand failed only so
 pub record Advances {K : Type 0} (shows : K → ShownKeeper) (answers : List Heard) (Failed : Type 0)
@@ -92,15 +91,6 @@ pub record JudgesLeft {K : Type 0} (tells : Bool) (shows : K → ShownKeeper) (n
   pub answer : Judged
   pub judged : Judges tells shows name met old answer new
   pub ends : end ≡ after_judged answer
-
--- what a look saw
-abbrev pub looked_of : StatAnswer → Looked
-looked_of said.Folder = looked.Saw seen.Other
-looked_of (said.File stamp) = looked.Saw (seen.File stamp)
-looked_of said.Other = looked.Saw seen.Other
-looked_of said.Gone = looked.Saw seen.Gone
-looked_of said.Failed = looked.Failed
-looked_of said.OutOfMemory = looked.OutOfMemory
 
 -- a look at the path of the name that was heard saw this
 pub record HasSeen (answers : List Heard) (name : NameFacts) (met : Seen) : Type 0 where

@@ -1,7 +1,7 @@
 //! Single holds of a shared index by the hand that leads a pass.
 
 ghost use Rattle.std.specs.Prelude.{◌≡◌, [], None};
-ghost use Rattle.groomer.specs.Judged.{GoesOn};
+ghost use Rattle.index_desk.specs.Holds.{LogGoesOn as GoesOn};
 ghost use Rattle.index_lock.specs.Tokens.{IsLater};
 ghost use Rattle.index_state.specs.declared.answer.Judged.{Judged};
 ghost use Rattle.pass_runner.specs.Leading.{BeginShows, IsStanding};

@@ -1,7 +1,7 @@
 //! How a pass over a shared index ends, by its last hold.
 
 ghost use Rattle.std.specs.Prelude.{◌≡◌, Contains, IfSome, IsSome, IsTrue, Some, None};
-ghost use Rattle.groomer.specs.Judged.{GoesOn};
+ghost use Rattle.index_desk.specs.Holds.{LogGoesOn as GoesOn};
 ghost use Rattle.index_lock.specs.Tokens.{IsLater};
 ghost use Rattle.index_rows.specs.Rows.{row_names};
 ghost use Rattle.index_state.specs.Judge.{is_under};

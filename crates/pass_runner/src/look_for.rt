@@ -9,26 +9,16 @@ ghost use Rattle.scan_queue.specs.Names.{is_in};
 ghost use Rattle.pass_runner.specs.Ends.{SettlesBy};
 ghost use Rattle.pass_runner.specs.Settled.{IsPassOn};
 ghost use Rattle.pass_runner.specs.Turns.{JudgesLeft, Looks, Takes, TurnsOver};
-ghost use Rattle.pass_runner.specs.Turns.{after_judged, looked_of};
+ghost use Rattle.pass_runner.specs.Turns.{after_judged};
 
+use groomer::{Looked, look};
+use index_desk::WorkEnd;
 use index_keeper::Keeper;
 use index_state::{GroomTask, Judged, State, show_index};
 use row_types::{Name, Truth};
 use scan_queue::{Cause, Seen};
-use scan_worker::WorkEnd;
 use std::alloc::Global;
-use tree_trait::{StatAnswer, Tree};
-
-/// What a look for the file of a row gives.
-#[derive(Clone, Copy, PartialEq, Eq)]
-pub(crate) enum Looked {
-    /// What stands at its path.
-    Saw(Seen),
-    /// The look failed, and the hand's count of faults rose.
-    Failed,
-    /// Memory was refused.
-    OutOfMemory,
-}
+use tree_trait::Tree;
 
 /// Looks for the files of the rows that are no longer listed, in path order, and drops those rows
 /// whose files are gone. No look is made at a path under no root.
@@ -78,7 +68,7 @@ fn look_for<W: Truth, K: Keeper<W>, T: Tree<W>>(
         (T.shows hand.new) state.old state.new result }
 {
     show_index(state);
-    match look(alloc, hand, task) {
+    match look_under(alloc, hand, task) {
         Looked::Saw(seen) => judge_name(alloc, state, &task.name, seen),
         Looked::Failed => {
             state.miss(&task.name, Cause::ReadFault);
@@ -89,28 +79,12 @@ fn look_for<W: Truth, K: Keeper<W>, T: Tree<W>>(
 }
 
 /// Looks for the file of a row, if its path is under a root.
-#[tactic(auto, using(crate::proofs::Turning::looks_none, crate::proofs::Turning::looks_by))]
-fn look<W: Truth, T: Tree<W>>(alloc: Global, hand: &mut T, task: &GroomTask) -> Looked
+#[tactic(auto, using(crate::proofs::Turning::looks_as))]
+fn look_under<W: Truth, T: Tree<W>>(alloc: Global, hand: &mut T, task: &GroomTask) -> Looked
     ensures { (roots : List (List ℕ)) → task.now.under ≡ is_under roots task.now.name.path
         → Looks T.told W.version roots task.now.name (T.shows hand.old) (T.shows hand.new) result }
 {
-    if !task.under {
-        return Looked::Saw(Seen::Gone);
-    }
-    looked_of(hand.stat(alloc, task.name.path.text()))
-}
-
-/// What a look saw.
-fn looked_of(answer: StatAnswer) -> Looked
-    ensures { result ≡ looked_of answer }
-{
-    match answer {
-        StatAnswer::File(stamp) => Looked::Saw(Seen::File(stamp)),
-        StatAnswer::Folder | StatAnswer::Other => Looked::Saw(Seen::Other),
-        StatAnswer::Gone => Looked::Saw(Seen::Gone),
-        StatAnswer::Failed => Looked::Failed,
-        StatAnswer::OutOfMemory => Looked::OutOfMemory,
-    }
+    look(alloc, hand, task)
 }
 
 /// Judges a name.

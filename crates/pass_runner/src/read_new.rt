@@ -9,11 +9,12 @@ ghost use Rattle.pass_runner.specs.Ends.{ReadsBy};
 ghost use Rattle.pass_runner.specs.Settled.{IsPassOn};
 ghost use Rattle.pass_runner.specs.Turns.{PublishesNew, Takes, TurnsOver};
 
+use index_desk::WorkEnd;
 use index_keeper::Keeper;
 use index_state::{Published, State, show_index};
 use row_types::{Name, TrueRow, Truth};
 use scan_queue::Cause;
-use scan_worker::{NameRead, WorkEnd, read_name};
+use scan_worker::{NameRead, read_name};
 use std::alloc::Global;
 use tree_trait::{Reader, Tree};
 

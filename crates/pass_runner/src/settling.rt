@@ -7,10 +7,10 @@ ghost use Rattle.pass_runner.specs.Settled.{IsPassOn, Settles};
 
 use crate::look_for::look_for_all;
 use crate::read_new::read_new;
+use index_desk::WorkEnd;
 use index_keeper::Keeper;
 use index_state::{State, show_index};
 use row_types::Truth;
-use scan_worker::WorkEnd;
 use std::alloc::Global;
 use tree_trait::{Reader, Tree};
 

@@ -1,6 +1,5 @@
 -- What a worker asks of its hand, and what it counts.
 use Rattle.std.proofs.Common.{◌≡◌, ℕ, ◌+◌, ◌-◌, ◌^◌, ◌≤◌, min, Bool, List, [], sym, ap, subst, arith}
-use Rattle.std.specs.List.{All}
 use Rattle.std.proofs.lemmas.List.Elements.{All-nil}
 use Rattle.row_types.specs.Name.{NameFacts}
 use Rattle.tree_trait.specs.Found.{Versions}

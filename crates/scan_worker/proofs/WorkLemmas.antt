@@ -12,8 +12,10 @@ use Rattle.tree_trait.specs.Heard.{Heard}
 use Rattle.tree_trait.specs.Listens.{Listens, heard_of, loads}
 use Rattle.tree_trait.specs.Shown.{ShownTree}
 use Rattle.tree_trait.proofs.ListenLemmas.{all_heard, listens_then, loads_both}
-use Rattle.scan_worker.specs.Counts.{puts}
-use Rattle.scan_worker.specs.Ends.{EndShows, uncounted, uncounted_at}
+use Rattle.index_desk.proofs.Shown.{puts_grow}
+use Rattle.index_desk.specs.Counts.{puts}
+use Rattle.index_desk.specs.Ends.{EndShows}
+use Rattle.scan_worker.specs.Ends.{uncounted, uncounted_at}
 use Rattle.scan_worker.specs.Read.{load_of}
 use Rattle.scan_worker.specs.Turns.{AsksFor, CountsTurn, FitsRead, counted_by, end_by, missed_by, no_tally, published_by, report_of}
 use Rattle.scan_worker.specs.Works.{IsSparingLoad, Works, WorksOn}
@@ -22,10 +24,8 @@ use Rattle.scan_worker.specs.declared.read.NameRead.TheVariants as read
 use Rattle.scan_worker.specs.declared.tally.Tally.{Tally}
 use Rattle.scan_worker.specs.declared.turn.Turn.{Turn}
 use Rattle.scan_worker.specs.declared.turn.Turn.TheVariants.{Published, Passed, Missed, Ended}
-use Rattle.scan_worker.specs.declared.work_end.WorkEnd.{WorkEnd}
-use Rattle.scan_worker.specs.declared.work_end.WorkEnd.TheVariants as end
+use Rattle.index_desk.specs.declared.work_end.WorkEnd.{WorkEnd}
 use Rattle.scan_worker.proofs.HandLemmas.{asks_none, at_most_one, count_least, count_most, count_published, count_same, row_heard}
-use Rattle.scan_worker.proofs.LogLemmas.{puts_grow}
 
 -- each name that counts as published or missed was read
 counts_read : {W : Type 0} (given : NameRead W) (turn : Turn) → FitsRead given turn

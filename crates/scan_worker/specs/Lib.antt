@@ -1,6 +1,5 @@
 pub use Rattle.index_state.specs.State
 pub use Rattle.tree_trait.specs.Reader
-pub mod Counts
 pub mod Ends
 pub mod Read
 pub mod Turns

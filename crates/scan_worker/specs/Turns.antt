@@ -1,12 +1,12 @@
 -- What becomes of one listed file (this crate's bookkeeping, which no public clause cites).
-use Rattle.std.specs.Prelude.{◌≡◌, ℕ, ◌+◌, ◌-◌, ◌^◌, ◌≤◌, min, Bool, true, false, List, Option, Some, None}
-use mathlib.Core.List.{IsPrefix}
+use Rattle.std.specs.Prelude.{◌≡◌, ℕ, ◌+◌, ◌-◌, ◌^◌, min, Bool, true, false, List, Option, Some, None}
 use Rattle.row_types.specs.Name.{NameFacts}
+use Rattle.row_types.specs.Row.{RowFacts}
 use Rattle.index_keeper.specs.Keeper.{ShownKeeper}
 use Rattle.index_rows.specs.declared.change.Change.{Change}
-use Rattle.index_state.specs.Away.{MissesOut}
-use Rattle.index_state.specs.State.{StateFacts}
-use Rattle.index_state.specs.Step.{Publishes}
+use Rattle.index_lock.specs.Tokens.{SeatFacts}
+use Rattle.index_state.specs.State.{Origin}
+use Rattle.index_state.specs.Step.{misses, publishes, to_miss, to_publish}
 use Rattle.index_state.specs.declared.answer.Published.{Published}
 use Rattle.index_state.specs.declared.answer.Published.TheVariants as said
 use Rattle.scan_queue.specs.declared.miss.Cause.{Cause}
@@ -15,8 +15,8 @@ use Rattle.tree_trait.specs.Found.{Versions}
 use Rattle.tree_trait.specs.Listens.{Listens, heard_of}
 use Rattle.tree_trait.specs.Load.{LoadFacts}
 use Rattle.tree_trait.specs.Shown.{ShownTree}
-use Rattle.scan_worker.specs.Counts.{puts}
-use Rattle.scan_worker.specs.Ends.{EndShows}
+use Rattle.index_desk.specs.Ends.{EndShows}
+use Rattle.index_desk.specs.Holds.{HoldsEvent}
 use Rattle.scan_worker.specs.Read.{LeadsTo, load_of}
 use Rattle.scan_worker.specs.declared.read.NameRead.{NameRead}
 use Rattle.scan_worker.specs.declared.read.NameRead.TheVariants as read
@@ -24,8 +24,8 @@ use Rattle.scan_worker.specs.declared.tally.Tally.{Tally}
 use Rattle.scan_worker.specs.declared.tally.WorkReport.{WorkReport}
 use Rattle.scan_worker.specs.declared.turn.Turn.{Turn}
 use Rattle.scan_worker.specs.declared.turn.Turn.TheVariants.{Published as DonePublished, Passed, Missed, Ended}
-use Rattle.scan_worker.specs.declared.work_end.WorkEnd.{WorkEnd}
-use Rattle.scan_worker.specs.declared.work_end.WorkEnd.TheVariants as end
+use Rattle.index_desk.specs.declared.work_end.WorkEnd.{WorkEnd}
+use Rattle.index_desk.specs.declared.work_end.WorkEnd.TheVariants as end
 
 -- what an answer to a row means for the work
 abbrev pub turn_of : Published → Turn
@@ -38,30 +38,50 @@ turn_of said.LogFull = Ended end.LogFull
 turn_of said.KeeperFault = Ended end.KeeperFault
 turn_of said.OutOfMemory = Ended end.OutOfMemory
 
--- the name was noted as missed, if it was out
-abbrev pub TurnsByMiss : {K : Type 0} → NameFacts → Cause → StateFacts K → Turn → StateFacts K → Type 0
-TurnsByMiss name why old Missed new = MissesOut name why old true new
-TurnsByMiss name why old Passed new = MissesOut name why old false new
-TurnsByMiss name why old _ new = ⊥
+-- in one hold a row was published, and the answer says what became of its name
+pub record TellsRow {K : Type 0} (true_row : RowFacts → Type 0) (told : Bool) (shows : K → ShownKeeper) (row : RowFacts)
+    (seat : SeatFacts Change Origin) (turn : Turn) (later_seat : SeatFacts Change Origin) : Type 0 where
+  pub answer : Published
+  pub holds : HoldsEvent true_row told shows (publishes row) (to_publish answer) seat later_seat
+  pub means : turn ≡ turn_of answer
+
+-- in one hold the name was noted as missed, if it was out
+abbrev pub TellsMiss : {K : Type 0} → (RowFacts → Type 0) → Bool → (K → ShownKeeper) → NameFacts → Cause
+    → SeatFacts Change Origin → Turn → SeatFacts Change Origin → Type 0
+TellsMiss true_row told shows name why seat Missed later_seat =
+    HoldsEvent true_row told shows (misses name why) (to_miss true) seat later_seat
+TellsMiss true_row told shows name why seat Passed later_seat =
+    HoldsEvent true_row told shows (misses name why) (to_miss false) seat later_seat
+TellsMiss true_row told shows name why seat _ later_seat = ⊥
 
 -- what the index is told of a listed file that was read: its row; or that the name was missed, since another file stood
 -- there or none, or since it could not be read
-abbrev pub Tells : {W K : Type 0} → Bool → (K → ShownKeeper) → NameFacts → NameRead W → StateFacts K → Turn → StateFacts K
-    → Type 0
-Tells told shows name (read.Row row) old turn new =
-    (answer : Published) × Publishes told shows row old answer new × (turn ≡ turn_of answer)
-Tells told shows name (read.Altered met) old turn new = TurnsByMiss name (cause.Altered met) old turn new
-Tells told shows name read.Failed old turn new = TurnsByMiss name cause.ReadFault old turn new
-Tells told shows name read.OutOfMemory old turn new = (turn ≡ Ended end.OutOfMemory) × (new ≡ old)
+abbrev pub Tells : {W K : Type 0} → (RowFacts → Type 0) → Bool → (K → ShownKeeper) → NameFacts → NameRead W
+    → SeatFacts Change Origin → Turn → SeatFacts Change Origin → Type 0
+Tells true_row told shows name (read.Row row) seat turn later_seat =
+    TellsRow true_row told shows row seat turn later_seat
+Tells true_row told shows name (read.Altered met) seat turn later_seat =
+    TellsMiss true_row told shows name (cause.Altered met) seat turn later_seat
+Tells true_row told shows name read.Failed seat turn later_seat =
+    TellsMiss true_row told shows name cause.ReadFault seat turn later_seat
+Tells true_row told shows name read.OutOfMemory seat turn later_seat =
+    (turn ≡ Ended end.OutOfMemory) × (later_seat ≡ seat)
+
+-- what may become of the name of a row, and of one that is to be missed
+abbrev pub FitsRow : Turn → Type 0
+FitsRow Missed = ⊥
+FitsRow _ = Unit {0}
+
+abbrev pub FitsMiss : Turn → Type 0
+FitsMiss Missed = Unit {0}
+FitsMiss Passed = Unit {0}
+FitsMiss _ = ⊥
 
 -- what may become of a listed file, by how it was read
 abbrev pub FitsRead : {W : Type 0} → NameRead W → Turn → Type 0
 FitsRead read.OutOfMemory turn = turn ≡ Ended end.OutOfMemory
-FitsRead (read.Row row) Missed = ⊥
-FitsRead (read.Row row) _ = Unit {0}
-FitsRead _ Missed = Unit {0}
-FitsRead _ Passed = Unit {0}
-FitsRead _ _ = ⊥
+FitsRead (read.Row row) turn = FitsRow turn
+FitsRead _ turn = FitsMiss turn
 
 -- the names that it adds to those published, and to those missed
 abbrev pub published_by : Turn → ℕ
@@ -81,12 +101,6 @@ end_by _ = None
 abbrev pub TurnShows : Turn → List Change → Type 0
 TurnShows (Ended end) log = EndShows end log
 TurnShows _ log = Unit {0}
-
--- the log goes on, the origin stays, and so many names more were put
-pub record Grows {K : Type 0} (old new : StateFacts K) (count : ℕ) : Type 0 where
-  pub log : IsPrefix old.log new.log
-  pub origin : new.origin ≡ old.origin
-  pub puts : puts old.log + count ≤ puts new.log
 
 -- whether the load of a listed file counts
 abbrev pub counted_by : {W : Type 0} → NameRead W → ℕ

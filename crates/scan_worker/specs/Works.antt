@@ -10,8 +10,9 @@ use Rattle.tree_trait.specs.Found.{Versions}
 use Rattle.tree_trait.specs.Heard.{Heard, load}
 use Rattle.tree_trait.specs.Listens.{Listens, loads}
 use Rattle.tree_trait.specs.Shown.{ShownTree}
-use Rattle.scan_worker.specs.Counts.{puts}
-use Rattle.scan_worker.specs.Ends.{EndShows, uncounted_at}
+use Rattle.index_desk.specs.Counts.{puts}
+use Rattle.index_desk.specs.Ends.{EndShows}
+use Rattle.scan_worker.specs.Ends.{uncounted_at}
 use Rattle.scan_worker.specs.declared.tally.Tally.{Tally}
 use Rattle.scan_worker.specs.declared.tally.WorkReport.{WorkReport}
 

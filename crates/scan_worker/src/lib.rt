@@ -6,10 +6,8 @@
 mod read;
 mod tally;
 mod turn;
-mod work_end;
 mod worker;
 
 pub use read::{NameRead, read_name};
 pub use tally::WorkReport;
-pub use work_end::WorkEnd;
 pub use worker::work;

@@ -5,7 +5,7 @@ ghost use Rattle.scan_worker.specs.Turns.{CountsLoad, CountsTurn, end_by, no_tal
 
 use crate::read::NameRead;
 use crate::turn::Turn;
-use crate::work_end::WorkEnd;
+use index_desk::WorkEnd;
 use row_types::Truth;
 
 /// What a worker reports. Each number stays at 2^64 - 1 once it is there.

@@ -1,18 +1,19 @@
 //! What becomes of a listed file that was read.
 
-ghost use Rattle.std.specs.Prelude.{◌≡◌, ◌+◌, ◌≤◌};
+ghost use Rattle.std.specs.Prelude.{◌≡◌, ◌+◌, ◌≤◌, List};
 ghost use Rattle.index_lock.specs.Tokens.{IsLater};
-ghost use Rattle.scan_worker.specs.Counts.{puts};
-ghost use Rattle.scan_worker.specs.Turns.{FitsRead, Grows, Tells, TurnShows, TurnsByMiss, published_by, turn_of};
+ghost use Rattle.index_rows.specs.declared.change.Change.{Change};
+ghost use Rattle.index_desk.specs.Counts.{puts};
+ghost use Rattle.index_desk.specs.Ends.{PublishedShows, put_by};
+ghost use Rattle.scan_worker.specs.Turns.{FitsMiss, FitsRead, FitsRow, Tells, TellsMiss};
+ghost use Rattle.scan_worker.specs.Turns.{TellsRow, TurnShows, published_by, turn_of};
 
 use crate::read::NameRead;
-use crate::work_end::WorkEnd;
+use index_desk::{Desk, Ground, WorkEnd};
 use index_keeper::Keeper;
-use index_lock::{Seat, TurnLock};
-use index_state::{Published, State, show_index};
-use row_types::{Name, Truth};
+use index_state::Published;
+use row_types::{Name, TrueRow, Truth};
 use scan_queue::Cause;
-use std::alloc::Global;
 use std::sync::Wait;
 
 /// What became of a name that was handed out.
@@ -29,73 +30,77 @@ pub(crate) enum Turn {
     Ended(WorkEnd),
 }
 
-/// Takes the lock once, and hands in what a listed file was read as.
-pub(crate) fn hand_in<W: Truth, K: Keeper<W>, Rt: Wait + Sync>(
-    rt: &Rt,
-    alloc: Global,
-    lock: &TurnLock<State<W, K>>,
-    seat: Seat<State<W, K>>,
+/// Hands in what a listed file was read as, in one hold of the lock. Where memory was refused there
+/// is nothing to hand in.
+pub(crate) fn hand_in<'a, W: Truth, K: Keeper<W>, R, G, Rt: Wait>(
+    ground: Ground<'_, R, G, Rt>,
+    desk: Desk<'a, W, K>,
     name: &Name,
     read: NameRead<W>,
-) -> (Seat<State<W, K>>, Turn)
-    requires { seat.lock ≡ lock.now }
-    ensures later { IsLater seat result.0 }
-    ensures counted { puts seat.seen + published_by result.1 ≤ puts result.0.seen }
+) -> (Desk<'a, W, K>, Turn)
+    ensures tells { Tells W.true_row K.told K.shows name.now read desk.entry.seat result.1
+        result.0.seat }
+    ensures later { IsLater desk.entry.seat result.0.seat }
+    ensures counted { puts desk.entry.seat.seen + published_by result.1
+        ≤ puts result.0.seat.seen }
     ensures fits { FitsRead read result.1 }
-    ensures shows { TurnShows result.1 result.0.seen }
-{
-    let mut held = lock.enter(rt, seat);
-    let turn = settle_name(alloc, held.value_mut(), name, read);
-    (lock.leave(held), turn)
-}
-
-/// Hands in what a listed file was read as, while the lock is held.
-fn settle_name<W: Truth, K: Keeper<W>>(
-    alloc: Global,
-    state: &mut State<W, K>,
-    name: &Name,
-    read: NameRead<W>,
-) -> Turn
-    ensures grows { Grows state.old state.new (published_by result) }
-    ensures fits { FitsRead read result }
-    ensures shows { TurnShows result state.new.log }
-{
-    let turn = tell(alloc, state, name, read);
-    show_index(state);
-    turn
-}
-
-/// Tells the index what a listed file was read as.
-fn tell<W: Truth, K: Keeper<W>>(
-    alloc: Global,
-    state: &mut State<W, K>,
-    name: &Name,
-    read: NameRead<W>,
-) -> Turn
-    ensures { Tells K.told K.shows name.now read state.old result state.new }
+    ensures shows { TurnShows result.1 result.0.seat.seen }
 {
     match read {
-        NameRead::Row(row) => turn_of(state.publish(alloc, row)),
-        NameRead::Altered(seen) => miss(state, name, Cause::Altered { seen }),
-        NameRead::Failed => miss(state, name, Cause::ReadFault),
-        NameRead::OutOfMemory => Turn::Ended(WorkEnd::OutOfMemory),
+        NameRead::Row(row) => publish(ground, desk, row),
+        NameRead::Altered(seen) => miss(ground, desk, name, Cause::Altered { seen }),
+        NameRead::Failed => miss(ground, desk, name, Cause::ReadFault),
+        NameRead::OutOfMemory => (desk, Turn::Ended(WorkEnd::OutOfMemory)),
     }
 }
 
-/// Notes a name as missed, if it is out.
-fn miss<W: Truth, K: Keeper<W>>(state: &mut State<W, K>, name: &Name, cause: Cause) -> Turn
-    ensures { TurnsByMiss name.now cause state.old result state.new }
+/// Publishes the row of a listed file.
+fn publish<'a, W: Truth, K: Keeper<W>, R, G, Rt: Wait>(
+    ground: Ground<'_, R, G, Rt>,
+    desk: Desk<'a, W, K>,
+    row: TrueRow<W>,
+) -> (Desk<'a, W, K>, Turn)
+    ensures tells { TellsRow W.true_row K.told K.shows row desk.entry.seat result.1
+        result.0.seat }
+    ensures later { IsLater desk.entry.seat result.0.seat }
+    ensures counted { puts desk.entry.seat.seen + published_by result.1
+        ≤ puts result.0.seat.seen }
+    ensures fits { FitsRow result.1 }
+    ensures shows { TurnShows result.1 result.0.seat.seen }
 {
-    if state.miss(name, cause) {
-        Turn::Missed
+    let (desk, answer) = desk.publish(ground.rt, ground.alloc, row);
+    (desk, turn_of(answer))
+}
+
+/// Notes a name as missed, if it is out.
+fn miss<'a, W: Truth, K: Keeper<W>, R, G, Rt: Wait>(
+    ground: Ground<'_, R, G, Rt>,
+    desk: Desk<'a, W, K>,
+    name: &Name,
+    cause: Cause,
+) -> (Desk<'a, W, K>, Turn)
+    ensures tells { TellsMiss W.true_row K.told K.shows name.now cause desk.entry.seat result.1
+        result.0.seat }
+    ensures later { IsLater desk.entry.seat result.0.seat }
+    ensures counted { puts desk.entry.seat.seen + published_by result.1
+        ≤ puts result.0.seat.seen }
+    ensures fits { FitsMiss result.1 }
+    ensures shows { TurnShows result.1 result.0.seat.seen }
+{
+    let (desk, was_out) = desk.miss(ground.rt, name, cause);
+    if was_out {
+        (desk, Turn::Missed)
     } else {
-        Turn::Passed
+        (desk, Turn::Passed)
     }
 }
 
 /// What an answer to a row means for the work.
 fn turn_of(said: Published) -> Turn
-    ensures { result ≡ turn_of said }
+    ensures value { result ≡ turn_of said }
+    ensures counted { published_by result ≡ put_by said }
+    ensures fits { FitsRow result }
+    ensures shows { (log : List Change) → PublishedShows said log → TurnShows result log }
 {
     match said {
         Published::Added | Published::Replaced => Turn::Published,

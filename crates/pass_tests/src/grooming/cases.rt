@@ -2,10 +2,10 @@
 
 use crate::grooming::helpers::{index_of, outcome_of_one};
 use crate::rig::{Index, begin, file, still_tree};
+use index_desk::WorkEnd;
 use index_state::Published;
 use row_types::OpenWorld;
 use sample_rows::{names, plain};
-use scan_worker::WorkEnd;
 use std::alloc::Global;
 use std::process::Abort;
 use std::sync::Wait;

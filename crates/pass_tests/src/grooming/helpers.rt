@@ -2,10 +2,10 @@
 
 use crate::rig::{Index, Outcome, Shared, begin, empty_index, outcome_of, put_behind, taken};
 use groomer::{GroomReport, groom};
+use index_desk::WorkEnd;
 use index_state::Published;
 use row_types::{OpenWorld, TrueRow, Truth};
 use sample_rows::{names, plain};
-use scan_worker::WorkEnd;
 use std::alloc::Global;
 use std::process::Abort;
 use std::sync::Wait;

@@ -9,8 +9,8 @@ use crate::rig::{
     taken,
 };
 use groomer::{GroomReport, groom};
+use index_desk::WorkEnd;
 use row_types::OpenWorld;
-use scan_worker::WorkEnd;
 use std::alloc::Global;
 use std::process::Abort;
 use std::sync::Wait;

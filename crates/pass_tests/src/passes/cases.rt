@@ -2,9 +2,9 @@
 
 use crate::rig::{Index, Version, begin, empty_index, listed, rows_of, version_tree};
 use elf_reading::ElfReader;
+use index_desk::WorkEnd;
 use pass_runner::settle;
 use scan_queue::{Cause, Miss, Seen};
-use scan_worker::WorkEnd;
 use std::alloc::Global;
 use std::process::Abort;
 use tree_trait::{MemTree, TwoWorld};

@@ -2,7 +2,7 @@
 
 use crate::rig::{Version, listed, passing, version_tree};
 use crate::workers::helpers::outcome_of_one;
-use scan_worker::WorkEnd;
+use index_desk::WorkEnd;
 use std::alloc::Global;
 use std::process::Abort;
 use std::sync::Wait;

@@ -2,9 +2,10 @@
 
 use crate::rig::{file, passing, still_tree};
 use crate::workers::helpers::{outcome_of_one, report};
+use index_desk::WorkEnd;
 use row_types::OpenWorld;
 use sample_rows::names;
-use scan_worker::{WorkEnd, WorkReport};
+use scan_worker::WorkReport;
 use std::alloc::Global;
 use std::process::Abort;
 use std::sync::Wait;

@@ -4,7 +4,8 @@ ghost use Rattle.std.specs.Prelude.{◌≡◌};
 
 use crate::rig::{Index, Lock, Outcome, Shared, Token, cut, outcome_of, put_behind, taken};
 use elf_reading::{ElfReader, ElfTruth};
-use scan_worker::{WorkEnd, WorkReport, work};
+use index_desk::WorkEnd;
+use scan_worker::{WorkReport, work};
 use std::alloc::Global;
 use std::process::Abort;
 use std::sync::Wait;

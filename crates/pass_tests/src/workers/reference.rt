@@ -2,8 +2,9 @@
 
 use crate::rig::{Files, Index, Outcome, ROWS, begin, names_of, passing, sample_tree};
 use crate::workers::helpers::{outcome_of_one, outcome_of_two, report, worked};
+use index_desk::WorkEnd;
 use sample_world::{REFERENCE_TREE, Sample, SampleWorld};
-use scan_worker::{WorkEnd, WorkReport};
+use scan_worker::WorkReport;
 use std::alloc::Global;
 use std::process::Abort;
 use std::sync::Wait;

@@ -6,9 +6,9 @@ pub loop-init : goal.loop-init
 loop-init g c = grooms_none
 
 pub loop-preserved : goal.loop-preserved
-loop-preserved g c = grooms_then c.loop.invariant c.groom_once-next.ensures.grooms
+loop-preserved g c = grooms_then c.loop.invariant c.groom_once-desk.ensures.grooms
 
 pub returns-in-Some-end : goal.returns-in-Some-end
 returns-in-Some-end g c =
-    grooms_whole c.in-Some-end.end c.in-Some-end.is c.groom_once-next.ensures.ends
-    (grooms_then c.loop.invariant c.groom_once-next.ensures.grooms)
+    grooms_whole c.in-Some-end.end c.in-Some-end.is c.groom_once-desk.ensures.ends
+    (grooms_then c.loop.invariant c.groom_once-desk.ensures.grooms)

@@ -17,7 +17,7 @@ returns-in-Saw-clause-grooms g c = record {
 
 pub returns-in-Failed-clause-grooms : goal.returns-in-Failed-clause-grooms
 returns-in-Failed-clause-grooms g c =
-    grooms_by c.note_miss.ensures (ap (λ (t : Tally). t.dropped) c.add_failed.ensures)
+    grooms_by c.miss-desk.ensures.later (ap (λ (t : Tally). t.dropped) c.add_failed.ensures)
     (looks_failed g.T.Tree.shows c.args.hand.now c.look.new.hand c.args.task.now.under c.args.task.now.name
     c.in-Failed.ensures.under c.in-Failed.ensures.apart (ap (λ (t : Tally). t.missed) c.add_failed.ensures))
 

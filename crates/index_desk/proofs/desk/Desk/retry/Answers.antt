@@ -1,0 +1,10 @@
+-- One hold.
+use Rattle.std.proofs.Common.{rules}
+use Rattle.index_desk.proofs.Goes.{index_held}
+use Rattle.index_desk.proofs.desk.Desk.retry.Goals as goal
+
+pub returns : goal.returns
+returns g c =
+    index_held c.args.self.seat c.leave-seat.result c.enter-held.result.value c.value_mut.result.now c.retry_held-answer.new.state
+    c.enter-held.ensures.begins c.enter-held.ensures.origin c.value_mut.ensures.value c.retry_held-answer.ensures.does
+    c.retry_held-answer.ensures.goes_on c.retry_held-answer.ensures.holds (search rules) c.leave-seat.ensures.seen (search rules)

@@ -1,0 +1,7 @@
+-- The log goes on.
+use Rattle.index_desk.proofs.Goes.{begin_goes}
+use Rattle.index_desk.proofs.held.begin_held.Goals as goal
+
+pub returns-clause-goes_on : goal.returns-clause-goes_on
+returns-clause-goes_on g c =
+    begin_goes c.args.listing c.args.roots.items c.requires c.begin-begun.result c.begin-begun.ensures.step
