@@ -105,9 +105,7 @@ pub(crate) fn miss_held<W: Truth, K: Keeper<W>>(
 }
 
 /// Lets the names that are out or missed be tried again.
-pub(crate) fn retry_held<W: Truth, K: Keeper<W>>(
-    state: &mut State<W, K>,
-) -> Result<u64, AllocError>
+pub(crate) fn retry_held<W: Truth, K: Keeper<W>>(state: &mut State<W, K>) -> Result<u64, AllocError>
     ensures does { RetriesAll K.told K.shows result state.old state.new }
     ensures goes_on { LogGoesOn state.old state.new }
     ensures holds { IndexInvariant W.true_row K.told K.shows state.new }
