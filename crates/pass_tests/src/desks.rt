@@ -1,6 +1,6 @@
 //! The calls of a desk, each in one hold of its lock, over a told world and a store in memory.
 
-ghost use Rattle.std.specs.Prelude.{◌≡◌, []};
+ghost use Rattle.std.specs.Prelude.{◌≡◌, None};
 ghost use Rattle.index_desk.specs.Holds.{LogGoesOn};
 
 use crate::rig::{
@@ -123,13 +123,13 @@ fn a_row_is_looked_for_and_judged(rt: HostRuntime) {
     assert!(rt; rows(&rt, alloc, &lock, seat).as_str() == "");
 }
 
-/// An index behind a lock, with a token that skips no name.
+/// An index behind a lock, of which no name was spared.
 #[derive(Drop)]
 struct Unspared {
     lock: Lock<TwoWorld>,
     seat: Token<TwoWorld>,
     ghost of_lock: { seat.lock ≡ lock },
-    ghost spared: { seat.origin.spared ≡ [] },
+    ghost spared: { seat.origin.sparing ≡ None },
 }
 
 /// The index without rows, in a pass over nothing, behind a lock.
@@ -149,7 +149,7 @@ fn without_rows(rt: &impl Abort, alloc: Global) -> Unspared {
 
 /// Begins a pass over `x`.
 fn begin_over<'a, R: Abort + Wait>(rt: &R, alloc: Global, desk: TwoDesk<'a>) -> (TwoDesk<'a>, Begun)
-    requires { desk.seat.origin.spared ≡ [] }
+    requires { desk.seat.origin.sparing ≡ None }
 {
     let roots = paths(alloc, &["/w"]).expect(rt, "a path");
     let Ok(listing) = Listing::new(listed(rt, alloc, Some(Version::First))) else {
