@@ -1,5 +1,5 @@
 -- What each event leaves of the log and the origin, and what one hold says.
-use Rattle.std.proofs.Common.{◌≡◌, ℕ, Bool, List, [], ◌∷◌, ◌++◌, Option, refl, sym, ◌∙◌, ap, subst}
+use Rattle.std.proofs.Common.{◌≡◌, ℕ, Bool, List, [], ◌∷◌, ◌++◌, Option, None, refl, sym, ◌∙◌, ap, subst}
 use Rattle.std.specs.Prelude.{Result, Ok, Err}
 use mathlib.Core.List.{IsPrefix}
 use Rattle.row_types.specs.Name.{NameFacts}
@@ -11,7 +11,8 @@ use Rattle.index_rows.specs.Log.{drop_of, put_of}
 use Rattle.index_rows.specs.declared.change.Change.{Change}
 use Rattle.index_state.specs.Away.{GroomsNext, MissesOut}
 use Rattle.index_state.specs.Invariant.{IndexInvariant}
-use Rattle.index_state.specs.State.{Origin, StateFacts}
+use Rattle.index_state.specs.Spared.{Sparing}
+use Rattle.index_state.specs.State.{Origin, StateFacts, unspared}
 use Rattle.index_state.specs.Step.{Begins, Judges, Publishes, TakesNext}
 use Rattle.index_state.specs.declared.answer.Begun.{Begun}
 use Rattle.index_state.specs.declared.answer.Begun.TheVariants as begun
@@ -22,7 +23,13 @@ use Rattle.index_state.specs.declared.answer.Published.{Published}
 use Rattle.index_state.specs.declared.answer.Published.TheVariants as said
 use Rattle.scan_queue.specs.declared.miss.Cause.{Cause}
 use Rattle.scan_queue.specs.declared.miss.Seen.{Seen}
-use Rattle.index_desk.specs.Holds.{Holds, HoldsIndex, LogGoesOn, RetriesAll, StaysAtBegin}
+use Rattle.index_desk.specs.Holds.{Holds, HoldsIndex, LogGoesOn, RetriesAll}
+
+-- an origin of which no name was spared
+pub same_origin : (o : Origin) → o.sparing ≡ None → o.spared ≡ [] → unspared o ≡ o
+same_origin o never none =
+    ap (λ (m : Option Sparing). record o { sparing = m; spared = [] }) (sym never)
+    ∙ ap (λ (names : List NameFacts). record o { spared = names }) (sym none)
 
 module _ {K : Type 0} {old new : StateFacts K} where
   -- the log stays
@@ -40,11 +47,11 @@ module _ {K : Type 0} {old new : StateFacts K} where
     origin = ap (λ (s : StateFacts K). s.origin) is ∙ origin;
   }
 
-  pub begin_goes : (listing : List NameFacts) (roots : List (List ℕ)) → StaysAtBegin K old.origin → (answer : Begun)
-      → Begins listing roots old answer new → LogGoesOn old new
-  begin_goes listing roots stays (begun.Begun plan) h = stays_as h.after refl (stays listing roots old refl)
-  begin_goes listing roots stays begun.Broken h = stays_as h.same refl refl
-  begin_goes listing roots stays begun.OutOfMemory h = stays_as h.same refl refl
+  pub begin_goes : (listing : List NameFacts) (roots : List (List ℕ)) → old.origin.sparing ≡ None → old.origin.spared ≡ []
+      → (answer : Begun) → Begins listing roots old answer new → LogGoesOn old new
+  begin_goes listing roots never none (begun.Begun plan) h = stays_as h.after refl (same_origin old.origin never none)
+  begin_goes listing roots never none begun.Broken h = stays_as h.same refl refl
+  begin_goes listing roots never none begun.OutOfMemory h = stays_as h.same refl refl
 
   pub take_goes : (answer : Option NameFacts) → TakesNext old answer new → LogGoesOn old new
   take_goes answer h = stays_as h.same refl refl
@@ -81,12 +88,6 @@ module _ {K : Type 0} {old new : StateFacts K} where
     pub retry_goes : {E : Type 0} (answer : Result ℕ E) → RetriesAll told shows answer old new → LogGoesOn old new
     retry_goes (Ok count) h = stays_as h.same refl refl
     retry_goes (Err refused) h = stays_as h refl refl
-
--- where no name is skipped, a pass that begins leaves the origin as it is
-pub stays_at_begin : {K : Type 0} (origin : Origin) → origin.spared ≡ [] → StaysAtBegin K origin
-stays_at_begin origin none listing roots old is =
-    ap (λ (names : List NameFacts). record old.origin { spared = names })
-    (sym (ap (λ (o : Origin). o.spared) is ∙ none))
 
 -- one hold: the lock was taken and left, and between them this was done to the value
 pub held_by : {S E O : Type 0} {log : S → List E} {origin : S → O} {Does : S → S → Type 0} (seat after : SeatFacts E O)

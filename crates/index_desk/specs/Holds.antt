@@ -2,14 +2,13 @@
 -- the token that comes back has seen the log that this left. Of an index that is one event.
 use Rattle.std.specs.Prelude.{◌≡◌, ℕ, Bool, List, Result, MatchResult}
 use mathlib.Core.List.{IsPrefix}
-use Rattle.row_types.specs.Name.{NameFacts}
 use Rattle.row_types.specs.Row.{RowFacts}
 use Rattle.index_keeper.specs.Keeper.{ShownKeeper}
 use Rattle.index_lock.specs.Tokens.{IsLater, SeatFacts}
 use Rattle.index_rows.specs.declared.change.Change.{Change}
 use Rattle.index_state.specs.Invariant.{IndexInvariant}
 use Rattle.index_state.specs.State.{Origin, StateFacts}
-use Rattle.index_state.specs.Step.{Answer, Event, IndexStep, after_begin, retries, to_retry}
+use Rattle.index_state.specs.Step.{Answer, Event, IndexStep, retries, to_retry}
 
 -- this was done to a value with a log and an origin in one hold of its lock, by a token, which comes back as a later one
 pub record Holds {S E O : Type 0} (log : S → List E) (origin : S → O) (Does : S → S → Type 0)
@@ -49,12 +48,6 @@ abbrev pub HoldsEvent : {K : Type 0} → (RowFacts → Type 0) → Bool → (K �
     → SeatFacts Change Origin → SeatFacts Change Origin → Type 0
 HoldsEvent true_row told shows event answer seat later_seat =
     HoldsIndex true_row told shows (λ old new. IndexStep told shows old event answer new) seat later_seat
-
--- a pass that begins leaves this origin as it is
-abbrev pub StaysAtBegin : Type 0 → Origin → Type 0
-StaysAtBegin K origin =
-    (listing : List NameFacts) (roots : List (List ℕ)) (old : StateFacts K) → old.origin ≡ origin
-    → (after_begin listing roots old).origin ≡ old.origin
 
 -- the names that are out or missed are tried again, or memory for their copies was refused, and the index stays
 abbrev pub RetriesAll : {K E : Type 0} → Bool → (K → ShownKeeper) → Result ℕ E → StateFacts K → StateFacts K → Type 0

@@ -7,7 +7,7 @@ ghost use Rattle.index_state.specs.Step.{to_begin, to_groom, to_judge, to_miss, 
 ghost use Rattle.index_state.specs.Step.{to_take};
 ghost use Rattle.index_desk.specs.Counts.{drops, puts};
 ghost use Rattle.index_desk.specs.Ends.{JudgedShows, PublishedShows, drop_by, put_by};
-ghost use Rattle.index_desk.specs.Holds.{HoldsEvent, HoldsIndex, RetriesAll, StaysAtBegin};
+ghost use Rattle.index_desk.specs.Holds.{HoldsEvent, HoldsIndex, RetriesAll};
 
 use crate::held::{
     begin_held, groom_held, judge_held, miss_held, publish_held, retry_held, take_held,
@@ -30,7 +30,7 @@ pub struct Desk<'a, W: Truth, K: Keeper<W>> {
 }
 
 impl<'a, W: Truth, K: Keeper<W>> Desk<'a, W, K> {
-    /// Begins a pass over what a walk of the roots listed. No name may be skipped.
+    /// Begins a pass over what a walk of the roots listed. No name may have been spared.
     pub fn begin<Rt: Wait>(
         self,
         rt: &Rt,
@@ -38,7 +38,7 @@ impl<'a, W: Truth, K: Keeper<W>> Desk<'a, W, K> {
         listing: Listing,
         roots: Vec<CanonPath>,
     ) -> (Desk<'a, W, K>, Begun)
-        requires { StaysAtBegin K self.seat.origin }
+        requires { self.seat.origin.sparing ≡ None }
         ensures { HoldsEvent W.true_row K.told K.shows (begins listing roots.items)
             (to_begin result.1) self.entry.seat result.0.seat }
     {

@@ -6,7 +6,7 @@ ghost use Rattle.index_state.specs.Invariant.{IndexInvariant};
 ghost use Rattle.index_state.specs.Step.{IndexStep, begins, grooms, judges, misses, publishes};
 ghost use Rattle.index_state.specs.Step.{takes, to_begin, to_groom, to_judge, to_miss};
 ghost use Rattle.index_state.specs.Step.{to_publish, to_take};
-ghost use Rattle.index_desk.specs.Holds.{LogGoesOn, RetriesAll, StaysAtBegin};
+ghost use Rattle.index_desk.specs.Holds.{LogGoesOn, RetriesAll};
 
 use index_keeper::Keeper;
 use index_state::{Begun, GroomTask, Judged, Published, State, show_index};
@@ -14,19 +14,20 @@ use row_types::{CanonPath, Name, TrueRow, Truth};
 use scan_queue::{Cause, Listing, Seen};
 use std::alloc::{AllocError, Global};
 
-/// Begins a pass.
+/// Begins a pass. No name may have been spared.
 pub(crate) fn begin_held<W: Truth, K: Keeper<W>>(
     alloc: Global,
     state: &mut State<W, K>,
     listing: Listing,
     roots: Vec<CanonPath>,
 ) -> Begun
-    requires { StaysAtBegin K state.old.origin }
+    requires { state.old.origin.sparing ≡ None }
     ensures step { IndexStep K.told K.shows state.old (begins listing roots.items)
         (to_begin result) state.new }
     ensures goes_on { LogGoesOn state.old state.new }
     ensures holds { IndexInvariant W.true_row K.told K.shows state.new }
 {
+    let _rows = state.rows();
     let begun = state.begin(alloc, listing, roots);
     show_index(state);
     begun
@@ -105,9 +106,7 @@ pub(crate) fn miss_held<W: Truth, K: Keeper<W>>(
 }
 
 /// Lets the names that are out or missed be tried again.
-pub(crate) fn retry_held<W: Truth, K: Keeper<W>>(
-    state: &mut State<W, K>,
-) -> Result<u64, AllocError>
+pub(crate) fn retry_held<W: Truth, K: Keeper<W>>(state: &mut State<W, K>) -> Result<u64, AllocError>
     ensures does { RetriesAll K.told K.shows result state.old state.new }
     ensures goes_on { LogGoesOn state.old state.new }
     ensures holds { IndexInvariant W.true_row K.told K.shows state.new }

@@ -19,8 +19,8 @@ use Rattle.index_state.specs.Changes.{VoidWhere}
 use Rattle.index_state.specs.Invariant.{IndexInvariant}
 use Rattle.index_state.specs.Judge.{is_file, is_under}
 use Rattle.index_state.specs.Plan.{has_stamp, is_other, plan_of}
-use Rattle.index_state.specs.Spared.{Sparing}
-use Rattle.index_state.specs.State.{Origin, StateFacts, unspared}
+use Rattle.index_state.specs.State.{StateFacts}
+use Rattle.index_desk.proofs.Goes.{same_origin}
 use Rattle.index_state.specs.Step.{Begins, BeginsPass, Judges, Publishes}
 use Rattle.index_state.specs.declared.answer.Begun.{Begun}
 use Rattle.index_state.specs.declared.answer.Begun.TheVariants as begun
@@ -55,12 +55,6 @@ plan_parts names by_path (n ∷ listing) =
     let b = sum_by-cons (λ (m : NameFacts). cond (is_other (stamp_at names m.path) m.stamp) 1 0) n listing in
     let c = sum_by-cons (λ (m : NameFacts). cond (is_in names m) 1 0) n listing in
     omega (arith, rest, one, a, b, c)
-
--- an origin of which no name was spared
-same_origin : (o : Origin) → o.sparing ≡ None → o.spared ≡ [] → unspared o ≡ o
-same_origin o never none =
-    ap (λ (m : Option Sparing). record o { sparing = m; spared = [] }) (sym never)
-    ∙ ap (λ (names : List NameFacts). record o { spared = names }) (sym none)
 
 -- the log of a broken index ends in a void change, and that of a sound one has none
 pub void_by : {K : Type 0} (tells : Bool) (shows : K → ShownKeeper) {state : StateFacts K} {true_row : RowFacts → Type 0}

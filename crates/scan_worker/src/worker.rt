@@ -71,9 +71,7 @@ fn work_once<'a, W: Truth, K: Keeper<W>, T: Tree<W>, R: Reader<W>, G: Gate, Rt: 
     let Some(name) = name else {
         return (desk, Some(WorkEnd::Empty));
     };
-    ground
-        .gate
-        .at(ground.rt, &Point::Loading(name.path.text()));
+    ground.gate.at(ground.rt, &Point::Loading(name.path.text()));
     let read = ask_for(ground, hand, tally, &name);
     let (desk, turn) = hand_in(ground, desk, &name, read);
     if turn == Turn::Published {

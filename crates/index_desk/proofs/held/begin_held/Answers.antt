@@ -4,4 +4,5 @@ use Rattle.index_desk.proofs.held.begin_held.Goals as goal
 
 pub returns-clause-goes_on : goal.returns-clause-goes_on
 returns-clause-goes_on g c =
-    begin_goes c.args.listing c.args.roots.items c.requires c.begin-begun.result c.begin-begun.ensures.step
+    begin_goes c.args.listing c.args.roots.items c.requires (c.rows-rows.ensures.holds.skipped_names_stand.none c.requires)
+    c.begin-begun.result c.begin-begun.ensures.step

@@ -1,13 +1,12 @@
 -- One hold.
-use Rattle.std.proofs.Common.{rules, sym, ◌∙◌, ap, subst}
+use Rattle.std.proofs.Common.{◌≡◌, None, rules, sym, ◌∙◌, ap, subst}
 use Rattle.index_state.specs.State.{Origin, StateFacts}
-use Rattle.index_desk.specs.Holds.{StaysAtBegin}
 use Rattle.index_desk.proofs.Goes.{index_held}
 use Rattle.index_desk.proofs.desk.Desk.begin.Goals as goal
 
 pub begin_held-begun-requires-after_bounds : goal.begin_held-begun-requires-after_bounds
 begin_held-begun-requires-after_bounds g c κs within =
-    subst (λ (o : Origin). StaysAtBegin g.row.K.Denot o)
+    subst (λ (o : Origin). o.sparing ≡ None)
     (sym (ap (λ (s : StateFacts g.row.K.Denot). s.origin) c.value_mut.ensures.value ∙ c.enter-held.ensures.origin)) c.requires
 
 pub returns : goal.returns
