@@ -1,14 +1,13 @@
 -- Files that agree with a picture have the same bytes wherever these are known.
-use Rattle.std.proofs.Common.{◌≡◌, sym, ◌∙◌, ap, refl, ℕ, ◌+◌, ◌-◌, ◌<◌, ◌≤◌, ◌⊎◌, inl, inr, List, length, get_or, take, drop, map, arith, true, false, Option, Some, None}
+use Rattle.std.proofs.Common.{◌≡◌, sym, ◌∙◌, ap, refl, ℕ, ◌+◌, ◌-◌, ◌<◌, ◌≤◌, ◌⊎◌, inl, inr, List, length, get_or, drop, arith, true, Option, Some, None}
 use Rattle.std.specs.Prelude.{is_some}
-use Rattle.std.specs.List.{range_with_len}
 use Rattle.std.specs.Option.{unwrap_or}
 use Rattle.std.proofs.lemmas.Bool.{cases_lt}
 use Rattle.std.proofs.lemmas.List.{get_or_default, get_or-drop, get_or-take, length-drop, length-take-le, same_lists}
 use Rattle.std.proofs.lemmas.List.FromFn.{get_or-map-range_with_len, length-map-range_with_len}
 use Rattle.file_formats.specs.Numbers.{bytes_at}
 use Rattle.file_picture.specs.Agrees.{Agrees, filled}
-use Rattle.file_picture.specs.Picture.{PieceFacts, PictureFacts, IsPicture, IsCovered, IsAdded, Gives, byte_at, byte_among, end_of}
+use Rattle.file_picture.specs.Picture.{PictureFacts, IsPicture, IsCovered, IsAdded, Gives, byte_at}
 use Rattle.file_picture.proofs.PieceLemmas.{byte_none}
 
 -- what is there is something
@@ -41,7 +40,7 @@ pub filled-agrees : (p : PictureFacts) → IsPicture p → Agrees (filled p) p
 filled-agrees p is = record {
   sized = filled-sized p;
   same = λ place x known.
-    filled-byte p place (known-inside p is place x known) ∙ ap (λ (o : Option ℕ). unwrap_or o 0) known;
+      filled-byte p place (known-inside p is place x known) ∙ ap (λ (o : Option ℕ). unwrap_or o 0) known;
 }
 
 -- two files that agree with a picture have the same bytes in each range that is covered
@@ -53,16 +52,17 @@ agree-covered p b c at len fb fc covered =
     let long_c : length (bytes_at c at len) ≡ len = long c fc.sized in
     same_lists (bytes_at b at len) (bytes_at c at len) (long_b ∙ sym long_c)
     (λ k d below.
-      let under : k < len = omega (arith, below, long_b) in
-      let known = some_of (byte_at p (at + k)) (covered.known (at + k) (omega arith) (omega (arith, under))) in
-      at_place b d k under fb.sized ∙ fb.same (at + k) known.0 known.1
-      ∙ sym (at_place c d k under fc.sized ∙ fc.same (at + k) known.0 known.1))
+    let under : k < len = omega (arith, below, long_b) in
+    let known = some_of (byte_at p (at + k)) (covered.known (at + k) (omega arith) (omega (arith, under))) in
+    at_place b d k under fb.sized ∙ fb.same (at + k) known.0 known.1
+    ∙ sym (at_place c d k under fc.sized ∙ fc.same (at + k) known.0 known.1))
   where
     long : (f : List ℕ) → length f ≡ p.size → length (bytes_at f at len) ≡ len
     long f sized =
         let rest = length-drop at f in
         let inside = covered.inside in
         length-take-le len (drop at f) (omega (arith, rest, sized, inside))
+
     at_place : (f : List ℕ) (d k : ℕ) → k < len → length f ≡ p.size → get_or (bytes_at f at len) k d ≡ get_or f (at + k) 0
     at_place f d k under sized =
         let inside = covered.inside in
@@ -79,11 +79,11 @@ given-bytes p b at len bytes f g =
     let long : length (bytes_at b at len) ≡ len = length-take-le len (drop at b) (omega (arith, rest, sized, inside)) in
     same_lists bytes (bytes_at b at len) (g.long ∙ sym long)
     (λ k d below.
-      let sum = g.long in
-      let under : k < len = omega (arith, below, sum) in
-      get_or_default bytes k d 0 below ∙ sym (f.same (at + k) (get_or bytes k 0) (g.each k under))
-      ∙ sym (get_or-take len (drop at b) k d under ∙ get_or-drop at b k d
-        ∙ get_or_default b (at + k) d 0 (omega (arith, sized, inside, under))))
+    let sum = g.long in
+    let under : k < len = omega (arith, below, sum) in
+    get_or_default bytes k d 0 below ∙ sym (f.same (at + k) (get_or bytes k 0) (g.each k under))
+    ∙ sym (get_or-take len (drop at b) k d under ∙ get_or-drop at b k d
+    ∙ get_or_default b (at + k) d 0 (omega (arith, sized, inside, under))))
 
 -- where a picture gives bytes, the range is covered
 pub given-covered : (p : PictureFacts) (at len : ℕ) (bytes : List ℕ) → Gives p at len bytes → IsCovered p at len

@@ -1,10 +1,10 @@
 -- A picture is its size and its bytes: pieces that neither overlap nor touch are those that these bytes make.
-use Rattle.std.proofs.Common.{◌≡◌, sym, ◌∙◌, ap, subst, refl, ℕ, suc, zero, ◌+◌, ◌-◌, ◌<◌, ◌≤◌, ◌⊎◌, inl, inr, List, [], ◌∷◌, length, get_or, arith, Option, Some, None}
+use Rattle.std.proofs.Common.{◌≡◌, sym, ◌∙◌, ap, subst, refl, ℕ, zero, ◌+◌, ◌-◌, ◌<◌, ◌≤◌, ◌⊎◌, inl, inr, List, [], ◌∷◌, length, get_or, arith, Option, Some, None}
 use Rattle.std.specs.Option.{option_or}
 use Rattle.std.proofs.lemmas.Bool.{cases_lt}
 use Rattle.std.proofs.lemmas.List.{get_or_default, same_lists}
 use Rattle.std.proofs.lemmas.Option.{same_Some}
-use Rattle.file_picture.specs.Picture.{PieceFacts, PictureFacts, AreApart, IsPicture, byte_at, byte_among, end_of, piece_byte}
+use Rattle.file_picture.specs.Picture.{PieceFacts, PictureFacts, AreApart, IsPicture, byte_at, byte_among, end_of}
 use Rattle.file_picture.specs.Pieces.{piece_of}
 use Rattle.file_picture.proofs.PieceLemmas.{apart_from, byte_none, byte_some, piece_none}
 
@@ -69,14 +69,14 @@ first_same from p q ps qs a b same =
     let long : length p.bytes ≡ length q.bytes = omega (arith, begin, under, over) in
     piece_same p q begin
     (same_lists p.bytes q.bytes long
-      (λ k d below.
-        let one = first_some from p ps a (p.at + k) (omega arith) (omega (arith, below)) in
-        let two = first_some from q qs b (p.at + k) (omega (arith, begin)) (omega (arith, begin, below, long)) in
-        let left : (p.at + k) - p.at ≡ k = omega arith in
-        let right : (p.at + k) - q.at ≡ k = omega (arith, begin) in
-        get_or_default p.bytes k d 0 below ∙ sym (ap (λ i. get_or p.bytes i 0) left)
-        ∙ same_Some (get_or p.bytes ((p.at + k) - p.at) 0) (get_or q.bytes ((p.at + k) - q.at) 0) (sym one ∙ same (p.at + k) ∙ two)
-        ∙ ap (λ i. get_or q.bytes i 0) right ∙ get_or_default q.bytes k 0 d (omega (arith, below, long))))
+    (λ k d below.
+    let one = first_some from p ps a (p.at + k) (omega arith) (omega (arith, below)) in
+    let two = first_some from q qs b (p.at + k) (omega (arith, begin)) (omega (arith, begin, below, long)) in
+    let left : (p.at + k) - p.at ≡ k = omega arith in
+    let right : (p.at + k) - q.at ≡ k = omega (arith, begin) in
+    get_or_default p.bytes k d 0 below ∙ sym (ap (λ i. get_or p.bytes i 0) left)
+    ∙ same_Some (get_or p.bytes ((p.at + k) - p.at) 0) (get_or q.bytes ((p.at + k) - q.at) 0) (sym one ∙ same (p.at + k) ∙ two)
+    ∙ ap (λ i. get_or q.bytes i 0) right ∙ get_or_default q.bytes k 0 d (omega (arith, below, long))))
 
 -- pieces with the same bytes are the same
 pieces_same : (from : ℕ) (ps qs : List PieceFacts) → AreApart from ps → AreApart from qs
