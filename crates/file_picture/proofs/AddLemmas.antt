@@ -1,5 +1,5 @@
 -- A picture to which bytes are added.
-use Rattle.std.proofs.Common.{◌≡◌, ℕ, ◌+◌, ◌≤◌, List, length}
+use Rattle.std.proofs.Common.{ℕ, ◌+◌, ◌≤◌, List, length}
 use Rattle.file_picture.specs.Picture.{PieceFacts, IsPicture}
 use Rattle.file_picture.specs.Pieces.{IsPut}
 

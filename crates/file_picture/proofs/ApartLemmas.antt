@@ -1,5 +1,5 @@
 -- Pieces that are apart, in front of others and behind them.
-use Rattle.std.proofs.Common.{◌≡◌, ℕ, suc, zero, ◌+◌, ◌<◌, ◌≤◌, List, [], ◌∷◌, ◌++◌, length, get_or, arith}
+use Rattle.std.proofs.Common.{ℕ, suc, zero, ◌+◌, ◌<◌, ◌≤◌, List, [], ◌∷◌, ◌++◌, length, get_or, arith}
 use Rattle.file_picture.specs.Picture.{PieceFacts, AreApart, end_of}
 
 -- the first place from one on at which a piece may begin behind others

@@ -1,5 +1,5 @@
 -- Bytes that are joined with those of the pieces that they touch.
-use Rattle.std.proofs.Common.{◌≡◌, sym, ◌∙◌, ap, subst, refl, ℕ, ◌+◌, ◌-◌, ◌<◌, ◌≤◌, ◌⊎◌, inl, inr, List, [], ◌∷◌, ◌++◌, length, get_or, arith, Option, Some, None}
+use Rattle.std.proofs.Common.{◌≡◌, sym, ◌∙◌, ap, refl, ℕ, ◌+◌, ◌-◌, ◌<◌, ◌≤◌, ◌⊎◌, inl, inr, List, [], ◌∷◌, ◌++◌, length, get_or, arith, Option, Some, None}
 use Rattle.std.specs.Prelude.{All}
 use Rattle.std.specs.Option.{option_or}
 use Rattle.std.proofs.lemmas.Bool.{cases_lt}
@@ -42,8 +42,8 @@ three_mid start at l m r touch i below =
     let index : (at + i) - start - length l ≡ i = omega (arith, touch) in
     piece_some (three start l m r) (at + i) (omega (arith, touch)) (omega (arith, touch, below, long))
     ∙ ap (λ x. Some x)
-      (get_or-append_right l (m ++ r) (length l) ((at + i) - start) 0 refl (omega (arith, touch))
-      ∙ ap (λ k. get_or (m ++ r) k 0) index ∙ get_or_append_left m r 0 i below)
+    (get_or-append_right l (m ++ r) (length l) ((at + i) - start) 0 refl (omega (arith, touch))
+    ∙ ap (λ k. get_or (m ++ r) k 0) index ∙ get_or_append_left m r 0 i below)
 
 -- the last ones
 three_right : (start at next : ℕ) (l m r : List ℕ) → start + length l ≡ at → at + length m ≡ next → (place : ℕ) → next ≤ place
@@ -53,9 +53,9 @@ three_right start at next l m r touch follow place above below =
     let index : (place - start) - length l - length m ≡ place - next = omega (arith, touch, follow, above) in
     piece_some (three start l m r) place (omega (arith, touch, follow, above)) (omega (arith, touch, follow, below, long))
     ∙ ap (λ x. Some x)
-      (get_or-append_right l (m ++ r) (length l) (place - start) 0 refl (omega (arith, touch, follow, above))
-      ∙ get_or-append_right m r (length m) ((place - start) - length l) 0 refl (omega (arith, touch, follow, above))
-      ∙ ap (λ k. get_or r k 0) index)
+    (get_or-append_right l (m ++ r) (length l) (place - start) 0 refl (omega (arith, touch, follow, above))
+    ∙ get_or-append_right m r (length m) ((place - start) - length l) 0 refl (omega (arith, touch, follow, above))
+    ∙ ap (λ k. get_or r k 0) index)
     ∙ sym (piece_some (piece_of next r) place above below)
 
 -- all but those between
@@ -66,9 +66,11 @@ three_others start at next l m r touch follow place (inl before) = of (cases_lt 
   where
     right : piece_byte (piece_of next r) place ≡ None
     right = piece_none (piece_of next r) place (inl (omega (arith, before, follow)))
+
     or_none : (o : Option ℕ) → o ≡ option_or o None
     or_none None = refl
     or_none (Some x) = refl
+
     of : (place < start) ⊎ (start ≤ place)
         → piece_byte (three start l m r) place ≡ option_or (piece_byte (piece_of start l) place) (piece_byte (piece_of next r) place)
     of (inl low) =
@@ -82,6 +84,7 @@ three_others start at next l m r touch follow place (inr behind) = of (cases_lt 
   where
     left : piece_byte (piece_of start l) place ≡ None
     left = piece_none (piece_of start l) place (inr (omega (arith, touch, follow, behind)))
+
     of : (place < next + length r) ⊎ (next + length r ≤ place)
         → piece_byte (three start l m r) place ≡ option_or (piece_byte (piece_of start l) place) (piece_byte (piece_of next r) place)
     of (inl low) =
@@ -110,8 +113,8 @@ pub join_none : (at : ℕ) (bytes : List ℕ) → 0 < length bytes → IsJoin []
 join_none at bytes some = record {
   some = some;
   there = λ i below.
-    piece_some (piece_of at bytes) (at + i) (omega arith) (omega (arith, below))
-    ∙ ap (λ k. Some (get_or bytes k 0)) (omega arith);
+      piece_some (piece_of at bytes) (at + i) (omega arith) (omega (arith, below))
+      ∙ ap (λ k. Some (get_or bytes k 0)) (omega arith);
   others = λ place out. piece_none (piece_of at bytes) place out;
   sum = omega arith;
   ends = λ size each fits. fits;
@@ -127,11 +130,11 @@ join_left p at bytes some touch =
     record {
       some = omega (arith, some, long);
       there = λ i below.
-        ap (λ j. piece_byte j (at + i)) (sym whole) ∙ three_mid p.at at p.bytes bytes [] touch i below;
+          ap (λ j. piece_byte j (at + i)) (sym whole) ∙ three_mid p.at at p.bytes bytes [] touch i below;
       others = λ place out.
-        ap (λ j. piece_byte j place) (sym whole)
-        ∙ three_others p.at at (at + length bytes) p.bytes bytes [] touch refl place out
-        ∙ ap (option_or (piece_byte p place)) (empty_none (at + length bytes) place);
+          ap (λ j. piece_byte j place) (sym whole)
+          ∙ three_others p.at at (at + length bytes) p.bytes bytes [] touch refl place out
+          ∙ ap (option_or (piece_byte p place)) (empty_none (at + length bytes) place);
       sum = omega (arith, long);
       ends = λ size each fits. omega (arith, long, touch, fits);
     }
@@ -146,8 +149,8 @@ join_right p at bytes some touch =
       some = omega (arith, some, long);
       there = λ i below. three_mid at at [] bytes p.bytes empty i below;
       others = λ place out.
-        three_others at at p.at [] bytes p.bytes empty touch place (move place out)
-        ∙ ap (λ o. option_or o (piece_byte p place)) (empty_none at place) ∙ sym (or_none (piece_byte p place));
+          three_others at at p.at [] bytes p.bytes empty touch place (move place out)
+          ∙ ap (λ o. option_or o (piece_byte p place)) (empty_none at place) ∙ sym (or_none (piece_byte p place));
       sum = omega (arith, long);
       ends = λ size each fits. let last = All-head (λ (q : PieceFacts). end_of q ≤ size) p [] each in omega (arith, long, touch, last);
     }
@@ -165,13 +168,13 @@ join_both p q at bytes some touch follow =
       some = omega (arith, some, long);
       there = λ i below. three_mid p.at at p.bytes bytes q.bytes touch i below;
       others = λ place out.
-        three_others p.at at q.at p.bytes bytes q.bytes touch follow place (move place out)
-        ∙ ap (option_or (piece_byte p place)) (sym (or_none (piece_byte q place)));
+          three_others p.at at q.at p.bytes bytes q.bytes touch follow place (move place out)
+          ∙ ap (option_or (piece_byte p place)) (sym (or_none (piece_byte q place)));
       sum = omega (arith, long);
       ends = λ size each fits.
-        let last = All-head (λ (r : PieceFacts). end_of r ≤ size) q []
+          let last = All-head (λ (r : PieceFacts). end_of r ≤ size) q []
           (All-tail (λ (r : PieceFacts). end_of r ≤ size) p (q ∷ []) each) in
-        omega (arith, long, touch, follow, last);
+          omega (arith, long, touch, follow, last);
     }
   where
     move : (place : ℕ) → (place < at) ⊎ (at + length bytes ≤ place) → (place < at) ⊎ (q.at ≤ place)

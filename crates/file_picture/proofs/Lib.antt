@@ -4,3 +4,5 @@ pub mod JoinLemmas
 pub mod PutLemmas
 pub mod ReadLemmas
 pub mod AddLemmas
+pub mod AgreeLaws
+pub mod UniqueLaw

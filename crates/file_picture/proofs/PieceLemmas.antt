@@ -1,9 +1,8 @@
 -- The bytes of pieces, one by one.
-use Rattle.std.proofs.Common.{◌≡◌, sym, ◌∙◌, ap, refl, ℕ, suc, zero, ◌+◌, ◌-◌, ◌<◌, ◌≤◌, ◌⊎◌, inl, inr, ◌&&◌, List, [], ◌∷◌, ◌++◌, length, get_or, arith, Bool, true, false, Option, Some, None}
-use Rattle.std.specs.Prelude.{nat_le, nat_lt, if◌then◌else◌, is_some}
+use Rattle.std.proofs.Common.{◌≡◌, ◌∙◌, ap, refl, ℕ, suc, zero, ◌+◌, ◌-◌, ◌<◌, ◌≤◌, ◌⊎◌, inl, inr, ◌&&◌, List, [], ◌∷◌, ◌++◌, length, get_or, arith, true, false, Option, Some, None}
+use Rattle.std.specs.Prelude.{nat_le, nat_lt, is_some}
 use Rattle.std.specs.Option.{option_or}
 use Rattle.std.proofs.lemmas.Bool.{and_from, and_left, and_right, le-leb, lt-leb, lt-ltb, le-ltb, cases_lt}
-use Rattle.std.proofs.lemmas.List.{length-append}
 use Rattle.file_picture.specs.Picture.{PieceFacts, AreApart, end_of, piece_byte, byte_among, sum_of}
 
 -- a piece has no byte before it and none behind it
@@ -114,7 +113,7 @@ sum_within from size (p ∷ ps) a low ends =
     of : (end_of p < size) ⊎ (size ≤ end_of p) → end_of p ≤ size
         → ((i : ℕ) (d : PieceFacts) → i < length ps → end_of (get_or ps i d) ≤ size)
         → (end_of p < size → ((i : ℕ) (d : PieceFacts) → i < length ps → end_of (get_or ps i d) ≤ size)
-          → sum_of ps ≤ size - (end_of p + 1))
+        → sum_of ps ≤ size - (end_of p + 1))
         → sum_of (p ∷ ps) ≤ size - from
     of (inl under) first bounds more = let rest = more under bounds in omega (arith, rest, a.0, under)
     of (inr over) first bounds more =

@@ -1,11 +1,11 @@
 -- Bytes that are put among pieces.
-use Rattle.std.proofs.Common.{◌≡◌, ◌≢◌, sym, ◌∙◌, ap, subst, refl, ℕ, suc, zero, ◌+◌, ◌-◌, ◌^◌, ◌<◌, ◌≤◌, ◌⊎◌, inl, inr, List, [], ◌∷◌, ◌++◌, length, get_or, take, drop, set, arith, Bool, true, false, Option, Some, None, All}
+use Rattle.std.proofs.Common.{◌≡◌, ◌≢◌, sym, ◌∙◌, ap, subst, refl, ℕ, suc, ◌+◌, ◌-◌, ◌^◌, ◌<◌, ◌≤◌, ◌⊎◌, inl, inr, List, [], ◌∷◌, ◌++◌, length, get_or, take, drop, set, arith, Bool, true, false, Option, Some, None, All}
 use Rattle.std.specs.List.{insert}
 use Rattle.std.specs.Option.{option_or}
-use Rattle.std.proofs.lemmas.Bool.{cases_lt, cases_order}
-use Rattle.std.proofs.lemmas.List.{append_assoc, drop_more, get_or_append_left, get_or-append-add, get_or_default, get_or-take, get_or-drop, length-append, length-drop, length-take-le, set_split, take-append-drop}
-use Rattle.std.proofs.lemmas.List.Elements.{All-append, All-cons, All-tail}
-use Rattle.file_picture.specs.Picture.{PieceFacts, AreApart, AreFree, end_of, piece_byte, byte_among, sum_of}
+use Rattle.std.proofs.lemmas.Bool.{cases_lt}
+use Rattle.std.proofs.lemmas.List.{drop_more, get_or_append_left, get_or-append-add, get_or_default, get_or-take, get_or-drop, length-append, length-drop, length-take-le, set_split, take-append-drop}
+use Rattle.std.proofs.lemmas.List.Elements.{All-append, All-cons}
+use Rattle.file_picture.specs.Picture.{PieceFacts, AreApart, AreFree, end_of, byte_among}
 use Rattle.file_picture.specs.Pieces.{Begins, CanPut, Ends, IsPut, Replaces, Spans, TouchesNone, piece_of, put_before, put_behind, spanned}
 use Rattle.file_picture.proofs.ApartLemmas.{behind, apart_front, apart_back, apart_both, apart_after, behind_by}
 use Rattle.file_picture.proofs.JoinLemmas.{IsJoin, join_none, join_left, join_right, join_both}
@@ -36,27 +36,27 @@ replaced : (front mid back : List PieceFacts) (j : PieceFacts) (at : ℕ) (bytes
 replaced front mid back j at bytes apart free is low high = record {
   apart = apart_both 0 front (j ∷ back) (apart_front 0 front (mid ++ back) apart) (low, is.some, high);
   within = λ size each fits.
-    let P : PieceFacts → Type 0 = λ q. end_of q ≤ size in
-    let rest : All P (mid ++ back) = all_back P front (mid ++ back) each in
-    All-append P front (j ∷ back) (all_front P front (mid ++ back) each)
-    (All-cons P j back (is.ends size (all_front P mid back rest) fits) (all_back P mid back rest));
+      let P : PieceFacts → Type 0 = λ q. end_of q ≤ size in
+      let rest : All P (mid ++ back) = all_back P front (mid ++ back) each in
+      All-append P front (j ∷ back) (all_front P front (mid ++ back) each)
+      (All-cons P j back (is.ends size (all_front P mid back rest) fits) (all_back P mid back rest));
   there = λ i below.
-    let none : byte_among front (at + i) ≡ None =
-    first_none (byte_among front (at + i)) (byte_among (mid ++ back) (at + i))
-    (sym (byte-append front (mid ++ back) (at + i)) ∙ free (at + i) (omega arith) (omega (arith, below))) in
-    byte-append front (j ∷ back) (at + i)
-    ∙ ap (λ o. option_or o (byte_among (j ∷ back) (at + i))) none
-    ∙ ap (λ o. option_or o (byte_among back (at + i))) (is.there i below);
+      let none : byte_among front (at + i) ≡ None =
+      first_none (byte_among front (at + i)) (byte_among (mid ++ back) (at + i))
+      (sym (byte-append front (mid ++ back) (at + i)) ∙ free (at + i) (omega arith) (omega (arith, below))) in
+      byte-append front (j ∷ back) (at + i)
+      ∙ ap (λ o. option_or o (byte_among (j ∷ back) (at + i))) none
+      ∙ ap (λ o. option_or o (byte_among back (at + i))) (is.there i below);
   others = λ place out.
-    byte-append front (j ∷ back) place
-    ∙ ap (λ o. option_or (byte_among front place) (option_or o (byte_among back place))) (is.others place out)
-    ∙ ap (option_or (byte_among front place)) (sym (byte-append mid back place))
-    ∙ sym (byte-append front (mid ++ back) place);
+      byte-append front (j ∷ back) place
+      ∙ ap (λ o. option_or (byte_among front place) (option_or o (byte_among back place))) (is.others place out)
+      ∙ ap (option_or (byte_among front place)) (sym (byte-append mid back place))
+      ∙ sym (byte-append front (mid ++ back) place);
   sum =
-    let one = sum-append front (j ∷ back) in
-    let two = sum-append front (mid ++ back) in
-    let three = sum-append mid back in
-    omega (arith, one, two, three, is.sum);
+      let one = sum-append front (j ∷ back) in
+      let two = sum-append front (mid ++ back) in
+      let three = sum-append mid back in
+      omega (arith, one, two, three, is.sum);
 }
 
 -- ---- what is known where bytes may be put
@@ -96,6 +96,7 @@ all_before ps at bytes count can apart i d under = of (cases_lt i (count - 1))
   where
     within : count ≤ length ps
     within = can.begun.within
+
     of : (i < count - 1) ⊎ (count - 1 ≤ i) → end_of (get_or ps i d) < at
     of (inl earlier) =
         let next = apart_later 0 ps can.apart i (count - 1) d earlier (omega (arith, under, within)) in
@@ -135,8 +136,8 @@ front_low ps count to within ends =
     let long = length-take-le count ps within in
     behind_by 0 to (take count ps) (omega arith)
     (λ i d below.
-      let under : i < count = omega (arith, below, long) in
-      subst (λ (q : PieceFacts). end_of q < to) (sym (get_or-take count ps i d under)) (ends i d under))
+    let under : i < count = omega (arith, below, long) in
+    subst (λ (q : PieceFacts). end_of q < to) (sym (get_or-take count ps i d under)) (ends i d under))
 
 -- the pieces from an index on are apart behind a place
 back_high : (ps : List PieceFacts) (count to : ℕ) → AreApart 0 ps → count ≤ length ps
@@ -146,11 +147,11 @@ back_high ps count to apart within begins =
     let long = length-drop count ps in
     apart_after (behind 0 (take count ps)) (to + 1) (drop count ps) (apart_back 0 (take count ps) (drop count ps) split)
     (λ i d below.
-      let inside : count + i < length ps = omega (arith, below, long) in
-      let later = begins (count + i) d (omega arith) inside in
-      let placed : to < (get_or (drop count ps) i d).at =
-      subst (λ (q : PieceFacts). to < q.at) (sym (get_or-drop count ps i d)) later in
-      omega (arith, placed))
+    let inside : count + i < length ps = omega (arith, below, long) in
+    let later = begins (count + i) d (omega arith) inside in
+    let placed : to < (get_or (drop count ps) i d).at =
+    subst (λ (q : PieceFacts). to < q.at) (sym (get_or-drop count ps i d)) later in
+    omega (arith, placed))
 
 -- a list is what stands before an index, what stands there, and what stands behind it
 split_at : (ps : List PieceFacts) (i : ℕ) (d : PieceFacts) → i < length ps

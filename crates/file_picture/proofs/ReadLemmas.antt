@@ -1,5 +1,5 @@
 -- What is read of a picture.
-use Rattle.std.proofs.Common.{◌≡◌, sym, ◌∙◌, ap, subst, refl, ℕ, ◌+◌, ◌-◌, ◌<◌, ◌≤◌, ◌⊎◌, inl, inr, max, List, [], length, get_or, take, drop, arith, true, false, Option, Some, None}
+use Rattle.std.proofs.Common.{◌≡◌, sym, ◌∙◌, ap, subst, refl, ℕ, ◌+◌, ◌-◌, ◌<◌, ◌≤◌, ◌⊎◌, inl, inr, max, List, [], length, get_or, drop, arith, true, false, Option, Some, None}
 use Rattle.std.specs.Prelude.{is_some, nat_le, MatchOption}
 use Rattle.std.specs.Borrow.{Bor}
 use Rattle.std.specs.List.Sorted.{IsPartitionedBy, IsPartitionPoint}
@@ -44,22 +44,25 @@ pub known_by : (ps : List PieceFacts) (count at to : ℕ) (q : PieceFacts) → A
 known_by ps count at to q apart begun some is top = record {
   above = omega (arith, top);
   known = λ place above below.
-    let start : (get_or ps (count - 1) q).at ≤ at = begun.before (count - 1) q (omega (arith, some)) in
-    byte_known 0 ps apart (count - 1) q inside place (omega (arith, start, above)) (omega (arith, ends, top, above, below));
+      let start : (get_or ps (count - 1) q).at ≤ at = begun.before (count - 1) q (omega (arith, some)) in
+      byte_known 0 ps apart (count - 1) q inside place (omega (arith, start, above)) (omega (arith, ends, top, above, below));
   before = λ i d under. of i d under (cases_lt i (count - 1));
   after = λ i d above below.
-    let later = begun.after i d above below in
-    let next = apart_later 0 ps apart (count - 1) i d (omega (arith, some, above)) below in
-    let last = last_end d in
-    omega (arith, top, later, next, last);
+      let later = begun.after i d above below in
+      let next = apart_later 0 ps apart (count - 1) i d (omega (arith, some, above)) below in
+      let last = last_end d in
+      omega (arith, top, later, next, last);
 }
   where
     inside : count - 1 < length ps
     inside = let within = begun.within in omega (arith, within, some)
+
     ends : end_of q ≡ end_of (get_or ps (count - 1) q)
     ends = ap end_of is
+
     last_end : (d : PieceFacts) → end_of (get_or ps (count - 1) d) ≡ end_of q
     last_end d = ap end_of (get_or_default ps (count - 1) d q inside ∙ sym is)
+
     of : (i : ℕ) (d : PieceFacts) → i < count → (i < count - 1) ⊎ (count - 1 ≤ i) → end_of (get_or ps i d) ≤ to
     of i d under (inl earlier) =
         let next = apart_later 0 ps apart i (count - 1) d earlier inside in
@@ -115,13 +118,13 @@ slice_is p is at len count q some begins begun which (Some bytes) part =
       inside = omega (arith, part.0, top);
       long = ap length part.1 ∙ length-take-le len (drop (at - q.at) q.bytes) fits;
       each = λ i under.
-        let place : (get_or p.pieces (count - 1) q).at ≤ at + i = omega (arith, start) in
-        let ends : end_of q ≡ end_of (get_or p.pieces (count - 1) q) = ap end_of which in
-        let index : (at + i) - q.at ≡ (at - q.at) + i = omega (arith, low) in
-        byte_some 0 p.pieces is.apart (count - 1) q inside (at + i) place (omega (arith, ends, part.0, under))
-        ∙ ap (λ (s : PieceFacts). Some (get_or s.bytes ((at + i) - s.at) 0)) (sym which)
-        ∙ ap (λ k. Some (get_or q.bytes k 0)) index
-        ∙ sym (ap (λ xs. Some (get_or xs i 0)) part.1
+          let place : (get_or p.pieces (count - 1) q).at ≤ at + i = omega (arith, start) in
+          let ends : end_of q ≡ end_of (get_or p.pieces (count - 1) q) = ap end_of which in
+          let index : (at + i) - q.at ≡ (at - q.at) + i = omega (arith, low) in
+          byte_some 0 p.pieces is.apart (count - 1) q inside (at + i) place (omega (arith, ends, part.0, under))
+          ∙ ap (λ (s : PieceFacts). Some (get_or s.bytes ((at + i) - s.at) 0)) (sym which)
+          ∙ ap (λ k. Some (get_or q.bytes k 0)) index
+          ∙ sym (ap (λ xs. Some (get_or xs i 0)) part.1
           ∙ ap (λ x. Some x) (get_or-take len (drop (at - q.at) q.bytes) i 0 under ∙ get_or-drop (at - q.at) q.bytes i 0));
     }
 
@@ -157,7 +160,7 @@ gap_is p is at len count from to inside known ahead next =
         known = λ place low high. known.known place low (omega (arith, high, above));
       };
       gap = λ place low high.
-        byte_none p.pieces place (λ i d below. free some place low high i d below (cases_lt i count));
+          byte_none p.pieces place (λ i d below. free some place low high i d below (cases_lt i count));
       ends = ends some next.is;
     }
   where
@@ -175,6 +178,7 @@ gap_is p is at len count from to inside known ahead next =
         at_or_after some place high i d below first (inr here) above =
             let same : count ≡ i = omega (arith, here, above) in
             subst (λ k. place < (get_or p.pieces k d).at) same (omega (arith, first, high, some))
+
     ends : from < to
         → (to ≡ at + len) ⊎ ((count < length p.pieces) × ((d : PieceFacts) → to ≡ (get_or p.pieces count d).at))
         → (from + (to - from) ≡ at + len) ⊎ (is_some (byte_at p (from + (to - from))) ≡ true)
@@ -184,4 +188,4 @@ gap_is p is at len count from to inside known ahead next =
         let place : from + (to - from) ≡ (get_or p.pieces count d).at = (let first = begins.1 d in omega (arith, some, first)) in
         let has = apart_some 0 p.pieces is.apart count d begins.0 in
         inr (subst (λ k. is_some (byte_at p k) ≡ true) (sym place)
-          (byte_known 0 p.pieces is.apart count d begins.0 (get_or p.pieces count d).at (omega arith) (omega (arith, has))))
+        (byte_known 0 p.pieces is.apart count d begins.0 (get_or p.pieces count d).at (omega arith) (omega (arith, has))))

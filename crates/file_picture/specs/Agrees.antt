@@ -1,5 +1,5 @@
 -- Files that a picture may be of (this project's rule).
-use Rattle.std.specs.Prelude.{◌≡◌, ℕ, List, Option, Some, length, slice_index, map}
+use Rattle.std.specs.Prelude.{◌≡◌, ℕ, List, Some, length, slice_index, map}
 use Rattle.std.specs.List.{range_with_len}
 use Rattle.std.specs.Option.{unwrap_or}
 use Rattle.file_picture.specs.Picture.{PictureFacts, byte_at}

@@ -37,7 +37,7 @@ Replaces f i old new = (d : PieceFacts) → new ≡ slice_set old i (f (slice_in
 abbrev pub Spans : List ℕ → ℕ → List PieceFacts → List PieceFacts → Type 0
 Spans bytes i old new =
     (d : PieceFacts) → new ≡ take (i - 1) old
-      ++ (spanned (slice_index_or old (i - 1) d) bytes (slice_index_or old i d) ∷ drop (i + 1) old)
+    ++ (spanned (slice_index_or old (i - 1) d) bytes (slice_index_or old i d) ∷ drop (i + 1) old)
 
 -- so many pieces begin at a place or before it, and the others behind it
 pub record IsBegun (ps : List PieceFacts) (at count : ℕ) : Type 0 where

@@ -31,12 +31,7 @@ pub fn put(pieces: &mut Vec<Piece>, at: u64, bytes: Vec<u8>) -> Result<(), Vec<u
 }
 
 /// Joins bytes with the pieces that they touch, and says whether they touch one.
-fn join(
-    pieces: &mut Vec<Piece>,
-    count: usize,
-    at: u64,
-    bytes: &[u8],
-) -> Result<bool, AllocError>
+fn join(pieces: &mut Vec<Piece>, count: usize, at: u64, bytes: &[u8]) -> Result<bool, AllocError>
     requires place { CanPut pieces.old.items at bytes.now count }
     requires fits { at + length bytes.now < 2 ^ 64 }
     ensures ok { IfOk result (λ touches. MatchBool touches
@@ -63,12 +58,7 @@ fn join(
 }
 
 /// Puts a piece of these bytes at an index.
-fn insert(
-    pieces: &mut Vec<Piece>,
-    index: usize,
-    at: u64,
-    bytes: Vec<u8>,
-) -> Result<(), Vec<u8>>
+fn insert(pieces: &mut Vec<Piece>, index: usize, at: u64, bytes: Vec<u8>) -> Result<(), Vec<u8>>
     requires index { index ≤ length pieces.old.items }
     requires fits { at + length bytes.items < 2 ^ 64 }
     ensures ok { OnOk result (pieces.new.items

@@ -1,5 +1,5 @@
-//! Tests of the crates that read ELF files: numbers and texts in bytes, identities and sections,
-//! rows, certificates, and the sample and generated files.
+//! Tests of the crates that read ELF files: numbers and texts in bytes, pictures, identities and
+//! sections, rows, certificates, and the sample and generated files.
 #![tactic(auto)]
 
 #[cfg(test)]
@@ -10,6 +10,8 @@ mod cursors;
 mod forging;
 #[cfg(test)]
 mod identities;
+#[cfg(test)]
+mod pictures;
 #[cfg(test)]
 mod readings;
 #[cfg(test)]

@@ -1,6 +1,5 @@
 -- What the bytes touch decides.
-use Rattle.std.proofs.Common.{◌≡◌, refl, sym, ◌∙◌, ap, subst, length, ◌+◌}
-use Rattle.file_picture.specs.Pieces.{Begins, Ends}
+use Rattle.std.proofs.Common.{refl}
 use Rattle.file_picture.proofs.PutLemmas.{put_between, put_after, put_ahead, all_before, all_after, ends_true, ends_false, begins_true, begins_false}
 use Rattle.file_picture.proofs.joins.join.Goals as goal
 
@@ -29,8 +28,10 @@ returns-then-before-2-clause-ok c =
 pub returns-clause-ok : goal.returns-clause-ok
 returns-clause-ok c =
     let after = ends_false c.deref.ensures.value c.if-after.false c.ends_at-after.ensures in
-    let before = begins_false c.deref-2.ensures.value c.if-before-2.false c.begins_at-before.ensures in
-    (refl, record {
-      before = all_before c.args.pieces.now.items c.args.at c.args.bytes.now c.args.count c.requires.place after;
-      after = all_after c.args.pieces.now.items c.args.at c.args.bytes.now c.args.count c.requires.place before;
-    })
+    let before = begins_false c.deref-2.ensures.value c.if-before-2.false c.begins_at-before.ensures in (
+      refl,
+      record {
+        before = all_before c.args.pieces.now.items c.args.at c.args.bytes.now c.args.count c.requires.place after;
+        after = all_after c.args.pieces.now.items c.args.at c.args.bytes.now c.args.count c.requires.place before;
+      },
+    )

@@ -1,5 +1,5 @@
 -- The bytes touch no piece.
-use Rattle.std.proofs.Common.{rules, ◌≡◌, sym, ◌∙◌, ap, subst, ◌<◌, length, vec_len, arith}
+use Rattle.std.proofs.Common.{rules, ◌≡◌, sym, ◌∙◌, ap, subst, length, vec_len, arith}
 use Rattle.std.specs.List.{insert}
 use Rattle.std.proofs.lemmas.Bool.{MatchBool-at_false, eqb-false}
 use Rattle.std.proofs.lemmas.Result.{on_ok_weaker}
@@ -22,6 +22,6 @@ returns-in-Ok-false-clause-ok c =
     let none = subst (λ xs. TouchesNone c.args.pieces.now.items c.args.at (length xs) c.begun-count.result) c.deref-2.ensures.value left.1 in
     on_ok_weaker c.insert.result
     (λ is.
-      put_alone c.args.pieces.now.items c.args.at c.args.bytes.items c.begun-count.result c.insert.new.pieces.items can none
-      (is ∙ ap (λ xs. insert xs c.begun-count.result (piece_of c.args.at c.args.bytes.items)) left.0))
+    put_alone c.args.pieces.now.items c.args.at c.args.bytes.items c.begun-count.result c.insert.new.pieces.items can none
+    (is ∙ ap (λ xs. insert xs c.begun-count.result (piece_of c.args.at c.args.bytes.items)) left.0))
     c.insert.ensures.ok

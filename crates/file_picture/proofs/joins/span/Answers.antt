@@ -1,5 +1,5 @@
 -- The three together end where the last piece does.
-use Rattle.std.proofs.Common.{◌≡◌, ap, length, ◌∙◌, sym}
+use Rattle.std.proofs.Common.{ap, length, ◌∙◌}
 use Rattle.file_picture.proofs.PutLemmas.{span_fits}
 use Rattle.file_picture.proofs.joins.span.Goals as goal
 

@@ -10,4 +10,4 @@ pub returns : goal.returns
 returns c =
     begun_from c.args.pieces.now c.args.at c.partition_point.result c.partition_point.ensures.bound
     (IsPartitionPoint-from_clause (λ (q : PieceFacts). nat_le q.at c.args.at) c.args.pieces.now c.partition_point.result c.partition_point.ensures.partitioned
-      (begun_parted c.args.pieces.now c.args.at c.requires) (λ x r f k. search (rules, tests)))
+    (begun_parted c.args.pieces.now c.args.at c.requires) (λ x r f k. search (rules, tests)))

@@ -1,5 +1,5 @@
 -- The last piece that begins decides.
-use Rattle.std.proofs.Common.{rules, ◌≡◌, ◌∙◌, ap, max, arith}
+use Rattle.std.proofs.Common.{◌≡◌, ◌∙◌, ap, max, arith}
 use Rattle.file_picture.specs.Picture.{end_of}
 use Rattle.file_picture.proofs.ReadLemmas.{known_by}
 use Rattle.file_picture.proofs.places.known_to.Goals as goal

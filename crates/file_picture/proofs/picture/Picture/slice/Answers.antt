@@ -1,5 +1,5 @@
 -- The last piece that begins by the place decides.
-use Rattle.std.proofs.Common.{◌≡◌, ◌-◌, ◌∙◌, ap, subst, get_or, arith}
+use Rattle.std.proofs.Common.{◌-◌, ◌∙◌, ap, subst, get_or, arith}
 use Rattle.file_picture.specs.Picture.{PictureFacts, IsPicture}
 use Rattle.file_picture.specs.Pieces.{IsBegun}
 use Rattle.file_picture.proofs.ReadLemmas.{none_begun, slice_is}
