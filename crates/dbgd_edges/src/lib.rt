@@ -1,16 +1,27 @@
-//! The real outside: the files of this machine as a tree, and the standard streams as sinks. Each
-//! call is one of std, whose errors are counted.
+//! The real outside: the files of this machine as a tree, the standard streams as sinks, a listening
+//! socket as doors, and the time of the system. Each call is one of std, whose errors are counted.
 #![tactic(auto)]
 
+mod accept_fault;
+mod doors;
 mod file_load;
 mod folder_read;
 mod hands;
 mod look;
 mod read_fault;
+mod real_clock;
+mod real_conn;
+mod real_door;
 mod real_sink;
 mod real_tree;
+mod stream_call;
+mod stream_fault;
 mod tries;
 
+pub use doors::{listen, real_doors};
 pub use hands::real_hands;
+pub use real_clock::RealClock;
+pub use real_conn::RealConn;
+pub use real_door::RealDoor;
 pub use real_sink::{RealSink, StdStream};
 pub use real_tree::RealTree;

@@ -12,25 +12,32 @@ ghost use Rattle.dbgd_edges.specs.Numbers.{ArePinnedErrors};
 use row_types::OpenWorld;
 use std::alloc::{AllocError, Global};
 use std::io::{self, ErrorKind};
+use thiserror::Error;
 use tree_trait::{DirAnswer, LoadAnswer, StatAnswer};
 
 /// The number of the system's error that there is no such process (ESRCH). std has no kind for it.
 pub const NO_SUCH_PROCESS: i32 = 3;
 
 /// Why a try to read what stands at a path gave nothing.
-#[derive(Clone, Copy)]
+#[derive(Clone, Copy, Debug, Error)]
 pub enum ReadFault {
     /// Nothing of the kind that was asked for is there.
+    #[error("nothing is there")]
     Gone,
     /// This process may not read it, or may not search a folder above it.
+    #[error("it may not be read")]
     Denied,
     /// Its process ended, its server lost it, links lead on for too long, or a name is too long.
+    #[error("it is out of reach")]
     OutOfReach,
     /// Memory was refused.
+    #[error("memory was refused")]
     OutOfMemory,
     /// The system answered with another error.
+    #[error("it can't be read")]
     System,
     /// Something else was opened than was looked at, or it changed while it was read.
+    #[error("it changed meanwhile")]
     Changed,
 }
 

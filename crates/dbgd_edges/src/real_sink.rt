@@ -1,10 +1,12 @@
 //! The standard streams as sinks.
 
-ghost use Rattle.std.specs.Prelude.{◌≡◌, ◌≤◌, length, IfOk};
+ghost use Rattle.std.specs.Prelude.{◌≡◌};
+ghost use Rattle.http_wire.specs.Sink.{Takes};
 
+use crate::stream_call::write_some;
 use http_wire::{Sink, Stream, WriteAnswer};
 use row_types::Faults;
-use std::io::{Result, Stderr, Stdout, Write};
+use std::io::{Stderr, Stdout};
 
 /// A standard stream that is written.
 #[derive(Drop)]
@@ -34,13 +36,13 @@ impl RealSink {
     }
 
     /// Writes some bytes to the stream.
-    fn pass_on(&mut self, bytes: &[u8]) -> Result<usize>
-        ensures count { IfOk result (λ n. n ≤ length bytes.now) }
+    fn pass_on(&mut self, bytes: &[u8]) -> WriteAnswer
+        ensures takes { Takes bytes.now result }
         ensures faults { self.new.faults ≡ self.old.faults }
     {
         match &mut self.stream {
-            StdStream::Out(stream) => stream.write(bytes),
-            StdStream::Err(stream) => stream.write(bytes),
+            StdStream::Out(stream) => write_some(stream, bytes),
+            StdStream::Err(stream) => write_some(stream, bytes),
         }
     }
 }
@@ -54,12 +56,10 @@ impl Stream for RealSink {
 
 impl Sink for RealSink {
     fn write(&mut self, bytes: &[u8]) -> WriteAnswer {
-        match self.pass_on(bytes) {
-            Ok(n) if n > 0 => WriteAnswer::Took(n),
-            _ => {
-                self.faults.raise();
-                WriteAnswer::Failed
-            }
+        let answer = self.pass_on(bytes);
+        if answer == WriteAnswer::Failed {
+            self.faults.raise();
         }
+        answer
     }
 }
