@@ -19,13 +19,13 @@ pub record IsUnderWay (s : Input) (form p last at : ℕ) : Type 0 where
   pub same : resolved_at s form p ≡ chain_at s left last at
 
 -- the chain of a form that is indirect goes on behind it
-chain-indirect : (s : Input) (n last at : ℕ) → (last == DW_FORM_INDIRECT) ≡ true
+pub chain-indirect : (s : Input) (n last at : ℕ) → (last == DW_FORM_INDIRECT) ≡ true
     → chain_at s (suc n) last at ≡ (unsigned_at s at >>= λ next. chain_at s n next.value next.next)
 unfolding chain_at
 chain-indirect s n last at e = rw e
 
 -- the chain of any other form ends there
-chain-end : (s : Input) (n last at : ℕ) → (last == DW_FORM_INDIRECT) ≡ false
+pub chain-end : (s : Input) (n last at : ℕ) → (last == DW_FORM_INDIRECT) ≡ false
     → chain_at s (suc n) last at ≡ Ok (record { value = last; next = at })
 unfolding chain_at
 chain-end s n last at e = rw e

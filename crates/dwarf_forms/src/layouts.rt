@@ -63,5 +63,8 @@ pub(crate) fn form_layout(form: u64) -> Option<Layout>
 pub fn is_index_form(form: u64) -> bool
     ensures { result ≡ is_index_form form }
 {
-    matches!(form_layout(form), Some(Layout::Numbered(_, Sense::StrIndex)))
+    matches!(
+        form_layout(form),
+        Some(Layout::Numbered(_, Sense::StrIndex))
+    )
 }

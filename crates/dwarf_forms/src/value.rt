@@ -2,6 +2,7 @@
 
 ghost use Rattle.std.specs.Prelude.{◌≤◌, length};
 ghost use Rattle.file_formats.specs.DwarfCodes.{FormCodes};
+ghost use Rattle.dwarf_forms.specs.Chains.{AreChains};
 ghost use Rattle.dwarf_forms.specs.FormAnswers.{ReadsAs};
 ghost use Rattle.dwarf_forms.specs.TextAnswers.{value_facts, value_at, texts_of, format_with};
 
@@ -25,6 +26,7 @@ pub enum Value<'a> {
 
 /// Reads a value of the form. `constant` is the abbreviation's, of the form implicit_const. After a
 /// fault the cursor's place is open.
+#[tactic(auto, using(crate::proofs::ChainLaws::chains))]
 pub fn read_form<'a>(
     cursor: &mut Cursor<'a>,
     form: u64,
@@ -35,6 +37,7 @@ pub fn read_form<'a>(
     ensures value { ReadsAs value_facts (λ s. value_at (texts_of strings.now) s constant form)
         (format_with strings.now address_size) cursor.old cursor.new result }
     ensures within { cursor.new.place ≤ length cursor.old.bytes }
+    ensures chains { AreChains }
     ensures codes { FormCodes }
 {
     let format = Format {

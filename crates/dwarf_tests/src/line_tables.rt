@@ -5,7 +5,7 @@ mod tables;
 use byte_read::Order;
 use std::alloc::Global;
 use std::process::Abort;
-use tables::{Said, Told, table, table_said};
+use tables::{Said, Told, has_indexes, table, table_said};
 
 /// The line table of a unit of /w/src/main.c (section 6.2.4): its length 65, version 5, addresses of
 /// 8 bytes, header length 57, twelve opcode lengths; two directories by line_strp; two files by
@@ -216,4 +216,27 @@ fn a_table_has_a_format_and_an_order(rt: HostRuntime) {
     stands_at_3(&rt, rt.alloc(), WIDE, Order::Little, wide);
     let big = of_one(b"w", (Some(b"inc"), Some(0x102)));
     stands_at_3(&rt, rt.alloc(), BIG, Order::Big, big);
+}
+
+// DWARF 5, section 7.5.6, table 7.6: the forms of class string, strx and strx1 to strx4 by indexes. The
+// first list has the form or the second one, and no entries.
+static INDEXED: [(&[u8], bool); 8] = [
+    (b"\x01\x01\x08\0\0\0", false),
+    (b"\x01\x01\x1f\0\x01\x01\x0e\0", false),
+    (b"\x01\x01\x1a\0\0\0", true),
+    (b"\0\0\x01\x01\x1a\0", true),
+    (b"\0\0\x02\x02\x0b\x01\x25\0", true),
+    (b"\0\0\x01\x01\x26\0", true),
+    (b"\0\0\x01\x01\x27\0", true),
+    (b"\0\0\x01\x01\x28\0", true),
+];
+
+#[test]
+fn a_table_tells_whether_it_has_indexes(rt: HostRuntime) {
+    for (lists, expected) in &INDEXED {
+        assert!(rt;
+            has_indexes(&rt, rt.alloc(), lists) == *expected,
+            "{lists:?}"
+        );
+    }
 }

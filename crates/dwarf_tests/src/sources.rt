@@ -5,6 +5,7 @@ mod cases;
 use cases::{Case, Units, holds, lead_to, push, units_lead_to, with_header};
 use dwarf_forms::DebugParts;
 use elf_classify::debug_parts;
+use file_formats::Order;
 use sample_files::dwarf_five;
 use std::alloc::Global;
 use std::process::Abort;
@@ -221,5 +222,40 @@ fn texts_lead_to(rt: &impl Abort, alloc: Global, line_str: &[u8], paths: &[&str]
 fn a_text_ends_with_a_0(rt: HostRuntime) {
     for (line_str, paths) in &ENDS {
         texts_lead_to(&rt, rt.alloc(), line_str, paths);
+    }
+}
+
+/// Two units over the table at 0, with their parts of .debug_str_offsets at 4 and at 8.
+static TWO_BASES: &[u8] = b"\x11\0\0\0\x05\0\x01\x08\0\0\0\0\x01\x04\0\0\0\0\0\0\0\
+    \x11\0\0\0\x05\0\x01\x08\0\0\0\0\x01\x08\0\0\0\0\0\0\0";
+
+// DWARF 5, section 7.26. The directory is /w; the file is index 0 of a unit's texts, or stands in place.
+static BASED: [(&[u8], &[&str]); 2] = [
+    (
+        b"\x01\x01\x08\x01/w\0\x01\x01\x25\x01\0",
+        &["/w/a.c", "/w/b.c"],
+    ),
+    (b"\x01\x01\x08\x01/w\0\x01\x01\x08\x01c.c\0", &["/w/c.c"]),
+];
+
+/// Checks that these are the paths of two units that share the table of these lists.
+fn based_lead_to(rt: &impl Abort, alloc: Global, lists: &[u8], paths: &[&str]) {
+    let line = with_header(rt, alloc, lists);
+    let parts = DebugParts {
+        info: TWO_BASES,
+        abbrev: b"\x01\x11\0\x72\x17\x10\x17\0\0\0",
+        line: line.as_slice(),
+        str: b"a.c\0b.c\0",
+        line_str: &[],
+        str_offsets: b"....\0\0\0\0\x04\0\0\0",
+        order: Order::Little,
+    };
+    lead_to(rt, alloc, "bases", &parts, paths);
+}
+
+#[test]
+fn a_unit_has_its_own_texts(rt: HostRuntime) {
+    for (lists, paths) in &BASED {
+        based_lead_to(&rt, rt.alloc(), lists, paths);
     }
 }

@@ -2,7 +2,9 @@
 
 use byte_read::Order;
 use dwarf_forms::DebugParts;
-use dwarf_units::{Unit, Units, unit_die, units};
+use dwarf_units::{Unit, UnitReader, Units, unit_die, units};
+use std::alloc::Global;
+use std::process::Abort;
 
 /// The sections of a small file with these abbreviations: its text 0 is /w/src.
 fn parts(abbrev: &[u8]) -> DebugParts<'_> {
@@ -179,5 +181,59 @@ fn units_stand_one_behind_the_other(rt: HostRuntime) {
     let mut list = units(INFO, Order::Little);
     for expected in &UNITS {
         assert!(rt; next_unit(&mut list) == *expected);
+    }
+}
+
+/// Two tables: at 0 codes 1 and 2, at 15 code 2 alone, whose stmt_list is data4 and not data8.
+static TABLES: &[u8] = b"\x01\x11\0\x10\x06\0\0\x02\x11\0\x10\x07\0\0\0\
+    \x02\x11\0\x10\x06\0\0\0";
+
+// DWARF 5, section 7.5.3. Units in the order in which they are read: the table, the code, and what
+// stands behind it; and the place of the line table, None where the unit has no entry.
+static IN_TURN: [(&[u8], Option<u64>); 7] = [
+    (
+        b"\x05\0\x01\x08\0\0\0\0\x02\x01\x02\x03\x04\x05\x06\x07\x08",
+        Some(0x0807_0605_0403_0201),
+    ),
+    (
+        b"\x05\0\x01\x08\0\0\0\0\x01\x01\x02\x03\x04",
+        Some(0x0403_0201),
+    ),
+    (b"\x05\0\x01\x08\0\0\0\0\x03\x01\x02\x03\x04", None),
+    (
+        b"\x05\0\x01\x04\0\0\0\0\x01\x01\x02\x03\x04",
+        Some(0x0403_0201),
+    ),
+    (
+        b"\x05\0\x01\x08\x0f\0\0\0\x02\x01\x02\x03\x04",
+        Some(0x0403_0201),
+    ),
+    (b"\x05\0\x01\x08\x0f\0\0\0\x01\x01\x02\x03\x04", None),
+    (b"\x05\0\x01\x08\0\0\0\0\x02\x01\x02\x03\x04", None),
+];
+
+/// The place of the line table that the next unit names.
+fn next_place<'a>(
+    rt: &impl Abort,
+    alloc: Global,
+    reader: &mut UnitReader<'a>,
+    bytes: &'a [u8],
+) -> Option<u64> {
+    let unit = Unit { bytes, wide: false };
+    match reader.first_entry(alloc, &unit).expect(rt, "memory") {
+        Some(die) => die.stmt_list,
+        None => None,
+    }
+}
+
+#[test]
+fn a_reader_tells_of_each_unit(rt: HostRuntime) {
+    let alloc = rt.alloc();
+    let mut reader = UnitReader::new(alloc, &parts(TABLES));
+    for (bytes, place) in &IN_TURN {
+        assert!(rt;
+            next_place(&rt, alloc, &mut reader, bytes) == *place,
+            "{bytes:?}"
+        );
     }
 }

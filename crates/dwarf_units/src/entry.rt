@@ -66,7 +66,11 @@ fn text_in<'a>(raw: Option<RawValue<'a>>, strings: &Strings<'a>) -> Option<Text<
 }
 
 /// What the values mean, which are all read by now.
-pub(crate) fn entry_said<'a>(raw: RawAttributes<'a>, wide: bool, parts: &DebugParts<'a>) -> UnitDie<'a>
+pub(crate) fn entry_said<'a>(
+    raw: RawAttributes<'a>,
+    wide: bool,
+    parts: &DebugParts<'a>,
+) -> UnitDie<'a>
     ensures { die_facts result ≡ root_of (sections_of parts.now) wide (raw_entry raw.entry) }
 {
     let base = place_in(raw.str_offsets_base);

@@ -1,23 +1,28 @@
 -- Units and the line tables that they name.
-use Rattle.std.proofs.Common.{◌≡◌, ℕ, suc, inl, inr, Bool, true, false, List, [], ◌∷◌, All, Some, None, refl, sym, ◌∙◌, ap, subst, arith}
+use Rattle.std.proofs.Common.{◌≡◌, ℕ, suc, inl, inr, Bool, true, false, List, [], ◌∷◌, All, Option, Some, None, refl, sym, ◌∙◌, ap, subst, arith}
 use Rattle.std.specs.BTreeSet.{BTreeSet, insert_key, contains}
 use Rattle.std.specs.BTreeMap.{is_at}
 use Rattle.std.specs.List.{list_any}
 use Rattle.std.specs.Option.{option_copied}
+use Rattle.std.specs.Ordering.{nat_cmp}
 use Rattle.std.specs.declared.cmp.Ordering.{Ordering}
 use Rattle.std.proofs.lemmas.Bool.{false≢true, or_cases}
+use Rattle.std.proofs.lemmas.Map.Lookups.{exact_unsigned}
 use Rattle.std.proofs.lemmas.Map.Views.{All-insert_key}
 use Rattle.file_formats.specs.DwarfLengths.{Piece}
 use Rattle.file_formats.specs.DwarfLines.{LineTable, IsLineTable}
 use Rattle.file_formats.specs.DwarfUnits.{DebugSections, RootEntry, IsRootEntry, unit_texts}
-use Rattle.dwarf_forms.specs.Tells.{IsOnly}
+use Rattle.dwarf_forms.specs.Tells.{IsOnly, Tells}
+use Rattle.dwarf_lines.specs.declared.table.ReadTable.{ReadTable}
+use Rattle.dwarf_lines.specs.Finds.{as_it_is}
 use Rattle.dwarf_units.specs.UnitList.{AreUnits}
 use Rattle.dwarf_units.proofs.CaseLemmas.{some_same}
 use Rattle.source_paths.specs.declared.tables.TableKey.{TableKey}
 use Rattle.source_paths.specs.Adds.{Adds, Has}
-use Rattle.source_paths.specs.Keys.{AreRead, IsRead, key_entry, short_entry}
+use Rattle.source_paths.specs.Keys.{HaveSameSources, IsFixed, IsRead, IsTableFor, IsTableOf, key_entry, short_entry}
 use Rattle.row_types.specs.Sources.{IsEntrySource, IsFileSource, IsOfOne, IsSource, IsUnitSource}
 use Rattle.source_paths.proofs.AddLemmas.{adds-same, adds-had, has-nothing}
+use Rattle.source_paths.proofs.OrderLemmas.{equal}
 use Rattle.source_paths.proofs.ShortLemmas.{from_unit, to_unit}
 
 module _ (s : DebugSections) where
@@ -58,19 +63,15 @@ module _ (s : DebugSections) where
     file = to_unit entry.comp_dir h.table path h.file;
   }
 
-  -- the line table of a key
-  abbrev pub IsKeyTable : TableKey → LineTable → Type 0
-  IsKeyTable key table = IsLineTable s.lines key.offset (unit_texts s false key.base) table
-
   module _ (key : TableKey) where
-    key_table : {path : List ℕ} → (h : IsEntrySource s false (key_entry key) path) → IsKeyTable key h.table
+    key_table : {path : List ℕ} → (h : IsEntrySource s false (key_entry key) path) → IsTableFor s key.offset key.base h.table
     key_table h = subst (λ n. IsLineTable s.lines n (unit_texts s false key.base) h.table) (sym (some_same h.named)) h.stands
 
-    pub table-nowhere : ((table : LineTable) → IsKeyTable key table → ⊥) → (path : List ℕ)
+    pub table-nowhere : ((table : LineTable) → IsTableFor s key.offset key.base table → ⊥) → (path : List ℕ)
         → IsEntrySource s false (key_entry key) path → ⊥
     table-nowhere none path h = none h.table (key_table h)
 
-    pub table-adds : {table : LineTable} → IsOnly (IsKeyTable key) table → {old new : BTreeSet (List ℕ)}
+    pub table-adds : {table : LineTable} → IsOnly (IsTableFor s key.offset key.base) table → {old new : BTreeSet (List ℕ)}
         → Adds (IsOfOne (IsFileSource (option_copied key.directory) table) table.files) old new
         → Adds (IsEntrySource s false (key_entry key)) old new
     table-adds {table} only a = adds-same
@@ -78,6 +79,41 @@ module _ (s : DebugSections) where
         (λ path h. subst (λ (t : LineTable). IsOfOne (IsFileSource (option_copied key.directory) t) t.files path)
         (only.only h.table (key_table h)) h.file)
         a
+
+  -- a table without indexes is the same for all units
+  pub fixed-by : {offset : ℕ} {base : Option ℕ} {read : ReadTable} → IsTableOf s offset base read → read.indexed ≡ false → IsFixed s offset
+  fixed-by {offset} {read = read} t none base other table h = by read.table (t.fixed none base) (t.fixed none other)
+    where
+      by : (found : Option LineTable) → Tells as_it_is (IsTableFor s offset base) found → Tells as_it_is (IsTableFor s offset other) found
+          → IsTableFor s offset other table
+      by None no_table no_other = absurd (no_table table h)
+      by (Some one) only others = subst (IsTableFor s offset other) (sym (only.only table h)) others.here
+
+  -- units that differ in their places in .debug_str_offsets alone have the same sources where their table is the same
+  pub same-bases : {offset : ℕ} → IsFixed s offset → (directory : Option (List ℕ)) (base other : Option ℕ)
+      → HaveSameSources s (record { stmt_list = Some offset; comp_dir = directory; str_offsets_base = base })
+      (record { stmt_list = Some offset; comp_dir = directory; str_offsets_base = other })
+  same-bases {offset} fixed directory base other = record { to = λ path h. go base other path h; from = λ path h. go other base path h }
+    where
+      go : (b o : Option ℕ) (path : List ℕ) → IsEntrySource s false (record { stmt_list = Some offset; comp_dir = directory; str_offsets_base = b }) path
+          → IsEntrySource s false (record { stmt_list = Some offset; comp_dir = directory; str_offsets_base = o }) path
+      go b o path h =
+          let at : offset ≡ h.offset = some_same h.named in
+          record {
+            offset = h.offset;
+            named = h.named;
+            table = h.table;
+            stands = subst (λ n. IsTableFor s n o h.table) at (fixed b o h.table (subst (λ n. IsTableFor s n b h.table) (sym at) h.stands));
+            file = h.file;
+          }
+
+  pub same-all : (entry : RootEntry) → HaveSameSources s entry entry
+  same-all entry = record { to = λ path h. h; from = λ path h. h }
+
+  -- what adds one entry's sources adds another's that has the same
+  pub adds-shared : {some others : RootEntry} → HaveSameSources s some others → {old new : BTreeSet (List ℕ)}
+      → Adds (IsEntrySource s false some) old new → Adds (IsEntrySource s false others) old new
+  adds-shared same a = adds-same same.to same.from a
 
   module _ (unit : Piece) where
     pub unit-nowhere : ((entry : RootEntry) → IsRootEntry s unit entry → ⊥) → (path : List ℕ) → IsUnitSource s unit path → ⊥
@@ -107,14 +143,14 @@ module _ (s : DebugSections) where
   still_read keys a h = λ k d within path source. a.kept path (h k d within path source)
 
   -- the key's table is read too
-  pub read-more : (cmp : TableKey → TableKey → Ordering) (key : TableKey) {seen now : BTreeSet TableKey} {old new : BTreeSet (List ℕ)}
-      → now.keys ≡ insert_key cmp seen.keys key → Adds (IsEntrySource s false (key_entry key)) old new → AreRead s seen old → AreRead s now new
-  read-more cmp key {seen} {now} {old} {new} e a h = record {
-    all = subst (All (IsRead s new)) (sym e) (All-insert_key cmp key (IsRead s new) seen.keys (still_read seen.keys a h.all) a.added);
-  }
+  pub read-more : (cmp : TableKey → TableKey → Ordering) (key : TableKey) (keys : List TableKey) {now : List TableKey}
+      {old new : BTreeSet (List ℕ)} → now ≡ insert_key cmp keys key → Adds (IsEntrySource s false (key_entry key)) old new
+      → All (IsRead s old) keys → All (IsRead s new) now
+  read-more cmp key keys {now} {old} {new} e a h =
+      subst (All (IsRead s new)) (sym e) (All-insert_key cmp key (IsRead s new) keys (still_read keys a h) a.added)
 
   -- a key that a test finds
-  found : {K : Type 0} (test : K → Bool) {P : K → Type 0} {Q : Type 0} (keys : List K) → list_any test keys ≡ true → All P keys
+  pub found : {K : Type 0} (test : K → Bool) {P : K → Type 0} {Q : Type 0} (keys : List K) → list_any test keys ≡ true → All P keys
       → ((key : K) → test key ≡ true → P key → Q) → Q
   found test [] e h to = absurd (false≢true e)
   found test (key ∷ keys) e h to = elim (or_cases (test key) (list_any test keys) e) [
@@ -122,12 +158,23 @@ module _ (s : DebugSections) where
     | inr later ↦ found test keys later (λ k d within. h (suc k) d (omega (arith, within))) to
   ]
 
+  -- a table that is the same for all units is kept as such
+  pub fixed-more : (cmp : ℕ → ℕ → Ordering) (offset : ℕ) (keys : List ℕ) {now : List ℕ} → now ≡ insert_key cmp keys offset
+      → IsFixed s offset → All (IsFixed s) keys → All (IsFixed s) now
+  fixed-more cmp offset keys e h all = subst (All (IsFixed s)) (sym e) (All-insert_key cmp offset (IsFixed s) keys all h)
+
+  -- a table that is kept as such is the same for all units
+  pub fixed-at : (offset : ℕ) (fixed : BTreeSet ℕ) → contains nat_cmp fixed offset ≡ true → All (IsFixed s) fixed.keys → IsFixed s offset
+  fixed-at offset fixed e all =
+      found (is_at (nat_cmp offset)) fixed.keys e all
+      (λ other tied h. subst (IsFixed s) (sym (exact_unsigned offset other (equal (nat_cmp offset other) tied))) h)
+
   -- the key's table was read before
   pub read-before : (cmp : TableKey → TableKey → Ordering) → ((key other : TableKey) → is_at (cmp key) other ≡ true → key_entry key ≡ key_entry other)
-      → (key : TableKey) {seen : BTreeSet TableKey} {paths : BTreeSet (List ℕ)} → contains cmp seen key ≡ true → AreRead s seen paths
+      → (key : TableKey) (seen : BTreeSet TableKey) {paths : BTreeSet (List ℕ)} → contains cmp seen key ≡ true → All (IsRead s paths) seen.keys
       → Adds (IsEntrySource s false (key_entry key)) paths paths
-  read-before cmp same key {seen} {paths} e h = adds-had paths
-      (found (is_at (cmp key)) {P = IsRead s paths} seen.keys e h.all
+  read-before cmp same key seen {paths} e h = adds-had paths
+      (found (is_at (cmp key)) {P = IsRead s paths} seen.keys e h
       (λ other tied read path source. read path (subst (λ x. IsEntrySource s false x path) (same key other tied) source)))
 
   -- the paths of all units are the file's sources

@@ -12,7 +12,7 @@ use Rattle.source_paths.specs.contracts.tables.TableKeyOrd.TheImpl.{cmp-value}
 use Rattle.source_paths.specs.declared.tables.TableKey.{TableKey}
 use Rattle.source_paths.specs.Keys.{key_entry}
 
-equal : (o : Ordering) → is_eq o ≡ true → o ≡ Equal
+pub equal : (o : Ordering) → is_eq o ≡ true → o ≡ Equal
 equal Less e = absurd (false≢true e)
 equal Equal e = refl
 equal Greater e = absurd (false≢true e)

@@ -1,5 +1,6 @@
 -- A path takes its room in a set once.
-use Rattle.std.proofs.Common.{◌≡◌, ℕ, ◌+◌, ◌≤◌, List, [], ◌∷◌, arith}
+use Rattle.std.proofs.Common.{◌≡◌, ℕ, ◌+◌, ◌≤◌, Bool, true, false, List, [], ◌∷◌, arith}
+use Rattle.std.specs.Prelude.{not}
 use Rattle.std.specs.BTreeSet.{insert_key}
 use Rattle.std.specs.Ordering.{match_ordering}
 use Rattle.std.specs.declared.cmp.Ordering.{Ordering}
@@ -18,3 +19,9 @@ room-insert cmp text (first ∷ rest) = by (cmp text first) (room-insert cmp tex
     by Less h = omega arith
     by Equal h = omega arith
     by Greater h = omega (arith, h)
+
+-- a path that is added wasn't there
+pub no_room : (added had : Bool) → added ≡ not had → added ≡ true → had ≡ true → ⊥
+no_room true true e is was = cc
+no_room true false e is was = cc
+no_room false had e is was = cc

@@ -36,11 +36,7 @@ fn path_named(alloc: Global, text: Vec<u8>) -> Result<Option<CanonPath>, AllocEr
 }
 
 /// Adds the path that a text names.
-pub(crate) fn add_named(
-    alloc: Global,
-    text: Vec<u8>,
-    paths: &mut PathSet,
-) -> Result<(), AllocError>
+pub(crate) fn add_named(alloc: Global, text: Vec<u8>, paths: &mut PathSet) -> Result<(), AllocError>
     ensures adds { OnOk result (Adds (Names text.items) paths.old paths.new) }
     ensures kept { (path : List ℕ) → Has paths.old path → Has paths.new path }
 {

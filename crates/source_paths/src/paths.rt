@@ -9,9 +9,9 @@ ghost use Rattle.row_types.specs.Sources.{IsSource};
 
 use crate::found::Found;
 use crate::room::SOURCES_LIMIT;
-use crate::tables::add_unit;
+use crate::tables::{Tables, add_unit};
 use dwarf_forms::{DebugParts, texts_in};
-use dwarf_units::units;
+use dwarf_units::{UnitReader, units};
 use row_types::{CanonPath, Sources};
 use std::alloc::{AllocError, Global};
 use std::collections::BTreeSet;
@@ -22,10 +22,11 @@ fn all_paths(alloc: Global, parts: &DebugParts<'_>) -> Result<BTreeSet<CanonPath
         → Has paths path ↔ IsSource (sections_of parts.now) path) }
     ensures small { IfOk result (λ paths. texts_room paths.keys ≤ SOURCES_LIMIT) }
 {
-    let mut seen = BTreeSet::new(alloc);
+    let mut reader = UnitReader::new(alloc, parts);
+    let mut tables = Tables::new(alloc);
     let mut paths = Found::new(alloc)?;
     for unit in units(parts.info, parts.order) {
-        add_unit(alloc, parts, &unit, &mut seen, &mut paths)?;
+        add_unit(alloc, parts, &unit, &mut reader, &mut tables, &mut paths)?;
     }
     Ok(paths.into_paths())
 }

@@ -2,7 +2,7 @@
 
 use byte_read::Order;
 use dwarf_forms::{Strings, Text};
-use dwarf_lines::{LineTable, line_table};
+use dwarf_lines::{LineTable, line_table, read_table};
 use std::alloc::Global;
 use std::process::Abort;
 
@@ -86,4 +86,12 @@ pub fn table_said<'a>(
         }),
         None => None,
     }
+}
+
+/// Whether a form in the table of these lists names texts by indexes.
+pub fn has_indexes(rt: &impl Abort, alloc: Global, lists: &[u8]) -> bool {
+    let line = table(rt, alloc, &[lists]);
+    read_table(alloc, line.as_slice(), 0, &strings(Order::Little))
+        .expect(rt, "memory")
+        .indexed
 }

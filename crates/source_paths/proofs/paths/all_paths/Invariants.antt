@@ -1,4 +1,4 @@
-use Rattle.std.proofs.Common.{map}
+use Rattle.std.proofs.Common.{◌≡◌, map}
 use Rattle.dwarf_forms.specs.Parts.{sections_of}
 use Rattle.dwarf_units.specs.UnitList.{unit_facts}
 use Rattle.source_paths.specs.Adds.{Adds}
@@ -9,5 +9,6 @@ use Rattle.source_paths.proofs.paths.all_paths.Given as goal
 abbrev pub invariant-loop-unit : goal.invariant-loop-unit
 invariant-loop-unit l = record {
   adds : Adds (IsOfOne (IsUnitSource (sections_of l.parts)) (map unit_facts l.yielded)) l.initial.paths l.paths;
-  read : AreRead (sections_of l.parts) l.seen l.paths;
+  reader : l.reader ≡ sections_of l.parts;
+  read : AreRead (sections_of l.parts) l.tables l.paths;
 }
