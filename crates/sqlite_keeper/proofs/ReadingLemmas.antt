@@ -1,5 +1,5 @@
 -- Rows that are read one at a time are what the query shows.
-use Rattle.std.proofs.Common.{◌≡◌, inl, inr, List, [], ◌∷◌, ◌++◌, map, Ok, Err, Result, Option, None, Some, sym, ◌∙◌, ap, subst}
+use Rattle.std.proofs.Common.{◌≡◌, ◌⊎◌, inl, inr, ℕ, List, [], ◌∷◌, ◌++◌, map, Ok, Err, Result, Option, None, Some, sym, ◌∙◌, ap, subst}
 use Rattle.std.specs.Prelude.{IfOk}
 use Rattle.std.proofs.lemmas.List.{map-append}
 use Rattle.sqlite_resolve.specs.declared.compiled.Compiled.{Compiled}
@@ -10,11 +10,12 @@ use Rattle.sqlite.specs.Given.{Advances, GivesOn, HasBegun, HasGiven, Returns}
 use Rattle.sqlite.specs.Held.{Held, state}
 use Rattle.sqlite.specs.Listing.{IsSourceOf, reads_listing, understood}
 use Rattle.sqlite.specs.Order.{Row}
-use Rattle.sqlite.specs.State.{State, IsUnchanged, Shown, ShowsRows}
+use Rattle.sqlite.specs.State.{State, Fails, FailsToQuery, FailsToShow, IsNotRun, IsRolledBack, IsUnchanged, Shown, ShowsRows}
 use Rattle.sqlite.specs.Store.{Ghosts}
+use Rattle.sqlite.specs.declared.error.Error.{Error}
 use Rattle.sqlite.proofs.Callers.{unchanged_then}
 use Rattle.index_keeper.specs.Tables.{KeptFacts}
-use Rattle.sqlite_keeper.specs.Reading.{GivesAll, GivesRow, shown_kept}
+use Rattle.sqlite_keeper.specs.Reading.{GivesAll, GivesRow, LeavesAlone, shown_kept}
 use Rattle.sqlite_keeper.specs.Statements.{rows_text}
 use Rattle.sqlite_keeper.proofs.TextLemmas.{rows_show_none}
 
@@ -41,6 +42,39 @@ shown_from first now last rows same h =
       subst (ShowsRows first last rows_text h.0 full rows) (sym bare)
       (it.0, subst (λ (d : Database). IsSourceOf (reads_listing d.schema rows_text) d it.0) same.0.now_is it.1, it.2, unchanged_then first now last same it.3),
     )
+
+-- what is unchanged is left alone, and so is what is rolled back
+pub left_unchanged : (old new : State) → IsUnchanged old new → LeavesAlone old new
+left_unchanged old new it = record { now = λ _. inl it.0.now_is; committed = λ _. it.0.committed_is }
+
+left_back : (old new : State) → IsRolledBack old new → LeavesAlone old new
+left_back old new it = record { now = λ opened. inr (it.undone opened).0; committed = λ opened. (it.undone opened).1 }
+
+-- left alone after nothing was changed
+pub left_after : (a b c : State) → IsUnchanged a b → LeavesAlone b c → LeavesAlone a c
+left_after a b c same leaves = record {
+  now = λ opened. elim (leaves.now opened) [ inl now ↦ inl (now ∙ same.0.now_is) | inr back ↦ inr (back ∙ same.0.committed_is) ];
+  committed = λ opened. leaves.committed opened ∙ same.0.committed_is;
+}
+
+-- a step that fails leaves the database alone
+pub left_by_step : (old new : State) (P : Type 0) (e : Error) → Fails old new P e ⊎ IsUnchanged old new → LeavesAlone old new
+left_by_step old new P e (inl failed) = left_back old new failed.3
+left_by_step old new P e (inr same) = left_unchanged old new same
+
+-- and so does a query that doesn't begin
+pub left_by_query : (old new : State) (e : Error) → FailsToQuery rows_text [] old new e → LeavesAlone old new
+unfolding FailsToQuery IsNotRun
+left_by_query old new e h = elim h [
+    | inl not_run ↦ elim not_run [ inl no_text ↦ left_unchanged old new no_text.1 | inr failed ↦ left_back old new failed.3 ]
+    | inr run ↦ refused run.0 run.1.now run.1.is run.2
+  ]
+  where
+    refused : (c : Compiled) (now : ℕ) → understood old.now.schema rows_text ≡ Ok c → FailsToShow old new rows_text c (timed [] c.formats now) e c.returning → LeavesAlone old new
+    refused c now is h =
+        let bare : c.returning ≡ None = subst (λ r. IfOk r (λ k. k.returning ≡ None)) is (rows_show_none old.now.schema) in
+        let it = subst (FailsToShow old new rows_text c (timed [] c.formats now) e) bare h in
+        left_unchanged old new it.3
 
 module _ {S : Type 0} (g : Ghosts S) where
   pub given_more : (old new : Held S) (o : Option Row) (row : Row) (its : KeptFacts) → Some row ≡ o → Advances g old new o → its ≡ shown_kept row → GivesRow g old new (Some its)

@@ -1,6 +1,6 @@
 -- What the statements of the store give and change in a told database, by what they answered.
-use Rattle.std.proofs.Common.{◌≡◌, inl, inr, ℕ, List, [], ◌∷◌, map, Ok, Err, Result, Bool, true, false, refl, sym, ◌∙◌, ap, subst}
-use Rattle.std.specs.Prelude.{IsTrue, MatchBool, if◌then◌else◌}
+use Rattle.std.proofs.Common.{◌≡◌, ◌⊎◌, inl, inr, ℕ, List, [], ◌∷◌, Ok, Err, Result, Option, None, Some, Bool, true, false, refl, sym, ◌∙◌, ap, subst}
+use Rattle.std.specs.Prelude.{IfSome, IsTrue, MatchBool, if◌then◌else◌}
 use Rattle.sqlite_resolve.specs.declared.compiled.Compiled.{Compiled}
 use Rattle.sqlite.specs.declared.error.Error.{Error}
 use Rattle.sqlite.specs.declared.error.Error.TheVariants.{ExecuteReturnedResults}
@@ -8,15 +8,20 @@ use Rattle.sqlite.specs.Effect.{Database, IsDatabase}
 use Rattle.sqlite.specs.Held.{Held, state}
 use Rattle.sqlite.specs.Order.{Row}
 use Rattle.sqlite.specs.Schema.{Schema}
-use Rattle.sqlite.specs.State.{State, Shows, Shown, Executes, ExecutesIn, IsNotRun, IsRolledBack, IsUnchanged, RunsAlone, RunsCommand, shows_rows}
+use Rattle.sqlite.specs.State.{State, HasCleanDisk, Shows, Executes, ExecutesIn, IsNotRun, IsRolledBack, IsUnchanged, RunsAlone, RunsCommand, shows_rows}
 use Rattle.sqlite_catalog.specs.Listing.{IsSound}
 use Rattle.sqlite_value.specs.declared.value.Value.TheVariants.{Text, Blob}
-use Rattle.index_keeper.specs.Tables.{KeptFacts, AscendsByPath, put_of, removal_of}
-use Rattle.sqlite_keeper.specs.Reading.{shown_kept}
+use Rattle.sqlite.specs.Store.{Ghosts}
+use Rattle.index_keeper.specs.Tables.{AscendsByPath, EditFacts, KeptFacts, put_of, removal_of}
+use Rattle.index_keeper.specs.declared.answer.KeepAnswer.{KeepAnswer}
+use Rattle.sqlite_keeper.specs.Faults.{fault_of}
+use Rattle.sqlite_keeper.specs.Reading.{GivesAll, LeavesAlone, Looks}
 use Rattle.sqlite_keeper.specs.Schema.{IsStore, store_of}
-use Rattle.sqlite_keeper.specs.Statements.{put_text, remove_text, rows_text}
+use Rattle.sqlite_keeper.specs.Statements.{HasRun, answer_for, answer_to, put_text, remove_text}
 use Rattle.sqlite_keeper.specs.Stored.{tables_of}
-use Rattle.sqlite_keeper.specs.Told.{IsNumbered, IsTold, Stays, Tells, TellsAll, tables}
+use Rattle.sqlite_keeper.specs.Told.{IsNumbered, IsTold, IsToldBy, Stays, Tells, TellsAll, TellsChange, tables}
+use Rattle.sqlite_keeper.specs.declared.fault.SqlFault.{SqlFault}
+use Rattle.sqlite_keeper.specs.declared.fault.SqlFault.TheVariants.{Failed, OutOfMemory}
 use Rattle.sqlite_keeper.proofs.KeptLemmas.{put_in, removed}
 use Rattle.sqlite_keeper.proofs.PutLemmas.{puts}
 use Rattle.sqlite_keeper.proofs.RowLemmas.{AreKept, kept_rows}
@@ -85,10 +90,38 @@ puts_told old new path body count told was is h =
     let after : IsTold new = committed old new told did.0 did.1 did.2 in
     record { told = after; changed = put_in path body _ _ (told_rows old told was).apart (told_rows new after is).apart did.3 }
 
--- the rows that the query showed, strictly by path, are the tables
-pub shows_told : (old new : State) (rows : List Row) (items : List KeptFacts) → IsTold old → IsNumbered old → Shown rows_text [] old new rows → items ≡ map shown_kept rows → AscendsByPath items
-    → IsUnchanged old new → TellsAll items old new
-shows_told old new rows items told was h is ascends same = record {
-  all = shows told.schema.second old new rows items told.schema.is (told_rows old told was) h is ascends;
-  stays = stays_unchanged old new told same;
+-- the answer to a change tells what came of its statement
+pub change_told : {S : Type 0} (g : Ghosts S) (edit : EditFacts) (sql : List ℕ) (params : Row) (before after : Held S) (given : KeepAnswer)
+    → ((count : ℕ) → IsTold (state g before) → IsNumbered (state g before) → IsNumbered (state g after) → Executes sql params (state g before) (state g after) (Ok count) → Tells edit (state g before) (state g after))
+    → (HasCleanDisk (state g after) → HasRun g sql params before after given) → TellsChange g edit before after given
+change_told g edit sql params before after given done runs told was is clean opened = let h = runs clean in answered h.came h.ran h.told
+  where
+    faulty : (fault : SqlFault) → Stays (state g before) (state g after) → IsToldBy (answer_for fault) edit (state g before) (state g after)
+    faulty Failed stays = stays
+    faulty OutOfMemory stays = stays
+
+    answered : (came : Result ℕ Error) → Executes sql params (state g before) (state g after) came → given ≡ answer_to came after.in_transaction → IsToldBy given edit (state g before) (state g after)
+    answered (Ok count) ran e =
+        let tells = done count told was is ran in
+        subst (λ a. IsToldBy a edit (state g before) (state g after)) (sym (e ∙ ap (answer_to (Ok count)) tells.told.outside)) tells
+    answered (Err error) ran e =
+        subst (λ a. IsToldBy a edit (state g before) (state g after)) (sym e) (faulty (fault_of error) (refused sql params (state g before) (state g after) error told opened ran))
+
+-- what leaves a told database alone leaves it told
+left_told : (old new : State) → IsTold old → IsTrue new.is_open → new.in_transaction ≡ false → LeavesAlone old new → Stays old new
+left_told old new told opened outside leaves = unchanged old new told (now (leaves.now opened)) (leaves.committed opened) outside
+  where
+    now : (new.now ≡ old.now) ⊎ (new.now ≡ old.committed) → new.now ≡ old.now
+    now (inl same) = same
+    now (inr back) = back ∙ sym told.settled
+
+-- rows strictly by path that the query gave are the tables
+pub rows_told : {S : Type 0} (g : Ghosts S) (before after : Held S) (given : Option (List KeptFacts)) → IfSome given AscendsByPath → Looks g before after given → TellsAll g before after given
+rows_told g before after given ascends looks told was is clean opened = record {
+  all = all given ascends (looks.gives clean);
+  stays = left_told (state g before) (state g after) told opened (looks.outside told.outside) (looks.leaves clean);
 }
+  where
+    all : (rows : Option (List KeptFacts)) → IfSome rows AscendsByPath → IfSome rows (GivesAll g before after) → IfSome rows (λ it. it ≡ tables (state g before))
+    all None a h = tt
+    all (Some it) a h = shows told.schema.second (state g before) (state g after) h.answer it told.schema.is (told_rows (state g before) told was) h.shown h.spelled a

@@ -1,6 +1,6 @@
 -- A database whose tables are told (this project's rule). A store of bytes in memory numbers its rows, and returns what
 -- was written; of a file both are premises.
-use Rattle.std.specs.Prelude.{◌≡◌, false, List, IsTrue}
+use Rattle.std.specs.Prelude.{◌≡◌, false, List, Option, IfSome, IsTrue}
 use Rattle.index_keeper.specs.Tables.{EditFacts, KeptFacts, edited}
 use Rattle.index_keeper.specs.declared.answer.KeepAnswer.{KeepAnswer}
 use Rattle.index_keeper.specs.declared.answer.KeepAnswer.TheVariants as answer
@@ -53,7 +53,11 @@ IfTold g before after So =
 abbrev pub TellsChange : {S : Type 0} → Ghosts S → EditFacts → Held S → Held S → KeepAnswer → Type 0
 TellsChange g edit before after given = IfTold g before after (IsToldBy given edit (state g before) (state g after))
 
--- the rows that were given are the tables, and the tables stay
-pub record TellsAll (rows : List KeptFacts) (old new : State) : Type 0 where
-  pub all : rows ≡ tables old
+-- the rows of a told database, if they were given; they are its tables, and either way these stay
+pub record TellsRows (given : Option (List KeptFacts)) (old new : State) : Type 0 where
+  pub all : IfSome given (λ rows. rows ≡ tables old)
   pub stays : Stays old new
+
+-- rows of a told database were asked for
+abbrev pub TellsAll : {S : Type 0} → Ghosts S → Held S → Held S → Option (List KeptFacts) → Type 0
+TellsAll g before after given = IfTold g before after (TellsRows given (state g before) (state g after))

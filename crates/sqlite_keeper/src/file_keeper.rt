@@ -11,6 +11,7 @@ ghost use Rattle.sqlite_keeper.specs.FileStore.{BeginsAnew};
 ghost use Rattle.sqlite_keeper.specs.Keeper.{keeper_shown};
 ghost use Rattle.sqlite_keeper.specs.Reading.{Looks};
 ghost use Rattle.sqlite_keeper.specs.Statements.{Changes, Edits, edit_of, put_text, remove_text};
+ghost use Rattle.sqlite_keeper.specs.Told.{TellsAll, TellsChange};
 
 use crate::fault::SqlFault;
 use crate::keeper::SqliteKeeper;
@@ -55,6 +56,8 @@ impl FileKeeper {
             (for_change (edit_of path.now (option_copied bytes.entry)) result) }
         ensures changes { Edits over_files path.now (option_copied bytes.entry)
             self.old.keeper.connection self.new.keeper.connection result }
+        ensures tells { TellsChange over_files (edit_of path.now (option_copied bytes.entry))
+            self.old.keeper.connection self.new.keeper.connection result }
     {
         self.keeper.edit(path, bytes)
     }
@@ -89,6 +92,8 @@ impl Keeper<OpenWorld> for FileKeeper {
         ensures rows { IfSome (rows_in result) (AreKept (λ row. row.edition ≡ EDITION)) }
         ensures looks { Looks over_files self.old.keeper.connection self.new.keeper.connection
             (rows_in result) }
+        ensures tells { TellsAll over_files self.old.keeper.connection self.new.keeper.connection
+            (rows_in result) }
     {
         self.keeper.read(alloc)
     }
@@ -98,6 +103,8 @@ impl Keeper<OpenWorld> for FileKeeper {
             (for_change (put_of path.now bytes.now) result) }
         ensures changes { Changes over_files put_text (Text path.now ∷ Blob bytes.now ∷ [])
             self.old.keeper.connection self.new.keeper.connection result }
+        ensures tells { TellsChange over_files (put_of path.now bytes.now)
+            self.old.keeper.connection self.new.keeper.connection result }
     {
         self.edit(path, Some(bytes))
     }
@@ -106,6 +113,8 @@ impl Keeper<OpenWorld> for FileKeeper {
         ensures asks { Asks false (keeper_shown self.old.keeper) (keeper_shown self.new.keeper)
             (for_change (removal_of path.now) result) }
         ensures changes { Changes over_files remove_text (Text path.now ∷ [])
+            self.old.keeper.connection self.new.keeper.connection result }
+        ensures tells { TellsChange over_files (removal_of path.now)
             self.old.keeper.connection self.new.keeper.connection result }
     {
         self.edit(path, None)

@@ -10,6 +10,7 @@ ghost use Rattle.sqlite_keeper.specs.Begins.{Begins, Refuses};
 ghost use Rattle.sqlite_keeper.specs.Keeper.{keeper_shown, opened};
 ghost use Rattle.sqlite_keeper.specs.Reading.{Looks};
 ghost use Rattle.sqlite_keeper.specs.Statements.{Changes, Edits, edit_of, put_text, remove_text};
+ghost use Rattle.sqlite_keeper.specs.Told.{TellsAll, TellsChange};
 
 use crate::adopt::prepare;
 use crate::fault::SqlFault;
@@ -98,6 +99,8 @@ impl<F: Alter> SqliteKeeper<F> {
             (for_change (edit_of path.now (option_copied bytes.entry)) result) }
         ensures changes { Edits F.Store path.now (option_copied bytes.entry)
             self.old.connection self.new.connection result }
+        ensures tells { TellsChange F.Store (edit_of path.now (option_copied bytes.entry))
+            self.old.connection self.new.connection result }
     {
         let answer = sql::edit(&mut self.connection, path, bytes);
         self.count(answer)
@@ -109,6 +112,8 @@ impl<F: Alter> SqliteKeeper<F> {
             (for_rows result) }
         ensures rows { IfSome (rows_in result) (AreKept (λ row. row.edition ≡ EDITION)) }
         ensures looks { Looks F.Store self.old.connection self.new.connection
+            (rows_in result) }
+        ensures tells { TellsAll F.Store self.old.connection self.new.connection
             (rows_in result) }
     {
         match rows::all_rows(alloc, &mut self.connection) {
@@ -136,6 +141,8 @@ impl<F: Telling + Send + Drop> Keeper<OpenWorld> for SqliteKeeper<F> {
         ensures rows { IfSome (rows_in result) (AreKept (λ row. row.edition ≡ EDITION)) }
         ensures looks { Looks F.Store self.old.connection self.new.connection
             (rows_in result) }
+        ensures tells { TellsAll F.Store self.old.connection self.new.connection
+            (rows_in result) }
     {
         self.read(alloc)
     }
@@ -145,6 +152,8 @@ impl<F: Telling + Send + Drop> Keeper<OpenWorld> for SqliteKeeper<F> {
             (for_change (put_of path.now bytes.now) result) }
         ensures changes { Changes F.Store put_text (Text path.now ∷ Blob bytes.now ∷ [])
             self.old.connection self.new.connection result }
+        ensures tells { TellsChange F.Store (put_of path.now bytes.now)
+            self.old.connection self.new.connection result }
     {
         self.edit(path, Some(bytes))
     }
@@ -153,6 +162,8 @@ impl<F: Telling + Send + Drop> Keeper<OpenWorld> for SqliteKeeper<F> {
         ensures asks { Asks false (keeper_shown self.old) (keeper_shown self.new)
             (for_change (removal_of path.now) result) }
         ensures changes { Changes F.Store remove_text (Text path.now ∷ [])
+            self.old.connection self.new.connection result }
+        ensures tells { TellsChange F.Store (removal_of path.now)
             self.old.connection self.new.connection result }
     {
         self.edit(path, None)

@@ -5,7 +5,7 @@ ghost use Rattle.sqlite.specs.Held.{state};
 ghost use Rattle.sqlite.specs.State.{HasCleanDisk, IsUnchanged, Survives};
 ghost use Rattle.index_keeper.specs.Tables.{AscendsByPath};
 ghost use Rattle.sqlite_keeper.specs.Ascend.{stands_last};
-ghost use Rattle.sqlite_keeper.specs.Reading.{GivesAll, GivesRow, shown_kept};
+ghost use Rattle.sqlite_keeper.specs.Reading.{GivesAll, GivesRow, LeavesAlone, shown_kept};
 
 use crate::fault::SqlFault;
 use crate::sql;
@@ -31,6 +31,8 @@ fn next_of<F: Alter>(rows: &mut Rows<'_, F>) -> Result<Option<Kept>, SqlFault>
     ensures same { HasCleanDisk (state F.Store rows.new.conn.now) →
         OnOk result (IsUnchanged (state F.Store rows.old.conn.now)
             (state F.Store rows.new.conn.now)) }
+    ensures leaves { HasCleanDisk (state F.Store rows.new.conn.now) →
+        LeavesAlone (state F.Store rows.old.conn.now) (state F.Store rows.new.conn.now) }
     ensures outside { rows.old.conn.now.in_transaction ≡ false →
         rows.new.conn.now.in_transaction ≡ false }
     ensures survives { Survives (state F.Store rows.old.conn.now)
@@ -75,6 +77,8 @@ fn read_all<F: Alter>(connection: &mut Connection<F>, kept: &mut Vec<Kept>) -> R
     ensures ascends { AscendsByPath kept.new.items }
     ensures gives { HasCleanDisk (state F.Store connection.new) →
         OnOk result (GivesAll F.Store connection.old connection.new kept.new.items) }
+    ensures leaves { HasCleanDisk (state F.Store connection.new) →
+        LeavesAlone (state F.Store connection.old) (state F.Store connection.new) }
     ensures outside { connection.old.in_transaction ≡ false →
         connection.new.in_transaction ≡ false }
     ensures survives { Survives (state F.Store connection.old) (state F.Store connection.new)
@@ -98,6 +102,8 @@ pub fn all_rows<F: Alter>(
     ensures ascends { IfOk result (λ rows. AscendsByPath rows.items) }
     ensures gives { HasCleanDisk (state F.Store connection.new) → IfOk result
         (λ rows. GivesAll F.Store connection.old connection.new rows.items) }
+    ensures leaves { HasCleanDisk (state F.Store connection.new) →
+        LeavesAlone (state F.Store connection.old) (state F.Store connection.new) }
     ensures outside { connection.old.in_transaction ≡ false →
         connection.new.in_transaction ≡ false }
     ensures survives { Survives (state F.Store connection.old) (state F.Store connection.new)

@@ -9,10 +9,13 @@ ghost use Rattle.sqlite.specs.State.{CommitsBy, CommitsShowing, HasCleanDisk, Qu
 ghost use Rattle.sqlite.specs.Values.{bound};
 ghost use Rattle.sqlite.specs.contracts.connection.Connection.{the_row};
 ghost use Rattle.sqlite.specs.declared.types.Value.TheVariants.{Blob, Text};
+ghost use Rattle.index_keeper.specs.Tables.{put_of, removal_of};
 ghost use Rattle.index_keeper.specs.declared.answer.KeepAnswer.TheVariants.{Done};
 ghost use Rattle.sqlite_keeper.specs.Statements.{Changes, Edits, HasRun, IsCommitted, Raises};
-ghost use Rattle.sqlite_keeper.specs.Statements.{WasRaised, WasRun, answer_to, epoch_table, kept_table};
-ghost use Rattle.sqlite_keeper.specs.Statements.{put_text, raise_text, remove_text, rows_text};
+ghost use Rattle.sqlite_keeper.specs.Statements.{WasRaised, WasRun, answer_to, edit_of, epoch_table};
+ghost use Rattle.sqlite_keeper.specs.Statements.{kept_table, put_text, raise_text};
+ghost use Rattle.sqlite_keeper.specs.Statements.{remove_text, rows_text};
+ghost use Rattle.sqlite_keeper.specs.Told.{TellsChange};
 
 use crate::fault::SqlFault;
 use index_keeper::KeepAnswer;
@@ -128,7 +131,9 @@ fn change<F: Alter>(
 
 /// Keeps the bytes under the path, in place of those that were kept there.
 fn put<F: Alter>(connection: &mut Connection<F>, path: &str, bytes: &[u8]) -> KeepAnswer
-    ensures { Changes F.Store put_text (Text path.now ∷ Blob bytes.now ∷ [])
+    ensures changes { Changes F.Store put_text (Text path.now ∷ Blob bytes.now ∷ [])
+        connection.old connection.new result }
+    ensures tells { TellsChange F.Store (put_of path.now bytes.now)
         connection.old connection.new result }
 {
     let params = [ValueRef::Text(path.as_bytes()), ValueRef::Blob(bytes)];
@@ -137,7 +142,9 @@ fn put<F: Alter>(connection: &mut Connection<F>, path: &str, bytes: &[u8]) -> Ke
 
 /// Keeps nothing under the path.
 fn remove<F: Alter>(connection: &mut Connection<F>, path: &str) -> KeepAnswer
-    ensures { Changes F.Store remove_text (Text path.now ∷ [])
+    ensures changes { Changes F.Store remove_text (Text path.now ∷ [])
+        connection.old connection.new result }
+    ensures tells { TellsChange F.Store (removal_of path.now)
         connection.old connection.new result }
 {
     change(connection, REMOVE, &[ValueRef::Text(path.as_bytes())])
@@ -149,7 +156,9 @@ pub fn edit<F: Alter>(
     path: &str,
     bytes: Option<&[u8]>,
 ) -> KeepAnswer
-    ensures { Edits F.Store path.now (option_copied bytes.entry)
+    ensures changes { Edits F.Store path.now (option_copied bytes.entry)
+        connection.old connection.new result }
+    ensures tells { TellsChange F.Store (edit_of path.now (option_copied bytes.entry))
         connection.old connection.new result }
 {
     match bytes {

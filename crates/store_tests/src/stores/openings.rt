@@ -7,10 +7,12 @@ use sqlite_keeper::{AdoptAnswer, HeldStore, SqliteKeeper};
 use std::alloc::Global;
 use std::process::Abort;
 
-/// A connection whose store was opened before, and has this number.
+/// A connection whose store was opened before, has two rows, and has this number.
 fn numbered(rt: &impl Abort, alloc: Global, n: i64) -> Connection<MemStore> {
     let sql = format!(in alloc;
-        "CREATE TABLE epoch(one INTEGER PRIMARY KEY CHECK (one = 1), n INTEGER NOT NULL) STRICT;
+        "CREATE TABLE kept(path TEXT PRIMARY KEY NOT NULL, body BLOB NOT NULL) STRICT;
+        CREATE TABLE epoch(one INTEGER PRIMARY KEY CHECK (one = 1), n INTEGER NOT NULL) STRICT;
+        INSERT INTO kept VALUES ('/b', x'02'), ('/a', x'01');
         INSERT INTO epoch VALUES (1, {n})"
     )
     .expect(rt, "memory");
@@ -50,6 +52,45 @@ fn refused(rt: &impl Abort, connection: Connection<MemStore>) -> Connection<MemS
     match SqliteKeeper::adopt(connection) {
         AdoptAnswer::Failed(connection) => connection,
         _ => panic!(rt; "the connection was taken over"),
+    }
+}
+
+/// Looks at what a refusal left of a store of two rows: both, this number, and no transaction.
+fn compare_left(rt: &impl Abort, connection: &mut Connection<MemStore>, n: i64) {
+    assert!(rt; connection.is_autocommit(), "a transaction is open");
+    let first = "SELECT count(*) FROM kept WHERE path = '/a' AND body = x'01'";
+    let second = "SELECT count(*) FROM kept WHERE path = '/b' AND body = x'02'";
+    assert!(rt; number(rt, connection, first) == 1, "the row of /a");
+    assert!(rt; number(rt, connection, second) == 1, "the row of /b");
+    assert!(rt; number(rt, connection, "SELECT count(*) FROM kept") == 2, "the number of rows");
+    assert!(rt; number(rt, connection, "SELECT n FROM epoch") == n, "the number of openings");
+}
+
+/// The number of the last opening, and that which a refused one leaves: it is raised, but for the
+/// last of all.
+static LEFT: [(i64, i64); 3] = [(-1, 0), (-7, -6), (i64::MAX, i64::MAX)];
+
+#[test]
+fn a_refused_adoption_leaves_the_rows(rt: HostRuntime) {
+    let alloc = rt.alloc();
+    for (n, left) in LEFT {
+        let mut back = refused(&rt, numbered(&rt, alloc, n));
+        compare_left(&rt, &mut back, left);
+    }
+}
+
+/// The connection of a store that couldn't be opened.
+fn turned_back(rt: &impl Abort, alloc: Global, n: i64) -> Connection<MemStore> {
+    let mut store = HeldStore::new(numbered(rt, alloc, n));
+    assert!(rt; is_refused(alloc, &mut store, "m"), "after {n}");
+    store.into_connection().expect(rt, "a connection")
+}
+
+#[test]
+fn a_refused_opening_leaves_the_rows(rt: HostRuntime) {
+    let alloc = rt.alloc();
+    for (n, left) in LEFT {
+        compare_left(&rt, &mut turned_back(&rt, alloc, n), left);
     }
 }
 
@@ -99,15 +140,20 @@ fn a_refused_opening_keeps_the_connection(rt: HostRuntime) {
 
 /// The keeper of another store, whose connection counts from 1.
 fn strange(rt: &impl Abort, alloc: Global) -> SqliteKeeper<MemStore> {
-    let mut other = HeldStore::new(after(rt, alloc, ""));
+    let mut other = HeldStore::new(numbered(rt, alloc, 0));
     opened(rt, alloc, &mut other, "m")
+}
+
+/// The connection of a store that was opened by the number 5, and then by a smaller one.
+fn fallen(rt: &impl Abort, alloc: Global) -> Connection<MemStore> {
+    let mut store = HeldStore::new(numbered(rt, alloc, 4));
+    session(rt, alloc, &mut store, "m", 5, &[]);
+    store.give_back(strange(rt, alloc));
+    assert!(rt; is_refused(alloc, &mut store, "m"), "the number fell");
+    store.into_connection().expect(rt, "a connection")
 }
 
 #[test]
 fn a_number_that_fell_is_refused(rt: HostRuntime) {
-    let alloc = rt.alloc();
-    let mut store = HeldStore::new(numbered(&rt, alloc, 4));
-    session(&rt, alloc, &mut store, "m", 5, &[]);
-    store.give_back(strange(&rt, alloc));
-    assert!(rt; is_refused(alloc, &mut store, "m"));
+    compare_left(&rt, &mut fallen(&rt, rt.alloc()), 2);
 }

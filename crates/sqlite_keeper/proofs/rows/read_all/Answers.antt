@@ -2,10 +2,10 @@ use Rattle.std.proofs.Common.{◌≡◌, [], ◌∷◌, ◌++◌, refl, sym, ◌
 use Rattle.sqlite.specs.Held.{state}
 use Rattle.sqlite.proofs.Callers.{unchanged_then}
 use Rattle.index_keeper.specs.Tables.{AscendsByPath}
-use Rattle.sqlite.specs.State.{CommitsShowing, HasCleanDisk, Survives}
+use Rattle.sqlite.specs.State.{CommitsShowing, FailsToQuery, HasCleanDisk, Survives}
 use Rattle.sqlite_keeper.specs.Reading.{GivesAll, GivesRow}
 use Rattle.sqlite_keeper.specs.Statements.{rows_text}
-use Rattle.sqlite_keeper.proofs.ReadingLemmas.{begun, gave_all, one_more}
+use Rattle.sqlite_keeper.proofs.ReadingLemmas.{begun, gave_all, left_by_query, one_more}
 use Rattle.sqlite_keeper.proofs.SurvivesLemmas.{survives_both, survives_reading}
 use Rattle.sqlite_keeper.proofs.TextLemmas.{rows_show_none}
 use Rattle.sqlite_keeper.proofs.rows.read_all.Goals as goal
@@ -57,3 +57,11 @@ returns-in_default-clause-gives g c clean =
     let was = c.rows.invariant.4 (omega (arith, c.next_of.ensures.survives.clean, late)) in
     let ends = subst (GivesRow g.F.Store now last) c.in_default.is (c.in_ok-row.ensures.gives late) in
     gave_all g.F.Store first now last was.1.0 c.rows.kept.items was.0 was.1.1 ends (c.in_ok-row.ensures.same late) was.1.2) clean
+
+-- a query that doesn't begin leaves all alone
+pub returns-in_err-rows-clause-leaves : goal.returns-in_err-rows-clause-leaves
+returns-in_err-rows-clause-leaves g c clean =
+    let first = state g.F.Store c.args.connection.now in
+    let last = state g.F.Store c.begin_reading.follows.lender-at-none in
+    let held = rw c.in_err-rows.was at c.begin_reading.follows.holds-at-none in
+    left_by_query first last _ (held.err clean)
