@@ -1,5 +1,6 @@
 -- What reading on finds (this project's rule over the grammar of heads).
-use Rattle.std.specs.Prelude.{◌≡◌, ℕ, ◌≤◌, ◌==◌, Bool, true, false, List, [], ◌++◌, Option, IsTrue, if◌then◌else◌}
+use Rattle.std.specs.Prelude.{◌≡◌, ℕ, ◌<◌, ◌≤◌, ◌==◌, Bool, true, false, List, [], ◌∷◌, ◌++◌, Option, IsTrue, length, if◌then◌else◌}
+use Rattle.httparse.specs.Grammar.{HasNoRequest}
 use Rattle.row_types.specs.Faults.{Rose}
 use Rattle.http_wire.specs.Heads.{Refuses}
 use Rattle.http_wire.specs.Look.{HasHead}
@@ -25,11 +26,25 @@ IsFind bytes left Closed = (bytes ≡ []) × HasEnded left
 IsFind bytes left (Refused fault) = Refuses fault bytes left
 IsFind bytes left Failed = Unit {0}
 
+-- what came ends in a last read, which gave some bytes: with those before it, no head stood in what was held
+pub record EndsInRead (held came : List ℕ) : Type 0 where
+  pub front : List ℕ
+  pub last : List ℕ
+  pub cut : came ≡ front ++ last
+  pub some : 0 < length last
+  pub none : HasNoRequest (held ++ front)
+
+-- nothing came, or each read was made where no head was held
+abbrev pub ReadsForHead : List ℕ → List ℕ → Type 0
+ReadsForHead held [] = Unit {0}
+ReadsForHead held (byte ∷ came) = EndsInRead held (byte ∷ came)
+
 -- bytes came behind the held ones, and now all are these
 pub record Gathers (held : List ℕ) (before : ShownStream) (bytes : List ℕ) (after : ShownStream) : Type 0 where
   pub came : List ℕ
   pub all : bytes ≡ held ++ came
   pub comes : Comes before.left came after.left
+  pub wanted : ReadsForHead held came
   pub later : before.read_faults ≤ after.read_faults
   pub writing : LeavesWriting before after
 

@@ -46,12 +46,13 @@ Says old came new left answer.Closed = IsClosed old came new left
 Says old came new left (answer.Refused fault) = IsRefused old came new left fault
 Says old came new left answer.ReadFault = IsCutOff old new
 
--- bytes came from the source, and what the answer says of them
+-- bytes came from the source, none of them where a whole head was held, and what the answer says of them
 pub record Answers
     (old : ReaderFacts) (before : ShownStream) (new : ReaderFacts) (after : ShownStream)
     (answer : HeadAnswer) : Type 0 where
   pub came : List ℕ
   pub comes : Comes before.left came after.left
+  pub wanted : find.ReadsForHead old.held came
   pub says : Says old came new after.left answer
   pub quiet : old.over ≡ true → after ≡ before
 
@@ -70,6 +71,7 @@ pub record Advances
     (what : Find) : Type 0 where
   pub came : List ℕ
   pub comes : Comes before.left came after.left
+  pub wanted : find.ReadsForHead old.held came
   pub step : IsStep old came new after.left what
   pub quiet : old.over ≡ true → after ≡ before
   pub cause : HasCause before.read_faults after.read_faults (IsTrue (find.has_failed what))

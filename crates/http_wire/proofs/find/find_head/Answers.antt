@@ -29,7 +29,7 @@ loop-look-preserved g c =
           let whole = c.read_more.auto.room ∙ c.loop-look.invariant.whole in
           let short = c.loop-look.invariant.short in
           omega (arith, length-drop end new);
-      gathers = gathers_more n c.loop-look.invariant.gathers reads grown;
+      gathers = gathers_more n c.loop-look.invariant.gathers none reads grown;
       looked = λ quiet.
           let quiet_new : list_any (λ x. x == 10) came ≡ false =
           sym (ap (λ k. list_any (λ x. x == 10) (take k (drop end new))) count)
