@@ -71,7 +71,7 @@ kinds_same Executable i h = h
 kinds_same Debuginfo i h = h
 
 -- what the row of a told world says of its file
-read_of : (version : Versions) (row : RowFacts) (class : Kind) (id : List ℕ) → IsTrueRow version row
+pub read_of : (version : Versions) (row : RowFacts) (class : Kind) (id : List ℕ) → IsTrueRow version row
     → has_class id class row.reading ≡ true
     → (row.name.stamp.size ≤ FILE_LIMIT) × IsVersionRead version row.name row.reading
 read_of version row class id sound is = by_size (nat_lt FILE_LIMIT row.name.stamp.size) refl sound.reading

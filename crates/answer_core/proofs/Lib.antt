@@ -1,4 +1,5 @@
 pub mod CompleteLemmas
 pub mod HearLemmas
+pub mod RowsLemmas
 mod LocalLemmas
 mod TryLemmas

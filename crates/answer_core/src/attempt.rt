@@ -7,7 +7,8 @@ use crate::check::{Checked, check};
 use crate::passed::Passed;
 use row_types::{FILE_LIMIT, Truth};
 use std::alloc::Global;
-use tree_trait::{Found, LoadAnswer, Tree};
+use std::sync::Wait;
+use tree_trait::{Found, Gate, LoadAnswer, Point, Tree};
 use webapi_routes::Route;
 
 /// What came of the load of a candidate.
@@ -23,16 +24,19 @@ pub(crate) enum Tried {
     OutOfMemory,
 }
 
-/// Loads a candidate of at most 1 GiB, and checks it.
-pub(crate) fn try_one<W: Truth, T: Tree<W>>(
+/// Loads a candidate of at most 1 GiB, and checks it. The gate is passed before.
+pub(crate) fn try_one<W: Truth, T: Tree<W>, G: Gate, R: Wait + Sync>(
+    rt: &R,
     alloc: Global,
     hand: &mut T,
     route: &Route,
     candidate: &Candidate,
+    gate: &G,
 ) -> Tried
     ensures { Tries T.told W.version route.now candidate.now (T.shows hand.old) (T.shows hand.new)
         result }
 {
+    gate.at(rt, &Point::Loading(candidate.path.text()));
     match hand.load(alloc, candidate.path.text(), FILE_LIMIT) {
         LoadAnswer::Found(found) => check_found(alloc, route, candidate, found),
         LoadAnswer::TooLarge { stamp: _ } | LoadAnswer::Gone => Tried::Refused,

@@ -7,7 +7,8 @@ use crate::candidate::Candidate;
 use crate::passed::Passed;
 use row_types::Truth;
 use std::alloc::Global;
-use tree_trait::Tree;
+use std::sync::Wait;
+use tree_trait::{Gate, Tree};
 use webapi_routes::Route;
 
 /// What came of the loads.
@@ -22,18 +23,20 @@ pub(crate) enum Outcome {
 }
 
 /// Loads the candidates in order, until one passes.
-pub(crate) fn try_all<W: Truth, T: Tree<W>>(
+pub(crate) fn try_all<W: Truth, T: Tree<W>, G: Gate, R: Wait + Sync>(
+    rt: &R,
     alloc: Global,
     hand: &mut T,
     route: &Route,
     all: &[Candidate],
+    gate: &G,
 ) -> Outcome
     ensures { TriesAll (record { told = T.told; version = W.version; start = T.shows hand.old })
         route.now all.now result (T.shows hand.new) }
 {
     let mut fails = false;
     for (place, candidate) in all.iter().enumerate() {
-        match try_one(alloc, hand, route, candidate) {
+        match try_one(rt, alloc, hand, route, candidate, gate) {
             Tried::Passed(given) => return Outcome::Passed { given, place },
             Tried::Refused => {}
             Tried::Failed => fails = true,

@@ -17,7 +17,7 @@ use index_state::State;
 use row_types::{CanonPath, Truth};
 use std::alloc::Global;
 use std::sync::Wait;
-use tree_trait::Tree;
+use tree_trait::{Gate, Tree};
 use webapi_routes::Route;
 
 /// The local answer to a route. Its generation, `gen_`, is the length of the index's log as the
@@ -67,8 +67,9 @@ pub enum Local {
 
 /// Answers a route from the index and the hand. The lock is taken once, to pick the candidates,
 /// and left before the first of them is loaded. They are loaded in path order, for a section those
-/// with debug information first, and the first that passes is taken.
-pub fn answer_local<W: Truth, K: Keeper<W>, T: Tree<W>, R: Wait>(
+/// with debug information first, and the first that passes is taken. The gate is passed before each
+/// load.
+pub fn answer_local<W: Truth, K: Keeper<W>, T: Tree<W>, G: Gate, R: Wait + Sync>(
     rt: &R,
     alloc: Global,
     lock: &TurnLock<State<W, K>>,
@@ -76,6 +77,7 @@ pub fn answer_local<W: Truth, K: Keeper<W>, T: Tree<W>, R: Wait>(
     hand: &mut T,
     route: &Route,
     folders: &[CanonPath],
+    gate: &G,
 ) -> (Seat<State<W, K>>, Local)
     requires { seat.lock ≡ lock.now }
     ensures later { IsLater seat result.0 }
@@ -85,24 +87,26 @@ pub fn answer_local<W: Truth, K: Keeper<W>, T: Tree<W>, R: Wait>(
 {
     let (seat, generation, list) = look_up(rt, alloc, lock, seat, route, folders);
     match list {
-        Ok(list) => (seat, answer_from(alloc, hand, route, list, generation)),
+        Ok(list) => (seat, answer_from(rt, alloc, hand, route, list, generation, gate)),
         Err(_) => (seat, Local::OutOfMemory),
     }
 }
 
 /// The answer by these candidates at a generation.
-fn answer_from<W: Truth, T: Tree<W>>(
+fn answer_from<W: Truth, T: Tree<W>, G: Gate, R: Wait + Sync>(
+    rt: &R,
     alloc: Global,
     hand: &mut T,
     route: &Route,
     list: Vec<Candidate>,
     generation: u64,
+    gate: &G,
 ) -> Local
     ensures { AnswersFrom
         (record { told = T.told; version = W.version; start = T.shows hand.old })
         route.now list.items generation result (T.shows hand.new) }
 {
-    match try_all(alloc, hand, route, list.as_slice()) {
+    match try_all(rt, alloc, hand, route, list.as_slice(), gate) {
         Outcome::Passed { given, place } => local_of(given, take_path(list, place), generation),
         Outcome::Nothing { fails: true } => Local::Fault { gen_: generation },
         Outcome::Nothing { fails: false } => Local::Nothing { gen_: generation },

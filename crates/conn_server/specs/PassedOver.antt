@@ -7,7 +7,8 @@ use Rattle.conn_server.specs.declared.reason.Reason.TheVariants as reason
 use Rattle.conn_server.specs.declared.report.Asked as declared
 use Rattle.conn_server.specs.declared.report.Asked.TheVariants as asked
 
--- that nothing was found is said only where no candidate of the route is there and would pass
+-- that nothing was found is said only where no candidate of the route is there and would pass, and, in a told world, where
+-- no row stands by which something has to be found
 abbrev pub PassesOver : Sight → declared.Asked → Reason → Type 0
 PassesOver sight (asked.Route route) reason.NotFound = NoneIsThere sight route
 PassesOver _ _ _ = Unit {0}

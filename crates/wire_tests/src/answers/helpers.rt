@@ -8,7 +8,7 @@ use sample_rows::{path, paths};
 use std::alloc::{AllocError, Global};
 use std::process::Abort;
 use std::sync::Wait;
-use tree_trait::Tree;
+use tree_trait::{NoGate, Tree};
 use webapi_routes::{Route, SectionName};
 
 /// What a request asks for beside its id.
@@ -71,7 +71,7 @@ fn text_of(alloc: Global, local: &Local) -> Result<String, AllocError> {
 }
 
 /// How a route is answered by an index and a hand, with sources in these folders.
-fn answer<W: Truth + Send, T: Tree<W>, R: Abort + Wait>(
+fn answer<W: Truth + Send, T: Tree<W>, R: Abort + Wait + Sync>(
     rt: &R,
     alloc: Global,
     index: Index<W>,
@@ -81,7 +81,7 @@ fn answer<W: Truth + Send, T: Tree<W>, R: Abort + Wait>(
 ) -> String {
     match TurnLock::make(alloc, index) {
         Ok((lock, seat)) => {
-            let (_seat, local) = answer_local(rt, alloc, &lock, seat, hand, route, folders);
+            let (_seat, local) = answer_local(rt, alloc, &lock, seat, hand, route, folders, &NoGate);
             text_of(alloc, &local).expect(rt, "memory")
         }
         Err(_) => panic!(rt; "there is memory"),
@@ -89,7 +89,7 @@ fn answer<W: Truth + Send, T: Tree<W>, R: Abort + Wait>(
 }
 
 /// How the request of a case is answered by an index and a hand.
-pub fn answer_to<W: Truth + Send, T: Tree<W>, R: Abort + Wait>(
+pub fn answer_to<W: Truth + Send, T: Tree<W>, R: Abort + Wait + Sync>(
     rt: &R,
     alloc: Global,
     index: Index<W>,

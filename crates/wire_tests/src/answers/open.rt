@@ -109,7 +109,7 @@ fn tree(rt: &impl Abort, alloc: Global, bad_calls: &[u64]) -> MemTree<OpenWorld>
 }
 
 /// Each case is answered as it says.
-fn compare<R: Abort + Wait>(rt: &R, alloc: Global, cases: &[Case]) {
+fn compare<R: Abort + Wait + Sync>(rt: &R, alloc: Global, cases: &[Case]) {
     for case in cases {
         let mut hand = tree(rt, alloc, case.3);
         let text = answer_to(rt, alloc, index(rt, alloc), &mut hand, case);

@@ -1,19 +1,26 @@
-//! The points that a connection passes, in order.
+//! The points that a connection passes, in order, and connections beside one that is held at a point.
 
-use crate::connections::helpers::{conn, report_of, whole};
+ghost use Rattle.std.specs.Prelude.{◌≡◌};
+
+use crate::connections::helpers::{conn, report_of, serve_through, whole};
 use crate::connections::texts::request;
+use crate::indexes::{Index, reference_index};
 use conn_server::ConnEnd;
 use http_wire::MemConn;
+use index_lock::{Seat, Split, TurnLock};
+use sample_world::SampleWorld;
 use std::alloc::Global;
 use std::process::Abort;
 use std::sync::Wait;
 use std::sync::atomic::{AtomicBool, AtomicUsize, Ordering};
-use tree_trait::{Gate, Point};
+use std::thread::{Threads, join};
+use tree_trait::{Gate, Hold, Point, TurnGate};
 
-/// The points that are wanted: the first request asks the index, the second asks for no route, the
-/// third is no request.
-static WANTED: [Point<'static>; 4] = [
+/// The points that are wanted: the first request asks the index and loads its one candidate, the
+/// second asks for no route, the third is no request.
+static WANTED: [Point<'static>; 5] = [
     Point::Asking(7),
+    Point::Loading("/srv/bin/tool"),
     Point::Answered(7),
     Point::Answered(7),
     Point::Answered(7),
@@ -23,6 +30,7 @@ static WANTED: [Point<'static>; 4] = [
 fn is_same(first: &Point<'_>, second: &Point<'_>) -> bool {
     match (first, second) {
         (Point::Asking(a), Point::Asking(b)) => *a == *b,
+        (Point::Loading(a), Point::Loading(b)) => *a == *b,
         (Point::Answered(a), Point::Answered(b)) => *a == *b,
         _ => false,
     }
@@ -79,4 +87,71 @@ fn the_gate_is_passed_before_the_index_and_behind_replies(rt: HostRuntime) {
     assert!(rt; end == ConnEnd::Refused);
     assert!(rt; gate.passed.load(Ordering::SeqCst) == WANTED.len());
     assert!(rt; !gate.is_wrong.load(Ordering::SeqCst));
+}
+
+/// How many requests for the executable of an id are answered with it by a connection of this
+/// number.
+fn ask_for<G: Gate, R: Abort + Wait + Sync>(
+    rt: &R,
+    alloc: Global,
+    lock: &TurnLock<Index<SampleWorld>>,
+    seat: Seat<Index<SampleWorld>>,
+    id: &str,
+    number: u64,
+    gate: &G,
+) -> usize
+    requires { seat.lock ≡ lock.now }
+{
+    let asked = request(alloc, "GET", id, "executable").expect(rt, "memory");
+    let mut conn = conn(rt, alloc, &whole(asked.as_str()));
+    let report = serve_through(rt, alloc, lock, seat, &mut conn, number, gate);
+    report.served.iter().filter(|served| served.status == 200).count()
+}
+
+/// Two tokens of one.
+fn cut(
+    lock: &TurnLock<Index<SampleWorld>>,
+    seat: Seat<Index<SampleWorld>>,
+) -> (Seat<Index<SampleWorld>>, Seat<Index<SampleWorld>>)
+    requires { seat.lock ≡ lock.now }
+    ensures { (result.0 ≡ seat) × (result.1 ≡ seat) }
+{
+    match lock.split(seat) {
+        Split::Two(first, second) => (first, second),
+        Split::OutOfMemory(_) => unreachable!(),
+    }
+}
+
+/// Two connections beside each other: the first asks for the tool, the second for the program.
+fn ask_beside<G: Gate, R: Abort + Threads + Wait + Sync>(
+    rt: &R,
+    alloc: Global,
+    lock: &TurnLock<Index<SampleWorld>>,
+    seat: Seat<Index<SampleWorld>>,
+    gate: &G,
+) -> (usize, usize)
+    requires { seat.lock ≡ lock.now }
+{
+    let (first, second) = cut(lock, seat);
+    let tool = "404142434445464748494a4b4c4d4e4f50515253";
+    let prog = "202122232425262728292a2b2c2d2e2f30313233";
+    join(
+        rt,
+        || ask_for(rt, alloc, lock, first, tool, 1, gate),
+        || ask_for(rt, alloc, lock, second, prog, 2, gate),
+    )
+}
+
+#[test]
+fn a_load_is_made_while_the_lock_is_free(rt: HostRuntime) {
+    let alloc = rt.alloc();
+    let tool = String::from_str(alloc, "/srv/bin/tool").expect(&rt, "memory");
+    let gate = TurnGate::new(Hold::Loading(tool), Hold::Answered(2), 1_000_000);
+    let (first, second) = match TurnLock::make(alloc, reference_index(&rt, alloc)) {
+        Ok((lock, seat)) => ask_beside(&rt, alloc, &lock, seat, &gate),
+        Err(_) => panic!(rt; "there is memory"),
+    };
+    assert!(rt; first == 1, "the tool");
+    assert!(rt; second == 1, "the program");
+    assert!(rt; gate.met(), "the second was answered while the first was held");
 }

@@ -1,11 +1,11 @@
 //! Connections in memory, and what comes of them by the files of the reference tree.
 
-ghost use Rattle.std.specs.Prelude.{◌<◌, All};
+ghost use Rattle.std.specs.Prelude.{◌≡◌, ◌<◌, All};
 
 use crate::indexes::{Index, empty_index, reference_index};
 use conn_server::{ConnEnd, ConnReport, serve_connection};
 use http_wire::{MemConn, Sink, Source};
-use index_lock::TurnLock;
+use index_lock::{Seat, TurnLock};
 use row_types::CanonPath;
 use sample_rows::paths;
 use sample_world::{SampleWorld, changed_file_script, reference_script};
@@ -104,7 +104,28 @@ pub fn report_of<N: Source + Sink, G: Gate, R: Abort + Wait + Sync>(
     serve_by(rt, alloc, index, &mut hand, folders.as_slice(), conn, gate)
 }
 
-/// The same past no gate, where nothing fails: how many requests were answered, and the end.
+/// What comes of a connection of this number by the reference tree and an index behind a lock, past a
+/// gate.
+pub fn serve_through<N: Source + Sink, G: Gate, R: Abort + Wait + Sync>(
+    rt: &R,
+    alloc: Global,
+    lock: &TurnLock<Index<SampleWorld>>,
+    seat: Seat<Index<SampleWorld>>,
+    conn: &mut N,
+    number: u64,
+    gate: &G,
+) -> ConnReport
+    requires { seat.lock ≡ lock.now }
+{
+    let folders = folders(rt, alloc);
+    let mut hand = hand(rt, alloc, &[]);
+    let (_seat, report) = serve_connection(
+        rt, alloc, lock, seat, &mut hand, folders.as_slice(), conn, number, gate,
+    );
+    report
+}
+
+/// What comes of a connection past no gate, where nothing fails: how many requests were answered, and the end.
 pub fn serve_on<N: Source + Sink, R: Abort + Wait + Sync>(
     rt: &R,
     alloc: Global,
