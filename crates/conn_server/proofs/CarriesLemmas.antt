@@ -4,23 +4,21 @@ use Rattle.answer_check.specs.Certified.{CertifiedFacts, IsCertified}
 use Rattle.file_formats.specs.Table.{IsSectionAnswer}
 use Rattle.row_types.specs.declared.identity.Kind.{Kind}
 use Rattle.row_types.specs.declared.identity.Kind.TheVariants as kind
-use Rattle.webapi_routes.specs.declared.fault.RouteFault.TheVariants as route_fault
 use Rattle.webapi_routes.specs.declared.route.Route.{Route}
 use Rattle.webapi_routes.specs.declared.route.Route.TheVariants.{Debuginfo, Executable, Source, Section}
-use Rattle.http_wire.specs.declared.head.HeadFault.TheVariants as head_fault
 use Rattle.answer_core.specs.Local.{IsLocal, Sight}
 use Rattle.answer_core.specs.Section.{FileSectionFacts}
 use Rattle.answer_core.specs.declared.local.Local.{Local}
 use Rattle.answer_core.specs.declared.local.Local.TheVariants as local
-use Rattle.conn_server.specs.Lawful.{Carries, Earns, EarnsText, IsPassed, RestsOn}
+use Rattle.conn_server.specs.Cases.{IsPassed}
+use Rattle.conn_server.specs.Lawful.{Carries}
 use Rattle.conn_server.specs.Replies.{Shows}
+use Rattle.conn_server.specs.declared.decide.Body.TheVariants as bodies
 use Rattle.conn_server.specs.declared.reason.Reason.{Reason}
-use Rattle.conn_server.specs.declared.reason.Reason.TheVariants as reason
-use Rattle.conn_server.specs.declared.report.Asked as given
 use Rattle.conn_server.specs.declared.report.Asked.TheVariants as asked
 
-carries_local : (sight : Sight) (route : Route) (answer : Local) (why : Reason) (body : List ℕ) (file : Option (List ℕ))
-    → IsLocal sight route answer → IsPassed answer → Shows why (Some answer) body file → Carries (asked.Route route) body
+pub carries_local : (sight : Sight) (route : Route) (answer : Local) (why : Reason) (body : List ℕ) (file : Option (List ℕ))
+    → IsLocal sight route answer → IsPassed answer → Shows why (bodies.Found answer) body file → Carries (asked.Route route) body
 carries_local sight route (local.Nothing n) why body file l p s = absurd p
 carries_local sight route (local.Fault n) why body file l p s = absurd p
 carries_local sight route local.OutOfMemory why body file l p s = absurd p
@@ -65,31 +63,3 @@ carries_local sight (Section id name) (local.Section from path n) why body file 
             section = subst (λ (x : FileSectionFacts). IsSectionAnswer x.file.bytes x.name (Some body)) gives s.0;
           },
         )
-
-no_text : (what : given.Asked) (answer : Local) (n : ℕ) → EarnsText what answer reason.Local n → ⊥
-no_text (asked.Head (head_fault.Bad len)) answer n h = h
-no_text (asked.Head head_fault.TooLong) answer n h = h
-no_text (asked.Head head_fault.TooMany) answer n h = h
-no_text (asked.Head (head_fault.Cut len)) answer n h = h
-no_text asked.Method answer n h = h
-no_text asked.Body answer n h = h
-no_text (asked.NotRoute route_fault.BadEscape) answer n h = h
-no_text (asked.NotRoute route_fault.NoRoute) answer n h = h
-no_text (asked.NotRoute route_fault.BadId) answer n h = h
-no_text (asked.NotRoute route_fault.BadPath) answer n h = h
-no_text (asked.NotRoute route_fault.OutOfMemory) answer n h = h
-no_text (asked.Route route) answer n h = h
-
--- a reply of what passed has a body that is certified for what is asked
-pub carries : (sight : Sight) (what : given.Asked) (answer : Local) (why : Reason) (found : Option Local) (n : ℕ)
-    (body : List ℕ) (file : Option (List ℕ)) → RestsOn sight what answer → Earns what answer why found n
-    → Shows why found body file → why ≡ reason.Local → Carries what body
-carries sight what answer why None n body file rests earns shows is =
-    absurd (no_text what answer n (subst (λ (w : Reason). EarnsText what answer w n) is earns))
-carries sight (asked.Route route) answer why (Some x) n body file rests earns shows is =
-    carries_local sight route x why body file
-    (subst (λ (a : Local). IsLocal sight route a) earns.answered rests) earns.is shows
-carries sight (asked.Head fault) answer why (Some x) n body file rests earns shows is = tt
-carries sight asked.Method answer why (Some x) n body file rests earns shows is = tt
-carries sight asked.Body answer why (Some x) n body file rests earns shows is = tt
-carries sight (asked.NotRoute fault) answer why (Some x) n body file rests earns shows is = tt

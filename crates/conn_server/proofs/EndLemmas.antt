@@ -1,34 +1,209 @@
--- How a connection ended, by its last turn.
-use Rattle.std.proofs.Common.{◌≡◌, ℕ, ◌+◌, ◌<◌, ◌||◌, Bool, true, false, List, [], ◌∷◌}
-use Rattle.std.proofs.Common.{length}
+-- A connection: one request more, and how it ended.
+use Rattle.std.proofs.Common.{◌≡◌, ℕ, ◌+◌, ◌<◌, ◌||◌, inl, inr, Bool, true, false, List, [], ◌∷◌, ◌++◌, map, length}
 use Rattle.std.proofs.Common.{refl, sym, ◌∙◌, ap, subst, arith}
 use Rattle.std.proofs.lemmas.Bool.{false≢true}
 use Rattle.std.proofs.lemmas.Bool.Decides.{nat_tests}
-use Rattle.row_types.specs.Row.{RowFacts}
-use Rattle.index_rows.specs.declared.change.Change.{Change}
+use Rattle.std.proofs.lemmas.List.{length-append, length-map, map-append}
+use Rattle.tree_trait.specs.Heard.{Heard}
+use Rattle.http_wire.specs.Heads.{Refuses}
 use Rattle.http_wire.specs.Stream.{ShownStream}
-use Rattle.answer_core.specs.Loads.{Hand}
-use Rattle.conn_server.specs.Asked.{Request, closes_after, readable, refused}
-use Rattle.conn_server.specs.Connection.{Ends, Exchange, GoOn, Serves, is_last}
+use Rattle.http_wire.specs.declared.head.HeadFault.{HeadFault}
+use Rattle.conn_server.specs.Asked.{HeadFacts, Request, closes_after, readable, refused}
+use Rattle.conn_server.specs.Connection.{Ends, GoOn, LastCloses, Row, Serves, ServesAll, fresh, is_last, more, none}
+use Rattle.conn_server.specs.Exchange.{Exchange}
+use Rattle.conn_server.specs.Scene.{Scene, Stand, Wire, hand_at}
+use Rattle.conn_server.specs.Turns.{Closes, EndsBehind, Exchanges, GoesOn, Stops, StopsFor, Turns, end_of_head}
 use Rattle.conn_server.specs.declared.connection.TheConstants.{REQUESTS}
 use Rattle.conn_server.specs.declared.report.ConnEnd.{ConnEnd}
 use Rattle.conn_server.specs.declared.report.ConnEnd.TheVariants as end
 use Rattle.conn_server.specs.declared.report.ConnReport.{ConnReport}
-use Rattle.conn_server.proofs.JoinLemmas.{row_none}
+use Rattle.conn_server.specs.declared.report.Served.{Served}
+use Rattle.conn_server.specs.declared.turn.Turn.{Turn}
+use Rattle.conn_server.proofs.JoinLemmas.{flat_leaves, flat_row, goes_more, leaves_none}
+
+-- these requests were answered, and the connection goes on
+pub record IsOpen {T : Type 0} (scene : Scene T) (a : Stand T) (v : Wire) (told : List Served) (b : Stand T) (w : Wire)
+    : Type 0 where
+  pub xs : List Exchange
+  pub told_is : map (λ x. x.served) xs ≡ told
+  pub goes : GoOn 0 xs
+  pub row : Row scene a v xs b w
+  pub open_ : w.over ≡ false
+
+-- before the first request
+pub open_first : {T : Type 0} (scene : Scene T) (a : Stand T) (v : Wire) (told : List Served) → told ≡ [] → v.over ≡ false
+    → IsOpen scene a v told a v
+open_first scene a v told is open_ = record { xs = []; told_is = sym is; goes = tt; row = none; open_ = open_ }
+
+-- what came of a request, with its place and what came of it as they are known to be
+pub turn_as : {T : Type 0} (scene : Scene T) (last place : Bool) (a : Stand T) (v : Wire) (what known : Turn) (b : Stand T)
+    (w : Wire) → last ≡ place → what ≡ known → Turns scene last a v what b w → Turns scene place a v known b w
+turn_as scene last place a v what known b w at is t =
+    subst (λ (k : Turn). Turns scene place a v k b w) is (subst (λ (l : Bool). Turns scene l a v what b w) at t)
+
+module _ {T : Type 0} (scene : Scene T) (a : Stand T) (v : Wire) (told : List Served) (b : Stand T) (w : Wire)
+    (base : IsOpen scene a v told b w) where
+  -- as many requests were answered as are told
+  pub same_length : length base.xs ≡ length told
+  same_length = sym (length-map base.xs (λ x. x.served)) ∙ ap length base.told_is
+
+  -- what is told, and then one request more
+  told_more : (x : Exchange) (served : Served) → x.served ≡ served → map (λ x. x.served) (base.xs ++ x ∷ []) ≡ told ++ served ∷ []
+  told_more x served one =
+      map-append (λ x. x.served) base.xs (x ∷ [])
+      ∙ (ap (λ (l : List Served). l ++ x.served ∷ []) base.told_is ∙ ap (λ (s : Served). told ++ s ∷ []) one)
+
+  one_more : (served : Served) (closes : Bool) (c : Stand T) (u : Wire)
+      → (e : Exchanges scene (is_last (length base.xs)) b w served closes c u) → Row scene a v (base.xs ++ e.x ∷ []) c u
+  one_more served closes c u e = more base.xs b w e.x c u base.row e.is e.leads e.moves
+
+  -- a request that was answered, behind which the connection goes on
+  pub goes_on : (served : Served) (c : Stand T) (u : Wire) → GoesOn scene (is_last (length told)) b w served c u
+      → IsOpen scene a v (told ++ served ∷ []) c u
+  goes_on served c u goes =
+      let at : GoesOn scene (is_last (length base.xs)) b w served c u =
+      subst (λ (n : ℕ). GoesOn scene (is_last n) b w served c u) (sym same_length) goes in
+      record {
+        xs = base.xs ++ at.one.x ∷ [];
+        told_is = told_more at.one.x served at.one.told;
+        goes = goes_more 0 base.xs at.one.x base.goes
+            (subst (λ (n : ℕ). closes_after at.one.x.request (is_last n) ≡ false) (zero_more (length base.xs)) at.one.ends);
+        row = one_more served false c u at.one;
+        open_ = at.open_;
+      }
+    where
+      zero_more : (n : ℕ) → n ≡ 0 + n
+      zero_more n = omega arith
+
+  -- a connection whose last reply closes
+  pub ends_last : (served : Served) (why : ConnEnd) (report : ConnReport) (c : Stand T) (after : ShownStream)
+      → length told < REQUESTS
+      → (u : Wire) × (u.stream ≡ after) × Closes scene (is_last (length told)) b w served why c u
+      → report.served.items ≡ told ++ served ∷ [] → report.end ≡ why
+      → (u : Wire) × (u.stream ≡ after) × ServesAll scene a v report c u
+  ends_last served why report c after few closes items is =
+      let u : Wire = closes.0 in
+      let at : Closes scene (is_last (length base.xs)) b w served why c u =
+      subst (λ (n : ℕ). Closes scene (is_last n) b w served why c u) (sym same_length) closes.2 in
+      let x : Exchange = at.one.x in
+      let row : Row scene a v (base.xs ++ x ∷ []) c u = one_more served true c u at.one in (
+        u,
+        closes.1,
+        record {
+          xs = base.xs ++ x ∷ [];
+          told = told_more x served at.one.told ∙ sym items;
+          at = c;
+          held_at = u;
+          row = row;
+          rest = [];
+          part = [];
+          leaves = leaves_none scene c u;
+          flat = flat_row (base.xs ++ x ∷ []) c u row;
+          ends = subst (λ (e : ConnEnd). Ends scene a v e (base.xs ++ x ∷ []) c [] [] c u) (sym is)
+              (by_request x u at.one.ends x.request refl at.cause);
+        },
+      )
+    where
+      short : length base.xs < REQUESTS
+      short = subst (λ (n : ℕ). n < REQUESTS) (sym same_length) few
+
+      closing : (x : Exchange) (r : Request) → x.request ≡ r → closes_after x.request (is_last (length base.xs)) ≡ true
+          → LastCloses r (base.xs ++ x ∷ [])
+      closing x r asks ends = record {
+        going = base.xs;
+        last = x;
+        are = refl;
+        goes = base.goes;
+        asks = asks;
+        closes = subst (λ (q : Request). closes_after q (is_last (length base.xs)) ≡ true) asks ends;
+      }
+
+      -- Limit exactly at the last place
+      by_head : (x : Exchange) (u : Wire) (head : HeadFacts) → LastCloses (readable head) (base.xs ++ x ∷ []) → (l : Bool)
+          → is_last (length base.xs) ≡ l → Ends scene a v (end_of_head l) (base.xs ++ x ∷ []) c [] [] c u
+      by_head x u head last true e =
+          let all = length-append base.xs (x ∷ []) in
+          (grind (arith, nat_tests, e, all), (refl, refl), (head, last))
+      by_head x u head last false e =
+          let all = length-append base.xs (x ∷ []) in
+          let less = short in
+          (grind (arith, nat_tests, e, all, less), (refl, refl), inl (head, last))
+
+      by_request : (x : Exchange) (u : Wire) → closes_after x.request (is_last (length base.xs)) ≡ true → (r : Request)
+          → x.request ≡ r → EndsBehind (is_last (length base.xs)) r u why → Ends scene a v why (base.xs ++ x ∷ []) c [] [] c u
+      by_request x u ends (readable head) asks cause =
+          subst (λ (e : ConnEnd). Ends scene a v e (base.xs ++ x ∷ []) c [] [] c u) (sym cause)
+          (by_head x u head (closing x (readable head) asks ends) (is_last (length base.xs)) refl)
+      by_request x u ends (refused fault) asks cause =
+          subst (λ (e : ConnEnd). Ends scene a v e (base.xs ++ x ∷ []) c [] [] c u) (sym cause.0)
+          ((refl, refl), fault, closing x (refused fault) asks ends, cause.1)
+
+  -- a connection that ended without a further whole reply
+  pub ends_by : (why : ConnEnd) (report : ConnReport) (c : Stand T) (after : ShownStream) → length told < REQUESTS
+      → (u : Wire) × (u.stream ≡ after) × Stops scene (is_last (length told)) b w why c u
+      → report.served.items ≡ told → report.end ≡ why
+      → (u : Wire) × (u.stream ≡ after) × ServesAll scene a v report c u
+  ends_by why report c after few stops items is =
+      let u : Wire = stops.0 in
+      let at : Stops scene (is_last (length base.xs)) b w why c u =
+      subst (λ (n : ℕ). Stops scene (is_last n) b w why c u) (sym same_length) stops.2 in (
+        u,
+        stops.1,
+        record {
+          xs = base.xs;
+          told = base.told_is ∙ sym items;
+          at = b;
+          held_at = w;
+          row = base.row;
+          rest = at.rest;
+          part = at.part;
+          leaves = at.leaves;
+          flat = flat_leaves (flat_row base.xs b w base.row) at.leaves;
+          ends = subst (λ (e : ConnEnd). Ends scene a v e base.xs b at.rest at.part c u) (sym is)
+              (by_why u at.rest at.part why at.cause);
+        },
+      )
+    where
+      short : length base.xs < REQUESTS
+      short = subst (λ (n : ℕ). n < REQUESTS) (sym same_length) few
+
+      by_why : (u : Wire) (rest : List Heard) (part : List ℕ) (e : ConnEnd)
+          → StopsFor scene (is_last (length base.xs)) b w rest part c u e → Ends scene a v e base.xs b rest part c u
+      by_why u rest part end.Closed cause =
+          (short, cause.0, inr (record { goes = base.goes; none = cause.1; ended = cause.2 }))
+      by_why u rest part end.Cut cause = (base.goes, cause.0, cause.1)
+      by_why u rest part end.ReadFault cause =
+          let start = (flat_row base.xs b w base.row).moves.read_faults in
+          let risen = cause.1 in
+          (base.goes, cause.0, omega (arith, start, risen))
+      by_why u rest part end.WriteFault cause =
+          let start = (flat_row base.xs b w base.row).moves.write_faults in
+          let risen = cause.1 in
+          (base.goes, cause.0, omega (arith, start, risen))
+      by_why u rest part end.OutOfMemory cause = (base.goes, cause.0, inr cause.1)
+      by_why u rest part end.Refused cause = absurd cause
+      by_why u rest part end.Limit cause = absurd cause
 
 -- no memory for the report or the reader: nothing was read or written
-pub ends_at_once : (true_row : RowFacts → Type 0) (folders : List (List ℕ)) (hand : Hand) (first : List Change)
-    (before : ShownStream) (report : ConnReport) → report.served.items ≡ [] → report.end ≡ end.OutOfMemory
-    → Serves true_row folders hand first before report first before hand.start
-ends_at_once true_row folders hand first before report none is = record {
-  xs = [];
-  held = [];
-  rest = [];
-  part = [];
-  told = sym none;
-  row = row_none true_row folders hand first before;
-  ends = subst (λ (why : ConnEnd). Ends true_row folders hand before why [] [] [] [] first before) (sym is) (tt, refl);
-}
+pub ends_at_once : {T : Type 0} (scene : Scene T) (a : Stand T) (before : ShownStream) (report : ConnReport)
+    → report.served.items ≡ [] → report.end ≡ end.OutOfMemory → Serves scene a before report a before
+ends_at_once {T} scene a before report nothing is = (
+  fresh before,
+  refl,
+  record {
+    xs = [];
+    told = sym nothing;
+    at = a;
+    held_at = fresh before;
+    row = none;
+    rest = [];
+    part = [];
+    leaves = leaves_none scene a (fresh before);
+    flat = flat_row [] a (fresh before) none;
+    ends = subst (λ (why : ConnEnd). Ends scene a (fresh before) why [] a [] [] a (fresh before)) (sym is)
+        (tt, refl, inl (record { none = refl; stands = refl; stays = refl }));
+  },
+)
 
 or_last : (a b : Bool) → (a || b || true) ≡ true
 or_last true b = refl

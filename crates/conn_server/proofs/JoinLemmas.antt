@@ -1,5 +1,5 @@
--- Requests that were answered, and then more of them.
-use Rattle.std.proofs.Common.{◌≡◌, ℕ, ◌+◌, ◌<◌, ◌≤◌, List, [], ◌∷◌, ◌++◌, length, Option, Some, None}
+-- What follows of a row, object by object.
+use Rattle.std.proofs.Common.{◌≡◌, ℕ, ◌+◌, ◌<◌, ◌≤◌, Bool, true, false, List, [], ◌∷◌, ◌++◌, length, Option, Some, None}
 use Rattle.std.proofs.Common.{IsTrue, refl, sym, ◌∙◌, ap, subst, append_assoc, append-nil, arith, cond}
 use Rattle.std.proofs.lemmas.Bool.{false≢true}
 use Rattle.std.proofs.lemmas.Grind.{flat_map-append}
@@ -7,56 +7,64 @@ use Rattle.std.proofs.lemmas.List.Sums.{sum_by-append}
 use Rattle.std.specs.List.{flat_map, count_by}
 use Rattle.std.specs.Option.{IsSome, option_map}
 use mathlib.Core.List.{IsPrefix}
-use Rattle.row_types.specs.Row.{RowFacts}
-use Rattle.row_types.specs.Faults.{summed}
+use Rattle.row_types.specs.Faults.{HasCause, summed}
 use Rattle.index_lock.proofs.Prefixes.{prefix_self, prefix_trans}
 use Rattle.index_rows.specs.declared.change.Change.{Change}
 use Rattle.tree_trait.specs.Heard.{Heard, with_answers}
 use Rattle.tree_trait.specs.Shown.{IsPresence, ShownTree}
 use Rattle.http_wire.specs.Sink.{Appends}
 use Rattle.http_wire.specs.Source.{Comes}
-use Rattle.http_wire.specs.Stream.{ShownStream}
 use Rattle.answer_core.specs.Loads.{Hand, Hears}
 use Rattle.answer_core.proofs.HearLemmas.{heard_both, hears_none}
-use Rattle.conn_server.specs.Connection.{AreExchanges, Exchange, GoOn, IsRow, LogsGrow}
+use Rattle.conn_server.specs.Connection.{AreExchanges, GoOn, IsRow, LogsGrow, Row, none, more, is_last}
+use Rattle.conn_server.specs.Exchange.{Exchange, IsExchange, Leads, Leaves, Moves}
+use Rattle.conn_server.specs.Asked.{closes_after}
 use Rattle.conn_server.specs.Replies.{is_read_fault}
-use Rattle.conn_server.proofs.SinceLemmas.{since}
+use Rattle.conn_server.specs.Scene.{Scene, Stand, Wire, hand_at}
+use Rattle.conn_server.specs.declared.reason.Reason.{Reason}
+use Rattle.conn_server.specs.declared.reason.Reason.TheVariants as reason
+use Rattle.conn_server.proofs.CaseLemmas.{case_at, finds_all}
+use Rattle.conn_server.proofs.SinceLemmas.{StillTo, since}
 
-pub zero_more : (n : ℕ) → n ≡ 0 + n
+-- Places and logs
+
+zero_more : (n : ℕ) → n ≡ 0 + n
 zero_more n = omega arith
 
-are_append : (true_row : RowFacts → Type 0) (folders : List (List ℕ)) (hand : Hand) (place : ℕ) (xs ys : List Exchange)
-    → AreExchanges true_row folders hand place xs → AreExchanges true_row folders hand (place + length xs) ys
-    → AreExchanges true_row folders hand place (xs ++ ys)
-are_append true_row folders hand place [] ys a b =
+are_more : {T : Type 0} (scene : Scene T) (at : Stand T) (place : ℕ) (xs : List Exchange) (x : Exchange)
+    → AreExchanges scene at place xs → IsExchange scene (is_last (place + length xs)) at x
+    → AreExchanges scene at place (xs ++ x ∷ [])
+are_more scene at place [] x a b =
     let same : place + length {A = Exchange} [] ≡ place = omega arith in
-    subst (λ (p : ℕ). AreExchanges true_row folders hand p ys) same b
-are_append true_row folders hand place (x ∷ xs) ys a b =
-    let same : place + length (x ∷ xs) ≡ (place + 1) + length xs = omega arith in (
+    (subst (λ (p : ℕ). IsExchange scene (is_last p) at x) same b, tt)
+are_more scene at place (y ∷ xs) x a b =
+    let same : place + length (y ∷ xs) ≡ (place + 1) + length xs = omega arith in (
       a.0,
-      are_append true_row folders hand (place + 1) xs ys a.1
-          (subst (λ (p : ℕ). AreExchanges true_row folders hand p ys) same b),
+      are_more scene at (place + 1) xs x a.1 (subst (λ (p : ℕ). IsExchange scene (is_last p) at x) same b),
     )
 
-pub goes_append : (place : ℕ) (xs ys : List Exchange) → GoOn place xs → GoOn (place + length xs) ys → GoOn place (xs ++ ys)
-goes_append place [] ys a b =
+pub goes_more : (place : ℕ) (xs : List Exchange) (x : Exchange) → GoOn place xs
+    → closes_after x.request (is_last (place + length xs)) ≡ false → GoOn place (xs ++ x ∷ [])
+goes_more place [] x a b =
     let same : place + length {A = Exchange} [] ≡ place = omega arith in
-    subst (λ (p : ℕ). GoOn p ys) same b
-goes_append place (x ∷ xs) ys a b =
-    let same : place + length (x ∷ xs) ≡ (place + 1) + length xs = omega arith in
-    (a.0, goes_append (place + 1) xs ys a.1 (subst (λ (p : ℕ). GoOn p ys) same b))
+    (subst (λ (p : ℕ). closes_after x.request (is_last p) ≡ false) same b, tt)
+goes_more place (y ∷ xs) x a b =
+    let same : place + length (y ∷ xs) ≡ (place + 1) + length xs = omega arith in
+    (a.0, goes_more (place + 1) xs x a.1 (subst (λ (p : ℕ). closes_after x.request (is_last p) ≡ false) same b))
 
-logs_later : (first log after : List Change) (ys : List Exchange) → IsPrefix first log → LogsGrow log ys after
-    → LogsGrow first ys after
-logs_later first log after [] p g = prefix_trans first log after p g
-logs_later first log after (y ∷ ys) p g = (prefix_trans first log y.log p g.0, g.1)
+logs_later : (first log after : List Change) (xs : List Exchange) → LogsGrow first xs log → IsPrefix log after
+    → LogsGrow first xs after
+logs_later first log after [] g p = prefix_trans first log after g p
+logs_later first log after (x ∷ xs) g p = (g.0, logs_later x.log log after xs g.1 p)
 
-logs_append : (first log after : List Change) (xs ys : List Exchange) → LogsGrow first xs log → LogsGrow log ys after
-    → LogsGrow first (xs ++ ys) after
-logs_append first log after [] ys a b = logs_later first log after ys a b
-logs_append first log after (x ∷ xs) ys a b = (a.0, logs_append x.log log after xs ys a.1 b)
+logs_more : (first log : List Change) (xs : List Exchange) (x : Exchange) → LogsGrow first xs log → IsPrefix log x.log
+    → LogsGrow first (xs ++ x ∷ []) x.log
+logs_more first log [] x g p = (prefix_trans first log x.log g p, prefix_self x.log)
+logs_more first log (y ∷ xs) x g p = (g.0, logs_more y.log log xs x g.1 p)
 
-hears_append : (hand : Hand) (now later : ShownTree) (a b : List Heard) {F G : Type 0} → Hears hand now a F
+-- The hand
+
+pub hears_append : (hand : Hand) (now later : ShownTree) (a b : List Heard) {F G : Type 0} → Hears hand now a F
     → Hears (since hand now) later b G → Hears hand later (a ++ b) ⊥
 hears_append hand now later a b first second = record {
   heard = second.heard
@@ -80,6 +88,36 @@ hears_append hand now later a b first second = record {
     known [] two told asked =
         second.hands.keeps told (first.hands.known told (subst (λ (es : List Heard). 0 < length es) (append-nil a) asked))
     known (y ∷ ys) two told asked = two told (omega arith)
+
+is_fault_of : (why : Reason) → is_read_fault why ≡ true → why ≡ reason.ReadFault
+is_fault_of reason.ReadFault e = refl
+is_fault_of reason.Local e = absurd (false≢true e)
+is_fault_of reason.BadHead e = absurd (false≢true e)
+is_fault_of reason.TooLarge e = absurd (false≢true e)
+is_fault_of reason.Method e = absurd (false≢true e)
+is_fault_of reason.Body e = absurd (false≢true e)
+is_fault_of reason.BadEscape e = absurd (false≢true e)
+is_fault_of reason.NoRoute e = absurd (false≢true e)
+is_fault_of reason.BadId e = absurd (false≢true e)
+is_fault_of reason.BadPath e = absurd (false≢true e)
+is_fault_of reason.NotFound e = absurd (false≢true e)
+is_fault_of reason.OutOfMemory e = absurd (false≢true e)
+
+-- a load failed for a request that was answered so
+counted : (x : Exchange) (now later : ℕ) → HasCause now later (x.served.reason ≡ reason.ReadFault)
+    → summed now (count_by (λ y. is_read_fault y.served.reason) (x ∷ [])) ≤ later
+counted x now later c =
+    by_test (is_read_fault x.served.reason) refl
+  where
+    by_test : (b : Bool) → is_read_fault x.served.reason ≡ b → summed now (0 + cond b 1 0) ≤ later
+    by_test true e =
+        let risen = c.rose (is_fault_of x.served.reason e) in
+        omega (arith, risen)
+    by_test false e =
+        let later_on = c.later in
+        omega (arith, later_on)
+
+-- The stream
 
 comes_append : (a b d : Option (List ℕ)) (c e : List ℕ) → Comes a c b → Comes b e d → Comes a (c ++ e) d
 comes_append a b None c e p q = p ∙ ap (λ (o : Option (List ℕ)). option_map (λ left. c ++ left) o) q
@@ -105,81 +143,121 @@ pub appends_none : (a : Option (List ℕ)) → Appends a [] a
 appends_none None = λ some. refl
 appends_none (Some w) = λ some. ap (λ (l : List ℕ). Some l) (sym (append-nil w))
 
--- before the first request
-pub row_none : (true_row : RowFacts → Type 0) (folders : List (List ℕ)) (hand : Hand) (first : List Change)
-    (before : ShownStream) → IsRow true_row folders hand first before [] [] [] [] first before hand.start
-row_none true_row folders hand first before = record {
-  are = tt;
-  logs = prefix_self first;
-  hears = hears_none hand;
-  failed = omega arith;
+moves_none : (v : Wire) → Moves [] [] v v
+moves_none v = record {
   came = [];
-  comes = comes_none before.left;
-  cut = refl;
-  written = appends_none before.written;
+  comes = comes_none v.stream.left;
+  cut = append-nil v.held;
+  written = appends_none v.stream.written;
   read_faults = omega arith;
   write_faults = omega arith;
 }
 
--- what comes behind requests that were answered whole
-pub record IsBehind
-    (true_row : RowFacts → Type 0) (folders : List (List ℕ)) (hand : Hand) (log : List Change) (mid : ShownStream)
-    (now : ShownTree) (held : List ℕ) (place : ℕ) (ys : List Exchange) (held_after : List ℕ) (rest : List Heard)
-    (part : List ℕ) (log_after : List Change) (after : ShownStream) (later : ShownTree) : Type 1 where
-  pub are : AreExchanges true_row folders hand place ys
-  pub logs : LogsGrow log ys log_after
-  pub Fails : Type 0
-  pub hears : Hears (since hand now) later (flat_map (λ y. y.answers) ys ++ rest) Fails
-  pub failed : summed now.faults (count_by (λ y. is_read_fault y.served.reason) ys) ≤ later.faults
-  pub came : List ℕ
-  pub comes : Comes mid.left came after.left
-  pub cut : held ++ came ≡ flat_map (λ y. y.front) ys ++ held_after
-  pub written : Appends mid.written (flat_map (λ y. y.bytes) ys ++ part) after.written
-  pub read_faults : mid.read_faults ≤ after.read_faults
-  pub write_faults : mid.write_faults ≤ after.write_faults
+moves_then : {f g d e : List ℕ} {v w u : Wire} → Moves f d v w → Moves g e w u → Moves (f ++ g) (d ++ e) v u
+moves_then {f} {g} {d} {e} {v} {w} {u} one two = record {
+  came = one.came ++ two.came;
+  comes = comes_append v.stream.left w.stream.left u.stream.left one.came two.came one.comes two.comes;
+  cut = sym (append_assoc v.held one.came two.came)
+      ∙ (ap (λ (l : List ℕ). l ++ two.came) one.cut
+      ∙ (append_assoc f w.held two.came
+      ∙ (ap (λ (l : List ℕ). f ++ l) two.cut ∙ sym (append_assoc f g u.held))));
+  written = appends_append v.stream.written w.stream.written u.stream.written d e one.written two.written;
+  read_faults =
+      let a = one.read_faults in
+      let b = two.read_faults in
+      omega (arith, a, b);
+  write_faults =
+      let a = one.write_faults in
+      let b = two.write_faults in
+      omega (arith, a, b);
+}
 
-parts : {A : Type 0} (f : Exchange → List A) (xs ys : List Exchange) (more : List A)
-    → flat_map f (xs ++ ys) ++ more ≡ flat_map f xs ++ (flat_map f ys ++ more)
-parts {A} f xs ys more =
-    ap (λ (l : List A). l ++ more) (flat_map-append f xs ys) ∙ append_assoc (flat_map f xs) (flat_map f ys) more
+moves_as : {f f' d d' : List ℕ} {v w : Wire} → f ≡ f' → d ≡ d' → Moves f d v w → Moves f' d' v w
+moves_as {f} {f'} {d} {d'} {v} {w} same also m =
+    subst (λ (front : List ℕ). Moves front d' v w) same (subst (λ (bytes : List ℕ). Moves f bytes v w) also m)
 
-pub row_join : {true_row : RowFacts → Type 0} {folders : List (List ℕ)} {hand : Hand} {first : List Change}
-    {before : ShownStream} {xs : List Exchange} {held : List ℕ} {log : List Change} {mid : ShownStream} {now : ShownTree}
-    {ys : List Exchange} {held_after : List ℕ} {rest : List Heard} {part : List ℕ} {log_after : List Change}
-    {after : ShownStream} {later : ShownTree} → IsRow true_row folders hand first before xs held [] [] log mid now
-    → IsBehind true_row folders hand log mid now held (length xs) ys held_after rest part log_after after later
-    → IsRow true_row folders hand first before (xs ++ ys) held_after rest part log_after after later
-row_join {true_row} {folders} {hand} {first} {before} {xs} {held} {log} {mid} {now} {ys} {held_after} {rest} {part}
-    {log_after} {after} {later} row more = record {
-      are = are_append true_row folders hand 0 xs ys row.are
-          (subst (λ (p : ℕ). AreExchanges true_row folders hand p ys) (zero_more (length xs)) more.are);
-      logs = logs_append first log log_after xs ys row.logs more.logs;
-      hears = subst (λ (es : List Heard). Hears hand later es ⊥) (sym (parts (λ x. x.answers) xs ys rest))
-          (hears_append hand now later (flat_map (λ x. x.answers) xs) (flat_map (λ y. y.answers) ys ++ rest)
-          (subst (λ (es : List Heard). Hears hand now es ⊥) (append-nil (flat_map (λ x. x.answers) xs)) row.hears)
-          more.hears);
-      failed =
-          let one = row.failed in
-          let two = more.failed in
-          let all = sum_by-append (λ (x : Exchange). cond (is_read_fault x.served.reason) 1 0) xs ys in
-          omega (arith, one, two, all);
-      came = row.came ++ more.came;
-      comes = comes_append before.left mid.left after.left row.came more.came row.comes more.comes;
-      cut = ap (λ (l : List ℕ). l ++ more.came) row.cut
-          ∙ (append_assoc (flat_map (λ x. x.front) xs) held more.came
-          ∙ (ap (λ (l : List ℕ). flat_map (λ x. x.front) xs ++ l) more.cut
-          ∙ sym (parts (λ x. x.front) xs ys held_after)));
-      written = subst (λ (l : List ℕ). Appends before.written l after.written) (sym (parts (λ x. x.bytes) xs ys part))
-          (appends_append before.written mid.written after.written (flat_map (λ x. x.bytes) xs)
-          (flat_map (λ y. y.bytes) ys ++ part)
-          (subst (λ (l : List ℕ). Appends before.written l mid.written) (append-nil (flat_map (λ x. x.bytes) xs)) row.written)
-          more.written);
-      read_faults =
-          let one = row.read_faults in
-          let two = more.read_faults in
-          omega (arith, one, two);
-      write_faults =
-          let one = row.write_faults in
-          let two = more.write_faults in
-          omega (arith, one, two);
+-- All of them
+
+still_to : {T : Type 0} {scene : Scene T} {a b : Stand T} {v w : Wire} {xs : List Exchange} {rest : List Heard}
+    {part : List ℕ} → IsRow scene a v xs rest part b w → StillTo (hand_at scene a) (scene.shows b.hand)
+still_to row still = row.hears.hands.still still
+
+-- an exchange, as seen from an earlier stand
+pub exchange_at : {T : Type 0} (scene : Scene T) (last : Bool) (a b : Stand T) (x : Exchange)
+    → StillTo (hand_at scene a) (scene.shows b.hand) → IsExchange scene last b x → IsExchange scene last a x
+exchange_at scene last a b x keeps is =
+    let lawful = is.lawful in
+    let case_ = case_at scene a b keeps x.log x.request x.served.asked x.served.reason x.served.gen_ lawful.carried x.answers lawful.is in
+    record {
+      lawful = record { carried = lawful.carried; is = case_; replied = lawful.replied };
+      complete = finds_all scene a x.log x.request x.served.asked x.served.reason x.served.gen_ lawful.carried x.answers case_;
+      fronts = is.fronts;
     }
+
+flat_none : {T : Type 0} (scene : Scene T) (a : Stand T) (v : Wire) → IsRow scene a v [] [] [] a v
+flat_none scene a v = record {
+  are = tt;
+  logs = prefix_self a.log;
+  hears = hears_none (hand_at scene a);
+  failed = omega arith;
+  moves = moves_none v;
+}
+
+-- the parts of the exchanges, and one more
+flat_one : {A : Type 0} (f : Exchange → List A) (xs : List Exchange) (x : Exchange)
+    → flat_map f (xs ++ x ∷ []) ≡ flat_map f xs ++ f x
+flat_one f xs x =
+    flat_map-append f xs (x ∷ []) ∙ ap (λ l. flat_map f xs ++ l) (append-nil (f x))
+
+flat_more : {T : Type 0} {scene : Scene T} {a b c : Stand T} {v w u : Wire} {xs : List Exchange} (x : Exchange)
+    → IsRow scene a v xs [] [] b w → IsExchange scene (is_last (length xs)) b x → Leads scene x b c
+    → Moves x.front x.bytes w u → IsRow scene a v (xs ++ x ∷ []) [] [] c u
+flat_more {T} {scene} {a} {b} {c} {v} {w} {u} {xs} x row is leads moves = record {
+  are = are_more scene a 0 xs x row.are (subst (λ (p : ℕ). IsExchange scene (is_last p) a x) (zero_more (length xs))
+      (exchange_at scene (is_last (length xs)) a b x (still_to row) is));
+  logs = subst (λ (log : List Change). LogsGrow a.log (xs ++ x ∷ []) log) leads.seen
+      (logs_more a.log b.log xs x row.logs (subst (λ (log : List Change). IsPrefix b.log log) (sym leads.seen) leads.log));
+  hears = subst (λ (es : List Heard). Hears (hand_at scene a) (scene.shows c.hand) es ⊥)
+      (ap (λ (l : List Heard). l ++ x.answers) (append-nil (flat_map (λ y. y.answers) xs))
+      ∙ (sym (flat_one (λ y. y.answers) xs x) ∙ sym (append-nil (flat_map (λ y. y.answers) (xs ++ x ∷ [])))))
+      (hears_append (hand_at scene a) (scene.shows b.hand) (scene.shows c.hand) (flat_map (λ y. y.answers) xs ++ []) x.answers
+      row.hears leads.hand);
+  failed =
+      let one = row.failed in
+      let two = counted x (scene.shows b.hand).faults (scene.shows c.hand).faults leads.hand.hands.cause in
+      let all = sum_by-append (λ (y : Exchange). cond (is_read_fault y.served.reason) 1 0) xs (x ∷ []) in
+      omega (arith, one, two, all);
+  moves = moves_as (sym (flat_one (λ y. y.front) xs x))
+      (ap (λ (l : List ℕ). l ++ x.bytes) (append-nil (flat_map (λ y. y.bytes) xs))
+      ∙ (sym (flat_one (λ y. y.bytes) xs x) ∙ sym (append-nil (flat_map (λ y. y.bytes) (xs ++ x ∷ [])))))
+      (moves_then row.moves moves);
+}
+
+-- what stands behind a row
+pub flat_leaves : {T : Type 0} {scene : Scene T} {a b c : Stand T} {v w u : Wire} {xs : List Exchange} {rest : List Heard}
+    {part : List ℕ} → IsRow scene a v xs [] [] b w → Leaves scene rest part b w c u → IsRow scene a v xs rest part c u
+flat_leaves {T} {scene} {a} {b} {c} {v} {w} {u} {xs} {rest} {part} row leaves = record {
+  are = row.are;
+  logs = logs_later a.log b.log c.log xs row.logs leaves.log;
+  hears = subst (λ (es : List Heard). Hears (hand_at scene a) (scene.shows c.hand) es ⊥)
+      (ap (λ (l : List Heard). l ++ rest) (append-nil (flat_map (λ y. y.answers) xs)))
+      (hears_append (hand_at scene a) (scene.shows b.hand) (scene.shows c.hand) (flat_map (λ y. y.answers) xs ++ []) rest
+      row.hears leaves.hand);
+  failed =
+      let one = row.failed in
+      let two = leaves.hand.hands.cause.later in
+      omega (arith, one, two);
+  moves = moves_as (append-nil (flat_map (λ y. y.front) xs))
+      (ap (λ (l : List ℕ). l ++ part) (append-nil (flat_map (λ y. y.bytes) xs)))
+      (moves_then row.moves leaves.moves);
+}
+
+pub leaves_none : {T : Type 0} (scene : Scene T) (a : Stand T) (v : Wire) → Leaves scene [] [] a v a v
+leaves_none scene a v = record { log = prefix_self a.log; hand = hears_none (hand_at scene a); moves = moves_none v }
+
+-- of a row all of them follow
+pub flat_row : {T : Type 0} {scene : Scene T} {a : Stand T} {v : Wire} (xs : List Exchange) (b : Stand T) (w : Wire)
+    → Row scene a v xs b w → IsRow scene a v xs [] [] b w
+flat_row {T} {scene} {a} {v} xs b w none = flat_none scene a v
+flat_row {T} {scene} {a} {v} xs b w (more ys c u x d t row is leads moves) =
+    flat_more x (flat_row ys c u row) is leads moves

@@ -1,11 +1,8 @@
 mod CarriesLemmas
-pub mod CompleteLemmas
+pub mod CaseLemmas
 mod DecideLemmas
 mod EndLemmas
-mod EndedLemmas
-mod JoinLemmas
-mod LastLemmas
-mod RowLemmas
+pub mod JoinLemmas
 mod SentLemmas
-mod SinceLemmas
+pub mod SinceLemmas
 mod TurnLemmas

@@ -1,129 +1,329 @@
--- One turn more: what it leaves where the connection goes on behind it.
-use Rattle.std.proofs.Common.{◌≡◌, ℕ, Bool, true, false, List, [], ◌∷◌, ◌++◌, length, map, refl, sym, ◌∙◌, ap, subst}
-use Rattle.std.proofs.lemmas.List.{length-map, map-append}
+-- What came of a request, as one exchange, or as what is left without one.
+use Rattle.std.proofs.Common.{◌≡◌, ℕ, ◌≤◌, Bool, true, false, List, [], ◌++◌, Option, MatchBool, IsTrue, take}
+use Rattle.std.proofs.Common.{refl, sym, ◌∙◌, ap, subst, arith}
 use Rattle.std.proofs.lemmas.Bool.{false≢true}
 use mathlib.Core.List.{IsPrefix}
-use Rattle.httparse.specs.Grammar.{print_request}
-use Rattle.row_types.specs.Row.{RowFacts}
+use Rattle.httparse.specs.Grammar.{RequestHead, print_request}
+use Rattle.row_types.specs.Faults.{HasCause}
 use Rattle.index_rows.specs.declared.change.Change.{Change}
 use Rattle.tree_trait.specs.Heard.{Heard}
-use Rattle.tree_trait.specs.Shown.{ShownTree}
-use Rattle.http_wire.specs.Reader.{Answers}
+use Rattle.http_wire.specs.Heads.{Refuses, Tells}
+use Rattle.http_wire.specs.Reader.{Answers, has_failed}
 use Rattle.http_wire.specs.ReaderFacts.{ReaderFacts}
-use Rattle.http_wire.specs.Stream.{ShownStream}
+use Rattle.http_wire.specs.ReplyFault.{FailsReply}
+use Rattle.http_wire.specs.Sink.{Appends, GetsAll}
+use Rattle.http_wire.specs.Source.{Comes, HasEnded}
+use Rattle.http_wire.specs.Stream.{LeavesWriting, ShownStream}
+use Rattle.http_wire.specs.declared.head.Head.{Head}
 use Rattle.http_wire.specs.declared.head.HeadAnswer.{HeadAnswer}
 use Rattle.http_wire.specs.declared.head.HeadAnswer.TheVariants as answer
+use Rattle.http_wire.specs.declared.head.HeadFault.{HeadFault}
 use Rattle.http_wire.specs.declared.head.HeadFault.TheVariants as head_fault
-use Rattle.answer_core.specs.Loads.{Hand}
-use Rattle.conn_server.specs.Connection.{Exchange, GoOn, IsRow, is_last}
-use Rattle.conn_server.specs.Turns.{Takes, TakesHead, TakesNext}
-use Rattle.conn_server.specs.Asked.{readable, told_facts}
-use Rattle.conn_server.specs.declared.report.Served.{Served}
+use Rattle.http_wire.specs.declared.reply.ReplyFault.{ReplyFault}
+use Rattle.http_wire.specs.declared.reply.ReplyFault.TheVariants as reply_fault
+use Rattle.answer_core.specs.Loads.{Hears}
+use Rattle.answer_core.proofs.HearLemmas.{hears_as, hears_none}
+use Rattle.conn_server.specs.Asked.{HeadFacts, Request, closes_after, head_facts, readable, refused, sends_body, told_facts}
+use Rattle.conn_server.specs.Cases.{IsCase, bad_head, too_long, too_many}
+use Rattle.conn_server.specs.Decided.{plain}
+use Rattle.conn_server.specs.Exchange.{Exchange, IsDue, IsExchange, IsFrontOf, IsWhy, Leads, Leaves, Moves}
+use Rattle.conn_server.specs.Replies.{Shows, bytes_of}
+use Rattle.conn_server.specs.Scene.{Scene, Stand, Wire, hand_at, wire_of}
+use Rattle.conn_server.specs.Sent.{sent_len, served_as}
+use Rattle.conn_server.specs.Turns.{Closes, EndsBehind, Exchanges, Replies, Stops, StopsFor, StopsOn, Takes, TakesHead, TakesNext, Turns, Writing, end_after, end_of}
+use Rattle.conn_server.specs.declared.decide.Body.TheVariants as bodies
+use Rattle.conn_server.specs.declared.decide.Decided.{Decided}
+use Rattle.conn_server.specs.declared.reason.Reason.{Reason}
+use Rattle.conn_server.specs.declared.reason.Reason.TheVariants as reason
+use Rattle.conn_server.specs.declared.report.Asked.TheVariants as asked
+use Rattle.conn_server.specs.declared.report.ConnEnd.{ConnEnd}
+use Rattle.conn_server.specs.declared.report.ConnEnd.TheVariants as end
 use Rattle.conn_server.specs.declared.turn.Turn.{Turn}
 use Rattle.conn_server.specs.declared.turn.Turn.TheVariants as turn
-use Rattle.conn_server.proofs.JoinLemmas.{goes_append, row_join, row_none, zero_more}
-use Rattle.conn_server.proofs.RowLemmas.{behind_head, exchange_of}
-use Rattle.conn_server.proofs.SinceLemmas.{StillTo, since}
+use Rattle.conn_server.proofs.CaseLemmas.{carries, finds_all}
+use Rattle.conn_server.proofs.JoinLemmas.{appends_none}
 
--- these requests were answered, the connection goes on, and the reader holds what came behind them
-pub record IsOpen
-    (true_row : RowFacts → Type 0) (folders : List (List ℕ)) (hand : Hand) (first : List Change) (before : ShownStream)
-    (told : List Served) (reader : ReaderFacts) (log : List Change) (mid : ShownStream) (now : ShownTree) : Type 0 where
-  pub xs : List Exchange
-  pub told_is : map (λ x. x.served) xs ≡ told
-  pub goes : GoOn 0 xs
-  pub row : IsRow true_row folders hand first before xs reader.held [] [] log mid now
-  pub over : reader.over ≡ false
+-- the exchange of a request that was decided so
+abbrev pub exchange_of : Request → List ℕ → Decided → List ℕ → Option (List ℕ) → Bool → List Heard → List Change → Exchange
+exchange_of request front decided body file last answers log = record {
+  request = request;
+  front = front;
+  served = served_as decided (sent_len (sends_body request) body);
+  bytes = bytes_of decided.reason body file (closes_after request last) (sends_body request);
+  answers = answers;
+  log = log;
+}
 
-abbrev pub is_ended : Turn → Bool
-is_ended (turn.Ended why) = true
-is_ended _ = false
+exchange_is : {T : Type 0} (scene : Scene T) (a : Stand T) (log : List Change) (request : Request) (front : List ℕ)
+    (decided : Decided) (body : List ℕ) (file : Option (List ℕ)) (last : Bool) (answers : List Heard)
+    → IsCase scene a log request decided.asked decided.reason decided.generation decided.body answers
+    → Shows decided.reason decided.body body file → IsFrontOf request front
+    → IsExchange scene last a (exchange_of request front decided body file last answers log)
+exchange_is scene a log request front decided body file last answers case_ shows fronts = record {
+  lawful = record {
+    carried = decided.body;
+    is = case_;
+    replied = record {
+      body = body;
+      file = file;
+      shows = shows;
+      carries = carries scene a log request decided.asked decided.reason decided.generation decided.body answers body file
+          case_ shows;
+      status = refl;
+      len = refl;
+      spelled = refl;
+    };
+  };
+  complete = finds_all scene a log request decided.asked decided.reason decided.generation decided.body answers case_;
+  fronts = fronts;
+}
 
--- a still hand is still up to where it was asked
-pub still_to : {true_row : RowFacts → Type 0} {folders : List (List ℕ)} {hand : Hand} {first : List Change}
-    {before : ShownStream} {xs : List Exchange} {held : List ℕ} {rest : List Heard} {part : List ℕ} {log : List Change}
-    {mid : ShownStream} {now : ShownTree} → IsRow true_row folders hand first before xs held rest part log mid now
-    → StillTo hand now
-still_to row still = row.hears.hands.still still
+-- what is told of a head is what it says
+facts_are : (head : Head) (h : RequestHead) → Tells head h → told_facts head ≡ head_facts h
+facts_are head h t =
+    let facts_of : List ℕ → List ℕ → Bool → Bool → ℕ → HeadFacts =
+    λ m u c b n. record { method = m; target = u; close = c; body = b; hops = n } in
+    ap (λ (m : List ℕ). facts_of m head.target.now head.close head.has_body head.hops) t.method
+    ∙ (ap (λ (u : List ℕ). facts_of h.method u head.close head.has_body head.hops) t.target
+    ∙ (ap (λ (c : Bool). facts_of h.method h.target c head.has_body head.hops) t.close
+    ∙ (ap (λ (b : Bool). facts_of h.method h.target (head_facts h).close b head.hops) t.has_body
+    ∙ ap (λ (n : ℕ). facts_of h.method h.target (head_facts h).close (head_facts h).body n) t.hops)))
 
--- as many requests were answered as are told
-pub same_length : {true_row : RowFacts → Type 0} {folders : List (List ℕ)} {hand : Hand} {first : List Change}
-    {before : ShownStream} {told : List Served} {reader : ReaderFacts} {log : List Change} {mid : ShownStream}
-    {now : ShownTree} → (base : IsOpen true_row folders hand first before told reader log mid now)
-    → length base.xs ≡ length told
-same_length base = sym (length-map base.xs (λ x. x.served)) ∙ ap length base.told_is
+-- what a read and then a write leave of the stream
+moves_of : {front bytes : List ℕ} {v w : Wire} (came : List ℕ) (mid : ShownStream) → Comes v.stream.left came mid.left
+    → v.held ++ came ≡ front ++ w.held → v.stream.read_faults ≤ mid.read_faults → LeavesWriting v.stream mid
+    → w.stream.left ≡ mid.left → w.stream.read_faults ≡ mid.read_faults → mid.write_faults ≤ w.stream.write_faults
+    → Appends mid.written bytes w.stream.written → Moves front bytes v w
+moves_of {front} {bytes} {v} {w} came mid comes cut later apart left reads writes written = record {
+  came = came;
+  comes = subst (λ (rest : Option (List ℕ)). Comes v.stream.left came rest) (sym left) comes;
+  cut = cut;
+  written = subst (λ (old : Option (List ℕ)). Appends old bytes w.stream.written) apart.written written;
+  read_faults = omega (arith, later, reads);
+  write_faults =
+      let same = apart.write_faults in
+      omega (arith, same, writes);
+}
 
--- what is told, and then one request more
-pub told_more : (xs : List Exchange) (x : Exchange) (told : List Served) (served : Served) → map (λ x. x.served) xs ≡ told
-    → served ≡ x.served → map (λ x. x.served) (xs ++ x ∷ []) ≡ told ++ served ∷ []
-told_more xs x told served all one =
-    map-append (λ x. x.served) xs (x ∷ [])
-    ∙ (ap (λ (l : List Served). l ++ x.served ∷ []) all ∙ ap (λ (s : Served). told ++ s ∷ []) (sym one))
+-- the bytes that came and were held, and the stream that they came from
+module _ {T : Type 0} (scene : Scene T) (last : Bool) (a b : Stand T) (v : Wire) (mid : ShownStream) (came : List ℕ)
+    (grows : IsPrefix a.log b.log) (comes : Comes v.stream.left came mid.left)
+    (later : v.stream.read_faults ≤ mid.read_faults) (apart : LeavesWriting v.stream mid) where
+  -- what is held of the stream in the end
+  abbrev held_of : ShownStream → Wire
+  held_of stream = record { stream = stream; held = v.held ++ came; over = true }
 
--- before the first request
-pub open_first : (true_row : RowFacts → Type 0) (folders : List (List ℕ)) (hand : Hand) (first : List Change)
-    (before : ShownStream) (told : List Served) (reader : ReaderFacts) → told ≡ []
-    → reader ≡ record { all = []; held = []; over = false }
-    → IsOpen true_row folders hand first before told reader first before hand.start
-open_first true_row folders hand first before told reader none fresh =
-    subst (λ (r : ReaderFacts). IsOpen true_row folders hand first before told r first before hand.start) (sym fresh)
-    (record {
-      xs = [];
-      told_is = sym none;
-      goes = tt;
-      row = row_none true_row folders hand first before;
-      over = refl;
-    })
+  quiet : (why : ConnEnd) → b ≡ a → StopsFor scene last a v [] [] b (held_of mid) why → StopsOn scene last a v why b mid
+  quiet why keeps cause = (
+    held_of mid,
+    refl,
+    record {
+      rest = [];
+      part = [];
+      leaves = record {
+        log = grows;
+        hand = subst (λ (s : Stand T). Hears (hand_at scene a) (scene.shows s.hand) [] ⊥) (sym keeps) (hears_none (hand_at scene a));
+        moves = moves_of came mid comes refl later apart refl refl (omega arith) (appends_none mid.written);
+      };
+      cause = cause;
+    },
+  )
 
--- what came of a request, with its place and what came of it as they are known to be
-pub taken_as : {true_row : RowFacts → Type 0} {log : List Change} {folders : List (List ℕ)} {hand : Hand}
-    {reader : ReaderFacts} {last place : Bool} {before : ShownStream} {what known : Turn} {reader_after : ReaderFacts}
-    {after : ShownStream} {now : ShownTree} → last ≡ place → what ≡ known
-    → TakesNext true_row log folders hand reader last before what reader_after after now
-    → TakesNext true_row log folders hand reader place before known reader_after after now
-taken_as {true_row} {log} {folders} {hand} {reader} {last} {place} {before} {what} {known} {reader_after} {after} {now} at is t =
-    subst (λ (w : Turn). TakesNext true_row log folders hand reader place before w reader_after after now) is
-    (subst (λ (b : Bool). TakesNext true_row log folders hand reader b before what reader_after after now) at t)
-
--- a request that was answered, behind which the connection goes on
-pub goes_on : (true_row : RowFacts → Type 0) (folders : List (List ℕ)) (hand : Hand) (first : List Change)
-    (before : ShownStream) (told : List Served) (reader reader_after : ReaderFacts) (log log_after : List Change)
-    (mid after : ShownStream) (now later : ShownTree) (served : Served)
-    → IsOpen true_row folders hand first before told reader log mid now → IsPrefix log log_after
-    → TakesNext true_row log_after folders (since hand now) reader (is_last (length told)) mid (turn.Replied served)
-    reader_after after later
-    → IsOpen true_row folders hand first before (told ++ served ∷ []) reader_after log_after after later
-goes_on true_row folders hand first before told reader reader_after log log_after mid after now later served base grows t =
-    by_answer t.answer t.reads t.takes
-  where
-    by_answer : (what : HeadAnswer) → Answers reader mid reader_after t.mid what
-        → Takes true_row log_after folders (since hand now) what (is_last (length told)) t.mid (turn.Replied served) after later
-        → IsOpen true_row folders hand first before (told ++ served ∷ []) reader_after log_after after later
-    by_answer answer.Closed reads takes = absurd (false≢true (ap is_ended takes.0))
-    by_answer answer.ReadFault reads takes = absurd (false≢true (ap is_ended takes.0))
-    by_answer (answer.Refused (head_fault.Bad len)) reads takes = absurd (false≢true (sym takes.0.ends.0))
-    by_answer (answer.Refused head_fault.TooLong) reads takes = absurd (false≢true (sym takes.0.ends.0))
-    by_answer (answer.Refused head_fault.TooMany) reads takes = absurd (false≢true (sym takes.0.ends.0))
-    by_answer (answer.Refused (head_fault.Cut len)) reads takes = absurd (false≢true (ap is_ended takes.0.0))
-    by_answer (answer.Head head) reads takes =
-        let same : length base.xs ≡ length told = same_length base in
-        let h = reads.says.2 in
-        let front : List ℕ = print_request h in
-        let place : ℕ = length base.xs in
-        let at : TakesHead true_row log_after folders (since hand now) (told_facts head) (is_last place) t.mid
-        (turn.Replied served) after later =
-        subst (λ (n : ℕ). TakesHead true_row log_after folders (since hand now) (told_facts head) (is_last n) t.mid
-        (turn.Replied served) after later) (sym same) takes in
-        let x : Exchange = exchange_of (readable (told_facts head)) front at.decided at.replies.body at.replies.file
-        (is_last place) at.decides.answers log_after in
+  -- the reply to a request wasn't written, or not whole
+  broken : (x : Exchange) (behind : List ℕ) {Fails : Type 0} → IsExchange scene last a x → x.log ≡ b.log
+      → Hears (hand_at scene a) (scene.shows b.hand) x.answers Fails → v.held ++ came ≡ x.front ++ behind
+      → IsWhy x.request (v.held ++ came) mid.left → (fault : ReplyFault) (after : ShownStream)
+      → FailsReply fault x.bytes mid after → StopsOn scene last a v (end_of fault) b after
+  broken x behind {Fails} is logged hears cut why reply_fault.OutOfMemory after same =
+      subst (λ (s : ShownStream). StopsOn scene last a v end.OutOfMemory b s) (sym same) (
+        held_of mid,
+        refl,
         record {
-          xs = base.xs ++ x ∷ [];
-          told_is = told_more base.xs x told served base.told_is at.replies.ends.2;
-          goes = goes_append 0 base.xs (x ∷ []) base.goes
-              (subst (λ (n : ℕ). GoOn n (x ∷ [])) (zero_more place) (at.replies.ends.0, tt));
-          row = row_join base.row (behind_head true_row folders hand log log_after place now later mid t.mid after
-              reader.held reads.came reader_after.held head h at.decided at.replies.body at.replies.file
-              (still_to base.row) grows reads.says.3 reads.says.5 reads.says.4 reads.comes t.cause.later t.apart
-              at.decides at.replies.shows at.replies.ends.1);
-          over = reads.says.1;
-        }
+          rest = x.answers;
+          part = [];
+          leaves = record {
+            log = grows;
+            hand = hears_as (λ f. absurd f) hears;
+            moves = moves_of came mid comes refl later apart refl refl (omega arith) (appends_none mid.written);
+          };
+          cause = (
+            refl,
+            record { one = x; is = is; heard = refl; logged = logged; behind = behind; held_is = cut; why = why },
+          );
+        },
+      )
+  broken x behind {Fails} is logged hears cut why reply_fault.WriteFault after gets = (
+    held_of after,
+    refl,
+    record {
+      rest = x.answers;
+      part = take gets.count x.bytes;
+      leaves = record {
+        log = grows;
+        hand = hears_as (λ f. absurd f) hears;
+        moves = moves_of came mid comes refl later apart gets.reading.left gets.reading.read_faults gets.later gets.appends;
+      };
+      cause = (
+        record {
+          due = record {
+            one = x;
+            is = is;
+            heard = refl;
+            logged = logged;
+            behind = behind;
+            held_is = cut;
+            why = subst (λ (left : Option (List ℕ)). IsWhy x.request (v.held ++ came) left) (sym gets.reading.left) why;
+          };
+          count = gets.count;
+          proper = gets.proper;
+          part_is = refl;
+        },
+        let wrote = apart.write_faults in
+        let risen = gets.rose in
+        omega (arith, wrote, risen),
+      );
+    },
+  )
+
+  -- a request was answered whole
+  abbrev whole : (x : Exchange) (w : Wire) (closes : Bool) → IsExchange scene last a x → x.log ≡ b.log
+      → Hears (hand_at scene a) (scene.shows b.hand) x.answers (x.served.reason ≡ reason.ReadFault)
+      → v.held ++ came ≡ x.front ++ w.held → GetsAll x.bytes mid w.stream → closes_after x.request last ≡ closes
+      → Exchanges scene last a v x.served closes b w
+  whole x w closes is logged hears cut gets ends = record {
+    x = x;
+    told = refl;
+    is = is;
+    leads = record { log = grows; seen = logged; hand = hears };
+    moves = moves_of came mid comes cut later apart gets.reading.left gets.reading.read_faults gets.later gets.appends;
+    ends = ends;
+  }
+
+  -- the reply to a head, by what came of writing it
+  head_written : (reader_after : ReaderFacts) (x : Exchange) (head : HeadFacts) → x.request ≡ readable head
+      → IsExchange scene last a x → x.log ≡ b.log
+      → Hears (hand_at scene a) (scene.shows b.hand) x.answers (x.served.reason ≡ reason.ReadFault)
+      → v.held ++ came ≡ x.front ++ reader_after.held → reader_after.over ≡ false → (decided : Decided) (len : ℕ)
+      → x.served ≡ served_as decided len → (what : Turn) (after : ShownStream)
+      → Writing decided x.request last x.bytes len mid what after
+      → Turns scene last a v what b (wire_of after reader_after)
+  head_written reader_after x head asks is logged hears cut open_ decided len told (turn.Replied served) after writes = record {
+    one = subst (λ s. Exchanges scene last a v s false b (wire_of after reader_after)) (told ∙ sym writes.2)
+        (whole x (wire_of after reader_after) false is logged hears cut writes.1 writes.0);
+    open_ = open_;
+  }
+  head_written reader_after x head asks is logged hears cut open_ decided len told (turn.Last served why) after writes =
+      subst (λ s. (w : Wire) × (w.stream ≡ after) × Closes scene last a v s why b w) (told ∙ sym writes.2) (
+        wire_of after reader_after,
+        refl,
+        record {
+          one = whole x (wire_of after reader_after) true is logged hears cut writes.1 writes.0;
+          cause = ends_behind x.request asks writes.3;
+        },
+      )
+    where
+      ends_behind : (r : Request) → r ≡ readable head → why ≡ end_after r last → EndsBehind last r (wire_of after reader_after) why
+      ends_behind (readable facts) e is_why = is_why
+      ends_behind (refused fault) e is_why = absurd (cc)
+  head_written reader_after x head asks is logged hears cut open_ decided len told (turn.Ended why) after writes =
+      subst (λ (e : ConnEnd). StopsOn scene last a v e b after) (sym writes.2)
+      (broken x reader_after.held is logged hears cut (rw asks tt) writes.0 after writes.1)
+
+  -- the reply to bytes that are no head, by what came of writing it
+  refused_written : (reader_after : ReaderFacts) (fault : HeadFault) (said : Reason) → (said ≡ reason.ReadFault → ⊥)
+      → IsCase scene a b.log (refused fault) (asked.Head fault) said 0 bodies.Line []
+      → Refuses fault (v.held ++ came) mid.left → b ≡ a → (what : Turn) (after : ShownStream)
+      → Replies (plain (asked.Head fault) said) (refused fault) true mid what after
+      → Turns scene last a v what b (wire_of after reader_after)
+  refused_written reader_after fault said sound case_ refuses keeps what after r = by_turn what r.ends
+    where
+      x : Exchange
+      x = exchange_of (refused fault) [] (plain (asked.Head fault) said) r.body r.file last [] b.log
+
+      is : IsExchange scene last a x
+      is = exchange_is scene a b.log (refused fault) [] (plain (asked.Head fault) said) r.body r.file last [] case_ r.shows refl
+
+      hears : Hears (hand_at scene a) (scene.shows b.hand) [] (said ≡ reason.ReadFault)
+      hears = hears_as sound
+          (subst (λ (s : Stand T). Hears (hand_at scene a) (scene.shows s.hand) [] ⊥) (sym keeps) (hears_none (hand_at scene a)))
+
+      by_turn : (what : Turn) → Writing (plain (asked.Head fault) said) (refused fault) true x.bytes (sent_len true r.body) mid what after
+          → Turns scene last a v what b (wire_of after reader_after)
+      by_turn (turn.Replied served) writes = absurd (false≢true (sym writes.0))
+      by_turn (turn.Last served why) writes =
+          subst (λ s. (w : Wire) × (w.stream ≡ after) × Closes scene last a v s why b w) (sym writes.2) (
+            held_of after,
+            refl,
+            record {
+              one = whole x (held_of after) true is refl hears refl writes.1 refl;
+              cause = (
+                writes.3,
+                subst (λ (left : Option (List ℕ)). Refuses fault (v.held ++ came) left) (sym writes.1.reading.left) refuses,
+              );
+            },
+          )
+      by_turn (turn.Ended why) writes =
+          subst (λ (e : ConnEnd). StopsOn scene last a v e b after) (sym writes.2)
+          (broken x (v.held ++ came) is refl hears refl refuses writes.0 after writes.1)
+
+-- what came of the next request
+pub turn_of : {T : Type 0} (scene : Scene T) (last : Bool) (a b : Stand T) (reader reader_after : ReaderFacts)
+    (before after : ShownStream) (what : Turn) → reader.over ≡ false → IsPrefix a.log b.log
+    → TakesNext scene a reader last before what b reader_after after
+    → Turns scene last a (wire_of before reader) what b (wire_of after reader_after)
+turn_of {T} scene last a b reader reader_after before after what open_ grows t = by_answer t.answer t.reads t.cause t.takes
+  where
+    v : Wire
+    v = wire_of before reader
+
+    by_refusal : (fault : HeadFault) (said : Reason) → (said ≡ reason.ReadFault → ⊥)
+        → IsCase scene a b.log (refused fault) (asked.Head fault) said 0 bodies.Line []
+        → Answers reader before reader_after t.mid (answer.Refused fault) → HasCause before.read_faults t.mid.read_faults ⊥ → b ≡ a
+        → Replies (plain (asked.Head fault) said) (refused fault) true t.mid what after
+        → Turns scene last a v what b (wire_of after reader_after)
+    by_refusal fault said sound case_ reads cause keeps r =
+        refused_written scene last a b v t.mid reads.came grows reads.comes cause.later t.apart reader_after fault said sound
+        case_ reads.says.2 keeps what after r
+
+    by_answer : (given : HeadAnswer) → Answers reader before reader_after t.mid given
+        → HasCause before.read_faults t.mid.read_faults (IsTrue (has_failed given)) → Takes scene a given last t.mid what b after
+        → Turns scene last a v what b (wire_of after reader_after)
+    by_answer answer.Closed reads cause takes =
+        let closed = subst (λ (o : Bool). MatchBool o ((reads.came ≡ []) × (reader_after ≡ reader))
+        ((reader.held ++ reads.came ≡ []) × HasEnded t.mid.left × (reader_after.held ≡ []) × (reader_after.over ≡ false)))
+        open_ reads.says in
+        subst (λ (w : Turn). Turns scene last a v w b (wire_of after reader_after)) (sym takes.0)
+        (subst (λ (s : ShownStream). StopsOn scene last a v end.Closed b s) (sym takes.1)
+        (quiet scene last a b v t.mid reads.came grows reads.comes cause.later t.apart end.Closed takes.2
+        ((refl, refl), closed.0, closed.1)))
+    by_answer answer.ReadFault reads cause takes =
+        subst (λ (w : Turn). Turns scene last a v w b (wire_of after reader_after)) (sym takes.0)
+        (subst (λ (s : ShownStream). StopsOn scene last a v end.ReadFault b s) (sym takes.1)
+        (quiet scene last a b v t.mid reads.came grows reads.comes cause.later t.apart end.ReadFault takes.2
+        ((refl, refl), cause.rose refl)))
+    by_answer (answer.Refused (head_fault.Cut len)) reads cause takes =
+        let refusal = subst (λ (n : ℕ). Refuses (head_fault.Cut n) (reader.held ++ reads.came) t.mid.left) reads.says.2.0
+        reads.says.2 in
+        subst (λ (w : Turn). Turns scene last a v w b (wire_of after reader_after)) (sym takes.0.0)
+        (subst (λ (s : ShownStream). StopsOn scene last a v end.Cut b s) (sym takes.0.1)
+        (quiet scene last a b v t.mid reads.came grows reads.comes cause.later t.apart end.Cut takes.1 ((refl, refl), refusal)))
+    by_answer (answer.Refused (head_fault.Bad len)) reads cause takes =
+        by_refusal (head_fault.Bad len) reason.BadHead (λ e. absurd (cc)) (bad_head len refl) reads
+        (record { later = cause.later; rose = λ f. absurd f }) takes.1 takes.0
+    by_answer (answer.Refused head_fault.TooLong) reads cause takes =
+        by_refusal head_fault.TooLong reason.TooLarge (λ e. absurd (cc)) (too_long refl) reads
+        (record { later = cause.later; rose = λ f. absurd f }) takes.1 takes.0
+    by_answer (answer.Refused head_fault.TooMany) reads cause takes =
+        by_refusal head_fault.TooMany reason.TooLarge (λ e. absurd (cc)) (too_many refl) reads
+        (record { later = cause.later; rose = λ f. absurd f }) takes.1 takes.0
+    by_answer (answer.Head head) reads cause takes =
+        let facts : HeadFacts = told_facts head in
+        let h : RequestHead = reads.says.2 in
+        let d = takes.decides in
+        let r = takes.replies in
+        let front : List ℕ = print_request h in
+        let x : Exchange = exchange_of (readable facts) front takes.decided r.body r.file last d.answers b.log in
+        let is : IsExchange scene last a x = exchange_is scene a b.log (readable facts) front takes.decided r.body r.file last
+        d.answers d.is r.shows (record { head = h; valid = reads.says.3; says = facts_are head h reads.says.5; printed = refl }) in
+        head_written scene last a b v t.mid reads.came grows reads.comes cause.later t.apart reader_after x facts refl is refl
+        d.hears reads.says.4 reads.says.1 takes.decided (sent_len (sends_body (readable facts)) r.body) refl what after r.ends

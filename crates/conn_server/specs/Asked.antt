@@ -3,27 +3,36 @@
 use Rattle.std.specs.Prelude.{◌≡◌, ℕ, ◌||◌, Bool, true, false, not, List, codes, Ok, Err}
 use Rattle.std.specs.Str.{bytes_eq}
 use Rattle.httparse.specs.Grammar.{RequestHead}
-use Rattle.http_wire.specs.Fields.{closes, has_body}
+use Rattle.http_wire.specs.Fields.{closes, has_body, hops}
 use Rattle.http_wire.specs.declared.head.Head.{Head}
 use Rattle.http_wire.specs.declared.head.HeadFault.{HeadFault}
 use Rattle.webapi_routes.specs.Targets.{IsSaidBy}
+use Rattle.webapi_routes.specs.declared.route.Route.{Route}
 use Rattle.conn_server.specs.declared.report.Asked as declared
 use Rattle.conn_server.specs.declared.report.Asked.TheVariants as asked
 
--- what a reply to a head depends on: its method and target, whether it asks to close, and whether a body follows
+-- what a reply to a head depends on: its method and target, whether it asks to close, whether a body follows, and how many
+-- forwarders it has passed
 pub record HeadFacts : Type 0 where
   pub method : List ℕ
   pub target : List ℕ
   pub close : Bool
   pub body : Bool
+  pub hops : ℕ
 
 -- what a head of the grammar says
 abbrev pub head_facts : RequestHead → HeadFacts
-head_facts h = record { method = h.method; target = h.target; close = closes h; body = has_body h }
+head_facts h = record { method = h.method; target = h.target; close = closes h; body = has_body h; hops = hops h }
 
 -- what is told of a head
 abbrev pub told_facts : Head → HeadFacts
-told_facts head = record { method = head.method.now; target = head.target.now; close = head.close; body = head.has_body }
+told_facts head = record {
+  method = head.method.now;
+  target = head.target.now;
+  close = head.close;
+  body = head.has_body;
+  hops = head.hops;
+}
 
 -- a request: a head, or bytes that are none
 pub data Request : Type 0 where
@@ -42,6 +51,11 @@ is_served method = bytes_eq method (codes "GET") || is_head method
 pub record IsTaken (head : HeadFacts) : Type 0 where
   pub method : is_served head.method ≡ true
   pub no_body : head.body ≡ false
+
+-- the head asks for the route
+pub record AsksFor (head : HeadFacts) (route : Route) : Type 0 where
+  pub taken : IsTaken head
+  pub says : IsSaidBy head.target (Ok route)
 
 -- what a request asks
 abbrev pub IsAsked : Request → declared.Asked → Type 0

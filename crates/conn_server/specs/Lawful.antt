@@ -1,9 +1,10 @@
--- The lawful reply (this project's rule): for what is asked, why it may be answered so. A line is a case, in the order in
--- which they are looked for; a later route adds its lines.
-use Rattle.std.specs.Prelude.{◌≡◌, ℕ, Bool, List, [], length, Option, Some, None, if◌then◌else◌}
+-- The lawful reply (this project's rule): a case of the table, told and spelled so. Below it stands what follows of every case.
+use Rattle.std.specs.Prelude.{◌≡◌, ℕ, Bool, List, [], length, Option, Some, if◌then◌else◌}
 use Rattle.answer_check.specs.Certified.{IsCertified}
+use Rattle.index_rows.specs.declared.change.Change.{Change}
 use Rattle.row_types.specs.declared.identity.Kind.{Kind}
 use Rattle.row_types.specs.declared.identity.Kind.TheVariants as kind
+use Rattle.tree_trait.specs.Heard.{Heard}
 use Rattle.webapi_routes.specs.declared.fault.RouteFault.TheVariants as route_fault
 use Rattle.webapi_routes.specs.declared.route.Route.TheVariants as route
 use Rattle.http_wire.specs.declared.head.HeadFault.TheVariants as head_fault
@@ -11,29 +12,49 @@ use Rattle.file_formats.specs.Table.{IsSectionAnswer}
 use Rattle.answer_core.specs.Local.{IsLocal, Sight}
 use Rattle.answer_core.specs.declared.local.Local.{Local}
 use Rattle.answer_core.specs.declared.local.Local.TheVariants as local
-use Rattle.conn_server.specs.Asked.{IsAsked, Request, closes_after, sends_body}
+use Rattle.conn_server.specs.Asked.{Request, closes_after, sends_body}
+use Rattle.conn_server.specs.Cases.{IsCase, IsPassed, generation_of}
 use Rattle.conn_server.specs.Replies.{Shows, bytes_of, status_of}
+use Rattle.conn_server.specs.Scene.{Scene, Stand}
+use Rattle.conn_server.specs.declared.decide.Body.{Body}
+use Rattle.conn_server.specs.declared.decide.Body.TheVariants as bodies
 use Rattle.conn_server.specs.declared.reason.Reason.{Reason}
 use Rattle.conn_server.specs.declared.reason.Reason.TheVariants as reason
 use Rattle.conn_server.specs.declared.report.Asked as declared
 use Rattle.conn_server.specs.declared.report.Asked.TheVariants as asked
 use Rattle.conn_server.specs.declared.report.Served.{Served}
 
--- a candidate passed
-abbrev pub IsPassed : Local → Type 0
-IsPassed (local.File from path generation) = Unit {0}
-IsPassed (local.Section from path generation) = Unit {0}
-IsPassed (local.Source bytes path generation) = Unit {0}
-IsPassed _ = ⊥
+-- a file of the id, of some class, has the body as the section of this name
+pub record IsSectionOfFile (id name file body : List ℕ) : Type 0 where
+  pub class : Kind
+  pub certified : IsCertified class id file
+  pub section : IsSectionAnswer file name (Some body)
 
--- the generation of an answer
-abbrev pub generation_of : Local → ℕ
-generation_of (local.File from path generation) = generation
-generation_of (local.Section from path generation) = generation
-generation_of (local.Source bytes path generation) = generation
-generation_of (local.Nothing generation) = generation
-generation_of (local.Fault generation) = generation
-generation_of local.OutOfMemory = 0
+-- what the body of a file is certified for: a file for the id and the class that are asked, a section as that of a file of
+-- the id
+abbrev pub Carries : declared.Asked → List ℕ → Type 0
+Carries (asked.Route (route.Debuginfo id)) body = IsCertified kind.Debuginfo id body
+Carries (asked.Route (route.Executable id)) body = IsCertified kind.Executable id body
+Carries (asked.Route (route.Section id name)) body = (file : List ℕ) × IsSectionOfFile id name file body
+Carries _ _ = Unit {0}
+
+-- what is told of a request and its reply, in whole
+pub record IsReplied (request : Request) (last : Bool) (served : Served) (bytes : List ℕ) (carried : Body) : Type 0 where
+  pub body : List ℕ
+  pub file : Option (List ℕ)
+  pub shows : Shows served.reason carried body file
+  pub carries : served.reason ≡ reason.Local → Carries served.asked body
+  pub status : served.status ≡ status_of served.reason
+  pub len : served.len ≡ (if sends_body request then length body else 0)
+  pub spelled : bytes ≡ bytes_of served.reason body file (closes_after request last) (sends_body request)
+
+-- the reply to a request is lawful: a case of the table, by the hand as it stood and by what it was asked and answered
+pub record IsLawful
+    {T : Type 0} (scene : Scene T) (at : Stand T) (log : List Change) (answers : List Heard) (request : Request) (last : Bool)
+    (served : Served) (bytes : List ℕ) : Type 0 where
+  pub carried : Body
+  pub is : IsCase scene at log request served.asked served.reason served.gen_ carried answers
+  pub replied : IsReplied request last served bytes carried
 
 -- the local answer to a route is this one, by what was seen and heard; where no route is asked the hand isn't either
 abbrev pub RestsOn : Sight → declared.Asked → Local → Type 0
@@ -72,39 +93,12 @@ pub record EarnsPassed (what : declared.Asked) (answer : Local) (why : Reason) (
   pub at : n ≡ generation_of passed
 
 -- a reply is earned: a text, or what passed
-abbrev pub Earns : declared.Asked → Local → Reason → Option Local → ℕ → Type 0
-Earns what answer why None n = EarnsText what answer why n
-Earns what answer why (Some passed) n = EarnsPassed what answer why passed n
+abbrev pub Earns : declared.Asked → Local → Reason → Body → ℕ → Type 0
+Earns what answer why bodies.Line n = EarnsText what answer why n
+Earns what answer why (bodies.Found passed) n = EarnsPassed what answer why passed n
 
--- a file of the id, of some class, has the body as the section of this name
-pub record IsSectionOfFile (id name file body : List ℕ) : Type 0 where
-  pub class : Kind
-  pub certified : IsCertified class id file
-  pub section : IsSectionAnswer file name (Some body)
-
--- what the body of a file is certified for: a file for the id and the class that are asked, a section as that of a file of
--- the id
-abbrev pub Carries : declared.Asked → List ℕ → Type 0
-Carries (asked.Route (route.Debuginfo id)) body = IsCertified kind.Debuginfo id body
-Carries (asked.Route (route.Executable id)) body = IsCertified kind.Executable id body
-Carries (asked.Route (route.Section id name)) body = (file : List ℕ) × IsSectionOfFile id name file body
-Carries _ _ = Unit {0}
-
--- what is told of a request and its reply, in whole
-pub record IsReplied (request : Request) (last : Bool) (served : Served) (bytes : List ℕ) (found : Option Local) : Type 0 where
-  pub body : List ℕ
-  pub file : Option (List ℕ)
-  pub shows : Shows served.reason found body file
-  pub carries : served.reason ≡ reason.Local → Carries served.asked body
-  pub status : served.status ≡ status_of served.reason
-  pub len : served.len ≡ (if sends_body request then length body else 0)
-  pub spelled : bytes ≡ bytes_of served.reason body file (closes_after request last) (sends_body request)
-
--- the reply to a request is lawful: it was asked so, and what was heard and seen earns the reply
-pub record IsLawful (sight : Sight) (request : Request) (last : Bool) (served : Served) (bytes : List ℕ) : Type 0 where
-  pub asked : IsAsked request served.asked
+-- what is decided rests on a local answer, which earns it
+pub record IsEarned (sight : Sight) (what : declared.Asked) (why : Reason) (carried : Body) (n : ℕ) : Type 0 where
   pub answer : Local
-  pub rests : RestsOn sight served.asked answer
-  pub found : Option Local
-  pub earns : Earns served.asked answer served.reason found served.gen_
-  pub replied : IsReplied request last served bytes found
+  pub rests : RestsOn sight what answer
+  pub earns : Earns what answer why carried n

@@ -9,10 +9,13 @@ pub use Rattle.answer_core.specs.Complete
 pub use Rattle.answer_core.specs.Local
 pub use Rattle.webapi_routes.specs.Targets
 pub mod Asked
+pub mod Cases
 pub mod Connection
 pub mod Decided
+pub mod Exchange
 pub mod Lawful
 pub mod PassedOver
 pub mod Replies
+pub mod Scene
 pub mod Sent
 pub mod Turns

@@ -9,6 +9,8 @@ use Rattle.webapi_routes.specs.declared.fault.RouteFault.{RouteFault}
 use Rattle.webapi_routes.specs.declared.fault.RouteFault.TheVariants as route_fault
 use Rattle.answer_core.specs.declared.local.Local.{Local}
 use Rattle.answer_core.specs.declared.local.Local.TheVariants as local
+use Rattle.conn_server.specs.declared.decide.Body.{Body}
+use Rattle.conn_server.specs.declared.decide.Body.TheVariants as bodies
 use Rattle.conn_server.specs.declared.reason.Reason.{Reason}
 use Rattle.conn_server.specs.declared.reason.Reason.TheVariants as reason
 
@@ -62,25 +64,25 @@ reason_of_head head_fault.TooLong = Some reason.TooLarge
 reason_of_head head_fault.TooMany = Some reason.TooLarge
 reason_of_head (head_fault.Cut len) = None
 
--- the body of a reply, and the path that it is told to come from: a text without one; or what passed
-abbrev pub Shows : Reason → Option Local → List ℕ → Option (List ℕ) → Type 0
-Shows why None body file = (body ≡ text_of why) × (file ≡ None)
-Shows why (Some (local.File from path generation)) body file = (body ≡ from.bytes) × (file ≡ Some path)
-Shows why (Some (local.Section from path generation)) body file =
-    IsSectionAnswer from.file.bytes from.name (Some body) × (file ≡ Some path)
-Shows why (Some (local.Source bytes path generation)) body file = (body ≡ bytes.items) × (file ≡ Some path)
-Shows why (Some _) body file = ⊥
+-- the bytes of what a reply carries, and the path that it is told to come from: a line of text without one; or what passed
+abbrev pub Shows : Reason → Body → List ℕ → Option (List ℕ) → Type 0
+Shows why bodies.Line bytes file = (bytes ≡ text_of why) × (file ≡ None)
+Shows why (bodies.Found (local.File from path generation)) bytes file = (bytes ≡ from.bytes) × (file ≡ Some path)
+Shows why (bodies.Found (local.Section from path generation)) bytes file =
+    IsSectionAnswer from.file.bytes from.name (Some bytes) × (file ≡ Some path)
+Shows why (bodies.Found (local.Source source path generation)) bytes file = (bytes ≡ source.items) × (file ≡ Some path)
+Shows why (bodies.Found _) bytes file = ⊥
 
--- whether the body is a text
-abbrev pub is_text : Option (List ℕ) → Bool
-is_text None = true
-is_text (Some path) = false
+-- whether the reply of a reason is a text
+abbrev pub is_text : Reason → Bool
+is_text reason.Local = false
+is_text _ = true
 
 -- the head of a reply
 abbrev pub head_of : Reason → List ℕ → Option (List ℕ) → Bool → ReplyHead
 head_of why body file close = record {
   status = status_of why;
-  text = is_text file;
+  text = is_text why;
   len = length body;
   file = file;
   close = close;

@@ -1,16 +1,16 @@
 -- Writing a reply (this project's rule): all its bytes were written, or a write failed, or there was no memory.
-use Rattle.std.specs.Prelude.{◌≡◌, ℕ, Bool, List, length, Option, Some, None, Result, Ok, Err, if◌then◌else◌}
+use Rattle.std.specs.Prelude.{◌≡◌, ℕ, Bool, List, length, Option, Result, Ok, Err, if◌then◌else◌}
 use Rattle.http_wire.specs.ReplyFault.{FailsReply}
 use Rattle.http_wire.specs.Sink.{GetsAll}
 use Rattle.http_wire.specs.Stream.{ShownStream}
 use Rattle.http_wire.specs.declared.reply.ReplyFault.{ReplyFault}
-use Rattle.answer_core.specs.declared.local.Local.{Local}
-use Rattle.conn_server.specs.Lawful.{IsPassed}
-use Rattle.conn_server.specs.Replies.{Shows, bytes_of, status_of, text_of}
+use Rattle.conn_server.specs.Cases.{IsPassed}
+use Rattle.conn_server.specs.Replies.{Shows, bytes_of, status_of}
+use Rattle.conn_server.specs.declared.decide.Body.{Body}
+use Rattle.conn_server.specs.declared.decide.Body.TheVariants as bodies
 use Rattle.conn_server.specs.declared.decide.Decided.{Decided}
 use Rattle.conn_server.specs.declared.report.Asked as declared
 use Rattle.conn_server.specs.declared.reason.Reason.{Reason}
-use Rattle.conn_server.specs.declared.reason.Reason.TheVariants as reason
 use Rattle.conn_server.specs.declared.report.Served.{Served}
 
 -- how many bytes of a body are written
@@ -22,31 +22,28 @@ abbrev pub Writes : List ℕ → ℕ → ShownStream → ShownStream → Result 
 Writes bytes len before after (Ok n) = GetsAll bytes before after × (n ≡ len)
 Writes bytes len before after (Err fault) = FailsReply fault bytes before after
 
--- a text is written
-abbrev pub SendsText : Reason → Bool → Bool → ShownStream → ShownStream → Result ℕ ReplyFault → Type 0
-SendsText why close with_body before after result =
-    Writes (bytes_of why (text_of why) None close with_body) (sent_len with_body (text_of why)) before after result
+-- the bytes of a body are written as the reply of a reason, told to come from this path
+abbrev pub SendsBytes : Reason → List ℕ → Option (List ℕ) → Bool → Bool → ShownStream → ShownStream → Result ℕ ReplyFault
+    → Type 0
+SendsBytes why body file close with_body before after result =
+    Writes (bytes_of why body file close with_body) (sent_len with_body body) before after result
 
--- the bytes of a file at a path are written
-abbrev pub SendsFile : List ℕ → List ℕ → Bool → Bool → ShownStream → ShownStream → Result ℕ ReplyFault → Type 0
-SendsFile body path close with_body before after result =
-    Writes (bytes_of reason.Local body (Some path) close with_body) (sent_len with_body body) before after result
-
--- what passed is written
-pub record SendsPassed
-    (passed : Local) (close with_body : Bool) (before after : ShownStream) (result : Result ℕ ReplyFault) : Type 0 where
+-- what a reply carries is written
+pub record SendsBody
+    (why : Reason) (carried : Body) (close with_body : Bool) (before after : ShownStream) (result : Result ℕ ReplyFault)
+    : Type 0 where
   pub body : List ℕ
   pub file : Option (List ℕ)
-  pub shows : Shows reason.Local (Some passed) body file
-  pub writes : Writes (bytes_of reason.Local body file close with_body) (sent_len with_body body) before after result
+  pub shows : Shows why carried body file
+  pub writes : SendsBytes why body file close with_body before after result
 
--- a reply can be written of what is decided
-abbrev pub HasPassed : Reason → Option Local → Type 0
-HasPassed why None = Unit {0}
-HasPassed why (Some passed) = (why ≡ reason.Local) × IsPassed passed
+-- a reply can be written of this
+abbrev pub CanCarry : Body → Type 0
+CanCarry bodies.Line = Unit {0}
+CanCarry (bodies.Found passed) = IsPassed passed
 
 abbrev pub CanSend : Decided → Type 0
-CanSend decided = HasPassed decided.reason decided.found
+CanSend decided = CanCarry decided.body
 
 -- what is told of a request whose reply has so many bytes of a body
 abbrev pub served_of : declared.Asked → Reason → ℕ → ℕ → Served
@@ -72,5 +69,5 @@ pub record Sends
     (decided : Decided) (close with_body : Bool) (before after : ShownStream) (result : Result Served ReplyFault) : Type 0 where
   pub body : List ℕ
   pub file : Option (List ℕ)
-  pub shows : Shows decided.reason decided.found body file
+  pub shows : Shows decided.reason decided.body body file
   pub tells : Tells decided (bytes_of decided.reason body file close with_body) (sent_len with_body body) before after result

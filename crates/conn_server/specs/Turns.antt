@@ -1,29 +1,32 @@
 -- One request of a connection (this project's rule): it is read, decided and answered.
-use Rattle.std.specs.Prelude.{◌≡◌, ℕ, Bool, true, false, List, [], Option, Some, None, IsTrue, if◌then◌else◌}
-use Rattle.row_types.specs.Row.{RowFacts}
-use Rattle.index_rows.specs.declared.change.Change.{Change}
-use Rattle.row_types.specs.Faults.{HasCause}
-use Rattle.tree_trait.specs.Shown.{ShownTree}
+use Rattle.std.specs.Prelude.{◌≡◌, ℕ, Bool, true, false, List, [], Option, Some, None, IsTrue, take, if◌then◌else◌, length, ◌<◌}
+use Rattle.row_types.specs.Faults.{HasCause, Rose}
+use Rattle.http_wire.specs.Heads.{Refuses}
 use Rattle.http_wire.specs.ReplyFault.{FailsReply}
 use Rattle.http_wire.specs.Reader.{Answers, has_failed}
 use Rattle.http_wire.specs.ReaderFacts.{ReaderFacts}
 use Rattle.http_wire.specs.Sink.{GetsAll}
+use Rattle.http_wire.specs.Source.{HasEnded}
 use Rattle.http_wire.specs.Stream.{ShownStream, LeavesWriting}
 use Rattle.http_wire.specs.declared.head.HeadAnswer.{HeadAnswer}
 use Rattle.http_wire.specs.declared.head.HeadAnswer.TheVariants as answer
 use Rattle.http_wire.specs.declared.head.HeadFault.{HeadFault}
+use Rattle.http_wire.specs.declared.head.HeadFault.TheVariants.{Cut}
 use Rattle.http_wire.specs.declared.reply.ReplyFault.{ReplyFault}
 use Rattle.http_wire.specs.declared.reply.ReplyFault.TheVariants as reply_fault
-use Rattle.answer_core.specs.Loads.{Hand, Hears}
+use Rattle.tree_trait.specs.Heard.{Heard}
 use Rattle.conn_server.specs.Asked.{HeadFacts, Request, closes_after, readable, refused, sends_body, told_facts}
 use Rattle.conn_server.specs.Decided.{Decides, plain}
+use Rattle.conn_server.specs.Exchange.{Exchange, IsDue, IsExchange, IsPart, Leads, Leaves, Moves, NoMore}
 use Rattle.conn_server.specs.Replies.{Shows, bytes_of, reason_of_head}
+use Rattle.conn_server.specs.Scene.{Scene, Stand, Wire}
 use Rattle.conn_server.specs.Sent.{sent_len, served_as}
 use Rattle.conn_server.specs.declared.decide.Decided.{Decided}
 use Rattle.conn_server.specs.declared.reason.Reason.{Reason}
 use Rattle.conn_server.specs.declared.report.Asked.TheVariants as asked
 use Rattle.conn_server.specs.declared.report.ConnEnd.{ConnEnd}
 use Rattle.conn_server.specs.declared.report.ConnEnd.TheVariants as end
+use Rattle.conn_server.specs.declared.report.Served.{Served}
 use Rattle.conn_server.specs.declared.turn.Turn.{Turn}
 use Rattle.conn_server.specs.declared.turn.Turn.TheVariants as turn
 
@@ -57,7 +60,7 @@ pub record Replies
     : Type 0 where
   pub body : List ℕ
   pub file : Option (List ℕ)
-  pub shows : Shows decided.reason decided.found body file
+  pub shows : Shows decided.reason decided.body body file
   pub ends : Writing decided request last (bytes_of decided.reason body file (closes_after request last) (sends_body request))
       (sent_len (sends_body request) body) before what after
 
@@ -70,34 +73,94 @@ RefusesFor (Some why) fault before what after =
 abbrev pub RefusesHead : HeadFault → ShownStream → Turn → ShownStream → Type 0
 RefusesHead fault before what after = RefusesFor (reason_of_head fault) fault before what after
 
+-- nothing was asked of the objects
+abbrev pub Keeps : {T : Type 0} → Stand T → Stand T → Type 0
+Keeps a b = b ≡ a
+
 -- a head was decided by what was seen and heard, and answered so
 pub record TakesHead
-    (true_row : RowFacts → Type 0) (log : List Change) (folders : List (List ℕ)) (hand : Hand) (head : HeadFacts)
-    (last : Bool) (before : ShownStream) (what : Turn) (after : ShownStream) (now : ShownTree) : Type 0 where
+    {T : Type 0} (scene : Scene T) (a : Stand T) (head : HeadFacts) (last : Bool) (before : ShownStream) (what : Turn)
+    (b : Stand T) (after : ShownStream) : Type 0 where
   pub decided : Decided
-  pub decides : Decides true_row log folders hand head decided now
+  pub decides : Decides scene a (readable head) decided b
   pub replies : Replies decided (readable head) last before what after
 
 -- what was read is answered
-abbrev pub Takes : (RowFacts → Type 0) → List Change → List (List ℕ) → Hand → HeadAnswer → Bool → ShownStream → Turn
-    → ShownStream → ShownTree → Type 0
-Takes true_row log folders hand (answer.Head head) last before what after now =
-    TakesHead true_row log folders hand (told_facts head) last before what after now
-Takes true_row log folders hand answer.Closed last before what after now =
-    (what ≡ turn.Ended end.Closed) × (after ≡ before) × Hears hand now [] ⊥
-Takes true_row log folders hand (answer.Refused fault) last before what after now =
-    RefusesHead fault before what after × Hears hand now [] ⊥
-Takes true_row log folders hand answer.ReadFault last before what after now =
-    (what ≡ turn.Ended end.ReadFault) × (after ≡ before) × Hears hand now [] ⊥
+abbrev pub Takes : {T : Type 0} → Scene T → Stand T → HeadAnswer → Bool → ShownStream → Turn → Stand T → ShownStream → Type 0
+Takes scene a (answer.Head head) last before what b after = TakesHead scene a (told_facts head) last before what b after
+Takes scene a answer.Closed last before what b after = (what ≡ turn.Ended end.Closed) × (after ≡ before) × Keeps a b
+Takes scene a (answer.Refused fault) last before what b after = RefusesHead fault before what after × Keeps a b
+Takes scene a answer.ReadFault last before what b after = (what ≡ turn.Ended end.ReadFault) × (after ≡ before) × Keeps a b
 
--- the next request is read and answered
+-- the next request is read, and what was read is answered
 pub record TakesNext
-    (true_row : RowFacts → Type 0) (log : List Change) (folders : List (List ℕ)) (hand : Hand) (reader : ReaderFacts)
-    (last : Bool) (before : ShownStream) (what : Turn) (reader_after : ReaderFacts) (after : ShownStream)
-    (now : ShownTree) : Type 0 where
+    {T : Type 0} (scene : Scene T) (a : Stand T) (reader : ReaderFacts) (last : Bool) (before : ShownStream) (what : Turn)
+    (b : Stand T) (reader_after : ReaderFacts) (after : ShownStream) : Type 0 where
   pub answer : HeadAnswer
   pub mid : ShownStream
   pub reads : Answers reader before reader_after mid answer
   pub cause : HasCause before.read_faults mid.read_faults (IsTrue (has_failed answer))
   pub apart : LeavesWriting before mid
-  pub takes : Takes true_row log folders hand answer last mid what after now
+  pub takes : Takes scene a answer last mid what b after
+
+-- a request was answered whole, and the connection ends behind it or goes on
+pub record Exchanges
+    {T : Type 0} (scene : Scene T) (last : Bool) (a : Stand T) (v : Wire) (served : Served) (closes : Bool) (b : Stand T)
+    (w : Wire) : Type 0 where
+  pub x : Exchange
+  pub told : x.served ≡ served
+  pub is : IsExchange scene last a x
+  pub leads : Leads scene x a b
+  pub moves : Moves x.front x.bytes v w
+  pub ends : closes_after x.request last ≡ closes
+
+-- how a connection ends behind a reply that closes, with its cause
+abbrev pub EndsBehind : Bool → Request → Wire → ConnEnd → Type 0
+EndsBehind last (readable head) w why = why ≡ end_of_head last
+EndsBehind last (refused fault) w why = (why ≡ end.Refused) × Refuses fault w.held w.stream.left
+
+-- why a connection ends without a further whole reply
+abbrev pub StopsFor : {T : Type 0} → Scene T → Bool → Stand T → Wire → List Heard → List ℕ → Stand T → Wire → ConnEnd → Type 0
+StopsFor scene last a v rest part b w end.Closed = NoMore rest part × (w.held ≡ []) × HasEnded w.stream.left
+StopsFor scene last a v rest part b w end.Cut = NoMore rest part × Refuses (Cut (length w.held)) w.held w.stream.left
+StopsFor scene last a v rest part b w end.ReadFault = NoMore rest part × Rose v.stream.read_faults w.stream.read_faults
+StopsFor scene last a v rest part b w end.WriteFault =
+    IsPart scene last a rest part b.log w × Rose v.stream.write_faults w.stream.write_faults
+StopsFor scene last a v rest part b w end.OutOfMemory = (part ≡ []) × IsDue scene last a rest b.log w
+StopsFor scene last a v rest part b w _ = ⊥
+
+-- no further request was answered whole
+pub record Stops
+    {T : Type 0} (scene : Scene T) (last : Bool) (a : Stand T) (v : Wire) (why : ConnEnd) (b : Stand T) (w : Wire)
+    : Type 0 where
+  pub rest : List Heard
+  pub part : List ℕ
+  pub leaves : Leaves scene rest part a v b w
+  pub cause : StopsFor scene last a v rest part b w why
+
+-- the last reply of a connection
+pub record Closes
+    {T : Type 0} (scene : Scene T) (last : Bool) (a : Stand T) (v : Wire) (served : Served) (why : ConnEnd) (b : Stand T)
+    (w : Wire) : Type 0 where
+  pub one : Exchanges scene last a v served true b w
+  pub cause : EndsBehind last one.x.request w why
+
+-- a reply behind which the connection goes on
+pub record GoesOn
+    {T : Type 0} (scene : Scene T) (last : Bool) (a : Stand T) (v : Wire) (served : Served) (b : Stand T) (w : Wire)
+    : Type 0 where
+  pub one : Exchanges scene last a v served false b w
+  pub open_ : w.over ≡ false
+
+-- the same, of the stream alone: some bytes may be held of it
+abbrev pub ClosesOn : {T : Type 0} → Scene T → Bool → Stand T → Wire → Served → ConnEnd → Stand T → ShownStream → Type 0
+ClosesOn scene last a v served why b after = (w : Wire) × (w.stream ≡ after) × Closes scene last a v served why b w
+
+abbrev pub StopsOn : {T : Type 0} → Scene T → Bool → Stand T → Wire → ConnEnd → Stand T → ShownStream → Type 0
+StopsOn scene last a v why b after = (w : Wire) × (w.stream ≡ after) × Stops scene last a v why b w
+
+-- what came of the next request
+abbrev pub Turns : {T : Type 0} → Scene T → Bool → Stand T → Wire → Turn → Stand T → Wire → Type 0
+Turns scene last a v (turn.Replied served) b w = GoesOn scene last a v served b w
+Turns scene last a v (turn.Last served why) b w = ClosesOn scene last a v served why b w.stream
+Turns scene last a v (turn.Ended why) b w = StopsOn scene last a v why b w.stream

@@ -3,8 +3,10 @@
 ghost use Rattle.std.specs.Prelude.{◌≡◌, ◌≤◌, [], false, vec_capacity};
 ghost use Rattle.index_lock.specs.Tokens.{IsLater};
 ghost use Rattle.conn_server.specs.Connection.{Serves};
+ghost use Rattle.conn_server.specs.Scene.{scene_of, stand_of};
 
 use crate::report::{ConnEnd, ConnReport, Served};
+use crate::service::Service;
 use crate::turn::{Turn, next_turn};
 use http_wire::{HeadReader, Sink, Source};
 use index_keeper::Keeper;
@@ -42,18 +44,20 @@ pub fn serve_connection<
 ) -> (Seat<State<W, K>>, ConnReport)
     requires { seat.lock ≡ lock.now }
     ensures later { IsLater seat result.0 }
-    ensures serves { Serves W.true_row folders.now
-        (record { told = T.told; version = W.version; start = T.shows hand.old })
-        seat.seen (N.shows conn.old) result.1 result.0.seen (N.shows conn.new)
-        (T.shows hand.new) }
+    ensures serves { Serves (scene_of W.true_row T.told W.version T.shows folders.now)
+        (stand_of seat.seen hand.old) (N.shows conn.old) result.1
+        (stand_of result.0.seen hand.new) (N.shows conn.new) }
     ensures requests { REQUESTS ≡ 100 }
 {
+    let service = Service {
+        rt,
+        alloc,
+        folders,
+        number,
+        gate,
+    };
     match (Vec::with_capacity(alloc, REQUESTS), HeadReader::new(alloc)) {
-        (Ok(served), Ok(reader)) => {
-            serve_all(
-                rt, alloc, lock, seat, hand, folders, reader, conn, number, gate, served,
-            )
-        }
+        (Ok(served), Ok(reader)) => serve_all(&service, lock, seat, hand, reader, conn, served),
         _ => (
             seat,
             ConnReport {
@@ -66,16 +70,12 @@ pub fn serve_connection<
 
 /// Answers the requests into the room that was made.
 fn serve_all<W: Truth, K: Keeper<W>, T: Tree<W>, N: Source + Sink, G: Gate, R: Wait + Sync>(
-    rt: &R,
-    alloc: Global,
+    service: &Service<'_, G, R>,
     lock: &TurnLock<State<W, K>>,
     seat: Seat<State<W, K>>,
     hand: &mut T,
-    folders: &[CanonPath],
     reader: HeadReader,
     conn: &mut N,
-    number: u64,
-    gate: &G,
     served: Vec<Served>,
 ) -> (Seat<State<W, K>>, ConnReport)
     requires seat { seat.lock ≡ lock.now }
@@ -83,37 +83,25 @@ fn serve_all<W: Truth, K: Keeper<W>, T: Tree<W>, N: Source + Sink, G: Gate, R: W
     requires none { served.items ≡ [] }
     requires room { REQUESTS ≤ vec_capacity served }
     ensures later { IsLater seat result.0 }
-    ensures serves { Serves W.true_row folders.now
-        (record { told = T.told; version = W.version; start = T.shows hand.old })
-        seat.seen (N.shows conn.old) result.1 result.0.seen (N.shows conn.new)
-        (T.shows hand.new) }
+    ensures serves { Serves (scene_of W.true_row T.told W.version T.shows service.now.folders.now)
+        (stand_of seat.seen hand.old) (N.shows conn.old) result.1
+        (stand_of result.0.seen hand.new) (N.shows conn.new) }
 {
+    let (rt, gate) = (service.rt, service.gate);
     let mut seat = seat;
     let mut reader = reader;
     let mut served = served;
     loop {
         let last = served.len() + 1 == REQUESTS;
-        let (next, turn) = next_turn(
-            rt,
-            alloc,
-            lock,
-            seat,
-            hand,
-            folders,
-            &mut reader,
-            conn,
-            last,
-            number,
-            gate,
-        );
+        let (next, turn) = next_turn(service, lock, seat, hand, &mut reader, conn, last);
         seat = next;
         match turn {
             Turn::Replied(entry) => {
-                gate.at(rt, &Point::Answered(number));
+                gate.at(rt, &Point::Answered(service.number));
                 served.push_reserved(entry);
             }
             Turn::Last(entry, end) => {
-                gate.at(rt, &Point::Answered(number));
+                gate.at(rt, &Point::Answered(service.number));
                 served.push_reserved(entry);
                 return (seat, ConnReport { served, end });
             }

@@ -8,6 +8,7 @@ mod method;
 mod reason;
 mod report;
 mod send;
+mod service;
 mod turn;
 
 pub use connection::{REQUESTS, serve_connection};

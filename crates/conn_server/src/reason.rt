@@ -2,7 +2,8 @@
 
 ghost use Rattle.std.specs.Prelude.{◌≡◌};
 ghost use Rattle.http_wire.specs.Reply.{IsStatus};
-ghost use Rattle.conn_server.specs.Replies.{reason_of_head, reason_of_route, status_of, text_of};
+ghost use Rattle.conn_server.specs.Replies.{is_text, reason_of_head, reason_of_route, status_of};
+ghost use Rattle.conn_server.specs.Replies.{text_of};
 
 use http_wire::HeadFault;
 use webapi_routes::RouteFault;
@@ -51,6 +52,16 @@ impl Reason {
             Reason::TooLarge => 431,
             Reason::ReadFault => 503,
             Reason::OutOfMemory => 507,
+        }
+    }
+
+    /// Whether the body of the reply is a text.
+    pub(crate) fn is_text(self) -> bool
+        ensures { result ≡ is_text self }
+    {
+        match self {
+            Reason::Local => false,
+            _ => true,
         }
     }
 

@@ -1,12 +1,11 @@
 //! Writing the reply to what was decided.
 
-ghost use Rattle.conn_server.specs.Sent.{CanSend, Sends, SendsFile, SendsPassed, SendsText};
-ghost use Rattle.conn_server.specs.Sent.{told_of};
-ghost use Rattle.conn_server.specs.Lawful.{IsPassed};
-ghost use Rattle.conn_server.specs.declared.reason.Reason.TheVariants as reason;
+ghost use Rattle.conn_server.specs.Sent.{CanCarry, CanSend, Sends, SendsBody, SendsBytes, told_of};
+ghost use Rattle.conn_server.specs.Cases.{IsPassed};
+ghost use Rattle.conn_server.specs.declared.decide.Body.TheVariants as bodies;
 ghost use Rattle.std.specs.Prelude.{◌≡◌};
 
-use crate::decide::Decided;
+use crate::decide::{Body, Decided};
 use crate::reason::Reason;
 use crate::report::{Asked, Served};
 use answer_core::Local;
@@ -29,18 +28,10 @@ pub(crate) fn send<N: Sink>(
         asked,
         reason,
         generation,
-        found,
+        body,
     } = decided;
-    match found {
-        None => {
-            let sent = send_text(alloc, conn, reason, close, with_body);
-            told(asked, reason, generation, sent)
-        }
-        Some(local) => {
-            let sent = send_passed(alloc, conn, local, close, with_body);
-            told(asked, reason, generation, sent)
-        }
-    }
+    let sent = send_body(alloc, conn, reason, body, close, with_body);
+    told(asked, reason, generation, sent)
 }
 
 /// What is told of a request whose reply was written.
@@ -62,70 +53,70 @@ fn told(
     })
 }
 
-/// Writes a reply that is a text. Gives how many bytes of its body were written.
-fn send_text<N: Sink>(
+/// Writes what a reply carries. Gives how many bytes of its body were written.
+fn send_body<N: Sink>(
     alloc: Global,
     conn: &mut N,
     why: Reason,
+    body: Body,
     close: bool,
     with_body: bool,
 ) -> Result<u64, ReplyFault>
-    ensures { SendsText why close with_body (N.shows conn.old) (N.shows conn.new) result }
+    requires { CanCarry body }
+    ensures { SendsBody why body close with_body (N.shows conn.old) (N.shows conn.new) result }
 {
-    let body = why.text();
-    let head = ReplyHead {
-        status: why.status(),
-        text: true,
-        len: body.len() as u64,
-        file: None,
-        close,
-    };
-    write_reply(alloc, conn, &head, body, with_body)?;
-    Ok(if with_body { head.len } else { 0 })
+    match body {
+        Body::Line => send_bytes(alloc, conn, why, why.text(), None, close, with_body),
+        Body::Found(local) => send_found(alloc, conn, why, local, close, with_body),
+    }
 }
 
 /// Writes what passed. Gives how many bytes of it were written.
-fn send_passed<N: Sink>(
+fn send_found<N: Sink>(
     alloc: Global,
     conn: &mut N,
+    why: Reason,
     local: Local,
     close: bool,
     with_body: bool,
 ) -> Result<u64, ReplyFault>
     requires { IsPassed local }
-    ensures { SendsPassed local close with_body (N.shows conn.old) (N.shows conn.new) result }
+    ensures { SendsBody why (bodies.Found local) close with_body (N.shows conn.old)
+        (N.shows conn.new) result }
 {
     match local {
         Local::File { from, path, .. } => {
-            send_file(alloc, conn, from.bytes(), path, close, with_body)
+            send_bytes(alloc, conn, why, from.bytes(), Some(path), close, with_body)
         }
         Local::Section { from, path, .. } => {
             let part = from.bytes();
-            send_file(alloc, conn, part, path, close, with_body)
+            send_bytes(alloc, conn, why, part, Some(path), close, with_body)
         }
         Local::Source { bytes, path, .. } => {
-            send_file(alloc, conn, bytes.as_slice(), path, close, with_body)
+            send_bytes(alloc, conn, why, bytes.as_slice(), Some(path), close, with_body)
         }
         Local::Nothing { .. } | Local::Fault { .. } | Local::OutOfMemory => unreachable!(),
     }
 }
 
-/// Writes a file's bytes, or a part of them. Gives how many were written.
-fn send_file<N: Sink>(
+/// Writes a reply with these bytes of a body. Gives how many of them were written.
+fn send_bytes<N: Sink>(
     alloc: Global,
     conn: &mut N,
+    why: Reason,
     body: &[u8],
-    path: CanonPath,
+    file: Option<CanonPath>,
     close: bool,
     with_body: bool,
 ) -> Result<u64, ReplyFault>
-    ensures { SendsFile body.now path close with_body (N.shows conn.old) (N.shows conn.new) result }
+    ensures { SendsBytes why body.now file close with_body (N.shows conn.old) (N.shows conn.new)
+        result }
 {
     let head = ReplyHead {
-        status: Reason::Local.status(),
-        text: false,
+        status: why.status(),
+        text: why.is_text(),
         len: body.len() as u64,
-        file: Some(path),
+        file,
         close,
     };
     write_reply(alloc, conn, &head, body, with_body)?;

@@ -1,10 +1,11 @@
 //! One request of a connection.
 
-ghost use Rattle.std.specs.Prelude.{◌≡◌};
+ghost use Rattle.std.specs.Prelude.{◌≡◌, false};
 ghost use Rattle.index_lock.specs.Tokens.{IsLater};
 ghost use Rattle.conn_server.specs.Asked.{readable, told_facts};
+ghost use Rattle.conn_server.specs.Scene.{scene_of, stand_of, wire_of};
 ghost use Rattle.conn_server.specs.Sent.{CanSend};
-ghost use Rattle.conn_server.specs.Turns.{RefusesHead, Replies, Takes, TakesNext, end_of};
+ghost use Rattle.conn_server.specs.Turns.{RefusesHead, Replies, Takes, TakesNext, Turns, end_of};
 ghost use Rattle.conn_server.specs.Turns.{end_of_head};
 
 use crate::decide::{Decided, decide, plain};
@@ -12,11 +13,12 @@ use crate::method::is_head;
 use crate::reason::reason_of_head;
 use crate::report::{Asked, ConnEnd, Served};
 use crate::send::send;
+use crate::service::Service;
 use http_wire::{Head, HeadAnswer, HeadFault, HeadReader, ReplyFault, Sink, Source};
 use index_keeper::Keeper;
 use index_lock::{Seat, TurnLock};
 use index_state::State;
-use row_types::{CanonPath, Truth};
+use row_types::Truth;
 use std::alloc::Global;
 use std::sync::Wait;
 use tree_trait::{Gate, Tree};
@@ -42,59 +44,68 @@ pub(crate) fn next_turn<
     G: Gate,
     R: Wait + Sync,
 >(
-    rt: &R,
-    alloc: Global,
+    service: &Service<'_, G, R>,
     lock: &TurnLock<State<W, K>>,
     seat: Seat<State<W, K>>,
     hand: &mut T,
-    folders: &[CanonPath],
     reader: &mut HeadReader,
     conn: &mut N,
     last: bool,
-    number: u64,
-    gate: &G,
 ) -> (Seat<State<W, K>>, Turn)
-    requires { seat.lock ≡ lock.now }
+    requires lock { seat.lock ≡ lock.now }
+    requires open { reader.old.over ≡ false }
     ensures later { IsLater seat result.0 }
-    ensures turn { TakesNext W.true_row result.0.seen folders.now
-        (record { told = T.told; version = W.version; start = T.shows hand.old })
-        reader.old last (N.shows conn.old) result.1 reader.new (N.shows conn.new)
-        (T.shows hand.new) }
+    ensures turn { Turns (scene_of W.true_row T.told W.version T.shows service.now.folders.now) last
+        (stand_of seat.seen hand.old) (wire_of (N.shows conn.old) reader.old) result.1
+        (stand_of result.0.seen hand.new) (wire_of (N.shows conn.new) reader.new) }
 {
-    let answer = reader.next(conn);
-    take_turn(
-        rt, alloc, lock, seat, hand, folders, &answer, conn, last, number, gate,
-    )
+    // The call is made for its clause: what is read and what is done about it are told apart there.
+    read_turn(service, lock, seat, hand, reader, conn, last)
 }
 
-/// Answers what was read.
-#[tactic(auto, using(crate::proofs::DecideLemmas::can_send))]
-fn take_turn<W: Truth, K: Keeper<W>, T: Tree<W>, N: Sink, G: Gate, R: Wait + Sync>(
-    rt: &R,
-    alloc: Global,
+/// Reads the next request, and answers what was read.
+fn read_turn<W: Truth, K: Keeper<W>, T: Tree<W>, N: Source + Sink, G: Gate, R: Wait + Sync>(
+    service: &Service<'_, G, R>,
     lock: &TurnLock<State<W, K>>,
     seat: Seat<State<W, K>>,
     hand: &mut T,
-    folders: &[CanonPath],
-    answer: &HeadAnswer<'_>,
+    reader: &mut HeadReader,
     conn: &mut N,
     last: bool,
-    number: u64,
-    gate: &G,
 ) -> (Seat<State<W, K>>, Turn)
     requires { seat.lock ≡ lock.now }
     ensures later { IsLater seat result.0 }
-    ensures turn { Takes W.true_row result.0.seen folders.now
-        (record { told = T.told; version = W.version; start = T.shows hand.old })
-        answer.now last (N.shows conn.old) result.1 (N.shows conn.new) (T.shows hand.new) }
+    ensures turn { TakesNext (scene_of W.true_row T.told W.version T.shows service.now.folders.now)
+        (stand_of seat.seen hand.old) reader.old last (N.shows conn.old) result.1
+        (stand_of result.0.seen hand.new) reader.new (N.shows conn.new) }
+{
+    let answer = reader.next(conn);
+    take_turn(service, lock, seat, hand, &answer, conn, last)
+}
+
+/// Answers what was read.
+fn take_turn<W: Truth, K: Keeper<W>, T: Tree<W>, N: Sink, G: Gate, R: Wait + Sync>(
+    service: &Service<'_, G, R>,
+    lock: &TurnLock<State<W, K>>,
+    seat: Seat<State<W, K>>,
+    hand: &mut T,
+    answer: &HeadAnswer<'_>,
+    conn: &mut N,
+    last: bool,
+) -> (Seat<State<W, K>>, Turn)
+    requires { seat.lock ≡ lock.now }
+    ensures later { IsLater seat result.0 }
+    ensures turn { Takes (scene_of W.true_row T.told W.version T.shows service.now.folders.now)
+        (stand_of seat.seen hand.old) answer.now last (N.shows conn.old) result.1
+        (stand_of result.0.seen hand.new) (N.shows conn.new) }
 {
     match answer {
         HeadAnswer::Head(head) => {
-            let (seat, decided) = decide(rt, alloc, lock, seat, hand, folders, head, number, gate);
-            (seat, reply(alloc, conn, decided, head, last))
+            let (seat, decided) = decide(service, lock, seat, hand, head);
+            (seat, reply(service.alloc, conn, decided, head, last))
         }
         HeadAnswer::Closed => (seat, Turn::Ended(ConnEnd::Closed)),
-        HeadAnswer::Refused(fault) => (seat, refuse(alloc, conn, *fault)),
+        HeadAnswer::Refused(fault) => (seat, refuse(service.alloc, conn, *fault)),
         HeadAnswer::ReadFault => (seat, Turn::Ended(ConnEnd::ReadFault)),
     }
 }

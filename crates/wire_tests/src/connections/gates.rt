@@ -108,6 +108,20 @@ fn ask_for<G: Gate, R: Abort + Wait + Sync>(
     report.served.iter().filter(|served| served.status == 200).count()
 }
 
+/// Two tokens of one.
+fn cut(
+    lock: &TurnLock<Index<SampleWorld>>,
+    seat: Seat<Index<SampleWorld>>,
+) -> (Seat<Index<SampleWorld>>, Seat<Index<SampleWorld>>)
+    requires { seat.lock ≡ lock.now }
+    ensures { (result.0 ≡ seat) × (result.1 ≡ seat) }
+{
+    match lock.split(seat) {
+        Split::Two(first, second) => (first, second),
+        Split::OutOfMemory(_) => unreachable!(),
+    }
+}
+
 /// Two connections beside each other: the first asks for the tool, the second for the program.
 fn ask_beside<G: Gate, R: Abort + Threads + Wait + Sync>(
     rt: &R,
@@ -118,9 +132,7 @@ fn ask_beside<G: Gate, R: Abort + Threads + Wait + Sync>(
 ) -> (usize, usize)
     requires { seat.lock ≡ lock.now }
 {
-    let Split::Two(first, second) = lock.split(seat) else {
-        panic!(rt; "the token is cut");
-    };
+    let (first, second) = cut(lock, seat);
     let tool = "404142434445464748494a4b4c4d4e4f50515253";
     let prog = "202122232425262728292a2b2c2d2e2f30313233";
     join(
@@ -135,11 +147,10 @@ fn a_load_is_made_while_the_lock_is_free(rt: HostRuntime) {
     let alloc = rt.alloc();
     let tool = String::from_str(alloc, "/srv/bin/tool").expect(&rt, "memory");
     let gate = TurnGate::new(Hold::Loading(tool), Hold::Answered(2), 1_000_000);
-    let made = TurnLock::make(alloc, reference_index(&rt, alloc));
-    let Ok((lock, seat)) = made else {
-        panic!(rt; "there is memory");
+    let (first, second) = match TurnLock::make(alloc, reference_index(&rt, alloc)) {
+        Ok((lock, seat)) => ask_beside(&rt, alloc, &lock, seat, &gate),
+        Err(_) => panic!(rt; "there is memory"),
     };
-    let (first, second) = ask_beside(&rt, alloc, &lock, seat, &gate);
     assert!(rt; first == 1, "the tool");
     assert!(rt; second == 1, "the program");
     assert!(rt; gate.met(), "the second was answered while the first was held");

@@ -1,0 +1,73 @@
+-- The table of lawful replies (this project's rule): for what is asked, why it may be answered so. A constructor is a line, in
+-- the order in which they are looked for; a further case is one line more. `507` may stand for each reply from the route on.
+use Rattle.std.specs.Prelude.{◌≡◌, ℕ, true, false, List, [], Err}
+use Rattle.index_rows.specs.declared.change.Change.{Change}
+use Rattle.tree_trait.specs.Heard.{Heard}
+use Rattle.http_wire.specs.declared.head.HeadFault.TheVariants as head_fault
+use Rattle.webapi_routes.specs.Targets.{IsSaidBy}
+use Rattle.webapi_routes.specs.declared.fault.RouteFault.{RouteFault}
+use Rattle.webapi_routes.specs.declared.route.Route.{Route}
+use Rattle.webapi_routes.specs.declared.route.Route.TheVariants as route
+use Rattle.answer_core.specs.Local.{IsLocal}
+use Rattle.answer_core.specs.declared.local.Local.{Local}
+use Rattle.answer_core.specs.declared.local.Local.TheVariants as local
+use Rattle.conn_server.specs.Asked.{AsksFor, HeadFacts, IsTaken, Request, is_served, readable, refused}
+use Rattle.conn_server.specs.Replies.{reason_of_route}
+use Rattle.conn_server.specs.Scene.{Scene, Stand, sight_at}
+use Rattle.conn_server.specs.declared.decide.Body.{Body}
+use Rattle.conn_server.specs.declared.decide.Body.TheVariants as bodies
+use Rattle.conn_server.specs.declared.reason.Reason.{Reason}
+use Rattle.conn_server.specs.declared.reason.Reason.TheVariants as reason
+use Rattle.conn_server.specs.declared.report.Asked as declared
+use Rattle.conn_server.specs.declared.report.Asked.TheVariants as asked
+
+-- a candidate passed
+abbrev pub IsPassed : Local → Type 0
+IsPassed (local.File from path generation) = Unit {0}
+IsPassed (local.Section from path generation) = Unit {0}
+IsPassed (local.Source bytes path generation) = Unit {0}
+IsPassed _ = ⊥
+
+-- the generation of an answer
+abbrev pub generation_of : Local → ℕ
+generation_of (local.File from path generation) = generation
+generation_of (local.Section from path generation) = generation
+generation_of (local.Source bytes path generation) = generation
+generation_of (local.Nothing generation) = generation
+generation_of (local.Fault generation) = generation
+generation_of local.OutOfMemory = 0
+
+-- the routes that a file answers
+abbrev pub IsFileRoute : Route → Type 0
+IsFileRoute (route.Debuginfo id) = Unit {0}
+IsFileRoute (route.Executable id) = Unit {0}
+IsFileRoute (route.Section id name) = Unit {0}
+IsFileRoute (route.Source id path) = Unit {0}
+
+-- what is asked, the reason of the reply, its generation, what it carries, and what the hand was asked and answered for it
+pub data IsCase {T : Type 0} (scene : Scene T) (at : Stand T) (log : List Change) (request : Request)
+    : declared.Asked → Reason → ℕ → Body → List Heard → Type 0 where
+  bad_head : (len : ℕ) → request ≡ refused (head_fault.Bad len)
+      → IsCase scene at log request (asked.Head (head_fault.Bad len)) reason.BadHead 0 bodies.Line []
+  too_long : request ≡ refused head_fault.TooLong
+      → IsCase scene at log request (asked.Head head_fault.TooLong) reason.TooLarge 0 bodies.Line []
+  too_many : request ≡ refused head_fault.TooMany
+      → IsCase scene at log request (asked.Head head_fault.TooMany) reason.TooLarge 0 bodies.Line []
+  method : (head : HeadFacts) → request ≡ readable head → is_served head.method ≡ false
+      → IsCase scene at log request asked.Method reason.Method 0 bodies.Line []
+  has_body : (head : HeadFacts) → request ≡ readable head → is_served head.method ≡ true → head.body ≡ true
+      → IsCase scene at log request asked.Body reason.Body 0 bodies.Line []
+  no_route : (head : HeadFacts) (fault : RouteFault) → request ≡ readable head → IsTaken head
+      → IsSaidBy head.target (Err fault)
+      → IsCase scene at log request (asked.NotRoute fault) (reason_of_route fault) 0 bodies.Line []
+  passed : (head : HeadFacts) (route : Route) (answer : Local) (answers : List Heard) → request ≡ readable head
+      → AsksFor head route → IsFileRoute route → IsLocal (sight_at scene at log answers) route answer → IsPassed answer
+      → IsCase scene at log request (asked.Route route) reason.Local (generation_of answer) (bodies.Found answer) answers
+  read_fault : (head : HeadFacts) (route : Route) (n : ℕ) (answers : List Heard) → request ≡ readable head
+      → AsksFor head route → IsFileRoute route → IsLocal (sight_at scene at log answers) route (local.Fault n)
+      → IsCase scene at log request (asked.Route route) reason.ReadFault n bodies.Line answers
+  not_found : (head : HeadFacts) (route : Route) (n : ℕ) (answers : List Heard) → request ≡ readable head
+      → AsksFor head route → IsFileRoute route → IsLocal (sight_at scene at log answers) route (local.Nothing n)
+      → IsCase scene at log request (asked.Route route) reason.NotFound n bodies.Line answers
+  no_memory : (head : HeadFacts) (route : Route) (answers : List Heard) → request ≡ readable head → AsksFor head route
+      → IsCase scene at log request (asked.Route route) reason.OutOfMemory 0 bodies.Line answers

@@ -1,0 +1,96 @@
+-- One request with its reply (this project's rule), what it leads to, and what stands behind the last one.
+use Rattle.std.specs.Prelude.{◌≡◌, ℕ, ◌<◌, ◌≤◌, Bool, List, [], ◌++◌, Option, length, take}
+use mathlib.Core.List.{IsPrefix}
+use Rattle.httparse.specs.Grammar.{RequestHead, print_request}
+use Rattle.index_rows.specs.declared.change.Change.{Change}
+use Rattle.tree_trait.specs.Heard.{Heard}
+use Rattle.http_wire.specs.Heads.{IsServed, Refuses}
+use Rattle.http_wire.specs.Sink.{Appends}
+use Rattle.http_wire.specs.Source.{Comes}
+use Rattle.answer_core.specs.Loads.{Hears}
+use Rattle.conn_server.specs.Asked.{HeadFacts, Request, head_facts, readable, refused}
+use Rattle.conn_server.specs.Lawful.{IsLawful}
+use Rattle.conn_server.specs.PassedOver.{FindsAll}
+use Rattle.conn_server.specs.Scene.{Scene, Stand, Wire, hand_at, sight_at}
+use Rattle.conn_server.specs.declared.reason.Reason.TheVariants as reason
+use Rattle.conn_server.specs.declared.report.Served.{Served}
+
+-- one request with its reply: the bytes of its head, what is told of it, the bytes of the reply, what the hand was asked for
+-- it and answered, and the log that the token had seen behind it
+pub record Exchange : Type 0 where
+  pub request : Request
+  pub front : List ℕ
+  pub served : Served
+  pub bytes : List ℕ
+  pub answers : List Heard
+  pub log : List Change
+
+-- the bytes are those of a head that is served, and that says this
+pub record IsHeadThatSays (facts : HeadFacts) (front : List ℕ) : Type 0 where
+  pub head : RequestHead
+  pub valid : IsServed head
+  pub says : facts ≡ head_facts head
+  pub printed : front ≡ print_request head
+
+-- the bytes are the head of the request; those that are refused aren't cut off
+abbrev pub IsFrontOf : Request → List ℕ → Type 0
+IsFrontOf (readable facts) front = IsHeadThatSays facts front
+IsFrontOf (refused fault) front = front ≡ []
+
+-- the exchange is lawful by the objects as they stood, passes over no candidate, and its head is that of its request; it may be
+-- the last that a connection has
+pub record IsExchange {T : Type 0} (scene : Scene T) (last : Bool) (at : Stand T) (x : Exchange) : Type 0 where
+  pub lawful : IsLawful scene at x.log x.answers x.request last x.served x.bytes
+  pub complete : FindsAll (sight_at scene at x.log x.answers) x.served.asked x.served.reason
+  pub fronts : IsFrontOf x.request x.front
+
+-- an exchange leads from a stand to the next one: a line for each object
+pub record Leads {T : Type 0} (scene : Scene T) (x : Exchange) (a b : Stand T) : Type 0 where
+  pub log : IsPrefix a.log b.log
+  pub seen : x.log ≡ b.log
+  pub hand : Hears (hand_at scene a) (scene.shows b.hand) x.answers (x.served.reason ≡ reason.ReadFault)
+
+-- these bytes were in front of what was held and came, and those were written
+pub record Moves (front bytes : List ℕ) (a b : Wire) : Type 0 where
+  pub came : List ℕ
+  pub comes : Comes a.stream.left came b.stream.left
+  pub cut : a.held ++ came ≡ front ++ b.held
+  pub written : Appends a.stream.written bytes b.stream.written
+  pub read_faults : a.stream.read_faults ≤ b.stream.read_faults
+  pub write_faults : a.stream.write_faults ≤ b.stream.write_faults
+
+-- without a whole reply this was heard, came and was written
+pub record Leaves {T : Type 0} (scene : Scene T) (rest : List Heard) (part : List ℕ) (a : Stand T) (v : Wire) (b : Stand T) (w : Wire)
+    : Type 0 where
+  pub log : IsPrefix a.log b.log
+  pub hand : Hears (hand_at scene a) (scene.shows b.hand) rest ⊥
+  pub moves : Moves [] part v w
+
+-- nothing was heard or written for a further request
+abbrev pub NoMore : List Heard → List ℕ → Type 0
+NoMore rest part = (rest ≡ []) × (part ≡ [])
+
+-- where the request is no head, the bytes that are held are refused for it
+abbrev pub IsWhy : Request → List ℕ → Option (List ℕ) → Type 0
+IsWhy (readable head) held left = Unit {0}
+IsWhy (refused fault) held left = Refuses fault held left
+
+-- a lawful reply to the next request is due: it was decided by what was heard, and its head is in front of what is held
+pub record IsDue {T : Type 0} (scene : Scene T) (last : Bool) (at : Stand T) (rest : List Heard) (log : List Change) (w : Wire)
+    : Type 0 where
+  pub one : Exchange
+  pub is : IsExchange scene last at one
+  pub heard : one.answers ≡ rest
+  pub logged : one.log ≡ log
+  pub behind : List ℕ
+  pub held_is : w.held ≡ one.front ++ behind
+  pub why : IsWhy one.request w.held w.stream.left
+
+-- a proper part of it was written
+pub record IsPart
+    {T : Type 0} (scene : Scene T) (last : Bool) (at : Stand T) (rest : List Heard) (part : List ℕ) (log : List Change) (w : Wire)
+    : Type 0 where
+  pub due : IsDue scene last at rest log w
+  pub count : ℕ
+  pub proper : count < length due.one.bytes
+  pub part_is : part ≡ take count due.one.bytes
