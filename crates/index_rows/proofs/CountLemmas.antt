@@ -1,5 +1,5 @@
 -- How many rows an index has: no more than changes.
-use Rattle.std.proofs.Common.{◌≡◌, ◌+◌, ◌≤◌, true, false, not, cond, List, [], ◌∷◌, length, map, refl, ap, arith, length-append}
+use Rattle.std.proofs.Common.{◌≡◌, ◌+◌, ◌≤◌, true, false, not, cond, List, [], ◌∷◌, length, refl, ap, arith, length-append}
 use Rattle.std.specs.List.{filter, fold}
 use Rattle.std.specs.Prelude.{Bool, if◌then◌else◌}
 use Rattle.std.proofs.lemmas.List.{length-map}

@@ -103,7 +103,7 @@ index_same is_true now rows log prepared p q r h =
     subst (IsIndex is_true) (sym same) h
 
 -- with nothing prepared no room is asked
-pub at_rest : (is_true : RowFacts → Type 0) (facts : RowsFacts) (RowsRoom : List ℕ → Type 0) (LogRoom : Type 0) → facts.prepared ≡ Nothing → IsIndex is_true facts → IsKept is_true facts RowsRoom LogRoom
+pub at_rest : (is_true : RowFacts → Type 0) (facts : RowsFacts) (RowsRoom : RowFacts → Type 0) (LogRoom : Type 0) → facts.prepared ≡ Nothing → IsIndex is_true facts → IsKept is_true facts RowsRoom LogRoom
 at_rest is_true facts RowsRoom LogRoom none h = record {
   index = h;
   room = subst (λ (p : Prepared). RoomFor p RowsRoom LogRoom) (sym none) tt;

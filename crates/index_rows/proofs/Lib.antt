@@ -1,8 +1,13 @@
 pub mod ApartLemmas
 pub mod CountLemmas
+pub mod FindLemmas
 pub mod KeptLemmas
 pub mod Lists
 pub mod PathLemmas
 pub mod RowLemmas
 pub mod SlotLemmas
 pub mod SlotRows
+pub mod TalliesLemmas
+pub mod TallyLemmas
+pub mod TotalLemmas
+pub mod WalkLemmas

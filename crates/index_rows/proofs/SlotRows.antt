@@ -1,5 +1,5 @@
 -- The rows in slots: what is found, put and left, and how many there are.
-use Rattle.std.proofs.Common.{◌≡◌, ℕ, ◌+◌, List, [], ◌∷◌, ◌++◌, length, map, Option, Some, None, refl, sym, ◌∙◌, ap, subst, arith, length-append}
+use Rattle.std.proofs.Common.{◌≡◌, ℕ, ◌+◌, List, [], ◌∷◌, ◌++◌, length, Option, Some, None, refl, sym, ◌∙◌, ap, subst, arith, length-append}
 use Rattle.std.specs.BTreeMap.{is_at, insert_entry}
 use Rattle.std.specs.Cmp.Lexicographic.{slice_cmp}
 use Rattle.std.specs.List.{All, flat_map}
@@ -18,6 +18,8 @@ use Rattle.std.proofs.lemmas.Slice.Eq.{bytes_eq-Decides}
 use Rattle.row_types.specs.Ascends.{IsBefore}
 use Rattle.row_types.specs.Row.{RowFacts}
 use Rattle.index_rows.specs.Rows.{row_at, row_path, with_row, without_row}
+use Rattle.index_rows.specs.Table.{total}
+use Rattle.index_rows.proofs.TotalLemmas.{total_append}
 use Rattle.index_rows.specs.Slots.{AreSlots, IsOwn, Slot, rows_in, slot_at}
 use Rattle.index_rows.proofs.ApartLemmas.{IsApart, found_apart, put_apart, without_apart}
 use Rattle.index_rows.proofs.SlotLemmas.{HasCut, IsCut, cut_of, insert_cut, own_slot, remove_cut, set_cut, slot_cut}
@@ -150,14 +152,26 @@ cut_with {path} {slots} {own} h e =
     (c.front, c.back, subst (λ o. IsCut path slots c.front o c.back) (sym (slot_cut c.cut) ∙ e) c.cut)
 
 -- once a row is put into its path's slot
-pub put_done : (path : List ℕ) {slots new : List Slot} {x w : Option RowFacts} (row : RowFacts) → AreSlots slots → row_path row ≡ path → slot_at path slots ≡ Some x → new ≡ set_value (is_at (slice_cmp nat_cmp path)) slots w → w ≡ Some row → (rows_in new ≡ with_row row (rows_in slots)) × All IsOwn new × (length (rows_in new) + length (option_to_list x) ≡ length (rows_in slots) + 1)
+pub put_done : (path : List ℕ) {slots new : List Slot} {x w : Option RowFacts} (row : RowFacts) → AreSlots slots → row_path row ≡ path → slot_at path slots ≡ Some x → new ≡ set_value (is_at (slice_cmp nat_cmp path)) slots w → w ≡ Some row
+    → (rows_in new ≡ with_row row (rows_in slots)) × All IsOwn new × (length (rows_in new) + length (option_to_list x) ≡ length (rows_in slots) + 1)
+    × ((f : RowFacts → ℕ) → total f (rows_in new) + total f (option_to_list x) ≡ total f (rows_in slots) + f row)
 put_done path {slots} {new} {x} {w} row h same e is holds =
     let c = cut_with h (subst (λ (p : List ℕ). slot_at p slots ≡ Some x) (sym same) e) in
     let new_is : new ≡ set_value (is_at (slice_cmp nat_cmp (row_path row))) slots (Some row) =
     is ∙ ap (λ (p : List ℕ). set_value (is_at (slice_cmp nat_cmp p)) slots w) (sym same) ∙ ap (set_value (is_at (slice_cmp nat_cmp (row_path row))) slots) holds in
     let change : IsChanged (row_path row) slots new x (Some row) = put_changes (Some row) h.own refl c.2 new_is in
-    (change.after ∙ sym (put_apart row change.before), change.own, counted change)
+    (change.after ∙ sym (put_apart row change.before), change.own, counted change, totals change)
   where
+    totals : (change : IsChanged (row_path row) slots new x (Some row)) (f : RowFacts → ℕ) → total f (rows_in new) + total f (option_to_list x) ≡ total f (rows_in slots) + f row
+    totals change f = omega (
+      arith,
+      ap (total f) change.after,
+      ap (total f) change.before.whole,
+      total_append f change.front (row ∷ change.back),
+      total_append f change.front (option_to_list x ++ change.back),
+      total_append f (option_to_list x) change.back,
+    )
+
     counted : (change : IsChanged (row_path row) slots new x (Some row)) → length (rows_in new) + length (option_to_list x) ≡ length (rows_in slots) + 1
     counted change = omega (arith, ap length change.after, ap length change.before.whole, length-append change.front (row ∷ change.back), length-append change.front (option_to_list x ++ change.back), length-append (option_to_list x) change.back)
 
@@ -173,12 +187,22 @@ row_slot path slots h some =
     opened (Some (Some row)) some = (row, refl)
 
 -- once a path's row is taken with its slot
-pub removal_done : (path : List ℕ) {slots new : List Slot} {row : RowFacts} → AreSlots slots → slot_at path slots ≡ Some (Some row) → new ≡ remove_entry (is_at (slice_cmp nat_cmp path)) slots → (rows_in new ≡ without_row path (rows_in slots)) × All IsOwn new × (length (rows_in new) + 1 ≡ length (rows_in slots))
+pub removal_done : (path : List ℕ) {slots new : List Slot} {row : RowFacts} → AreSlots slots → slot_at path slots ≡ Some (Some row) → new ≡ remove_entry (is_at (slice_cmp nat_cmp path)) slots
+    → (rows_in new ≡ without_row path (rows_in slots)) × All IsOwn new × (length (rows_in new) + 1 ≡ length (rows_in slots)) × ((f : RowFacts → ℕ) → total f (rows_in new) + f row ≡ total f (rows_in slots))
 removal_done path {slots} {new} {row} h e is =
     let c = cut_with h e in
     let change : IsChanged path slots new (Some row) None = removal_changes h.own c.2 is in
-    (change.after ∙ sym (without_apart change.before), change.own, counted change)
+    (change.after ∙ sym (without_apart change.before), change.own, counted change, totals change)
   where
+    totals : (change : IsChanged path slots new (Some row) None) (f : RowFacts → ℕ) → total f (rows_in new) + f row ≡ total f (rows_in slots)
+    totals change f = omega (
+      arith,
+      ap (total f) change.after,
+      ap (total f) change.before.whole,
+      total_append f change.front change.back,
+      total_append f change.front (row ∷ change.back),
+    )
+
     counted : (change : IsChanged path slots new (Some row) None) → length (rows_in new) + 1 ≡ length (rows_in slots)
     counted change = omega (arith, ap length change.after, ap length change.before.whole, length-append change.front change.back, length-append change.front (row ∷ change.back))
 

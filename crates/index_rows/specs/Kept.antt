@@ -1,17 +1,16 @@
 -- How the rows are kept: in slots by path, beside a list of changes, with room for what is prepared.
-use Rattle.std.specs.Prelude.{ℕ, List}
 use Rattle.row_types.specs.Row.{RowFacts}
 use Rattle.index_rows.specs.Rows.{RowsFacts, IsIndex}
 use Rattle.index_rows.specs.declared.prepared.Prepared.{Prepared}
 use Rattle.index_rows.specs.declared.prepared.Prepared.TheVariants.{Nothing, Put, Drop}
 
 -- what has to have room for the change that is prepared
-abbrev pub RoomFor : Prepared → (List ℕ → Type 0) → Type 0 → Type 0
+abbrev pub RoomFor : Prepared → (RowFacts → Type 0) → Type 0 → Type 0
 RoomFor Nothing RowsRoom LogRoom = Unit {0}
-RoomFor (Put row) RowsRoom LogRoom = RowsRoom row.name.path × LogRoom
+RoomFor (Put row) RowsRoom LogRoom = RowsRoom row × LogRoom
 RoomFor (Drop name) RowsRoom LogRoom = LogRoom
 
 -- the lists are an index's, and have room
-pub record IsKept (is_true : RowFacts → Type 0) (facts : RowsFacts) (RowsRoom : List ℕ → Type 0) (LogRoom : Type 0) : Type 0 where
+pub record IsKept (is_true : RowFacts → Type 0) (facts : RowsFacts) (RowsRoom : RowFacts → Type 0) (LogRoom : Type 0) : Type 0 where
   pub index : IsIndex is_true facts
   pub room : RoomFor facts.prepared RowsRoom LogRoom

@@ -5,7 +5,10 @@ pub mod ByPath
 pub mod Classes
 pub mod Kept
 pub mod Log
-pub mod Pick
+pub mod Left
 pub mod Places
 pub mod Slots
 pub mod Rows
+pub mod Table
+pub mod Tallies
+pub mod Tally

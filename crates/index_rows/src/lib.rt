@@ -8,6 +8,9 @@ mod prepared;
 mod row_iter;
 mod row_map;
 mod rows;
+mod table;
+mod tallies;
+mod tally;
 
 pub use change::Change;
 pub use fault::RowsFault;

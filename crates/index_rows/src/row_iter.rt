@@ -2,49 +2,73 @@
 
 ghost use Rattle.std.specs.Prelude.{◌≡◌, ◌∷◌, [], filter, IfSome, IfNone};
 ghost use Rattle.std.specs.Iterator.{YieldsFirstRef, item_count};
-ghost use Rattle.index_rows.specs.Classes.{has_class, has_id, is_of_kind, lists_source};
-ghost use Rattle.index_rows.specs.Pick.{is_picked};
-ghost use Rattle.index_rows.specs.Slots.{present};
+ghost use Rattle.index_rows.specs.Classes.{is_of_kind};
+ghost use Rattle.index_rows.specs.Left.{is_wanted, left_in};
+ghost use Rattle.index_rows.specs.Slots.{present, rows_in};
+ghost use Rattle.index_rows.specs.Table.{walked};
+ghost use Rattle.index_rows.specs.declared.row_iter.Rest.{Rest};
 
-use row_types::{BuildId, CanonPath, Ident, Kind, Reading, Row};
+use crate::row_map::RowMap;
+use crate::tally::Tallied;
+use row_types::{CanonPath, Ident, Kind, Reading, Row};
 use std::collections::btree_map::Values;
 use std::marker::Model;
 
-/// Which rows are lent.
-#[derive(Clone, Copy)]
-pub(crate) enum Pick {
-    /// All.
-    All,
-    /// Those with the id.
-    OfId(BuildId),
-    /// Those with the id and of the kind.
-    OfClass(BuildId, Kind),
+/// The rows at some paths, of a kind if one is wanted.
+#[derive(Drop)]
+pub(crate) struct AtPaths<'a> {
+    entries: &'a [Tallied],
+    rows: &'a RowMap,
+    kind: Option<Kind>,
+}
+
+/// The rows that are left.
+#[derive(Drop)]
+pub(crate) enum Rest<'a> {
+    /// All in these slots.
+    All(Values<'a, CanonPath, Option<Row>>),
+    /// Those at some paths.
+    Found(AtPaths<'a>),
 }
 
 /// Rows, lent in path order. Contracts see it as the list of the rows that are left.
 #[derive(Drop)]
 pub struct RowIter<'a> {
-    rest: Values<'a, CanonPath, Option<Row>>,
-    pick: Pick,
+    rest: Rest<'a>,
 }
 
 impl<'a> Model for RowIter<'a> {
-    ghost use Rattle.std.specs.Prelude.{List, filter};
+    ghost use Rattle.std.specs.Prelude.{List};
     ghost use Rattle.row_types.specs.Row.{RowFacts};
-    ghost use Rattle.index_rows.specs.Pick.{is_picked};
-    ghost use Rattle.index_rows.specs.Slots.{present};
+    ghost use Rattle.index_rows.specs.Left.{left_in};
 
     ghost Value = { List RowFacts };
 
-    ghost view = { λ it. filter (λ row. is_picked it.pick row.reading) (present it.rest) };
+    ghost view = { λ it. left_in it.rest };
 }
 
 impl<'a> RowIter<'a> {
-    /// The rows in these slots that are picked.
-    pub(crate) fn new(slots: Values<'a, CanonPath, Option<Row>>, pick: Pick) -> RowIter<'a>
-        ensures { result ≡ filter (λ row. is_picked pick row.reading) (present slots.entry) }
+    /// The rows in these slots.
+    pub(crate) fn all(slots: Values<'a, CanonPath, Option<Row>>) -> RowIter<'a>
+        ensures { result ≡ present slots.entry }
     {
-        RowIter { rest: slots, pick }
+        RowIter {
+            rest: Rest::All(slots),
+        }
+    }
+
+    /// The rows at the paths that count, of the kind if one is given.
+    pub(crate) fn found(entries: &'a [Tallied], rows: &'a RowMap, kind: Option<Kind>) -> RowIter<'a>
+        ensures { result ≡ filter (λ row. is_wanted kind row.reading)
+            (walked entries.now (rows_in rows.now)) }
+    {
+        RowIter {
+            rest: Rest::Found(AtPaths {
+                entries,
+                rows,
+                kind,
+            }),
+        }
     }
 }
 
@@ -56,55 +80,74 @@ impl<'a> Iterator for RowIter<'a> {
     ghost remaining = { item_count (λ it. it) };
 
     fn next(&mut self) -> Option<&'a Row> {
-        next_picked(&mut self.rest, &self.pick)
+        match &mut self.rest {
+            Rest::All(slots) => next_present(slots),
+            Rest::Found(found) => next_found(found),
+        }
     }
 }
 
-/// The next row that is picked.
-fn next_picked<'a>(slots: &mut Values<'a, CanonPath, Option<Row>>, pick: &Pick) -> Option<&'a Row>
-    ensures some { IfSome result (λ row. filter (λ r. is_picked pick.now r.reading) (present slots.old)
-        ≡ row.now ∷ filter (λ r. is_picked pick.now r.reading) (present slots.new)) }
-    ensures none { IfNone result (filter (λ r. is_picked pick.now r.reading) (present slots.old) ≡ []) }
+/// The next row in the slots.
+fn next_present<'a>(slots: &mut Values<'a, CanonPath, Option<Row>>) -> Option<&'a Row>
+    ensures some { IfSome result (λ row. present slots.old ≡ row.now ∷ present slots.new) }
+    ensures none { IfNone result (present slots.old ≡ []) }
     ensures end { IfNone result (present slots.new ≡ []) }
 {
     while let Some(slot) = slots.next() {
-        if let Some(row) = slot
-            && is_picked(pick, &row.reading)
-        {
+        if let Some(row) = slot {
             return Some(row);
         }
     }
     None
 }
 
-/// Whether a row with the reading is lent.
-fn is_picked(pick: &Pick, reading: &Reading) -> bool
-    ensures { result ≡ is_picked pick.now reading.now }
+/// The next row at the paths.
+fn next_found<'a>(found: &mut AtPaths<'a>) -> Option<&'a Row>
+    ensures some { IfSome result (λ row.
+        left_in (Rest.Found found.old) ≡ row.now ∷ left_in (Rest.Found found.new)) }
+    ensures none { IfNone result (left_in (Rest.Found found.old) ≡ []) }
+    ensures end { IfNone result (left_in (Rest.Found found.new) ≡ []) }
 {
-    match pick {
-        Pick::All => true,
-        Pick::OfId(id) => has_id(id, reading),
-        Pick::OfClass(id, kind) => has_class(id, *kind, reading),
-    }
+    let (row, rest) = first_found(found.entries, found.rows, found.kind)?;
+    found.entries = rest;
+    Some(row)
 }
 
-/// Whether the file has the id.
-fn has_id(id: &BuildId, reading: &Reading) -> bool
-    ensures { result ≡ has_id id.now reading.now }
+/// The first row at the paths that count, and the paths behind its own.
+fn first_found<'a>(
+    entries: &'a [Tallied],
+    rows: &'a RowMap,
+    kind: Option<Kind>,
+) -> Option<(&'a Row, &'a [Tallied])>
+    ensures some { IfSome result (λ found.
+        filter (λ row. is_wanted kind row.reading) (walked entries.now (rows_in rows.now))
+        ≡ found.0.now
+        ∷ filter (λ row. is_wanted kind row.reading) (walked found.1.now (rows_in rows.now))) }
+    ensures none { IfNone result
+        (filter (λ row. is_wanted kind row.reading) (walked entries.now (rows_in rows.now))
+        ≡ []) }
 {
-    match reading {
-        Reading::Plain(_) => false,
-        Reading::Elf { ident, sources: _ } => ident.id == *id,
+    let mut left = entries;
+    while let Some((entry, rest)) = left.split_first() {
+        if entry.count > 0
+            && let Some(row) = rows.get(&entry.path)
+            && is_wanted(kind, &row.reading)
+        {
+            return Some((row, rest));
+        }
+        left = rest;
     }
+    None
 }
 
-/// Whether the file has the id and is of the kind.
-fn has_class(id: &BuildId, kind: Kind, reading: &Reading) -> bool
-    ensures { result ≡ has_class id.now kind reading.now }
+/// Whether a file of the reading is of the kind, if one is wanted.
+fn is_wanted(kind: Option<Kind>, reading: &Reading) -> bool
+    ensures { result ≡ is_wanted kind reading.now }
 {
-    match reading {
-        Reading::Plain(_) => false,
-        Reading::Elf { ident, sources: _ } => ident.id == *id && is_of_kind(kind, ident),
+    match (kind, reading) {
+        (None, _) => true,
+        (Some(_), Reading::Plain(_)) => false,
+        (Some(kind), Reading::Elf { ident, sources: _ }) => is_of_kind(kind, ident),
     }
 }
 
@@ -115,15 +158,5 @@ fn is_of_kind(kind: Kind, ident: &Ident) -> bool
     match kind {
         Kind::Executable => ident.exec,
         Kind::Debuginfo => ident.debug,
-    }
-}
-
-/// Whether the file has the id and lists the source.
-pub(crate) fn lists_source(id: &BuildId, path: &CanonPath, reading: &Reading) -> bool
-    ensures { result ≡ lists_source id.now path.now reading.now }
-{
-    match reading {
-        Reading::Plain(_) => false,
-        Reading::Elf { ident, sources } => { ident.id == *id && sources.paths().contains(path) }
     }
 }

@@ -1,7 +1,9 @@
 //! The rows by path, and room for one that is to come.
 
-ghost use Rattle.std.specs.Prelude.{◌≡◌, ◌≢◌, ◌<◌, [], length, None, Some, IsSome, IfSome, OnOk};
-ghost use Rattle.std.specs.Option.{option_copied};
+ghost use Rattle.std.specs.Prelude.{◌≡◌, ◌≢◌, ◌<◌, ◌+◌, ℕ, [], length, None, Some, IsSome, IfSome, OnOk};
+ghost use Rattle.std.specs.Option.{option_copied, option_to_list};
+ghost use Rattle.row_types.specs.Row.{RowFacts};
+ghost use Rattle.index_rows.specs.Table.{total};
 ghost use Rattle.index_rows.specs.declared.rows.TheConstants.{LOG_LIMIT};
 ghost use Rattle.index_rows.specs.Rows.{row_at, with_row, without_row};
 ghost use Rattle.index_rows.specs.Slots.{HasSlot, KeepsOthers, KeepsSlots, rows_in, slot_at};
@@ -91,28 +93,39 @@ impl RowMap {
         }
     }
 
-    /// Puts the row into the slot of its path.
-    pub fn put(&mut self, row: Row)
+    /// Puts the row into the slot of its path, and gives the row that was in it.
+    pub fn put(&mut self, row: Row) -> Option<Row>
         requires slot { HasSlot row.name.path self.old }
         requires fits { length (rows_in self.old) < LOG_LIMIT }
-        ensures { rows_in self.new ≡ with_row row (rows_in self.old) }
+        ensures rows { rows_in self.new ≡ with_row row (rows_in self.old) }
+        ensures total { (f : RowFacts → ℕ) → total f (rows_in self.new)
+            + total f (option_to_list result) ≡ total f (rows_in self.old) + f row }
     {
         match self.slots.get_mut(&row.name.path) {
             Some(slot) => {
-                if slot.replace(row).is_none() {
+                let old = slot.replace(row);
+                if old.is_none() {
                     self.len += 1;
                 }
+                old
             }
             None => unreachable!(),
         }
     }
 
-    /// Drops the path's row, and its slot.
-    pub fn remove(&mut self, path: &CanonPath)
+    /// Drops the path's slot, and gives its row.
+    pub fn remove(&mut self, path: &CanonPath) -> Row
         requires { IsSome (row_at path.now (rows_in self.old)) }
-        ensures { rows_in self.new ≡ without_row path.now (rows_in self.old) }
+        ensures rows { rows_in self.new ≡ without_row path.now (rows_in self.old) }
+        ensures total { (f : RowFacts → ℕ) → total f (rows_in self.new) + f result
+            ≡ total f (rows_in self.old) }
     {
-        self.slots.remove(path);
-        self.len -= 1;
+        match self.slots.remove(path) {
+            Some(Some(row)) => {
+                self.len -= 1;
+                row
+            }
+            Some(None) | None => unreachable!(),
+        }
     }
 }

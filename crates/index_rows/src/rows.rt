@@ -8,15 +8,16 @@ ghost use Rattle.index_rows.specs.Classes.{has_class, has_id, lists_source};
 ghost use Rattle.index_rows.specs.Log.{replay};
 ghost use Rattle.index_rows.specs.Rows.{after_drop, after_put, after_void, CanBeVoid, IsDropOf};
 ghost use Rattle.index_rows.specs.Rows.{IsIndex, row_names, nothing_yet, row_at};
-ghost use Rattle.index_rows.specs.Slots.{HasSlot, rows_in};
+ghost use Rattle.index_rows.specs.Slots.{rows_in};
+ghost use Rattle.index_rows.specs.Table.{KeepsRoomAt};
 ghost use Rattle.index_rows.specs.declared.prepared.Prepared.{Prepared};
 ghost use Rattle.index_rows.specs.declared.fault.RowsFault.{RowsFault};
 
 use crate::change::{Change, list_change};
 use crate::fault::RowsFault;
 use crate::prepared::{Prepared, into_name, void_change};
-use crate::row_iter::{self, Pick, RowIter};
-use crate::row_map::RowMap;
+use crate::row_iter::RowIter;
+use crate::table::Table;
 use row_types::{BuildId, CanonPath, Kind, Name, Row, TrueRow, Truth};
 use std::alloc::{AllocError, Global};
 use std::marker::{Model, PhantomData};
@@ -30,7 +31,7 @@ pub const LOG_LIMIT: usize = 0x40_0000;
 /// was made for.
 #[derive(Drop)]
 pub struct Rows<W: Truth> {
-    rows: RowMap,
+    rows: Table,
     log: Vec<Change>,
     prepared: Prepared,
     alloc: Global,
@@ -42,15 +43,16 @@ impl<W: Truth> Model for Rows<W> {
     ghost use Rattle.std.specs.Vec.{vec_capacity};
     ghost use Rattle.index_rows.specs.Rows.{RowsFacts};
     ghost use Rattle.index_rows.specs.Kept.{IsKept};
-    ghost use Rattle.index_rows.specs.Slots.{HasSlot, rows_in};
+    ghost use Rattle.index_rows.specs.Slots.{rows_in};
+    ghost use Rattle.index_rows.specs.Table.{HasRoom};
 
     ghost Value = { RowsFacts };
 
-    ghost view = { λ r. record { rows = rows_in r.rows; log = r.log.items; prepared = r.prepared } };
+    ghost view = { λ r. record { rows = rows_in r.rows.slots; log = r.log.items; prepared = r.prepared } };
 
     ghost invariant = { λ r. IsKept W.true_row
-        (record { rows = rows_in r.rows; log = r.log.items; prepared = r.prepared })
-        (λ path. HasSlot path r.rows) (vec_len r.log < vec_capacity r.log) };
+        (record { rows = rows_in r.rows.slots; log = r.log.items; prepared = r.prepared })
+        (λ row. HasRoom row r.rows) (vec_len r.log < vec_capacity r.log) };
 }
 
 impl<W: Truth> Rows<W> {
@@ -59,7 +61,7 @@ impl<W: Truth> Rows<W> {
         ensures { result ≡ nothing_yet }
     {
         Rows {
-            rows: RowMap::new(alloc),
+            rows: Table::new(alloc),
             log: Vec::new(alloc),
             prepared: Prepared::Nothing,
             alloc,
@@ -96,14 +98,14 @@ impl<W: Truth> Rows<W> {
     pub fn with_class(&self, id: &BuildId, kind: Kind) -> RowIter<'_>
         ensures { result ≡ filter (λ row. has_class id.now kind row.reading) self.now.rows }
     {
-        RowIter::new(self.rows.slots(), Pick::OfClass(*id, kind))
+        self.rows.found(id, Some(kind))
     }
 
     /// The rows with the id.
     pub fn rows_of(&self, id: &BuildId) -> RowIter<'_>
         ensures { result ≡ filter (λ row. has_id id.now row.reading) self.now.rows }
     {
-        RowIter::new(self.rows.slots(), Pick::OfId(*id))
+        self.rows.found(id, None)
     }
 
     /// All rows.
@@ -111,7 +113,7 @@ impl<W: Truth> Rows<W> {
         ensures value { result ≡ self.now.rows }
         ensures holds { IsIndex W.true_row self.now }
     {
-        RowIter::new(self.rows.slots(), Pick::All)
+        self.rows.rows()
     }
 
     /// A copy of each row's name.
@@ -127,8 +129,7 @@ impl<W: Truth> Rows<W> {
         ensures { result ≡ list_any (λ row. lists_source id.now path.now row.reading)
             self.now.rows }
     {
-        self.rows()
-            .any(|row| row_iter::lists_source(id, path, &row.reading))
+        self.rows.lists_source(id, path)
     }
 
     /// Makes room for a put of an equal row, which then needs no memory. What was prepared before
@@ -145,7 +146,7 @@ impl<W: Truth> Rows<W> {
         }
         let copy = row.row().copy(self.alloc)?;
         self.log.reserve(1)?;
-        self.rows.make_room(self.alloc, &copy.name.path)?;
+        self.rows.make_room(self.alloc, &copy)?;
         give_up_other(&mut self.rows, &self.prepared, &copy.name.path);
         self.prepared = Prepared::Put(copy);
         Ok(())
@@ -222,19 +223,19 @@ impl<W: Truth> Rows<W> {
     }
 }
 
-/// Gives up the room that was made for a put.
-fn give_up(rows: &mut RowMap, prepared: &Prepared)
-    ensures { rows_in rows.new ≡ rows_in rows.old }
+/// Gives up the slot that was made for a put.
+fn give_up(rows: &mut Table, prepared: &Prepared)
+    ensures { rows_in rows.new.slots ≡ rows_in rows.old.slots }
 {
     if let Prepared::Put(row) = prepared {
         rows.give_up(&row.name.path);
     }
 }
 
-/// Gives up the room that was made for a put of another path.
-fn give_up_other(rows: &mut RowMap, prepared: &Prepared, path: &CanonPath)
-    ensures room { HasSlot path.now rows.old → HasSlot path.now rows.new }
-    ensures rows { rows_in rows.new ≡ rows_in rows.old }
+/// Gives up the slot that was made for a put of another path.
+fn give_up_other(rows: &mut Table, prepared: &Prepared, path: &CanonPath)
+    ensures room { KeepsRoomAt path.now rows.old rows.new }
+    ensures rows { rows_in rows.new.slots ≡ rows_in rows.old.slots }
 {
     if let Prepared::Put(row) = prepared
         && row.name.path != *path

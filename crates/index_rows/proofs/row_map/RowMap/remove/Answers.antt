@@ -1,21 +1,34 @@
 -- The path's slot is taken with its row.
-use Rattle.std.proofs.Common.{List, sym, ◌∙◌, ap, subst, arith}
+use Rattle.std.proofs.Common.{◌≡◌, List, Some, sym, ◌∙◌, ap, subst, arith}
 use Rattle.std.specs.Prelude.{IsSome}
 use Rattle.index_rows.specs.Rows.{row_at, without_row}
-use Rattle.index_rows.specs.Slots.{Slot, rows_in}
+use Rattle.index_rows.specs.Slots.{Slot, rows_in, slot_at}
+use Rattle.index_rows.specs.Table.{total}
 use Rattle.index_rows.proofs.SlotRows.{removal_done, row_slot}
 use Rattle.index_rows.proofs.row_map.RowMap.remove.Goals as goal
+use Rattle.index_rows.proofs.row_map.RowMap.remove.Goals.{in-Some+in-None-1, in-None-1}
 
 pub invariant_of-self : goal.invariant_of-self
 invariant_of-self c =
-    let own = row_slot c.args.path.now c.self.inside.slots.entries c.self.invariant.0
-    (subst (λ (s : List Slot). IsSome (row_at c.args.path.now (rows_in s))) (sym c.self.view_is) c.requires) in
-    let done = removal_done c.args.path.now c.self.invariant.0 own.1 c.remove.ensures.entries in
+    let its : slot_at c.args.path.now c.self.inside.slots.entries ≡ Some (Some c.in-Some-Some.row) = sym c.in-Some-Some.ensures.value ∙ ap Some c.in-Some-Some.field-0-is in
+    let done = removal_done c.args.path.now c.self.invariant.0 its c.remove.ensures.entries in
     (record { ascend = c.remove.ensures.ordered; own = done.1 }, omega (arith, done.2, c.self.invariant.1))
 
-pub returns : goal.returns
-returns c =
+pub unreachable-requires : goal.unreachable-requires
+unreachable-requires c =
     let own = row_slot c.args.path.now c.self.inside.slots.entries c.self.invariant.0
     (subst (λ (s : List Slot). IsSome (row_at c.args.path.now (rows_in s))) (sym c.self.view_is) c.requires) in
-    (removal_done c.args.path.now c.self.invariant.0 own.1 c.remove.ensures.entries).0
+    let found : c.remove.result ≡ Some (Some own.0) = c.remove.ensures.value ∙ own.1 in
+    elim c.in-Some-None-1.branch [ in-Some+in-None-1 w ↦ absurd (let f = found in cc) | in-None-1 w ↦ absurd (let f = found in cc) ]
+
+pub returns-clause-rows : goal.returns-clause-rows
+returns-clause-rows c =
+    let its : slot_at c.args.path.now c.self.inside.slots.entries ≡ Some (Some c.in-Some-Some.row) = sym c.in-Some-Some.ensures.value ∙ ap Some c.in-Some-Some.field-0-is in
+    (removal_done c.args.path.now c.self.invariant.0 its c.remove.ensures.entries).0
     ∙ ap (λ (s : List Slot). without_row c.args.path.now (rows_in s)) c.self.view_is
+
+pub returns-clause-total : goal.returns-clause-total
+returns-clause-total c = λ f.
+    let its : slot_at c.args.path.now c.self.inside.slots.entries ≡ Some (Some c.in-Some-Some.row) = sym c.in-Some-Some.ensures.value ∙ ap Some c.in-Some-Some.field-0-is in
+    (removal_done c.args.path.now c.self.invariant.0 its c.remove.ensures.entries).3 f
+    ∙ ap (λ (s : List Slot). total f (rows_in s)) c.self.view_is

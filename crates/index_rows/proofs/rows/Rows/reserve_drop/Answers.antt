@@ -12,7 +12,7 @@ pub returns-clause-holds : goal.returns-clause-holds
 returns-clause-holds g c =
     let len_is : length c.self.inside.log.items ≡ vec_len c.self.inside.log = search rules in
     let less : length c.self.inside.log.items ≢ LOG_LIMIT = λ e. c.if-len-eq-LOG_LIMIT.false (c.len.ensures ∙ sym len_is ∙ e) in
-    let there : row_at c.args.path.now (rows_in c.self.inside.rows) ≡ Some c.in-Some.row.now = sym c.in-Some.ensures.value in
+    let there : row_at c.args.path.now (rows_in c.self.inside.rows.slots) ≡ Some c.in-Some.row.now = sym c.in-Some.ensures.value in
     drop_ready c.args.path.now c.self.invariant.index less there (c.in_ok-name-in-Some.ensures ∙ ap (λ (r : RowFacts). r.name) c.row.view_is) c.give_up_other.ensures.rows c.reserve.ensures.items
 
 pub returns-clause-ready : goal.returns-clause-ready
@@ -22,7 +22,7 @@ pub invariant_of-self-in-Some : goal.invariant_of-self-in-Some
 invariant_of-self-in-Some g c =
     let len_is : length c.self.inside.log.items ≡ vec_len c.self.inside.log = search rules in
     let less : length c.self.inside.log.items ≢ LOG_LIMIT = λ e. c.if-len-eq-LOG_LIMIT.false (c.len.ensures ∙ sym len_is ∙ e) in
-    let there : row_at c.args.path.now (rows_in c.self.inside.rows) ≡ Some c.in-Some.row.now = sym c.in-Some.ensures.value in
+    let there : row_at c.args.path.now (rows_in c.self.inside.rows.slots) ≡ Some c.in-Some.row.now = sym c.in-Some.ensures.value in
     record {
       index =
           drop_ready c.args.path.now c.self.invariant.index less there (c.in_ok-name-in-Some.ensures ∙ ap (λ (r : RowFacts). r.name) c.row.view_is) c.give_up_other.ensures.rows c.reserve.ensures.items;
