@@ -97,8 +97,11 @@ has_to_find hand folders (Executable id) rows row world sound in_ there =
 has_to_find hand folders (Source id path) rows row world sound in_ there = source_has hand folders id path rows row in_ there
 has_to_find hand folders (Section id name) rows row world sound in_ has =
     by_case has.class has.there (would_pass hand (Section id name) has.class id row world sound has.there
-    (λ bytes known certified. (certified, subst (λ (b : List ℕ). HasSectionOf b name)
-    (world.one row.name.path row.name.stamp has.bytes bytes has.known known) has.has)))
+    (λ bytes known certified. (
+      certified,
+      subst (λ (b : List ℕ). HasSectionOf b name)
+          (world.one row.name.path row.name.stamp has.bytes bytes has.known known) has.has,
+    )))
   where
     by_case : (class : Kind) → IsThere hand class id row → WouldPass hand (Section id name) (as_class class row)
         → SomeWouldPass hand (Section id name) (candidates rows folders (Section id name))

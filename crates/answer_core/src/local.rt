@@ -87,7 +87,10 @@ pub fn answer_local<W: Truth, K: Keeper<W>, T: Tree<W>, G: Gate, R: Wait + Sync>
 {
     let (seat, generation, list) = look_up(rt, alloc, lock, seat, route, folders);
     match list {
-        Ok(list) => (seat, answer_from(rt, alloc, hand, route, list, generation, gate)),
+        Ok(list) => (
+            seat,
+            answer_from(rt, alloc, hand, route, list, generation, gate),
+        ),
         Err(_) => (seat, Local::OutOfMemory),
     }
 }

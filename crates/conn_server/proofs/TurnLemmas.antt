@@ -179,8 +179,8 @@ module _ {T : Type 0} (scene : Scene T) (last : Bool) (a b : Stand T) (v : Wire)
           part_is = refl;
         },
         let wrote = apart.write_faults in
-        let risen = gets.rose in
-        omega (arith, wrote, risen),
+            let risen = gets.rose in
+            omega (arith, wrote, risen),
       );
     },
   )

@@ -88,7 +88,14 @@ fn decide_route<W: Truth, K: Keeper<W>, T: Tree<W>, G: Gate, R: Wait + Sync>(
     let (rt, gate) = (service.rt, service.gate);
     gate.at(rt, &Point::Asking(service.number));
     let (seat, local) = answer_local(
-        rt, service.alloc, lock, seat, hand, &route, service.folders, gate,
+        rt,
+        service.alloc,
+        lock,
+        seat,
+        hand,
+        &route,
+        service.folders,
+        gate,
     );
     (seat, by_local(route, local))
 }

@@ -93,7 +93,15 @@ fn send_found<N: Sink>(
             send_bytes(alloc, conn, why, part, Some(path), close, with_body)
         }
         Local::Source { bytes, path, .. } => {
-            send_bytes(alloc, conn, why, bytes.as_slice(), Some(path), close, with_body)
+            send_bytes(
+                alloc,
+                conn,
+                why,
+                bytes.as_slice(),
+                Some(path),
+                close,
+                with_body,
+            )
         }
         Local::Nothing { .. } | Local::Fault { .. } | Local::OutOfMemory => unreachable!(),
     }

@@ -81,7 +81,9 @@ fn answer<W: Truth + Send, T: Tree<W>, R: Abort + Wait + Sync>(
 ) -> String {
     match TurnLock::make(alloc, index) {
         Ok((lock, seat)) => {
-            let (_seat, local) = answer_local(rt, alloc, &lock, seat, hand, route, folders, &NoGate);
+            let (_seat, local) = answer_local(
+                rt, alloc, &lock, seat, hand, route, folders, &NoGate,
+            );
             text_of(alloc, &local).expect(rt, "memory")
         }
         Err(_) => panic!(rt; "there is memory"),

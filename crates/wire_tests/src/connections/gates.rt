@@ -105,7 +105,11 @@ fn ask_for<G: Gate, R: Abort + Wait + Sync>(
     let asked = request(alloc, "GET", id, "executable").expect(rt, "memory");
     let mut conn = conn(rt, alloc, &whole(asked.as_str()));
     let report = serve_through(rt, alloc, lock, seat, &mut conn, number, gate);
-    report.served.iter().filter(|served| served.status == 200).count()
+    report
+        .served
+        .iter()
+        .filter(|served| served.status == 200)
+        .count()
 }
 
 /// Two tokens of one.
@@ -153,5 +157,8 @@ fn a_load_is_made_while_the_lock_is_free(rt: HostRuntime) {
     };
     assert!(rt; first == 1, "the tool");
     assert!(rt; second == 1, "the program");
-    assert!(rt; gate.met(), "the second was answered while the first was held");
+    assert!(rt;
+        gate.met(),
+        "the second was answered while the first was held"
+    );
 }

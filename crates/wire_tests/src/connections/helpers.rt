@@ -120,7 +120,15 @@ pub fn serve_through<N: Source + Sink, G: Gate, R: Abort + Wait + Sync>(
     let folders = folders(rt, alloc);
     let mut hand = hand(rt, alloc, &[]);
     let (_seat, report) = serve_connection(
-        rt, alloc, lock, seat, &mut hand, folders.as_slice(), conn, number, gate,
+        rt,
+        alloc,
+        lock,
+        seat,
+        &mut hand,
+        folders.as_slice(),
+        conn,
+        number,
+        gate,
     );
     report
 }

@@ -195,5 +195,8 @@ fn a_read_that_fails_ends_the_reader(rt: HostRuntime) {
 fn two_heads_of_one_read_are_given_before_the_source_is_asked_again(rt: HostRuntime) {
     let input = b"GET /a HTTP/1.1\r\n\r\nGET /b HTTP/1.1\r\n\r\n";
     let text = text_of(&rt, rt.alloc(), input, 0, &[1]);
-    assert!(rt; text.as_str() == "GET /a 1\nGET /b 1\nfault\nclosed\n", "{text}");
+    assert!(rt;
+        text.as_str() == "GET /a 1\nGET /b 1\nfault\nclosed\n",
+        "{text}"
+    );
 }
