@@ -15,7 +15,7 @@ use Rattle.dbgd_edges.specs.declared.stream_fault.StreamFault.TheVariants.{Inter
 abbrev pub stream_fault_by : ErrorKind → StreamFault
 stream_fault_by kind.Interrupted = Interrupted
 stream_fault_by kind.WouldBlock = Late
-stream_fault_by other = Broken
+stream_fault_by any_other = Broken
 
 -- an error of a read or a write
 abbrev pub stream_fault_of : Error → StreamFault
