@@ -31,7 +31,8 @@ fewer p q (x ∷ xs) h =
     let rest : length (filter q xs) ≤ length (filter p xs) = fewer p q xs (λ n i. h n (in_later x n xs i)) in
     (elim (q x) as (λ b. q x ≡ b → length (cond b (x ∷ filter q xs) (filter q xs)) ≤ length (cond (p x) (x ∷ filter p xs) (filter p xs))) [
       | true ↦ λ e. rw (h x (in_first x xs) e) (omega (arith, rest))
-      | false ↦ λ e. either rest (p x) ]) refl
+      | false ↦ λ e. either rest (p x)
+    ]) refl
   where
     either : length (filter q xs) ≤ length (filter p xs) → (b : Bool) → length (filter q xs) ≤ length (cond b (x ∷ filter p xs) (filter p xs))
     either rest true = omega (arith, rest)
@@ -55,7 +56,9 @@ fewer_one p q m (x ∷ xs) h i pm qm =
           let rest : length (filter q xs) + 1 ≤ length (filter p xs) = fewer_one p q m xs (λ n j. h n (in_later x n xs j)) there pm qm in
           (elim (q x) as (λ b. q x ≡ b → length (cond b (x ∷ filter q xs) (filter q xs)) + 1 ≤ length (cond (p x) (x ∷ filter p xs) (filter p xs))) [
             | true ↦ λ f. rw (h x (in_first x xs) f) (omega (arith, rest))
-            | false ↦ λ f. either rest (p x) ]) refl ]) refl
+            | false ↦ λ f. either rest (p x)
+          ]) refl
+    ]) refl
   where
     either : length (filter q xs) + 1 ≤ length (filter p xs) → (b : Bool) → length (filter q xs) + 1 ≤ length (cond b (x ∷ filter p xs) (filter p xs))
     either rest true = omega (arith, rest)
@@ -69,20 +72,24 @@ apart_both p a b apart (x ∷ xs) =
     let rest : length (filter p (filter a xs)) + length (filter p (filter b xs)) ≤ length (filter p xs) = apart_both p a b apart xs in
     (elim (a x) as (λ s. a x ≡ s → length (filter p (cond s (x ∷ filter a xs) (filter a xs))) + length (filter p (cond (b x) (x ∷ filter b xs) (filter b xs))) ≤ length (cond (p x) (x ∷ filter p xs) (filter p xs))) [
       | true ↦ λ e. rw (apart x e) (one rest (p x))
-      | false ↦ λ e. two rest (b x) ]) refl
+      | false ↦ λ e. two rest (b x)
+    ]) refl
   where
     one : length (filter p (filter a xs)) + length (filter p (filter b xs)) ≤ length (filter p xs) → (s : Bool)
         → length (cond s (x ∷ filter p (filter a xs)) (filter p (filter a xs))) + length (filter p (filter b xs)) ≤ length (cond s (x ∷ filter p xs) (filter p xs))
     one rest true = omega (arith, rest)
     one rest false = rest
+
     three : length (filter p (filter a xs)) + length (filter p (filter b xs)) ≤ length (filter p xs) → (s : Bool)
         → length (filter p (filter a xs)) + length (cond s (x ∷ filter p (filter b xs)) (filter p (filter b xs))) ≤ length (cond s (x ∷ filter p xs) (filter p xs))
     three rest true = omega (arith, rest)
     three rest false = rest
+
     four : length (filter p (filter a xs)) + length (filter p (filter b xs)) ≤ length (filter p xs) → (s : Bool)
         → length (filter p (filter a xs)) + length (filter p (filter b xs)) ≤ length (cond s (x ∷ filter p xs) (filter p xs))
     four rest true = omega (arith, rest)
     four rest false = rest
+
     two : length (filter p (filter a xs)) + length (filter p (filter b xs)) ≤ length (filter p xs) → (t : Bool)
         → length (filter p (filter a xs)) + length (filter p (cond t (x ∷ filter b xs) (filter b xs))) ≤ length (cond (p x) (x ∷ filter p xs) (filter p xs))
     two rest true = three rest (p x)
@@ -127,7 +134,9 @@ put_fewer name listing names by_path listed absent =
     stays n i q =
         (elim (bytes_eq n.path name.path) as (λ s. bytes_eq n.path name.path ≡ s → not (is_in names n) ≡ true) [
           | true ↦ λ e. ap not (ap (is_in names) ((same_name-Decides n name).0 (one_of_path n name listing by_path i listed e)) ∙ absent)
-          | false ↦ λ e. sym (ap not (in_put_other name n names e)) ∙ q ]) refl
+          | false ↦ λ e. sym (ap not (in_put_other name n names e)) ∙ q
+        ]) refl
+
     others : length (not_in listing (put_at path_in name names)) ≤ length (not_in listing names)
     others =
         let p : NameFacts → Bool = λ n. not (is_in listing n) in
@@ -153,7 +162,9 @@ drop_fewer name listing names unlisted there =
     stays n i q =
         (elim (same_name n name) as (λ s. same_name n name ≡ s → not (is_in names n) ≡ true) [
           | true ↦ λ e. absurd (true≢false (sym i ∙ ap (is_in listing) ((same_name-Decides n name).0 e) ∙ unlisted))
-          | false ↦ λ e. sym (ap not (in_filter (λ o. not (same_name o name)) n names ∙ ap (λ (b : Bool). is_in names n && not b) e ∙ with_true (is_in names n))) ∙ q ]) refl
+          | false ↦ λ e. sym (ap not (in_filter (λ o. not (same_name o name)) n names ∙ ap (λ (b : Bool). is_in names n && not b) e ∙ with_true (is_in names n))) ∙ q
+        ]) refl
+
     others : length (not_in listing (filter (λ n. not (same_name n name)) names)) + 1 ≤ length (not_in listing names)
     others =
         let p : NameFacts → Bool = λ n. not (is_in listing n) in

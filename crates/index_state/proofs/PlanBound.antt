@@ -72,15 +72,18 @@ matched p q (x ∷ xs) ys by_path h =
           let own : HasPartner q ys x = h x (in_first x xs) e in
           let less = one_less q own.other ys own.there own.passes in
           let later : length (filter p xs) ≤ length (filter q (without own.other ys)) = matched p q xs (without own.other ys) rest (others own) in
-          omega (arith, less, later) ]) refl
+          omega (arith, less, later)
+    ]) refl
   where
     rest : IsByPath xs
     rest = tail_pairs (λ (a b : NameFacts). IsBefore a.path b.path) x xs by_path
+
     absent : is_in xs x ≡ false
     absent =
         list_any_none (same_name x) xs
         (All-weaker (λ (m : NameFacts). IsBefore x.path m.path) (λ (m : NameFacts). same_name x m ≡ false)
         (λ m before. path_differs x m before) xs (head_pairs (λ (a b : NameFacts). IsBefore a.path b.path) x xs by_path))
+
     apart : (own : HasPartner q ys x) (n : NameFacts) → is_in xs n ≡ true → (its : HasPartner q ys n) → same_name its.other own.other ≡ false
     apart own n there its =
         false_from_ne_true (same_name its.other own.other)
@@ -90,6 +93,7 @@ matched p q (x ∷ xs) ys by_path h =
         let one : n ≡ x = (same_name-Decides n x).0
         (one_of_path n x (x ∷ xs) by_path (in_later x n xs there) (in_first x xs) ((bytes_eq-Decides n.path x.path).1 path)) in
         true≢false (sym there ∙ ap (is_in xs) one ∙ absent))
+
     others : (own : HasPartner q ys x) (n : NameFacts) → is_in xs n ≡ true → p n ≡ true → HasPartner q (without own.other ys) n
     others own n there pass =
         let its : HasPartner q ys n = h n (in_later x n xs there) pass in
@@ -112,10 +116,12 @@ has_other listing names listed_path by_path name stands = each (stamp_at listing
         (λ same.
         let one : name.stamp ≡ t = (same_stamp-Decides name.stamp v).0 own ∙ sym ((same_stamp-Decides t v).0 same) in
         true≢false (sym other ∙ ap not ((same_stamp-Decides name.stamp t).1 one))))
+
     passes : (t : StampFacts) → not (same_stamp name.stamp t) ≡ true → (o : Option StampFacts) → stamp_at names name.path ≡ o
         → has_stamp o name.stamp ≡ true → is_other (stamp_at names name.path) t ≡ true
     passes t other None is own = absurd (true≢false (sym own))
     passes t other (Some v) is own = ap (λ (o : Option StampFacts). is_other o t) is ∙ differs t v own other
+
     each : (o : Option StampFacts) → stamp_at listing name.path ≡ o → is_other o name.stamp ≡ true
         → HasPartner (λ (n : NameFacts). is_other (stamp_at names n.path) n.stamp) listing name
     each None is other = absurd (true≢false (sym other))
