@@ -1,3 +1,4 @@
+pub mod Appearing
 pub mod Loops
 pub mod Moves
 pub mod NameLists

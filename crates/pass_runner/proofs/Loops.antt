@@ -1,5 +1,6 @@
 -- The names of a pass, one after the other.
 use Rattle.std.proofs.Common.{◌≡◌, ℕ, ◌+◌, ◌≤◌, ◌<◌, Bool, true, false, not, cond, List, [], ◌∷◌, ◌++◌, ◌||◌, length, suc, Option, Some, None, refl, sym, ◌∙◌, ap, subst, arith}
+use Rattle.std.specs.List.{All}
 use Rattle.std.specs.Prelude.{IfSome}
 use Rattle.std.proofs.lemmas.List.Elements.{All-nil}
 use Rattle.row_types.specs.Faults.{HasCause}
@@ -25,9 +26,10 @@ use Rattle.tree_trait.specs.Found.{Versions}
 use Rattle.tree_trait.specs.Heard.{Heard}
 use Rattle.tree_trait.specs.Shown.{ShownTree}
 use Rattle.pass_runner.specs.Ends.{IsOver, IsRead, IsSettled, ReadsBy, SettlesBy}
-use Rattle.pass_runner.specs.Settled.{IsPassOn, IsWanted, Proceeds, times_loaded, times_named}
+use Rattle.pass_runner.specs.Settled.{AppearedStand, HasNotAppeared, IsPassOn, IsWanted, NoneAppeared, Proceeds, times_loaded, times_named}
 use Rattle.pass_runner.specs.Turns.{Goes, Takes, TurnsOver}
 use Rattle.tree_trait.proofs.ListenLemmas.{listens_none}
+use Rattle.pass_runner.proofs.Appearing.{appears_same, none_stand}
 use Rattle.pass_runner.proofs.Moves.{rose_after}
 use Rattle.pass_runner.proofs.Composed.{settles_by, settles_none, settles_then, takes_then}
 use Rattle.pass_runner.proofs.Loads.{loads_append, same_names, same_todo, times_cons}
@@ -234,6 +236,28 @@ module _ {K : Type 0} {told : Bool} {version : Versions} {shows : K → ShownKee
         (ap (λ (o : Option PassFacts). (pass_of o).out) (sym takes.taken.was) ∙ so.out none);
   }
 
+module _ {K : Type 0} {told : Bool} {version : Versions} {shows : K → ShownKeeper} {between after : ShownTree} {old mid new : StateFacts K} (start : StateFacts K) where
+  -- no name that was read appeared
+  pub took_none : {name : NameFacts} {end : Option WorkEnd} → (NoneAppeared start → NoneAppeared old) → TakesNext old (Some name) mid
+      → TurnsOver told version shows (name ∷ []) name between after mid new end → NoneAppeared start → NoneAppeared new
+  took_none {name} so takes turn none =
+      turn.appears
+      (appears_same old mid (name ∷ [])
+      (ap (λ (o : Option PassFacts). (pass_of o).missed) takes.taken.is ∙ ap (λ (p : PassFacts). p.missed) takes.taken.step.same
+      ∙ ap (λ (o : Option PassFacts). (pass_of o).missed) (sym takes.taken.was))
+      (ap (λ (s : StateFacts K). s.rows) takes.same) (so none))
+
+  -- and the row of each one that did stands
+  pub groomed_stand : {task : GroomTask} {end : Option WorkEnd} → (AppearedStand start → AppearedStand old)
+      → GroomsNext old (Some task) mid → TurnsOver told version shows [] task.name between after mid new end
+      → AppearedStand start → AppearedStand new
+  groomed_stand so takes turn stood =
+      turn.appears
+      (appears_same old mid []
+      (ap (λ (o : Option PassFacts). (pass_of o).missed) takes.taken.is ∙ ap (λ (p : PassFacts). p.missed) takes.taken.step.same
+      ∙ ap (λ (o : Option PassFacts). (pass_of o).missed) (sym takes.taken.was))
+      (ap (λ (s : StateFacts K). s.rows) takes.same) (so stood))
+
 nil_short : (xs ys : List NameFacts) → length xs ≤ length ys → ys ≡ [] → xs ≡ []
 nil_short [] ys short none = refl
 nil_short (x ∷ xs) ys short none = let e = ap (λ (l : List NameFacts). length l) none in absurd (omega (arith, short, e))
@@ -310,22 +334,28 @@ module _ {K : Type 0} {told : Bool} {version : Versions} {shows : K → ShownKee
   pub reads_all : Goes told version shows before after start old → TakesNext old None new → Takes told version shows before after start new
   reads_all so takes = takes_then so.settles (takes_none (takes_on None (open_still so.settles.does) takes) refl)
 
-  pub is_read : Goes told version shows before after start old → TakesNext old None new → IsRead start new
-  is_read so takes = record {
+  pub is_read : Goes told version shows before after start old → (NoneAppeared start → NoneAppeared old) → TakesNext old None new
+      → IsRead start new
+  is_read so appeared takes = record {
     sound = took_sound so takes;
     todo = ap (λ (o : Option PassFacts). (pass_of o).todo) takes.taken.same ∙ takes.taken.none;
     out = λ none. ap (λ (o : Option PassFacts). (pass_of o).out) takes.taken.same ∙ so.out none;
+    appeared = λ none. subst (λ (o : Option PassFacts). All HasNotAppeared (pass_of o).missed) (sym takes.taken.same) (appeared none);
   }
 
   pub looks_at_all : Goes told version shows before after start old → GroomsNext old None new → Takes told version shows before after start new
   looks_at_all so takes = takes_then so.settles (takes_none (grooms_on None (open_still so.settles.does) takes) refl)
 
-  pub is_settled : Goes told version shows before after start old → (pass_of old.pass).todo ≡ [] → GroomsNext old None new → IsSettled start new
-  is_settled so read takes = record {
+  pub is_settled : Goes told version shows before after start old → (pass_of old.pass).todo ≡ []
+      → (AppearedStand start → AppearedStand old) → GroomsNext old None new → IsSettled start new
+  is_settled so read stand takes = record {
     sound = groomed_sound so takes;
     todo = ap (λ (o : Option PassFacts). (pass_of o).todo) takes.taken.same ∙ read;
     groom = ap (λ (o : Option PassFacts). (pass_of o).groom) takes.taken.same ∙ takes.taken.none;
     out = λ none. ap (λ (o : Option PassFacts). (pass_of o).out) takes.taken.same ∙ so.out none;
+    appeared = λ none.
+        appears_same old new [] (ap (λ (o : Option PassFacts). (pass_of o).missed) takes.taken.same)
+        (ap (λ (s : StateFacts K). s.rows) takes.same) (stand (none_stand start none));
   }
 
 -- an end that isn't the keeper's owes no fault of it
@@ -337,7 +367,13 @@ quiet_cause never settles = record { later = settles.does.keeper; rose = λ is. 
 -- the rows are looked for once the listed files were read
 module _ {K : Type 0} {old mid : StateFacts K} (new : StateFacts K) where
   pub settled_after : (end : WorkEnd) → IsRead old mid → SettlesBy mid new end → SettlesBy old new end
-  settled_after Empty read h = record { sound = h.sound; todo = h.todo; groom = h.groom; out = λ none. h.out (read.out none) }
+  settled_after Empty read h = record {
+    sound = h.sound;
+    todo = h.todo;
+    groom = h.groom;
+    out = λ none. h.out (read.out none);
+    appeared = λ none. h.appeared (read.appeared none);
+  }
   settled_after Broken read h = h
   settled_after KeeperFault read h = h
   settled_after LogFull read h = h

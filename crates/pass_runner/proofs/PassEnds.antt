@@ -35,6 +35,7 @@ use Rattle.pass_runner.specs.declared.pass_end.PassEnd.{PassEnd}
 use Rattle.pass_runner.specs.declared.pass_end.PassEnd.TheVariants.{Whole, Missed, Walk, Broken}
 use Rattle.pass_runner.specs.declared.pass_end.PassEnd.TheVariants.{KeeperFault, LogFull, OutOfMemory}
 use Rattle.pass_runner.specs.declared.summary.Summary.{Summary}
+use Rattle.pass_runner.proofs.Appearing.{none_of_none}
 use Rattle.pass_runner.proofs.Moves.{same_listing}
 
 module _ {K : Type 0} {listing : List NameFacts} {roots : List (List ℕ)} {plan : Plan} {old mid : StateFacts K} (begins : BeginsPass listing roots plan old mid) where
@@ -146,6 +147,7 @@ module _ {K : Type 0} {told : Bool} {version : Versions} {shows : K → ShownKee
     todo = ends.todo;
     out = ends.out fresh.out;
     groom = ends.groom;
+    appeared = ends.appeared (none_of_none old fresh.missed);
   }
 
   -- each name that was missed has its reason
@@ -175,7 +177,7 @@ begun_done {shows = shows} {new = new} world tells plan (Whole summary) settles 
   };
 }
 begun_done world tells plan (Missed miss) settles sound h =
-    record { settles = settles; ends = record { first = h; sound = sound } }
+    record { settles = settles; ends = record { missed = h; sound = sound } }
 begun_done world tells plan OutOfMemory settles sound h = record { settles = settles; ends = sound }
 begun_done world tells plan (Walk fault) settles sound h = absurd h
 begun_done world tells plan Broken settles sound h = absurd h
@@ -189,7 +191,7 @@ pub begun_fault : {K : Type 0} (world : Rules) (told tells : Bool) (shows : K �
 begun_fault world told tells shows plan before after old new (Missed miss) fresh h fault =
     backed_fault (pass_of old.pass).listing (row_names old.rows) h.settles.does.answers (Rose before.faults after.faults) miss.name miss.cause
     (first_is (λ (m : Miss). IsBacked (pass_of old.pass).listing (row_names old.rows) h.settles.does.answers (Rose before.faults after.faults) m.name m.cause)
-    (pass_of new.pass).missed miss (all_backed fresh.missed h.settles) h.ends.first) fault
+    (pass_of new.pass).missed miss (all_backed fresh.missed h.settles) h.ends.missed.first) fault
 begun_fault world told tells shows plan before after old new (Walk fault) fresh h f = absurd h
 begun_fault world told tells shows plan before after old new (Whole summary) fresh h f = absurd (true≢false (sym f))
 begun_fault world told tells shows plan before after old new Broken fresh h f = absurd h

@@ -25,11 +25,12 @@ use Rattle.index_state.specs.Plan.{plan_of}
 use Rattle.scan_queue.specs.Names.{is_in}
 use Rattle.pass_runner.specs.Helped.{IsSparing}
 use Rattle.pass_runner.specs.Owned.{EndsHelped, EndsPass, HasMissed, HearsPass, Helps, IsHelped, IsWholePass, LeavesIndex, RunsPass, TellsStill}
-use Rattle.pass_runner.specs.Passes.{EndsOver, IsFirstMiss, IsLeft}
+use Rattle.pass_runner.specs.Passes.{EndsOver, IsApart, IsFirstMiss, IsLeft}
 use Rattle.pass_runner.specs.Settled.{IsBacked, IsWanted, Settles}
 use Rattle.pass_runner.specs.declared.pass_end.PassEnd.{PassEnd}
 use Rattle.pass_runner.specs.declared.pass_end.PassEnd.TheVariants.{Whole, Missed, Walk, Broken}
 use Rattle.pass_runner.specs.declared.pass_end.PassEnd.TheVariants.{KeeperFault, LogFull, OutOfMemory}
+use Rattle.pass_runner.proofs.Appearing.{backed_unlisted}
 use Rattle.pass_runner.proofs.FullAnswers.{full_stays, listing_stays}
 use Rattle.tree_trait.proofs.ListenLemmas.{heard_both, listens_none}
 use Rattle.pass_runner.proofs.Moves.{same_listing}
@@ -119,13 +120,19 @@ module _ {K : Type 0} (world : Rules) (hands_given : ℕ) (old found : StateFact
 
   pub runs_to_miss : (miss : Miss) → IsFirstMiss miss new
       → HasMissed miss (Rose before.faults after.faults) walk.listing new found settles.does.answers
-  runs_to_miss miss h = record {
-    first = h.first;
-    why =
-        first_is (λ (m : Miss). IsBacked walk.listing (row_names found.rows) settles.does.answers (Rose before.faults after.faults) m.name m.cause)
-        (pass_of new.pass).missed miss backed_new h.first;
-    sound = h.sound;
-  }
+  runs_to_miss miss h =
+      let why =
+      first_is (λ (m : Miss). IsBacked walk.listing (row_names found.rows) settles.does.answers (Rose before.faults after.faults) m.name m.cause)
+      (pass_of new.pass).missed miss backed_new h.missed.first in
+      let over : (pass_of new.pass).listing ≡ walk.listing = same_listing settles.does.pass in
+      record {
+        first = h.missed.first;
+        why = why;
+        apart = λ is.
+            subst (λ (l : List NameFacts). IsApart l miss) over h.missed.apart is
+            (backed_unlisted walk.listing (row_names found.rows) settles.does.answers (Rose before.faults after.faults) miss.name miss.cause why is);
+        sound = h.sound;
+      }
 
 -- the pass whose listing was walked
 pub ends_walked : {K T : Type 0} (world : Rules) (told tells : Bool) (shows : K → ShownKeeper) (sees : T → ShownTree)

@@ -35,10 +35,11 @@ use Rattle.tree_trait.specs.declared.stat.StatAnswer.{StatAnswer}
 use Rattle.tree_trait.specs.declared.stat.StatAnswer.TheVariants as said
 use Rattle.pass_runner.specs.Ends.{IsOutOfRoom, TurnsBy}
 use Rattle.pass_runner.specs.Settled.{IsBacked, IsPassOn, IsReadOf, IsWanted, times_loaded, times_named}
-use Rattle.pass_runner.specs.Turns.{Advances, HasSeen, IsLookUnder, JudgesLeft, Looks, LooksTo, PublishesNew, TurnsOver, after_judged}
+use Rattle.pass_runner.specs.Turns.{Advances, AppearsBy, HasSeen, IsLookUnder, JudgesLeft, Looks, LooksTo, PublishesNew, TurnsOver, after_judged}
 use Rattle.groomer.specs.Looks.{LooksAt, looked_of}
 use Rattle.groomer.specs.declared.looking.Looked.{Looked}
 use Rattle.groomer.specs.declared.looking.Looked.TheVariants as looked
+use Rattle.pass_runner.proofs.Appearing.{appears_same, dropped_stand, left_none, left_stand, missed_none, missed_stand}
 use Rattle.pass_runner.proofs.Bounding.{bounded_same, bounded_void}
 use Rattle.pass_runner.proofs.Loads.{loads_heard, loads_looks}
 use Rattle.tree_trait.proofs.ListenLemmas.{all_heard, is_heard, listens_none, listens_one}
@@ -94,6 +95,17 @@ module _ {K : Type 0} (tells : Bool) (shows : K → ShownKeeper) (old new : Stat
       })
   published_ends row (Some OutOfMemory) sound awaited h = ap (λ (s : StateFacts K). s.broken) h.same ∙ sound
   published_ends row (Some _) sound awaited h = absurd h
+
+  published_appears : (name : NameFacts) (row : RowFacts) (end : Option WorkEnd) → PublishesNew tells shows row old new end
+      → AppearsBy (name ∷ []) old new
+  published_appears name row None h = λ none. left_none old new row.name (ap (λ (s : StateFacts K). s.pass) h.after) none
+  published_appears name row (Some KeeperFault) h =
+      appears_same old new (name ∷ []) (ap (λ (s : StateFacts K). (pass_of s.pass).missed) h.after) (ap (λ (s : StateFacts K). s.rows) h.after)
+  published_appears name row (Some LogFull) h =
+      appears_same old new (name ∷ []) (ap (λ (s : StateFacts K). (pass_of s.pass).missed) h.same) (ap (λ (s : StateFacts K). s.rows) h.same)
+  published_appears name row (Some OutOfMemory) h =
+      appears_same old new (name ∷ []) (ap (λ (s : StateFacts K). (pass_of s.pass).missed) h.same) (ap (λ (s : StateFacts K). s.rows) h.same)
+  published_appears name row (Some _) h = absurd h
 
   published_cause : (row : RowFacts) (end : Option WorkEnd) → PublishesNew tells shows row old new end
       → end ≡ Some KeeperFault → Rose (shows old.keeper).faults (shows new.keeper).faults
@@ -158,6 +170,24 @@ module _ {K : Type 0} (tells : Bool) (shows : K → ShownKeeper) (old new : Stat
     judged_ends judged.Dropped h =
         left_over_pass (out_open old.pass name out) (ap (λ (s : StateFacts K). s.broken) h.drops.after ∙ sound)
         (ap (λ (s : StateFacts K). s.pass) h.drops.after)
+
+    judged_appears : {true_row : RowFacts → Type 0} (answer : Judged) → IndexInvariant true_row tells shows old
+        → Judges tells shows name met old answer new → AppearsBy [] old new
+    judged_appears judged.Broken holds h = absurd (true≢false (sym h.why ∙ sound))
+    judged_appears judged.Kept holds h = absurd (true≢false (sym h.why.kept ∙ unlisted))
+    judged_appears (judged.Moved now) holds h = λ stood.
+        left_stand old new name (ap (λ (s : StateFacts K). s.pass) h.after) (ap (λ (s : StateFacts K). s.rows) h.after) stood
+    judged_appears judged.Strange holds h = λ stood.
+        missed_stand old new {cause = Appeared} h.was_out (λ is. h.strange.left_over.stands) h.missed stood
+    judged_appears judged.LogFull holds h =
+        appears_same old new [] (ap (λ (s : StateFacts K). (pass_of s.pass).missed) h.drops.same) (ap (λ (s : StateFacts K). s.rows) h.drops.same)
+    judged_appears judged.OutOfMemory holds h =
+        appears_same old new [] (ap (λ (s : StateFacts K). (pass_of s.pass).missed) h.drops.same) (ap (λ (s : StateFacts K). s.rows) h.drops.same)
+    judged_appears judged.KeeperFault holds h =
+        appears_same old new [] (ap (λ (s : StateFacts K). (pass_of s.pass).missed) h.drops.after) (ap (λ (s : StateFacts K). s.rows) h.drops.after)
+    judged_appears judged.Dropped holds h = λ stood.
+        dropped_stand old new name holds.rows_sorted_and_true.ascend h.gone.left_over.stands (ap (λ (s : StateFacts K). s.pass) h.drops.after)
+        (ap (λ (s : StateFacts K). s.rows) h.drops.after) stood
 
     judged_cause : (answer : Judged) → Judges tells shows name met old answer new → after_judged answer ≡ Some KeeperFault
         → Rose (shows old.keeper).faults (shows new.keeper).faults
@@ -258,6 +288,7 @@ module _ {K : Type 0} {told : Bool} {version : Versions} {shows : K → ShownKee
             (wanted_load name answer holds awaited)) on;
         loads = loads_heard name answer;
         ends = subst (λ (n : NameFacts). TurnsBy n old new end) named (published_ends tells shows old new row end sound waits h);
+        appears = published_appears tells shows old new name row end h;
         keeper = record { later = on.keeper; rose = published_cause tells shows old new row end h };
       }
 
@@ -267,14 +298,15 @@ module _ {K : Type 0} {told : Bool} {version : Versions} {shows : K → ShownKee
       → All (IsWanted (pass_of old.pass).listing old.roots (row_names old.rows)) answers
       → IsBacked (pass_of old.pass).listing (row_names old.rows) answers (Rose before.faults after.faults) name cause
       → ((path : List ℕ) → times_loaded answers path ≤ times_named reads path) → MissesOut name cause old was_out new
-      → TurnsOver told version shows reads name before after old new None
-  missed_so {answers = answers} reads was_out sound out listens wanted why loads misses =
+      → AppearsBy reads old new → TurnsOver told version shows reads name before after old new None
+  missed_so {answers = answers} reads was_out sound out listens wanted why loads misses appears =
       let on : Advances shows answers (Rose before.faults after.faults) old new
       = missed_on was_out (out_open old.pass name out) misses why in
       record {
         settles = settles_by listens wanted on;
         loads = loads;
         ends = missed_over was_out out sound misses;
+        appears = appears;
         keeper = record { later = on.keeper; rose = λ is. absurd (cc) };
       }
 
@@ -292,7 +324,7 @@ module _ {K : Type 0} {told : Bool} {version : Versions} {shows : K → ShownKee
         answer = answer;
         heard = is_heard (load_of name answer) (other_heard name answer met other);
         other = other;
-      }) (loads_heard name answer) misses
+      }) (loads_heard name answer) misses (λ none. missed_none old new {cause = Altered met} was_out (λ is. cc) misses none)
 
   -- the load failed
   pub turns_unread : {true_row : RowFacts → Type 0} {tells : Bool} (was_out : Bool) (answer : LoadFacts) → IndexInvariant true_row tells shows old → old.broken ≡ false
@@ -304,7 +336,7 @@ module _ {K : Type 0} {told : Bool} {version : Versions} {shows : K → ShownKee
       (all_heard (IsWanted (pass_of old.pass).listing old.roots (row_names old.rows)) (load_of name answer)
       (wanted_load name answer holds awaited))
       (asks.hands.cause.rose (subst (λ (a : LoadFacts). IsTrue (has_failed (load_of name a))) (sym is) refl))
-      (loads_heard name answer) misses
+      (loads_heard name answer) misses (λ none. missed_none old new {cause = ReadFault} was_out (λ is. cc) misses none)
 
   -- the look failed
   pub turns_unseen : (was_out : Bool) → old.broken ≡ false → is_in (pass_of old.pass).out name ≡ true
@@ -313,6 +345,7 @@ module _ {K : Type 0} {told : Bool} {version : Versions} {shows : K → ShownKee
   turns_unseen was_out sound out looks misses =
       missed_so {cause = ReadFault} [] was_out sound out looks.listens (wanted_looks (pass_of old.pass).listing old.roots (row_names old.rows) looks.answers looks.asked) looks.leads
       (unloaded old.roots looks.answers looks.asked) misses
+      (λ stood. missed_stand old new {cause = ReadFault} was_out (λ is. absurd (cc)) misses stood)
 
   -- and the row is judged by what was seen
   pub turns_judged : {true_row : RowFacts → Type 0} {tells : Bool} {met : Seen} {end : Option WorkEnd} → IndexInvariant true_row tells shows old → old.broken ≡ false
@@ -326,6 +359,7 @@ module _ {K : Type 0} {told : Bool} {version : Versions} {shows : K → ShownKee
         settles = settles_by looks.listens (wanted_looks (pass_of old.pass).listing old.roots (row_names old.rows) looks.answers looks.asked) on;
         loads = unloaded old.roots looks.answers looks.asked;
         ends = subst (λ (e : Option WorkEnd). TurnsBy name old new e) (sym h.ends) (judged_ends tells shows old new name met sound unlisted out h.answer h.judged);
+        appears = judged_appears tells shows old new name met sound unlisted out h.answer holds h.judged;
         keeper = record {
           later = on.keeper;
           rose = λ is. judged_cause tells shows old new name met sound unlisted out h.answer h.judged (sym h.ends ∙ is);
@@ -341,6 +375,7 @@ module _ {K : Type 0} {told : Bool} {version : Versions} {shows : K → ShownKee
     settles = settles_by listens wanted (same_on opened (omega arith) refl refl refl refl (omega arith));
     loads = loads;
     ends = sound;
+    appears = appears_same state state reads refl refl;
     keeper = record { later = omega arith; rose = λ is. absurd (cc) };
   }
 

@@ -7,13 +7,16 @@ use Rattle.index_state.specs.State.{StateFacts, pass_of}
 use Rattle.scan_queue.specs.Names.{without}
 use Rattle.index_desk.specs.declared.work_end.WorkEnd.{WorkEnd}
 use Rattle.index_desk.specs.declared.work_end.WorkEnd.TheVariants.{Empty, Broken, KeeperFault, LogFull, OutOfMemory}
+use Rattle.pass_runner.specs.Settled.{AppearedStand, NoneAppeared}
 
--- no name is left to be handed out; where none was out before, none is
+-- no name is left to be handed out; where none was out before, none is; where none had appeared before, the row of each one
+-- that did stands
 pub record IsSettled {K : Type 0} (old new : StateFacts K) : Type 0 where
   pub sound : new.broken ≡ false
   pub todo : (pass_of new.pass).todo ≡ []
   pub groom : (pass_of new.pass).groom ≡ []
   pub out : (pass_of old.pass).out ≡ [] → (pass_of new.pass).out ≡ []
+  pub appeared : NoneAppeared old → AppearedStand new
 
 -- the log has no room, and the rows aren't those of the listing
 pub record IsOutOfRoom {K : Type 0} (new : StateFacts K) : Type 0 where
@@ -42,11 +45,12 @@ TurnsBy name old new None = IsOver name old new
 TurnsBy name old new (Some Empty) = ⊥
 TurnsBy name old new (Some end) = SettlesBy old new end
 
--- no name is left to be read; where none was out before, none is
+-- no name is left to be read; where none was out before, none is, and where none had appeared, none has
 pub record IsRead {K : Type 0} (old new : StateFacts K) : Type 0 where
   pub sound : new.broken ≡ false
   pub todo : (pass_of new.pass).todo ≡ []
   pub out : (pass_of old.pass).out ≡ [] → (pass_of new.pass).out ≡ []
+  pub appeared : NoneAppeared old → NoneAppeared new
 
 -- how the reading of what is new ended
 abbrev pub ReadsBy : {K : Type 0} → StateFacts K → StateFacts K → WorkEnd → Type 0

@@ -7,7 +7,7 @@ use Rattle.std.specs.Prelude.{Option, Some, None, IsSome, IsTrue, Ok, Err}
 use mathlib.Core.List.{IsPrefix}
 use Rattle.std.specs.List.{AllZip, filter, sum_by}
 use Rattle.row_types.specs.Faults.{Rose}
-use Rattle.row_types.specs.Name.{NameFacts}
+use Rattle.row_types.specs.Name.{NameFacts, stamp_at}
 use Rattle.row_types.specs.Rules.{Rules}
 use Rattle.index_keeper.specs.Keeper.{ShownKeeper}
 use Rattle.index_rows.specs.Rows.{row_names}
@@ -19,7 +19,7 @@ use Rattle.index_state.specs.State.{StateFacts, pass_of, unspared}
 use Rattle.scan_queue.specs.Names.{is_in}
 use Rattle.scan_queue.specs.Pass.{IsWhole, PassFacts, first_missed}
 use Rattle.scan_queue.specs.declared.miss.Cause.{Cause}
-use Rattle.scan_queue.specs.declared.miss.Cause.TheVariants.{ReadFault}
+use Rattle.scan_queue.specs.declared.miss.Cause.TheVariants.{Appeared, ReadFault}
 use Rattle.scan_queue.specs.declared.miss.Miss.{Miss}
 use Rattle.tree_trait.specs.Asks.{FitsAny, IsTold}
 use Rattle.tree_trait.specs.Found.{Versions}
@@ -126,11 +126,12 @@ pub record IsWholePass {K : Type 0} (world : Rules) (tells : Bool) (shows : K �
   pub sound : new.broken ≡ false
   pub numbers : summary ≡ summary_of plan new.rows
 
--- a name was missed for a reason, and this was the first
+-- a name was missed for a reason, and this was the first; the path of one that appeared isn't listed
 pub record HasMissed {K : Type 0} (miss : Miss) (Failed : Type 0) (listing : List NameFacts) (new found : StateFacts K)
     (more : List Heard) : Type 0 where
   pub first : first_missed (pass_of new.pass).missed ≡ Some miss
   pub why : IsBacked listing (row_names found.rows) more Failed miss.name miss.cause
+  pub apart : miss.cause ≡ Appeared → stamp_at listing miss.name.path ≡ None
   pub sound : new.broken ≡ false
 
 -- the pass ended while, or as soon as, the other hands had helped: the first hand heard the walk alone, and the log grew by

@@ -1,6 +1,6 @@
 -- A pass that was begun, and how it ends (this crate's bookkeeping, which no public clause cites).
-use Rattle.std.specs.Prelude.{◌≡◌, ◌⊎◌, ℕ, Bool, true, false, List, [], Some}
-use Rattle.row_types.specs.Name.{NameFacts}
+use Rattle.std.specs.Prelude.{◌≡◌, ◌⊎◌, ℕ, Bool, true, false, List, [], Some, None}
+use Rattle.row_types.specs.Name.{NameFacts, stamp_at}
 use Rattle.row_types.specs.Rules.{Rules}
 use Rattle.index_keeper.specs.Keeper.{ShownKeeper}
 use Rattle.index_rows.specs.Rows.{row_names}
@@ -10,12 +10,14 @@ use Rattle.index_state.specs.State.{StateFacts, pass_of}
 use Rattle.index_state.specs.Step.{after_begin}
 use Rattle.index_state.specs.declared.answer.Plan.{Plan}
 use Rattle.scan_queue.specs.Pass.{IsWhole, first_missed}
+use Rattle.scan_queue.specs.Names.{is_in}
+use Rattle.scan_queue.specs.declared.miss.Cause.TheVariants.{Appeared}
 use Rattle.scan_queue.specs.declared.miss.Miss.{Miss}
 use Rattle.tree_trait.specs.Shown.{ShownTree}
 use Rattle.pass_runner.specs.Ends.{IsOutOfRoom}
 use Rattle.pass_runner.specs.Numbers.{summary_of}
 use Rattle.pass_runner.specs.Owned.{IsHelped, IsWholePass}
-use Rattle.pass_runner.specs.Settled.{IsPassOn, Settles}
+use Rattle.pass_runner.specs.Settled.{AppearedStand, IsPassOn, Settles}
 use Rattle.pass_runner.specs.declared.pass_end.PassEnd.{PassEnd}
 use Rattle.pass_runner.specs.declared.pass_end.PassEnd.TheVariants.{Whole, Missed}
 use Rattle.pass_runner.specs.declared.pass_end.PassEnd.TheVariants.{KeeperFault, LogFull, OutOfMemory}
@@ -28,13 +30,14 @@ pub record IsFresh {K : Type 0} (state : StateFacts K) : Type 0 where
   pub out : (pass_of state.pass).out ≡ []
   pub missed : (pass_of state.pass).missed ≡ []
 
--- no name of the pass is left to be handed out, and none is out
+-- no name of the pass is left to be handed out, and none is out; the row of each name that appeared stands
 pub record IsHandedOut {K : Type 0} (state : StateFacts K) : Type 0 where
   pub sound : state.broken ≡ false
   pub is_open : IsPassOn state.pass state.pass
   pub todo : (pass_of state.pass).todo ≡ []
   pub out : (pass_of state.pass).out ≡ []
   pub groom : (pass_of state.pass).groom ≡ []
+  pub appeared : AppearedStand state
 
 -- the pass is whole, and these are its numbers
 pub record IsDone {K : Type 0} (world : Rules) (tells : Bool) (shows : K → ShownKeeper) (plan : Plan) (summary : Summary)
@@ -43,16 +46,25 @@ pub record IsDone {K : Type 0} (world : Rules) (tells : Bool) (shows : K → Sho
   pub whole : IsWhole (pass_of state.pass)
   pub numbers : summary ≡ summary_of plan state.rows
 
+-- the path of a name that appeared isn't listed, where the name isn't
+abbrev pub IsApart : List NameFacts → Miss → Type 0
+IsApart listing miss = miss.cause ≡ Appeared → is_in listing miss.name ≡ false → stamp_at listing miss.name.path ≡ None
+
+-- the name was missed first, and where it appeared its path isn't listed
+pub record IsFirstMissed {K : Type 0} (miss : Miss) (state : StateFacts K) : Type 0 where
+  pub first : first_missed (pass_of state.pass).missed ≡ Some miss
+  pub apart : IsApart (pass_of state.pass).listing miss
+
 -- the end of a pass of which no name is left to be handed out
 abbrev pub EndsOf : {K : Type 0} → Rules → Bool → (K → ShownKeeper) → Plan → StateFacts K → PassEnd → Type 0
 EndsOf world tells shows plan state (Whole summary) = IsDone world tells shows plan summary state
-EndsOf world tells shows plan state (Missed miss) = first_missed (pass_of state.pass).missed ≡ Some miss
+EndsOf world tells shows plan state (Missed miss) = IsFirstMissed miss state
 EndsOf world tells shows plan state OutOfMemory = Unit {0}
 EndsOf world tells shows plan state _ = ⊥
 
 -- a name was missed, and this was the first
 pub record IsFirstMiss {K : Type 0} (miss : Miss) (new : StateFacts K) : Type 0 where
-  pub first : first_missed (pass_of new.pass).missed ≡ Some miss
+  pub missed : IsFirstMissed miss new
   pub sound : new.broken ≡ false
 
 -- the pass that was begun was settled, and this came of it

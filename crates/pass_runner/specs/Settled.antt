@@ -88,6 +88,22 @@ pub record IsHeardThere (listing names : List NameFacts) (answers : List Heard) 
   pub seen : IsSeenThere listing answers name
   pub row : is_in names name ≡ true
 
+-- the name was not missed as one that appeared
+abbrev pub HasNotAppeared : Miss → Type 0
+HasNotAppeared miss = miss.cause ≢ Appeared
+
+-- where the name was missed as one that appeared, these names have it
+abbrev pub StandsIfAppeared : List NameFacts → Miss → Type 0
+StandsIfAppeared names miss = miss.cause ≡ Appeared → is_in names miss.name ≡ true
+
+-- no name was missed as one that appeared
+abbrev pub NoneAppeared : {K : Type 0} → StateFacts K → Type 0
+NoneAppeared state = All HasNotAppeared (pass_of state.pass).missed
+
+-- the row of each name that was missed as one that appeared stands
+abbrev pub AppearedStand : {K : Type 0} → StateFacts K → Type 0
+AppearedStand state = All (StandsIfAppeared (row_names state.rows)) (pass_of state.pass).missed
+
 -- by what a name was missed, where these names had rows: the count of faults rose, or this was heard
 abbrev pub IsBacked : List NameFacts → List NameFacts → List Heard → Type 0 → NameFacts → Cause → Type 0
 IsBacked listing names answers Failed name ReadFault = Failed

@@ -1,5 +1,5 @@
 -- What becomes of a name that was handed out (this crate's bookkeeping, which no public clause cites).
-use Rattle.std.specs.Prelude.{◌≡◌, ℕ, ◌+◌, ◌≤◌, Bool, true, false, List, [], All, Contains, Option, Some, None}
+use Rattle.std.specs.Prelude.{◌≡◌, ℕ, ◌+◌, ◌≤◌, Bool, true, false, List, [], ◌∷◌, All, Contains, Option, Some, None}
 use Rattle.row_types.specs.Faults.{HasCause, Rose}
 use Rattle.row_types.specs.Name.{NameFacts}
 use Rattle.row_types.specs.Row.{RowFacts}
@@ -21,7 +21,7 @@ use Rattle.tree_trait.specs.Listens.{Listens}
 use Rattle.tree_trait.specs.Shown.{ShownTree}
 use Rattle.tree_trait.specs.declared.stat.StatAnswer.{StatAnswer}
 use Rattle.pass_runner.specs.Ends.{TurnsBy}
-use Rattle.pass_runner.specs.Settled.{IsBrought, IsMissBy, IsPassOn, MayGo, Proceeds, times_loaded, times_named}
+use Rattle.pass_runner.specs.Settled.{AppearedStand, IsBrought, IsMissBy, IsPassOn, MayGo, NoneAppeared, Proceeds, times_loaded, times_named}
 use Rattle.groomer.specs.Looks.{looked_of}
 use Rattle.groomer.specs.declared.looking.Looked.{Looked}
 use Rattle.groomer.specs.declared.looking.Looked.TheVariants as looked
@@ -46,12 +46,18 @@ pub record Advances {K : Type 0} (shows : K → ShownKeeper) (answers : List Hea
       → times_named (pass_of new.pass).todo path ≤ times_named (pass_of old.pass).todo path
   pub bounded : StaysBounded (pass_of old.pass).listing old new
 
+-- a name that is read doesn't appear; one that is looked for appears only where its row stands
+abbrev pub AppearsBy : {K : Type 0} → List NameFacts → StateFacts K → StateFacts K → Type 0
+AppearsBy [] old new = AppearedStand old → AppearedStand new
+AppearsBy (name ∷ reads) old new = NoneAppeared old → NoneAppeared new
+
 -- what became of a name that was handed out, and how the settling goes on; no more was loaded than these names, each once
 pub record TurnsOver {K : Type 0} (told : Bool) (version : Versions) (shows : K → ShownKeeper) (reads : List NameFacts)
     (name : NameFacts) (before after : ShownTree) (old new : StateFacts K) (end : Option WorkEnd) : Type 0 where
   pub settles : Proceeds told version shows before after old new
   pub loads : (path : List ℕ) → times_loaded settles.answers path ≤ times_named reads path
   pub ends : TurnsBy name old new end
+  pub appears : AppearsBy reads old new
   pub keeper : HasCause (shows old.keeper).faults (shows new.keeper).faults (end ≡ Some KeeperFault)
 
 -- the settling went on, and each load took a name that was to be read

@@ -15,7 +15,7 @@ use crate::settling::settle_pass;
 use crate::summary::summary_of;
 use index_desk::WorkEnd;
 use index_keeper::Keeper;
-use index_state::{Begun, Plan, State};
+use index_state::{Begun, Plan, State, show_index};
 use row_types::{CanonPath, Truth};
 use scan_queue::{Listing, Miss};
 use std::alloc::{AllocError, Global};
@@ -176,6 +176,7 @@ fn end_of<W: Truth, K: Keeper<W>>(alloc: Global, state: &State<W, K>, plan: &Pla
     requires handed { IsHandedOut state.now }
     ensures { EndsOf (rules W.version W.true_row W.told) K.told K.shows plan.now state.now result }
 {
+    show_index(state);
     match state.first_miss() {
         Some(miss) => match copy_miss(alloc, miss) {
             Ok(miss) => PassEnd::Missed(miss),

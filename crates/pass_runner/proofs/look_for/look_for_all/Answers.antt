@@ -1,8 +1,8 @@
-use Rattle.pass_runner.proofs.Loops.{ends_looking, goes_first, groomed_cause, groomed_goes, groomed_out, groomed_read, groomed_settled, groomed_smaller, groomed_sound, groomed_under, is_settled, looks_at_all, quiet_cause}
+use Rattle.pass_runner.proofs.Loops.{ends_looking, goes_first, groomed_cause, groomed_goes, groomed_out, groomed_read, groomed_settled, groomed_smaller, groomed_sound, groomed_stand, groomed_under, is_settled, looks_at_all, quiet_cause}
 use Rattle.pass_runner.proofs.look_for.look_for_all.Goals as goal
 
 pub loop-task-init : goal.loop-task-init
-loop-task-init g c = (goes_first c.requires.sound c.requires.open, c.requires.read)
+loop-task-init g c = (goes_first c.requires.sound c.requires.open, c.requires.read, λ stood. stood)
 
 pub look_for-requires-clause-sound : goal.look_for-requires-clause-sound
 look_for-requires-clause-sound g c = λ κs within. groomed_sound c.loop-task.invariant.0 c.in-Some.ensures.step
@@ -31,13 +31,14 @@ pub loop-task-preserved : goal.loop-task-preserved
 loop-task-preserved g c = (
   groomed_goes c.loop-task.invariant.0 c.in-Some.ensures.step c.in_default-look_for.ensures,
   groomed_read c.loop-task.invariant.1 c.in-Some.ensures.step c.in_default-look_for.ensures.ends,
+  groomed_stand c.args.state.now c.loop-task.invariant.2 c.in-Some.ensures.step c.in_default-look_for.ensures,
 )
 
 pub returns-clause-settles : goal.returns-clause-settles
 returns-clause-settles g c = looks_at_all c.loop-task.invariant.0 c.in_default.ensures.step
 
 pub returns-clause-ends : goal.returns-clause-ends
-returns-clause-ends g c = is_settled c.loop-task.invariant.0 c.loop-task.invariant.1 c.in_default.ensures.step
+returns-clause-ends g c = is_settled c.loop-task.invariant.0 c.loop-task.invariant.1 c.loop-task.invariant.2 c.in_default.ensures.step
 
 pub returns-clause-keeper : goal.returns-clause-keeper
 returns-clause-keeper g c = quiet_cause (λ is. cc) (looks_at_all c.loop-task.invariant.0 c.in_default.ensures.step)
