@@ -5,10 +5,9 @@ ghost use Rattle.std.specs.Duration.{as_nanos};
 ghost use Rattle.std.specs.Time.{instant_nanos};
 ghost use Rattle.dbgd_edges.specs.Waits.{IsLeft, IsOver};
 
-use std::io;
 use std::sync::Wait;
-use std::thread;
 use std::time::{self, Duration, Instant};
+use std::{io, thread};
 use tree_trait::{Clock, Wake};
 
 /// The monotonic clock of the system. It tells nothing, and never says Stop.

@@ -55,7 +55,8 @@ impl<S: Read + OpenStream + Drop> RealConn<S> {
     pub fn finish<C: Clock>(self, clock: &C) {
         let mut stream = self.stream;
         let moment = Duration::from_millis(LAST_READ_MILLIS);
-        if stream.shutdown(Shutdown::Write).is_ok() && stream.set_read_timeout(Some(moment)).is_ok()
+        if stream.shutdown(Shutdown::Write).is_ok()
+            && stream.set_read_timeout(Some(moment)).is_ok()
         {
             read_last(&mut stream, clock);
         }
