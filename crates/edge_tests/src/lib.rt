@@ -1,12 +1,20 @@
-//! Tests of the real tree over a disk: no clause can speak of that.
+//! Tests of the real outside, over a disk, sockets and the system's time: no clause can speak of those.
 #![tactic(auto)]
 
+#[cfg(test)]
+mod accepts;
 #[cfg(test)]
 mod asking;
 #[cfg(test)]
 mod changes;
 #[cfg(test)]
+mod clocks;
+#[cfg(test)]
 mod closed;
+#[cfg(test)]
+mod conns;
+#[cfg(test)]
+mod doors;
 #[cfg(test)]
 mod folders;
 #[cfg(test)]
@@ -15,3 +23,7 @@ mod paths;
 mod refusals;
 #[cfg(test)]
 mod refusing;
+#[cfg(test)]
+mod sockets;
+#[cfg(test)]
+mod standing;

@@ -1,0 +1,130 @@
+//! What a connection makes of what its stream answers, and how it ends.
+
+use crate::sockets::{bound, client_of};
+use crate::standing::Scripted;
+use dbgd_edges::RealConn;
+use http_wire::{ReadAnswer, Sink, Source, WriteAnswer};
+use std::alloc::Global;
+use std::io::Write;
+use std::net::TcpStream;
+use std::process::Abort;
+use std::time::Duration;
+
+// Numbers of Linux (asm-generic/errno-base.h and errno.h), with a sign.
+const EINTR: i32 = -4;
+
+const EAGAIN: i32 = -11;
+
+const EPIPE: i32 = -32;
+
+const ECONNRESET: i32 = -104;
+
+/// What the stream answers, one call after the other, and what a read of at most 8 bytes gives: so
+/// many bytes, no more (0), or a fault (-1).
+type Case = (&'static [i32], i64);
+
+static READS: [Case; 8] = [
+    (&[5], 5),
+    (&[20], 8),
+    (&[0], 0),
+    (&[EINTR, EINTR, 3], 3),
+    (&[EAGAIN], 0),
+    (&[EINTR, EAGAIN], 0),
+    (&[ECONNRESET], -1),
+    (&[EINTR; 1100], -1),
+];
+
+static WRITES: [Case; 8] = [
+    (&[5], 5),
+    (&[20], 8),
+    (&[0], -1),
+    (&[EINTR, EINTR, 3], 3),
+    (&[EAGAIN], -1),
+    (&[EINTR, EPIPE], -1),
+    (&[ECONNRESET], -1),
+    (&[EINTR; 1100], -1),
+];
+
+/// A connection over a stream that answers by a list.
+fn conn_of(rt: &impl Abort, alloc: Global, answers: &[i32]) -> RealConn<Scripted> {
+    let answers = Vec::from_slice(alloc, answers).expect(rt, "memory");
+    let stream = Scripted { answers, calls: 0 };
+    RealConn::new(stream).expect(rt, "a connection")
+}
+
+/// What a read of at most 8 bytes gives.
+fn read_of(rt: &impl Abort, alloc: Global, answers: &[i32]) -> i64 {
+    let mut conn = conn_of(rt, alloc, answers);
+    match conn.read(&mut [0; 8]) {
+        ReadAnswer::Bytes(n) => i64::try_from(n).unwrap_or(-2),
+        ReadAnswer::End => 0,
+        ReadAnswer::Failed => -1,
+    }
+}
+
+/// What a write of 8 bytes gives.
+fn write_of(rt: &impl Abort, alloc: Global, answers: &[i32]) -> i64 {
+    let mut conn = conn_of(rt, alloc, answers);
+    match conn.write(b"8 bytes!") {
+        WriteAnswer::Took(n) => i64::try_from(n).unwrap_or(-2),
+        WriteAnswer::Failed => -1,
+    }
+}
+
+#[test]
+fn each_answer_of_a_stream_has_its_meaning(rt: HostRuntime) {
+    for (answers, wanted) in &READS {
+        let first = answers.first().copied().unwrap_or(0);
+        assert!(rt;
+            read_of(&rt, rt.alloc(), answers) == *wanted,
+            "a read, {first} first"
+        );
+    }
+    for (answers, wanted) in &WRITES {
+        let first = answers.first().copied().unwrap_or(0);
+        assert!(rt;
+            write_of(&rt, rt.alloc(), answers) == *wanted,
+            "a write, {first} first"
+        );
+    }
+}
+
+/// A stream with its time limits in milliseconds, and whether small writes go at once.
+fn limits_of(rt: &impl Abort, stream: &TcpStream) -> (Option<Duration>, Option<Duration>, bool) {
+    let read = stream.read_timeout().expect(rt, "a time limit");
+    let write = stream.write_timeout().expect(rt, "a time limit");
+    (read, write, stream.nodelay().expect(rt, "an option"))
+}
+
+/// Another hold of a stream, as a connection.
+fn held(rt: &impl Abort, stream: &TcpStream) -> RealConn<TcpStream> {
+    let another = stream.try_clone().expect(rt, "another hold");
+    RealConn::new(another).expect(rt, "a connection")
+}
+
+#[test]
+fn a_connection_has_its_time_limits(rt: HostRuntime) {
+    let (_listener, port) = bound(&rt);
+    let stream = client_of(&rt, port);
+    let _conn = held(&rt, &stream);
+    let (read, write, at_once) = limits_of(&rt, &stream);
+    assert!(rt; read == Some(Duration::from_secs(5)), "reads");
+    assert!(rt; write == Some(Duration::from_secs(30)), "writes");
+    assert!(rt; at_once, "small writes");
+}
+
+#[test]
+fn a_connection_that_ends_is_shut_and_read_for_a_moment(rt: HostRuntime) {
+    let (_listener, port) = bound(&rt);
+    let mut stream = client_of(&rt, port);
+    held(&rt, &stream).finish(&rt);
+    let (read, _, _) = limits_of(&rt, &stream);
+    let read = read.unwrap_or(Duration::ZERO);
+    // The system counts in ticks of its own.
+    let moment = Duration::from_millis(50);
+    assert!(rt;
+        read >= moment && read < Duration::from_millis(70),
+        "a moment"
+    );
+    assert!(rt; stream.write(b"x").is_err(), "it is shut");
+}
