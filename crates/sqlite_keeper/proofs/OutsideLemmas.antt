@@ -48,9 +48,9 @@ executed_out sql params old new (Ok count) none out h =
       | inr runs ↦ ran_out old new _ h.0.command _ _ count (subst BeginsNone h.1.is none) out (rw runs at h.2)
     ]
 executed_out sql params old new (Err e) none out h = elim h [
-    | inl not_run ↦ elim not_run [ inl no_text ↦ same no_text.1 | inr failed ↦ failed.3.autocommit ]
-    | inr run ↦ alone run.0 _ run.2
-  ]
+  | inl not_run ↦ elim not_run [ inl no_text ↦ same no_text.1 | inr failed ↦ failed.3.autocommit ]
+  | inr run ↦ alone run.0 _ run.2
+]
   where
     same : IsUnchanged old new → new.in_transaction ≡ false
     same it = it.0.mode ∙ out

@@ -127,7 +127,7 @@ module _ (second : Table) (limit : Option ℕ) (keys : Keys) (db : Trees) (path 
       let news : edit.news ≡ new ∷ [] = numbered_given (cast_row rows_table new ∷ []) (db 0) ∙ ap (λ (r : Row). r ∷ []) (cast_again id path body) in
       let fresh = subst (λ (l : List Row). are_fresh (db 0) l ≡ true) news applies.fresh in
       let rows : written.trees 0 ≡ put_all (db 0) (new ∷ []) =
-          ap (λ (w : Written). w.trees 0) (same_value put.2) ∙ applies.rows ∙ ap (put_all (db 0)) news in
+      ap (λ (w : Written). w.trees 0) (same_value put.2) ∙ applies.rows ∙ ap (put_all (db 0)) news in
       subst (IsWith path body (db 0)) (sym rows) (record {
         from = λ r g. elim (put_all_has (new ∷ []) (db 0) r g) [ inl own ↦ inr (only r own) | inr old ↦ inl (old, none r old) ];
         to = λ r g differs. put_all_keeps (new ∷ []) (db 0) r fresh g;
@@ -160,31 +160,31 @@ module _ (second : Table) (limit : Option ℕ) (keys : Keys) (db : Trees) (path 
       let fresh : are_fresh left sources ≡ true = subst (λ (l : List Row). are_fresh left l ≡ true) news applies.fresh in
       let rows : written.trees 0 ≡ put_all left sources = ap (λ (w : Written). w.trees 0) (same_value put.2) ∙ applies.rows ∙ ap (put_all left) news in
       let only : (s : Row) → Has (db 0) s → list_all (holds (given ∷ s ∷ [])) at_number ≡ true → s ≡ r =
-          λ s hs passes.
-          let z = rows_are.typed s hs in
-          let number : z.id ≡ y.id = ints_equal z.id y.id (and_parts _ _ (subst (λ (q : Row). list_all (holds (given ∷ q ∷ [])) at_number ≡ true) z.is passes)).0 in
-          same_row (db 0) s r z y rows_are hs hr (ap (λ i. has_rowid i s) (sym number) ∙ has_its s z) in
+      λ s hs passes.
+      let z = rows_are.typed s hs in
+      let number : z.id ≡ y.id = ints_equal z.id y.id (and_parts _ _ (subst (λ (q : Row). list_all (holds (given ∷ q ∷ [])) at_number ≡ true) z.is passes)).0 in
+      same_row (db 0) s r z y rows_are hs hr (ap (λ i. has_rowid i s) (sym number) ∙ has_its s z) in
       let shown_is : (s : Row) → s ≡ r → eval_all renewed (given ∷ s ∷ []) ≡ Int y.id ∷ Int y.id ∷ Text y.path ∷ Blob body ∷ [] =
-          λ s e. ap (λ (q : Row). eval_all renewed (given ∷ q ∷ [])) (e ∙ y.is) in
+      λ s e. ap (λ (q : Row). eval_all renewed (given ∷ q ∷ [])) (e ∙ y.is) in
       let asked_for : Has asked.0 (Int y.id ∷ Int y.id ∷ Text y.path ∷ Blob body ∷ []) =
-          subst (Has asked.0) (shown_is r refl)
-          (answer_to db given asked.0 at_number renewed [] a r hr
-          (subst (λ (q : Row). list_all (holds (given ∷ q ∷ [])) at_number ≡ true) (sym y.is) (ap (λ b. b && true) (equal_ints y.id y.id refl)))) in
+      subst (Has asked.0) (shown_is r refl)
+      (answer_to db given asked.0 at_number renewed [] a r hr
+      (subst (λ (q : Row). list_all (holds (given ∷ q ∷ [])) at_number ≡ true) (sym y.is) (ap (λ b. b && true) (equal_ints y.id y.id refl)))) in
       let each : (q : Row) → Has asked.0 q → q ≡ Int y.id ∷ Int y.id ∷ Text y.path ∷ Blob body ∷ [] =
-          λ q hq. let s = answer_from db given asked.0 at_number renewed [] a q hq in s.3 ∙ shown_is s.0 (only s.0 s.1 s.2) in
+      λ q hq. let s = answer_from db given asked.0 at_number renewed [] a q hq in s.3 ∙ shown_is s.0 (only s.0 s.1 s.2) in
       let made : (w : Row) → Has sources w → w ≡ its =
-          λ w hw. let q = has_map (λ s. cast_row rows_table (drop 1 s)) asked.0 w hw in q.2 ∙ ap (λ (z : Row). cast_row rows_table (drop 1 z)) (each q.0 q.1) ∙ cast_again y.id y.path body in
+      λ w hw. let q = has_map (λ s. cast_row rows_table (drop 1 s)) asked.0 w hw in q.2 ∙ ap (λ (z : Row). cast_row rows_table (drop 1 z)) (each q.0 q.1) ∙ cast_again y.id y.path body in
       let there : Has sources its =
-          subst (Has sources) (cast_again y.id y.path body) (map_has (λ s. cast_row rows_table (drop 1 s)) asked.0 _ asked_for) in
+      subst (Has sources) (cast_again y.id y.path body) (map_has (λ s. cast_row rows_table (drop 1 s)) asked.0 _ asked_for) in
       let ids : (i : ℤ) → Has (ids_of asked.0) i → i ≡ y.id =
-          λ i hi. let q = has_map (λ s. id_in (rowid s)) asked.0 i hi in q.2 ∙ ap (λ (z : Row). id_in (rowid z)) (each q.0 q.1) in
+      λ i hi. let q = has_map (λ s. id_in (rowid s)) asked.0 i hi in q.2 ∙ ap (λ (z : Row). id_in (rowid z)) (each q.0 q.1) in
       let gone : Has (ids_of asked.0) y.id = map_has (λ s. id_in (rowid s)) asked.0 _ asked_for in
       let is : kept_of its ≡ record { path = path; bytes = body } = ap (λ p. kept_of (row_of y.id p body)) same in
       let others : (w : Row) → Has left w → path_in w ≡ path → ⊥ =
-          λ w hw e.
-          let hold = without_all_has (ids_of asked.0) (db 0) w hw in
-          let one : w ≡ r = rows_are.apart w r hold hr (e ∙ sym same ∙ sym (ap path_in y.is)) in
-          false≢true (sym (without_not (ids_of asked.0) (db 0) w y.id hw gone) ∙ ap (has_rowid y.id) one ∙ has_its r y) in
+      λ w hw e.
+      let hold = without_all_has (ids_of asked.0) (db 0) w hw in
+      let one : w ≡ r = rows_are.apart w r hold hr (e ∙ sym same ∙ sym (ap path_in y.is)) in
+      false≢true (sym (without_not (ids_of asked.0) (db 0) w y.id hw gone) ∙ ap (has_rowid y.id) one ∙ has_its r y) in
       subst (IsWith path body (db 0)) (sym rows) (record {
         from = λ w g. elim (put_all_has sources left w g) [
           | inl new ↦ inr (ap kept_of (made w new) ∙ is)
@@ -247,11 +247,11 @@ puts second old new path body count has rows_are h =
     let task : Task = task_of second old.step_limit (mode_of old).keys params in
     let source : Row = Null ∷ Text path ∷ Blob body ∷ [] in
     let each : TriesEach task Abort (clause ∷ []) (source ∷ []) (count_of counter.0) (nothing db) (Ok tries.0) =
-        subst (λ (rows : List Row). TriesEach task Abort (clause ∷ []) rows (count_of counter.0) (nothing db) (Ok tries.0)) given.1.1 tries.1 in
+    subst (λ (rows : List Row). TriesEach task Abort (clause ∷ []) rows (count_of counter.0) (nothing db) (Ok tries.0)) given.1.1 tries.1 in
     let one = went each in
     let its : Tries task Abort (clause ∷ []) (row_of (next_rowid (db 0)) path body) db (Ok one.0) =
-        subst (λ (r : Row). Tries task Abort (clause ∷ []) r db (Ok one.0)) (fresh_row (db 0) path body) one.1 in
+    subst (λ (r : Row). Tries task Abort (clause ∷ []) r db (Ok one.0)) (fresh_row (db 0) path body) one.1 in
     let trees : done.0.trees ≡ one.0.trees =
-        ap (λ (it : Written). it.trees) (same_value counts.2) ∙ same_value counts.1 ∙ ap (λ (it : Written × ℤ). it.0.trees) (same_value one.2) in
+    ap (λ (it : Written). it.trees) (same_value counts.2) ∙ same_value counts.1 ∙ ap (λ (it : Written × ℤ). it.0.trees) (same_value one.2) in
     let left : new.now.trees 0 ≡ one.0.trees 0 = ap (λ (d : Database). d.trees 0) now ∙ ap (λ (t : Trees). t 0) trees in
     (ap (λ (d : Database). d.schema) now, w.sound, w.shown, subst (IsWith path body (db 0)) (sym left) (tried second old.step_limit (mode_of old).keys db path body rows_are (next_rowid (db 0)) one.0 its))

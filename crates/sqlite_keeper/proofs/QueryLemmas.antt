@@ -18,7 +18,6 @@ use Rattle.sqlite_rules.specs.Lists.{Has}
 use Rattle.sqlite_rules.proofs.ListLemmas.{has_left, has_right, has_either}
 use Rattle.sqlite_keeper.proofs.HasLemmas.{all_has, has_map, map_has}
 
-
 all_from_has : {X : Type 0} (P : X → Type 0) (xs : List X) → ((x : X) → Has xs x → P x) → All P xs
 all_from_has P [] h = λ k d within. absurd (omega arith)
 all_from_has P (x ∷ xs) h = All-cons P x xs (h x (inl refl)) (all_from_has P xs (λ y g. h y (inr g)))

@@ -40,7 +40,7 @@ shown_from first now last rows same h =
       h.0,
       record { is = is; whole = h.1.whole; given = h.1.given; now = h.1.now },
       subst (ShowsRows first last rows_text h.0 full rows) (sym bare)
-      (it.0, subst (λ (d : Database). IsSourceOf (reads_listing d.schema rows_text) d it.0) same.0.now_is it.1, it.2, unchanged_then first now last same it.3),
+          (it.0, subst (λ (d : Database). IsSourceOf (reads_listing d.schema rows_text) d it.0) same.0.now_is it.1, it.2, unchanged_then first now last same it.3),
     )
 
 -- what is unchanged is left alone, and so is what is rolled back
@@ -66,9 +66,9 @@ left_by_step old new P e (inr same) = left_unchanged old new same
 pub left_by_query : (old new : State) (e : Error) → FailsToQuery rows_text [] old new e → LeavesAlone old new
 unfolding FailsToQuery IsNotRun
 left_by_query old new e h = elim h [
-    | inl not_run ↦ elim not_run [ inl no_text ↦ left_unchanged old new no_text.1 | inr failed ↦ left_back old new failed.3 ]
-    | inr run ↦ refused run.0 run.1.now run.1.is run.2
-  ]
+  | inl not_run ↦ elim not_run [ inl no_text ↦ left_unchanged old new no_text.1 | inr failed ↦ left_back old new failed.3 ]
+  | inr run ↦ refused run.0 run.1.now run.1.is run.2
+]
   where
     refused : (c : Compiled) (now : ℕ) → understood old.now.schema rows_text ≡ Ok c → FailsToShow old new rows_text c (timed [] c.formats now) e c.returning → LeavesAlone old new
     refused c now is h =

@@ -175,9 +175,9 @@ same_number : (rows : List Row) (r s : Row) → IsKeptRow r → IsKeptRow s → 
 same_number rows r s x y free h e =
     let path : x.path ≡ y.path = ap path_in (sym x.is) ∙ e ∙ ap path_in y.is in
     let agrees : agree (record { digits = 0 }) (1 ∷ []) r (1 ∷ []) s ≡ true =
-        subst₂ (λ (a b : Row). agree (record { digits = 0 }) (1 ∷ []) a (1 ∷ []) b ≡ true) (sym x.is) (sym y.is) (agreeing x.id y.id x.path y.path x.body y.body path) in
+    subst₂ (λ (a b : Row). agree (record { digits = 0 }) (1 ∷ []) a (1 ∷ []) b ≡ true) (sym x.is) (sym y.is) (agreeing x.id y.id x.path y.path x.body y.body path) in
     let apart : differ (rowid r) (rowid s) ≡ false =
-        ap (λ b. b && differ (rowid r) (rowid s)) (sym agrees) ∙ none_fails (λ other. agree (record { digits = 0 }) (1 ∷ []) other (1 ∷ []) s && differ (rowid other) (rowid s)) rows r free h in
+    ap (λ b. b && differ (rowid r) (rowid s)) (sym agrees) ∙ none_fails (λ other. agree (record { digits = 0 }) (1 ∷ []) other (1 ∷ []) s && differ (rowid other) (rowid s)) rows r free h in
     let ids : x.id ≡ y.id = ints_same x.id y.id (subst₂ (λ (a b : Row). differ (rowid a) (rowid b) ≡ false) x.is y.is apart) in
     ap rowid x.is ∙ ap Int ids ∙ ap rowid (sym y.is)
   where
@@ -188,9 +188,9 @@ same_number rows r s x y free h e =
 pub kept_rows : (second : TableFacts) (db : Trees) → ((rule : Constraint) → Keeps rule (store_of second) db) → IsShaped Table (db 0) → AreKept (db 0)
 kept_rows second db rules shaped =
     let typed : (r : Row) → Has (db 0) r → IsKeptRow r =
-        λ r h. kept_row r (recursion_has (λ x. IsTrue (is_int (rowid x))) (db 0) r shaped.1 h)
-        (and_parts _ _ (recursion_has (λ x. passes Datatype (store_of second) db rows_table x ≡ true) (db 0) r (rules Datatype).0 h)).0
-        (recursion_has (λ x. passes NotNull (store_of second) db rows_table x ≡ true) (db 0) r (rules NotNull).0 h) in
+    λ r h. kept_row r (recursion_has (λ x. IsTrue (is_int (rowid x))) (db 0) r shaped.1 h)
+    (and_parts _ _ (recursion_has (λ x. passes Datatype (store_of second) db rows_table x ≡ true) (db 0) r (rules Datatype).0 h)).0
+    (recursion_has (λ x. passes NotNull (store_of second) db rows_table x ≡ true) (db 0) r (rules NotNull).0 h) in
     record {
       typed = typed;
       numbers = shaped.0;

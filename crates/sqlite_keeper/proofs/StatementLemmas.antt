@@ -140,9 +140,9 @@ taken db path found kept a = record {
       let x = kept.typed r there in (
         there,
         λ e.
-        let asked : Has found (rowid r ∷ []) = answer_to db (Text path ∷ []) found at_path (col 1 0 ∷ []) [] a r there (passes_path r x path (sym (ap path_in x.is) ∙ e)) in
-        let its : Has (ids_of found) (id_in (rowid r)) = map_has (λ q. id_in (rowid q)) found (rowid r ∷ []) asked in
-        false≢true (sym (without_not (ids_of found) (db 0) r x.id h (subst (Has (ids_of found)) (its_number r x) its)) ∙ has_its r x),
+            let asked : Has found (rowid r ∷ []) = answer_to db (Text path ∷ []) found at_path (col 1 0 ∷ []) [] a r there (passes_path r x path (sym (ap path_in x.is) ∙ e)) in
+            let its : Has (ids_of found) (id_in (rowid r)) = map_has (λ q. id_in (rowid q)) found (rowid r ∷ []) asked in
+            false≢true (sym (without_not (ids_of found) (db 0) r x.id h (subst (Has (ids_of found)) (its_number r x) its)) ∙ has_its r x),
       );
   to = λ r h differs.
       let x = kept.typed r h in

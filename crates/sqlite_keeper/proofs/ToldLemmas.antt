@@ -62,9 +62,9 @@ stays_unchanged old new told it = unchanged old new told it.0.now_is it.0.commit
 pub refused : (sql : List ℕ) (params : Row) (old new : State) (e : Error) → IsTold old → IsTrue new.is_open → Executes sql params old new (Err e) → Stays old new
 unfolding ExecutesIn IsNotRun
 refused sql params old new e told opened h = elim h [
-    | inl not_run ↦ elim not_run [ inl no_text ↦ stays_unchanged old new told no_text.1 | inr failed ↦ back failed.3 ]
-    | inr run ↦ alone run.0 _ run.2
-  ]
+  | inl not_run ↦ elim not_run [ inl no_text ↦ stays_unchanged old new told no_text.1 | inr failed ↦ back failed.3 ]
+  | inr run ↦ alone run.0 _ run.2
+]
   where
     back : IsRolledBack old new → Stays old new
     back it = let undone = it.undone opened in unchanged old new told (undone.0 ∙ sym told.settled) undone.1 it.autocommit

@@ -30,7 +30,7 @@ fn next_of<F: Alter>(rows: &mut Rows<'_, F>) -> Result<Option<Kept>, SqlFault>
         IfOk result (GivesRow F.Store rows.old.conn.now rows.new.conn.now) }
     ensures same { HasCleanDisk (state F.Store rows.new.conn.now) →
         OnOk result (IsUnchanged (state F.Store rows.old.conn.now)
-            (state F.Store rows.new.conn.now)) }
+        (state F.Store rows.new.conn.now)) }
     ensures leaves { HasCleanDisk (state F.Store rows.new.conn.now) →
         LeavesAlone (state F.Store rows.old.conn.now) (state F.Store rows.new.conn.now) }
     ensures outside { rows.old.conn.now.in_transaction ≡ false →

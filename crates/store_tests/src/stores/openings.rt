@@ -62,8 +62,14 @@ fn compare_left(rt: &impl Abort, connection: &mut Connection<MemStore>, n: i64) 
     let second = "SELECT count(*) FROM kept WHERE path = '/b' AND body = x'02'";
     assert!(rt; number(rt, connection, first) == 1, "the row of /a");
     assert!(rt; number(rt, connection, second) == 1, "the row of /b");
-    assert!(rt; number(rt, connection, "SELECT count(*) FROM kept") == 2, "the number of rows");
-    assert!(rt; number(rt, connection, "SELECT n FROM epoch") == n, "the number of openings");
+    assert!(rt;
+        number(rt, connection, "SELECT count(*) FROM kept") == 2,
+        "the number of rows"
+    );
+    assert!(rt;
+        number(rt, connection, "SELECT n FROM epoch") == n,
+        "the number of openings"
+    );
 }
 
 /// The number of the last opening, and that which a refused one leaves: it is raised, but for the

@@ -31,10 +31,11 @@ rows-preserved g c =
       survives_both first now next c.rows.invariant.2 c.next_of.ensures.survives,
       λ out. c.next_of.ensures.outside (c.rows.invariant.3 out),
       λ clean.
-      let was = c.rows.invariant.4 (omega (arith, c.next_of.ensures.survives.clean, clean)) in
-      let more = subst (GivesRow g.F.Store c.rows.rows.conn.now c.next_of.new.rows.conn.now) c.in-Some.is (c.in_ok-row.ensures.gives clean) was.1.0 was.1.1 in
-      (unchanged_then first now next was.0 (c.in_ok-row.ensures.same clean),
-      (was.1.0 ++ more.0 ∷ [], more.1, one_more was.1.0 more.0 c.rows.kept.items c.add.new.rows.items c.in-Some.row was.1.2 more.2 c.in_ok-add.ensures.added)),
+          let was = c.rows.invariant.4 (omega (arith, c.next_of.ensures.survives.clean, clean)) in
+          let more = subst (GivesRow g.F.Store c.rows.rows.conn.now c.next_of.new.rows.conn.now) c.in-Some.is (c.in_ok-row.ensures.gives clean) was.1.0 was.1.1 in (
+            unchanged_then first now next was.0 (c.in_ok-row.ensures.same clean),
+            (was.1.0 ++ more.0 ∷ [], more.1, one_more was.1.0 more.0 c.rows.kept.items c.add.new.rows.items c.in-Some.row was.1.2 more.2 c.in_ok-add.ensures.added),
+          ),
     )
 
 -- no query has begun, and none has RETURNING
