@@ -1,6 +1,6 @@
 -- Tables by path, from rows by number: what they have, and what a change of a row makes of them.
-use Rattle.std.proofs.Common.{◌≡◌, ◌⊎◌, inl, inr, ℕ, Bool, true, false, List, [], ◌∷◌, ◌++◌, map, refl, sym, ◌∙◌, ap, subst, arith}
-use Rattle.std.specs.Prelude.{filter, All, AllPairs}
+use Rattle.std.proofs.Common.{◌≡◌, ◌⊎◌, inl, inr, ℕ, true, false, List, [], ◌∷◌, ◌++◌, refl, sym, ◌∙◌, ap, subst, arith}
+use Rattle.std.specs.Prelude.{filter, All}
 use Rattle.std.specs.Ordering.{nat_cmp, is_lt}
 use Rattle.std.specs.Cmp.Lexicographic.{slice_cmp}
 use Rattle.std.specs.declared.cmp.Ordering.TheVariants.{Less, Equal, Greater}
@@ -9,12 +9,12 @@ use Rattle.std.proofs.lemmas.Cmp.{nat_list_cmp_total, tied_itself}
 use Rattle.std.proofs.lemmas.Map.Lookups.{exact_bytes}
 use Rattle.row_types.specs.Ascends.{IsBefore}
 use Rattle.row_types.proofs.AscendsLemmas.{first_related, rest_related}
-use Rattle.sqlite_value.specs.Order.{Row, column, bytes}
+use Rattle.sqlite_value.specs.Order.{Row}
 use Rattle.sqlite_rules.specs.Lists.{Has}
 use Rattle.index_keeper.specs.Tables.{KeptFacts, EditFacts, AscendsByPath, stands_before, stands_after, row_after, edited, put_of, removal_of}
 use Rattle.sqlite_keeper.specs.Stored.{kept_of, tables_of}
 use Rattle.index_keeper.proofs.CutLemmas.{edited_ascends, flipped_back}
-use Rattle.sqlite_keeper.proofs.HasLemmas.{all_has, has_left, has_right, has_either, has_filter, filter_has, has_map, map_has}
+use Rattle.sqlite_keeper.proofs.HasLemmas.{all_has, has_left, has_right, has_either, has_filter, filter_has}
 
 abbrev Before : KeptFacts → KeptFacts → Type 0
 Before x y = IsBefore x.path y.path

@@ -1,11 +1,11 @@
 -- What the store's upsert changes, by path.
-use Rattle.std.proofs.Common.{◌≡◌, ◌⊎◌, inl, inr, ℕ, ℤ, pos, Bool, true, false, cond, List, [], ◌∷◌, ◌++◌, map, Ok, Err, Result, Option, None, Some, refl, sym, ◌∙◌, ap, subst, subst₂}
-use Rattle.std.specs.Prelude.{not, ◌&&◌, ◌||◌, if◌then◌else◌, drop, MatchBool}
+use Rattle.std.proofs.Common.{◌≡◌, inl, inr, ℕ, ℤ, Bool, true, false, cond, List, [], ◌∷◌, ◌++◌, map, Ok, Option, None, Some, refl, sym, ◌∙◌, ap, subst}
+use Rattle.std.specs.Prelude.{◌&&◌, ◌||◌, if◌then◌else◌, drop, MatchBool}
 use Rattle.std.specs.List.{list_all}
 use Rattle.std.proofs.lemmas.Bool.{false≢true, false_from_ne_true, and_parts}
 use Rattle.sqlite_value.specs.declared.value.Value.{Value}
 use Rattle.sqlite_value.specs.declared.value.Value.TheVariants.{Null, Int, Text, Blob}
-use Rattle.sqlite_value.specs.Order.{Row, column}
+use Rattle.sqlite_value.specs.Order.{Row}
 use Rattle.sqlite_trees.specs.Tree.{Trees, rowid, has_rowid}
 use Rattle.sqlite_sql.specs.Term.{Term, holds, eval_all, col, op2}
 use Rattle.sqlite_sql.specs.Program.{overlay}
@@ -13,7 +13,7 @@ use Rattle.sqlite_sql.specs.declared.ops.BinaryOp.TheVariants.{Compare}
 use Rattle.sqlite_sql.specs.declared.ops.CompareOp.TheVariants.{Eq}
 use Rattle.sqlite_value.specs.declared.keys.Collation.TheVariants.{Binary}
 use Rattle.sqlite_sql.specs.Query.{IsAnswer}
-use Rattle.sqlite_sql.specs.Ops.{unary, is_true, binary}
+use Rattle.sqlite_sql.specs.Ops.{unary}
 use Rattle.sqlite_schema.specs.declared.schema.Keys.{Keys}
 use Rattle.sqlite_schema.specs.declared.command.Conflict.TheVariants.{Abort}
 use Rattle.sqlite_schema.specs.declared.command.Upsert.{Upsert}
@@ -35,7 +35,6 @@ use Rattle.sqlite.specs.Rows.{Written, Task, Gives, Refuses, Upserts, Meets, Jud
 use Rattle.sqlite.specs.State.{State, Shows, mode_of, Executes}
 use Rattle.sqlite.specs.Listing.{understood}
 use Rattle.sqlite.proofs.Callers.{statement_of, runs_as, one_step}
-use Rattle.index_keeper.specs.Tables.{KeptFacts}
 use Rattle.sqlite_keeper.specs.Stored.{kept_of}
 use Rattle.sqlite_schema.specs.declared.schema.Table.{Table}
 use Rattle.sqlite_keeper.specs.Schema.{kept_index, rows_table, store_of}
@@ -45,7 +44,7 @@ use Rattle.sqlite_keeper.proofs.HasLemmas.{has_map, map_has}
 use Rattle.sqlite_keeper.proofs.KeptLemmas.{path_in, IsWith}
 use Rattle.sqlite_keeper.proofs.QueryLemmas.{answer_from, answer_to}
 use Rattle.sqlite_keeper.proofs.RowLemmas.{AreKept, IsKeptRow, agreeing, agreed, ints_equal, equal_ints}
-use Rattle.sqlite_keeper.proofs.StatementLemmas.{put_is, put_plain, went, same_value, without_not, without_has, same_row, its_number, has_its}
+use Rattle.sqlite_keeper.proofs.StatementLemmas.{put_is, put_plain, went, same_value, without_not, without_has, same_row, has_its}
 
 either : (b : Bool) (x : Value) → cond b x x ≡ x
 either true x = refl

@@ -1,23 +1,19 @@
 -- What the store's statements give and change, by path.
-use Rattle.std.proofs.Common.{◌≡◌, ◌⊎◌, inl, inr, ℕ, ℤ, pos, negsuc, Bool, true, false, cond, List, [], ◌∷◌, ◌++◌, map, codes, Ok, Err, Result, None, Some, refl, sym, ◌∙◌, ap, subst, arith}
-use Rattle.std.specs.Prelude.{not, IsTrue, ◌&&◌, if◌then◌else◌}
+use Rattle.std.proofs.Common.{◌≡◌, ◌⊎◌, inl, inr, ℕ, ℤ, Bool, true, false, List, [], ◌∷◌, map, Ok, Err, Result, None, refl, sym, ◌∙◌, ap, subst}
+use Rattle.std.specs.Prelude.{not, ◌&&◌, if◌then◌else◌}
 use Rattle.std.specs.Ordering.{is_eq}
 use Rattle.std.specs.declared.cmp.Ordering.{Ordering}
 use Rattle.std.specs.declared.cmp.Ordering.TheVariants.{Less, Equal, Greater}
 use Rattle.std.proofs.lemmas.Bool.{false≢true, false_from_ne_true, and_parts}
 use Rattle.std.proofs.lemmas.Cmp.{tied_itself}
-use Rattle.sqlite_value.specs.declared.value.Value.TheVariants.{Null, Int, Text, Blob}
-use Rattle.sqlite_value.specs.Order.{Row, column, bytes, value_cmp}
+use Rattle.sqlite_value.specs.declared.value.Value.TheVariants.{Null, Int, Text}
+use Rattle.sqlite_value.specs.Order.{Row, value_cmp}
 use Rattle.sqlite_value.proofs.OrderLemmas.{value_cmp_total}
 use Rattle.sqlite_trees.specs.Tree.{Trees, rowid, has_rowid, without_rowid}
-use Rattle.sqlite_sql.specs.Term.{holds, eval_all, col}
+use Rattle.sqlite_sql.specs.Term.{holds, col}
 use Rattle.sqlite_sql.specs.Program.{overlay}
 use Rattle.sqlite_sql.specs.Query.{IsAnswer}
 use Rattle.std.specs.List.{list_all}
-use Rattle.sqlite_sql.specs.Ops.{is_true, binary}
-use Rattle.sqlite_sql.specs.declared.ops.BinaryOp.TheVariants.{Compare}
-use Rattle.sqlite_sql.specs.declared.ops.CompareOp.TheVariants.{Eq}
-use Rattle.sqlite_value.specs.declared.keys.Collation.TheVariants.{Binary}
 use Rattle.sqlite_rules.specs.Lists.{Has}
 use Rattle.sqlite_rules.specs.Calls.{ids_of}
 use Rattle.sqlite_rules.specs.Edit.{id_in, edit_of, without_all}
@@ -25,7 +21,6 @@ use Rattle.sqlite_rules.specs.declared.error.Rowids.TheVariants.{Given}
 use Rattle.sqlite_rules.proofs.ListLemmas.{has_filtered, has_kept}
 use Rattle.sqlite_rules.proofs.TableLemmas.{without_all_has}
 use Rattle.sqlite.specs.Table.{Table}
-use Rattle.sqlite.specs.Schema.{Schema}
 use Rattle.sqlite_tied.specs.Compute.{everything}
 use Rattle.sqlite.specs.Listing.{understood, reads_listing}
 use Rattle.sqlite.specs.Effect.{Database, IsDatabase}
@@ -33,14 +28,14 @@ use Rattle.sqlite.specs.Does.{Tally, Does}
 use Rattle.sqlite.specs.Rows.{Written}
 use Rattle.sqlite.specs.State.{State, Shows, mode_of, Executes, Shown}
 use Rattle.sqlite.proofs.Callers.{IsPlain, command_of, statement_of, runs_as, reads_as, one_step}
-use Rattle.index_keeper.specs.Tables.{KeptFacts, AscendsByPath, edited, put_of, removal_of}
+use Rattle.index_keeper.specs.Tables.{KeptFacts, AscendsByPath}
 use Rattle.sqlite_keeper.specs.Stored.{kept_of, tables_of}
 use Rattle.sqlite_keeper.specs.Schema.{rows_table, store_of}
 use Rattle.sqlite_keeper.specs.Commands.{rows_command, remove_command, put_command, at_path, plain_query}
 use Rattle.sqlite_keeper.specs.Reading.{shown_kept}
 use Rattle.sqlite_keeper.specs.Statements.{rows_text, put_text, remove_text}
 use Rattle.sqlite_keeper.proofs.HasLemmas.{has_map, map_has}
-use Rattle.sqlite_keeper.proofs.KeptLemmas.{path_in, listed, removed, put_in, IsWithout, IsWith}
+use Rattle.sqlite_keeper.proofs.KeptLemmas.{path_in, listed, IsWithout}
 use Rattle.sqlite_keeper.proofs.QueryLemmas.{answer_from, answer_to}
 use Rattle.sqlite_keeper.proofs.RowLemmas.{AreKept, IsKeptRow, one_int, one_number, texts_equal, equal_texts}
 

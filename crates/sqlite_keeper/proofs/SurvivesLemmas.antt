@@ -1,11 +1,10 @@
 -- What a crash leaves after calls in a row.
-use Rattle.std.proofs.Common.{◌≡◌, ◌⊎◌, inl, inr, ℕ, ◌≤◌, List, [], Result, None, Ok, Err, Option, refl, sym, subst, rules, arith}
+use Rattle.std.proofs.Common.{◌≡◌, ℕ, List, None, subst}
 use Rattle.std.specs.Prelude.{IfOk}
-use Rattle.sqlite_resolve.specs.declared.compiled.Compiled.{Compiled}
 use Rattle.sqlite.specs.Order.{Row}
 use Rattle.sqlite.specs.Tree.{Trees}
 use Rattle.sqlite.specs.Listing.{understood}
-use Rattle.sqlite.specs.State.{State, CommitsShowing, IsStatement, Survives}
+use Rattle.sqlite.specs.State.{State, CommitsShowing, Survives}
 use Rattle.sqlite.proofs.StateLemmas.{survives_then, survives_weaker}
 
 -- a query without RETURNING commits nothing

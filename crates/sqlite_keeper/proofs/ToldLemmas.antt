@@ -1,5 +1,5 @@
 -- What the statements of the store give and change in a told database, by what they answered.
-use Rattle.std.proofs.Common.{◌≡◌, ◌⊎◌, inl, inr, ℕ, List, [], ◌∷◌, Ok, Err, Result, Option, None, Some, Bool, true, false, refl, sym, ◌∙◌, ap, subst}
+use Rattle.std.proofs.Common.{◌≡◌, ◌⊎◌, inl, inr, ℕ, List, [], ◌∷◌, Ok, Err, Result, Option, None, Some, true, false, sym, ◌∙◌, ap, subst}
 use Rattle.std.specs.Prelude.{IfSome, IsTrue, MatchBool, if◌then◌else◌}
 use Rattle.sqlite_resolve.specs.declared.compiled.Compiled.{Compiled}
 use Rattle.sqlite.specs.declared.error.Error.{Error}
@@ -16,7 +16,7 @@ use Rattle.index_keeper.specs.Tables.{AscendsByPath, EditFacts, KeptFacts, put_o
 use Rattle.index_keeper.specs.declared.answer.KeepAnswer.{KeepAnswer}
 use Rattle.sqlite_keeper.specs.Faults.{fault_of}
 use Rattle.sqlite_keeper.specs.Reading.{GivesAll, LeavesAlone, Looks}
-use Rattle.sqlite_keeper.specs.Schema.{IsStore, store_of}
+use Rattle.sqlite_keeper.specs.Schema.{store_of}
 use Rattle.sqlite_keeper.specs.Statements.{HasRun, answer_for, answer_to, put_text, remove_text}
 use Rattle.sqlite_keeper.specs.Stored.{tables_of}
 use Rattle.sqlite_keeper.specs.Told.{IsNumbered, IsTold, IsToldBy, Stays, Tells, TellsAll, TellsChange, tables}

@@ -2,7 +2,7 @@ use Rattle.std.proofs.Common.{◌≡◌, [], ◌∷◌, ◌++◌, refl, sym, ◌
 use Rattle.sqlite.specs.Held.{state}
 use Rattle.sqlite.proofs.Callers.{unchanged_then}
 use Rattle.index_keeper.specs.Tables.{AscendsByPath}
-use Rattle.sqlite.specs.State.{CommitsShowing, FailsToQuery, HasCleanDisk, Survives}
+use Rattle.sqlite.specs.State.{CommitsShowing, HasCleanDisk, Survives}
 use Rattle.sqlite_keeper.specs.Reading.{GivesAll, GivesRow}
 use Rattle.sqlite_keeper.specs.Statements.{rows_text}
 use Rattle.sqlite_keeper.proofs.ReadingLemmas.{begun, gave_all, left_by_query, one_more}

@@ -1,4 +1,4 @@
-use Rattle.std.proofs.Common.{None, Some}
+use Rattle.std.proofs.Common.{Some}
 use Rattle.sqlite_keeper.proofs.ToldLemmas.{rows_told}
 use Rattle.sqlite_keeper.proofs.keeper.SqliteKeeper.read.Goals as goal
 
