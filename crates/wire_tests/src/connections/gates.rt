@@ -131,12 +131,13 @@ fn ask_beside<G: Gate, R: Abort + Threads + Wait + Sync>(
     rt: &R,
     alloc: Global,
     lock: &TurnLock<Index<SampleWorld>>,
-    seat: Seat<Index<SampleWorld>>,
+    first: Seat<Index<SampleWorld>>,
+    second: Seat<Index<SampleWorld>>,
     gate: &G,
 ) -> (usize, usize)
-    requires { seat.lock ≡ lock.now }
+    requires first { first.lock ≡ lock.now }
+    requires second { second.lock ≡ lock.now }
 {
-    let (first, second) = cut(lock, seat);
     let tool = "404142434445464748494a4b4c4d4e4f50515253";
     let prog = "202122232425262728292a2b2c2d2e2f30313233";
     join(
@@ -152,7 +153,10 @@ fn a_load_is_made_while_the_lock_is_free(rt: HostRuntime) {
     let tool = String::from_str(alloc, "/srv/bin/tool").expect(&rt, "memory");
     let gate = TurnGate::new(Hold::Loading(tool), Hold::Answered(2), 1_000_000);
     let (first, second) = match TurnLock::make(alloc, reference_index(&rt, alloc)) {
-        Ok((lock, seat)) => ask_beside(&rt, alloc, &lock, seat, &gate),
+        Ok((lock, seat)) => {
+            let (first, second) = cut(&lock, seat);
+            ask_beside(&rt, alloc, &lock, first, second, &gate)
+        }
         Err(_) => panic!(rt; "there is memory"),
     };
     assert!(rt; first == 1, "the tool");
