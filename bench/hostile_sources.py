@@ -4,25 +4,23 @@
     bench/hostile_sources.py [PROGRAM]          PROGRAM is ./dbgd of the repository's top unless given
     bench/hostile_sources.py --make FOLDER      writes the files into FOLDER and runs nothing
 
-bases     UNITS units over one line table of FILES files, each unit with another place in .debug_str_offsets
-codes     UNITS units over FILES abbreviations, each unit with the last one's code
-folders   units over one table, each with another folder: the paths are as many as the product
-names     units over one table, each with another folder, and short names: many paths of few bytes
+bases     10,000 units over one line table of 40,000 files, each unit with another place in .debug_str_offsets
+codes     10,000 units over 40,000 abbreviations, each unit with the last one's code
+folders   units over one table, each unit with another folder: there are as many paths as units times files
+lists     the same, just below the limit of a list, with paths of 8, of 157, and of 4,090 bytes
 
-`bases` and `codes` have to end within a second, and within two and a half times the time at twice the size. `folders` and
-`names`, which name more than a list may take, have to end with 6 and to stay below 1.5 GB, by a scan too; the same files at a
-quarter of the size of a list's limit list all their paths. It stands outside the gate, since the time of a busy machine says
-nothing.
+`bases` and `codes` have to end within a second each, and at twice the size within two and a half times that. The large
+`folders` name more than a list may take and have to end with 6; the others have to end with 0, and none may pass 1.5 GB, by a
+scan neither. It stands outside the gate, since the time of a busy machine says nothing.
 """
 import os
-import resource
 import struct
 import subprocess
 import sys
 import tempfile
 import time
 
-MEMORY = 1500 << 20
+MEMORY = 1_500_000_000
 
 
 def uleb(number):
@@ -112,11 +110,15 @@ FILES = {
     "codes_twice": lambda: codes(2),
     "folders_2500": lambda: folders(2500, 2500, b"/"),
     "folders_5000": lambda: folders(5000, 5000, b"/"),
-    "folders_10000": lambda: folders(10000, 10000, b"/"),
-    "names": lambda: folders(20000, 20000, b"/"),
-    "long_folders": lambda: folders(200, 20000, b"/" + b"x" * 3900),
-    "few": lambda: folders(1000, 1000, b"/"),
+    "folders_20000": lambda: folders(20000, 20000, b"/"),
+    "folders_long": lambda: folders(200, 20000, b"/" + b"x" * 3900),
+    "lists_short": lambda: folders(1820, 1820, b"/"),
+    "lists_middle": lambda: folders(842, 842, b"/" + b"x" * 150),
+    "lists_long": lambda: folders(32, 1016, b"/" + b"x" * 4080),
 }
+
+# The files that have to end with 6.
+GIVEN_UP = {"folders_2500", "folders_5000", "folders_20000", "folders_long"}
 
 
 def run(words):
@@ -151,14 +153,14 @@ def main():
             seconds, status, memory = run([program, "sources", path])
             took[name] = seconds
             print(f"sources {name}: {os.path.getsize(path)} bytes, {seconds:.2f} s, status {status}, {memory >> 20} MB", flush=True)
-            failed |= status not in (0, 6) or memory > MEMORY
+            failed |= status != (6 if name in GIVEN_UP else 0) or memory > MEMORY
         for name in ("bases", "codes"):
             failed |= took[name] > 1.0 or took[name + "_twice"] > 2.5 * took[name]
-        for name in ("folders_2500", "folders_10000", "names", "long_folders"):
+        for name in sorted(name for name in paths if name.startswith(("folders", "lists"))):
             folder = os.path.dirname(paths[name])
             seconds, status, memory = run([program, "scan", "-d", os.path.join(work, name + ".db"), folder])
             print(f"scan {name}: {seconds:.2f} s, status {status}, {memory >> 20} MB", flush=True)
-            failed |= status not in (0, 6) or memory > MEMORY
+            failed |= status != (6 if name in GIVEN_UP else 0) or memory > MEMORY
     print("failed" if failed else "as it should be")
     return int(failed)
 

@@ -1,9 +1,9 @@
 -- The form that a chain leads to is the one that its cases give.
-use Rattle.std.proofs.Common.{◌≡◌, ℕ, zero, suc, ◌+◌, ◌-◌, ◌<◌, Bool, true, false, length, Ok, Err, ap, refl, sym, subst, ◌∙◌, arith}
+use Rattle.std.proofs.Common.{◌≡◌, ℕ, zero, suc, ◌+◌, ◌-◌, ◌<◌, true, false, length, Ok, Err, ap, refl, sym, subst, ◌∙◌, arith}
 use Rattle.std.specs.Prelude.{◌==◌}
 use Rattle.file_formats.specs.declared.dwarf_forms.TheConstants.{DW_FORM_INDIRECT}
 use Rattle.file_formats.specs.DwarfReads.{Input, At, Read, ◌>>=◌, unsigned_at}
-use Rattle.file_formats.specs.DwarfForms.{chain_at, resolved_at}
+use Rattle.file_formats.specs.DwarfForms.{chain_at}
 use Rattle.dwarf_forms.specs.Chains.{AreChains, LeadsToForm, itself, through, cut_off}
 use Rattle.dwarf_forms.proofs.ChainLemmas.{chain-indirect, chain-end}
 use Rattle.dwarf_forms.proofs.ReadLemmas.{unsigned_next}

@@ -1,6 +1,6 @@
 -- Chains of indirect forms (DWARF 5, section 7.5.6, DW_FORM_indirect: the form's number stands before the value): the form that
 -- a form leads to, by the cases of the chain.
-use Rattle.std.specs.Prelude.{◌≡◌, ℕ, Bool, true, false, Ok, Err, ◌==◌}
+use Rattle.std.specs.Prelude.{◌≡◌, ℕ, true, false, Ok, Err, ◌==◌}
 use Rattle.file_formats.specs.declared.dwarf_forms.TheConstants.{DW_FORM_INDIRECT}
 use Rattle.file_formats.specs.DwarfReads.{Input, At, Read, ReadFault, unsigned_at}
 use Rattle.file_formats.specs.DwarfForms.{resolved_at}

@@ -11,8 +11,7 @@ use Rattle.file_formats.specs.declared.dwarf_lines.TheConstants.{DW_LNCT_PATH}
 use Rattle.file_formats.specs.declared.dwarf_lines.FieldFormat.{FieldFormat}
 use Rattle.file_formats.specs.DwarfReads.{Input, At, Read, is_short, ◌>>=◌, fixed_at, signed_at, unsigned_at, number_at, string_at}
 use Rattle.file_formats.specs.DwarfForms.{Raw, numbered, inline, passed_by, layout_of, layout_at, known_at, implicit_at, direct_at, chain_at, resolved_at, constant_for, form_at}
-use Rattle.file_formats.specs.DwarfLengths.{Piece, piece_at}
-use Rattle.file_formats.specs.DwarfLines.{LineEntry, LineTable, field_at, directory_of, entry_of, entry_of_path, line_head, line_input}
+use Rattle.file_formats.specs.DwarfLines.{LineEntry, field_at, directory_of, entry_of, entry_of_path}
 use Rattle.file_formats.specs.DwarfTexts.{Texts, value_of}
 use Rattle.file_formats.specs.DwarfUnits.{where_named}
 use Rattle.dwarf_forms.specs.Indexes.{is_index, is_index_layout, has_index, is_index_form}

@@ -1,6 +1,6 @@
 -- What is kept of an abbreviation table stays right as the table is read.
-use Rattle.std.proofs.Common.{◌≡◌, ◌⊎◌, inl, inr, ℕ, ◌≤◌, ◌<◌, ◌-◌, ◌+◌, Bool, true, false, List, length, Option, Some, None, IfSome, ap, refl, sym, subst, ◌∙◌, arith}
-use Rattle.std.specs.Prelude.{◌==◌, if◌then◌else◌, MatchOption}
+use Rattle.std.proofs.Common.{◌≡◌, ℕ, ◌≤◌, ◌<◌, ◌-◌, ◌+◌, Bool, true, false, length, Option, Some, None, IfSome, ap, refl, sym, subst, ◌∙◌, arith}
+use Rattle.std.specs.Prelude.{◌==◌, if◌then◌else◌}
 use Rattle.std.specs.BTreeMap.{BTreeMap, get, is_at}
 use Rattle.std.specs.Map.{lookup}
 use Rattle.std.specs.Option.{option_or}
@@ -9,7 +9,7 @@ use Rattle.file_formats.specs.DwarfAbbreviations.{abbreviation_at, IsFirst}
 use Rattle.file_formats.specs.DwarfReads.{Input}
 use Rattle.dwarf_units.specs.declared.known.Abbreviation.{Abbreviation}
 use Rattle.dwarf_units.specs.declared.known.Kept.{Kept}
-use Rattle.dwarf_units.specs.Finds.{LeadsTo, LeadsNowhere, IsSame, PairsTo}
+use Rattle.dwarf_units.specs.Finds.{LeadsTo, LeadsNowhere, PairsTo}
 use Rattle.dwarf_units.specs.Known.{AreKept, IsPlace, Keeps, Places, for_code, head_of}
 use Rattle.dwarf_units.proofs.NextLemmas.{abbreviation_next, pairs_next}
 use Rattle.dwarf_units.proofs.WalkLemmas.{first-found, first-later, first-none, first-cut, same-next, same-leads, same-nowhere}

@@ -74,5 +74,6 @@ impl PathSet {
 fn room_of(path: &CanonPath) -> u64
     ensures { result ≡ text_room path.now }
 {
-    path.text().len() as u64 + TEXT_ROOM
+    let size = path.text().len() as u64;
+    size + size + TEXT_ROOM
 }

@@ -1,4 +1,4 @@
-use Rattle.std.proofs.Common.{◌≡◌, false, ap, subst, sym, ◌∙◌}
+use Rattle.std.proofs.Common.{ap, subst, sym, ◌∙◌}
 use Rattle.dwarf_forms.specs.FormAnswers.{input_of}
 use Rattle.dwarf_forms.specs.TextAnswers.{texts_of}
 use Rattle.dwarf_lines.proofs.BaseLemmas.{list-same, list-unread}

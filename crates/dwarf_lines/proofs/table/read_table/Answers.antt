@@ -1,5 +1,3 @@
-use Rattle.std.proofs.Common.{◌≡◌, ℕ, Option, false, sym, ◌∙◌}
-use Rattle.file_formats.specs.DwarfLines.{IsLineTable}
 use Rattle.dwarf_forms.specs.TextAnswers.{texts_of}
 use Rattle.dwarf_lines.proofs.Laws.{if_tells, if_tells-based}
 use Rattle.dwarf_lines.proofs.table.read_table.Goals as goal

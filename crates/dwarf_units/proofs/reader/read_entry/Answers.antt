@@ -1,6 +1,5 @@
-use Rattle.std.proofs.Common.{◌≡◌, ap, drop, subst, sym, ◌∙◌}
+use Rattle.std.proofs.Common.{ap, drop, subst, sym, ◌∙◌}
 use Rattle.byte_read.specs.View.{at_start}
-use Rattle.dwarf_forms.specs.declared.numbers.Format.{Format}
 use Rattle.dwarf_forms.specs.FormAnswers.{input_of}
 use Rattle.dwarf_forms.specs.Parts.{sections_of}
 use Rattle.dwarf_forms.specs.Tells.{Tells}

@@ -1,4 +1,4 @@
-use Rattle.std.proofs.Common.{◌≡◌, false, subst}
+use Rattle.std.proofs.Common.{subst}
 use Rattle.source_paths.specs.Keys.{IsTableOf}
 use Rattle.source_paths.proofs.tables.LastTable.serves.Goals as goal
 
