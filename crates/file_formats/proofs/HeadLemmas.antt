@@ -52,13 +52,13 @@ same_fields : (k : Class) (o : Order) (b c : List ℕ) → take 64 b ≡ take 64
 same_fields Elf64 o b c same =
     let e : Encoding = of_class Elf64 o in
     let of : (f : Field) → place Elf64 f + size Elf64 f ≤ 64 → field_at e b 0 f ≡ field_at e c 0 f =
-      (λ f within. same_field e b c 0 64 f same within) in
+    (λ f within. same_field e b c 0 64 f same within) in
     values_same e (of E_TYPE (omega arith)) (of E_SHOFF (omega arith)) (of E_SHENTSIZE (omega arith)) (of E_SHNUM (omega arith))
     (of E_SHSTRNDX (omega arith))
 same_fields Elf32 o b c same =
     let e : Encoding = of_class Elf32 o in
     let of : (f : Field) → place Elf32 f + size Elf32 f ≤ 64 → field_at e b 0 f ≡ field_at e c 0 f =
-      (λ f within. same_field e b c 0 64 f same within) in
+    (λ f within. same_field e b c 0 64 f same within) in
     values_same e (of E_TYPE (omega arith)) (of E_SHOFF (omega arith)) (of E_SHENTSIZE (omega arith)) (of E_SHNUM (omega arith))
     (of E_SHSTRNDX (omega arith))
 
@@ -116,8 +116,8 @@ head_of_front b =
     let sized : length (take 64 b) ≡ min 64 (length b) = length-take 64 b in
     ap head_of front
     ∙ same_head_by (take 64 b) b
-      (record {
-        shorter = λ k small. ap (λ n. nat_lt n k) sized ∙ min_shorter (length b) k small;
-        reaches = λ k small. ap (λ n. nat_le k n) sized ∙ min_reaches (length b) k small;
-      })
-      (take-take 64 64 b (omega arith))
+    (record {
+      shorter = λ k small. ap (λ n. nat_lt n k) sized ∙ min_shorter (length b) k small;
+      reaches = λ k small. ap (λ n. nat_le k n) sized ∙ min_reaches (length b) k small;
+    })
+    (take-take 64 64 b (omega arith))

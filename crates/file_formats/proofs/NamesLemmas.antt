@@ -39,6 +39,7 @@ names_same {b} {c} {n} {t} a four is_table = of (t.names == SHN_UNDEF) refl
         a.same names (extent (section_at b t t.names)) (omega (arith, four))
         (record { of = t; is_table = is_table; some = some; is = refl }) in
         same_contents b c (section_at b t t.names) a.sized (λ _. same) ∙ ap (contents_of c) section
+
     of : (x : Bool) → (t.names == SHN_UNDEF) ≡ x
         → (if x then None else contents_at b t t.names) ≡ (if x then None else contents_at c t t.names)
     of true e = refl

@@ -34,17 +34,17 @@ contents_same {b} {c} {n} {t} {i} a later is_table other index kind plain none =
     let section = sections_agree a (omega (arith, later)) is_table i index.below in
     same_contents b c (section_at b t i) a.sized
     (λ there.
-      let found = some_of there in
-      a.same (notes i) (extent (section_at b t i)) (omega (arith, later))
-      (record {
-        of = t;
-        is_table = is_table;
-        other = other;
-        bytes = found.0;
-        here = record { index = index; kind = kind; plain = plain; holds = found.1 };
-        none_before = none;
-        is = refl;
-      }))
+    let found = some_of there in
+    a.same (notes i) (extent (section_at b t i)) (omega (arith, later))
+    (record {
+      of = t;
+      is_table = is_table;
+      other = other;
+      bytes = found.0;
+      here = record { index = index; kind = kind; plain = plain; holds = found.1 };
+      none_before = none;
+      is = refl;
+    }))
     ∙ ap (contents_of c) section
 
 -- notes that the one file holds, the other does

@@ -24,13 +24,15 @@ has_section : {b c : List ℕ} {t : SectionTable} {name : List ℕ} {i : ℕ} {b
 has_section {b} {c} {t} {name} {i} s h =
     let section = s.sections i h.index.below in
     let found = some_of (ap (λ x. is_some (contents_of c x)) (sym section)
-      ∙ sym (same_there b c (section_at b t i) s.sized) ∙ some_is h.holds) in
-    (found.0, record {
-      index = h.index;
-      named = sym (name_same s i h.index.below) ∙ h.named;
-      holds = found.1;
-      plain = ap (λ x. has_flag x SHF_COMPRESSED) (sym section) ∙ h.plain;
-    })
+    ∙ sym (same_there b c (section_at b t i) s.sized) ∙ some_is h.holds) in (
+      found.0,
+      record {
+        index = h.index;
+        named = sym (name_same s i h.index.below) ∙ h.named;
+        holds = found.1;
+        plain = ap (λ x. has_flag x SHF_COMPRESSED) (sym section) ∙ h.plain;
+      },
+    )
 
 -- the section of the name is the same, where the bytes in its range are
 section_moves : {b c : List ℕ} {t : SectionTable} {name bytes : List ℕ} → SameSections b c t
@@ -64,8 +66,8 @@ answer_moves a same (present t bytes e found) =
 answer_moves a same (absent t e none) =
     absent t (table_moves a e)
     (λ i bytes h.
-      let back = has_section (turned (same_sections (all_below 4 a) (omega arith) e)) h in
-      none i back.0 back.1)
+    let back = has_section (turned (same_sections (all_below 4 a) (omega arith) e)) h in
+    none i back.0 back.1)
 answer_moves a same (no_table fault e) = no_table fault (table_moves a e)
 
 -- files that agree on more than the windows agree on these

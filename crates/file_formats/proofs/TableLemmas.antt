@@ -149,7 +149,7 @@ from_count b h = ends (not (count_of b h == 0)) (nat_le (h.e_shoff + count_of b 
 -- the tests of the table are these
 pub in_steps : (b : List ℕ) (h : Head) → table_below b h
     ≡ steps (not (h.e_shoff == 0)) (h.e_shentsize == shdr_size h.encoding.class)
-      (not (h.e_shnum == 0) || has_section_zero b h) (from_count b h)
+    (not (h.e_shnum == 0) || has_section_zero b h) (from_count b h)
 unfolding table_below
 in_steps b h = refl
 
@@ -182,7 +182,7 @@ has_names_agree {b} {c} {n} {h} a three is_head reached =
     of false e = refl
     of true e =
         let one = section_agrees a three is_head reached (names_index b h)
-          (ltb-true (names_index b h) (count_of b h) e) in
+        (ltb-true (names_index b h) (count_of b h) e) in
         same_there b c (section_at b (described b h) (names_index b h)) a.sized ∙ ap (λ s. is_some (contents_of c s)) one
 
 -- the table, or the fault of its last tests, is the same
@@ -202,6 +202,7 @@ from_count_agrees {b} {c} {n} {h} a three is_head reached =
         let parts = and_parts (not (count_of b h == 0)) (nat_le (h.e_shoff + count_of b h * h.e_shentsize) (length b)) both in
         and_from (reaches_zero b h && not (count_of b h == 0)) (nat_le (h.e_shoff + count_of b h * h.e_shentsize) (length b))
         (and_from (reaches_zero b h) (not (count_of b h == 0)) reached parts.0) parts.1
+
     last_agrees : reaches_table b h ≡ true → last b h ≡ last c h
     last_agrees all =
         let same : described b h ≡ described c h =
@@ -217,7 +218,7 @@ below_agrees {b} {c} {n} {h} a three is_head =
     in_steps b h
     ∙ same_steps _ _ _ _ _ (λ all. from_count_agrees a three is_head all)
     ∙ ap (λ m. steps (not (h.e_shoff == 0)) (h.e_shentsize == shdr_size h.encoding.class)
-      (not (h.e_shnum == 0) || nat_le (h.e_shoff + shdr_size h.encoding.class) m) (from_count c h)) a.sized
+    (not (h.e_shnum == 0) || nat_le (h.e_shoff + shdr_size h.encoding.class) m) (from_count c h)) a.sized
     ∙ sym (in_steps c h)
 
 -- the table below a header, where it could be read

@@ -34,11 +34,12 @@ build_id_moves {b} {c} {t} {id} a is_table other h = record {
     none_below : (i : ℕ) → i ≤ h.index → NoneBefore b t i
     none_below i within j seen before there =
         let least = h.least j seen there in absurd (omega (arith, within, before, least))
+
     least_of : (i : ℕ) (seen : List ℕ) → HasIdAt c t i seen → h.index ≤ i
     least_of i seen there =
         let not_below : (i < h.index) → ⊥ = λ (below : i < h.index).
-          let least = h.least i seen (returns_any a is_table other (none_below i (omega (arith, below))) there) in
-          omega (arith, below, least) in
+        let least = h.least i seen (returns_any a is_table other (none_below i (omega (arith, below))) there) in
+        omega (arith, below, least) in
         omega (arith, not_below)
 
 -- files that agree on the windows of the first have the same identity, or the same reason why they have none

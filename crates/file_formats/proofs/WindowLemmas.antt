@@ -35,7 +35,7 @@ zero_window_moves {b} {c} a w =
     zero_same : {b c : List ℕ} {n : ℕ} → AgreeBelow b c n → (h : Head) → reaches_zero c h ≡ reaches_zero b h
     zero_same a h =
         ap (λ n. not (h.e_shoff == 0) && (h.e_shentsize == shdr_size h.encoding.class)
-          && (not (h.e_shnum == 0) || nat_le (h.e_shoff + shdr_size h.encoding.class) n)) (sym a.sized)
+        && (not (h.e_shnum == 0) || nat_le (h.e_shoff + shdr_size h.encoding.class) n)) (sym a.sized)
 
 -- the tests up to the table's end pass in both
 pub reached_moves : {b c : List ℕ} {n : ℕ} {h : Head} → AgreeBelow b c n → 2 ≤ n → head_of b ≡ Ok h → reaches_table b h ≡ true
@@ -43,9 +43,9 @@ pub reached_moves : {b c : List ℕ} {n : ℕ} {h : Head} → AgreeBelow b c n �
 reached_moves {b} {c} {n} {h} a two is_head reached =
     let count : count_of b h ≡ count_of c h = count_agrees a two is_head (reached_parts b h reached).0 in
     let test : ℕ → ℕ → Bool = λ k m.
-      not (h.e_shoff == 0) && (h.e_shentsize == shdr_size h.encoding.class)
-      && (not (h.e_shnum == 0) || nat_le (h.e_shoff + shdr_size h.encoding.class) m)
-      && not (k == 0) && nat_le (h.e_shoff + k * h.e_shentsize) m in
+    not (h.e_shoff == 0) && (h.e_shentsize == shdr_size h.encoding.class)
+    && (not (h.e_shnum == 0) || nat_le (h.e_shoff + shdr_size h.encoding.class) m)
+    && not (k == 0) && nat_le (h.e_shoff + k * h.e_shentsize) m in
     ap (test (count_of c h)) (sym a.sized) ∙ ap (λ k. test k (length b)) (sym count) ∙ reached
 
 -- the table stands at one place
@@ -77,7 +77,7 @@ notes_window_moves : {b c : List ℕ} {i : ℕ} {r : Range} → AgreeBelow b c (
 notes_window_moves {b} {c} {i} a w =
     let section = sections_agree a (omega arith) w.is_table i w.here.index.below in
     let found = some_of (ap (λ s. is_some (contents_of c s)) (sym section)
-      ∙ sym (same_there b c (section_at b w.of i) a.sized) ∙ some_is w.here.holds) in
+    ∙ sym (same_there b c (section_at b w.of i) a.sized) ∙ some_is w.here.holds) in
     record {
       of = w.of;
       is_table = sym (table_agrees a (omega arith)) ∙ w.is_table;
@@ -109,8 +109,8 @@ agree_turned {b} {c} (suc n) a =
     record {
       sized = sym a.sized;
       same = λ w r below is.
-        let there : IsWindow b w r = window_moves r w (fewer (omega (arith, below)) before) is in
-        sym (a.same w r below there);
+          let there : IsWindow b w r = window_moves r w (fewer (omega (arith, below)) before) is in
+          sym (a.same w r below there);
     }
 
 -- files that agree on the windows of the first agree on those of the second
@@ -118,8 +118,8 @@ pub agree-symmetric : {b c : List ℕ} → AgreeOnWindows b c → AgreeOnWindows
 agree-symmetric {b} {c} a = record {
   sized = sym a.sized;
   same = λ r h.
-    let back : AgreeBelow c b (suc (rank h.window)) = agree_turned (suc (rank h.window)) (all_below _ a) in
-    back.same h.window r (omega arith) h.is;
+      let back : AgreeBelow c b (suc (rank h.window)) = agree_turned (suc (rank h.window)) (all_below _ a) in
+      back.same h.window r (omega arith) h.is;
 }
 
 -- where a range ends

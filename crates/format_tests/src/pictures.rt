@@ -8,7 +8,14 @@ use std::process::Abort;
 const FILE: &[u8] = b"the bytes of a file";
 
 /// Puts a part of a file into its picture, and says whether that was done: none of it was there.
-fn puts(rt: &impl Abort, alloc: Global, picture: &mut Picture, file: &[u8], at: usize, end: usize) -> bool {
+fn puts(
+    rt: &impl Abort,
+    alloc: Global,
+    picture: &mut Picture,
+    file: &[u8],
+    at: usize,
+    end: usize,
+) -> bool {
     let part = file.get(at..end).expect(rt, "a part of the file");
     let bytes = part.to_vec(alloc).expect(rt, "memory");
     let len = bytes.len() as u64;
@@ -35,7 +42,10 @@ fn gap(picture: &Picture, at: u64, len: u64) -> Option<(u64, u64)> {
 fn two_parts(rt: &impl Abort, alloc: Global) -> Picture {
     let mut picture = Picture::new(alloc, FILE.len() as u64);
     assert!(rt; puts(rt, alloc, &mut picture, FILE, 2, 6), "the first part");
-    assert!(rt; puts(rt, alloc, &mut picture, FILE, 9, 12), "the second part");
+    assert!(rt;
+        puts(rt, alloc, &mut picture, FILE, 9, 12),
+        "the second part"
+    );
     picture
 }
 
@@ -121,8 +131,14 @@ fn joined(rt: &impl Abort, alloc: Global, order: &[usize]) -> (u64, Option<(u64,
     let mut picture = Picture::new(alloc, FILE.len() as u64);
     for part in order {
         let (at, end) = PARTS.get(*part).expect(rt, "a part");
-        assert!(rt; puts(rt, alloc, &mut picture, FILE, *at, *end), "a part in the order");
-        assert!(rt; !puts(rt, alloc, &mut picture, FILE, *at, *end), "the same once more");
+        assert!(rt;
+            puts(rt, alloc, &mut picture, FILE, *at, *end),
+            "a part in the order"
+        );
+        assert!(rt;
+            !puts(rt, alloc, &mut picture, FILE, *at, *end),
+            "the same once more"
+        );
     }
     let whole = picture.slice(2, 10) == Some(b"e bytes of".as_slice());
     (picture.bytes(), gap(&picture, 2, 17), whole)
@@ -136,12 +152,14 @@ fn parts_that_touch_are_lent_as_one_in_whatever_order_they_came(rt: HostRuntime)
     }
 }
 
-/// Whether a file is lent whole, once it was put into its picture byte by byte, from this many on by
-/// steps.
+/// Whether a file is lent whole, once its bytes were put into its picture in the order of these places.
 fn is_whole(rt: &impl Abort, alloc: Global, file: &[u8], places: &[usize]) -> bool {
     let mut picture = Picture::new(alloc, file.len() as u64);
     for at in places {
-        assert!(rt; puts(rt, alloc, &mut picture, file, *at, at.saturating_add(1)), "byte {at}");
+        assert!(rt;
+            puts(rt, alloc, &mut picture, file, *at, at.saturating_add(1)),
+            "byte {at}"
+        );
     }
     picture.slice(0, file.len() as u64) == Some(file)
 }
@@ -167,5 +185,8 @@ fn a_file_is_whole_after_its_bytes_one_by_one(rt: HostRuntime) {
         halves[i] = 98 - 2 * i;
         halves[50 + i] = 1 + 2 * i;
     }
-    assert!(rt; is_whole(&rt, rt.alloc(), &file, &halves), "even places, then odd ones");
+    assert!(rt;
+        is_whole(&rt, rt.alloc(), &file, &halves),
+        "even places, then odd ones"
+    );
 }
