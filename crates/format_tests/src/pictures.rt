@@ -152,8 +152,7 @@ fn parts_that_touch_are_lent_as_one_in_whatever_order_they_came(rt: HostRuntime)
     }
 }
 
-/// Whether a file is lent whole, once it was put into its picture byte by byte, from this many on by
-/// steps.
+/// Whether a file is lent whole, once its bytes were put into its picture in the order of these places.
 fn is_whole(rt: &impl Abort, alloc: Global, file: &[u8], places: &[usize]) -> bool {
     let mut picture = Picture::new(alloc, file.len() as u64);
     for at in places {
