@@ -9,5 +9,6 @@ pub mod QueryLemmas
 pub mod StatementLemmas
 pub mod PutLemmas
 pub mod ToldLemmas
+pub mod PartLemmas
 pub mod AscendLemmas
 pub mod FileKeeperSends

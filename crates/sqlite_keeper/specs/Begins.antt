@@ -1,23 +1,32 @@
 -- How a keeper begins on an open connection (this project's rule), and what a refusal gives back.
 use Rattle.std.specs.Prelude.{◌≡◌, ℕ, ◌<◌, false, Result, IsTrue}
-use Rattle.sqlite.specs.Held.{Held}
+use Rattle.sqlite.specs.Held.{Held, state}
 use Rattle.sqlite.specs.Store.{Ghosts}
 use Rattle.sqlite.specs.declared.error.Error.{Error}
 use Rattle.sqlite_keeper.specs.Keeper.{KeeperFacts}
+use Rattle.sqlite_keeper.specs.Schema.{Fits}
 use Rattle.sqlite_keeper.specs.Statements.{HasPassed, Raises, StaysOutside, WasRaised, WasRun, epoch_table, kept_table}
+use Rattle.sqlite_keeper.specs.Told.{IsTold}
 use Rattle.sqlite_keeper.specs.declared.adopt.AdoptAnswer.{AdoptAnswer}
 use Rattle.sqlite_keeper.specs.declared.adopt.AdoptAnswer.TheVariants as adopt
 use Rattle.sqlite_keeper.specs.declared.fault.SqlFault.{SqlFault}
 use Rattle.sqlite_keeper.specs.declared.fault.SqlFault.TheVariants.{Failed}
 
--- outside a transaction both tables were made, in this order, and then the number of openings was raised to this one
-pub record HasNumber {S : Type 0} (g : Ghosts S) (before after : Held S) (number : ℕ) : Type 0 where
-  pub outside : before.in_transaction ≡ false
+-- both tables were made, in this order, and then the number of openings was raised to this one
+pub record MakesNumber {S : Type 0} (g : Ghosts S) (before after : Held S) (number : ℕ) : Type 0 where
   pub first : Held S
   pub makes_kept : HasPassed g kept_table before first
   pub made : Held S
   pub makes_epoch : HasPassed g epoch_table first made
   pub raised : Raises g made after number
+
+-- this was done outside a transaction, on a database that has no tables but the store's; where it is open still, it is
+-- told then
+pub record HasNumber {S : Type 0} (g : Ghosts S) (before after : Held S) (number : ℕ) : Type 0 where
+  pub outside : before.in_transaction ≡ false
+  pub fits : Fits before.schema
+  pub makes : MakesNumber g before after number
+  pub told : IsTrue (state g after).is_open → IsTold (state g after)
 
 -- the keeper begins: its number is above the last one, and it hasn't failed
 pub record Begins {S : Type 0} (g : Ghosts S) (last : ℕ) (before : Held S) (keeper : KeeperFacts S) : Type 0 where
@@ -40,14 +49,17 @@ pub record StopsShort {S : Type 0} (g : Ghosts S) (before after : Held S) : Type
   pub front : Front g before after
   pub outside : StaysOutside g before after
 
--- a connection comes back from an opening that is refused; where it came inside a transaction it is as it was
+-- a connection comes back from an opening that is refused; where it came inside a transaction, or has other tables, it is
+-- as it was
 pub record ComesBack {S : Type 0} (g : Ghosts S) (before after : Held S) : Type 0 where
   pub same : IsTrue before.in_transaction → after ≡ before
+  pub other : (Fits before.schema → ⊥) → after ≡ before
   pub short : StopsShort g before after
 
--- the opening is refused: inside a transaction it fails, and the connection comes back
+-- the opening is refused: inside a transaction and over other tables it fails, and the connection comes back
 pub record Refuses {S : Type 0} (g : Ghosts S) (before : Held S) (fault : SqlFault) (after : Held S) : Type 0 where
   pub cause : IsTrue before.in_transaction → fault ≡ Failed
+  pub strange : (Fits before.schema → ⊥) → fault ≡ Failed
   pub back : ComesBack g before after
 
 -- what came of adopting the connection

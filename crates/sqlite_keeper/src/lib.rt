@@ -9,6 +9,7 @@ mod file_store;
 mod held_store;
 mod keeper;
 mod rows;
+mod schema;
 mod sql;
 mod telling;
 

@@ -112,7 +112,7 @@ fn leave(rt: &impl Abort, connection: &mut Connection<MemStore>) {
 
 #[test]
 fn a_connection_inside_a_transaction_comes_back_as_it_was(rt: HostRuntime) {
-    let sql = "CREATE TABLE t(a INTEGER); BEGIN; INSERT INTO t VALUES (7)";
+    let sql = "BEGIN; CREATE TABLE t(a INTEGER); INSERT INTO t VALUES (7)";
     let mut back = refused(&rt, after(&rt, rt.alloc(), sql));
     leave(&rt, &mut back);
     assert!(rt; number_of(&rt, back) == 1);
@@ -120,7 +120,7 @@ fn a_connection_inside_a_transaction_comes_back_as_it_was(rt: HostRuntime) {
 
 /// The connection of a store that couldn't be opened inside a transaction, outside it.
 fn kept(rt: &impl Abort, alloc: Global) -> Connection<MemStore> {
-    let mut store = HeldStore::new(after(rt, alloc, "CREATE TABLE t(a INTEGER); BEGIN"));
+    let mut store = HeldStore::new(after(rt, alloc, "BEGIN"));
     assert!(rt; is_refused(alloc, &mut store, "m"), "inside a transaction");
     let mut connection = store.into_connection().expect(rt, "a connection");
     connection

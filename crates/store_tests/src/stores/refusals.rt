@@ -1,8 +1,8 @@
 //! Statements that the database refuses.
 
-use crate::stores::rig::{Call, after, make_call, opened};
+use crate::stores::rig::{Call, after, is_refused, make_call, number, opened};
 use index_keeper::{KeepAnswer, Keeper, Store};
-use sqlite::MemStore;
+use sqlite::{Connection, MemStore};
 use sqlite_keeper::HeldStore;
 use std::alloc::Global;
 use std::process::Abort;
@@ -32,59 +32,62 @@ fn count(
     store.give_back(keeper);
 }
 
-/// A row is refused, and then another is not.
+/// Two rows can't be read where a query may visit one; one row can.
 static REFUSED: [Step; 5] = [
     (Call::Put("/a", 9, KeepAnswer::Done), 0),
-    (Call::Put("/a", 10, KeepAnswer::Failed), 1),
+    (Call::Put("/b", 10, KeepAnswer::Done), 0),
+    (Call::Reads(false), 1),
+    (Call::Remove("/b", KeepAnswer::Done), 1),
     (Call::Rows(&[(b'a', 9)]), 1),
-    (Call::Put("/b", 10, KeepAnswer::Done), 1),
-    (Call::Rows(&[(b'a', 9), (b'b', 10)]), 1),
 ];
 
 #[test]
 fn a_refused_statement_counts_and_changes_nothing(rt: HostRuntime) {
     let alloc = rt.alloc();
-    // A table of the same name, which doesn't take the bytes of the row of `/a` with size 10.
-    let mut store = HeldStore::new(after(
-        &rt,
-        alloc,
-        "CREATE TABLE kept(path TEXT PRIMARY KEY NOT NULL, body BLOB NOT NULL CHECK \
-        (body <> x'01020000002F610A000000000000006400000000000000000000000001')) STRICT",
-    ));
+    let mut connection = after(&rt, alloc, "");
+    connection.set_step_limit(Some(1));
+    let mut store = HeldStore::new(connection);
     count(&rt, alloc, &mut store, 1, REFUSED.as_slice());
     count(&rt, alloc, &mut store, 2, &[]);
 }
 
-/// The rows come in another order, until one is removed.
-static DISORDER: [Step; 3] = [
-    (Call::Reads(false), 1),
-    (Call::Remove("/a", KeepAnswer::Done), 1),
-    (Call::Reads(true), 1),
+/// Tables that aren't the store's, each of which has one entry in the list of tables, or more: by
+/// another column, another order, a condition, a type that isn't strict, another name, in another
+/// order, with an index, and a view.
+static OTHERS: [&str; 8] = [
+    "CREATE TABLE kept(name TEXT) STRICT",
+    "CREATE TABLE kept(path TEXT PRIMARY KEY NOT NULL COLLATE NOCASE, body BLOB NOT NULL) STRICT",
+    "CREATE TABLE kept(path TEXT PRIMARY KEY NOT NULL, body BLOB NOT NULL CHECK (body <> x'01')) \
+    STRICT",
+    "CREATE TABLE kept(path TEXT PRIMARY KEY NOT NULL, body BLOB NOT NULL)",
+    "CREATE TABLE t(a INTEGER)",
+    "CREATE TABLE epoch(one INTEGER PRIMARY KEY CHECK (one = 1), n INTEGER NOT NULL) STRICT; \
+    CREATE TABLE kept(path TEXT PRIMARY KEY NOT NULL, body BLOB NOT NULL) STRICT",
+    "CREATE TABLE kept(path TEXT PRIMARY KEY NOT NULL, body BLOB NOT NULL) STRICT; \
+    CREATE INDEX bodies ON kept(body)",
+    "CREATE VIEW v AS SELECT 1",
 ];
 
-#[test]
-fn rows_in_another_order_are_a_fault(rt: HostRuntime) {
-    let alloc = rt.alloc();
-    // Without regard to case `a` comes before `B`; by bytes it comes behind.
-    let mut store = HeldStore::new(after(
-        &rt,
-        alloc,
-        "CREATE TABLE kept(path TEXT PRIMARY KEY NOT NULL COLLATE NOCASE, body BLOB NOT NULL) \
-        STRICT; INSERT INTO kept VALUES ('/B', x'01'), ('/a', x'01')",
-    ));
-    count(&rt, alloc, &mut store, 1, DISORDER.as_slice());
+/// How many entries the list of tables has.
+fn entries(rt: &impl Abort, connection: &mut Connection<MemStore>) -> i64 {
+    number(rt, connection, "SELECT count(*) FROM sqlite_schema")
 }
 
-/// Each call fails.
-static SHAPE: [Step; 3] = [
-    (Call::Put("/a", 1, KeepAnswer::Failed), 1),
-    (Call::Remove("/a", KeepAnswer::Failed), 2),
-    (Call::Reads(false), 3),
-];
+/// The connection of a store that couldn't be opened.
+fn turned_back(rt: &impl Abort, alloc: Global, sql: &str) -> Connection<MemStore> {
+    let mut store = HeldStore::new(after(rt, alloc, sql));
+    assert!(rt; is_refused(alloc, &mut store, "m"), "{sql}");
+    store.into_connection().expect(rt, "a connection")
+}
 
 #[test]
-fn a_table_of_another_shape_is_refused(rt: HostRuntime) {
+fn other_tables_are_refused_and_stay(rt: HostRuntime) {
     let alloc = rt.alloc();
-    let mut store = HeldStore::new(after(&rt, alloc, "CREATE TABLE kept(name TEXT) STRICT"));
-    count(&rt, alloc, &mut store, 1, SHAPE.as_slice());
+    for sql in OTHERS {
+        let listed = entries(&rt, &mut after(&rt, alloc, sql));
+        assert!(rt;
+            entries(&rt, &mut turned_back(&rt, alloc, sql)) == listed,
+            "{sql}"
+        );
+    }
 }
