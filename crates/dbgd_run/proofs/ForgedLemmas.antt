@@ -26,7 +26,7 @@ use Rattle.tree_trait.specs.Present.{are_distinct}
 use Rattle.tree_trait.specs.Stat.{IsNothingAt}
 use Rattle.tree_trait.proofs.EntryLemmas.{entries_same, entry_itself}
 use Rattle.tree_trait.proofs.FolderLemmas.{front_of_longer, made_is_piece, starts_rest}
-use Rattle.tree_walk.specs.Files.{FitsFault, FolderFacts, HasManyEntries, HasManyFiles, IsFileUnder, IsFolderUnder}
+use Rattle.tree_walk.specs.Files.{AreFilesUnder, FitsFault, FolderFacts, HasManyEntries, HasManyFiles, IsFileUnder, IsFolderUnder}
 use Rattle.elf_forge.specs.Place.{file_path, folder_at, name_of, names_of, numbers_below}
 use Rattle.elf_forge.proofs.FolderLemmas.{by_folder, folder_there, lies_in, some_files}
 use Rattle.dbgd_run.proofs.CountLemmas.{as_many_at_most, has, has_it, once, weigh_at_most}
@@ -68,6 +68,16 @@ not_many_files seed files roots few many =
     let limit : LISTING_LIMIT ≡ 1048576 = refl in
     let over = many.many in
     omega (arith, few, most, long, limit, over)
+
+-- those under some folders are no more
+pub few_listed : (seed files : ℕ) (roots : List (List ℕ)) {listing : List NameFacts} → files ≤ 100000
+    → AreFilesUnder (names_of seed files) roots listing → length listing ≤ 100000
+few_listed seed files roots {listing} few under =
+    let all : List NameFacts = names_of seed files in
+    let most = as_many_at_most same_name same_name-Decides listing all (by_path_once listing under.by_path)
+    (λ name within. has_it same_name same_name-Decides all name ((under.all name).0 within).there) in
+    let long = as_many_names seed files in
+    omega (arith, few, most, long)
 
 -- ---- entries
 

@@ -57,6 +57,13 @@ pub both_first : {T : Type 0} (s : Setting T) (A B : ShownTree → ShownTree →
 both_first s A B (hand ∷ hands) (later ∷ left) a b each = each (s.sees hand) (s.sees later) a b
 both_first s A B _ _ a b each = absurd a
 
+-- and what follows of both
+pub first_both : {T : Type 0} (s : Setting T) (A B C : ShownTree → ShownTree → Type 0) (hands left : List T)
+    → OfFirst s A hands left → OfFirst s B hands left
+    → ((before after : ShownTree) → A before after → B before after → C before after) → OfFirst s C hands left
+first_both s A B C (hand ∷ hands) (later ∷ left) a b each = each (s.sees hand) (s.sees later) a b
+first_both s A B C _ _ a b each = absurd a
+
 -- a hand that isn't asked is handed on
 stays_on : (told : Bool) (version : Versions) (tree : ShownTree) {Fails : Type 0} → ¬ Fails → HandsOn told version tree tree ⊥ Fails
 stays_on told version tree never = record {

@@ -4,6 +4,7 @@ pub mod Codes
 pub mod CountLemmas
 pub mod ForgedLemmas
 pub mod HandLemmas
+pub mod LimitInstances
 pub mod PassLemmas
 pub mod QueryLemmas
 pub mod RowLemmas

@@ -1,6 +1,7 @@
 -- The pass of a scan: what is said of the index that made it is said of the store that it came from and went to.
-use Rattle.std.proofs.Common.{◌≡◌, ◌⊎◌, inl, inr, ℕ, Bool, true, false, List, ◌∷◌, drop, Option, Some, Ok, length, refl, sym, ◌∙◌, ap, subst, IsTrue}
+use Rattle.std.proofs.Common.{◌≡◌, ◌⊎◌, inl, inr, ℕ, ◌+◌, ◌≤◌, Bool, true, false, List, ◌∷◌, drop, Option, Some, Ok, length, refl, sym, ◌∙◌, ap, subst, arith, IsTrue}
 use Rattle.std.specs.List.{AllZip}
+use Rattle.std.proofs.lemmas.List.{length-map}
 use Rattle.row_types.specs.Faults.{Rose}
 use Rattle.row_types.specs.Name.{NameFacts}
 use Rattle.row_types.specs.Row.{RowFacts}
@@ -12,13 +13,16 @@ use Rattle.index_keeper.specs.Store.{HasAll, ShownStore, TakesBack}
 use Rattle.index_keeper.specs.Tables.{KeptFacts}
 use Rattle.index_keeper.specs.declared.answer.KeptAnswer.{KeptAnswer}
 use Rattle.index_keeper.specs.declared.answer.KeptAnswer.TheVariants as kept
+use Rattle.index_rows.specs.Log.{put_of}
 use Rattle.index_rows.specs.Rows.{row_names}
+use Rattle.index_rows.specs.declared.rows.TheConstants.{LOG_LIMIT}
 use Rattle.index_rows.specs.declared.change.Change.{Change}
 use Rattle.index_state.specs.Changes.{TellsSince}
 use Rattle.index_state.specs.Invariant.{IndexInvariant}
 use Rattle.index_state.specs.Kept.{Agrees, IsInDoubt, IsInStore, IsNext, tables_of}
 use Rattle.index_state.specs.Opening.{Opens, current, made_swept}
-use Rattle.index_state.specs.Plan.{plan_of}
+use Rattle.index_state.specs.Bound.{IsWithinPlan, voids}
+use Rattle.index_state.specs.Plan.{most_changes, plan_of}
 use Rattle.index_state.specs.State.{Origin, StateFacts, pass_of}
 use Rattle.tree_trait.specs.Heard.{Heard}
 use Rattle.tree_trait.specs.Shown.{ShownTree}
@@ -207,6 +211,20 @@ module _ {K T : Type 0} (s : Setting T) {shows : K → ShownKeeper} {from into :
             subst (λ (l : List NameFacts). Into l run.more (current lent.opens.opened.rows) run.found.rows new.rows) (sym run.over) ends;
       }
 
+  -- a log without room has the rows that were found and the changes that the plan allows
+  many_changes : (listing : List NameFacts) → length new.log ≡ LOG_LIMIT → new.broken ≡ false → IsWithinPlan listing old new
+      → LOG_LIMIT ≤ length (current lent.opens.opened.rows)
+      + most_changes (plan_of listing (row_names (current lent.opens.opened.rows)))
+  many_changes listing full sound bounded =
+      let long : length old.log ≡ length (current lent.opens.opened.rows) =
+      ap (λ (st : StateFacts K). length st.log) lent.opens.opened.value
+      ∙ length-map (current lent.opens.opened.rows) (λ (r : RowFacts). put_of r.name) in
+      let void : voids new.broken ≡ 0 = ap (λ (b : Bool). voids b) sound in
+      let plan : most_changes (plan_of listing (row_names old.rows))
+      ≡ most_changes (plan_of listing (row_names (current lent.opens.opened.rows))) =
+      ap (λ (names : List NameFacts). most_changes (plan_of listing names)) old_names in
+      omega (arith, full, bounded, long, void, plan)
+
   -- how the pass ended is how the scan does
   ends_by : (roots : List (List ℕ)) (listing : List NameFacts) (hand later : T) (hands left : List T) (end : PassEnd) → HasPath end
       → EndsPass s.world s.tells_files s.tells_tables shows (length (hand ∷ hands)) roots listing (s.sees hand) (s.sees later) old new end
@@ -220,7 +238,7 @@ module _ {K T : Type 0} (s : Setting T) {shows : K → ShownKeeper} {from into :
         numbers = run.ends.numbers ∙ ap (λ names. summary_of (plan_of listing names) new.rows) old_names;
       })
   ends_by roots listing hand later hands left (ended.Missed miss) path run helps idle =
-      makes run helps (record { path = path; why = run.ends.why; has = has_rows run.ends.sound })
+      makes run helps (record { path = path; why = run.ends.why; apart = run.ends.apart; has = has_rows run.ends.sound })
   ends_by roots listing hand later hands left (ended.Walk fault) path ends helps idle =
       in_walk ends.same (record { walks = ends.walks; fits = ends.fits }, others_stay (idle refl))
   ends_by roots listing hand later hands left ended.Broken path ends helps idle = absurd ends
@@ -233,6 +251,7 @@ module _ {K T : Type 0} (s : Setting T) {shows : K → ShownKeeper} {from into :
         full = run.ends.full;
         apart = λ names.
             run.ends.apart (names ∙ sym (ap (λ (p : Option PassFacts). (pass_of p).listing) run.leaves.is_open ∙ run.leaves.over));
+        many = many_changes listing run.ends.full run.ends.sound run.bounded;
         has = has_rows run.ends.sound;
       })
   ends_by roots listing hand later hands left ended.OutOfMemory path (inl early) helps idle =

@@ -68,6 +68,10 @@ same_rows (x ∷ a) (y ∷ b) p q e =
     let others : a ≡ b = same_rows a b (All-tail IsSpelled x a p) (All-tail IsSpelled y b q) rest in
     ap (λ r. r ∷ a) one ∙ ap (λ rs. y ∷ rs) others
 
+-- values are those of one list of rows
+pub one_rows : {a b : List RowFacts} {values : List KeptFacts} → AreRows a values → AreRows b values → a ≡ b
+one_rows {a} {b} p q = same_rows a b p.spelled q.spelled (sym p.kept ∙ q.kept)
+
 -- rows that aren't too many are too many by no reading
 pub none_overfull : {rows : List RowFacts} {values : List KeptFacts} → AreRows rows values
     → length (current rows) ≤ LOG_LIMIT → IsOverfull values → ⊥

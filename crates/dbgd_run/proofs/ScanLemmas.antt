@@ -1,24 +1,26 @@
 -- What the status of a scan says, by how it ended.
-use Rattle.std.proofs.Common.{◌≡◌, inl, inr, ℕ, List, Bool, sym, refl, subst, IsTrue}
+use Rattle.std.proofs.Common.{◌≡◌, inl, inr, ℕ, ◌+◌, ◌<◌, List, Bool, None, length, sym, refl, subst, arith, IsTrue}
 use Rattle.std.specs.List.{Contains}
 use Rattle.row_types.specs.Canon.{IsCanonPath}
 use Rattle.row_types.specs.Faults.{Rose}
-use Rattle.row_types.specs.Name.{NameFacts}
+use Rattle.row_types.specs.Name.{NameFacts, stamp_at}
 use Rattle.row_types.specs.Row.{RowFacts}
 use Rattle.scan_queue.specs.declared.miss.Cause.{Cause}
 use Rattle.scan_queue.specs.declared.miss.Cause.TheVariants as cause
 use Rattle.http_wire.specs.Sink.{GetsAll}
 use Rattle.index_rows.specs.Rows.{row_names}
+use Rattle.index_rows.specs.declared.rows.TheConstants.{LOG_LIMIT}
 use Rattle.index_state.specs.Opening.{AreRows, IsOverfull, current}
+use Rattle.index_state.specs.Plan.{most_changes, plan_of}
 use Rattle.index_state.specs.declared.open_fault.OpenFault.TheVariants as refusal
 use Rattle.tree_trait.specs.Found.{Versions}
 use Rattle.tree_trait.specs.Heard.{Heard}
 use Rattle.tree_trait.specs.Shown.{HandsOn, ShownTree}
-use Rattle.tree_walk.specs.Files.{FitsFault}
+use Rattle.tree_walk.specs.Files.{AreFilesUnder, FitsFault}
 use Rattle.tree_walk.specs.declared.fault.WalkFault.{WalkFault}
 use Rattle.tree_walk.specs.declared.walked.Walk.{Walk}
 use Rattle.tree_walk.specs.declared.fault.WalkFault.TheVariants as stop
-use Rattle.pass_runner.specs.Owned.{HearsPass}
+use Rattle.pass_runner.specs.Owned.{HearsPass, TellsStill}
 use Rattle.pass_runner.specs.Settled.{IsBacked}
 use Rattle.pass_runner.specs.declared.pass_end.PassEnd.{PassEnd}
 use Rattle.pass_runner.specs.declared.pass_end.PassEnd.TheVariants as ended
@@ -36,8 +38,8 @@ use Rattle.dbgd_run.specs.declared.scan_end.ScanEnd.TheVariants.{Refused, Passed
 use Rattle.dbgd_run.specs.declared.status.Status.{Status}
 use Rattle.dbgd_run.specs.declared.status.Status.TheVariants as status
 use Rattle.dbgd_run.proofs.ChangedLemmas.{IsChange, never_changed}
-use Rattle.dbgd_run.proofs.HandLemmas.{both_first, of_first}
-use Rattle.dbgd_run.proofs.RowLemmas.{first_held, none_bad, none_overfull}
+use Rattle.dbgd_run.proofs.HandLemmas.{both_first, first_both, of_first}
+use Rattle.dbgd_run.proofs.RowLemmas.{first_held, none_bad, none_overfull, one_rows}
 
 -- what the status of the end says is said, or that memory was wanted, or that the standard output failed
 by_end : (P : Status → Type 0) (how : ScanEnd) (old new : Streams) (end : Status)
@@ -77,9 +79,10 @@ by_end P (Passed ended.OutOfMemory) old new end said wants out whole = subst P (
 heard_other : {told : Bool} {version : Versions} {roots : List (List ℕ)} {names : List NameFacts} {walk : Walk} {walked more : List Heard}
     {before after : ShownTree} (Failed : Type 0) (name : NameFacts) (why : Cause)
     → HearsPass told version roots names walk walked more before after → IsChange why → IsCanonPath name.path
-    → IsBacked walk.listing names more Failed name why → HeardOther told roots before after
-heard_other {walk = walk} {walked = walked} {more = more} Failed name cause.ReadFault hears change path backed = absurd change
-heard_other {walk = walk} {walked = walked} {more = more} Failed name (cause.Altered met) hears change path backed = record {
+    → IsBacked walk.listing names more Failed name why → (why ≡ cause.Appeared → stamp_at walk.listing name.path ≡ None)
+    → HeardOther told roots before after
+heard_other {walk = walk} {walked = walked} {more = more} Failed name cause.ReadFault hears change path backed apart = absurd change
+heard_other {walk = walk} {walked = walked} {more = more} Failed name (cause.Altered met) hears change path backed apart = record {
   walk = walk;
   walked = walked;
   more = more;
@@ -90,7 +93,7 @@ heard_other {walk = walk} {walked = walked} {more = more} Failed name (cause.Alt
   why = backed;
   still = never_changed Failed name (cause.Altered met) hears tt path backed;
 }
-heard_other {walk = walk} {walked = walked} {more = more} Failed name cause.Appeared hears change path backed = record {
+heard_other {walk = walk} {walked = walked} {more = more} Failed name cause.Appeared hears change path backed apart = record {
   walk = walk;
   walked = walked;
   more = more;
@@ -98,7 +101,7 @@ heard_other {walk = walk} {walked = walked} {more = more} Failed name cause.Appe
   whole = hears.whole;
   name = name;
   cause = cause.Appeared;
-  why = backed.seen;
+  why = record { unlisted = apart refl; heard = backed.seen.heard };
   still = never_changed Failed name cause.Appeared hears tt path backed;
 }
 
@@ -128,21 +131,23 @@ module _ {T : Type 0} (s : Setting T) (path : List ℕ) (roots : List (List ℕ)
       → {Ends : List NameFacts → List Heard → List RowFacts → List RowFacts → List RowFacts → Type 0}
       → (pass : MakesPass s roots before.hands after.hands before.store after.store Ends) → IsCanonPath name.path
       → IsBacked pass.walk.listing (row_names pass.met) pass.more (FirstRose s before.hands after.hands) name why
+      → (why ≡ cause.Appeared → stamp_at pass.walk.listing name.path ≡ None)
       → OfFirst s (HeardOther s.tells_files roots) before.hands after.hands
-  other_heard name why change pass path backed =
+  other_heard name why change pass path backed apart =
       of_first s
       (λ hand later. HearsPass s.tells_files s.world.version roots (row_names pass.met) pass.walk pass.walked pass.more (s.sees hand) (s.sees later))
       (HelpsWith s pass.walk.listing (current pass.found))
       (HeardOther s.tells_files roots) before.hands after.hands
-      (λ hand later hears. heard_other (FirstRose s before.hands after.hands) name why hears change path backed) pass.hands
+      (λ hand later hears. heard_other (FirstRose s before.hands after.hands) name why hears change path backed apart) pass.hands
 
   -- what the status of a missed name says
   miss_status : (name : NameFacts) (why : Cause) → ScansTo (Passed (ended.Missed (record { name = name; cause = why })))
       → ScanStatus s roots before after (miss_saying name why).status
   miss_status name cause.ReadFault scans = inr (inl scans.ends.ends.why)
   miss_status name (cause.Altered met) scans =
-      other_heard name (cause.Altered met) tt scans.ends scans.ends.ends.path scans.ends.ends.why
-  miss_status name cause.Appeared scans = other_heard name cause.Appeared tt scans.ends scans.ends.ends.path scans.ends.ends.why
+      other_heard name (cause.Altered met) tt scans.ends scans.ends.ends.path scans.ends.ends.why scans.ends.ends.apart
+  miss_status name cause.Appeared scans =
+      other_heard name cause.Appeared tt scans.ends scans.ends.ends.path scans.ends.ends.why scans.ends.ends.apart
 
   -- what the status of a scan's end says
   end_status : (end : ScanEnd) → ScansTo end → GetsAll (scan_saying end).out before.streams.out after.streams.out
@@ -251,11 +256,11 @@ module _ {T : Type 0} (s : Setting T) (path : List ℕ) (roots : List (List ℕ)
       (λ b a hand rose. hand.faultless rose)
   never_missed name (cause.Altered met) free scans =
       both_first s (IsFreeHand s.tells_files roots) (HeardOther s.tells_files roots) before.hands after.hands free.hand
-      (other_heard name (cause.Altered met) tt scans.ends scans.ends.ends.path scans.ends.ends.why)
+      (other_heard name (cause.Altered met) tt scans.ends scans.ends.ends.path scans.ends.ends.why scans.ends.ends.apart)
       (λ b a hand heard. heard.still hand.still)
   never_missed name cause.Appeared free scans =
       both_first s (IsFreeHand s.tells_files roots) (HeardOther s.tells_files roots) before.hands after.hands free.hand
-      (other_heard name cause.Appeared tt scans.ends scans.ends.ends.path scans.ends.ends.why)
+      (other_heard name cause.Appeared tt scans.ends scans.ends.ends.path scans.ends.ends.why scans.ends.ends.apart)
       (λ b a hand heard. heard.still hand.still)
 
   -- nor does a walk end with a fault
@@ -266,9 +271,29 @@ module _ {T : Type 0} (s : Setting T) (path : List ℕ) (roots : List (List ℕ)
       (walk_heard fault (WalksInto s.tells_files roots fault) scans (λ b a w. w))
       (λ b a hand w. never b a hand (w.fits hand.still))
 
-  -- so it is done, or memory is wanted, or its log has no room
+  -- nor has its log no room
+  never_full : IsUnhindered s roots before after → ScansTo (Passed ended.LogFull) → ⊥
+  never_full free scans =
+      let ends = scans.ends in
+      let under : OfFirst s (λ hand later. AreFilesUnder hand.present roots ends.walk.listing) before.hands after.hands =
+      first_both s (IsFreeHand s.tells_files roots) (λ b a. TellsStill s.tells_files b → AreFilesUnder b.present roots ends.walk.listing)
+      (λ b a. AreFilesUnder b.present roots ends.walk.listing) before.hands after.hands free.hand
+      (of_first s
+      (λ hand later. HearsPass s.tells_files s.world.version roots (row_names ends.met) ends.walk ends.walked ends.more (s.sees hand) (s.sees later))
+      (HelpsWith s ends.walk.listing (current ends.found))
+      (λ b a. TellsStill s.tells_files b → AreFilesUnder b.present roots ends.walk.listing) before.hands after.hands
+      (λ hand later hears. hears.under) ends.hands)
+      (λ b a hand so. so hand.still) in
+      let same : free.rows ≡ ends.found =
+      one_rows free.held (subst (λ values. AreRows ends.found values) (ends.held.gave.tells free.tells) ends.held.sound) in
+      let room = subst (λ (rows : List RowFacts). length (current rows)
+      + most_changes (plan_of ends.walk.listing (row_names (current rows))) < LOG_LIMIT) same (free.room ends.walk.listing under) in
+      let many = ends.ends.many in
+      omega (arith, room, many)
+
+  -- so it is done, or memory is wanted
   complete_end : (end : ScanEnd) → IsUnhindered s roots before after → ScansTo end
-      → IsComplete s roots before after (scan_saying end).status
+      → IsComplete (scan_saying end).status
   complete_end (Refused refusal.KeeperFault) free scans = absurd (free.store (scans.store.rose refl))
   complete_end (Refused (refusal.BadRow kept fault)) free scans =
       absurd (none_bad fault (subst (λ values. AreRows free.rows values) (sym (scans.ends.store.gave.tells free.tells)) free.held)
@@ -292,7 +317,7 @@ module _ {T : Type 0} (s : Setting T) (path : List ℕ) (roots : List (List ℕ)
   complete_end (Passed (ended.Walk stop.OutOfMemory)) free scans = tt
   complete_end (Passed ended.Broken) free scans = absurd scans.ends
   complete_end (Passed ended.KeeperFault) free scans = absurd (free.store (scans.store.rose refl))
-  complete_end (Passed ended.LogFull) free scans = scans.ends
+  complete_end (Passed ended.LogFull) free scans = absurd (never_full free scans)
   complete_end (Passed ended.OutOfMemory) free scans = tt
 
   -- how a scan ends when
@@ -311,6 +336,6 @@ module _ {T : Type 0} (s : Setting T) (path : List ℕ) (roots : List (List ℕ)
         let ends = (subst ScansTo whole run.scans).ends in
         absurd (none_overfull (told_rows (ended.Whole summary) tells ends) ends.held.few full)) run.said;
     complete = λ free.
-        by_end (IsComplete s roots before after) run.end before.streams after.streams end
+        by_end IsComplete run.end before.streams after.streams end
         (λ _. complete_end run.end free run.scans) tt (λ summary whole rose. absurd (free.out rose)) run.said;
   }

@@ -1,4 +1,4 @@
--- A trial: its sum row by row, its hands, and its log.
+-- A trial: its sum row by row, its hands, and its opening.
 use Rattle.std.proofs.Common.{◌≡◌, inl, inr, ℕ, zero, suc, ◌<◌, ◌≤◌, true}
 use Rattle.std.proofs.Common.{List, [], ◌∷◌, ◌++◌, length, Some, refl, sym, ◌∙◌, ap, subst, arith}
 use Rattle.std.specs.Prelude.{replicate}
@@ -7,20 +7,18 @@ use Rattle.sha2.specs.Hashers.{Holds256}
 use Rattle.sha2.specs.declared.Sha256.{Sha256}
 use Rattle.index_keeper.specs.Answers.{for_rows, rows_in}
 use Rattle.index_keeper.specs.Keeper.{Asks}
-use Rattle.index_keeper.specs.Tables.{EditFacts, KeptFacts}
+use Rattle.index_keeper.specs.MemKeeper.{KeeperFacts}
+use Rattle.index_keeper.specs.Tables.{KeptFacts}
 use Rattle.index_keeper.specs.declared.answer.KeptAnswer.{KeptAnswer}
 use Rattle.index_keeper.specs.declared.answer.KeptAnswer.TheVariants.{All as AllRows, Failed as RowsFailed}
 use Rattle.index_keeper.specs.declared.answer.KeptAnswer.TheVariants.{OutOfMemory as RowsNoMemory}
-use Rattle.index_rows.specs.declared.change.Change.{Change}
-use Rattle.index_state.specs.Changes.{HasOrigin, MadeFor, TellsSince}
 use Rattle.index_rows.specs.declared.rows.TheConstants.{LOG_LIMIT}
 use Rattle.index_state.specs.Kept.{tables_of}
 use Rattle.index_state.specs.Opening.{CountsFault, Refuses, current}
-use Rattle.index_state.specs.State.{Origin}
 use Rattle.index_state.specs.declared.open_fault.OpenFault.{OpenFault}
 use Rattle.index_state.specs.declared.open_fault.OpenFault.TheVariants as refusal
 use Rattle.pass_runner.specs.Owned.{HandsGo}
-use Rattle.dbgd_run.specs.TrialKeeper.{IsNewKeeper, RoomFacts, shown_sure}
+use Rattle.dbgd_run.specs.TrialKeeper.{IsNewKeeper, shown_sure}
 use Rattle.dbgd_run.specs.Trial.{joined}
 
 -- ---- the sum
@@ -42,33 +40,9 @@ first_of_alike First Other Goes Stays hand zero left some first goes = absurd (o
 first_of_alike First Other Goes Stays hand (suc n) [] some first goes = absurd first
 first_of_alike First Other Goes Stays hand (suc n) (later ∷ left) some first goes = (later, first.0, goes.0)
 
--- ---- the log
-
--- the store made a change for each change of the log
-as_many : (true_row : RowFacts → Type 0) (log : List Change) (edits : List EditFacts) → MadeFor true_row log edits
-    → length log ≡ length edits
-as_many true_row [] [] made = refl
-as_many true_row [] (edit ∷ edits) made = absurd made
-as_many true_row (change ∷ log) [] made = absurd made
-as_many true_row (change ∷ log) (edit ∷ edits) made = ap suc (as_many true_row log edits made.1)
-
-no_first : (log : List Change) → length log ≡ 0 → log ≡ []
-no_first [] e = refl
-no_first (change ∷ log) e = absurd (omega (arith, e))
-
--- a log that began with none, on a store that had made none, is no longer than what the store has made
-pub log_few : {true_row : RowFacts → Type 0} (origin : Origin) (edits : List EditFacts) (log : List Change)
-    → origin.puts ≡ 0 → origin.made ≡ Some [] → HasOrigin true_row origin (Some edits) log
-    → length log ≡ length edits
-log_few {true_row} origin edits log none new has =
-    let told = subst (λ made. TellsSince true_row has.since made (Some edits)) new has.told in
-    let since : log ≡ has.since
-    = has.parts ∙ ap (λ first. first ++ has.since) (no_first has.first (has.count ∙ none)) in
-    ap length since ∙ as_many true_row has.since told.since told.each ∙ ap length (sym told.parts)
-
 -- ---- the opening
 
-nothing_in : (values : List KeptFacts) (answer : KeptAnswer) (keeper asked : RoomFacts) → keeper.kept.shelf.tables ≡ []
+nothing_in : (values : List KeptFacts) (answer : KeptAnswer) (keeper asked : KeeperFacts) → keeper.shelf.tables ≡ []
     → Asks true (shown_sure keeper) (shown_sure asked) (for_rows answer) → rows_in answer ≡ Some values → values ≡ []
 nothing_in values (AllRows rows) keeper asked none heard gave =
     let tells = heard.tells refl in
@@ -88,7 +62,7 @@ no_rows [] e = refl
 no_rows (row ∷ rows) e = absurd (cc)
 
 -- an index on a new store can't be opened for want of memory alone
-pub only_memory : (keeper given : RoomFacts) (fault : OpenFault) → IsNewKeeper keeper
+pub only_memory : (keeper given : KeeperFacts) (fault : OpenFault) → IsNewKeeper keeper
     → Refuses true shown_sure keeper fault given → CountsFault (shown_sure keeper) (shown_sure given) fault
     → fault ≡ refusal.OutOfMemory
 only_memory keeper given refusal.OutOfMemory new why counts = refl

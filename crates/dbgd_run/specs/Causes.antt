@@ -1,21 +1,24 @@
 -- When a status comes (this project's rule): what each says, by the line.
-use Rattle.std.specs.Prelude.{◌≡◌, ◌⊎◌, ℕ, ◌≤◌, Bool, List, ◌++◌, length, Contains, IsTrue}
+use Rattle.std.specs.Prelude.{◌≡◌, ◌⊎◌, ℕ, ◌+◌, ◌≤◌, ◌<◌, Bool, List, ◌++◌, length, None, Contains, IsTrue}
 use Rattle.row_types.specs.Faults.{Rose}
-use Rattle.row_types.specs.Name.{NameFacts}
+use Rattle.row_types.specs.Name.{NameFacts, stamp_at}
 use Rattle.row_types.specs.Row.{RowFacts}
 use Rattle.scan_queue.specs.declared.miss.Cause.{Cause}
 use Rattle.scan_queue.specs.declared.miss.Cause.TheVariants.{ReadFault, Altered as WasAltered, Appeared}
 use Rattle.index_rows.specs.declared.rows.TheConstants.{LOG_LIMIT}
+use Rattle.index_rows.specs.Rows.{row_names}
 use Rattle.index_state.specs.Opening.{AreRows, IsOverfull, current}
-use Rattle.tree_trait.specs.Heard.{Heard, with_answers}
+use Rattle.index_state.specs.Plan.{most_changes, plan_of}
+use Rattle.tree_trait.specs.Heard.{Heard, stat, with_answers}
 use Rattle.tree_trait.specs.Shown.{ShownTree}
 use Rattle.tree_trait.specs.Stat.{IsNothingAt}
+use Rattle.tree_trait.specs.declared.stat.StatAnswer.TheVariants.{File}
 use Rattle.tree_walk.specs.Ends.{IsRootGone, IsTooMany, IsTooManyEntries, IsWholeWalk}
-use Rattle.tree_walk.specs.Files.{HasManyEntries, HasManyFiles}
+use Rattle.tree_walk.specs.Files.{AreFilesUnder, HasManyEntries, HasManyFiles}
 use Rattle.tree_walk.specs.declared.walked.Walk.{Walk}
 use Rattle.http_wire.specs.Sink.{GetsAll}
 use Rattle.pass_runner.specs.Owned.{LoadsBeside, TellsStill}
-use Rattle.pass_runner.specs.Settled.{IsHeardAltered, IsSeenThere}
+use Rattle.pass_runner.specs.Settled.{IsHeardAltered}
 use Rattle.pass_runner.specs.declared.pass_end.PassEnd.TheVariants as pass
 use Rattle.pass_runner.specs.declared.summary.Summary.{Summary}
 use Rattle.dbgd_run.specs.Opened.{EndsOnlyWith, HasBad, HasSomeBad, OpensOn}
@@ -67,13 +70,18 @@ pub record HeardGone (told : Bool) (roots : List (List ℕ)) (before after : Sho
   pub gone : IsRootGone answers roots path
   pub still : TellsStill told before → HasRootGone before.present roots
 
--- by what a file was found to be another: a listed one was, or one that isn't listed stands
+-- a look found a file whose path isn't listed
+pub record IsPathThere (listing : List NameFacts) (answers : List Heard) (name : NameFacts) : Type 0 where
+  pub unlisted : stamp_at listing name.path ≡ None
+  pub heard : Contains answers (stat name.path (File name.stamp))
+
+-- by what a file was found to be another: a listed one was, or one stands whose path isn't listed
 abbrev pub IsHeardOther : List NameFacts → List Heard → NameFacts → Cause → Type 0
 IsHeardOther listing answers name ReadFault = ⊥
 IsHeardOther listing answers name (WasAltered met) = IsHeardAltered listing answers name met
-IsHeardOther listing answers name Appeared = IsSeenThere listing answers name
+IsHeardOther listing answers name Appeared = IsPathThere listing answers name
 
--- the hand heard a whole walk, and behind it that a listed file is another by now, or that a file stands which isn't
+-- the hand heard a whole walk, and behind it that a listed file is another by now, or that a file stands whose path isn't
 -- listed; files that never change are neither
 pub record HeardOther (told : Bool) (roots : List (List ℕ)) (before after : ShownTree) : Type 0 where
   pub walk : Walk
@@ -172,7 +180,8 @@ pub record IsFreeHand (told : Bool) (roots : List (List ℕ)) (before after : Sh
   pub faultless : ¬ Rose before.faults after.faults
 
 -- nothing stands against a scan: so it is of the first hand, the store tells that each of its values is a row, not too
--- many of them of the edition, and neither its count nor that of the standard output rose
+-- many of them of the edition, the rows of the edition and the changes that the plan of the files under the folders allows
+-- against them are fewer than a log may have, and neither the store's count nor that of the standard output rose
 pub record IsUnhindered {T : Type 0} (s : Setting T) (roots : List (List ℕ))
     (before after : Scene T) : Type 0 where
   pub hand : OfFirst s (IsFreeHand s.tells_files roots) before.hands after.hands
@@ -180,16 +189,17 @@ pub record IsUnhindered {T : Type 0} (s : Setting T) (roots : List (List ℕ))
   pub rows : List RowFacts
   pub held : AreRows rows before.store.tables
   pub few : length (current rows) ≤ LOG_LIMIT
+  pub room : (listing : List NameFacts)
+      → OfFirst s (λ hand later. AreFilesUnder hand.present roots listing) before.hands after.hands
+      → length (current rows) + most_changes (plan_of listing (row_names (current rows))) < LOG_LIMIT
   pub store : ¬ Rose before.store.faults after.store.faults
   pub out : ¬ Rose before.streams.out.write_faults after.streams.out.write_faults
 
--- what a scan that nothing stands against ends with: it is done, its log has no room for a change, or memory was refused
-abbrev pub IsComplete : {T : Type 0} → Setting T → List (List ℕ) → Scene T → Scene T → Status → Type 0
-IsComplete s roots before after Done = Unit {0}
-IsComplete s roots before after Limit =
-    EndsPassed s roots before.hands after.hands before.store after.store pass.LogFull
-IsComplete s roots before after OutOfMemory = Unit {0}
-IsComplete s roots before after _ = ⊥
+-- what a scan that nothing stands against ends with: it is done, or memory was refused
+abbrev pub IsComplete : Status → Type 0
+IsComplete Done = Unit {0}
+IsComplete OutOfMemory = Unit {0}
+IsComplete _ = ⊥
 
 -- how a scan ends when: a store that tells a value which isn't a row ends it with the status for that, one that tells
 -- too many rows of the edition with that of a limit, and one that nothing stands against is done
@@ -201,4 +211,4 @@ pub record ScanEnds {T : Type 0} (s : Setting T) (roots : List (List ℕ)) (befo
   pub overfull :
       IsTrue s.tells_tables → IsOverfull before.store.tables
       → EndsOnlyWith Limit before.store after.store status
-  pub complete : IsUnhindered s roots before after → IsComplete s roots before after status
+  pub complete : IsUnhindered s roots before after → IsComplete status

@@ -1,13 +1,14 @@
 -- The command `scan` (this project's rule): the store is opened, the index on it makes one pass over the folders, and
 -- the store has its keeper back. The rows that the store held and those that it has in the end are what the pass is
 -- said of.
-use Rattle.std.specs.Prelude.{◌≡◌, ◌≢◌, ◌⊎◌, ℕ, ◌≤◌, Bool, true, false, List, All, Contains, length, IsTrue, Ok, Err}
+use Rattle.std.specs.Prelude.{◌≡◌, ◌≢◌, ◌⊎◌, ℕ, ◌+◌, ◌≤◌, Bool, true, false, List, All, Contains, length, None, IsTrue, Ok, Err}
 use Rattle.row_types.specs.Canon.{IsCanonPath}
 use Rattle.row_types.specs.Faults.{HasCause, Rose}
-use Rattle.row_types.specs.Name.{NameFacts}
+use Rattle.row_types.specs.Name.{NameFacts, stamp_at}
 use Rattle.row_types.specs.Row.{RowFacts}
 use Rattle.row_types.specs.Rules.{Rules}
 use Rattle.scan_queue.specs.Names.{is_in}
+use Rattle.scan_queue.specs.declared.miss.Cause.TheVariants.{Appeared}
 use Rattle.scan_queue.specs.declared.miss.Miss.{Miss}
 use Rattle.index_keeper.specs.Store.{ShownStore, with_path}
 use Rattle.index_keeper.specs.Tables.{KeptFacts}
@@ -18,7 +19,7 @@ use Rattle.index_rows.specs.declared.rows.TheConstants.{LOG_LIMIT}
 use Rattle.index_state.specs.Complete.{IsScan}
 use Rattle.index_state.specs.Invariant.{AreTrueRows}
 use Rattle.index_state.specs.Opening.{IsFirstBad, IsOverfull, current, made_swept}
-use Rattle.index_state.specs.Plan.{plan_of}
+use Rattle.index_state.specs.Plan.{most_changes, plan_of}
 use Rattle.index_state.specs.declared.open_fault.OpenFault.{OpenFault}
 use Rattle.index_state.specs.declared.open_fault.OpenFault.TheVariants as refusal
 use Rattle.tree_trait.specs.Heard.{Heard}
@@ -158,20 +159,23 @@ pub record IsWholeScan (world : Rules) (told : Bool) (new : ShownStore) (summary
   pub has : HasRows told new left
   pub numbers : summary ≡ summary_of (plan_of listing (row_names found)) left
 
--- a name was missed for a reason, and the store has the rows that are left
+-- a name was missed for a reason, where it appeared its path isn't listed, and the store has the rows that are left
 pub record MissesName (told : Bool) (new : ShownStore) (Failed : Type 0) (miss : Miss)
     (listing : List NameFacts) (more : List Heard) (met left : List RowFacts) : Type 0 where
   pub path : IsCanonPath miss.name.path
   pub why : IsBacked listing (row_names met) more Failed miss.name miss.cause
+  pub apart : miss.cause ≡ Appeared → stamp_at listing miss.name.path ≡ None
   pub has : HasRows told new left
 
--- the log of the changes that lead to the rows has no room, and they aren't those of the listing
+-- the log of the changes that lead to the rows has no room, and they aren't those of the listing; the rows that were found
+-- and the changes that the plan against them allows are as many as the limit, or more
 pub record IsOutOfChanges (told : Bool) (new : ShownStore) (listing : List NameFacts)
-    (left : List RowFacts) : Type 0 where
+    (found left : List RowFacts) : Type 0 where
   pub log : List Change
   pub names : row_names left ≡ replay log
   pub full : length log ≡ LOG_LIMIT
   pub apart : row_names left ≢ listing
+  pub many : LOG_LIMIT ≤ length found + most_changes (plan_of listing (row_names found))
   pub has : HasRows told new left
 
 -- how the pass of a scan ended, and what it left
@@ -194,7 +198,7 @@ EndsPassed s roots before after old new pass.KeeperFault =
     ⊎ EndsHelped s roots before after old new (MayHaveRows s.world.true_row s.tells_tables new)
 EndsPassed s roots before after old new pass.LogFull =
     MakesPass s roots before after old new
-    (λ listing more found met left. IsOutOfChanges s.tells_tables new listing left)
+    (λ listing more found met left. IsOutOfChanges s.tells_tables new listing found left)
 EndsPassed s roots before after old new pass.OutOfMemory =
     EndsUnbegun s roots before after old new
     ⊎ (MakesPass s roots before after old new

@@ -10,7 +10,6 @@ ghost use Rattle.dbgd_run.specs.Endings.{EndsWhole, streams};
 ghost use Rattle.dbgd_run.specs.Runs.{DoesWords, IsRun, Runs, is_scan, usage_saying};
 ghost use Rattle.dbgd_run.specs.Scene.{scene, setting};
 ghost use Rattle.dbgd_run.specs.Statuses.{code_of};
-ghost use Rattle.dbgd_run.specs.TrialKeeper.{IsPinnedRoom};
 ghost use Rattle.dbgd_run.specs.declared.status.Status.TheVariants.{OutOfMemory};
 
 use crate::ident::run_ident;
@@ -217,7 +216,6 @@ pub fn run<
         (scene outside.new.hands.items (S.shows outside.new.store)
         (streams O.shows outside.new.out outside.new.err)) result }
     ensures hands { vec_len outside.new.hands ≡ vec_len outside.old.hands }
-    ensures room { IsPinnedRoom }
 {
     run_words(rt, alloc, words, outside).code()
 }

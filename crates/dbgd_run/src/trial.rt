@@ -104,11 +104,6 @@ fn scanned<G: Gate, Rt: Threads + Wait + Sync>(
     let (state, _, end) = scan_state(rt, alloc, state, hands, &[root], &ElfReader, gate);
     show_index(&state);
     show_end(&end);
-    if matches!(end, PassEnd::LogFull) {
-        // The log has no more changes than the store made, which has room for fewer than a log.
-        state.into_keeper().show_few();
-        unreachable!()
-    }
     Ok((state, numbers_of(end)?))
 }
 

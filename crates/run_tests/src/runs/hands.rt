@@ -53,6 +53,8 @@ pub enum Files {
     First,
     /// Those two, of which `/srv/a` is a text by now.
     Altered,
+    /// Those two, of which `/srv/b` is a longer text by now, too.
+    BothAltered,
     /// Those two, and `/srv/c` without bytes.
     Three,
     /// Of these `/srv/b` is longer by now, `/srv/c` is gone, and `/srv/d`, code, came.
@@ -135,6 +137,11 @@ fn files_of(rt: &impl Abort, alloc: Global, files: &Files) -> Vec<Found<OpenWorl
         Files::Altered => vec![in alloc;
             found(rt, alloc, "/srv/a", &File::LongText),
             found(rt, alloc, "/srv/b", &File::Text),
+        ]
+        .expect(rt, "memory"),
+        Files::BothAltered => vec![in alloc;
+            found(rt, alloc, "/srv/a", &File::LongText),
+            found(rt, alloc, "/srv/b", &File::LongText),
         ]
         .expect(rt, "memory"),
         Files::Three => vec![in alloc;

@@ -1,6 +1,7 @@
 //! Scans by several workers, and the hands that words need.
 
-use crate::runs::hands::reference;
+use crate::runs::hands::Files::{BothAltered, Two};
+use crate::runs::hands::{hand_of, reference, turning};
 use crate::runs::rig::{Run, SOUND, empty_store, run_over, words_of};
 use dbgd_run::needs;
 use row_types::OpenWorld;
@@ -50,6 +51,45 @@ fn any_number_of_workers_says_the_same(rt: HostRuntime) {
             empty_store(&rt, alloc, &SOUND),
             &SOUND,
             &TWICE,
+        );
+    }
+}
+
+/// Two files are others by the time that they are loaded; the first of them is told.
+static FIRST_OF_TWO: [Run; 1] = [Run(
+    &["scan", "-d", "m", "/srv"],
+    b"",
+    "dbgd: altered /srv/a listed 488:100:000000000 seen 7:100:000000000\n",
+    4,
+)];
+
+/// So many hands: files change for the first one behind its walk, and for the others they have
+/// changed before. A walk of two files makes four calls.
+fn changing(rt: &impl Abort, alloc: Global, count: u64) -> Vec<MemTree<OpenWorld>> {
+    let mut hands = Vec::new(alloc);
+    let first = turning(rt, alloc, &[Two, BothAltered, BothAltered], &[4, 5]);
+    hands.push(first).expect(rt, "memory");
+    for _ in 1..count {
+        hands
+            .push(hand_of(rt, alloc, &BothAltered, &[]))
+            .expect(rt, "memory");
+    }
+    hands
+}
+
+// With one, two and seven workers.
+#[test]
+fn the_first_of_two_altered_files_is_told(rt: HostRuntime) {
+    let alloc = rt.alloc();
+    for count in [3, 4, 9] {
+        let hands = changing(&rt, alloc, count);
+        run_over(
+            &rt,
+            alloc,
+            hands,
+            empty_store(&rt, alloc, &SOUND),
+            &SOUND,
+            &FIRST_OF_TWO,
         );
     }
 }
