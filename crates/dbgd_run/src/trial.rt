@@ -6,7 +6,7 @@ ghost use Rattle.elf_forge.specs.Tree.{fresh_tree};
 ghost use Rattle.elf_forge.specs.declared.digits.TheConstants.{FILES_LIMIT};
 ghost use Rattle.dbgd_run.specs.Endings.{streams};
 ghost use Rattle.pass_runner.specs.declared.pass_end.PassEnd.TheVariants.{Whole};
-ghost use Rattle.dbgd_run.specs.Trial.{HasScanned, IsLineOf, SaysTrial, forged_root};
+ghost use Rattle.dbgd_run.specs.Trial.{HasScanned, IsLineOf, SaysTrial, forged_root, totals_of};
 ghost use Rattle.dbgd_run.specs.TrialPass.{EndsWell, IsNewIndex};
 ghost use Rattle.dbgd_words.specs.Limits.{IsTrialFit};
 
@@ -14,7 +14,7 @@ use crate::scan::show_end;
 use crate::speech::{say, say_no_memory};
 use crate::status::Status;
 use crate::trial_keeper::TrialKeeper;
-use crate::trial_sum::totals_in;
+use crate::trial_sum::{Totals, totals_in};
 use crate::trial_text::totals_line;
 use elf_forge::ForgeTree;
 use elf_reading::ElfReader;
@@ -107,6 +107,13 @@ fn scanned<G: Gate, Rt: Threads + Wait + Sync>(
     Ok((state, numbers_of(end)?))
 }
 
+/// The numbers and the sum of the rows of an index that is done with.
+fn totals_left(alloc: Global, state: Index) -> Result<Totals, AllocError>
+    ensures { IfOk result (λ totals. totals ≡ totals_of state.rows) }
+{
+    totals_in(alloc, &state)
+}
+
 /// The line of a scan of the generated files.
 fn line_of<G: Gate, Rt: Threads + Wait + Sync>(
     rt: &Rt,
@@ -120,7 +127,8 @@ fn line_of<G: Gate, Rt: Threads + Wait + Sync>(
     ensures { IfOk result (λ text. IsLineOf seed files (string_bytes text)) }
 {
     let (state, summary) = scanned(rt, alloc, seed, files, workers, gate)?;
-    totals_line(alloc, files, &summary, &totals_in(alloc, &state)?)
+    let totals = totals_left(alloc, state)?;
+    totals_line(alloc, files, &summary, &totals)
 }
 
 /// Scans generated files into a new index in memory, by so many workers, and says what it has then.

@@ -1,6 +1,7 @@
 //! The points that a connection passes, in order, and connections beside one that is held at a point.
 
 ghost use Rattle.std.specs.Prelude.{◌≡◌};
+ghost use Rattle.std.specs.Thread.{IsSync};
 
 use crate::connections::helpers::{conn, report_of, serve_through, whole};
 use crate::connections::texts::request;
@@ -142,8 +143,12 @@ fn ask_beside<G: Gate, R: Abort + Threads + Wait + Sync>(
     let prog = "202122232425262728292a2b2c2d2e2f30313233";
     join(
         rt,
-        || ask_for(rt, alloc, lock, first, tool, 1, gate),
-        || ask_for(rt, alloc, lock, second, prog, 2, gate),
+        || -> usize
+            requires { IsSync R.row × (first.lock ≡ lock.now) }
+        { ask_for(rt, alloc, lock, first, tool, 1, gate) },
+        || -> usize
+            requires { IsSync R.row × (second.lock ≡ lock.now) }
+        { ask_for(rt, alloc, lock, second, prog, 2, gate) },
     )
 }
 
