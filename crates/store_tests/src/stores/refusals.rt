@@ -32,12 +32,16 @@ fn count(
     store.give_back(keeper);
 }
 
-/// Two rows can't be read where a query may visit one; one row can.
-static REFUSED: [Step; 5] = [
+/// Four rows can't be read where a statement may take four steps; one row can.
+static REFUSED: [Step; 9] = [
     (Call::Put("/a", 9, KeepAnswer::Done), 0),
     (Call::Put("/b", 10, KeepAnswer::Done), 0),
+    (Call::Put("/c", 11, KeepAnswer::Done), 0),
+    (Call::Put("/d", 12, KeepAnswer::Done), 0),
     (Call::Reads(false), 1),
     (Call::Remove("/b", KeepAnswer::Done), 1),
+    (Call::Remove("/c", KeepAnswer::Done), 1),
+    (Call::Remove("/d", KeepAnswer::Done), 1),
     (Call::Rows(&[(b'a', 9)]), 1),
 ];
 
@@ -45,7 +49,7 @@ static REFUSED: [Step; 5] = [
 fn a_refused_statement_counts_and_changes_nothing(rt: HostRuntime) {
     let alloc = rt.alloc();
     let mut connection = after(&rt, alloc, "");
-    connection.set_step_limit(Some(1));
+    connection.set_step_limit(Some(4));
     let mut store = HeldStore::new(connection);
     count(&rt, alloc, &mut store, 1, REFUSED.as_slice());
     count(&rt, alloc, &mut store, 2, &[]);
