@@ -87,8 +87,8 @@ fn a_row_is_taken_and_published(rt: HostRuntime) {
     assert!(rt; said == Published::Added);
     let (desk, none) = take(&rt, alloc, desk);
     assert!(rt; none.as_str() == "");
-    let Desk { lock: _, seat } = desk;
-    assert!(rt; rows(&rt, alloc, &lock, seat).as_str() == "/w/a 1, ");
+    let Desk { lock, seat } = desk;
+    assert!(rt; rows(&rt, alloc, lock, seat).as_str() == "/w/a 1, ");
 }
 
 #[test]
@@ -119,8 +119,8 @@ fn a_row_is_looked_for_and_judged(rt: HostRuntime) {
     assert!(rt; said == Judged::Dropped);
     let (desk, none) = desk.groom_take(&rt);
     assert!(rt; none.is_none());
-    let Desk { lock: _, seat } = desk;
-    assert!(rt; rows(&rt, alloc, &lock, seat).as_str() == "");
+    let Desk { lock, seat } = desk;
+    assert!(rt; rows(&rt, alloc, lock, seat).as_str() == "");
 }
 
 /// An index behind a lock, of which no name was spared.
