@@ -25,8 +25,7 @@ use Rattle.tree_trait.specs.Load.{FitsLoad, IsAskedFile, LoadFacts, TellsLoad, l
 use Rattle.answer_check.specs.Certified.{IsCertified, is_of_class}
 use Rattle.webapi_routes.specs.declared.route.Route.{Route}
 use Rattle.answer_core.specs.Complete.{SomeWouldPass, WouldPass}
-use Rattle.answer_core.specs.Loads.{DoesNotPass, Hand, NonePasses}
-use Rattle.answer_core.specs.Passing.{GivesNothing}
+use Rattle.answer_core.specs.Loads.{DoesNotPass, GivesNothing, Hand, NonePasses}
 use Rattle.answer_core.specs.declared.candidate.Candidate.{Candidate}
 
 -- the load of a candidate that would pass, and gave nothing, failed

@@ -10,8 +10,8 @@ use Rattle.answer_core.specs.Local.{AnswersFrom, AreCandidatesAt, AreRowsAt, Has
 use Rattle.answer_core.specs.declared.candidate.Candidate.{Candidate}
 use Rattle.answer_core.specs.declared.local.Local.{Local}
 use Rattle.answer_core.specs.declared.local.Local.TheVariants.{File, Section, Source, Nothing, Fault, OutOfMemory}
-use Rattle.answer_core.specs.declared.passed.Passed.{Passed}
-use Rattle.answer_core.specs.declared.passed.Passed.TheVariants as passed
+use Rattle.answer_check.specs.declared.passed.Passed.{Passed}
+use Rattle.answer_check.specs.declared.passed.Passed.TheVariants as passed
 
 -- the candidates by rows that stand at a log
 pub candidates_at : {V E : Type 0} {true_row : RowFacts → Type 0} {log : List Change} {rows : List RowFacts}

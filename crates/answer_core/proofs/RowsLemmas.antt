@@ -20,8 +20,8 @@ use Rattle.answer_core.specs.Candidates.{as_class, as_source, candidates, is_in_
 use Rattle.answer_core.specs.Complete.{HasToFind, IsSourceThere, IsThere, IsThereWith, IsToldWorld, NoneIsThere, SomeWouldPass, WouldPass}
 use Rattle.answer_core.specs.Loads.{Hand, NonePasses}
 use Rattle.answer_core.specs.Local.{AreCandidatesAt, Sight}
-use Rattle.answer_core.specs.Passing.{Passes}
-use Rattle.answer_core.specs.Section.{HasSectionOf}
+use Rattle.answer_check.specs.Passing.{Passes}
+use Rattle.answer_check.specs.Section.{HasSectionOf}
 use Rattle.answer_core.specs.declared.candidate.Candidate.{Candidate}
 use Rattle.answer_core.proofs.CompleteLemmas.{complete, read_of, row_certified}
 

@@ -13,7 +13,7 @@ use Rattle.webapi_routes.specs.declared.route.Route.{Route}
 use Rattle.answer_core.specs.Loads.{DoesNotPass, Hand, HasPassed, HasTried, Hears, Tries}
 use Rattle.answer_core.specs.declared.attempt.Tried.TheVariants as tried
 use Rattle.answer_core.specs.declared.candidate.Candidate.{Candidate}
-use Rattle.answer_core.specs.declared.passed.Passed.{Passed}
+use Rattle.answer_check.specs.declared.passed.Passed.{Passed}
 use Rattle.answer_core.proofs.HearLemmas.{hears_as, hears_less, hears_more, hears_none, is_given, is_no_failure, load_is}
 
 zip_more : {A B : Type 0} (R : A → B → Type 0) (xs : List A) (ys : List B) (x : A) (y : B)

@@ -15,8 +15,8 @@ use Rattle.webapi_routes.specs.declared.route.Route.TheVariants.{Debuginfo, Exec
 use Rattle.answer_core.specs.Candidates.{is_in_one}
 use Rattle.answer_core.specs.Loads.{Hand}
 use Rattle.answer_core.specs.Local.{AreCandidatesAt, Sight}
-use Rattle.answer_core.specs.Passing.{Passes}
-use Rattle.answer_core.specs.Section.{HasSectionOf}
+use Rattle.answer_check.specs.Passing.{Passes}
+use Rattle.answer_check.specs.Section.{HasSectionOf}
 use Rattle.answer_core.specs.declared.candidate.Candidate.{Candidate}
 
 -- the candidate is there at this stamp, within the limit, and the file of its path and stamp passes

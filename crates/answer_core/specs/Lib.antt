@@ -10,9 +10,9 @@ pub use Rattle.tree_trait.specs.Heard
 pub use Rattle.tree_trait.specs.Load
 pub use Rattle.tree_trait.specs.Shown
 pub use Rattle.answer_check.specs.Certified
+pub use Rattle.answer_check.specs.Passing
+pub use Rattle.answer_check.specs.Section
 pub mod Candidates
 pub mod Complete
 pub mod Loads
 pub mod Local
-pub mod Passing
-pub mod Section

@@ -1,6 +1,9 @@
 -- The loads of the files that may answer a route (this project's rule): one after the other, until one passes.
-use Rattle.std.specs.Prelude.{◌≡◌, ℕ, ◌<◌, Bool, List, [], ◌∷◌, ◌++◌, length, take, IsTrue, slice_index_or}
+use Rattle.std.specs.Prelude.{◌≡◌, ℕ, ◌<◌, Bool, List, [], ◌∷◌, ◌++◌, length, take, Option, IsTrue, slice_index_or}
 use Rattle.std.specs.List.{AllZip, list_any}
+use Rattle.answer_check.specs.Passing.{Gives, Passes}
+use Rattle.answer_check.specs.declared.passed.Passed.{Passed}
+use Rattle.row_types.specs.declared.identity.Kind.{Kind}
 use Rattle.row_types.specs.declared.limits.TheConstants.{FILE_LIMIT}
 use Rattle.tree_trait.specs.Asks.{Asks}
 use Rattle.tree_trait.specs.Found.{FoundFacts, Versions}
@@ -8,13 +11,11 @@ use Rattle.tree_trait.specs.Heard.{Heard, load, has_failed, with_answers}
 use Rattle.tree_trait.specs.Load.{FitsLoad, LoadFacts, TellsLoad, loaded, failed, no_memory}
 use Rattle.tree_trait.specs.Shown.{HandsOn, ShownTree}
 use Rattle.webapi_routes.specs.declared.route.Route.{Route}
-use Rattle.answer_core.specs.Passing.{Gives, GivesNothing, Passes}
 use Rattle.answer_core.specs.declared.attempt.Tried.{Tried}
 use Rattle.answer_core.specs.declared.attempt.Tried.TheVariants as tried
 use Rattle.answer_core.specs.declared.attempts.Outcome.{Outcome}
 use Rattle.answer_core.specs.declared.attempts.Outcome.TheVariants as outcome
 use Rattle.answer_core.specs.declared.candidate.Candidate.{Candidate}
-use Rattle.answer_core.specs.declared.passed.Passed.{Passed}
 
 -- what is known of a hand: whether it tells what it has, the versions of its world's files, and what it showed as the
 -- call began
@@ -29,6 +30,12 @@ pub record IsLoad (hand : Hand) (one : Candidate) (answer : LoadFacts) (heard : 
   pub asked : heard ≡ load one.path FILE_LIMIT answer
   pub fits : FitsLoad hand.version one.path FILE_LIMIT answer
   pub tells : IsTrue hand.told → hand.start.Still → TellsLoad hand.start.present one.path answer
+
+-- the answer to a load gives no bytes that pass; it isn't that memory was refused
+abbrev pub GivesNothing : Route → Option Kind → LoadFacts → Type 0
+GivesNothing route class (loaded found) = ¬ Passes route class found.bytes
+GivesNothing route class no_memory = ⊥
+GivesNothing route class _ = Unit {0}
 
 -- the load of a candidate gave nothing that passes
 pub record DoesNotPass (hand : Hand) (route : Route) (one : Candidate) (heard : Heard) : Type 0 where

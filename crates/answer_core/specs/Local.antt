@@ -14,8 +14,8 @@ use Rattle.answer_core.specs.Loads.{Hand, Hears, NonePasses, PassesAt}
 use Rattle.answer_core.specs.declared.candidate.Candidate.{Candidate}
 use Rattle.answer_core.specs.declared.local.Local.{Local}
 use Rattle.answer_core.specs.declared.local.Local.TheVariants as local
-use Rattle.answer_core.specs.declared.passed.Passed.{Passed}
-use Rattle.answer_core.specs.declared.passed.Passed.TheVariants as passed
+use Rattle.answer_check.specs.declared.passed.Passed.{Passed}
+use Rattle.answer_check.specs.declared.passed.Passed.TheVariants as passed
 
 -- the rows of an index that has this log
 pub record AreRowsAt (true_row : RowFacts → Type 0) (log : List Change) (rows : List RowFacts) : Type 0 where

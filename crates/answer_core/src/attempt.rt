@@ -3,8 +3,7 @@
 ghost use Rattle.answer_core.specs.Loads.{FitsFound, Tries};
 
 use crate::candidate::Candidate;
-use crate::check::{Checked, check};
-use crate::passed::Passed;
+use answer_check::{Checked, Passed, check};
 use row_types::{FILE_LIMIT, Truth};
 use std::alloc::Global;
 use std::sync::Wait;

@@ -4,7 +4,7 @@ ghost use Rattle.answer_core.specs.Loads.{TriesAll};
 
 use crate::attempt::{Tried, try_one};
 use crate::candidate::Candidate;
-use crate::passed::Passed;
+use answer_check::Passed;
 use row_types::Truth;
 use std::alloc::Global;
 use std::sync::Wait;

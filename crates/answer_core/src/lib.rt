@@ -6,12 +6,8 @@
 mod attempt;
 mod attempts;
 mod candidate;
-mod check;
-mod file_section;
 mod local;
 mod look_up;
-mod passed;
 
 pub use candidate::Candidate;
-pub use file_section::FileSection;
 pub use local::{Local, answer_local};

@@ -7,10 +7,8 @@ ghost use Rattle.answer_core.specs.declared.candidate.Candidate.{Candidate};
 
 use crate::attempts::{Outcome, try_all};
 use crate::candidate::Candidate;
-use crate::file_section::FileSection;
 use crate::look_up::look_up;
-use crate::passed::Passed;
-use answer_check::Certified;
+use answer_check::{Certified, FileSection, Passed};
 use index_keeper::Keeper;
 use index_lock::{Seat, TurnLock};
 use index_state::State;

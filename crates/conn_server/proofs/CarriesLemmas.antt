@@ -7,7 +7,7 @@ use Rattle.row_types.specs.declared.identity.Kind.TheVariants as kind
 use Rattle.webapi_routes.specs.declared.route.Route.{Route}
 use Rattle.webapi_routes.specs.declared.route.Route.TheVariants.{Debuginfo, Executable, Source, Section}
 use Rattle.answer_core.specs.Local.{IsLocal, Sight}
-use Rattle.answer_core.specs.Section.{FileSectionFacts}
+use Rattle.answer_check.specs.Section.{FileSectionFacts}
 use Rattle.answer_core.specs.declared.local.Local.{Local}
 use Rattle.answer_core.specs.declared.local.Local.TheVariants as local
 use Rattle.conn_server.specs.Cases.{IsPassed}

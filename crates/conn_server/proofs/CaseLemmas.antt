@@ -1,5 +1,5 @@
 -- What follows of each case of the table, a line a case.
-use Rattle.std.proofs.Common.{◌≡◌, ℕ, List, [], Option, refl, sym, subst}
+use Rattle.std.proofs.Common.{◌≡◌, ℕ, List, [], Option, refl}
 use Rattle.index_rows.specs.declared.change.Change.{Change}
 use Rattle.tree_trait.specs.Heard.{Heard}
 use Rattle.webapi_routes.specs.declared.fault.RouteFault.{RouteFault}
@@ -31,63 +31,63 @@ no_fault route_fault.OutOfMemory e = absurd (cc)
 
 module _ {T : Type 0} (scene : Scene T) (at : Stand T) (log : List Change) (request : Request) where
   -- what is carried can be written
-  pub can_send : (what : given.Asked) (why : Reason) (n : ℕ) (carried : Body) (answers : List Heard)
+  pub can_send : {what : given.Asked} {why : Reason} {n : ℕ} {carried : Body} {answers : List Heard}
       → IsCase scene at log request what why n carried answers → CanCarry carried
-  can_send what why n carried answers (bad_head len e) = tt
-  can_send what why n carried answers (too_long e) = tt
-  can_send what why n carried answers (too_many e) = tt
-  can_send what why n carried answers (method head e served) = tt
-  can_send what why n carried answers (has_body head e served body) = tt
-  can_send what why n carried answers (no_route head fault e taken said) = tt
-  can_send what why n carried answers (passed head route answer heard e asks file rests is) = is
-  can_send what why n carried answers (read_fault head route m heard e asks file rests) = tt
-  can_send what why n carried answers (not_found head route m heard e asks file rests) = tt
-  can_send what why n carried answers (no_memory head route heard e asks) = tt
+  can_send (bad_head len e) = tt
+  can_send (too_long e) = tt
+  can_send (too_many e) = tt
+  can_send (method head e served) = tt
+  can_send (has_body head e served body) = tt
+  can_send (no_route head fault e taken said) = tt
+  can_send (passed head route answer heard e asks file rests is) = is
+  can_send (read_fault head route m heard e asks file rests) = tt
+  can_send (not_found head route m heard e asks file rests) = tt
+  can_send (no_memory head route heard e asks) = tt
 
   -- a body that passed is certified for what is asked
-  pub carries : (what : given.Asked) (why : Reason) (n : ℕ) (carried : Body) (answers : List Heard) (bytes : List ℕ)
+  pub carries : {what : given.Asked} {why : Reason} {n : ℕ} {carried : Body} {answers : List Heard} (bytes : List ℕ)
       (file : Option (List ℕ)) → IsCase scene at log request what why n carried answers → Shows why carried bytes file
       → why ≡ reason.Local → Carries what bytes
-  carries what why n carried answers bytes file (bad_head len e) shows is = tt
-  carries what why n carried answers bytes file (too_long e) shows is = tt
-  carries what why n carried answers bytes file (too_many e) shows is = tt
-  carries what why n carried answers bytes file (method head e served) shows is = tt
-  carries what why n carried answers bytes file (has_body head e served body) shows is = tt
-  carries what why n carried answers bytes file (no_route head fault e taken said) shows is = tt
-  carries what why n carried answers bytes file (passed head route answer heard e asks routed rests is_passed) shows is =
-      carries_local (sight_at scene at log answers) route answer reason.Local bytes file rests is_passed shows
-  carries what why n carried answers bytes file (read_fault head route m heard e asks routed rests) shows is = absurd (cc)
-  carries what why n carried answers bytes file (not_found head route m heard e asks routed rests) shows is = absurd (cc)
-  carries what why n carried answers bytes file (no_memory head route heard e asks) shows is = absurd (cc)
+  carries bytes file (bad_head len e) shows is = tt
+  carries bytes file (too_long e) shows is = tt
+  carries bytes file (too_many e) shows is = tt
+  carries bytes file (method head e served) shows is = tt
+  carries bytes file (has_body head e served body) shows is = tt
+  carries bytes file (no_route head fault e taken said) shows is = tt
+  carries bytes file (passed head route answer heard e asks routed rests is_passed) shows is =
+      carries_local (sight_at scene at log heard) route answer reason.Local bytes file rests is_passed shows
+  carries bytes file (read_fault head route m heard e asks routed rests) shows is = absurd (cc)
+  carries bytes file (not_found head route m heard e asks routed rests) shows is = absurd (cc)
+  carries bytes file (no_memory head route heard e asks) shows is = absurd (cc)
 
   -- no candidate is passed over
-  pub finds_all : (what : given.Asked) (why : Reason) (n : ℕ) (carried : Body) (answers : List Heard)
+  pub finds_all : {what : given.Asked} {why : Reason} {n : ℕ} {carried : Body} {answers : List Heard}
       → IsCase scene at log request what why n carried answers → FindsAll (sight_at scene at log answers) what why
-  finds_all what why n carried answers (bad_head len e) told still = tt
-  finds_all what why n carried answers (too_long e) told still = tt
-  finds_all what why n carried answers (too_many e) told still = tt
-  finds_all what why n carried answers (method head e served) told still = tt
-  finds_all what why n carried answers (has_body head e served body) told still = tt
-  finds_all what why n carried answers (no_route head fault e taken said) told still = tt
-  finds_all what why n carried answers (passed head route answer heard e asks file rests is) told still = tt
-  finds_all what why n carried answers (read_fault head route m heard e asks file rests) told still = tt
-  finds_all what why n carried answers (not_found head route m heard e asks file rests) told still =
-      none_is_there (sight_at scene at log answers) route rests.0.all rests.0.stood told still rests.0.are
-  finds_all what why n carried answers (no_memory head route heard e asks) told still = tt
+  finds_all (bad_head len e) told still = tt
+  finds_all (too_long e) told still = tt
+  finds_all (too_many e) told still = tt
+  finds_all (method head e served) told still = tt
+  finds_all (has_body head e served body) told still = tt
+  finds_all (no_route head fault e taken said) told still = tt
+  finds_all (passed head route answer heard e asks file rests is) told still = tt
+  finds_all (read_fault head route m heard e asks file rests) told still = tt
+  finds_all (not_found head route m heard e asks file rests) told still =
+      none_is_there (sight_at scene at log heard) route rests.0.all rests.0.stood told still rests.0.are
+  finds_all (no_memory head route heard e asks) told still = tt
 
   -- what is asked is what the request asks
-  pub asked_of : (what : given.Asked) (why : Reason) (n : ℕ) (carried : Body) (answers : List Heard)
+  pub asked_of : {what : given.Asked} {why : Reason} {n : ℕ} {carried : Body} {answers : List Heard}
       → IsCase scene at log request what why n carried answers → IsAsked request what
-  asked_of what why n carried answers (bad_head len e) = rw e refl
-  asked_of what why n carried answers (too_long e) = rw e refl
-  asked_of what why n carried answers (too_many e) = rw e refl
-  asked_of what why n carried answers (method head e served) = rw e served
-  asked_of what why n carried answers (has_body head e served body) = rw e (served, body)
-  asked_of what why n carried answers (no_route head fault e taken said) = rw e (taken, said)
-  asked_of what why n carried answers (passed head route answer heard e asks file rests is) = rw e (asks.taken, asks.says)
-  asked_of what why n carried answers (read_fault head route m heard e asks file rests) = rw e (asks.taken, asks.says)
-  asked_of what why n carried answers (not_found head route m heard e asks file rests) = rw e (asks.taken, asks.says)
-  asked_of what why n carried answers (no_memory head route heard e asks) = rw e (asks.taken, asks.says)
+  asked_of (bad_head len e) = rw e refl
+  asked_of (too_long e) = rw e refl
+  asked_of (too_many e) = rw e refl
+  asked_of (method head e served) = rw e served
+  asked_of (has_body head e served body) = rw e (served, body)
+  asked_of (no_route head fault e taken said) = rw e (taken, said)
+  asked_of (passed head route answer heard e asks file rests is) = rw e (asks.taken, asks.says)
+  asked_of (read_fault head route m heard e asks file rests) = rw e (asks.taken, asks.says)
+  asked_of (not_found head route m heard e asks file rests) = rw e (asks.taken, asks.says)
+  asked_of (no_memory head route heard e asks) = rw e (asks.taken, asks.says)
 
   earns_fault : (fault : RouteFault) → EarnsText (asked.NotRoute fault) local.OutOfMemory (reason_of_route fault) 0
   earns_fault route_fault.BadEscape = refl
@@ -97,46 +97,45 @@ module _ {T : Type 0} (scene : Scene T) (at : Stand T) (log : List Change) (requ
   earns_fault route_fault.OutOfMemory = refl
 
   -- the local answer earns it
-  pub earned_of : (what : given.Asked) (why : Reason) (n : ℕ) (carried : Body) (answers : List Heard)
+  pub earned_of : {what : given.Asked} {why : Reason} {n : ℕ} {carried : Body} {answers : List Heard}
       → IsCase scene at log request what why n carried answers → IsEarned (sight_at scene at log answers) what why carried n
-  earned_of what why n carried answers (bad_head len e) = record { answer = local.OutOfMemory; rests = refl; earns = refl }
-  earned_of what why n carried answers (too_long e) = record { answer = local.OutOfMemory; rests = refl; earns = refl }
-  earned_of what why n carried answers (too_many e) = record { answer = local.OutOfMemory; rests = refl; earns = refl }
-  earned_of what why n carried answers (method head e served) =
+  earned_of (bad_head len e) = record { answer = local.OutOfMemory; rests = refl; earns = refl }
+  earned_of (too_long e) = record { answer = local.OutOfMemory; rests = refl; earns = refl }
+  earned_of (too_many e) = record { answer = local.OutOfMemory; rests = refl; earns = refl }
+  earned_of (method head e served) =
       record { answer = local.OutOfMemory; rests = refl; earns = refl }
-  earned_of what why n carried answers (has_body head e served body) =
+  earned_of (has_body head e served body) =
       record { answer = local.OutOfMemory; rests = refl; earns = refl }
-  earned_of what why n carried answers (no_route head fault e taken said) =
+  earned_of (no_route head fault e taken said) =
       record { answer = local.OutOfMemory; rests = refl; earns = earns_fault fault }
-  earned_of what why n carried answers (passed head route answer heard e asks file rests is) = record {
+  earned_of (passed head route answer heard e asks file rests is) = record {
     answer = answer;
     rests = rests;
     earns = record { route = tt; local = refl; is = is; answered = refl; at = refl };
   }
-  earned_of what why n carried answers (read_fault head route m heard e asks file rests) =
+  earned_of (read_fault head route m heard e asks file rests) =
       record { answer = local.Fault m; rests = rests; earns = refl }
-  earned_of what why n carried answers (not_found head route m heard e asks file rests) =
+  earned_of (not_found head route m heard e asks file rests) =
       record { answer = local.Nothing m; rests = rests; earns = refl }
-  earned_of what why n carried answers (no_memory head route heard e asks) =
+  earned_of (no_memory head route heard e asks) =
       record { answer = local.OutOfMemory; rests = tt; earns = (refl, refl) }
 
 -- the same case, as seen from an earlier stand
 pub case_at : {T : Type 0} (scene : Scene T) (a b : Stand T) → StillTo (hand_at scene a) (scene.shows b.hand)
-    → (log : List Change) (request : Request) (what : given.Asked) (why : Reason) (n : ℕ) (carried : Body)
-    (answers : List Heard) → IsCase scene b log request what why n carried answers
+    → (log : List Change) {request : Request} {what : given.Asked} {why : Reason} {n : ℕ} {carried : Body}
+    {answers : List Heard} → IsCase scene b log request what why n carried answers
     → IsCase scene a log request what why n carried answers
-case_at scene a b keeps log request what why n carried answers (bad_head len e) = bad_head len e
-case_at scene a b keeps log request what why n carried answers (too_long e) = too_long e
-case_at scene a b keeps log request what why n carried answers (too_many e) = too_many e
-case_at scene a b keeps log request what why n carried answers (method head e served) = method head e served
-case_at scene a b keeps log request what why n carried answers (has_body head e served body) = has_body head e served body
-case_at scene a b keeps log request what why n carried answers (no_route head fault e taken said) =
-    no_route head fault e taken said
-case_at scene a b keeps log request what why n carried answers (passed head route answer heard e asks file rests is) =
-    passed head route answer answers e asks file (local_at scene a b keeps log answers route answer rests) is
-case_at scene a b keeps log request what why n carried answers (read_fault head route m heard e asks file rests) =
-    read_fault head route n answers e asks file (local_at scene a b keeps log answers route (local.Fault n) rests)
-case_at scene a b keeps log request what why n carried answers (not_found head route m heard e asks file rests) =
-    not_found head route n answers e asks file (local_at scene a b keeps log answers route (local.Nothing n) rests)
-case_at scene a b keeps log request what why n carried answers (no_memory head route heard e asks) =
-    no_memory head route answers e asks
+case_at scene a b keeps log (bad_head len e) = bad_head len e
+case_at scene a b keeps log (too_long e) = too_long e
+case_at scene a b keeps log (too_many e) = too_many e
+case_at scene a b keeps log (method head e served) = method head e served
+case_at scene a b keeps log (has_body head e served body) = has_body head e served body
+case_at scene a b keeps log (no_route head fault e taken said) = no_route head fault e taken said
+case_at scene a b keeps log (passed head route answer heard e asks file rests is) =
+    passed head route answer heard e asks file (local_at scene a b keeps log heard route answer rests) is
+case_at scene a b keeps log (read_fault head route m heard e asks file rests) =
+    read_fault head route m heard e asks file (local_at scene a b keeps log heard route (local.Fault m) rests)
+case_at scene a b keeps log (not_found head route m heard e asks file rests) =
+    not_found head route m heard e asks file (local_at scene a b keeps log heard route (local.Nothing m) rests)
+case_at scene a b keeps log (no_memory head route heard e asks) =
+    no_memory head route heard e asks

@@ -5,13 +5,11 @@ use Rattle.std.proofs.lemmas.Bool.{false≢true}
 use Rattle.std.proofs.lemmas.Bool.Decides.{nat_tests}
 use Rattle.std.proofs.lemmas.List.{length-append, length-map, map-append}
 use Rattle.tree_trait.specs.Heard.{Heard}
-use Rattle.http_wire.specs.Heads.{Refuses}
 use Rattle.http_wire.specs.Stream.{ShownStream}
-use Rattle.http_wire.specs.declared.head.HeadFault.{HeadFault}
 use Rattle.conn_server.specs.Asked.{HeadFacts, Request, closes_after, readable, refused}
 use Rattle.conn_server.specs.Connection.{Ends, GoOn, LastCloses, Row, Serves, ServesAll, fresh, is_last, more, none}
 use Rattle.conn_server.specs.Exchange.{Exchange}
-use Rattle.conn_server.specs.Scene.{Scene, Stand, Wire, hand_at}
+use Rattle.conn_server.specs.Scene.{Scene, Stand, Wire}
 use Rattle.conn_server.specs.Turns.{Closes, EndsBehind, Exchanges, GoesOn, Stops, StopsFor, Turns, end_of_head}
 use Rattle.conn_server.specs.declared.connection.TheConstants.{REQUESTS}
 use Rattle.conn_server.specs.declared.report.ConnEnd.{ConnEnd}

@@ -186,11 +186,9 @@ still_to row still = row.hears.hands.still still
 pub exchange_at : {T : Type 0} (scene : Scene T) (last : Bool) (a b : Stand T) (x : Exchange)
     → StillTo (hand_at scene a) (scene.shows b.hand) → IsExchange scene last b x → IsExchange scene last a x
 exchange_at scene last a b x keeps is =
-    let lawful = is.lawful in
-    let case_ = case_at scene a b keeps x.log x.request x.served.asked x.served.reason x.served.gen_ lawful.carried x.answers lawful.is in
-    record {
-      lawful = record { carried = lawful.carried; is = case_; replied = lawful.replied };
-      complete = finds_all scene a x.log x.request x.served.asked x.served.reason x.served.gen_ lawful.carried x.answers case_;
+    let case_ = case_at scene a b keeps x.log is.lawful.is in record {
+      lawful = record { carried = is.lawful.carried; is = case_; replied = is.lawful.replied };
+      complete = finds_all scene a x.log x.request case_;
       fronts = is.fronts;
     }
 

@@ -26,11 +26,11 @@ use Rattle.answer_core.proofs.HearLemmas.{hears_as, hears_none}
 use Rattle.conn_server.specs.Asked.{HeadFacts, Request, closes_after, head_facts, readable, refused, sends_body, told_facts}
 use Rattle.conn_server.specs.Cases.{IsCase, bad_head, too_long, too_many}
 use Rattle.conn_server.specs.Decided.{plain}
-use Rattle.conn_server.specs.Exchange.{Exchange, IsDue, IsExchange, IsFrontOf, IsWhy, Leads, Leaves, Moves}
+use Rattle.conn_server.specs.Exchange.{Exchange, IsExchange, IsFrontOf, IsWhy, Moves}
 use Rattle.conn_server.specs.Replies.{Shows, bytes_of}
 use Rattle.conn_server.specs.Scene.{Scene, Stand, Wire, hand_at, wire_of}
 use Rattle.conn_server.specs.Sent.{sent_len, served_as}
-use Rattle.conn_server.specs.Turns.{Closes, EndsBehind, Exchanges, Replies, Stops, StopsFor, StopsOn, Takes, TakesHead, TakesNext, Turns, Writing, end_after, end_of}
+use Rattle.conn_server.specs.Turns.{Closes, EndsBehind, Exchanges, Replies, StopsFor, StopsOn, Takes, TakesNext, Turns, Writing, end_after, end_of}
 use Rattle.conn_server.specs.declared.decide.Body.TheVariants as bodies
 use Rattle.conn_server.specs.declared.decide.Decided.{Decided}
 use Rattle.conn_server.specs.declared.reason.Reason.{Reason}
@@ -67,14 +67,13 @@ exchange_is scene a log request front decided body file last answers case_ shows
       body = body;
       file = file;
       shows = shows;
-      carries = carries scene a log request decided.asked decided.reason decided.generation decided.body answers body file
-          case_ shows;
+      carries = carries scene a log request body file case_ shows;
       status = refl;
       len = refl;
       spelled = refl;
     };
   };
-  complete = finds_all scene a log request decided.asked decided.reason decided.generation decided.body answers case_;
+  complete = finds_all scene a log request case_;
   fronts = fronts;
 }
 

@@ -1,5 +1,5 @@
 -- One request of a connection (this project's rule): it is read, decided and answered.
-use Rattle.std.specs.Prelude.{◌≡◌, ℕ, Bool, true, false, List, [], Option, Some, None, IsTrue, take, if◌then◌else◌, length, ◌<◌}
+use Rattle.std.specs.Prelude.{◌≡◌, ℕ, Bool, true, false, List, [], Option, Some, None, IsTrue, if◌then◌else◌, length}
 use Rattle.row_types.specs.Faults.{HasCause, Rose}
 use Rattle.http_wire.specs.Heads.{Refuses}
 use Rattle.http_wire.specs.ReplyFault.{FailsReply}

@@ -1,7 +1,7 @@
 -- What is decided by the local answer.
 use Rattle.std.proofs.Common.{sym, subst}
 use Rattle.conn_server.specs.Decided.{DecidesRoute}
-use Rattle.conn_server.specs.Scene.{Scene, Stand, scene_of, stand_of}
+use Rattle.conn_server.specs.Scene.{scene_of, stand_of}
 use Rattle.conn_server.specs.declared.decide.Decided.{Decided}
 use Rattle.conn_server.proofs.DecideLemmas.{decides_local}
 use Rattle.conn_server.proofs.decide.decide_route.Goals as goal

@@ -6,7 +6,6 @@ use Rattle.conn_server.proofs.turn.take_turn.Goals as goal
 
 pub reply-requires : goal.reply-requires
 reply-requires g c =
-    let d = c.decide-seat.result.1 in
     can_send (scene_of g.W.Truth.true_row g.T.Tree.told g.W.Truth.version g.T.Tree.shows c.args.service.now.folders.now)
-    (stand_of c.args.seat.seen c.args.hand.now) c.decide-seat.result.0.seen (readable (told_facts c.in-Head.head)) d.asked
-    d.reason d.generation d.body c.decide-seat.ensures.decided.answers c.decide-seat.ensures.decided.is
+    (stand_of c.args.seat.seen c.args.hand.now) c.decide-seat.result.0.seen (readable (told_facts c.in-Head.head))
+    c.decide-seat.ensures.decided.is

@@ -1,30 +1,32 @@
-//! Whether a file that was found passes.
+//! Whether the bytes of a file pass as an answer to a route.
 
 ghost use Rattle.std.specs.Prelude.{◌≡◌, Some, IfOk};
 ghost use Rattle.answer_check.specs.Certified.{IsCertified};
-ghost use Rattle.answer_core.specs.Passing.{Checks, ChecksFile};
+ghost use Rattle.answer_check.specs.Passing.{Checks, ChecksFile};
 ghost use Rattle.webapi_routes.specs.declared.route.Route.TheVariants as route;
 
+use crate::certified::{Certified, certify};
 use crate::file_section::FileSection;
 use crate::passed::Passed;
-use answer_check::{Certified, certify};
 use row_types::{BuildId, Kind};
 use std::alloc::{AllocError, Global};
 use webapi_routes::{Route, SectionName};
 
-/// What came of the check of a file.
+/// What came of the check of bytes.
 #[derive(Drop)]
-pub(crate) enum Checked {
-    /// It passes.
+pub enum Checked {
+    /// They pass.
     Passed(Passed),
-    /// It doesn't.
+    /// They don't.
     Refused,
     /// There was not enough memory.
     OutOfMemory,
 }
 
-/// Checks the bytes that were found of a candidate of this class. They aren't copied.
-pub(crate) fn check(alloc: Global, route: &Route, class: Option<Kind>, bytes: Vec<u8>) -> Checked
+/// Whether bytes pass as an answer to a route: for a file those of the route's class and id, for a
+/// section those of a file of the id and of this class that has it, for a source any. They aren't
+/// copied.
+pub fn check(alloc: Global, route: &Route, class: Option<Kind>, bytes: Vec<u8>) -> Checked
     ensures { Checks route.now class bytes.items result }
 {
     match (route, class) {

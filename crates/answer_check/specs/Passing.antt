@@ -3,14 +3,13 @@ use Rattle.std.specs.Prelude.{◌≡◌, ℕ, List, Option, Some, None}
 use Rattle.answer_check.specs.Certified.{CertifiedFacts, IsCertified}
 use Rattle.row_types.specs.declared.identity.Kind.{Kind}
 use Rattle.row_types.specs.declared.identity.Kind.TheVariants as kind
-use Rattle.tree_trait.specs.Load.{LoadFacts, loaded, no_memory}
 use Rattle.webapi_routes.specs.declared.route.Route.{Route}
 use Rattle.webapi_routes.specs.declared.route.Route.TheVariants.{Debuginfo, Executable, Source, Section}
-use Rattle.answer_core.specs.Section.{HasSectionOf, named}
-use Rattle.answer_core.specs.declared.check.Checked.{Checked}
-use Rattle.answer_core.specs.declared.check.Checked.TheVariants as checked
-use Rattle.answer_core.specs.declared.passed.Passed.{Passed}
-use Rattle.answer_core.specs.declared.passed.Passed.TheVariants as passed
+use Rattle.answer_check.specs.Section.{HasSectionOf, named}
+use Rattle.answer_check.specs.declared.passing.Checked.{Checked}
+use Rattle.answer_check.specs.declared.passing.Checked.TheVariants as checked
+use Rattle.answer_check.specs.declared.passed.Passed.{Passed}
+use Rattle.answer_check.specs.declared.passed.Passed.TheVariants as passed
 
 -- the file of a class and an id with these bytes
 abbrev pub file_of : Kind → List ℕ → List ℕ → CertifiedFacts
@@ -32,12 +31,6 @@ Gives (Executable id) class bytes (passed.File file) = file ≡ file_of kind.Exe
 Gives (Section id name) (Some class) bytes (passed.Section section) = section ≡ named (file_of class id bytes) name
 Gives (Source id path) class bytes (passed.Source source) = source.items ≡ bytes
 Gives _ _ _ _ = ⊥
-
--- the answer to a load gives no bytes that pass; it isn't that memory was refused
-abbrev pub GivesNothing : Route → Option Kind → LoadFacts → Type 0
-GivesNothing route class (loaded found) = ¬ Passes route class found.bytes
-GivesNothing route class no_memory = ⊥
-GivesNothing route class _ = Unit {0}
 
 -- what came of the check of bytes
 abbrev pub Checks : Route → Option Kind → List ℕ → Checked → Type 0

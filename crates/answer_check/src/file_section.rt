@@ -2,9 +2,9 @@
 
 ghost use Rattle.std.specs.Prelude.{◌≡◌, ℕ, List, Some};
 ghost use Rattle.file_formats.specs.Table.{IsSectionAnswer};
-ghost use Rattle.answer_core.specs.Section.{HasNamed, named};
+ghost use Rattle.answer_check.specs.Section.{HasNamed, named};
 
-use answer_check::Certified;
+use crate::certified::Certified;
 use std::marker::Model;
 use webapi_routes::SectionName;
 
@@ -17,7 +17,7 @@ pub struct FileSection {
 }
 
 impl Model for FileSection {
-    ghost use Rattle.answer_core.specs.Section.{FileSectionFacts, HasNamed, named};
+    ghost use Rattle.answer_check.specs.Section.{FileSectionFacts, HasNamed, named};
 
     ghost Value = { FileSectionFacts };
 

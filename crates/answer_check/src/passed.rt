@@ -1,11 +1,11 @@
-//! What a load gives that passed.
+//! What is given of bytes that pass.
 
+use crate::certified::Certified;
 use crate::file_section::FileSection;
-use answer_check::Certified;
 
-/// What is given of a file that passed.
+/// What is given of bytes that pass.
 #[derive(Drop)]
-pub(crate) enum Passed {
+pub enum Passed {
     /// The file, certified for the id and the class of the route.
     File(Certified),
     /// The section of a file that is certified for the id.
