@@ -56,6 +56,11 @@ adds_up_more {rows} {place} {total} {found} {word} {first} {before} {after} sums
           (λ (e : row ≡ rows). let it : found ≡ get_or first.me.0.numbers place 0 =
           told.1 row place (ap (λ m. m.0.row) sums.looked.me ∙ mine) small (is ∙ ap (λ (r : ℕ). word_at r place) (sym e)) ∙ ap (λ m. get_or m.0.numbers place 0) sums.looked.me in omega (arith, it))
           (λ (n : row ≢ rows). let it = sums.own row mine (omega (arith, n, less)) in omega (arith, it));
+      exact = λ row mine less. dite (ℕ_discrete row rows)
+          (λ (e : row ≡ rows). let it : found ≡ get_or first.me.0.numbers place 0 =
+          told.1 row place (ap (λ m. m.0.row) sums.looked.me ∙ mine) small (is ∙ ap (λ (r : ℕ). word_at r place) (sym e)) ∙ ap (λ m. get_or m.0.numbers place 0) sums.looked.me in
+          ap (λ (p : ℕ). get_or (sums.column ++ found ∷ []) p 0) (e ∙ sym sums.each) ∙ get_or-append_seam sums.column found [] 0 ∙ it)
+          (λ (n : row ≢ rows). get_or_append_left sums.column (found ∷ []) 0 row (omega (arith, sums.each, less, n)) ∙ sums.exact row mine (omega (arith, n, less)));
     }
 
 -- the next number is added up
@@ -73,4 +78,12 @@ add_up_more {rows} {places} {total} {totals} {first} {before} {after} all one =
           let last : get_or (totals ++ total ∷ []) place 0 ≡ total = ap (λ (p : ℕ). get_or (totals ++ total ∷ []) p 0) (e ∙ sym many) ∙ get_or-append_seam totals total [] 0 in omega (arith, it, same, last))
           (λ (n : place ≢ places). let it = all.own row place mine within (omega (arith, n, less)) in
           let kept : get_or (totals ++ total ∷ []) place 0 ≡ get_or totals place 0 = get_or_append_left totals (total ∷ []) 0 place (omega (arith, many, less, n)) in omega (arith, it, kept));
+      exact = λ row place mine within less. dite (ℕ_discrete place places)
+          (λ (e : place ≡ places).
+          let its : get_or (all.columns ++ one.column ∷ []) place [] ≡ one.column = ap (λ (p : ℕ). get_or (all.columns ++ one.column ∷ []) p []) (e ∙ sym all.all) ∙ get_or-append_seam all.columns one.column [] [] in
+          ap (λ (column : List ℕ). get_or column row 0) its ∙ one.exact row (ap (λ m. m.0.row) all.looked.me ∙ mine) within
+          ∙ (ap (λ m. get_or m.0.numbers places 0) all.looked.me ∙ ap (λ (p : ℕ). get_or first.me.0.numbers p 0) (sym e)))
+          (λ (n : place ≢ places).
+          ap (λ (column : List ℕ). get_or column row 0) (get_or_append_left all.columns (one.column ∷ []) [] place (omega (arith, all.all, less, n)))
+          ∙ all.exact row place mine within (omega (arith, n, less)));
     }

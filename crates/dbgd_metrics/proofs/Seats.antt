@@ -2,7 +2,7 @@
 use Rattle.std.proofs.Common.{◌≡◌, ℕ, ◌≤◌, List, [], ◌∷◌, ◌++◌, sym, ap, ◌∙◌, subst, arith, Bool, false, Option, Some, None}
 use Rattle.std.specs.Prelude.{IsSome}
 use Rattle.dbgd_metrics.proofs.Rows.{no_row, place_bound}
-use Rattle.dbgd_metrics.proofs.Views.{row_or_none}
+use Rattle.dbgd_metrics.proofs.Views.{one_row, row_or_none}
 use Rattle.dbgd_metrics.specs.Draws.{GetsRow, TakesRow, SeesNone, FindsNone, finds}
 use Rattle.dbgd_metrics.specs.Rule.{Token, word_at}
 use Rattle.dbgd_metrics.specs.Seats.{facts_of, HasSeat}
@@ -70,5 +70,9 @@ is_page {rows} {share} {totals} {text} old new (Some row) marked sums has there 
   };
   own = λ number. subst (λ (ts : List ℕ). number_in share.numbers number ≤ number_in ts number) sums.values
       (subst (λ (s : ShareFacts). number_in s.numbers number ≤ number_in totals number) shows (sums.own row (place_of number) (sym has.1) (omega (arith, words, has.2.1)) (place_bound number)));
+  exact = λ other number mine.
+      let its : old.me.0.row ≡ Some other = ap (λ (s : ShareFacts). s.row) shows ∙ mine in
+      let same : other ≡ row = one_row its (sym has.1) in
+      sums.exact other (place_of number) its (omega (arith, words, has.2.1, same)) (place_bound number) ∙ ap (λ (s : ShareFacts). number_in s.numbers number) shows;
   lines = lines ∙ ap metrics_text sums.values;
 }

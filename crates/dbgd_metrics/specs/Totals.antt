@@ -1,8 +1,8 @@
 -- The totals of a page: what was loaded for them, and what they add up. This is the project's own rule.
-use Rattle.std.specs.Prelude.{◌≡◌, ℕ, ◌+◌, ◌≤◌, List, [], ◌∷◌, ◌++◌, map, length, All, sum}
+use Rattle.std.specs.Prelude.{◌≡◌, ℕ, ◌+◌, ◌≤◌, List, [], ◌∷◌, ◌++◌, map, length, slice_index, slice_index_or, Some, All, sum}
 use Rattle.dbgd_metrics.specs.declared.number.Number.{Number}
 use Rattle.dbgd_metrics.specs.declared.view.Load.{Load}
-use Rattle.dbgd_metrics.specs.Numbers.{number_in, count_of_numbers}
+use Rattle.dbgd_metrics.specs.Numbers.{number_in, place_of, count_of_numbers}
 use Rattle.dbgd_metrics.specs.Page.{metrics_text}
 use Rattle.dbgd_metrics.specs.Rule.{word_at}
 use Rattle.dbgd_metrics.specs.Shares.{ShareFacts}
@@ -17,17 +17,22 @@ abbrev pub page_loads : ℕ → List (List ℕ) → List Load
 page_loads place [] = []
 page_loads place (column ∷ columns) = column_loads place 0 column ++ page_loads (place + 1) columns
 
+-- what the load of the number at a place found in a row
+abbrev pub found_at : List (List ℕ) → ℕ → ℕ → ℕ
+found_at columns place row = slice_index (slice_index_or columns place []) row
+
 -- every word of every row was loaded once, and found these numbers
 pub record Loads (rows : ℕ) (columns : List (List ℕ)) (old new : ShareFacts) : Type 0 where
   pub all : length columns ≡ count_of_numbers
   pub each : All (λ column. length column ≡ rows) columns
   pub share : new ≡ record old { loads = old.loads ++ page_loads 0 columns }
 
--- the page of the totals, each the sum of what its loads found, and none smaller than the share's own number
+-- the page of the totals, each the sum of what its loads found; those of the share's own row found its own numbers, so no total is smaller than the own number
 pub record IsPage (rows : ℕ) (old new : ShareFacts) (text : List ℕ) : Type 0 where
   pub columns : List (List ℕ)
   pub loads : Loads rows columns old new
   pub own : (number : Number) → number_in old.numbers number ≤ number_in (map sum columns) number
+  pub exact : (row : ℕ) (number : Number) → old.row ≡ Some row → found_at columns (place_of number) row ≡ number_in old.numbers number
   pub lines : text ≡ metrics_text (map sum columns)
 
 -- the share noted loads, and nothing else of it changed

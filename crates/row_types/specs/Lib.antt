@@ -16,3 +16,4 @@ pub mod SourcePaths
 pub mod Sources
 pub mod Stamp
 pub mod Under
+pub mod Text

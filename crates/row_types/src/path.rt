@@ -5,29 +5,40 @@ ghost use Rattle.std.specs.List.{list_all};
 ghost use Rattle.std.specs.String.{string_bytes};
 ghost use Rattle.row_types.specs.Canon.{is_canonical, has_form, pieces, stays, IsCanonPath};
 ghost use Rattle.row_types.specs.Limits.{ArePinnedPathLimits};
+ghost use Rattle.row_types.specs.Text.{text_bytes};
 
 use crate::limits::{PATH_LIMIT, SEPARATOR};
 use std::alloc::{AllocError, Global};
 use std::cmp::Ordering;
 use std::marker::Model;
+use std::sync::ArcStr;
+
+/// The text of a path.
+#[derive(Drop)]
+enum Text {
+    /// It is this path's alone.
+    Own(String),
+    /// Its copies share it.
+    Shared(ArcStr),
+}
 
 /// A path that is its own canonical form and has at most 4096 bytes. Contracts see it as the list of its
 /// bytes, by which paths are ordered.
 #[derive(Drop)]
 pub struct CanonPath {
-    text: String,
+    text: Text,
 }
 
 impl Model for CanonPath {
     ghost use Rattle.std.specs.Prelude.{List, ℕ};
-    ghost use Rattle.std.specs.String.{string_bytes};
     ghost use Rattle.row_types.specs.Canon.{IsCanonPath};
+    ghost use Rattle.row_types.specs.Text.{text_bytes};
 
     ghost Value = { List ℕ };
 
-    ghost view = { λ p. string_bytes p.text };
+    ghost view = { λ p. text_bytes p.text };
 
-    ghost invariant = { λ p. IsCanonPath (string_bytes p.text) };
+    ghost invariant = { λ p. IsCanonPath (text_bytes p.text) };
 }
 
 impl CanonPath {
@@ -39,7 +50,9 @@ impl CanonPath {
         ensures limits { ArePinnedPathLimits }
     {
         if is_path(text.as_str()) {
-            Ok(CanonPath { text })
+            Ok(CanonPath {
+                text: Text::Own(text),
+            })
         } else {
             Err(text)
         }
@@ -53,12 +66,34 @@ impl CanonPath {
         self.text.as_str()
     }
 
-    /// A copy.
+    /// A copy. It shares its text with its own copies.
     pub fn copy(&self, alloc: Global) -> Result<CanonPath, AllocError>
         ensures { IfOk result (λ path. path ≡ self.now) }
     {
         Ok(CanonPath {
-            text: String::from_str(alloc, self.text.as_str())?,
+            text: self.text.copy(alloc)?,
+        })
+    }
+}
+
+impl Text {
+    /// The text.
+    fn as_str(&self) -> &str
+        ensures { result.now ≡ text_bytes self.now }
+    {
+        match self {
+            Text::Own(text) => text.as_str(),
+            Text::Shared(text) => text.as_str(),
+        }
+    }
+
+    /// A copy that is shared.
+    fn copy(&self, alloc: Global) -> Result<Text, AllocError>
+        ensures { IfOk result (λ text. text_bytes text ≡ text_bytes self.now) }
+    {
+        Ok(match self {
+            Text::Own(text) => Text::Shared(ArcStr::from_str(alloc, text.as_str())?),
+            Text::Shared(text) => Text::Shared(text.clone()?),
         })
     }
 }
@@ -112,7 +147,7 @@ impl PartialEq for CanonPath {
     ghost laws = { partial_equiv_from_equiv nat_list_eq_equiv };
 
     fn eq(&self, other: &Self) -> bool {
-        self.text.as_str() == other.text.as_str()
+        self.text() == other.text()
     }
 }
 
@@ -132,7 +167,7 @@ impl PartialOrd for CanonPath {
     ghost laws = { texts_po };
 
     fn partial_cmp(&self, other: &Self) -> Option<Ordering> {
-        Some(self.text.as_str().cmp(other.text.as_str()))
+        Some(self.text().cmp(other.text()))
     }
 }
 
@@ -151,6 +186,6 @@ impl Ord for CanonPath {
     ghost matches_eq = { texts_ties };
 
     fn cmp(&self, other: &Self) -> Ordering {
-        self.text.as_str().cmp(other.text.as_str())
+        self.text().cmp(other.text())
     }
 }
