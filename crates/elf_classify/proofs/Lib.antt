@@ -1,1 +1,3 @@
 pub mod NamedLemmas
+pub mod IdLemmas
+pub mod SeenLemmas

@@ -1,3 +1,5 @@
 pub use Rattle.file_formats.specs.Identity
 pub use Rattle.file_formats.specs.Table
 pub use Rattle.file_formats.specs.DwarfSections
+pub mod Ids
+pub mod Views

@@ -1,13 +1,17 @@
 //! A file's identity: its build-id, and whether it holds code and debug information.
 
 ghost use Rattle.std.specs.Prelude.{◌≡◌, ◌≢◌, ◌↔◌, ◌<◌, ℕ, List, Result, Err, IsTrue, IfNone, IfSome};
-ghost use Rattle.file_formats.specs.Identity.{HasCode, HasDebug, HasIdAt, Identity, IsBuildId, IsIdentity, is_code, is_debug, why_of};
-ghost use Rattle.file_formats.specs.Table.{IsSectionIndex, given_name};
+ghost use Rattle.file_formats.specs.Identity.{HasCode, HasDebug, Identity, IsIdentity, is_code, is_debug, why_of};
+ghost use Rattle.file_formats.specs.Table.{given_name};
+ghost use Rattle.file_picture.specs.Agrees.{filled};
+ghost use Rattle.elf_classify.specs.Views.{SaysIdentity, SeesIdentity};
+ghost use Rattle.elf_classify.specs.declared.identity.IdentView.TheVariants as view;
 
-use elf_file::{ElfFault, ElfFile};
-use elf_notes::first_build_id;
-use file_formats::{ET_CORE, SHF_ALLOC, SHF_COMPRESSED, SHT_NOTE, SHT_PROGBITS, SectionHeader};
-use row_types::{BuildId, Ident, Why};
+use crate::ids::build_id;
+use elf_file::{ElfFault, ElfView, Stop};
+use file_formats::{ET_CORE, SHF_ALLOC, SHT_PROGBITS, SectionHeader};
+use file_picture::{Need, Picture, View};
+use row_types::{Ident, Why};
 
 /// What a fault of the table is called of a file.
 fn reason(fault: ElfFault) -> Why
@@ -20,36 +24,6 @@ fn reason(fault: ElfFault) -> Why
     }
 }
 
-/// The first build-id of the section of an index.
-fn id_at(file: &ElfFile<'_>, index: u64) -> Option<BuildId>
-    requires { IsSectionIndex file.now.table index }
-    ensures found { IfSome result (λ id. HasIdAt file.now.bytes file.now.table index id) }
-    ensures none { IfNone result
-        ((id : List ℕ) → HasIdAt file.now.bytes file.now.table index id → ⊥) }
-{
-    let header = file.header(index);
-    if header.sh_type != SHT_NOTE || header.is_flagged(SHF_COMPRESSED) {
-        return None;
-    }
-    let contents = file.contents(&header)?;
-    let id = first_build_id(contents, file.order(), header.sh_addralign)?;
-    BuildId::new(id)
-}
-
-/// The build-id of the first section that has one.
-fn build_id(file: &ElfFile<'_>) -> Option<BuildId>
-    ensures found { IfSome result (λ id. IsBuildId file.now.bytes file.now.table id) }
-    ensures none { IfNone result
-        ((i : ℕ) (id : List ℕ) → HasIdAt file.now.bytes file.now.table i id → ⊥) }
-{
-    for index in 1..file.count() {
-        if let Some(id) = id_at(file, index) {
-            return Some(id);
-        }
-    }
-    None
-}
-
 /// Whether a section is code.
 fn holds_code(header: &SectionHeader) -> bool
     ensures { result ≡ is_code header.now }
@@ -58,16 +32,16 @@ fn holds_code(header: &SectionHeader) -> bool
 }
 
 /// Whether a section is one of debug information.
-fn holds_debug(file: &ElfFile<'_>, header: &SectionHeader) -> bool
+fn holds_debug(file: &ElfView<'_>, header: &SectionHeader) -> bool
     ensures { result ≡ is_debug
-        header.now (given_name file.now.bytes file.now.table header.now) }
+        header.now (given_name (filled file.now.file) file.now.table header.now) }
 {
     !header.takes_no_bytes() && file.has_name_with(header, b".debug_")
 }
 
 /// Whether some section is code.
-fn has_code(file: &ElfFile<'_>) -> bool
-    ensures { IsTrue result ↔ HasCode file.now.bytes file.now.table }
+fn has_code(file: &ElfView<'_>) -> bool
+    ensures { IsTrue result ↔ HasCode (filled file.now.file) file.now.table }
 {
     for index in 1..file.count() {
         if holds_code(&file.header(index)) {
@@ -78,8 +52,8 @@ fn has_code(file: &ElfFile<'_>) -> bool
 }
 
 /// Whether some section is one of debug information.
-fn has_debug(file: &ElfFile<'_>) -> bool
-    ensures { IsTrue result ↔ HasDebug file.now.bytes file.now.table }
+fn has_debug(file: &ElfView<'_>) -> bool
+    ensures { IsTrue result ↔ HasDebug (filled file.now.file) file.now.table }
 {
     for index in 1..file.count() {
         if holds_debug(file, &file.header(index)) {
@@ -89,25 +63,53 @@ fn has_debug(file: &ElfFile<'_>) -> bool
     false
 }
 
-/// The identity of a file, by the definition.
-fn identity(bytes: &[u8]) -> Result<Ident, Why>
-    ensures { IsIdentity bytes.now result }
+/// What a picture says of a file's identity.
+#[derive(Clone, Copy, PartialEq, Eq)]
+pub enum IdentView {
+    /// These bytes are needed, and aren't there.
+    Need {
+        /// Where they begin, in bytes from the file's start.
+        at: u64,
+        /// How many they are.
+        len: u64,
+    },
+    /// The file has this identity.
+    Ident(Ident),
+    /// It has none, for this reason.
+    Plain(Why),
+}
+
+/// The answer that a range is needed.
+fn needs(need: Need) -> IdentView
+    ensures { result ≡ view.Need need.at need.len }
 {
-    let file = match ElfFile::parse(bytes) {
+    IdentView::Need {
+        at: need.at,
+        len: need.len,
+    }
+}
+
+/// The identity of a file of which parts are there, by the definition, or what it needs.
+fn identity(seen: View<'_>) -> IdentView
+    ensures { SeesIdentity seen.entry result }
+{
+    let file = match ElfView::open(seen) {
         Ok(file) => file,
-        Err(fault) => return Err(reason(fault)),
+        Err(Stop::Need(need)) => return needs(need),
+        Err(Stop::Fault(fault)) => return IdentView::Plain(reason(fault)),
     };
     if file.kind() == ET_CORE {
-        return Err(Why::Core);
+        return IdentView::Plain(Why::Core);
     }
-    let Some(id) = build_id(&file) else {
-        return Err(Why::NoBuildId);
-    };
-    Ok(Ident {
-        id,
-        exec: has_code(&file),
-        debug: has_debug(&file),
-    })
+    match build_id(&file) {
+        Ok(Some(id)) => IdentView::Ident(Ident {
+            id,
+            exec: has_code(&file),
+            debug: has_debug(&file),
+        }),
+        Ok(None) => IdentView::Plain(Why::NoBuildId),
+        Err(need) => needs(need),
+    }
 }
 
 /// The identity of a file, or the first reason why it has none. It takes no memory.
@@ -116,5 +118,17 @@ pub fn ident(bytes: &[u8]) -> Result<Ident, Why>
     ensures only { (r : Result Identity Why) → IsIdentity bytes.now r → result ≡ r }
     ensures not_too_large { result ≢ Err Why.TooLarge }
 {
-    identity(bytes)
+    match identity(View::whole(bytes)) {
+        IdentView::Ident(ident) => Ok(ident),
+        IdentView::Plain(why) => Err(why),
+        IdentView::Need { .. } => unreachable!(),
+    }
+}
+
+/// The identity of each file that agrees with a picture, or the first reason why it has none, where
+/// all its windows are there; else one of these that isn't. It takes no memory.
+pub fn ident_view(picture: &Picture) -> IdentView
+    ensures { SaysIdentity picture.now result }
+{
+    identity(View::part(picture))
 }

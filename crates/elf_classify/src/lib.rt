@@ -4,10 +4,11 @@
 #![tactic(auto)]
 
 mod identity;
+mod ids;
 mod named;
 mod parts;
 
 pub use dwarf_forms::DebugParts;
-pub use identity::ident;
+pub use identity::{IdentView, ident, ident_view};
 pub use named::section_of;
 pub use parts::debug_parts;

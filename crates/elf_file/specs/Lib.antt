@@ -5,3 +5,5 @@ pub use Rattle.file_formats.specs.Table
 pub mod Parsed
 pub mod Section
 pub mod Texts
+pub mod Steps
+pub mod Opened

@@ -4,34 +4,30 @@ ghost use Rattle.std.specs.Prelude.{◌≡◌, ◌≢◌, ◌↔◌, ◌<◌, �
 ghost use Rattle.std.specs.Option.{option_copied, option_map_or};
 ghost use Rattle.std.specs.List.{starts_with};
 ghost use Rattle.file_formats.specs.Sections.{contents_of};
-ghost use Rattle.file_formats.specs.Table.{IsFirstNamed, IsSectionIndex, has_names, name_at, given_name, section_at, table_of};
-ghost use Rattle.elf_file.specs.Parsed.{IsInside};
+ghost use Rattle.file_formats.specs.Table.{IsFirstNamed, IsSectionIndex, name_at, given_name, section_at, table_of};
 ghost use Rattle.elf_file.specs.Section.{IsSection};
 ghost use Rattle.elf_file.specs.Texts.{has_no_zero};
 
-use crate::head::head;
-use crate::names::Names;
-use crate::section::{Section, contents, header_at};
-use crate::table::{entry_place, names_in, table};
-use file_formats::{ElfFault, Order, SectionHeader, SectionTable};
+use crate::section::Section;
+use crate::view::ElfView;
+use file_formats::{ElfFault, Order, SectionHeader};
 use std::marker::Model;
 
 /// An ELF file that lends from its bytes. Contracts see it as the bytes and the section table.
 #[derive(Drop)]
 pub struct ElfFile<'a> {
-    bytes: &'a [u8],
-    table: SectionTable,
-    names: Option<Names<'a>>,
+    file: ElfView<'a>,
 }
 
 impl<'a> Model for ElfFile<'a> {
-    ghost use Rattle.elf_file.specs.Parsed.{IsParsed, Parsed};
+    ghost use Rattle.file_picture.specs.Agrees.{filled};
+    ghost use Rattle.elf_file.specs.Parsed.{IsWhole, Parsed};
 
     ghost Value = { Parsed };
 
-    ghost view = { λ f. record { bytes = f.bytes.now; table = f.table } };
+    ghost view = { λ f. record { bytes = filled f.file.file; table = f.file.table } };
 
-    ghost invariant = { λ f. IsParsed f.bytes.now f.table f.names };
+    ghost invariant = { λ f. IsWhole f.file.file };
 }
 
 impl<'a> ElfFile<'a> {
@@ -41,34 +37,31 @@ impl<'a> ElfFile<'a> {
             (file.bytes ≡ bytes.now) × (table_of bytes.now ≡ Ok file.table)) }
         ensures err { IfErr result (λ fault. table_of bytes.now ≡ Err fault) }
     {
-        let table = table_in(bytes)?;
-        let names = names_in(bytes, &table);
-        Ok(ElfFile {
-            bytes,
-            table,
-            names,
-        })
+        match ElfView::of_bytes(bytes) {
+            Ok(file) => Ok(ElfFile { file }),
+            Err(fault) => Err(fault),
+        }
     }
 
     /// The file's type, as ET_CORE.
     pub fn kind(&self) -> u16
         ensures { result ≡ self.now.table.e_type }
     {
-        self.table.e_type
+        self.file.kind()
     }
 
     /// The order of the file's numbers.
     pub fn order(&self) -> Order
         ensures { result ≡ self.now.table.encoding.order }
     {
-        self.table.encoding.order
+        self.file.order()
     }
 
     /// The number of section headers.
     pub fn count(&self) -> u64
         ensures { result ≡ self.now.table.count }
     {
-        self.table.count
+        self.file.count()
     }
 
     /// The section of an index.
@@ -110,25 +103,25 @@ impl<'a> ElfFile<'a> {
         requires { index < self.now.table.count }
         ensures { result ≡ section_at self.now.bytes self.now.table index }
     {
-        let place = entry_place(self.bytes, &self.table, index);
-        header_at(self.bytes, self.table.encoding, place)
+        self.file.header(index)
     }
 
     /// The contents that a section header describes.
     pub fn contents(&self, header: &SectionHeader) -> Option<&'a [u8]>
         ensures { option_copied result ≡ contents_of self.now.bytes header.now }
     {
-        contents(self.bytes, header)
+        let at = self.file.extent(header)?;
+        match self.file.slice(&at) {
+            Ok(bytes) => Some(bytes),
+            Err(_) => unreachable!(),
+        }
     }
 
     /// The name that a section header gives.
     pub fn name(&self, header: &SectionHeader) -> Option<&'a [u8]>
         ensures { option_copied result ≡ given_name self.now.bytes self.now.table header.now }
     {
-        match &self.names {
-            Some(names) => names.text(header.sh_name),
-            None => None,
-        }
+        self.file.name(header)
     }
 
     /// Whether a section header gives this name.
@@ -136,10 +129,7 @@ impl<'a> ElfFile<'a> {
         ensures { IsTrue result
             ↔ (given_name self.now.bytes self.now.table header.now ≡ Some name.now) }
     {
-        match &self.names {
-            Some(names) => names.is(header.sh_name, name),
-            None => false,
-        }
+        self.file.has_name(header, name)
     }
 
     /// Whether a section header gives a name that begins with a prefix. The name's end is not
@@ -150,20 +140,6 @@ impl<'a> ElfFile<'a> {
             (λ name. starts_with nat_eq name prefix.now)
             (given_name self.now.bytes self.now.table header.now) false }
     {
-        match &self.names {
-            Some(names) => names.begins(header.sh_name, prefix),
-            None => false,
-        }
+        self.file.has_name_with(header, prefix)
     }
-}
-
-/// The section table, where all tests pass.
-#[tactic(auto, unfolding(file_formats::specs::Table::table_of))]
-fn table_in(bytes: &[u8]) -> Result<SectionTable, ElfFault>
-    ensures value { result ≡ table_of bytes.now }
-    ensures inside { IfOk result (λ table. IsInside bytes.now table) }
-    ensures names { IfOk result (λ table. has_names bytes.now table ≡ true) }
-{
-    let head = head(bytes)?;
-    table(bytes, &head)
 }

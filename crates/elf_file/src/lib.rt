@@ -6,8 +6,13 @@ mod file;
 mod head;
 mod names;
 mod section;
+mod start;
+mod stop;
 mod table;
+mod view;
 
 pub use file::ElfFile;
 pub use file_formats::ElfFault;
 pub use section::Section;
+pub use stop::Stop;
+pub use view::ElfView;

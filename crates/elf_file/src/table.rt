@@ -1,59 +1,25 @@
 //! The section table and the tests that find it.
 
-ghost use Rattle.std.specs.Prelude.{◌≡◌, ◌+◌, ◌≤◌, ◌<◌, ◌*◌, nat_le, true, IfOk, length};
+ghost use Rattle.file_picture.specs.Agrees.{filled};
+ghost use Rattle.std.specs.Prelude.{◌≡◌, ◌+◌, ◌*◌, ◌≤◌, ◌<◌, true, false, length, Err, MatchResult, OnOk, OnErr, IfOk, IfErr};
 ghost use Rattle.file_formats.specs.Sections.{shdr_size};
-ghost use Rattle.file_formats.specs.Table.{count_of, has_names, has_section_zero, names_index, names_section, table_below};
-ghost use Rattle.elf_file.specs.Parsed.{IsInside};
+ghost use Rattle.file_formats.specs.Table.{has_names, section_at, table_below, count_of};
+ghost use Rattle.file_formats.specs.Windows.{reaches_zero, reaches_table};
+ghost use Rattle.elf_file.specs.Steps.{AllHere, AreEntries, HasEntries, HasHead, HasTable, Needs, Stops, HasNames, IsExtent};
 
 use crate::names::Names;
-use crate::section::{contents, header_at};
-use file_formats::{ElfFault, Head, SHN_UNDEF, SHN_XINDEX, SectionTable};
+use crate::section::header_at;
+use crate::start::{count, describe, head_in, holds_section_zero, zero_in};
+use crate::stop::Stop;
+use file_formats::{ElfFault, Head, SHN_UNDEF, SectionHeader, SectionTable};
+use file_picture::{Need, View};
 
-/// Whether section 0's header is wholly in the file.
-fn holds_section_zero(bytes: &[u8], head: &Head) -> bool
-    ensures { result ≡ has_section_zero bytes.now head.now }
-{
-    head.e_shoff as u128 + head.encoding.class.shdr_size() as u128 <= bytes.len() as u128
-}
-
-/// The number of sections.
-fn count(bytes: &[u8], head: &Head) -> u64
-    requires { head.now.e_shnum ≡ 0
-        → head.now.e_shoff + shdr_size head.now.encoding.class ≤ length bytes.now }
-    ensures { result ≡ count_of bytes.now head.now }
-{
-    if head.e_shnum == 0 {
-        header_at(bytes, head.encoding, head.e_shoff as usize).sh_size
-    } else {
-        head.e_shnum as u64
-    }
-}
-
-/// The index of the names' section.
-fn names(bytes: &[u8], head: &Head) -> u64
-    requires { head.now.e_shoff + shdr_size head.now.encoding.class ≤ length bytes.now }
-    ensures { result ≡ names_index bytes.now head.now }
-{
-    if head.e_shstrndx as u64 == SHN_XINDEX {
-        header_at(bytes, head.encoding, head.e_shoff as usize).sh_link as u64
-    } else {
-        head.e_shstrndx as u64
-    }
-}
-
-/// Whether the table ends within the file.
-fn ends_within(bytes: &[u8], head: &Head, count: u64) -> bool
-    ensures { result ≡ nat_le (head.now.e_shoff + count * head.now.e_shentsize) (length bytes.now) }
-{
-    head.e_shoff as u128 + count as u128 * head.e_shentsize as u128 <= bytes.len() as u128
-}
-
-/// The section table, where the remaining tests pass.
+/// The tests before section 0's header is read.
 #[tactic(auto, unfolding(file_formats::specs::Table::table_below))]
-pub fn table(bytes: &[u8], head: &Head) -> Result<SectionTable, ElfFault>
-    ensures value { result ≡ table_below bytes.now head.now }
-    ensures inside { IfOk result (λ table. IsInside bytes.now table) }
-    ensures names { IfOk result (λ table. has_names bytes.now table ≡ true) }
+fn first_tests(view: &View<'_>, head: &Head) -> Result<(), ElfFault>
+    ensures ok { OnOk result (reaches_zero (filled view.now) head.now ≡ true) }
+    ensures fault { IfErr result (λ fault. table_below (filled view.now) head.now ≡ Err fault) }
+    ensures ends { OnErr result (reaches_zero (filled view.now) head.now ≡ false) }
 {
     if head.e_shoff == 0 {
         return Err(ElfFault::NoSections);
@@ -61,44 +27,102 @@ pub fn table(bytes: &[u8], head: &Head) -> Result<SectionTable, ElfFault>
     if head.e_shentsize as u64 != head.encoding.class.shdr_size() {
         return Err(ElfFault::BadTable);
     }
-    if head.e_shnum == 0 && !holds_section_zero(bytes, head) {
+    if head.e_shnum == 0 && !holds_section_zero(view, head) {
         return Err(ElfFault::BadTable);
     }
-    let count = count(bytes, head);
+    Ok(())
+}
+
+/// The tests of the count and of the table's end. Gives how many bytes the table has.
+#[tactic(auto, unfolding(file_formats::specs::Table::table_below))]
+fn last_tests(view: &View<'_>, head: &Head, count: u64) -> Result<u64, ElfFault>
+    requires count { count ≡ count_of (filled view.now) head.now }
+    requires reached { reaches_zero (filled view.now) head.now ≡ true }
+    ensures ok { OnOk result (reaches_table (filled view.now) head.now ≡ true) }
+    ensures len { IfOk result (λ len. len ≡ count_of (filled view.now) head.now
+        * head.now.e_shentsize) }
+    ensures fault { IfErr result (λ fault. table_below (filled view.now) head.now ≡ Err fault) }
+    ensures ends { OnErr result (reaches_table (filled view.now) head.now ≡ false) }
+{
     if count == 0 {
         return Err(ElfFault::NoSections);
     }
-    if !ends_within(bytes, head, count) {
+    let len = count as u128 * head.e_shentsize as u128;
+    if head.e_shoff as u128 + len > view.size() as u128 {
         return Err(ElfFault::BadTable);
     }
-    let table = SectionTable {
-        encoding: head.encoding,
-        e_type: head.e_type,
-        start: head.e_shoff,
-        count,
-        names: names(bytes, head),
+    Ok(len as u64)
+}
+
+/// The bytes of the table's entries.
+#[tactic(auto, using(crate::proofs::TestLemmas::has_entries, crate::proofs::TestLemmas::needs_table))]
+fn entries_in<'a>(view: &View<'a>, head: &Head, len: u64) -> Result<&'a [u8], Need>
+    requires head { HasHead view.now head.now }
+    requires len { len ≡ count_of (filled view.now) head.now * head.now.e_shentsize }
+    requires reached { reaches_table (filled view.now) head.now ≡ true }
+    requires all { AllHere view.now 2 }
+    ensures { MatchResult result (λ entries. HasEntries view.now head.now entries.now)
+        (Needs view.now) }
+{
+    view.slice(head.e_shoff, len)
+}
+
+/// The section table with its entries, where all tests pass.
+#[tactic(auto, using(crate::proofs::TestLemmas::fails_first, crate::proofs::TestLemmas::fails_last, crate::proofs::TestLemmas::reads_table, crate::proofs::TestLemmas::fails_names, crate::proofs::TestLemmas::entries_of))]
+pub fn table_in<'a>(view: &View<'a>) -> Result<(SectionTable, &'a [u8]), Stop>
+    ensures { MatchResult result (λ found. HasTable view.now found.0 found.1.now)
+        (Stops view.now) }
+{
+    let head = head_in(view)?;
+    if let Err(fault) = first_tests(view, &head) {
+        return Err(Stop::Fault(fault));
+    }
+    let zero = zero_in(view, &head)?;
+    let count = count(view, &head, &zero);
+    let len = match last_tests(view, &head, count) {
+        Ok(len) => len,
+        Err(fault) => return Err(Stop::Fault(fault)),
     };
-    if names_are_there(bytes, &table) {
-        Ok(table)
+    let entries = entries_in(view, &head, len)?;
+    let table = describe(view, &head, &zero, count);
+    if names_are_there(view, &table, entries) {
+        Ok((table, entries))
     } else {
-        Err(ElfFault::BadNames)
+        Err(Stop::Fault(ElfFault::BadNames))
     }
 }
 
-/// Where the section header of an index begins.
-pub fn entry_place(bytes: &[u8], table: &SectionTable, index: u64) -> usize
-    requires inside { IsInside bytes.now table.now }
+/// The section header of an index, from the table's bytes.
+pub fn entry(view: &View<'_>, table: &SectionTable, entries: &[u8], index: u64) -> SectionHeader
+    requires entries { AreEntries (filled view.now) table.now entries.now }
     requires below { index < table.now.count }
-    ensures place { result ≡ table.now.start + index * shdr_size table.now.encoding.class }
-    ensures fits { result + shdr_size table.now.encoding.class ≤ length bytes.now }
+    ensures { result ≡ section_at (filled view.now) table.now index }
 {
-    (table.start + index * table.encoding.class.shdr_size()) as usize
+    header_at(
+        entries,
+        table.encoding,
+        (index * table.encoding.class.shdr_size()) as usize,
+    )
+}
+
+/// Where a section's bytes stand, where it has some and its extent lies in the file.
+pub fn extent(view: &View<'_>, header: &SectionHeader) -> Option<Need>
+    ensures { IsExtent (filled view.now) header.now result }
+{
+    let end = header.sh_offset as u128 + header.sh_size as u128;
+    if header.takes_no_bytes() || (view.size() as u128) < end {
+        return None;
+    }
+    Some(Need {
+        at: header.sh_offset,
+        len: header.sh_size,
+    })
 }
 
 /// Whether no section has a name, or the names' section is there and has contents.
-fn names_are_there(bytes: &[u8], table: &SectionTable) -> bool
-    requires { IsInside bytes.now table.now }
-    ensures { result ≡ has_names bytes.now table.now }
+fn names_are_there(view: &View<'_>, table: &SectionTable, entries: &[u8]) -> bool
+    requires { AreEntries (filled view.now) table.now entries.now }
+    ensures { result ≡ has_names (filled view.now) table.now }
 {
     if table.names == SHN_UNDEF {
         return true;
@@ -106,19 +130,26 @@ fn names_are_there(bytes: &[u8], table: &SectionTable) -> bool
     if table.names >= table.count {
         return false;
     }
-    let place = entry_place(bytes, table, table.names);
-    contents(bytes, &header_at(bytes, table.encoding, place)).is_some()
+    extent(view, &entry(view, table, entries, table.names)).is_some()
 }
 
 /// The names, where sections have some.
-pub fn names_in<'a>(bytes: &'a [u8], table: &SectionTable) -> Option<Names<'a>>
-    requires inside { IsInside bytes.now table.now }
-    requires there { has_names bytes.now table.now ≡ true }
-    ensures { result ≡ names_section bytes.now table.now }
+pub fn names_in<'a>(
+    view: &View<'a>,
+    table: &SectionTable,
+    entries: &[u8],
+) -> Result<Option<Names<'a>>, Need>
+    requires { HasTable view.now table.now entries.now }
+    ensures { MatchResult result (HasNames view.now table.now) (Needs view.now) }
 {
     if table.names == SHN_UNDEF {
-        return None;
+        return Ok(None);
     }
-    let place = entry_place(bytes, table, table.names);
-    contents(bytes, &header_at(bytes, table.encoding, place)).map(Names::new)
+    match extent(view, &entry(view, table, entries, table.names)) {
+        None => Ok(None),
+        Some(at) => match view.slice(at.at, at.len) {
+            Ok(bytes) => Ok(Some(Names::new(bytes))),
+            Err(need) => Err(need),
+        },
+    }
 }

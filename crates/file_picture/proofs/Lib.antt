@@ -6,3 +6,4 @@ pub mod ReadLemmas
 pub mod AddLemmas
 pub mod AgreeLaws
 pub mod UniqueLaw
+pub mod WholeLaws

@@ -6,5 +6,7 @@ mod joins;
 mod picture;
 mod piece;
 mod places;
+mod view;
 
 pub use picture::Picture;
+pub use view::{Need, View};

@@ -1,7 +1,7 @@
 //! A picture.
 
 ghost use Rattle.std.specs.Prelude.{◌≡◌, ◌+◌, ◌≤◌, [], length, IfErr, OnErr, OnOk, MatchOption};
-ghost use Rattle.file_picture.specs.Picture.{Gives, IsAdded, IsCovered, IsFirstGap, IsFree, sum_of};
+ghost use Rattle.file_picture.specs.Picture.{Gives, IsAdded, IsCovered, IsFirstGap, IsFree, IsPicture, sum_of};
 
 use crate::joins::put;
 use crate::piece::Piece;
@@ -44,7 +44,8 @@ impl Picture {
 
     /// The file's size, in bytes.
     pub fn size(&self) -> u64
-        ensures { result ≡ self.now.size }
+        ensures value { result ≡ self.now.size }
+        ensures holds { IsPicture self.now }
     {
         self.size
     }

@@ -120,7 +120,7 @@ impl Piece {
 }
 
 /// The bytes of a range of these, where they hold it.
-fn part(bytes: &[u8], from: u64, len: u64) -> Option<&[u8]>
+pub fn part(bytes: &[u8], from: u64, len: u64) -> Option<&[u8]>
     ensures { MatchOption result (length bytes.now < from + len) (λ part.
         (from + len ≤ length bytes.now) × (part.now ≡ bytes_at bytes.now from len)) }
 {

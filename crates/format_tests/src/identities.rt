@@ -4,6 +4,7 @@
 mod changes;
 mod parts;
 mod sections;
+mod windows;
 
 pub use changes::changed;
 use elf_classify::ident;

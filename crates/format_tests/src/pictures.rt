@@ -8,7 +8,7 @@ use std::process::Abort;
 const FILE: &[u8] = b"the bytes of a file";
 
 /// Puts a part of a file into its picture, and says whether that was done: none of it was there.
-fn puts(
+pub fn puts(
     rt: &impl Abort,
     alloc: Global,
     picture: &mut Picture,
@@ -31,11 +31,23 @@ fn puts(
 }
 
 /// The first run of a range that isn't there, where the range lies in the file.
-fn gap(picture: &Picture, at: u64, len: u64) -> Option<(u64, u64)> {
+pub fn gap(picture: &Picture, at: u64, len: u64) -> Option<(u64, u64)> {
     if at > picture.size() || len > picture.size() - at {
         return None;
     }
     picture.missing(at, len)
+}
+
+/// Puts what isn't there of a range of a file into its picture: at most three runs.
+pub fn fill(rt: &impl Abort, alloc: Global, picture: &mut Picture, file: &[u8], range: (u64, u64)) {
+    for _ in 0..3 {
+        if let Some((from, run)) = gap(picture, range.0, range.1) {
+            let end = from.saturating_add(run);
+            let was_put = puts(rt, alloc, picture, file, from as usize, end as usize);
+            assert!(rt; was_put, "{from}");
+        }
+    }
+    assert!(rt; gap(picture, range.0, range.1).is_none());
 }
 
 /// The picture with "e by" at 2 and " of" at 9.

@@ -1,8 +1,25 @@
-use Rattle.file_formats.proofs.IdentityLemmas.{identity-unique, identity-not_too_large}
+use Rattle.std.proofs.Common.{sym, subst}
+use Rattle.file_formats.proofs.IdentityLemmas.{identity-unique}
+use Rattle.elf_file.specs.Parsed.{IsWhole}
+use Rattle.elf_file.proofs.WholeLemmas.{is_whole, never_needs}
+use Rattle.elf_classify.proofs.SeenLemmas.{seen_whole}
 use Rattle.elf_classify.proofs.identity.ident.Goals as goal
 
-pub returns-clause-only : goal.returns-clause-only
-returns-clause-only c = λ r is. identity-unique _ _ r c.identity.ensures is
+pub unreachable-requires : goal.unreachable-requires
+unreachable-requires c =
+    never_needs c.whole.result (record { at = c.in-Need.at; len = c.in-Need.len })
+    (subst IsWhole (sym c.whole.ensures) (is_whole c.args.bytes.now)) c.in-Need.ensures
 
-pub returns-clause-not_too_large : goal.returns-clause-not_too_large
-returns-clause-not_too_large c = identity-not_too_large c.identity.ensures
+pub returns-in-Ident-clause-answer : goal.returns-in-Ident-clause-answer
+returns-in-Ident-clause-answer c = seen_whole c.args.bytes.now c.whole.result _ c.whole.ensures c.in-Ident.ensures
+
+pub returns-in-Ident-clause-only : goal.returns-in-Ident-clause-only
+returns-in-Ident-clause-only c = λ r is.
+    identity-unique c.args.bytes.now _ r (seen_whole c.args.bytes.now c.whole.result _ c.whole.ensures c.in-Ident.ensures) is
+
+pub returns-in-Plain-clause-answer : goal.returns-in-Plain-clause-answer
+returns-in-Plain-clause-answer c = seen_whole c.args.bytes.now c.whole.result _ c.whole.ensures c.in-Plain.ensures
+
+pub returns-in-Plain-clause-only : goal.returns-in-Plain-clause-only
+returns-in-Plain-clause-only c = λ r is.
+    identity-unique c.args.bytes.now _ r (seen_whole c.args.bytes.now c.whole.result _ c.whole.ensures c.in-Plain.ensures) is

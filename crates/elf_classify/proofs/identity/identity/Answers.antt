@@ -1,25 +1,30 @@
-use Rattle.std.proofs.Common.{sym, ◌∙◌}
-use Rattle.file_formats.specs.Identity.{refused, core, no_id, found}
+use Rattle.std.proofs.Common.{sym, ◌∙◌, subst}
+use Rattle.elf_file.specs.Steps.{Stops}
+use Rattle.elf_classify.specs.Ids.{Finds}
+use Rattle.elf_classify.proofs.SeenLemmas.{sees_need, sees_fault, sees_core, sees_none, sees_id}
 use Rattle.elf_classify.proofs.identity.identity.Goals as goal
 
-pub returns-in-Err : goal.returns-in-Err
-returns-in-Err c = rw c.reason.ensures (refused c.in-Err.fault c.in-Err.ensures.err)
+pub returns-in-Err-Need : goal.returns-in-Err-Need
+returns-in-Err-Need c =
+    sees_need c.args.seen c.in-Err-Need.need _ c.needs.ensures
+    (subst (Stops c.args.seen) c.in-Err-Need.field-0-is c.in-Err-Need.ensures)
+
+pub returns-in-Err-Fault : goal.returns-in-Err-Fault
+returns-in-Err-Fault c =
+    sees_fault c.args.seen c.in-Err-Fault.fault c.reason.result c.reason.ensures
+    (subst (Stops c.args.seen) c.in-Err-Fault.field-0-is c.in-Err-Fault.ensures)
 
 pub returns-then-kind-eq-ET_CORE : goal.returns-then-kind-eq-ET_CORE
 returns-then-kind-eq-ET_CORE c =
-    core c.in-Ok.file.table c.in-Ok.ensures.ok.1 (sym c.kind.ensures ∙ c.if-kind-eq-ET_CORE.true)
+    sees_core c.args.seen c.in-Ok.file c.in-Ok.ensures (sym c.kind.ensures ∙ c.if-kind-eq-ET_CORE.true)
 
-pub returns-in_default : goal.returns-in_default
-returns-in_default c =
-    let there = rw (← c.in-Ok.ensures.ok.0) at c.in-Ok.ensures.ok.1 in
-    rw (← c.in-Ok.ensures.ok.0)
-    (no_id c.in-Ok.file.table there
-    (λ is. c.if-kind-eq-ET_CORE.false (c.kind.ensures ∙ is)) c.in_default.ensures.none)
+pub returns-in-Ok-Some : goal.returns-in-Ok-Some
+returns-in-Ok-Some c =
+    sees_id c.args.seen c.in-Ok.file c.in-Ok-Some.id c.has_code.result c.has_debug.result c.in-Ok.ensures
+    (λ is. c.if-kind-eq-ET_CORE.false (c.kind.ensures ∙ is))
+    (subst (Finds c.in-Ok.file) c.in-Ok-Some.field-0-is c.in-Ok-Some.ensures) c.has_code.ensures c.has_debug.ensures
 
-pub returns : goal.returns
-returns c =
-    let there = rw (← c.in-Ok.ensures.ok.0) at c.in-Ok.ensures.ok.1 in
-    rw (← c.in-Ok.ensures.ok.0)
-    (found c.in-Ok.file.table _ there
-    (λ is. c.if-kind-eq-ET_CORE.false (c.kind.ensures ∙ is)) c.in-Some.ensures.found
-    (record { exec = c.has_code.ensures; debug = c.has_debug.ensures }))
+pub returns-in-Ok-None : goal.returns-in-Ok-None
+returns-in-Ok-None c =
+    sees_none c.args.seen c.in-Ok.file c.in-Ok.ensures (λ is. c.if-kind-eq-ET_CORE.false (c.kind.ensures ∙ is))
+    (subst (Finds c.in-Ok.file) c.in-Ok-None.field-0-is c.in-Ok-None.ensures)
