@@ -1,18 +1,17 @@
 -- What a reading of the notes knows, section by section.
 use Rattle.file_picture.specs.Agrees.{filled}
-use Rattle.std.proofs.Common.{◌≡◌, ◌≢◌, sym, ◌∙◌, ap, subst, refl, ℕ, ◌+◌, ◌<◌, ◌≤◌, ◌⊎◌, inl, inr, List, length, arith, Bool, true, false, Option, Some, None}
-use Rattle.std.specs.Prelude.{Ok, MatchOption}
+use Rattle.std.proofs.Common.{◌≡◌, ◌≢◌, sym, ◌∙◌, ap, subst, ℕ, ◌+◌, ◌<◌, ◌≤◌, ◌⊎◌, inl, inr, List, arith, true, false, Option, Some, None}
+use Rattle.std.specs.Prelude.{MatchOption}
 use Rattle.file_formats.specs.declared.encoding.Order.{Order}
 use Rattle.std.proofs.lemmas.Bool.{cases_lt}
 use Rattle.file_formats.specs.Numbers.{bytes_at}
 use Rattle.file_formats.specs.Notes.{notes_in, IsFirstBuildId, HasBuildId}
 use Rattle.file_formats.specs.Sections.{has_flag}
-use Rattle.file_formats.specs.Table.{table_of, section_at, contents_at, IsSectionIndex}
-use Rattle.file_formats.specs.Identity.{HoldsNotes, HasIdAt, IsBuildId}
+use Rattle.file_formats.specs.Table.{section_at, contents_at, IsSectionIndex}
+use Rattle.file_formats.specs.Identity.{HoldsNotes, HasIdAt}
 use Rattle.file_formats.specs.declared.codes.TheConstants.{ET_CORE, SHT_NOTE, SHF_COMPRESSED}
-use Rattle.file_formats.specs.declared.header.SectionHeader.{SectionHeader}
 use Rattle.file_formats.specs.Windows.{Range, range, extent, Window, beginning, zero_header, table, names, notes, IsWindow, IsNotes, rank}
-use Rattle.file_picture.specs.Picture.{PictureFacts, IsCovered}
+use Rattle.file_picture.specs.Picture.{IsCovered}
 use Rattle.file_picture.specs.declared.view.Need.{Need}
 use Rattle.elf_file.specs.Steps.{AllHere, Needs}
 use Rattle.elf_file.specs.Opened.{Opened, Knows}
@@ -36,9 +35,10 @@ notes_more f i all one = subst (AllHere f.file) (omega arith) (all_more f.file (
 held : {f : Opened} {i : ℕ} {r : Range} → LooksAt f i → (w : IsNotes (filled f.file) i r)
     → HoldsNotes (filled f.file) f.table i w.bytes × (r ≡ extent (section_at (filled f.file) f.table i))
 held {f} {i} looks w =
-    let same : w.of ≡ f.table = same_ok (sym w.is_table ∙ looks.is_table) in
-    (subst (λ t. HoldsNotes (filled f.file) t i w.bytes) same w.here,
-    w.is ∙ ap (λ t. extent (section_at (filled f.file) t i)) same)
+    let same : w.of ≡ f.table = same_ok (sym w.is_table ∙ looks.is_table) in (
+      subst (λ t. HoldsNotes (filled f.file) t i w.bytes) same w.here,
+      w.is ∙ ap (λ t. extent (section_at (filled f.file) t i)) same,
+    )
 
 -- the section holds no notes
 pub finds_none : (f : Opened) (i : ℕ) → LooksAt f i → ((bytes : List ℕ) → HoldsNotes (filled f.file) f.table i bytes → ⊥)
@@ -88,8 +88,8 @@ pub finds_in : (f : Opened) (i at len : ℕ) (contents : List ℕ) (found : Opti
     → range at len ≡ extent (section_at (filled f.file) f.table i)
     → IsCovered f.file at len → contents ≡ bytes_at (filled f.file) at len
     → MatchOption found
-      ((p : ℕ) → HasBuildId (notes_in contents f.table.encoding.order (section_at (filled f.file) f.table i).sh_addralign) p → ⊥)
-      (IsFirstBuildId (notes_in contents f.table.encoding.order (section_at (filled f.file) f.table i).sh_addralign))
+    ((p : ℕ) → HasBuildId (notes_in contents f.table.encoding.order (section_at (filled f.file) f.table i).sh_addralign) p → ⊥)
+    (IsFirstBuildId (notes_in contents f.table.encoding.order (section_at (filled f.file) f.table i).sh_addralign))
     → FindsAt f i found
 finds_in f i at len contents found looks index kind plain holds placed there are seen = record {
   id = of found seen;
@@ -103,15 +103,16 @@ finds_in f i at len contents found looks index kind plain holds placed there are
       where
         some_same : {x y : List ℕ} → ◌≡◌ {A = Option (List ℕ)} (Some x) (Some y) → x ≡ y
         some_same e = cc
+
     of : (found : Option (List ℕ))
         → MatchOption found
-          ((p : ℕ) → HasBuildId (notes_in contents f.table.encoding.order (section_at (filled f.file) f.table i).sh_addralign) p → ⊥)
-          (IsFirstBuildId (notes_in contents f.table.encoding.order (section_at (filled f.file) f.table i).sh_addralign))
+        ((p : ℕ) → HasBuildId (notes_in contents f.table.encoding.order (section_at (filled f.file) f.table i).sh_addralign) p → ⊥)
+        (IsFirstBuildId (notes_in contents f.table.encoding.order (section_at (filled f.file) f.table i).sh_addralign))
         → MatchOption found ((other : List ℕ) → HasIdAt (filled f.file) f.table i other → ⊥) (HasIdAt (filled f.file) f.table i)
     of None none = λ other h.
         none h.first.at
         (subst (λ xs. HasBuildId (notes_in xs f.table.encoding.order (section_at (filled f.file) f.table i).sh_addralign) h.first.at)
-          (sym (same h.bytes h.section.holds)) h.first.here)
+        (sym (same h.bytes h.section.holds)) h.first.here)
     of (Some id) first = record {
       bytes = contents;
       section = record {
@@ -157,7 +158,7 @@ finds_first f i id looks found = record {
     index = i;
     here = found.id;
     least = λ j other h.
-      let under : j < i → ⊥ = λ (before : j < i). looks.none j other before h in omega (arith, under);
+        let under : j < i → ⊥ = λ (before : j < i). looks.none j other before h in omega (arith, under);
   };
   all = λ n. record { here = of };
 }
@@ -179,7 +180,7 @@ finds_first f i id looks found = record {
 pub finds_nothing : (f : Opened) (i : ℕ) → LooksAt f i → f.table.count ≤ i → Finds f None
 finds_nothing f i looks end = record {
   id = λ j other h.
-    let under = h.section.index.below in looks.none j other (omega (arith, under, end)) h;
+      let under = h.section.index.below in looks.none j other (omega (arith, under, end)) h;
   all = λ n. record { here = of };
 }
   where
@@ -198,7 +199,7 @@ pub found_in : (contents : List ℕ) (order other : Order) (align addralign : �
     → order ≡ other → align ≡ addralign
     → MatchOption r ((p : ℕ) → HasBuildId (notes_in contents order align) p → ⊥) (IsFirstBuildId (notes_in contents order align))
     → MatchOption r ((p : ℕ) → HasBuildId (notes_in contents other addralign) p → ⊥)
-      (IsFirstBuildId (notes_in contents other addralign))
+    (IsFirstBuildId (notes_in contents other addralign))
 found_in contents order other align addralign r e a found =
     subst (λ n. MatchOption r ((p : ℕ) → HasBuildId n p → ⊥) (IsFirstBuildId n))
     (ap (λ o. notes_in contents o align) e ∙ ap (notes_in contents other) a) found

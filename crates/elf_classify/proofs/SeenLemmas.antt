@@ -1,5 +1,5 @@
 -- What a reading finds is so of each file that agrees with the picture.
-use Rattle.std.proofs.Common.{◌≡◌, ◌≢◌, sym, ◌∙◌, ap, subst, ℕ, ◌+◌, ◌<◌, ◌≤◌, List, arith, Bool, IsTrue, Option, Some, None, Result, Ok, Err}
+use Rattle.std.proofs.Common.{◌≡◌, ◌≢◌, sym, ◌∙◌, ap, subst, ℕ, ◌<◌, List, arith, Bool, IsTrue, Some, None, Result, Ok, Err}
 use Rattle.std.specs.Prelude.{◌↔◌}
 use Rattle.file_formats.specs.declared.codes.TheConstants.{ET_CORE}
 use Rattle.file_formats.specs.declared.fault.ElfFault.{ElfFault}
@@ -8,7 +8,7 @@ use Rattle.file_formats.specs.declared.fault.Why.TheVariants.{Core, NoBuildId}
 use Rattle.file_formats.specs.declared.header.SectionTable.{SectionTable}
 use Rattle.file_formats.specs.Table.{table_of}
 use Rattle.file_formats.specs.Identity.{Identity, IsIdentity, HasCode, HasDebug, refused, core, no_id, found, why_of}
-use Rattle.file_formats.specs.Windows.{Range, Window, beginning, zero_header, table, names, notes, IsWindow, rank, IsSomeWindow}
+use Rattle.file_formats.specs.Windows.{Range, Window, beginning, zero_header, table, names, notes, IsWindow, rank}
 use Rattle.file_picture.specs.Agrees.{filled}
 use Rattle.file_picture.specs.Picture.{PictureFacts, IsPicture, IsCovered}
 use Rattle.file_picture.specs.Whole.{whole}
@@ -19,7 +19,7 @@ use Rattle.elf_file.specs.Steps.{AllHere, Needs, FailsTests}
 use Rattle.elf_file.proofs.StartLemmas.{same_ok}
 use Rattle.elf_file.proofs.ViewLaws.{need-of_each, identity-of_each, windows-of_each}
 use Rattle.elf_classify.specs.Ids.{Finds}
-use Rattle.elf_classify.specs.Views.{AsksOf, IsIdentityOfEach, IsIdentitySeen, SaysIdentity, SeesIdentity}
+use Rattle.elf_classify.specs.Views.{IsIdentitySeen, SaysIdentity, SeesIdentity}
 use Rattle.elf_classify.specs.declared.identity.IdentView.{IdentView}
 use Rattle.elf_classify.specs.declared.identity.IdentView.TheVariants as view
 

@@ -1,12 +1,10 @@
 -- What a reading knows after the names.
-use Rattle.std.proofs.Common.{◌≡◌, ◌≢◌, sym, ◌∙◌, ap, subst, refl, ℕ, ◌+◌, ◌<◌, ◌≤◌, List, length, arith, Bool, true, false, Option, Some, None}
-use Rattle.std.specs.Prelude.{◌==◌, if◌then◌else◌, is_some, Ok}
+use Rattle.std.proofs.Common.{◌≡◌, ◌≢◌, sym, ◌∙◌, ap, subst, refl, ℕ, ◌<◌, List, arith, true, false, Some, None}
+use Rattle.std.specs.Prelude.{◌==◌, is_some}
 use Rattle.std.proofs.lemmas.Bool.{eq-eqb, ne_eqb, both_ways}
 use Rattle.file_formats.specs.Numbers.{bytes_at}
-use Rattle.file_formats.specs.Sections.{contents_of}
-use Rattle.file_formats.specs.Table.{table_of, section_at, contents_at, names_section}
+use Rattle.file_formats.specs.Table.{section_at, contents_at}
 use Rattle.file_formats.specs.declared.codes.TheConstants.{SHN_UNDEF}
-use Rattle.file_formats.specs.declared.header.SectionHeader.{SectionHeader}
 use Rattle.file_formats.specs.declared.header.SectionTable.{SectionTable}
 use Rattle.file_formats.specs.Windows.{Range, range, extent, Window, beginning, zero_header, table, names, notes, IsWindow, rank}
 use Rattle.file_formats.proofs.TableLemmas.{is_made}
@@ -19,7 +17,7 @@ use Rattle.elf_file.proofs.StartLemmas.{all_more, same_ok}
 
 names_more : (v : PictureFacts) (t : SectionTable) (entries : List ℕ) → HasTable v t entries
     → ((t.names == SHN_UNDEF) ≡ false
-      → IsCovered v (section_at (filled v) t t.names).sh_offset (section_at (filled v) t t.names).sh_size) → AllHere v 4
+    → IsCovered v (section_at (filled v) t t.names).sh_offset (section_at (filled v) t t.names).sh_size) → AllHere v 4
 names_more v t entries is there = all_more v 3 is.all of
   where
     of : (w : Window) (r : Range) → rank w ≡ 3 → IsWindow (filled v) w r → IsCovered v r.at r.len

@@ -1,21 +1,20 @@
 -- What the first steps of a reading know.
-use Rattle.std.proofs.Common.{◌≡◌, sym, ◌∙◌, ap, subst, refl, ℕ, ◌+◌, ◌*◌, ◌<◌, ◌≤◌, min, ◌&&◌, ◌||◌, not, List, length, take, arith, Bool, true, false, Option, Some, None}
-use Rattle.std.specs.Prelude.{◌==◌, if◌then◌else◌, nat_le, Result, Ok, Err}
+use Rattle.std.proofs.Common.{◌≡◌, sym, ◌∙◌, ap, subst, refl, ℕ, ◌+◌, ◌<◌, ◌≤◌, min, ◌&&◌, ◌||◌, not, List, length, arith, Bool, true, false, Option, Some, None}
+use Rattle.std.specs.Prelude.{◌==◌, if◌then◌else◌, Result, Ok}
 use Rattle.std.proofs.Common.{◌⊎◌, inl, inr}
-use Rattle.std.proofs.lemmas.Bool.{and_parts, and_from, both_ways, cases_lt, eq-eqb, or_right}
+use Rattle.std.proofs.lemmas.Bool.{and_from, both_ways, cases_lt, or_right}
 use Rattle.file_formats.specs.Sections.{section_header}
 use Rattle.file_formats.specs.Numbers.{bytes_at}
 use Rattle.file_formats.specs.Header.{head_of}
 use Rattle.file_formats.specs.Sections.{shdr_size}
 use Rattle.file_formats.specs.Table.{has_section_zero, section_zero, count_of, names_index}
 use Rattle.file_formats.specs.declared.codes.TheConstants.{SHN_XINDEX}
-use Rattle.file_formats.specs.declared.fault.ElfFault.{ElfFault}
 use Rattle.file_formats.specs.declared.fields.TheConstants.{EHDR64_SIZE}
 use Rattle.file_formats.specs.declared.header.Head.{Head}
 use Rattle.file_formats.specs.declared.header.SectionHeader.{SectionHeader}
 use Rattle.file_formats.specs.Windows.{Range, range, Window, beginning, zero_header, table, names, notes, IsWindow, rank, asks_zero, reaches_zero, reaches_table}
 use Rattle.file_formats.proofs.HeadLemmas.{head_of_front}
-use Rattle.file_formats.proofs.TableLemmas.{before, reached_parts, zero_there}
+use Rattle.file_formats.proofs.TableLemmas.{before, zero_there}
 use Rattle.file_picture.specs.Agrees.{filled}
 use Rattle.file_picture.specs.Picture.{PictureFacts, IsCovered}
 use Rattle.file_picture.specs.declared.view.Need.{Need}
@@ -76,9 +75,10 @@ same_ok e = cc
 zero_window : (v : PictureFacts) (h : Head) (r : Range) → head_of (filled v) ≡ Ok h → IsWindow (filled v) zero_header r
     → ((asks_zero h && has_section_zero (filled v) h) ≡ true) × (r ≡ range h.e_shoff (shdr_size h.encoding.class))
 zero_window v h r is w =
-    let same : w.head ≡ h = same_ok (sym w.is_head ∙ is) in
-    (ap (λ g. asks_zero g && has_section_zero (filled v) g) (sym same) ∙ and_from (asks_zero w.head) (has_section_zero (filled v) w.head) w.asked w.there,
-    w.is ∙ ap (λ (g : Head). range g.e_shoff (shdr_size g.encoding.class)) same)
+    let same : w.head ≡ h = same_ok (sym w.is_head ∙ is) in (
+      ap (λ g. asks_zero g && has_section_zero (filled v) g) (sym same) ∙ and_from (asks_zero w.head) (has_section_zero (filled v) w.head) w.asked w.there,
+      w.is ∙ ap (λ (g : Head). range g.e_shoff (shdr_size g.encoding.class)) same,
+    )
 
 zero_more : (v : PictureFacts) (h : Head) → HasHead v h
     → ((asks_zero h && has_section_zero (filled v) h) ≡ true → IsCovered v h.e_shoff (shdr_size h.encoding.class)) → AllHere v 2
@@ -107,14 +107,14 @@ pub zero_found : (v : PictureFacts) (h : Head) (bytes : List ℕ) (s : SectionHe
     → HasZero v h (Some s)
 zero_found v h bytes s is asked there are read =
     let at_start : h.e_shoff + 0 ≡ h.e_shoff = omega arith in record {
-  is =
-      ap (λ t. Some t)
-      (read ∙ ap (λ x. section_header h.encoding x 0) are
-      ∙ cut_section h.encoding (filled v) h.e_shoff (shdr_size h.encoding.class) 0 (omega arith)
-      ∙ ap (λ p. section_header h.encoding (filled v) p) at_start)
-      ∙ rw asked refl;
-  all = zero_more v h is (λ _. there);
-}
+      is =
+          ap (λ t. Some t)
+          (read ∙ ap (λ x. section_header h.encoding x 0) are
+          ∙ cut_section h.encoding (filled v) h.e_shoff (shdr_size h.encoding.class) 0 (omega arith)
+          ∙ ap (λ p. section_header h.encoding (filled v) p) at_start)
+          ∙ rw asked refl;
+      all = zero_more v h is (λ _. there);
+    }
 
 pub needs_zero : (v : PictureFacts) (h : Head) (need : Need) → HasHead v h → reaches_zero (filled v) h ≡ true
     → asks_zero h ≡ true → has_section_zero (filled v) h ≡ true → (IsCovered v h.e_shoff (shdr_size h.encoding.class) → ⊥)

@@ -1,14 +1,13 @@
 -- What a reading knows after the tests of the section table.
-use Rattle.std.proofs.Common.{◌≡◌, sym, ◌∙◌, ap, subst, refl, ℕ, ◌+◌, ◌*◌, ◌<◌, ◌≤◌, ◌&&◌, ◌||◌, not, List, length, arith, Bool, true, false, Option, Some, None}
-use Rattle.std.specs.Prelude.{◌==◌, if◌then◌else◌, nat_le, Result, Ok, Err}
-use Rattle.std.proofs.lemmas.Bool.{and_parts, and_from, both_ways, eqb-true, cases_lt}
+use Rattle.std.proofs.Common.{◌≡◌, sym, ◌∙◌, ap, subst, refl, ℕ, ◌+◌, ◌*◌, ◌<◌, ◌≤◌, ◌&&◌, ◌||◌, not, List, length, arith, Bool, true, false}
+use Rattle.std.specs.Prelude.{◌==◌, nat_le, Result, Ok, Err}
+use Rattle.std.proofs.lemmas.Bool.{and_parts, both_ways, eqb-true}
 use Rattle.file_formats.specs.Numbers.{bytes_at}
 use Rattle.file_formats.specs.Header.{head_of}
 use Rattle.file_formats.specs.Sections.{shdr_size, section_header}
 use Rattle.file_formats.specs.Table.{table_of, table_below, count_of, described, section_at}
 use Rattle.file_formats.specs.declared.fault.ElfFault.{ElfFault}
 use Rattle.file_formats.specs.declared.header.Head.{Head}
-use Rattle.file_formats.specs.declared.header.SectionHeader.{SectionHeader}
 use Rattle.file_formats.specs.declared.header.SectionTable.{SectionTable}
 use Rattle.file_formats.specs.Windows.{Range, range, Window, beginning, zero_header, table, names, notes, IsWindow, rank, reaches_zero, reaches_table}
 use Rattle.file_formats.proofs.TableLemmas.{before, reached_parts, in_table, table_from, within_table, steps, ends, last, from_count, in_steps}
@@ -34,9 +33,10 @@ fault_of_head v fault e = in_table (filled v) ∙ ap (table_from (filled v)) e
 table_window : (v : PictureFacts) (h : Head) (r : Range) → head_of (filled v) ≡ Ok h → IsWindow (filled v) table r
     → (reaches_table (filled v) h ≡ true) × (r ≡ range h.e_shoff (count_of (filled v) h * h.e_shentsize))
 table_window v h r is w =
-    let same : w.head ≡ h = same_ok (sym w.is_head ∙ is) in
-    (subst (λ g. reaches_table (filled v) g ≡ true) same w.reached,
-    w.is ∙ ap (λ (g : Head). range g.e_shoff (count_of (filled v) g * g.e_shentsize)) same)
+    let same : w.head ≡ h = same_ok (sym w.is_head ∙ is) in (
+      subst (λ g. reaches_table (filled v) g ≡ true) same w.reached,
+      w.is ∙ ap (λ (g : Head). range g.e_shoff (count_of (filled v) g * g.e_shentsize)) same,
+    )
 
 pub table_more : (v : PictureFacts) (h : Head) → HasHead v h → AllHere v 2
     → (reaches_table (filled v) h ≡ true → IsCovered v h.e_shoff (count_of (filled v) h * h.e_shentsize)) → AllHere v 3
@@ -168,13 +168,13 @@ ends_true true false r h g = absurd (cc)
 to_last : (v : PictureFacts) (h : Head) → HasHead v h → reaches_table (filled v) h ≡ true → table_of (filled v) ≡ last (filled v) h
 to_last v h is reached =
     let parts = and_parts (reaches_zero (filled v) h && not (count_of (filled v) h == 0))
-      (nat_le (h.e_shoff + count_of (filled v) h * h.e_shentsize) (length (filled v))) reached in
+    (nat_le (h.e_shoff + count_of (filled v) h * h.e_shentsize) (length (filled v))) reached in
     let front = and_parts (reaches_zero (filled v) h) (not (count_of (filled v) h == 0)) parts.0 in
     below_head v h is ∙ in_steps (filled v) h
     ∙ steps_true (not (h.e_shoff == 0)) (h.e_shentsize == shdr_size h.encoding.class)
-      (not (h.e_shnum == 0) || has_section_zero (filled v) h) (from_count (filled v) h) front.0
+    (not (h.e_shnum == 0) || has_section_zero (filled v) h) (from_count (filled v) h) front.0
     ∙ ends_true (not (count_of (filled v) h == 0)) (nat_le (h.e_shoff + count_of (filled v) h * h.e_shentsize) (length (filled v)))
-      (last (filled v) h) front.1 parts.1
+    (last (filled v) h) front.1 parts.1
 
 -- the table is read
 pub reads_table : (v : PictureFacts) (h : Head) (t : SectionTable) (entries : List ℕ) (test : Bool) → HasHead v h

@@ -1,5 +1,5 @@
 -- What is read of a picture is so of each file that agrees with it.
-use Rattle.std.proofs.Common.{◌≡◌, sym, ◌∙◌, ℕ, suc, ◌+◌, ◌<◌, ◌≤◌, List, length, arith, Result}
+use Rattle.std.proofs.Common.{sym, ◌∙◌, ℕ, suc, List, arith, Result}
 use Rattle.file_formats.specs.declared.fault.Why.{Why}
 use Rattle.file_formats.specs.Identity.{Identity, IsIdentity}
 use Rattle.file_formats.specs.Windows.{AgreeOnWindows, Range, range, IsSomeWindow, rank}

@@ -4,9 +4,8 @@ use Rattle.file_formats.specs.declared.fault.ElfFault.{ElfFault}
 use Rattle.file_formats.specs.declared.header.SectionHeader.{SectionHeader}
 use Rattle.file_formats.specs.declared.header.SectionTable.{SectionTable}
 use Rattle.file_formats.specs.Numbers.{bytes_at}
-use Rattle.file_formats.specs.Sections.{contents_of}
 use Rattle.file_formats.specs.Table.{table_of}
-use Rattle.file_formats.specs.Windows.{Range, range, extent}
+use Rattle.file_formats.specs.Windows.{Range, range}
 use Rattle.file_formats.proofs.SectionLemmas.{holds_range}
 use Rattle.file_formats.proofs.WindowLemmas.{window-inside}
 use Rattle.file_picture.specs.Agrees.{filled}

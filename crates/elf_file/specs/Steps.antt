@@ -1,5 +1,5 @@
 -- What a reading of a file knows of which parts are there, step by step (this project's rule).
-use Rattle.std.specs.Prelude.{◌≡◌, ℕ, ◌+◌, ◌*◌, ◌<◌, ◌≤◌, min, List, Option, Some, None, Bool, true, false, ◌&&◌, if◌then◌else◌, length, Ok, Err}
+use Rattle.std.specs.Prelude.{◌≡◌, ℕ, ◌+◌, ◌*◌, ◌<◌, ◌≤◌, min, List, Option, Some, None, Bool, true, ◌&&◌, if◌then◌else◌, length, Ok, Err}
 use Rattle.file_formats.specs.Numbers.{bytes_at}
 use Rattle.file_formats.specs.Header.{head_of}
 use Rattle.file_formats.specs.Sections.{shdr_size, contents_of}

@@ -1,5 +1,5 @@
 -- All of a whole file is there.
-use Rattle.std.proofs.Common.{◌≡◌, sym, ◌∙◌, ap, subst, ℕ, suc, zero, ◌+◌, ◌<◌, ◌≤◌, List, [], ◌∷◌, length, get_or, take, drop, arith, true, Option, Some, None}
+use Rattle.std.proofs.Common.{◌≡◌, sym, ◌∙◌, ap, subst, ℕ, suc, zero, ◌+◌, ◌<◌, ◌≤◌, List, [], ◌∷◌, length, get_or, arith, Option, Some, None}
 use Rattle.std.specs.Prelude.{is_some, MatchOption}
 use Rattle.std.specs.Borrow.{Bor}
 use Rattle.std.specs.Option.{unwrap_or}
@@ -35,9 +35,9 @@ filled-whole b =
     let sized = filled-sized (whole b) in
     same_lists (filled (whole b)) b sized
     (λ k d below.
-      let under : k < length b = omega (arith, below, sized) in
-      get_or_default (filled (whole b)) k d 0 below ∙ filled-byte (whole b) k under
-      ∙ ap (λ (o : Option ℕ). unwrap_or o 0) (whole-byte b k under) ∙ get_or_default b k 0 d under)
+    let under : k < length b = omega (arith, below, sized) in
+    get_or_default (filled (whole b)) k d 0 below ∙ filled-byte (whole b) k under
+    ∙ ap (λ (o : Option ℕ). unwrap_or o 0) (whole-byte b k under) ∙ get_or_default b k 0 d under)
 
 -- each range of it is there
 pub whole-covered : (b : List ℕ) (at len : ℕ) → at + len ≤ length b → IsCovered (whole b) at len
@@ -69,7 +69,7 @@ whole_gives b v at len r e given =
     by : (r : Option (Bor (List ℕ)))
         → MatchOption r (length b < at + len) (λ bytes. (at + len ≤ length b) × (bytes.now ≡ bytes_at b at len))
         → MatchOption r (IsCovered (whole b) at len → ⊥)
-          (λ bytes. IsCovered (whole b) at len × (bytes.now ≡ bytes_at (filled (whole b)) at len))
+        (λ bytes. IsCovered (whole b) at len × (bytes.now ≡ bytes_at (filled (whole b)) at len))
     by None short = λ covered. let inside = covered.inside in omega (arith, inside, short)
     by (Some bytes) found =
         (whole-covered b at len found.0, found.1 ∙ ap (λ f. bytes_at f at len) (sym (filled-whole b)))

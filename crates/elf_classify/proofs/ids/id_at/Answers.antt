@@ -4,8 +4,7 @@ use Rattle.file_picture.specs.Picture.{IsCovered}
 use Rattle.file_picture.specs.declared.view.Need.{Need}
 use Rattle.file_formats.specs.Numbers.{bytes_at}
 use Rattle.file_formats.specs.Sections.{has_flag, contents_of}
-use Rattle.file_formats.specs.Table.{section_at}
-use Rattle.file_formats.specs.declared.codes.TheConstants.{SHT_NOTE, SHF_COMPRESSED}
+use Rattle.file_formats.specs.declared.codes.TheConstants.{SHF_COMPRESSED}
 use Rattle.file_formats.specs.declared.header.SectionHeader.{SectionHeader}
 use Rattle.file_formats.specs.Windows.{range, extent}
 use Rattle.elf_classify.proofs.IdLemmas.{finds_in, finds_other, needs_notes, found_in}
@@ -18,7 +17,7 @@ returns-in-Err c =
     (ap (λ (s : SectionHeader). s.sh_type) (sym same) ∙ search (rules, c.if-header-ne-SHT_NOTE.false))
     (ap (λ (s : SectionHeader). has_flag s SHF_COMPRESSED) (sym same) ∙ sym c.is_flagged.ensures.value ∙ search rules)
     (ap (contents_of (filled c.args.file.now.file)) (sym same) ∙ c.in-Some.ensures.0
-      ∙ ap (λ (n : Need). Some (bytes_at (filled c.args.file.now.file) n.at n.len)) (sym c.in-Err.ensures.1))
+    ∙ ap (λ (n : Need). Some (bytes_at (filled c.args.file.now.file) n.at n.len)) (sym c.in-Err.ensures.1))
     (ap (λ (n : Need). range n.at n.len) c.in-Err.ensures.1 ∙ c.in-Some.ensures.1 ∙ ap extent same)
     (subst (λ (n : Need). (IsCovered c.args.file.now.file n.at n.len → ⊥)) (sym c.in-Err.ensures.1) c.in-Err.ensures.0)
 
@@ -33,7 +32,7 @@ returns-in-Ok c =
     (c.in-Some.ensures.1 ∙ ap extent same)
     c.in-Ok.ensures.0 c.in-Ok.ensures.1
     (found_in c.in-Ok.contents.now _ _ _ _ c.id_in.result c.order.ensures (ap (λ (s : SectionHeader). s.sh_addralign) same)
-      c.id_in.ensures)
+    c.id_in.ensures)
 
 pub returns-then-header-ne-SHT_NOTE : goal.returns-then-header-ne-SHT_NOTE
 returns-then-header-ne-SHT_NOTE c =
@@ -44,5 +43,5 @@ pub returns-then-is_flagged : goal.returns-then-is_flagged
 returns-then-is_flagged c =
     finds_other c.args.file.now c.args.index c.requires.looks
     (inr
-      (ap (λ (s : SectionHeader). has_flag s SHF_COMPRESSED) (sym c.header-header.ensures) ∙ sym c.is_flagged.ensures.value
-      ∙ c.if-is_flagged.true))
+    (ap (λ (s : SectionHeader). has_flag s SHF_COMPRESSED) (sym c.header-header.ensures) ∙ sym c.is_flagged.ensures.value
+    ∙ c.if-is_flagged.true))

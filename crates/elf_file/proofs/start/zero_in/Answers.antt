@@ -1,4 +1,4 @@
-use Rattle.std.proofs.Common.{rules, sym, ◌∙◌, ap, subst, ◌≡◌, true, ◌&&◌}
+use Rattle.std.proofs.Common.{rules, sym, ◌∙◌, subst, ◌≡◌, true, ◌&&◌}
 use Rattle.file_formats.specs.Numbers.{bytes_at}
 use Rattle.file_formats.specs.Table.{has_section_zero}
 use Rattle.file_picture.specs.Agrees.{filled}

@@ -1,4 +1,4 @@
-use Rattle.std.proofs.Common.{sym, ◌∙◌, ap, ◌*◌}
+use Rattle.std.proofs.Common.{◌∙◌, ap, ◌*◌}
 use Rattle.file_picture.specs.Agrees.{filled}
 use Rattle.file_formats.specs.Sections.{section_header}
 use Rattle.elf_file.proofs.TestLemmas.{entry_read}

@@ -14,7 +14,7 @@ entry-requires-clause-below c =
 pub returns-in-None : goal.returns-in-None
 returns-in-None c =
     absurd (names_there c.args.view.now c.args.table.now c.args.entries.now c.requires c.if-table-eq-SHN_UNDEF.false
-      (ap (contents_of (filled c.args.view.now)) (sym c.entry.ensures) ∙ c.in-None.ensures))
+    (ap (contents_of (filled c.args.view.now)) (sym c.entry.ensures) ∙ c.in-None.ensures))
 
 pub returns-in-Err : goal.returns-in-Err
 returns-in-Err c =

@@ -1,6 +1,5 @@
-use Rattle.std.proofs.Common.{sym, ap, subst, ◌≡◌}
+use Rattle.std.proofs.Common.{sym, ap}
 use Rattle.file_picture.specs.Lent.{seen_of}
-use Rattle.file_picture.specs.Picture.{PictureFacts, IsPicture}
 use Rattle.file_picture.proofs.WholeLaws.{part_gives, whole_gives}
 use Rattle.file_picture.proofs.view.Lent.slice.Goals as goal
 
