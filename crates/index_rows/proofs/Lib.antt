@@ -1,10 +1,12 @@
 pub mod ApartLemmas
 pub mod CountLemmas
 pub mod FindLemmas
+pub mod HasLemmas
 pub mod KeptLemmas
 pub mod Lists
 pub mod PathLemmas
 pub mod RowLemmas
+pub mod ShelfLemmas
 pub mod SlotLemmas
 pub mod SlotRows
 pub mod TalliesLemmas

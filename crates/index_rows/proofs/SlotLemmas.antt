@@ -1,5 +1,5 @@
 -- Slots by path, cut at a path: how its slot is found, filled, made and taken.
-use Rattle.std.proofs.Common.{◌≡◌, ℕ, true, false, List, [], ◌∷◌, ◌++◌, Option, Some, None, refl, ◌∙◌, ap, subst}
+use Rattle.std.proofs.Common.{◌≡◌, ℕ, true, false, List, [], ◌∷◌, ◌++◌, Option, Some, None, cond, refl, sym, ◌∙◌, ap, subst}
 use Rattle.std.specs.BTreeMap.{is_at, insert_entry}
 use Rattle.std.specs.Cmp.Lexicographic.{slice_cmp}
 use Rattle.std.specs.List.{All, AllByRecursion}
@@ -12,6 +12,8 @@ use Rattle.std.proofs.lemmas.Cmp.{nat_list_cmp_total, tied_itself}
 use Rattle.std.proofs.lemmas.List.Elements.{All-cons, All-head, All-nil, All-tail, All-weaker}
 use Rattle.std.proofs.lemmas.Map.Keys.{sorted_head, sorted_tail}
 use Rattle.std.proofs.lemmas.Map.Lookups.{exact_bytes}
+use Rattle.std.proofs.lemmas.Map.Text.{is_eq-slice_cmp}
+use Rattle.std.proofs.lemmas.Slice.Eq.{bytes_eq-Decides}
 use Rattle.row_types.specs.Ascends.{IsBefore}
 use Rattle.row_types.specs.Row.{RowFacts}
 use Rattle.index_rows.specs.Slots.{Slot, slot_at}
@@ -106,6 +108,10 @@ not_above path slots = All-weaker (λ (s : Slot). IsBefore path s.0) (λ s. is_a
 is_own : (path : List ℕ) → is_at (slice_cmp nat_cmp path) path ≡ true
 is_own path = ap is_eq (tied_itself nat_list_cmp_total path)
 
+-- a path at which another is found is that one
+its_path : (path other : List ℕ) → is_at (slice_cmp nat_cmp path) other ≡ true → path ≡ other
+its_path path other e = (bytes_eq-Decides path other).0 (sym (is_eq-slice_cmp path other) ∙ e)
+
 -- a search passes over what doesn't pass
 lookup_skips : (test : List ℕ → Bool) (front back : List Slot) → All (λ slot. test slot.0 ≡ false) front → lookup test (front ++ back) ≡ lookup test back
 lookup_skips test [] back h = refl
@@ -176,3 +182,57 @@ insert_cut {path} {slots} {front} {back} w cut =
     ap (λ (l : List Slot). insert_entry (slice_cmp nat_cmp) l path w) cut.whole
     ∙ insert_skips path front back w cut.below
     ∙ ap (λ (l : List Slot). front ++ l) (insert_first path back w cut.above)
+
+-- ---- slots in which the same is found
+
+none_at : (path : List ℕ) (slots : List Slot) → All (λ slot. IsBefore path slot.0) slots → slot_at path slots ≡ None
+none_at path slots h = lookup_none (is_at (slice_cmp nat_cmp path)) slots (not_above path slots h)
+
+own_at : (slot : Slot) (slots : List Slot) → slot_at slot.0 (slot ∷ slots) ≡ Some slot.1
+own_at slot slots = ap (λ b. cond b (Some slot.1) (slot_at slot.0 slots)) (is_own slot.0)
+
+-- what stands behind another path stands behind one before it
+further : (path other : List ℕ) (slots : List Slot) → IsBefore path other → All (λ slot. IsBefore other slot.0) slots → All (λ slot. IsBefore path slot.0) slots
+further path other slots before h = All-weaker (λ (s : Slot). IsBefore other s.0) (λ s. IsBefore path s.0) (λ s. nat_list_cmp_total.trans path other s.0 before) slots h
+
+-- slots in path order in which the same is found are the same
+pub same_slots : (xs ys : List Slot) → IsStrictlySortedBy (slice_cmp nat_cmp) (keys_of xs) → IsStrictlySortedBy (slice_cmp nat_cmp) (keys_of ys) → ((path : List ℕ) → slot_at path xs ≡ slot_at path ys) → xs ≡ ys
+same_slots [] [] s t h = refl
+same_slots [] (y ∷ ys) s t h = absurd (let k = h y.0 ∙ own_at y ys in cc)
+same_slots (x ∷ xs) [] s t h = absurd (let k = sym (h x.0) ∙ own_at x xs in cc)
+same_slots (x ∷ xs) (y ∷ ys) s t h =
+    (elim (slice_cmp nat_cmp x.0 y.0) as (λ o. slice_cmp nat_cmp x.0 y.0 ≡ o → x ∷ xs ≡ y ∷ ys) [
+      | Less ↦ λ e. absurd (let k = sym (own_at x xs) ∙ h x.0 ∙ none_at x.0 (y ∷ ys) (All-cons (λ (z : Slot). IsBefore x.0 z.0) y ys e (further x.0 y.0 ys e past_y)) in cc)
+      | Equal ↦ λ e.
+          let same : x.0 ≡ y.0 = exact_bytes x.0 y.0 e in
+          let found : Some x.1 ≡ Some y.1 = sym (own_at x xs) ∙ h x.0 ∙ ap (λ (p : List ℕ). slot_at p (y ∷ ys)) same ∙ own_at y ys in
+          let value : x.1 ≡ y.1 = cc in
+          let rest : xs ≡ ys =
+          same_slots xs ys (sorted_tail (slice_cmp nat_cmp) x.0 (keys_of xs) s) (sorted_tail (slice_cmp nat_cmp) y.0 (keys_of ys) t) (λ path. later same path) in
+          ap (λ (p : List ℕ). with_both p x.1 ∷ xs) same ∙ ap (λ (v : Option RowFacts). with_both y.0 v ∷ xs) value ∙ ap (λ (l : List Slot). y ∷ l) rest
+      | Greater ↦ λ e.
+          let before : IsBefore y.0 x.0 = before_after x.0 y.0 e in
+          absurd (let k = sym (own_at y ys) ∙ sym (h y.0) ∙ none_at y.0 (x ∷ xs) (All-cons (λ (z : Slot). IsBefore y.0 z.0) x xs before (further y.0 x.0 xs before past_x)) in cc)
+    ]) refl
+  where
+    with_both : List ℕ → Option RowFacts → Slot
+    with_both p v = (p, v)
+
+    past_x : All (λ slot. IsBefore x.0 slot.0) xs
+    past_x = behind x.0 xs (sorted_head (slice_cmp nat_cmp) x.0 (keys_of xs) s)
+
+    past_y : All (λ slot. IsBefore y.0 slot.0) ys
+    past_y = behind y.0 ys (sorted_head (slice_cmp nat_cmp) y.0 (keys_of ys) t)
+
+    later : x.0 ≡ y.0 → (path : List ℕ) → slot_at path xs ≡ slot_at path ys
+    later same path =
+        (elim (is_at (slice_cmp nat_cmp path) x.0) as (λ b. is_at (slice_cmp nat_cmp path) x.0 ≡ b → slot_at path xs ≡ slot_at path ys) [
+          | true ↦ λ e.
+              let its : path ≡ x.0 = its_path path x.0 e in
+              none_at path xs (subst (λ (p : List ℕ). All (λ slot. IsBefore p slot.0) xs) (sym its) past_x)
+              ∙ sym (none_at path ys (subst (λ (p : List ℕ). All (λ slot. IsBefore p slot.0) ys) (sym (its ∙ same)) past_y))
+          | false ↦ λ e.
+              sym (ap (λ b. cond b (Some x.1) (slot_at path xs)) e)
+              ∙ h path
+              ∙ ap (λ b. cond b (Some y.1) (slot_at path ys)) (ap (is_at (slice_cmp nat_cmp path)) (sym same) ∙ e)
+        ]) refl

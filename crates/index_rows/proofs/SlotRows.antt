@@ -1,5 +1,5 @@
 -- The rows in slots: what is found, put and left, and how many there are.
-use Rattle.std.proofs.Common.{◌≡◌, ℕ, ◌+◌, List, [], ◌∷◌, ◌++◌, length, Option, Some, None, refl, sym, ◌∙◌, ap, subst, arith, length-append}
+use Rattle.std.proofs.Common.{◌≡◌, ℕ, ◌+◌, cond, List, [], ◌∷◌, ◌++◌, length, Option, Some, None, refl, sym, ◌∙◌, ap, subst, arith, length-append}
 use Rattle.std.specs.BTreeMap.{is_at, insert_entry}
 use Rattle.std.specs.Cmp.Lexicographic.{slice_cmp}
 use Rattle.std.specs.List.{All, flat_map}
@@ -20,6 +20,7 @@ use Rattle.row_types.specs.Row.{RowFacts}
 use Rattle.index_rows.specs.Rows.{row_at, row_path, with_row, without_row}
 use Rattle.index_rows.specs.Table.{total}
 use Rattle.index_rows.proofs.TotalLemmas.{total_append}
+use Rattle.index_rows.specs.Shelf.{IsInSlot}
 use Rattle.index_rows.specs.Slots.{AreSlots, IsOwn, Slot, rows_in, slot_at}
 use Rattle.index_rows.proofs.ApartLemmas.{IsApart, found_apart, put_apart, without_apart}
 use Rattle.index_rows.proofs.SlotLemmas.{HasCut, IsCut, cut_of, insert_cut, own_slot, remove_cut, set_cut, slot_cut}
@@ -207,11 +208,12 @@ removal_done path {slots} {new} {row} h e is =
     counted change = omega (arith, ap length change.after, ap length change.before.whole, length-append change.front change.back, length-append change.front (row ∷ change.back))
 
 -- once a slot in which nothing is is taken
-pub given_up : (path : List ℕ) {slots new : List Slot} → AreSlots slots → slot_at path slots ≡ Some None → new ≡ remove_entry (is_at (slice_cmp nat_cmp path)) slots → (rows_in new ≡ rows_in slots) × All IsOwn new
+pub given_up : (path : List ℕ) {slots new : List Slot} → AreSlots slots → slot_at path slots ≡ Some None → new ≡ remove_entry (is_at (slice_cmp nat_cmp path)) slots → (rows_in new ≡ rows_in slots) × All IsOwn new × (slot_at path new ≡ None)
 given_up path {slots} {new} h e is =
     let c = cut_with h e in
     let change : IsChanged path slots new None None = removal_changes h.own c.2 is in
-    (same_rows change, change.own)
+    let rest : IsCut path (c.0 ++ c.1) c.0 None c.1 = record { whole = refl; below = c.2.below; above = c.2.above } in
+    (same_rows change, change.own, ap (slot_at path) (is ∙ remove_cut c.2) ∙ slot_cut rest)
 
 -- once a slot is made
 pub slot_made : (path : List ℕ) {slots new : List Slot} {key : List ℕ} → AreSlots slots → slot_at path slots ≡ None → key ≡ path → new ≡ insert_entry (slice_cmp nat_cmp) slots key None → (rows_in new ≡ rows_in slots) × All IsOwn new
@@ -226,14 +228,25 @@ found_path path {slots} slot None h e is = tt
 found_path path {slots} slot (Some row) h e is = found_own h (sym e ∙ ap Some (sym is))
 
 -- another path's slot isn't meant
-pub not_its : (path other : List ℕ) → (other ≡ path → ⊥) → is_at (slice_cmp nat_cmp path) other ≡ false
+not_its : (path other : List ℕ) → (other ≡ path → ⊥) → is_at (slice_cmp nat_cmp path) other ≡ false
 not_its path other differs =
     is_eq-slice_cmp path other ∙ false_from_ne_true (bytes_eq path other) (λ same. differs (sym ((bytes_eq-Decides path other).0 same)))
 
--- nothing is there, or something is
-pub is_absent : {X : Type 0} (o : Option X) → is_some o ≡ false → o ≡ None
-is_absent None e = refl
-is_absent (Some x) e = absurd (false≢true (sym e))
+-- another path's slot stays where a path's is taken
+pub not_taken : (path other : List ℕ) → (other ≡ path → ⊥) → (slots : List Slot) → slot_at other (remove_entry (is_at (slice_cmp nat_cmp path)) slots) ≡ slot_at other slots
+not_taken path other differs [] = refl
+not_taken path other differs (s ∷ slots) =
+    (elim (is_at (slice_cmp nat_cmp path) s.0) as (λ b. is_at (slice_cmp nat_cmp path) s.0 ≡ b → slot_at other (cond b slots (s ∷ remove_entry (is_at (slice_cmp nat_cmp path)) slots)) ≡ slot_at other (s ∷ slots)) [
+      | true ↦ λ t. sym (ap (λ b. cond b (Some s.1) (slot_at other slots)) (not_its other s.0 (λ same. differs (sym ((bytes_eq-Decides path s.0).0 (sym (is_eq-slice_cmp path s.0) ∙ t) ∙ same)))))
+      | false ↦ λ t. ap (cond (is_at (slice_cmp nat_cmp other) s.0) (Some s.1)) (not_taken path other differs slots)
+    ]) refl
+
+-- a row in the slot of a path is the row of its own path, by which it was asked for
+pub near_row : (path : List ℕ) (row : RowFacts) (slots : List Slot) → AreSlots slots → IsInSlot (Some row) slots → bytes_eq row.name.path path ≡ true → Some row ≡ row_at path (rows_in slots)
+near_row path row slots h there same =
+    let own : row_path row ≡ there.0 = found_own h there.1 in
+    let its : there.0 ≡ path = sym own ∙ (bytes_eq-Decides row.name.path path).0 same in
+    sym (ap (λ (p : List ℕ). row_at p (rows_in slots)) (sym its) ∙ row_found there.0 slots h ∙ ap option_flatten there.1)
 
 pub counts_none : (o : Option RowFacts) → is_some o ≡ false → length (option_to_list o) ≡ 0
 counts_none None e = refl

@@ -85,22 +85,22 @@ module _ (path : List ℕ) (old new : List Tallied) (place : ℕ) where
 
   -- a number is set
   module _ (n : ℕ) (d : Tallied) (stands : StandsAt tallied_path path old place) (sets : SetsCount place n old new) where
-    changed : new ≡ put_at tallied_path (record { path = (get_or old place d).path; count = n }) old
+    changed : new ≡ put_at tallied_path (record (get_or old place d) { count = n }) old
     changed =
         sets d
-        ∙ put_over tallied_path (record { path = (get_or old place d).path; count = n }) old place
+        ∙ put_over tallied_path (record (get_or old place d) { count = n }) old place
         (subst (λ (p : List ℕ). StandsAt tallied_path p old place) (sym (stands.here d)) stands)
 
     pub set_ascends : AscendsBy tallied_path old → AscendsBy tallied_path new
-    set_ascends h = subst (AscendsBy tallied_path) (sym changed) (put_ascends tallied_path (record { path = (get_or old place d).path; count = n }) old h)
+    set_ascends h = subst (AscendsBy tallied_path) (sym changed) (put_ascends tallied_path (record (get_or old place d) { count = n }) old h)
 
     pub set_keeps : KeepsPlaces old new
-    set_keeps other has = subst (λ (l : List Tallied). HasPlace other l) (sym changed) (put_places (record { path = (get_or old place d).path; count = n }) old other has)
+    set_keeps other has = subst (λ (l : List Tallied). HasPlace other l) (sym changed) (put_places (record (get_or old place d) { count = n }) old other has)
 
     set_counts : (other : List ℕ) → count_at other new ≡ cond (bytes_eq path other) n (count_at other old)
     set_counts other =
         ap (count_at other) changed
-        ∙ put_counts (record { path = (get_or old place d).path; count = n }) old other
+        ∙ put_counts (record (get_or old place d) { count = n }) old other
         ∙ ap (λ (p : List ℕ). cond (bytes_eq p other) n (count_at other old)) (stands.here d)
 
     -- once more
@@ -145,7 +145,7 @@ module _ (path : List ℕ) (entries now : List Tallied) (place : ℕ) (same : en
   -- the number at the place is the path's
   pub count_is : StandsAt tallied_path path entries place → (count : ℕ) → ((other : Tallied) → count ≡ (get_or entries place other).count) → count ≡ count_at path now
   count_is stands count there =
-      let none : Tallied = record { path = path; count = 0 } in
+      let none : Tallied = record { path = path; count = 0; number = 0 } in
       there none
       ∙ sym (ap number (found_standing tallied_path path entries place none stands))
       ∙ ap (count_at path) same

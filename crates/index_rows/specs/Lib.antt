@@ -8,6 +8,7 @@ pub mod Log
 pub mod Left
 pub mod Places
 pub mod Slots
+pub mod Shelf
 pub mod Rows
 pub mod Table
 pub mod Tallies

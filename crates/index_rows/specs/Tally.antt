@@ -24,7 +24,7 @@ KeepsPlaces old new = (path : List ℕ) → HasPlace path old → HasPlace path 
 
 -- the path at the place has the number, and all else is as it was
 abbrev pub SetsCount : ℕ → ℕ → List Tallied → List Tallied → Type 0
-SetsCount place count old new = (other : Tallied) → new ≡ set old place (record { path = (slice_index_or old place other).path; count = count })
+SetsCount place count old new = (other : Tallied) → new ≡ set old place (record (slice_index_or old place other) { count = count })
 
 -- 1 for the path itself
 abbrev pub one : List ℕ → List ℕ → ℕ

@@ -8,6 +8,7 @@ mod prepared;
 mod row_iter;
 mod row_map;
 mod rows;
+mod shelf;
 mod table;
 mod tallies;
 mod tally;

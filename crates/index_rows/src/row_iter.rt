@@ -4,15 +4,24 @@ ghost use Rattle.std.specs.Prelude.{◌≡◌, ◌∷◌, [], filter, IfSome, If
 ghost use Rattle.std.specs.Iterator.{YieldsFirstRef, item_count};
 ghost use Rattle.index_rows.specs.Classes.{is_of_kind};
 ghost use Rattle.index_rows.specs.Left.{is_wanted, left_in};
-ghost use Rattle.index_rows.specs.Slots.{present, rows_in};
+ghost use Rattle.index_rows.specs.Shelf.{rows_under};
+ghost use Rattle.index_rows.specs.Slots.{rows_in};
 ghost use Rattle.index_rows.specs.Table.{walked};
 ghost use Rattle.index_rows.specs.declared.row_iter.Rest.{Rest};
 
 use crate::row_map::RowMap;
+use crate::shelf::Held;
 use crate::tally::Tallied;
 use row_types::{CanonPath, Ident, Kind, Reading, Row};
 use std::collections::btree_map::Values;
 use std::marker::Model;
+
+/// The rows under some numbers.
+#[derive(Drop)]
+pub(crate) struct UnderNumbers<'a> {
+    numbers: Values<'a, CanonPath, usize>,
+    held: &'a Held,
+}
 
 /// The rows at some paths, of a kind if one is wanted.
 #[derive(Drop)]
@@ -25,8 +34,8 @@ pub(crate) struct AtPaths<'a> {
 /// The rows that are left.
 #[derive(Drop)]
 pub(crate) enum Rest<'a> {
-    /// All in these slots.
-    All(Values<'a, CanonPath, Option<Row>>),
+    /// All.
+    All(UnderNumbers<'a>),
     /// Those at some paths.
     Found(AtPaths<'a>),
 }
@@ -48,12 +57,12 @@ impl<'a> Model for RowIter<'a> {
 }
 
 impl<'a> RowIter<'a> {
-    /// The rows in these slots.
-    pub(crate) fn all(slots: Values<'a, CanonPath, Option<Row>>) -> RowIter<'a>
-        ensures { result ≡ present slots.entry }
+    /// The rows under the numbers.
+    pub(crate) fn all(numbers: Values<'a, CanonPath, usize>, held: &'a Held) -> RowIter<'a>
+        ensures { result ≡ rows_under held.now numbers.entry }
     {
         RowIter {
-            rest: Rest::All(slots),
+            rest: Rest::All(UnderNumbers { numbers, held }),
         }
     }
 
@@ -81,20 +90,21 @@ impl<'a> Iterator for RowIter<'a> {
 
     fn next(&mut self) -> Option<&'a Row> {
         match &mut self.rest {
-            Rest::All(slots) => next_present(slots),
+            Rest::All(all) => next_held(&mut all.numbers, all.held),
             Rest::Found(found) => next_found(found),
         }
     }
 }
 
-/// The next row in the slots.
-fn next_present<'a>(slots: &mut Values<'a, CanonPath, Option<Row>>) -> Option<&'a Row>
-    ensures some { IfSome result (λ row. present slots.old ≡ row.now ∷ present slots.new) }
-    ensures none { IfNone result (present slots.old ≡ []) }
-    ensures end { IfNone result (present slots.new ≡ []) }
+/// The next row under the numbers.
+fn next_held<'a>(numbers: &mut Values<'a, CanonPath, usize>, held: &'a Held) -> Option<&'a Row>
+    ensures some { IfSome result (λ row.
+        rows_under held.now numbers.old ≡ row.now ∷ rows_under held.now numbers.new) }
+    ensures none { IfNone result (rows_under held.now numbers.old ≡ []) }
+    ensures end { IfNone result (rows_under held.now numbers.new ≡ []) }
 {
-    while let Some(slot) = slots.next() {
-        if let Some(row) = slot {
+    while let Some(number) = numbers.next() {
+        if let Some(Some(row)) = held.get(*number) {
             return Some(row);
         }
     }
@@ -130,7 +140,7 @@ fn first_found<'a>(
     let mut left = entries;
     while let Some((entry, rest)) = left.split_first() {
         if entry.count > 0
-            && let Some(row) = rows.get(&entry.path)
+            && let Some(row) = rows.get_near(entry.number, &entry.path)
             && is_wanted(kind, &row.reading)
         {
             return Some((row, rest));

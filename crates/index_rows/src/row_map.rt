@@ -7,19 +7,18 @@ ghost use Rattle.index_rows.specs.Table.{total};
 ghost use Rattle.index_rows.specs.declared.rows.TheConstants.{LOG_LIMIT};
 ghost use Rattle.index_rows.specs.Rows.{row_at, with_row, without_row};
 ghost use Rattle.index_rows.specs.Slots.{HasSlot, KeepsOthers, KeepsSlots, rows_in, slot_at};
-ghost use Rattle.std.specs.Map.{values_of};
 
+use crate::row_iter::RowIter;
+use crate::shelf::Shelf;
 use row_types::{CanonPath, Row};
 use std::alloc::{AllocError, Global};
-use std::collections::BTreeMap;
-use std::collections::btree_map::Values;
 use std::marker::Model;
 
-/// Rows by path, each path once, in a tree. A path's slot can be made before its row comes, which
-/// then needs no memory. Contracts see it as the list of its slots.
+/// Rows by path, each path once. A path's slot can be made before its row comes, which then needs no
+/// memory. Contracts see it as the list of its slots.
 #[derive(Drop)]
 pub(crate) struct RowMap {
-    slots: BTreeMap<CanonPath, Option<Row>>,
+    slots: Shelf,
     len: usize,
 }
 
@@ -29,9 +28,9 @@ impl Model for RowMap {
 
     ghost Value = { List Slot };
 
-    ghost view = { λ m. m.slots.entries };
+    ghost view = { λ m. m.slots };
 
-    ghost invariant = { λ m. AreSlots m.slots.entries × (m.len ≡ length (rows_in m.slots.entries)) };
+    ghost invariant = { λ m. AreSlots m.slots × (m.len ≡ length (rows_in m.slots)) };
 }
 
 impl RowMap {
@@ -40,7 +39,7 @@ impl RowMap {
         ensures { result ≡ [] }
     {
         RowMap {
-            slots: BTreeMap::new(alloc),
+            slots: Shelf::new(alloc),
             len: 0,
         }
     }
@@ -63,23 +62,36 @@ impl RowMap {
         }
     }
 
-    /// All slots, in path order.
-    pub fn slots(&self) -> Values<'_, CanonPath, Option<Row>>
-        ensures { result ≡ values_of self.now }
+    /// The path's row. It is found without a search where its slot has the number.
+    pub fn get_near(&self, number: u32, path: &CanonPath) -> Option<&Row>
+        ensures { option_copied result ≡ row_at path.now (rows_in self.now) }
     {
-        self.slots.values()
+        if let Some(Some(row)) = self.slots.under(number as usize)
+            && row.name.path == *path
+        {
+            return Some(row);
+        }
+        self.get(path)
     }
 
-    /// Makes the path's slot, if there is none.
-    pub fn make_room(&mut self, alloc: Global, path: &CanonPath) -> Result<(), AllocError>
+    /// All rows, in path order.
+    pub fn rows(&self) -> RowIter<'_>
+        ensures { result ≡ rows_in self.now }
+    {
+        self.slots.rows()
+    }
+
+    /// Makes the path's slot, if there is none, and gives its number.
+    pub fn make_room(&mut self, alloc: Global, path: &CanonPath) -> Result<u32, AllocError>
         ensures ok { OnOk result (HasSlot path.now self.new) }
         ensures keeps { KeepsSlots self.old self.new }
         ensures rows { rows_in self.new ≡ rows_in self.old }
     {
-        if !self.slots.contains_key(path) {
-            self.slots.insert(path.copy(alloc)?, None)?;
+        if let Some(number) = self.slots.number(path) {
+            return Ok(as_near(number));
         }
-        Ok(())
+        let number = self.slots.make(alloc, path)?;
+        Ok(as_near(number))
     }
 
     /// Gives the path's slot up, if no row is in it.
@@ -89,7 +101,7 @@ impl RowMap {
         ensures rows { rows_in self.new ≡ rows_in self.old }
     {
         if let Some(None) = self.slots.get(path) {
-            self.slots.remove(path);
+            self.slots.take(path);
         }
     }
 
@@ -101,16 +113,11 @@ impl RowMap {
         ensures total { (f : RowFacts → ℕ) → total f (rows_in self.new)
             + total f (option_to_list result) ≡ total f (rows_in self.old) + f row }
     {
-        match self.slots.get_mut(&row.name.path) {
-            Some(slot) => {
-                let old = slot.replace(row);
-                if old.is_none() {
-                    self.len += 1;
-                }
-                old
-            }
-            None => unreachable!(),
+        let old = self.slots.put(row);
+        if old.is_none() {
+            self.len += 1;
         }
+        old
     }
 
     /// Drops the path's slot, and gives its row.
@@ -120,7 +127,7 @@ impl RowMap {
         ensures total { (f : RowFacts → ℕ) → total f (rows_in self.new) + f result
             ≡ total f (rows_in self.old) }
     {
-        match self.slots.remove(path) {
+        match self.slots.take(path) {
             Some(Some(row)) => {
                 self.len -= 1;
                 row
@@ -128,4 +135,9 @@ impl RowMap {
             Some(None) | None => unreachable!(),
         }
     }
+}
+
+/// The number, or one that no slot has.
+fn as_near(number: usize) -> u32 {
+    u32::try_from(number).unwrap_or(u32::MAX)
 }

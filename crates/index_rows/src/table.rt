@@ -74,7 +74,7 @@ impl Table {
     pub fn rows(&self) -> RowIter<'_>
         ensures { result ≡ rows_in self.now.slots }
     {
-        RowIter::all(self.rows.slots())
+        self.rows.rows()
     }
 
     /// The rows with the id whose files are of the kind, if one is given.
@@ -100,8 +100,8 @@ impl Table {
         ensures keeps { KeepsRoom self.old self.new }
         ensures rows { rows_in self.new.slots ≡ rows_in self.old.slots }
     {
-        self.rows.make_room(alloc, &row.name.path)?;
-        make_keys(&mut self.ids, &mut self.sources, alloc, row)
+        let number = self.rows.make_room(alloc, &row.name.path)?;
+        make_keys(&mut self.ids, &mut self.sources, alloc, number, row)
     }
 
     /// Gives the path's slot up, if no row is in it.
@@ -136,11 +136,12 @@ impl Table {
     }
 }
 
-/// Makes room for the numbers of a row.
+/// Makes room for what a row counts for. Its slot has the number.
 fn make_keys(
     ids: &mut Tallies,
     sources: &mut Tallies,
     alloc: Global,
+    number: u32,
     row: &Row,
 ) -> Result<(), AllocError>
     ensures ok { OnOk result (HasKeys row.now.reading row.now.name.path ids.new.ids.entries sources.new.ids.entries) }
@@ -155,7 +156,7 @@ fn make_keys(
             ident,
             sources: listed,
         } => {
-            ids.make_room(alloc, &ident.id, &row.name.path)?;
+            ids.make_room(alloc, &ident.id, &row.name.path, number)?;
             sources.make_rooms(alloc, &ident.id, listed.paths())
         }
     }

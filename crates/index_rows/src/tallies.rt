@@ -63,31 +63,38 @@ impl Tallies {
     }
 
     /// Makes room for the path under the id, which has room.
-    fn make_path(&mut self, alloc: Global, id: &BuildId, path: &CanonPath) -> Result<(), AllocError>
+    fn make_path(
+        &mut self,
+        alloc: Global,
+        id: &BuildId,
+        path: &CanonPath,
+        number: u32,
+    ) -> Result<(), AllocError>
         requires { HasId id.now self.old.ids.entries }
         ensures ok { OnOk result (HasKey id.now path.now self.new.ids.entries) }
         ensures same { CountsSame self.old.ids.entries self.new.ids.entries }
         ensures keeps { KeepsKeys self.old.ids.entries self.new.ids.entries }
     {
         match self.ids.get_mut(id) {
-            Some(tally) => tally.make_room(alloc, path),
+            Some(tally) => tally.make_room(alloc, path, number),
             None => unreachable!(),
         }
     }
 
-    /// Makes room for the path under the id.
+    /// Makes room for the path under the id. The slot of its row has the number.
     pub fn make_room(
         &mut self,
         alloc: Global,
         id: &BuildId,
         path: &CanonPath,
+        number: u32,
     ) -> Result<(), AllocError>
         ensures ok { OnOk result (HasKey id.now path.now self.new.ids.entries) }
         ensures same { CountsSame self.old.ids.entries self.new.ids.entries }
         ensures keeps { KeepsKeys self.old.ids.entries self.new.ids.entries }
     {
         self.make_id(alloc, id)?;
-        self.make_path(alloc, id, path)
+        self.make_path(alloc, id, path, number)
     }
 
     /// Makes room for each of the paths under the id.
@@ -102,7 +109,7 @@ impl Tallies {
         ensures keeps { KeepsKeys self.old.ids.entries self.new.ids.entries }
     {
         for path in paths {
-            self.make_room(alloc, id, path)?;
+            self.make_room(alloc, id, path, 0)?;
         }
         Ok(())
     }

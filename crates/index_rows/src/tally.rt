@@ -17,6 +17,8 @@ pub(crate) struct Tallied {
     pub(crate) path: CanonPath,
     /// How often it counts.
     pub(crate) count: u32,
+    /// The number of the slot of its row. Where it is another's, the row is looked up by its path.
+    pub(crate) number: u32,
 }
 
 /// Paths in order, each with a number. Room is made for a path first, and to count it then needs
@@ -64,8 +66,13 @@ impl Tally {
         count_in(self.entries.as_slice(), path)
     }
 
-    /// Makes room for the path, if it has none.
-    pub fn make_room(&mut self, alloc: Global, path: &CanonPath) -> Result<(), AllocError>
+    /// Makes room for the path, if it has none. The slot of its row has the number.
+    pub fn make_room(
+        &mut self,
+        alloc: Global,
+        path: &CanonPath,
+        number: u32,
+    ) -> Result<(), AllocError>
         ensures ok { OnOk result (HasPlace path.now self.new) }
         ensures same { (other : List ℕ) → count_at other self.new ≡ count_at other self.old }
         ensures keeps { KeepsPlaces self.old self.new }
@@ -75,7 +82,12 @@ impl Tally {
             Err(place) => {
                 let path = path.copy(alloc)?;
                 fit_first(&mut self.entries)?;
-                self.entries.insert(place, Tallied { path, count: 0 })?;
+                let tallied = Tallied {
+                    path,
+                    count: 0,
+                    number,
+                };
+                self.entries.insert(place, tallied)?;
                 Ok(())
             }
         }

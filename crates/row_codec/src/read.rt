@@ -51,7 +51,7 @@ fn read_path(alloc: Global, left: &mut Left<'_>) -> Result<CanonPath, CodecFault
     Ok(path)
 }
 
-/// The path of a text.
+/// The path of a text, which shares its text with its copies.
 fn path_of(alloc: Global, text: &[u8]) -> Result<CanonPath, CodecFault>
     ensures path { IfOk result (λ path. (path ≡ text.now) × (is_path_text text.now ≡ true)) }
     ensures fault { IfErr result (λ fault. ((fault ≡ CodecFault.BadText) × (is_path_text text.now ≡
@@ -61,7 +61,7 @@ fn path_of(alloc: Global, text: &[u8]) -> Result<CanonPath, CodecFault>
         return Err(CodecFault::BadText);
     };
     match CanonPath::check(String::from_str(alloc, text)?) {
-        Ok(path) => Ok(path),
+        Ok(path) => Ok(path.copy(alloc)?),
         Err(_) => Err(CodecFault::BadText),
     }
 }

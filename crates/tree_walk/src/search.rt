@@ -76,11 +76,17 @@ impl Search {
         self.files.contains_key(path) || self.others.contains(path)
     }
 
-    /// Notes what was found at a path, if there are no more files than a listing has.
-    pub fn note_new(&mut self, path: CanonPath, answer: StatAnswer) -> Result<(), WalkFault>
-        ensures { NotesAnswer (noted self.old path answer) self.new result }
+    /// Notes what was found at a path, if there are no more files than a listing has. What is noted is a
+    /// copy, which shares its text with all that are made of it.
+    pub fn note_new(
+        &mut self,
+        alloc: Global,
+        path: &CanonPath,
+        answer: StatAnswer,
+    ) -> Result<(), WalkFault>
+        ensures { NotesAnswer (noted self.old path.now answer) self.new result }
     {
-        self.note(path, answer)?;
+        self.note(path.copy(alloc)?, answer)?;
         if self.is_over() {
             return Err(WalkFault::TooMany);
         }

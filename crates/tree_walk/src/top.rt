@@ -232,7 +232,7 @@ fn look_at_file<W: Truth, T: Tree<W>>(
         return Ok(());
     }
     let answer = look(alloc, hand, &path)?;
-    search.note_new(path, answer)
+    search.note_new(alloc, &path, answer)
 }
 
 /// The path of a folder's entry. The root adds no second slash.

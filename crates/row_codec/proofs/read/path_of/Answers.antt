@@ -14,4 +14,4 @@ returns-in_default-clause-fault c =
 pub returns-in-Ok-check-clause-path : goal.returns-in-Ok-check-clause-path
 returns-in-Ok-check-clause-path c =
     let same : string_bytes c.in_ok-from_str.field-0 ≡ c.args.text.now = c.in_ok-from_str.ensures.ok ∙ c.in-Ok.ensures.cases.0 in
-    (c.in-Ok-check.ensures.value ∙ same, text_path c.args.text.now (record { valid = c.in-Ok.ensures.cases.1; canonical = subst IsCanonPath same (c.in-Ok-check.ensures.ok.0 refl) }))
+    (c.in_ok-copy-in-Ok-check.ensures ∙ c.in-Ok-check.ensures.value ∙ same, text_path c.args.text.now (record { valid = c.in-Ok.ensures.cases.1; canonical = subst IsCanonPath same (c.in-Ok-check.ensures.ok.0 refl) }))

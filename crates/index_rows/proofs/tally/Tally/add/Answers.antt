@@ -19,19 +19,19 @@ unreachable-requires c =
 pub returns-clause-counts : goal.returns-clause-counts
 returns-clause-counts c = λ other.
     let is = count_is c.args.path.now c.as_slice-entries.result.now c.self.inside.entries.items c.in-Ok.place c.as_slice-entries.ensures.value c.in-Ok.ensures c.count_there-count.result c.count_there-count.ensures in
-    one_more c.args.path.now c.self.inside.entries.items c.set_count.new.entries.items c.in-Ok.place (c.count_there-count.result + 1) (record { path = c.args.path.now; count = 0 })
+    one_more c.args.path.now c.self.inside.entries.items c.set_count.new.entries.items c.in-Ok.place (c.count_there-count.result + 1) (record { path = c.args.path.now; count = 0; number = 0 })
     (stands_in c.args.path.now c.as_slice-entries.result.now c.self.inside.entries.items c.in-Ok.place c.as_slice-entries.ensures.value c.in-Ok.ensures)
     c.set_count.ensures (omega (arith, is)) other
     ∙ ap (λ (l : List Tallied). count_at other l + one c.args.path.now other) c.self.view_is
 
 pub returns-clause-keeps : goal.returns-clause-keeps
 returns-clause-keeps c = λ other has.
-    set_keeps c.args.path.now c.self.inside.entries.items c.set_count.new.entries.items c.in-Ok.place (c.count_there-count.result + 1) (record { path = c.args.path.now; count = 0 })
+    set_keeps c.args.path.now c.self.inside.entries.items c.set_count.new.entries.items c.in-Ok.place (c.count_there-count.result + 1) (record { path = c.args.path.now; count = 0; number = 0 })
     (stands_in c.args.path.now c.as_slice-entries.result.now c.self.inside.entries.items c.in-Ok.place c.as_slice-entries.ensures.value c.in-Ok.ensures)
     c.set_count.ensures other (subst (HasPlace other) (sym c.self.view_is) has)
 
 pub invariant_of-self : goal.invariant_of-self
 invariant_of-self c =
-    set_ascends c.args.path.now c.self.inside.entries.items c.set_count.new.entries.items c.in-Ok.place (c.count_there-count.result + 1) (record { path = c.args.path.now; count = 0 })
+    set_ascends c.args.path.now c.self.inside.entries.items c.set_count.new.entries.items c.in-Ok.place (c.count_there-count.result + 1) (record { path = c.args.path.now; count = 0; number = 0 })
     (stands_in c.args.path.now c.as_slice-entries.result.now c.self.inside.entries.items c.in-Ok.place c.as_slice-entries.ensures.value c.in-Ok.ensures)
     c.set_count.ensures c.self.invariant

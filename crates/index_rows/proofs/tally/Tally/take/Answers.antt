@@ -19,7 +19,7 @@ pub returns-then-count-eq0 : goal.returns-then-count-eq0
 returns-then-count-eq0 c = λ other.
     let is = count_is c.args.path.now c.as_slice-entries.result.now c.self.inside.entries.items c.in-Ok.place c.as_slice-entries.ensures.value c.in-Ok.ensures c.count_there-count.result c.count_there-count.ensures in
     let some = ap (count_at c.args.path.now) c.self.view_is in
-    gone_counts c.args.path.now c.self.inside.entries.items c.remove.new.self.items c.in-Ok.place (record { path = c.args.path.now; count = 0 })
+    gone_counts c.args.path.now c.self.inside.entries.items c.remove.new.self.items c.in-Ok.place (record { path = c.args.path.now; count = 0; number = 0 })
     (stands_in c.args.path.now c.as_slice-entries.result.now c.self.inside.entries.items c.in-Ok.place c.as_slice-entries.ensures.value c.in-Ok.ensures)
     (omega (arith, is, some, c.requires, c.if-count-eq0.true)) c.remove.ensures.items other
     ∙ ap (count_at other) c.self.view_is
@@ -28,13 +28,13 @@ pub returns-else-count-eq0 : goal.returns-else-count-eq0
 returns-else-count-eq0 c = λ other.
     let is = count_is c.args.path.now c.as_slice-entries.result.now c.self.inside.entries.items c.in-Ok.place c.as_slice-entries.ensures.value c.in-Ok.ensures c.count_there-count.result c.count_there-count.ensures in
     let some = ap (count_at c.args.path.now) c.self.view_is in
-    one_less c.args.path.now c.self.inside.entries.items c.set_count.new.entries.items c.in-Ok.place (c.count_there-count.result - 1) (record { path = c.args.path.now; count = 0 })
+    one_less c.args.path.now c.self.inside.entries.items c.set_count.new.entries.items c.in-Ok.place (c.count_there-count.result - 1) (record { path = c.args.path.now; count = 0; number = 0 })
     (stands_in c.args.path.now c.as_slice-entries.result.now c.self.inside.entries.items c.in-Ok.place c.as_slice-entries.ensures.value c.in-Ok.ensures)
     c.set_count.ensures (omega (arith, is, some, c.requires)) other
     ∙ ap (count_at other) c.self.view_is
 
 pub invariant_of-self-else-count-eq0 : goal.invariant_of-self-else-count-eq0
 invariant_of-self-else-count-eq0 c =
-    set_ascends c.args.path.now c.self.inside.entries.items c.set_count.new.entries.items c.in-Ok.place (c.count_there-count.result - 1) (record { path = c.args.path.now; count = 0 })
+    set_ascends c.args.path.now c.self.inside.entries.items c.set_count.new.entries.items c.in-Ok.place (c.count_there-count.result - 1) (record { path = c.args.path.now; count = 0; number = 0 })
     (stands_in c.args.path.now c.as_slice-entries.result.now c.self.inside.entries.items c.in-Ok.place c.as_slice-entries.ensures.value c.in-Ok.ensures)
     c.set_count.ensures c.self.invariant

@@ -1,0 +1,10 @@
+-- No number so far had a row.
+use Rattle.std.proofs.Common.{◌≡◌, length}
+use Rattle.index_rows.specs.Shelf.{rows_under}
+use Rattle.index_rows.proofs.row_iter.next_held.Given as goal
+
+abbrev pub invariant-loop-number : goal.invariant-loop-number
+invariant-loop-number l = rows_under l.held l.fn.numbers ≡ rows_under l.held l.numbers
+
+abbrev pub decreases-loop-number : goal.decreases-loop-number
+decreases-loop-number l = length l.numbers
