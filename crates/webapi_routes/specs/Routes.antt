@@ -1,5 +1,5 @@
 -- The routes, as the parts that their paths are written from (this project's rule).
-use Rattle.std.specs.Prelude.{ℕ, ◌≤◌, List, length}
+use Rattle.std.specs.Prelude.{ℕ, ◌≤◌, List, length, Option, Some}
 use Rattle.row_types.specs.Canon.{canon}
 use Rattle.row_types.specs.declared.limits.TheConstants.{PATH_LIMIT}
 use Rattle.webapi_routes.specs.Written.{Wanted, debuginfo, executable, source, section}
@@ -18,7 +18,14 @@ abbrev pub IsShort : Wanted → Type 0
 IsShort (source path) = length path ≤ PATH_LIMIT
 IsShort _ = Unit {0}
 
--- the id of a route
+-- the id that a route is of, if it is of one
+abbrev pub build_id_of : Route → Option (List ℕ)
+build_id_of (Debuginfo id) = Some id
+build_id_of (Executable id) = Some id
+build_id_of (Source id path) = Some id
+build_id_of (Section id name) = Some id
+
+-- the id in the text of a route's path
 abbrev pub id_of : Route → List ℕ
 id_of (Debuginfo id) = id
 id_of (Executable id) = id

@@ -1,7 +1,7 @@
 //! The routes of the web API.
 
-ghost use Rattle.std.specs.Prelude.{◌≡◌};
-ghost use Rattle.webapi_routes.specs.Routes.{id_of};
+ghost use Rattle.std.specs.Prelude.{◌≡◌, option_copied};
+ghost use Rattle.webapi_routes.specs.Routes.{build_id_of, id_of};
 
 use crate::section_name::SectionName;
 use row_types::{BuildId, CanonPath};
@@ -20,8 +20,15 @@ pub enum Route {
 }
 
 impl Route {
-    /// The build-id that the route is of.
-    pub fn id(&self) -> &BuildId
+    /// The build-id that the route is of, if it is of one.
+    pub fn build_id(&self) -> Option<&BuildId>
+        ensures { option_copied result ≡ build_id_of self.now }
+    {
+        Some(self.id())
+    }
+
+    /// The build-id that stands in the text of the route's path.
+    pub(crate) fn id(&self) -> &BuildId
         ensures { result.now ≡ id_of self.now }
     {
         match self {

@@ -114,7 +114,8 @@ static ESCAPES: [Case; 17] = [
 
 /// A route as a line.
 fn line_of_route(rt: &impl Abort, alloc: Global, route: &Route) -> Result<String, AllocError> {
-    let id = route.id().print(alloc).expect(rt, "memory");
+    let id = route.build_id().expect(rt, "a build-id");
+    let id = id.print(alloc).expect(rt, "memory");
     match route {
         Route::Debuginfo(_) => format!(in alloc; "debuginfo {id}"),
         Route::Executable(_) => format!(in alloc; "executable {id}"),
