@@ -21,9 +21,7 @@ pub mod Parts
 pub mod PassSteps
 pub mod Passed
 pub mod PlanBound
-pub mod PutsStand
 pub mod Rooms
-pub mod Runs
 pub mod Spares
 pub mod Steps
 pub mod StoreSteps

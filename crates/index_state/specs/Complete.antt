@@ -1,12 +1,11 @@
 -- The complete pass (this project's rule): where nothing is left of a pass, index and store are one sequential scan
 -- of its listing.
-use Rattle.std.specs.Prelude.{◌≡◌, ℕ, Bool, true, false, List, [], ◌∷◌, Some, All, length, IsTrue}
+use Rattle.std.specs.Prelude.{◌≡◌, Bool, true, false, List, Some, All, length, IsTrue}
 use Rattle.row_types.specs.Name.{NameFacts}
 use Rattle.row_types.specs.Row.{RowFacts}
 use Rattle.row_types.specs.Ascends.{AscendsBy}
 use Rattle.index_rows.specs.Rows.{row_names, row_path, row_at}
 use Rattle.scan_queue.specs.Names.{is_in}
-use Rattle.scan_queue.specs.Pass.{PassFacts}
 use Rattle.index_keeper.specs.Keeper.{ShownKeeper}
 use Rattle.index_state.specs.Kept.{tables_of}
 use Rattle.index_state.specs.State.{StateFacts, pass_of}
@@ -44,7 +43,3 @@ pub record LeavesNone (standing : Standing) : Type 0 where
   pub out : standing.out ≡ 0
   pub groom : standing.groom ≡ 0
   pub missed : standing.missed ≡ 0
-
--- the lengths of the four lists of a pass
-abbrev pub counts_of : PassFacts → List ℕ
-counts_of pass = length pass.todo ∷ length pass.out ∷ length pass.groom ∷ length pass.missed ∷ []

@@ -15,14 +15,11 @@ pub use Rattle.scan_queue.specs.Names
 pub use Rattle.scan_queue.specs.Pass
 pub use Rattle.index_keeper.specs.Answers
 pub use Rattle.index_keeper.specs.Keeper
-pub use Rattle.index_keeper.specs.Store
 pub use Rattle.index_keeper.specs.Tables
 pub mod Away
 pub mod Bound
 pub mod Changes
 pub mod Complete
-pub mod EventParts
-pub mod Events
 pub mod Invariant
 pub mod Judge
 pub mod Kept
@@ -30,7 +27,6 @@ pub mod Keeping
 pub mod Opening
 pub mod OpenParts
 pub mod Plan
-pub mod Puts
 pub mod Removed
 pub mod Spare
 pub mod Spared

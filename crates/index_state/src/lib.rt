@@ -6,10 +6,8 @@
 mod answer;
 mod away;
 mod begin;
-mod events;
 mod judge;
 mod look;
-mod one_event;
 mod open_fault;
 mod open_pass;
 mod opening;
@@ -17,17 +15,13 @@ mod plan;
 mod publish;
 mod read;
 mod removed;
-mod reopening;
-mod running;
 mod spare;
 mod state;
 mod stored;
 mod sweep;
 
 pub use answer::{Begun, GroomTask, Judged, Plan, Published, Standing};
-pub use events::{Event, EventAnswer, EventsEnd};
 pub use open_fault::OpenFault;
 pub use opening::open_state;
-pub use running::run_events;
 pub use spare::{Opening, show_index};
 pub use state::State;

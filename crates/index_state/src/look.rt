@@ -77,12 +77,12 @@ impl<W: Truth, K: Keeper<W>> State<W, K> {
         ensures value { result ≡ standing_of self.now }
         ensures holds { IndexInvariant W.true_row K.told K.shows self.now }
     {
-        let [todo, out, groom, missed] = counts(&self.pass);
+        let names = counts(&self.pass);
         Standing {
-            todo,
-            out,
-            groom,
-            missed,
+            todo: names.todo,
+            out: names.out,
+            groom: names.groom,
+            missed: names.missed,
             log: self.rows.log_len(),
             rows: self.rows.len(),
             broken: self.broken,

@@ -4,9 +4,8 @@ ghost use Rattle.std.specs.Prelude.{◌≡◌, ◌+◌, length, IfErr, IfSome, O
 ghost use Rattle.std.specs.Option.{option_copied, option_map};
 ghost use Rattle.row_types.specs.Name.{stamp_at};
 ghost use Rattle.scan_queue.specs.Names.{IsByPath};
-ghost use Rattle.scan_queue.specs.Pass.{IsPass, first_missed, left};
+ghost use Rattle.scan_queue.specs.Pass.{IsPass, counts_of, first_missed, left};
 ghost use Rattle.index_state.specs.Away.{GroomsFrom, IsFilled, MissesFrom, TriesFrom, filled};
-ghost use Rattle.index_state.specs.Complete.{counts_of};
 ghost use Rattle.index_state.specs.Judge.{is_kept};
 ghost use Rattle.index_state.specs.State.{pass_of};
 ghost use Rattle.index_state.specs.Step.{TakesFrom};
@@ -15,7 +14,7 @@ use crate::answer::GroomTask;
 use crate::judge::is_under_any;
 use crate::plan::has_stamp;
 use row_types::{CanonPath, Name, Stamp};
-use scan_queue::{Cause, Miss, Pass};
+use scan_queue::{Cause, Counts, Miss, Pass};
 use std::alloc::AllocError;
 
 /// Hands out the first name that is to be read.
@@ -128,12 +127,17 @@ pub(crate) fn is_kept(pass: &Option<Pass>, name: &Name) -> bool
     }
 }
 
-/// The numbers of names that are to be read, out, to be looked for and missed.
-pub(crate) fn counts(pass: &Option<Pass>) -> [u64; 4]
+/// How many names stand in each list.
+pub(crate) fn counts(pass: &Option<Pass>) -> Counts
     ensures { result ≡ counts_of (pass_of pass.now) }
 {
     match pass {
         Some(pass) => pass.counts(),
-        None => [0, 0, 0, 0],
+        None => Counts {
+            todo: 0,
+            out: 0,
+            groom: 0,
+            missed: 0,
+        },
     }
 }

@@ -2,7 +2,7 @@
 
 use row_types::Name;
 use sample_rows::{name, name_text, names, path, stamp};
-use scan_queue::{Cause, Listing, Pass, Seen};
+use scan_queue::{Cause, Counts, Listing, Pass, Seen};
 use std::alloc::Global;
 use std::process::Abort;
 
@@ -234,7 +234,13 @@ fn the_listed_one_of_two_missed_names_comes_first(rt: HostRuntime) {
     let mut pass = begun(&rt, rt.alloc());
     assert!(rt; pass.first_miss().is_none());
     miss_both(&rt, &mut pass, altered);
-    assert!(rt; pass.counts() == [1, 0, 1, 2]);
+    let counts = Counts {
+        todo: 1,
+        out: 0,
+        groom: 1,
+        missed: 2,
+    };
+    assert!(rt; pass.counts() == counts);
     let first = pass.first_miss().expect(&rt, "a name that was missed");
     assert!(rt; first.name == name_of(&rt, rt.alloc(), ("/b", 2)));
     assert!(rt; first.cause == altered);

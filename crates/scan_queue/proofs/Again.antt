@@ -1,5 +1,5 @@
 -- All slots change: their names are tried again, or have their copies again.
-use Rattle.std.proofs.Common.{◌≡◌, ℕ, zero, suc, ◌+◌, ◌&&◌, ◌||◌, Bool, true, false, not, cond, Option, Some, None, List, [], ◌∷◌, ◌++◌, length, map, take, All, refl, sym, ◌∙◌, ap, subst, arith}
+use Rattle.std.proofs.Common.{◌≡◌, ℕ, zero, suc, ◌+◌, ◌&&◌, ◌||◌, Bool, true, false, not, cond, Option, Some, None, List, [], ◌∷◌, ◌++◌, length, map, take, refl, sym, ◌∙◌, ap, subst, arith}
 use Rattle.std.specs.Prelude.{count_by, is_some}
 use Rattle.std.specs.List.{AllByRecursion, AllPairs, cons_option}
 use Rattle.std.proofs.lemmas.Bool.{false≢true, true≢false}
@@ -9,14 +9,17 @@ use Rattle.std.proofs.lemmas.List.Sums.{sum_by-cons}
 use Rattle.row_types.specs.Name.{NameFacts, same_name}
 use Rattle.scan_queue.specs.Names.{is_in}
 use Rattle.scan_queue.specs.Pass.{TriesAgain, missed_names}
-use Rattle.scan_queue.specs.Slots.{AreOrdered, AreSlots, IsCopy, IsLaidOut, IsMark, IsSlot, Key, KeyPrecedes, PlaceFits, copy_again, facts_of, filled_slot, filled_to, held_at, is_away, key_of, list_at, needs_copy, place_again, slot_at, tried_again}
+use Rattle.scan_queue.specs.Slots.{AreOrdered, AreSlots, IsCopy, IsLaidOut, IsMark, IsSlot, Key, KeyPrecedes, PlaceFits, copy_again, facts_of, filled_slot, filled_to, held_at, is_away, key_of, list_at, mark_of, needs_copy, no_marks, place_again, slot_at, tried_again, waits}
+use Rattle.scan_queue.specs.declared.marks.Marks.{Marks}
 use Rattle.scan_queue.specs.declared.miss.Miss.{Miss}
 use Rattle.scan_queue.specs.declared.slot.Place.{Place}
 use Rattle.scan_queue.specs.declared.slot.Place.TheVariants.{Todo, Out, Groom, Missed, Done}
 use Rattle.scan_queue.specs.declared.slot.Slot.{Slot}
+use Rattle.scan_queue.proofs.Changes.{first_marks}
 use Rattle.scan_queue.proofs.Leaves.{has, names_at_have}
 use Rattle.scan_queue.proofs.NameTests.{same_name-Decides}
 use Rattle.scan_queue.proofs.Passes.{same_pass}
+use Rattle.scan_queue.proofs.Picks.{both_nil, held_none}
 
 -- a list that gains its name, where the others have what they had
 gains : (a n t r : Bool) → n ≡ (t || r) → (a || n) ≡ (a || t || r)
@@ -49,84 +52,72 @@ misses_second false w n t o m other h = h
 misses_second true false n t o m other h = h
 misses_second true true n t o m other h = absurd (true≢false (other refl))
 
--- one more slot, for the names to be read
-one_read : (name : NameFacts) (p : Place) (b : Bool) (s : Miss) (w : Bool) (new t o m : List Miss) → (same_name name s.name ≡ true → w ≡ b) → has name new ≡ (has name t || (w && (has name o || has name m))) → has name (cons_option (held_at Todo (place_again p b) s) new) ≡ (has name (cons_option (held_at Todo p s) t) || (w && (has name (cons_option (held_at Out p s) o) || has name (cons_option (held_at Missed p s) m))))
-one_read name Todo b s w new t o m fits h = gains (same_name name s.name) (has name new) (has name t) (w && (has name o || has name m)) h
-one_read name Out true s w new t o m fits h = moves_first (same_name name s.name) w (has name new) (has name t) (has name o) (has name m) fits h
-one_read name Out false s w new t o m fits h = misses_first (same_name name s.name) w (has name new) (has name t) (has name o) (has name m) fits h
-one_read name Groom b s w new t o m fits h = h
-one_read name Missed true s w new t o m fits h = moves_second (same_name name s.name) w (has name new) (has name t) (has name o) (has name m) fits h
-one_read name Missed false s w new t o m fits h = misses_second (same_name name s.name) w (has name new) (has name t) (has name o) (has name m) fits h
-one_read name Done b s w new t o m fits h = h
+-- whether a name that is tried again, and is listed so, is to stand at the place
+abbrev goes_to : Place → Bool → Bool
+goes_to Todo listed = listed
+goes_to Groom listed = not listed
+goes_to _ listed = false
 
--- and for those to be looked for
-one_groomed : (name : NameFacts) (p : Place) (b : Bool) (s : Miss) (w : Bool) (new g o m : List Miss) → (same_name name s.name ≡ true → w ≡ not b) → has name new ≡ (has name g || (w && (has name o || has name m))) → has name (cons_option (held_at Groom (place_again p b) s) new) ≡ (has name (cons_option (held_at Groom p s) g) || (w && (has name (cons_option (held_at Out p s) o) || has name (cons_option (held_at Missed p s) m))))
-one_groomed name Todo b s w new g o m fits h = h
-one_groomed name Out true s w new g o m fits h = misses_first (same_name name s.name) w (has name new) (has name g) (has name o) (has name m) fits h
-one_groomed name Out false s w new g o m fits h = moves_first (same_name name s.name) w (has name new) (has name g) (has name o) (has name m) fits h
-one_groomed name Groom b s w new g o m fits h = gains (same_name name s.name) (has name new) (has name g) (w && (has name o || has name m)) h
-one_groomed name Missed true s w new g o m fits h = misses_second (same_name name s.name) w (has name new) (has name g) (has name o) (has name m) fits h
-one_groomed name Missed false s w new g o m fits h = moves_second (same_name name s.name) w (has name new) (has name g) (has name o) (has name m) fits h
-one_groomed name Done b s w new g o m fits h = h
+-- one more slot
+one_again : (place : Place) (name : NameFacts) (p : Place) (b : Bool) (s : Miss) (w : Bool) (new t o m : List Miss) → waits place ≡ true → (same_name name s.name ≡ true → w ≡ goes_to place b) → has name new ≡ (has name t || (w && (has name o || has name m))) → has name (cons_option (held_at place (place_again p b) s) new) ≡ (has name (cons_option (held_at place p s) t) || (w && (has name (cons_option (held_at Out p s) o) || has name (cons_option (held_at Missed p s) m))))
+one_again Todo name Todo b s w new t o m wa fits h = gains (same_name name s.name) (has name new) (has name t) (w && (has name o || has name m)) h
+one_again Todo name Out true s w new t o m wa fits h = moves_first (same_name name s.name) w (has name new) (has name t) (has name o) (has name m) fits h
+one_again Todo name Out false s w new t o m wa fits h = misses_first (same_name name s.name) w (has name new) (has name t) (has name o) (has name m) fits h
+one_again Todo name Groom b s w new t o m wa fits h = h
+one_again Todo name Missed true s w new t o m wa fits h = moves_second (same_name name s.name) w (has name new) (has name t) (has name o) (has name m) fits h
+one_again Todo name Missed false s w new t o m wa fits h = misses_second (same_name name s.name) w (has name new) (has name t) (has name o) (has name m) fits h
+one_again Todo name Done b s w new t o m wa fits h = h
+one_again Groom name Todo b s w new t o m wa fits h = h
+one_again Groom name Out true s w new t o m wa fits h = misses_first (same_name name s.name) w (has name new) (has name t) (has name o) (has name m) fits h
+one_again Groom name Out false s w new t o m wa fits h = moves_first (same_name name s.name) w (has name new) (has name t) (has name o) (has name m) fits h
+one_again Groom name Groom b s w new t o m wa fits h = gains (same_name name s.name) (has name new) (has name t) (w && (has name o || has name m)) h
+one_again Groom name Missed true s w new t o m wa fits h = misses_second (same_name name s.name) w (has name new) (has name t) (has name o) (has name m) fits h
+one_again Groom name Missed false s w new t o m wa fits h = moves_second (same_name name s.name) w (has name new) (has name t) (has name o) (has name m) fits h
+one_again Groom name Done b s w new t o m wa fits h = h
+one_again _ name p b s w new t o m wa fits h = cc
 
 -- a name is listed as its slot says
 listed_as : (listing : List NameFacts) (filled : Bool) (name : NameFacts) (s : Slot) → IsSlot listing filled s → same_name name s.miss.name ≡ true → is_in listing name ≡ s.listed
 listed_as listing filled name s slot same = ap (is_in listing) ((same_name-Decides name s.miss.name).0 same) ∙ sym slot.listed
 
-read_again : (listing : List NameFacts) (filled : Bool) (name : NameFacts) (slots : List Slot) → AllByRecursion (IsSlot listing filled) slots → has name (list_at Todo (map tried_again slots)) ≡ (has name (list_at Todo slots) || (is_in listing name && (has name (list_at Out slots) || has name (list_at Missed slots))))
-read_again listing filled name [] h = sym (nothing (is_in listing name))
+-- a list has what it had, and of what was out or missed what is to stand there
+has_again : (place : Place) (listing : List NameFacts) (filled : Bool) (name : NameFacts) (slots : List Slot) → waits place ≡ true → AllByRecursion (IsSlot listing filled) slots → has name (list_at place (map tried_again slots)) ≡ (has name (list_at place slots) || (goes_to place (is_in listing name) && (has name (list_at Out slots) || has name (list_at Missed slots))))
+has_again place listing filled name [] waiting h = sym (nothing (goes_to place (is_in listing name)))
   where
     nothing : (w : Bool) → (w && false) ≡ false
     nothing true = refl
     nothing false = refl
-read_again listing filled name (s ∷ slots) h =
-    one_read name s.place s.listed s.miss (is_in listing name) (list_at Todo (map tried_again slots)) (list_at Todo slots) (list_at Out slots) (list_at Missed slots) (listed_as listing filled name s h.0) (read_again listing filled name slots h.1)
-
-groomed_again : (listing : List NameFacts) (filled : Bool) (name : NameFacts) (slots : List Slot) → AllByRecursion (IsSlot listing filled) slots → has name (list_at Groom (map tried_again slots)) ≡ (has name (list_at Groom slots) || (not (is_in listing name) && (has name (list_at Out slots) || has name (list_at Missed slots))))
-groomed_again listing filled name [] h = sym (nothing (not (is_in listing name)))
-  where
-    nothing : (w : Bool) → (w && false) ≡ false
-    nothing true = refl
-    nothing false = refl
-groomed_again listing filled name (s ∷ slots) h =
-    one_groomed name s.place s.listed s.miss (not (is_in listing name)) (list_at Groom (map tried_again slots)) (list_at Groom slots) (list_at Out slots) (list_at Missed slots) (λ same. ap not (listed_as listing filled name s h.0 same)) (groomed_again listing filled name slots h.1)
+has_again place listing filled name (s ∷ slots) waiting h =
+    one_again place name s.place s.listed s.miss (goes_to place (is_in listing name)) (list_at place (map tried_again slots)) (list_at place slots) (list_at Out slots) (list_at Missed slots) waiting (λ same. ap (goes_to place) (listed_as listing filled name s h.0 same)) (has_again place listing filled name slots waiting h.1)
 
 -- no name is out or missed then
-none_out : (slots : List Slot) → list_at Out (map tried_again slots) ≡ []
-none_out [] = refl
-none_out (s ∷ slots) = one s.place s.listed (list_at Out (map tried_again slots)) (none_out slots)
+none_away : (place : Place) (slots : List Slot) → is_away place ≡ true → list_at place (map tried_again slots) ≡ []
+none_away place [] away = refl
+none_away place (s ∷ slots) away =
+    both_nil (held_at place (place_again s.place s.listed) s.miss) (list_at place (map tried_again slots)) (held_none is_away place (place_again s.place s.listed) s.miss away (back s.place s.listed)) (none_away place slots away)
   where
-    one : (p : Place) (b : Bool) (rest : List Miss) → rest ≡ [] → cons_option (held_at Out (place_again p b) s.miss) rest ≡ []
-    one Out true rest h = h
-    one Out false rest h = h
-    one Missed true rest h = h
-    one Missed false rest h = h
-    one _ b rest h = h
-
-none_missed : (slots : List Slot) → list_at Missed (map tried_again slots) ≡ []
-none_missed [] = refl
-none_missed (s ∷ slots) = one s.place s.listed (list_at Missed (map tried_again slots)) (none_missed slots)
-  where
-    one : (p : Place) (b : Bool) (rest : List Miss) → rest ≡ [] → cons_option (held_at Missed (place_again p b) s.miss) rest ≡ []
-    one Out true rest h = h
-    one Out false rest h = h
-    one Missed true rest h = h
-    one Missed false rest h = h
-    one _ b rest h = h
+    back : (p : Place) (b : Bool) → is_away (place_again p b) ≡ false
+    back Out true = refl
+    back Out false = refl
+    back Missed true = refl
+    back Missed false = refl
+    back _ b = refl
 
 -- whether a name is in a list that was made again, in terms of names
 pub tries_again : (listing : List NameFacts) (slots : List Slot) (filled : Bool) → AreSlots listing slots filled → TriesAgain (facts_of listing slots filled) (facts_of listing (map tried_again slots) filled)
 tries_again listing slots filled kept =
     let each = recursion_from_All (IsSlot listing filled) slots kept.each in record {
-      todo = λ name. names_at_have Todo name (map tried_again slots) ∙ read_again listing filled name slots each
-          ∙ again (is_in listing name) _ _ _ _ _ _ (names_at_have Todo name slots) (names_at_have Out name slots) (names_at_have Missed name slots);
-      groom = λ name. names_at_have Groom name (map tried_again slots) ∙ groomed_again listing filled name slots each
-          ∙ again (not (is_in listing name)) _ _ _ _ _ _ (names_at_have Groom name slots) (names_at_have Out name slots) (names_at_have Missed name slots);
-      same = same_pass listing _ _ _ _ _ _ _ _ filled refl (ap missed_names (none_out slots)) refl (none_missed slots);
+      todo = again Todo refl each;
+      groom = again Groom refl each;
+      same = same_pass listing _ _ _ _ _ _ _ _ filled refl (ap missed_names (none_away Out slots refl)) refl (none_away Missed slots refl);
     }
   where
-    again : (w a b c p q r : Bool) → a ≡ p → b ≡ q → c ≡ r → (p || (w && (q || r))) ≡ (a || (w && (b || c)))
-    again w a b c p q r x y z = rw (x, y, z) refl
+    named : (w a b c p q r : Bool) → a ≡ p → b ≡ q → c ≡ r → (p || (w && (q || r))) ≡ (a || (w && (b || c)))
+    named w a b c p q r x y z = rw (x, y, z) refl
+
+    again : (place : Place) → waits place ≡ true → AllByRecursion (IsSlot listing filled) slots → (name : NameFacts) → is_in (missed_names (list_at place (map tried_again slots))) name ≡ (is_in (missed_names (list_at place slots)) name || (goes_to place (is_in listing name) && (is_in (missed_names (list_at Out slots)) name || is_in (missed_names (list_at Missed slots)) name)))
+    again place waiting each name = names_at_have place name (map tried_again slots) ∙ has_again place listing filled name slots waiting each
+        ∙ named (goes_to place (is_in listing name)) _ _ _ _ _ _ (names_at_have place name slots) (names_at_have Out name slots) (names_at_have Missed name slots)
 
 -- the slots are in order and such as they have to be
 again_keys : (slots : List Slot) → map key_of (map tried_again slots) ≡ map key_of slots
@@ -152,15 +143,14 @@ again_each : (listing : List NameFacts) (slots : List Slot) → AllByRecursion (
 again_each listing [] h = tt
 again_each listing (s ∷ slots) h = (again_slot listing s h.0, again_each listing slots h.1)
 
-pub laid_out_again : (listing : List NameFacts) (slots : List Slot) (taken groomed : ℕ) → IsLaidOut listing slots taken groomed true → IsLaidOut listing (map tried_again slots) 0 0 true
-laid_out_again listing slots taken groomed laid = record {
+pub laid_out_again : (listing : List NameFacts) (slots : List Slot) (marks : Marks) → IsLaidOut listing slots marks true → IsLaidOut listing (map tried_again slots) no_marks true
+laid_out_again listing slots marks laid = record {
   names = laid.names;
   kept = record {
     order = subst (λ (ks : List Key). AllPairs KeyPrecedes ks) (sym (again_keys slots)) laid.kept.order;
     each = All-from_recursion (IsSlot listing true) (map tried_again slots) (again_each listing slots (recursion_from_All (IsSlot listing true) slots laid.kept.each));
   };
-  taken_to = record { within = omega arith; passed = refl };
-  groomed_to = record { within = omega arith; passed = refl };
+  marked_to = first_marks (map tried_again slots);
 }
 
 -- how many are tried again
@@ -254,15 +244,14 @@ fills_mark place mark n slots h = record {
 }
 
 -- with some of the copies the parts stay as they have to be
-pub laid_out_filled : (listing : List NameFacts) (slots : List Slot) (taken groomed n : ℕ) (filled : Bool) → IsLaidOut listing slots taken groomed filled → IsLaidOut listing (filled_to n slots) taken groomed filled
-laid_out_filled listing slots taken groomed n filled laid = record {
+pub laid_out_filled : (listing : List NameFacts) (slots : List Slot) (marks : Marks) (n : ℕ) (filled : Bool) → IsLaidOut listing slots marks filled → IsLaidOut listing (filled_to n slots) marks filled
+laid_out_filled listing slots marks n filled laid = record {
   names = laid.names;
   kept = record {
     order = subst (λ (ks : List Key). AllPairs KeyPrecedes ks) (sym (fills_keys n slots)) laid.kept.order;
     each = All-from_recursion (IsSlot listing filled) (filled_to n slots) (fills_each listing filled n slots (recursion_from_All (IsSlot listing filled) slots laid.kept.each));
   };
-  taken_to = fills_mark Todo taken n slots laid.taken_to;
-  groomed_to = fills_mark Groom groomed n slots laid.groomed_to;
+  marked_to = λ place waiting. fills_mark place (mark_of marks place) n slots (laid.marked_to place waiting);
 }
 
 -- all slots are those up to the end
@@ -276,20 +265,14 @@ fills_all_facts listing slots =
     ap (λ (xs : List Slot). facts_of listing xs true) (filled_all slots) ∙ fills_facts listing (length slots) slots true
 
 -- with all of them the pass is filled
-pub laid_out_full : (listing : List NameFacts) (slots : List Slot) (taken groomed : ℕ) (filled : Bool) → IsLaidOut listing slots taken groomed filled → IsLaidOut listing (map filled_slot slots) taken groomed true
-laid_out_full listing slots taken groomed filled laid =
-    let part = laid_out_filled listing slots taken groomed (length slots) filled laid in
+pub laid_out_full : (listing : List NameFacts) (slots : List Slot) (marks : Marks) (filled : Bool) → IsLaidOut listing slots marks filled → IsLaidOut listing (map filled_slot slots) marks true
+laid_out_full listing slots marks filled laid =
+    let part = laid_out_filled listing slots marks (length slots) filled laid in
     let all = sym (filled_all slots) in record {
       names = laid.names;
       kept = record {
         order = subst AreOrdered all part.kept.order;
         each = All-from_recursion (IsSlot listing true) (map filled_slot slots) (fills_all listing filled slots (recursion_from_All (IsSlot listing filled) slots laid.kept.each));
       };
-      taken_to = subst (IsMark Todo taken) all part.taken_to;
-      groomed_to = subst (IsMark Groom groomed) all part.groomed_to;
+      marked_to = λ place waiting. subst (IsMark place (mark_of marks place)) all (part.marked_to place waiting);
     }
-
--- a copy that is there is of the name
-pub has_copy : (n : NameFacts) (spare : Option NameFacts) → IsCopy n spare → is_some spare ≡ true → spare ≡ Some n
-has_copy n None copy there = absurd (false≢true there)
-has_copy n (Some m) copy there = ap Some copy

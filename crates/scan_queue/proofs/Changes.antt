@@ -1,13 +1,14 @@
 -- The parts of a pass, after one slot has changed.
-use Rattle.std.proofs.Common.{◌≡◌, ℕ, zero, suc, ◌<◌, ◌≤◌, ◌+◌, ◌++◌, ◌&&◌, cond, Bool, true, false, Option, Some, None, List, [], ◌∷◌, length, map, take, drop, refl, sym, ◌∙◌, ap, subst, arith, slice_index_or, slice_set, length-set}
+use Rattle.std.proofs.Common.{◌≡◌, ℕ, zero, suc, ◌<◌, ◌≤◌, ◌+◌, ◌++◌, ◌&&◌, cond, Bool, true, false, not, Option, Some, None, List, [], ◌∷◌, length, map, take, drop, refl, sym, ◌∙◌, ap, subst, arith, slice_index_or, slice_set, length-set}
 use Rattle.std.specs.List.{AllPairs, cons_option, list_all}
-use Rattle.std.specs.Prelude.{count_by}
+use Rattle.std.specs.Prelude.{count_by, is_some}
 use Rattle.std.proofs.lemmas.Bool.{and_parts, false≢true}
 use Rattle.std.proofs.lemmas.List.{get_or-map, length-map, map-set, set-get_or, take_all}
 use Rattle.std.proofs.lemmas.List.Elements.{All-set, All-weaker}
 use Rattle.row_types.specs.Name.{NameFacts}
-use Rattle.scan_queue.specs.Pass.{Adds, GroomsName, IsWhole, MissesName, TakesName, first_missed, missed_names}
-use Rattle.scan_queue.specs.Slots.{AreOrdered, AreSlots, HasNameAt, IsLaidOut, IsMark, IsSlot, Key, KeyPrecedes, facts_of, held_at, key_of, list_at, needs_copy, same_place, slot_at}
+use Rattle.scan_queue.specs.Pass.{Adds, IsWhole, MissesName, first_missed, missed_names}
+use Rattle.scan_queue.specs.Slots.{AreOrdered, AreSlots, Hands, HasNameAt, IsCopy, IsLaidOut, IsMark, IsSlot, Key, KeyPrecedes, facts_of, held_at, key_of, list_at, mark_of, marked, needs_copy, no_marks, same_place, slot_at, waits}
+use Rattle.scan_queue.specs.declared.marks.Marks.{Marks}
 use Rattle.scan_queue.specs.declared.miss.Cause.{Cause}
 use Rattle.scan_queue.specs.declared.miss.Miss.{Miss}
 use Rattle.scan_queue.specs.declared.slot.Place.{Place}
@@ -15,7 +16,7 @@ use Rattle.scan_queue.specs.declared.slot.Place.TheVariants.{Todo, Out, Groom, M
 use Rattle.scan_queue.specs.declared.slot.Slot.{Slot}
 use Rattle.scan_queue.proofs.Leaves.{names_leave}
 use Rattle.scan_queue.proofs.Passes.{same_pass}
-use Rattle.scan_queue.proofs.Picks.{is_place, length_at, list_adds, list_loses, list_stays, names_add, was}
+use Rattle.scan_queue.proofs.Picks.{both_nil, held_none, is_place, length_at, list_adds, list_loses, list_stays, names_add, was}
 
 -- a slot that keeps its key leaves the slots in order
 order_kept : (slots : List Slot) (i : ℕ) (d y : Slot) → i < length slots → key_of y ≡ key_of (slice_index_or slots i d) → AreOrdered slots → AreOrdered (slice_set slots i y)
@@ -32,24 +33,20 @@ copies_fewer filled Out h = absurd (false≢true h)
 copies_fewer filled Missed h = absurd (false≢true h)
 
 -- a pass need not be filled
-pub laid_out_unfilled : (listing : List NameFacts) (slots : List Slot) (taken groomed : ℕ) (filled : Bool) → IsLaidOut listing slots taken groomed filled → IsLaidOut listing slots taken groomed false
-laid_out_unfilled listing slots taken groomed filled laid = record {
+pub laid_out_unfilled : (listing : List NameFacts) (slots : List Slot) (marks : Marks) (filled : Bool) → IsLaidOut listing slots marks filled → IsLaidOut listing slots marks false
+laid_out_unfilled listing slots marks filled laid = record {
   names = laid.names;
   kept = record {
     order = laid.kept.order;
     each = All-weaker (IsSlot listing filled) (IsSlot listing false)
         (λ s slot. record { listed = slot.listed; place = slot.place; copy = slot.copy; there = λ e. slot.there (copies_fewer filled s.place e) }) slots laid.kept.each;
   };
-  taken_to = laid.taken_to;
-  groomed_to = laid.groomed_to;
+  marked_to = laid.marked_to;
 }
 
 nil_parts : (o : Option Miss) (xs : List Miss) → cons_option o xs ≡ [] → (o ≡ None) × (xs ≡ [])
 nil_parts None xs h = (refl, h)
 nil_parts (Some x) xs h = cc
-
-both_nil : (o : Option Miss) (xs : List Miss) → o ≡ None → xs ≡ [] → cons_option o xs ≡ []
-both_nil o xs p q = rw (p, q) refl
 
 still_passed : (place : Place) (slots : List Slot) (m i : ℕ) (y : Slot) → slot_at place y ≡ None → list_at place (take m slots) ≡ [] → list_at place (take m (slice_set slots i y)) ≡ []
 still_passed place [] m i y none h = h
@@ -67,12 +64,11 @@ mark_kept place slots m i y none mark = record {
 }
 
 -- one slot changes, to one that isn't handed out any more
-pub laid_out_set : (listing : List NameFacts) (slots : List Slot) (taken groomed : ℕ) (filled : Bool) (i : ℕ) (d y : Slot) → i < length slots → key_of y ≡ key_of (slice_index_or slots i d) → slot_at Todo y ≡ None → slot_at Groom y ≡ None → IsSlot listing filled y → IsLaidOut listing slots taken groomed filled → IsLaidOut listing (slice_set slots i y) taken groomed filled
-laid_out_set listing slots taken groomed filled i d y within same no_todo no_groom slot laid = record {
+pub laid_out_set : (listing : List NameFacts) (slots : List Slot) (marks : Marks) (filled : Bool) (i : ℕ) (d y : Slot) → i < length slots → key_of y ≡ key_of (slice_index_or slots i d) → waits y.place ≡ false → IsSlot listing filled y → IsLaidOut listing slots marks filled → IsLaidOut listing (slice_set slots i y) marks filled
+laid_out_set listing slots marks filled i d y within same away slot laid = record {
   names = laid.names;
   kept = record { order = order_kept slots i d y within same laid.kept.order; each = All-set (IsSlot listing filled) slots i y slot laid.kept.each };
-  taken_to = mark_kept Todo slots taken i y no_todo laid.taken_to;
-  groomed_to = mark_kept Groom slots groomed i y no_groom laid.groomed_to;
+  marked_to = λ place waiting. mark_kept place slots (mark_of marks place) i y (held_none waits place y.place y.miss waiting away) (laid.marked_to place waiting);
 }
 
 -- a slot that is done
@@ -88,58 +84,91 @@ abbrev pub missed_slot : Cause → Slot → Slot
 missed_slot cause s = record s { place = Missed; miss = record { name = s.miss.name; cause = cause } }
 
 -- the parts stay in order where a slot is done
-pub laid_out_done : (listing : List NameFacts) (slots : List Slot) (taken groomed : ℕ) (filled : Bool) (i : ℕ) (d : Slot) → i < length slots → IsLaidOut listing slots taken groomed filled → IsLaidOut listing (slice_set slots i (done_slot (slice_index_or slots i d))) taken groomed filled
-laid_out_done listing slots taken groomed filled i d within laid =
+pub laid_out_done : (listing : List NameFacts) (slots : List Slot) (marks : Marks) (filled : Bool) (i : ℕ) (d : Slot) → i < length slots → IsLaidOut listing slots marks filled → IsLaidOut listing (slice_set slots i (done_slot (slice_index_or slots i d))) marks filled
+laid_out_done listing slots marks filled i d within laid =
     let slot = laid.kept.each i d within in
-    laid_out_set listing slots taken groomed filled i d (done_slot (slice_index_or slots i d)) within refl refl refl
+    laid_out_set listing slots marks filled i d (done_slot (slice_index_or slots i d)) within refl refl
     (record { listed = slot.listed; place = tt; copy = slot.copy; there = λ e. absurd (false≢true e) }) laid
 
 -- and where it was handed out
-pub laid_out_out : (listing : List NameFacts) (slots : List Slot) (taken groomed : ℕ) (filled : Bool) (i : ℕ) (d : Slot) → i < length slots → IsLaidOut listing slots taken groomed filled → IsLaidOut listing (slice_set slots i (out_slot (slice_index_or slots i d))) taken groomed false
-laid_out_out listing slots taken groomed filled i d within laid =
+pub laid_out_out : (listing : List NameFacts) (slots : List Slot) (marks : Marks) (filled : Bool) (i : ℕ) (d : Slot) → i < length slots → IsLaidOut listing slots marks filled → IsLaidOut listing (slice_set slots i (out_slot (slice_index_or slots i d))) marks false
+laid_out_out listing slots marks filled i d within laid =
     let slot = laid.kept.each i d within in
-    laid_out_set listing slots taken groomed false i d (out_slot (slice_index_or slots i d)) within refl refl refl
-    (record { listed = slot.listed; place = tt; copy = tt; there = λ e. absurd (false≢true e) }) (laid_out_unfilled listing slots taken groomed filled laid)
+    laid_out_set listing slots marks false i d (out_slot (slice_index_or slots i d)) within refl refl
+    (record { listed = slot.listed; place = tt; copy = tt; there = λ e. absurd (false≢true e) }) (laid_out_unfilled listing slots marks filled laid)
 
 -- and where it was out and is missed
-pub laid_out_missed : (listing : List NameFacts) (slots : List Slot) (taken groomed : ℕ) (filled : Bool) (i : ℕ) (d : Slot) (cause : Cause) → i < length slots → (slice_index_or slots i d).place ≡ Out → IsLaidOut listing slots taken groomed filled → IsLaidOut listing (slice_set slots i (missed_slot cause (slice_index_or slots i d))) taken groomed filled
-laid_out_missed listing slots taken groomed filled i d cause within out laid =
+pub laid_out_missed : (listing : List NameFacts) (slots : List Slot) (marks : Marks) (filled : Bool) (i : ℕ) (d : Slot) (cause : Cause) → i < length slots → (slice_index_or slots i d).place ≡ Out → IsLaidOut listing slots marks filled → IsLaidOut listing (slice_set slots i (missed_slot cause (slice_index_or slots i d))) marks filled
+laid_out_missed listing slots marks filled i d cause within out laid =
     let slot = laid.kept.each i d within in
-    laid_out_set listing slots taken groomed filled i d (missed_slot cause (slice_index_or slots i d)) within refl refl refl
+    laid_out_set listing slots marks filled i d (missed_slot cause (slice_index_or slots i d)) within refl refl
     (record { listed = slot.listed; place = tt; copy = slot.copy; there = λ e. slot.there (ap (needs_copy filled) out ∙ e) }) laid
 
--- and where a mark goes on
-pub laid_out_taken_to : (listing : List NameFacts) (slots : List Slot) (taken groomed next : ℕ) (filled : Bool) → IsMark Todo next slots → IsLaidOut listing slots taken groomed filled → IsLaidOut listing slots next groomed filled
-laid_out_taken_to listing slots taken groomed next filled passed laid = record { names = laid.names; kept = laid.kept; taken_to = passed; groomed_to = laid.groomed_to }
+-- and where the mark of a place goes on
+pub laid_out_on : (place : Place) → waits place ≡ true → (listing : List NameFacts) (slots : List Slot) (marks : Marks) (at : ℕ) (filled : Bool) → IsMark place at slots → IsLaidOut listing slots marks filled → IsLaidOut listing slots (marked marks place at) filled
+laid_out_on place waiting listing slots marks at filled passed laid = record {
+  names = laid.names;
+  kept = laid.kept;
+  marked_to = λ other waits_too. goes_on place other waiting waits_too passed (laid.marked_to other waits_too);
+}
+  where
+    goes_on : (place other : Place) → waits place ≡ true → waits other ≡ true → IsMark place at slots → IsMark other (mark_of marks other) slots → IsMark other (mark_of (marked marks place at) other) slots
+    goes_on Todo Todo w v on was = on
+    goes_on Todo Groom w v on was = was
+    goes_on Groom Todo w v on was = was
+    goes_on Groom Groom w v on was = on
+    goes_on _ _ w v on was = cc
 
-pub laid_out_groomed_to : (listing : List NameFacts) (slots : List Slot) (taken groomed next : ℕ) (filled : Bool) → IsMark Groom next slots → IsLaidOut listing slots taken groomed filled → IsLaidOut listing slots taken next filled
-laid_out_groomed_to listing slots taken groomed next filled passed laid = record { names = laid.names; kept = laid.kept; taken_to = laid.taken_to; groomed_to = passed }
+-- no mark is needed at first
+pub first_marks : (slots : List Slot) (place : Place) → waits place ≡ true → IsMark place (mark_of no_marks place) slots
+first_marks slots Todo w = record { within = omega arith; passed = refl }
+first_marks slots Groom w = record { within = omega arith; passed = refl }
+first_marks slots _ w = cc
 
--- the first that is to be read is handed out
-pub taken_out : (listing : List NameFacts) (slots : List Slot) (filled : Bool) (i : ℕ) (d : Slot) → i < length slots → IsMark Todo i slots → same_place Todo (slice_index_or slots i d).place ≡ true → TakesName (facts_of listing slots filled) (facts_of listing (slice_set slots i (out_slot (slice_index_or slots i d))) false) (slice_index_or slots i d).miss.name
-taken_out listing slots filled i d within mark stands =
+-- a name that is to be handed out has its copy
+pub at_hand : (place : Place) (listing : List NameFacts) (filled : Bool) (s : Slot) → waits place ≡ true → same_place place s.place ≡ true → IsSlot listing filled s → s.spare ≡ Some s.miss.name
+at_hand place listing filled s waiting stands slot = has_copy s.spare slot.copy (slot.there (needs s.place (ap waits (is_place place s.place stands) ∙ waiting)))
+  where
+    needs : (p : Place) → waits p ≡ true → needs_copy filled p ≡ true
+    needs Todo w = refl
+    needs Groom w = refl
+    needs _ w = cc
+
+    has_copy : (spare : Option NameFacts) → IsCopy s.miss.name spare → is_some spare ≡ true → spare ≡ Some s.miss.name
+    has_copy None copy there = absurd (false≢true there)
+    has_copy (Some m) copy there = ap Some copy
+
+-- the first of a place's list goes to the list of those that are out, and the other lists stay
+record GoesOut (place : Place) (m : Miss) (before after : List Slot) : Type 0 where
+  first : list_at place before ≡ m ∷ list_at place after
+  out : Adds m (list_at Out before) (list_at Out after)
+  stays : (other : Place) → held_at other place m ≡ held_at other Out m → list_at other after ≡ list_at other before
+
+goes_out : (place : Place) (slots : List Slot) (i : ℕ) (d : Slot) → waits place ≡ true → i < length slots → IsMark place i slots → same_place place (slice_index_or slots i d).place ≡ true → GoesOut place (slice_index_or slots i d).miss slots (slice_set slots i (out_slot (slice_index_or slots i d)))
+goes_out place slots i d waiting within mark stands =
     let x = slice_index_or slots i d in
     let y = out_slot x in
-    let todo = is_place Todo x.place stands in record {
-      first = ap missed_names (list_loses Todo slots i d y x.miss within mark.passed (ap (λ (p : Place). held_at Todo p x.miss) todo) refl);
-      out = names_add x.miss (list_at Out slots) (list_at Out (slice_set slots i y)) (list_adds Out slots i d y x.miss within (ap (λ (p : Place). held_at Out p x.miss) todo) refl);
-      same = same_pass listing _ _ _ _ _ _ _ _ false refl refl
-          (ap missed_names (list_stays Groom slots i d y within (ap (λ (p : Place). held_at Groom p x.miss) todo)))
-          (list_stays Missed slots i d y within (ap (λ (p : Place). held_at Missed p x.miss) todo));
+    let here : x.place ≡ place = is_place place x.place stands in record {
+      first = list_loses place slots i d y x.miss within mark.passed (ap (λ (b : Bool). cond b (Some x.miss) None) stands) (held_none waits place Out x.miss waiting refl);
+      out = list_adds Out slots i d y x.miss within (held_none (λ (p : Place). not (waits p)) Out x.place x.miss refl (ap (λ (p : Place). not (waits p)) here ∙ ap not waiting)) refl;
+      stays = λ other same. list_stays other slots i d y within (ap (λ (p : Place). held_at other p x.miss) here ∙ same);
     }
 
--- the first that is to be looked for is handed out
-pub groomed_out : (listing : List NameFacts) (slots : List Slot) (filled : Bool) (i : ℕ) (d : Slot) → i < length slots → IsMark Groom i slots → same_place Groom (slice_index_or slots i d).place ≡ true → GroomsName (facts_of listing slots filled) (facts_of listing (slice_set slots i (out_slot (slice_index_or slots i d))) false) (slice_index_or slots i d).miss.name
-groomed_out listing slots filled i d within mark stands =
-    let x = slice_index_or slots i d in
-    let y = out_slot x in
-    let groom = is_place Groom x.place stands in record {
-      first = ap missed_names (list_loses Groom slots i d y x.miss within mark.passed (ap (λ (p : Place). held_at Groom p x.miss) groom) refl);
-      out = names_add x.miss (list_at Out slots) (list_at Out (slice_set slots i y)) (list_adds Out slots i d y x.miss within (ap (λ (p : Place). held_at Out p x.miss) groom) refl);
-      same = same_pass listing _ _ _ _ _ _ _ _ false
-          (ap missed_names (list_stays Todo slots i d y within (ap (λ (p : Place). held_at Todo p x.miss) groom))) refl refl
-          (list_stays Missed slots i d y within (ap (λ (p : Place). held_at Missed p x.miss) groom));
+-- the first that stands at a place is handed out
+pub handed_out : (place : Place) (listing : List NameFacts) (slots : List Slot) (filled : Bool) (i : ℕ) (d : Slot) → waits place ≡ true → i < length slots → IsMark place i slots → same_place place (slice_index_or slots i d).place ≡ true → Hands place (facts_of listing slots filled) (facts_of listing (slice_set slots i (out_slot (slice_index_or slots i d))) false) (Some (slice_index_or slots i d).miss.name)
+handed_out Todo listing slots filled i d waiting within mark stands =
+    let goes = goes_out Todo slots i d waiting within mark stands in record {
+      first = ap missed_names goes.first;
+      out = names_add _ _ _ goes.out;
+      same = same_pass listing _ _ _ _ _ _ _ _ false refl refl (ap missed_names (goes.stays Groom refl)) (goes.stays Missed refl);
     }
+handed_out Groom listing slots filled i d waiting within mark stands =
+    let goes = goes_out Groom slots i d waiting within mark stands in record {
+      first = ap missed_names goes.first;
+      out = names_add _ _ _ goes.out;
+      same = same_pass listing _ _ _ _ _ _ _ _ false (ap missed_names (goes.stays Todo refl)) refl refl (goes.stays Missed refl);
+    }
+handed_out _ listing slots filled i d waiting within mark stands = cc
 
 -- a name that is out is missed
 pub missed_out : (name : NameFacts) (listing : List NameFacts) (slots : List Slot) (filled : Bool) (at : ℕ) (d : Slot) (cause : Cause) → AreSlots listing slots filled → HasNameAt name slots at → name ≡ (slice_index_or slots at d).miss.name → (slice_index_or slots at d).place ≡ Out → MissesName (facts_of listing slots filled) (facts_of listing (slice_set slots at (missed_slot cause (slice_index_or slots at d))) filled) name cause
@@ -191,6 +220,12 @@ done_all listing (s ∷ slots) filled h =
 -- where the mark of a place is at the end, its list is empty
 pub none_left : (place : Place) (slots : List Slot) (at : ℕ) → IsMark place at slots → length slots ≤ at → list_at place slots ≡ []
 none_left place slots at mark end = ap (list_at place) (sym (take_all at slots end)) ∙ mark.passed
+
+-- and nothing is handed out
+pub none_handed : (place : Place) (listing : List NameFacts) (slots : List Slot) (filled : Bool) (at : ℕ) → waits place ≡ true → IsMark place at slots → length slots ≤ at → Hands place (facts_of listing slots filled) (facts_of listing slots filled) None
+none_handed Todo listing slots filled at w mark end = record { none = ap missed_names (none_left Todo slots at mark end); same = refl }
+none_handed Groom listing slots filled at w mark end = record { none = ap missed_names (none_left Groom slots at mark end); same = refl }
+none_handed _ listing slots filled at w mark end = cc
 
 -- else its first is that of the slot there
 pub first_there : (slots : List Slot) (at : ℕ) (d : Slot) → at < length slots → IsMark Missed at slots → same_place Missed (slice_index_or slots at d).place ≡ true → first_missed (list_at Missed slots) ≡ Some (slice_index_or slots at d).miss

@@ -11,6 +11,7 @@ use Rattle.row_types.specs.Name.{NameFacts, same_name}
 use Rattle.scan_queue.specs.Names.{is_in}
 use Rattle.scan_queue.specs.Pass.{PassFacts, InOrder, IsPass, Precedes, missed_names, names_left}
 use Rattle.scan_queue.specs.Slots.{AreSlots, IsLaidOut, IsSlot, KeyPrecedes, PlaceFits, facts_of, held_at, key_of, list_at, no_miss, slot_at}
+use Rattle.scan_queue.specs.declared.marks.Marks.{Marks}
 use Rattle.scan_queue.specs.declared.miss.Miss.{Miss}
 use Rattle.scan_queue.specs.declared.slot.Place.{Place}
 use Rattle.scan_queue.specs.declared.slot.Place.TheVariants.{Todo, Out, Groom, Missed, Done}
@@ -127,8 +128,8 @@ list_in_order place listing slots order =
     (λ s t v w e g p. same_order listing s.miss.name t.miss.name v.name w.name (ap (λ (m : Miss). m.name) (miss_found place s.place s.miss v e)) (ap (λ (m : Miss). m.name) (miss_found place t.place t.miss w g)) p) slots order)
 
 -- what the parts of a pass show is a pass
-pub laid_out_is_pass : (listing : List NameFacts) (slots : List Slot) (taken groomed : ℕ) (filled : Bool) → IsLaidOut listing slots taken groomed filled → IsPass (facts_of listing slots filled)
-laid_out_is_pass listing slots taken groomed filled h =
+pub laid_out_is_pass : (listing : List NameFacts) (slots : List Slot) (marks : Marks) (filled : Bool) → IsLaidOut listing slots marks filled → IsPass (facts_of listing slots filled)
+laid_out_is_pass listing slots marks filled h =
     let order = slots_in_order listing slots filled h.kept in
     let each = recursion_from_All (IsSlot listing filled) slots h.kept.each in record {
       listing = h.names;

@@ -2,6 +2,7 @@
 use Rattle.std.proofs.Common.{◌≡◌, ℕ, ◌+◌, ◌<◌, Bool, true, false, cond, Option, Some, None, List, [], ◌∷◌, ◌++◌, length, take, drop, All, refl, sym, ◌∙◌, ap, arith, add-one, slice_index_or, slice_set}
 use Rattle.std.specs.Prelude.{count_by}
 use Rattle.std.specs.List.{AllByRecursion, AllPairs, cons_option, filter_map}
+use Rattle.std.proofs.lemmas.Bool.{false≢true, false_from_ne_true}
 use Rattle.std.proofs.lemmas.List.{drop_more, map-append, set_split, take-append-drop, take_more}
 use Rattle.std.proofs.lemmas.List.Elements.{All-cons, All-nil, filter_map-append, recursion_from_All}
 use Rattle.std.proofs.lemmas.List.Kept.{AllPairs-cons}
@@ -64,6 +65,14 @@ is_place Missed Missed e = refl
 is_place Done Done e = refl
 is_place _ _ e = cc
 
+-- a place that passes a test isn't one that fails it
+pub place_apart : (test : Place → Bool) (place p : Place) → test place ≡ true → test p ≡ false → same_place place p ≡ false
+place_apart test place p passes other = false_from_ne_true (same_place place p) (λ e. false≢true (sym other ∙ ap test (is_place place p e) ∙ passes))
+
+-- and nothing is picked for the one from a slot that stands at the other
+pub held_none : (test : Place → Bool) (place p : Place) (m : Miss) → test place ≡ true → test p ≡ false → held_at place p m ≡ None
+held_none test place p m passes other = ap (λ (b : Bool). cond b (Some m) None) (place_apart test place p passes other)
+
 -- a name that is picked for a place is that of its slot, which stands there
 pub place_found : (place p : Place) (m v : Miss) → held_at place p m ≡ Some v → p ≡ place
 place_found place p m v e = is_place place p (found (same_place place p) e)
@@ -106,6 +115,10 @@ pairs_picked f S R says (s ∷ slots) h =
           (all_picked f (S s) (R v) (λ t w st g. says s t v w e g st) slots (recursion_from_All (S s) slots (head_pairs S s slots h)))
           (pairs_picked f S R says slots (tail_pairs S s slots h))
     ] refl
+
+-- where nothing is picked first or later, nothing is
+pub both_nil : (o : Option Miss) (xs : List Miss) → o ≡ None → xs ≡ [] → cons_option o xs ≡ []
+both_nil o xs p q = rw (p, q) refl
 
 -- as many are picked as slots stand at the place
 pub length_at : (place : Place) (slots : List Slot) → length (list_at place slots) ≡ count_by (λ s. same_place place s.place) slots

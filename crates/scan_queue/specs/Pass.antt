@@ -1,11 +1,12 @@
 -- A pass (this project's rule): a listing, and the names that are still to be looked at, each in one of four lists.
-use Rattle.std.specs.Prelude.{◌≡◌, ◌≤◌, ◌&&◌, ◌||◌, Bool, true, false, not, List, [], ◌∷◌, ◌++◌, ◌⊎◌, Option, Some, None, map, filter, count_by}
+use Rattle.std.specs.Prelude.{◌≡◌, ◌≤◌, ◌&&◌, ◌||◌, Bool, true, false, not, List, [], ◌∷◌, ◌++◌, ◌⊎◌, Option, Some, None, map, filter, count_by, length}
 use Rattle.std.specs.List.{AllPairs, AllPass}
 use Rattle.row_types.specs.Ascends.{IsBefore}
 use Rattle.row_types.specs.Name.{NameFacts, same_name}
 use Rattle.scan_queue.specs.Names.{IsListing, is_in, not_in, without}
 use Rattle.scan_queue.specs.declared.miss.Cause.{Cause}
 use Rattle.scan_queue.specs.declared.miss.Miss.{Miss}
+use Rattle.scan_queue.specs.declared.pass.Counts.{Counts}
 
 -- the listing; the names to be read, those that were handed out, those to be looked for and those that were
 -- missed, each list in order; and whether each name that is out or missed has its copy
@@ -120,3 +121,7 @@ pub record IsWhole (pass : PassFacts) : Type 0 where
   pub out : pass.out ≡ []
   pub groom : pass.groom ≡ []
   pub missed : pass.missed ≡ []
+
+-- how many names stand in each list
+abbrev pub counts_of : PassFacts → Counts
+counts_of pass = record { todo = length pass.todo; out = length pass.out; groom = length pass.groom; missed = length pass.missed }

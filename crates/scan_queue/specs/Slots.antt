@@ -1,10 +1,11 @@
 -- How a pass is kept (this project's rule): one list of slots in order, of which each of the four lists is a part.
-use Rattle.std.specs.Prelude.{◌≡◌, ℕ, ◌≤◌, ◌<◌, Bool, true, false, List, [], ◌++◌, ◌⊎◌, Option, Some, None, All, if◌then◌else◌, is_some, map, length, take, drop}
+use Rattle.std.specs.Prelude.{◌≡◌, ℕ, ◌≤◌, ◌<◌, Bool, true, false, List, [], ◌++◌, ◌⊎◌, Option, Some, None, All, MatchOption, if◌then◌else◌, is_some, map, length, take, drop}
 use Rattle.std.specs.List.{AllPairs, HoldsAt, filter_map}
 use Rattle.row_types.specs.Ascends.{IsBefore}
 use Rattle.row_types.specs.Name.{NameFacts, same_name}
 use Rattle.scan_queue.specs.Names.{IsListing, is_in}
-use Rattle.scan_queue.specs.Pass.{PassFacts, begun, missed_names}
+use Rattle.scan_queue.specs.Pass.{GroomsName, PassFacts, TakesName, TakesNone, begun, missed_names}
+use Rattle.scan_queue.specs.declared.marks.Marks.{Marks}
 use Rattle.scan_queue.specs.declared.miss.Cause.TheVariants.{ReadFault}
 use Rattle.scan_queue.specs.declared.miss.Miss.{Miss}
 use Rattle.scan_queue.specs.declared.slot.Place.{Place}
@@ -100,12 +101,37 @@ pub record IsMark (place : Place) (mark : ℕ) (slots : List Slot) : Type 0 wher
   pub within : mark ≤ length slots
   pub passed : list_at place (take mark slots) ≡ []
 
+-- whether names that stand at the place are handed out
+abbrev pub waits : Place → Bool
+waits Todo = true
+waits Groom = true
+waits _ = false
+
+-- the mark of a place
+abbrev pub mark_of : Marks → Place → ℕ
+mark_of marks Groom = marks.groom
+mark_of marks _ = marks.todo
+
+-- the marks, with another for the place
+abbrev pub marked : Marks → Place → ℕ → Marks
+marked marks Groom at = record marks { groom = at }
+marked marks _ at = record marks { todo = at }
+
+-- the marks as a pass begins
+abbrev pub no_marks : Marks
+no_marks = record { todo = 0; groom = 0 }
+
+-- what is handed out from the place, if anything is, and the pass then
+abbrev pub Hands : Place → PassFacts → PassFacts → Option NameFacts → Type 0
+Hands Todo old new answer = MatchOption answer (TakesNone old.todo old new) (TakesName old new)
+Hands Groom old new answer = MatchOption answer (TakesNone old.groom old new) (GroomsName old new)
+Hands _ old new answer = ⊥
+
 -- what is true of the parts of a pass
-pub record IsLaidOut (listing : List NameFacts) (slots : List Slot) (taken groomed : ℕ) (filled : Bool) : Type 0 where
+pub record IsLaidOut (listing : List NameFacts) (slots : List Slot) (marks : Marks) (filled : Bool) : Type 0 where
   pub names : IsListing listing
   pub kept : AreSlots listing slots filled
-  pub taken_to : IsMark Todo taken slots
-  pub groomed_to : IsMark Groom groomed slots
+  pub marked_to : (place : Place) → waits place ≡ true → IsMark place (mark_of marks place) slots
 
 -- the slots are those of the pass as it begins
 pub record AreFirst (listing current : List NameFacts) (slots : List Slot) : Type 0 where

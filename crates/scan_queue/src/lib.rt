@@ -4,6 +4,7 @@
 
 mod begin;
 mod listing;
+mod marks;
 mod miss;
 mod pass;
 mod slot;
@@ -11,4 +12,4 @@ mod slots;
 
 pub use listing::{LISTING_LIMIT, Listing};
 pub use miss::{Cause, Miss, Seen};
-pub use pass::Pass;
+pub use pass::{Counts, Pass};

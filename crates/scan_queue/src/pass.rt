@@ -1,20 +1,35 @@
 //! A pass over what a walk listed.
 
-ghost use Rattle.std.specs.Prelude.{◌≡◌, ◌+◌, ◌↔◌, [], ◌∷◌, true, false, length, IsTrue, IfOk, IfErr};
+ghost use Rattle.std.specs.Prelude.{◌≡◌, ◌+◌, ◌↔◌, true, false, length, IsTrue, IfOk, IfErr};
 ghost use Rattle.std.specs.Prelude.{MatchOption, OnOk};
 ghost use Rattle.std.specs.Option.{option_copied};
 ghost use Rattle.scan_queue.specs.Names.{IsByPath, is_in};
 ghost use Rattle.scan_queue.specs.Pass.{GroomsName, IsPass, IsWhole, MissesName, TakesName, TakesNone};
-ghost use Rattle.scan_queue.specs.Pass.{TriesAgain, begun, first_missed, left, names_left};
+ghost use Rattle.scan_queue.specs.Pass.{TriesAgain, begun, counts_of, first_missed, left, names_left};
+ghost use Rattle.scan_queue.specs.Slots.{Hands, waits};
 
 use crate::begin::first_slots;
 use crate::listing::Listing;
+use crate::marks::Marks;
 use crate::miss::{Cause, Miss};
 use crate::slot::{Place, Slot, next_at, place_of, same_place};
 use crate::slots::{are_done, count_at, count_away, fill, first_missed, try_again};
 use row_types::Name;
 use std::alloc::{AllocError, Global};
 use std::marker::Model;
+
+/// How many names of a pass stand in each of its lists.
+#[derive(Clone, Copy, PartialEq, Eq)]
+pub struct Counts {
+    /// To be read.
+    pub todo: u64,
+    /// Handed out.
+    pub out: u64,
+    /// To be looked for.
+    pub groom: u64,
+    /// Missed.
+    pub missed: u64,
+}
 
 /// A listing, and the names that are still to be looked at, each in one of four lists: to be read,
 /// out, to be looked for, missed. Contracts see it as a record of the listing and the lists, and
@@ -23,8 +38,7 @@ use std::marker::Model;
 pub struct Pass {
     listing: Listing,
     slots: Vec<Slot>,
-    taken: usize,
-    groomed: usize,
+    marks: Marks,
     filled: bool,
     alloc: Global,
 }
@@ -37,7 +51,7 @@ impl Model for Pass {
 
     ghost view = { λ p. facts_of p.listing p.slots.items p.filled };
 
-    ghost invariant = { λ p. IsLaidOut p.listing p.slots.items p.taken p.groomed p.filled };
+    ghost invariant = { λ p. IsLaidOut p.listing p.slots.items p.marks p.filled };
 }
 
 impl Pass {
@@ -57,8 +71,7 @@ impl Pass {
             Ok(slots) => Ok(Pass {
                 listing,
                 slots,
-                taken: 0,
-                groomed: 0,
+                marks: Marks { todo: 0, groom: 0 },
                 filled: true,
                 alloc,
             }),
@@ -72,13 +85,7 @@ impl Pass {
             (TakesName self.old self.new) }
         ensures keeps { IsPass self.new }
     {
-        let at = next_at(self.slots.as_slice(), Place::Todo, self.taken);
-        self.taken = at;
-        if at == self.slots.len() {
-            return None;
-        }
-        self.filled = false;
-        Some(self.slots[at].take_out())
+        self.take_from(Place::Todo)
     }
 
     /// Hands out the first name that is to be looked for.
@@ -87,13 +94,7 @@ impl Pass {
             (GroomsName self.old self.new) }
         ensures keeps { IsPass self.new }
     {
-        let at = next_at(self.slots.as_slice(), Place::Groom, self.groomed);
-        self.groomed = at;
-        if at == self.slots.len() {
-            return None;
-        }
-        self.filled = false;
-        Some(self.slots[at].take_out())
+        self.take_from(Place::Groom)
     }
 
     /// Takes a name off the pass, and says whether it stood in one of the four lists.
@@ -103,6 +104,7 @@ impl Pass {
         ensures same { result ≡ false → self.new ≡ self.old }
         ensures keeps { IsPass self.new }
     {
+        self.show_pass();
         let Some(at) = place_of(self.slots.as_slice(), name) else {
             return false;
         };
@@ -110,6 +112,7 @@ impl Pass {
             return false;
         }
         self.slots[at].place = Place::Done;
+        self.show_pass();
         true
     }
 
@@ -121,6 +124,7 @@ impl Pass {
         ensures same { result ≡ false → self.new ≡ self.old }
         ensures keeps { IsPass self.new }
     {
+        self.show_pass();
         let Some(at) = place_of(self.slots.as_slice(), name) else {
             return false;
         };
@@ -130,6 +134,7 @@ impl Pass {
         let slot = &mut self.slots[at];
         slot.place = Place::Missed;
         slot.miss.cause = cause;
+        self.show_pass();
         true
     }
 
@@ -142,9 +147,13 @@ impl Pass {
         match fill(self.slots.as_mut_slice(), self.alloc) {
             Ok(()) => {
                 self.filled = true;
+                self.show_pass();
                 Ok(())
             }
-            Err(refused) => Err(refused),
+            Err(refused) => {
+                self.show_pass();
+                Err(refused)
+            }
         }
     }
 
@@ -156,10 +165,10 @@ impl Pass {
         ensures after { TriesAgain self.old self.new }
         ensures keeps { IsPass self.new }
     {
-        self.taken = 0;
-        self.groomed = 0;
+        self.marks = Marks { todo: 0, groom: 0 };
         let count = count_away(self.slots.as_slice());
         try_again(self.slots.as_mut_slice());
+        self.show_pass();
         count
     }
 
@@ -175,21 +184,21 @@ impl Pass {
         ensures first { option_copied result ≡ first_missed self.now.missed }
         ensures holds { IsPass self.now }
     {
+        self.show_pass();
         first_missed(self.slots.as_slice())
     }
 
-    /// The numbers of names that are to be read, out, to be looked for and missed.
-    pub fn counts(&self) -> [u64; 4]
-        ensures { result ≡ length self.now.todo ∷ length self.now.out ∷ length self.now.groom ∷
-            length self.now.missed ∷ [] }
+    /// How many names stand in each list.
+    pub fn counts(&self) -> Counts
+        ensures { result ≡ counts_of self.now }
     {
         let slots = self.slots.as_slice();
-        [
-            count_at(slots, Place::Todo),
-            count_at(slots, Place::Out),
-            count_at(slots, Place::Groom),
-            count_at(slots, Place::Missed),
-        ]
+        Counts {
+            todo: count_at(slots, Place::Todo),
+            out: count_at(slots, Place::Out),
+            groom: count_at(slots, Place::Groom),
+            missed: count_at(slots, Place::Missed),
+        }
     }
 
     /// The listing.
@@ -197,6 +206,32 @@ impl Pass {
         ensures value { result.now ≡ self.now.listing }
         ensures holds { IsPass self.now }
     {
+        self.show_pass();
         &self.listing
+    }
+
+    /// Hands out the first name that stands at a place.
+    fn take_from(&mut self, place: Place) -> Option<Name>
+        requires { waits place ≡ true }
+        ensures step { Hands place self.old self.new result }
+        ensures keeps { IsPass self.new }
+    {
+        let at = next_at(self.slots.as_slice(), place, self.marks.of(place));
+        self.marks.set(place, at);
+        if at == self.slots.len() {
+            self.show_pass();
+            return None;
+        }
+        self.filled = false;
+        let name = self.slots[at].take_out();
+        self.show_pass();
+        Some(name)
+    }
+
+    /// Shows that this is a pass. It is called for its clause alone.
+    fn show_pass(&self)
+        ensures { IsPass self.now }
+    {
+        let _is_filled = self.filled;
     }
 }

@@ -5,8 +5,9 @@ use crate::states::helpers::{
     Index, NOTHING, ended, found_rows, listing, opened, store_stopping_at,
 };
 use crate::states::told::{Step, Version, events_of, scan};
+use index_events::{Event, EventAnswer, EventsEnd, run_events};
 use index_keeper::MemStore;
-use index_state::{Event, EventAnswer, EventsEnd, OpenFault, Standing, run_events};
+use index_state::{OpenFault, Standing};
 use row_types::{BuildId, CanonPath, Kind, OpenWorld, TrueRow, Truth};
 use sample_rows::{elf, name_text, paths, row};
 use std::alloc::Global;

@@ -6,7 +6,8 @@ ghost use Rattle.tree_trait.specs.TwoWorld.{first_stamp, path as only_path, seco
 use crate::states::helpers::{
     Index, NO_PLAN, NOTHING, ended, found_rows, listing_of, opened, store_stopping_at, taken_text,
 };
-use index_state::{Begun, Event, Plan, Published, Standing};
+use index_events::Event;
+use index_state::{Begun, Plan, Published, Standing};
 use row_types::{BuildId, CanonPath, EDITION, Kind, Name, Reading, Row, Stamp, TrueRow, Why};
 use sample_rows::{path, paths, rows_text};
 use scan_queue::{Cause, Listing, Seen};

@@ -2,7 +2,7 @@
 
 use crate::rig::{Files, empty_store, name_of, names_of, opened, rows_of, sample_tree};
 use elf_reading::ElfReader;
-use index_state::{Event, EventAnswer, EventsEnd, run_events};
+use index_events::{Event, EventAnswer, EventsEnd, run_events};
 use row_types::{BuildId, CanonPath, Kind, Name, Stamp};
 use sample_rows::{name_text, paths};
 use sample_world::{Sample, SampleWorld};

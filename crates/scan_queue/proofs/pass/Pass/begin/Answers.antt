@@ -1,17 +1,17 @@
 -- The first slots are those of a pass.
-use Rattle.std.proofs.Common.{List, true, refl, subst, arith}
+use Rattle.std.proofs.Common.{List, true, subst}
 use Rattle.row_types.specs.Name.{NameFacts}
-use Rattle.scan_queue.specs.Slots.{AreFirst, AreSlots}
+use Rattle.scan_queue.specs.Slots.{AreFirst, AreSlots, no_marks}
+use Rattle.scan_queue.proofs.Changes.{first_marks}
 use Rattle.scan_queue.proofs.Passes.{laid_out_is_pass}
 use Rattle.scan_queue.proofs.pass.Pass.begin.Goals as goal
 
 pub returns-in-Ok-clause-keeps : goal.returns-in-Ok-clause-keeps
 returns-in-Ok-clause-keeps c =
     let first : AreFirst c.names.result.now c.as_slice.result.now c.in-Ok.slots.items = c.in-Ok.ensures in
-    laid_out_is_pass c.args.listing c.in-Ok.slots.items 0 0 true
+    laid_out_is_pass c.args.listing c.in-Ok.slots.items no_marks true
     (record {
       names = c.names.ensures.holds;
       kept = subst (λ (xs : List NameFacts). AreSlots xs c.in-Ok.slots.items true) c.names.ensures.value first.kept;
-      taken_to = record { within = omega arith; passed = refl };
-      groomed_to = record { within = omega arith; passed = refl };
+      marked_to = first_marks c.in-Ok.slots.items;
     })

@@ -3,14 +3,13 @@ use Rattle.std.proofs.Common.{◌≡◌, ℕ, ◌<◌, length, true, false, List
 use Rattle.std.proofs.lemmas.List.{get_or_default}
 use Rattle.row_types.specs.Name.{same_name}
 use Rattle.scan_queue.specs.Names.{is_in}
-use Rattle.scan_queue.specs.Pass.{IsPass, MissesName, PassFacts}
+use Rattle.scan_queue.specs.Pass.{MissesName, PassFacts}
 use Rattle.scan_queue.specs.Slots.{HasNameAt, IsLaidOut, IsNotHeld, facts_of, same_place}
 use Rattle.scan_queue.specs.declared.slot.Place.TheVariants.{Out}
 use Rattle.scan_queue.specs.declared.slot.Slot.{Slot}
 use Rattle.scan_queue.proofs.Changes.{laid_out_missed, missed_out, missed_slot}
 use Rattle.scan_queue.proofs.Leaves.{is_at, is_not_at, names_at_have, no_slot_not_held, not_at}
 use Rattle.scan_queue.proofs.NameTests.{same_name-Decides}
-use Rattle.scan_queue.proofs.Passes.{laid_out_is_pass}
 use Rattle.scan_queue.proofs.Picks.{is_place}
 use Rattle.scan_queue.proofs.pass.Pass.miss.Goals as goal
 
@@ -26,11 +25,6 @@ returns-in_default-clause-found c =
     let none : All (IsNotHeld name) before.slots.items = no_slot_not_held name before.slots.items (subst (λ (xs : List Slot). All (λ (s : Slot). same_name name s.miss.name ≡ false) xs) c.as_slice.ensures.value c.in_default.ensures) in
     subst (λ (p : PassFacts). false ≡ is_in p.out name) c.self.view_is (sym (names_at_have Out name before.slots.items ∙ not_at Out name before.slots.items refl none))
 
-pub returns-in_default-clause-keeps : goal.returns-in_default-clause-keeps
-returns-in_default-clause-keeps c =
-    let before = c.self.inside in
-    subst IsPass c.self.view_is (laid_out_is_pass before.listing before.slots.items before.taken before.groomed before.filled c.self.invariant)
-
 pub returns-then-not-same_place-clause-found : goal.returns-then-not-same_place-clause-found
 returns-then-not-same_place-clause-found c =
     let before = c.self.inside in
@@ -40,11 +34,6 @@ returns-then-not-same_place-clause-found c =
     let elsewhere : same_place Out (slice_index_or before.slots.items at c.index.result.now).place ≡ false = ap (λ (s : Slot). same_place Out s.place) (sym c.index.ensures) ∙ sym c.same_place.ensures ∙ c.if-not-same_place.true in
     subst (λ (p : PassFacts). false ≡ is_in p.out name) c.self.view_is
     (sym (names_at_have Out name before.slots.items ∙ is_not_at Out name before.listing before.slots.items before.filled at c.index.result.now c.self.invariant.kept there elsewhere refl))
-
-pub returns-then-not-same_place-clause-keeps : goal.returns-then-not-same_place-clause-keeps
-returns-then-not-same_place-clause-keeps c =
-    let before = c.self.inside in
-    subst IsPass c.self.view_is (laid_out_is_pass before.listing before.slots.items before.taken before.groomed before.filled c.self.invariant)
 
 pub returns-clause-found : goal.returns-clause-found
 returns-clause-found c =
@@ -63,8 +52,8 @@ invariant_of-self c =
     let x = c.index_mut-slot.result.now in
     let there : HasNameAt c.args.name.now before.slots.items at = subst (λ (xs : List Slot). HasNameAt c.args.name.now xs at) c.as_slice.ensures.value c.in-Some.ensures in
     let out = out_there before.slots.items at c.index.result.now x there.within c.index.ensures (sym c.same_place.ensures ∙ c.if-not-same_place.false) in
-    subst (λ (s : Slot). IsLaidOut before.listing (slice_set before.slots.items at (missed_slot c.args.cause s)) before.taken before.groomed before.filled) (sym c.index_mut-slot.ensures.value)
-    (laid_out_missed before.listing before.slots.items before.taken before.groomed before.filled at x c.args.cause there.within out c.self.invariant)
+    subst (λ (s : Slot). IsLaidOut before.listing (slice_set before.slots.items at (missed_slot c.args.cause s)) before.marks before.filled) (sym c.index_mut-slot.ensures.value)
+    (laid_out_missed before.listing before.slots.items before.marks before.filled at x c.args.cause there.within out c.self.invariant)
 
 pub returns-clause-after : goal.returns-clause-after
 returns-clause-after c =
@@ -78,14 +67,3 @@ returns-clause-after c =
     λ _. subst (λ (p : PassFacts). MissesName p (facts_of before.listing (slice_set before.slots.items at (missed_slot c.args.cause x)) before.filled) name c.args.cause) c.self.view_is
     (subst (λ (s : Slot). MissesName (facts_of before.listing before.slots.items before.filled) (facts_of before.listing (slice_set before.slots.items at (missed_slot c.args.cause s)) before.filled) name c.args.cause) (sym c.index_mut-slot.ensures.value)
     (missed_out name before.listing before.slots.items before.filled at x c.args.cause c.self.invariant.kept there named out))
-
-pub returns-clause-keeps : goal.returns-clause-keeps
-returns-clause-keeps c =
-    let before = c.self.inside in
-    let at = c.in-Some.at in
-    let x = c.index_mut-slot.result.now in
-    let there : HasNameAt c.args.name.now before.slots.items at = subst (λ (xs : List Slot). HasNameAt c.args.name.now xs at) c.as_slice.ensures.value c.in-Some.ensures in
-    let out = out_there before.slots.items at c.index.result.now x there.within c.index.ensures (sym c.same_place.ensures ∙ c.if-not-same_place.false) in
-    laid_out_is_pass before.listing (slice_set before.slots.items at (missed_slot c.args.cause x)) before.taken before.groomed before.filled
-    (subst (λ (s : Slot). IsLaidOut before.listing (slice_set before.slots.items at (missed_slot c.args.cause s)) before.taken before.groomed before.filled) (sym c.index_mut-slot.ensures.value)
-    (laid_out_missed before.listing before.slots.items before.taken before.groomed before.filled at x c.args.cause there.within out c.self.invariant))

@@ -4,10 +4,9 @@ use Rattle.std.specs.Prelude.{count_by}
 use Rattle.std.specs.Vec.{with_items}
 use Rattle.std.proofs.lemmas.List.{with_items_is}
 use Rattle.scan_queue.specs.Pass.{PassFacts, TriesAgain}
-use Rattle.scan_queue.specs.Slots.{IsLaidOut, facts_of, is_away, tried_again}
+use Rattle.scan_queue.specs.Slots.{IsLaidOut, facts_of, is_away, no_marks, tried_again}
 use Rattle.scan_queue.specs.declared.slot.Slot.{Slot}
 use Rattle.scan_queue.proofs.Again.{away_count, laid_out_again, tries_again}
-use Rattle.scan_queue.proofs.Passes.{laid_out_is_pass}
 use Rattle.scan_queue.proofs.pass.Pass.retry.Goals as goal
 
 pub invariant_of-self : goal.invariant_of-self
@@ -16,9 +15,9 @@ invariant_of-self c =
     let full : before.filled ≡ true = ap (λ (p : PassFacts). p.filled) c.self.view_is ∙ c.requires in
     let all : (with_items before.slots c.try_again.new.slots).items ≡ map tried_again before.slots.items =
     with_items_is before.slots c.try_again.new.slots (omega (arith, c.try_again.auto.slots, ap length c.as_mut_slice.ensures.value, before.slots.ok.0)) ∙ c.try_again.ensures ∙ ap (map tried_again) c.as_mut_slice.ensures.value in
-    subst (λ (xs : List Slot). IsLaidOut before.listing xs 0 0 before.filled) (sym all)
-    (subst (λ (b : Bool). IsLaidOut before.listing (map tried_again before.slots.items) 0 0 b) (sym full)
-    (laid_out_again before.listing before.slots.items before.taken before.groomed (subst (λ (b : Bool). IsLaidOut before.listing before.slots.items before.taken before.groomed b) full c.self.invariant)))
+    subst (λ (xs : List Slot). IsLaidOut before.listing xs no_marks before.filled) (sym all)
+    (subst (λ (b : Bool). IsLaidOut before.listing (map tried_again before.slots.items) no_marks b) (sym full)
+    (laid_out_again before.listing before.slots.items before.marks (subst (λ (b : Bool). IsLaidOut before.listing before.slots.items before.marks b) full c.self.invariant)))
 
 pub returns-clause-count : goal.returns-clause-count
 returns-clause-count c =
@@ -33,14 +32,3 @@ returns-clause-after c =
     subst (λ (p : PassFacts). TriesAgain p (facts_of before.listing (with_items before.slots c.try_again.new.slots).items before.filled)) c.self.view_is
     (subst (λ (xs : List Slot). TriesAgain (facts_of before.listing before.slots.items before.filled) (facts_of before.listing xs before.filled)) (sym all)
     (tries_again before.listing before.slots.items before.filled c.self.invariant.kept))
-
-pub returns-clause-keeps : goal.returns-clause-keeps
-returns-clause-keeps c =
-    let before = c.self.inside in
-    let full : before.filled ≡ true = ap (λ (p : PassFacts). p.filled) c.self.view_is ∙ c.requires in
-    let all : (with_items before.slots c.try_again.new.slots).items ≡ map tried_again before.slots.items =
-    with_items_is before.slots c.try_again.new.slots (omega (arith, c.try_again.auto.slots, ap length c.as_mut_slice.ensures.value, before.slots.ok.0)) ∙ c.try_again.ensures ∙ ap (map tried_again) c.as_mut_slice.ensures.value in
-    laid_out_is_pass before.listing (with_items before.slots c.try_again.new.slots).items 0 0 before.filled
-    (subst (λ (xs : List Slot). IsLaidOut before.listing xs 0 0 before.filled) (sym all)
-    (subst (λ (b : Bool). IsLaidOut before.listing (map tried_again before.slots.items) 0 0 b) (sym full)
-    (laid_out_again before.listing before.slots.items before.taken before.groomed (subst (λ (b : Bool). IsLaidOut before.listing before.slots.items before.taken before.groomed b) full c.self.invariant))))

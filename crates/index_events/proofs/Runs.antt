@@ -8,13 +8,13 @@ use Rattle.index_keeper.specs.Keeper.{IsLeftAlone, ShownKeeper}
 use Rattle.index_keeper.specs.Store.{OpensStore, ShownStore}
 use Rattle.index_keeper.specs.declared.answer.StoreAnswer.{StoreAnswer}
 use Rattle.index_keeper.specs.declared.answer.StoreAnswer.TheVariants.{Failed as StoreFailed, OutOfMemory as StoreNoMemory}
-use Rattle.index_state.specs.EventParts.{Closes, Waits}
-use Rattle.index_state.specs.Events.{Calls, ClosesAfter, EventStep, IsRefused, IsReopening, IsStoreFault, MeetsFault, RunsFirst, RunsTo, StaysClosed, StaysShut, StopsAfter, StoredIndex, WantsMemory}
-use Rattle.index_state.specs.Puts.{PutsLast}
+use Rattle.index_events.specs.EventParts.{Closes, Waits}
+use Rattle.index_events.specs.Events.{Calls, ClosesAfter, EventStep, IsRefused, IsReopening, IsStoreFault, MeetsFault, RunsFirst, RunsTo, StaysClosed, StaysShut, StopsAfter, StoredIndex, WantsMemory}
+use Rattle.index_events.specs.Puts.{PutsLast}
 use Rattle.index_state.specs.State.{StateFacts}
-use Rattle.index_state.specs.declared.events.Event.{Event}
-use Rattle.index_state.specs.declared.events.EventAnswer.{EventAnswer}
-use Rattle.index_state.specs.declared.events.EventsEnd.TheVariants.{Unopened}
+use Rattle.index_events.specs.declared.events.Event.{Event}
+use Rattle.index_events.specs.declared.events.EventAnswer.{EventAnswer}
+use Rattle.index_events.specs.declared.events.EventsEnd.TheVariants.{Unopened}
 use Rattle.index_state.specs.declared.open_fault.OpenFault.{OpenFault}
 use Rattle.index_state.specs.declared.open_fault.OpenFault.TheVariants.{KeeperFault, BadRow, LogFull, OutOfMemory}
 

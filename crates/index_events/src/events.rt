@@ -1,9 +1,7 @@
 //! What can happen to an index, and what comes of it.
 
-use crate::answer::{Begun, GroomTask, Judged, Published};
-use crate::open_fault::OpenFault;
-use crate::state::State;
 use index_keeper::Keeper;
+use index_state::{Begun, GroomTask, Judged, OpenFault, Published, State};
 use row_types::{BuildId, CanonPath, Kind, Name, TrueRow, Truth};
 use scan_queue::{Cause, Listing, Seen};
 

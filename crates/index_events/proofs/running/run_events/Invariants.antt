@@ -1,8 +1,8 @@
 -- Of the events those so far happened, and there is room for the other answers.
 use Rattle.std.proofs.Common.{◌+◌, ◌≤◌, vec_capacity, vec_len}
 use Rattle.std.specs.Prelude.{reverse}
-use Rattle.index_state.specs.Events.{RunsFirst}
-use Rattle.index_state.proofs.running.run_events.Given as goal
+use Rattle.index_events.specs.Events.{RunsFirst}
+use Rattle.index_events.proofs.running.run_events.Given as goal
 
 abbrev pub invariant-loop-event : goal.invariant-loop-event
 invariant-loop-event g l = record {

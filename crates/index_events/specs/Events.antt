@@ -8,18 +8,18 @@ use Rattle.index_keeper.specs.declared.answer.StoreAnswer.{StoreAnswer}
 use Rattle.index_keeper.specs.declared.answer.StoreAnswer.TheVariants.{Opened as StoreOpened, Failed as StoreFailed, OutOfMemory as StoreNoMemory}
 use Rattle.index_state.specs.Invariant.{IndexInvariant}
 use Rattle.index_state.specs.Opening.{CountsFault, Opens, Refuses}
-use Rattle.index_state.specs.Puts.{PutsLast}
+use Rattle.index_events.specs.Puts.{PutsLast}
 use Rattle.index_state.specs.State.{StateFacts}
 use Rattle.index_state.specs.Step.{IndexStep, begins, grooms, judges, looks, misses, publishes, retries, takes, to_begin, to_groom, to_judge, to_look, to_miss, to_publish, to_retry, to_take}
 use Rattle.index_state.specs.declared.answer.Begun.TheVariants.{OutOfMemory as BegunNoMemory}
 use Rattle.index_state.specs.declared.answer.Judged.TheVariants.{OutOfMemory as JudgedNoMemory}
 use Rattle.index_state.specs.declared.answer.Published.TheVariants.{OutOfMemory as PublishedNoMemory}
-use Rattle.index_state.specs.declared.events.Event.{Event}
-use Rattle.index_state.specs.declared.events.Event.TheVariants.{Begin, Take, Publish, GroomTake, Judge, Miss, Retry, Look, Reopen}
-use Rattle.index_state.specs.declared.events.EventAnswer.{EventAnswer}
-use Rattle.index_state.specs.declared.events.EventAnswer.TheVariants.{Begin as BeginSaid, Take as TakeSaid, Publish as PublishSaid, GroomTake as GroomSaid, Judge as JudgeSaid, Miss as MissSaid, Retry as RetrySaid, Look as LookSaid, Opened}
-use Rattle.index_state.specs.declared.events.EventsEnd.{EventsEnd}
-use Rattle.index_state.specs.declared.events.EventsEnd.TheVariants.{All as AllDone, Stopped, Unopened}
+use Rattle.index_events.specs.declared.events.Event.{Event}
+use Rattle.index_events.specs.declared.events.Event.TheVariants.{Begin, Take, Publish, GroomTake, Judge, Miss, Retry, Look, Reopen}
+use Rattle.index_events.specs.declared.events.EventAnswer.{EventAnswer}
+use Rattle.index_events.specs.declared.events.EventAnswer.TheVariants.{Begin as BeginSaid, Take as TakeSaid, Publish as PublishSaid, GroomTake as GroomSaid, Judge as JudgeSaid, Miss as MissSaid, Retry as RetrySaid, Look as LookSaid, Opened}
+use Rattle.index_events.specs.declared.events.EventsEnd.{EventsEnd}
+use Rattle.index_events.specs.declared.events.EventsEnd.TheVariants.{All as AllDone, Stopped, Unopened}
 use Rattle.index_state.specs.declared.open_fault.OpenFault.{OpenFault}
 use Rattle.index_state.specs.declared.open_fault.OpenFault.TheVariants.{KeeperFault, OutOfMemory}
 

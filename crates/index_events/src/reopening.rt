@@ -1,13 +1,11 @@
 //! Opening an index again.
 
 ghost use Rattle.std.specs.Prelude.{◌≡◌, IfErr, IfOk, MatchResult, OnOk};
-ghost use Rattle.index_state.specs.Events.{GoesBack, Reopens, StaysClosed};
+ghost use Rattle.index_events.specs.Events.{GoesBack, Reopens, StaysClosed};
 ghost use Rattle.index_state.specs.Opening.{CanOpen, Opens};
 
-use crate::open_fault::OpenFault;
-use crate::opening::open_state;
-use crate::state::State;
 use index_keeper::{Store, StoreAnswer};
+use index_state::{OpenFault, State, open_state};
 use row_types::Truth;
 use std::alloc::Global;
 

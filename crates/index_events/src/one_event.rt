@@ -1,13 +1,12 @@
 //! One event of an index, other than its reopening.
 
 ghost use Rattle.std.specs.Prelude.{◌≢◌, IfOk, MatchResult};
-ghost use Rattle.index_state.specs.Events.{Answers, WantsFor};
-ghost use Rattle.index_state.specs.declared.events.Event.{Event};
+ghost use Rattle.index_events.specs.Events.{Answers, WantsFor};
+ghost use Rattle.index_events.specs.declared.events.Event.{Event};
 
-use crate::answer::{Begun, Judged, Published};
 use crate::events::{Event, EventAnswer};
-use crate::state::State;
 use index_keeper::Keeper;
+use index_state::{Begun, Judged, Published, State};
 use row_types::{BuildId, CanonPath, Kind, Name, TrueRow, Truth};
 use scan_queue::{Listing, Seen};
 use std::alloc::{AllocError, Global};

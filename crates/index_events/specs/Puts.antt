@@ -8,12 +8,12 @@ use Rattle.index_keeper.specs.Tables.{KeptFacts, bytes_at}
 use Rattle.index_state.specs.State.{StateFacts}
 use Rattle.index_state.specs.declared.answer.Judged.TheVariants.{Dropped, KeeperFault as JudgedFault}
 use Rattle.index_state.specs.declared.answer.Published.TheVariants.{Added, Replaced, KeeperFault as PublishedFault}
-use Rattle.index_state.specs.declared.events.Event.{Event}
-use Rattle.index_state.specs.declared.events.Event.TheVariants.{Publish, Judge}
-use Rattle.index_state.specs.declared.events.EventAnswer.{EventAnswer}
-use Rattle.index_state.specs.declared.events.EventAnswer.TheVariants.{Publish as PublishSaid, Judge as JudgeSaid}
-use Rattle.index_state.specs.declared.events.EventsEnd.{EventsEnd}
-use Rattle.index_state.specs.declared.events.EventsEnd.TheVariants.{All as AllDone}
+use Rattle.index_events.specs.declared.events.Event.{Event}
+use Rattle.index_events.specs.declared.events.Event.TheVariants.{Publish, Judge}
+use Rattle.index_events.specs.declared.events.EventAnswer.{EventAnswer}
+use Rattle.index_events.specs.declared.events.EventAnswer.TheVariants.{Publish as PublishSaid, Judge as JudgeSaid}
+use Rattle.index_events.specs.declared.events.EventsEnd.{EventsEnd}
+use Rattle.index_events.specs.declared.events.EventsEnd.TheVariants.{All as AllDone}
 
 -- the event put the row
 abbrev pub HasPut : {W : Type 0} → RowFacts → Event W → EventAnswer → Type 0

@@ -2,18 +2,16 @@
 
 ghost use Rattle.std.specs.Prelude.{◌≢◌};
 ghost use Rattle.row_types.specs.Faults.{HasCause};
-ghost use Rattle.index_state.specs.EventParts.{Called, Comes};
-ghost use Rattle.index_state.specs.Events.{EndsBy, MeetsFault};
-ghost use Rattle.index_state.specs.Puts.{EndLasts};
-ghost use Rattle.index_state.specs.declared.events.Event.{Event};
+ghost use Rattle.index_events.specs.EventParts.{Called, Comes};
+ghost use Rattle.index_events.specs.Events.{EndsBy, MeetsFault};
+ghost use Rattle.index_events.specs.Puts.{EndLasts};
+ghost use Rattle.index_events.specs.declared.events.Event.{Event};
 
 use crate::events::{Event, EventAnswer, EventsEnd};
 use crate::one_event::call_event;
-use crate::open_fault::OpenFault;
 use crate::reopening::reopen;
-use crate::spare::show_index;
-use crate::state::State;
 use index_keeper::{Keeper, Store};
+use index_state::{OpenFault, State, show_index};
 use row_types::Truth;
 use std::alloc::Global;
 

@@ -3,15 +3,15 @@ use Rattle.std.specs.Prelude.{◌≡◌, ℕ, Bool, List}
 use Rattle.row_types.specs.Row.{RowFacts}
 use Rattle.index_keeper.specs.Keeper.{ShownKeeper}
 use Rattle.index_keeper.specs.Store.{ShownStore}
-use Rattle.index_state.specs.Events.{Answers, EventStep, StaysClosed, StoredIndex, WantsFor}
+use Rattle.index_events.specs.Events.{Answers, EventStep, StaysClosed, StoredIndex, WantsFor}
 use Rattle.index_state.specs.Invariant.{IndexInvariant}
 use Rattle.index_state.specs.State.{StateFacts}
-use Rattle.index_state.specs.declared.events.Event.{Event}
-use Rattle.index_state.specs.declared.events.Event.TheVariants.{Reopen}
-use Rattle.index_state.specs.declared.events.EventAnswer.{EventAnswer}
+use Rattle.index_events.specs.declared.events.Event.{Event}
+use Rattle.index_events.specs.declared.events.Event.TheVariants.{Reopen}
+use Rattle.index_events.specs.declared.events.EventAnswer.{EventAnswer}
 use Rattle.index_state.specs.declared.open_fault.OpenFault.{OpenFault}
-use Rattle.index_state.specs.declared.running.Came.{Came}
-use Rattle.index_state.specs.declared.running.Came.TheVariants.{Answer, NoMemory, Unopened}
+use Rattle.index_events.specs.declared.running.Came.{Came}
+use Rattle.index_events.specs.declared.running.Came.TheVariants.{Answer, NoMemory, Unopened}
 
 -- the event was answered, and the index invariant holds of the index
 pub record IsAnswered {W K : Type 0} (true_row : RowFacts → Type 0) (told : Bool) (shows : K → ShownKeeper) (old : StateFacts K) (event : Event W) (new : StateFacts K) (answer : EventAnswer) : Type 0 where

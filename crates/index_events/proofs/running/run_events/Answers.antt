@@ -1,11 +1,11 @@
 -- The events so far, and the next one.
 use Rattle.std.proofs.Common.{◌≡◌, List, ◌∷◌, length, sym, subst, arith, rules}
 use Rattle.std.specs.Prelude.{reverse}
-use Rattle.index_state.specs.Events.{RunsFirst, StoredIndex}
-use Rattle.index_state.specs.declared.events.EventAnswer.{EventAnswer}
-use Rattle.index_state.proofs.PutsStand.{first_lasts, puts_last, stops_unbegun}
-use Rattle.index_state.proofs.Runs.{closes_after, closes_later, first_ends, first_later, first_more, first_popped, stops_after, waits_later}
-use Rattle.index_state.proofs.running.run_events.Goals as goal
+use Rattle.index_events.specs.Events.{RunsFirst, StoredIndex}
+use Rattle.index_events.specs.declared.events.EventAnswer.{EventAnswer}
+use Rattle.index_events.proofs.PutsStand.{first_lasts, puts_last, stops_unbegun}
+use Rattle.index_events.proofs.Runs.{closes_after, closes_later, first_ends, first_later, first_more, first_popped, stops_after, waits_later}
+use Rattle.index_events.proofs.running.run_events.Goals as goal
 
 pub returns-in_default-clause-ends : goal.returns-in_default-clause-ends
 returns-in_default-clause-ends g c =

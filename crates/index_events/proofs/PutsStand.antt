@@ -22,12 +22,12 @@ use Rattle.index_keeper.specs.Tables.{AscendsByPath, KeptFacts, bytes_at, edited
 use Rattle.index_keeper.specs.declared.answer.KeptAnswer.{KeptAnswer}
 use Rattle.index_keeper.specs.declared.answer.KeptAnswer.TheVariants.{All as AllRows, Failed as RowsFailed, OutOfMemory as RowsNoMemory}
 use Rattle.index_keeper.proofs.CutLemmas.{IsCut, after_here, cut_of, edited_cut, other_bytes, row_bytes_at}
-use Rattle.index_state.specs.Events.{Calls, EventStep, Happens, IsReopening, Reopens, RunsFirst, RunsTo, StopsAfter, StoredIndex, WantsMemory}
+use Rattle.index_events.specs.Events.{Calls, EventStep, Happens, IsReopening, Reopens, RunsFirst, RunsTo, StopsAfter, StoredIndex, WantsMemory}
 use Rattle.index_state.specs.Invariant.{IndexInvariant}
 use Rattle.index_state.specs.Keeping.{put_row}
 use Rattle.index_state.specs.Kept.{IsDoubted, tables_of}
 use Rattle.index_state.specs.Opening.{current, is_current}
-use Rattle.index_state.specs.Puts.{HasPut, LeavePath, MayChange, PutsLast}
+use Rattle.index_events.specs.Puts.{HasPut, LeavePath, MayChange, PutsLast}
 use Rattle.index_state.specs.State.{StateFacts}
 use Rattle.index_state.specs.Step.{Begins, Judges, Publishes, Stores}
 use Rattle.index_state.specs.declared.answer.Begun.{Begun}
@@ -36,13 +36,13 @@ use Rattle.index_state.specs.declared.answer.Judged.{Judged}
 use Rattle.index_state.specs.declared.answer.Judged.TheVariants.{Kept, Dropped, Moved, Strange, Broken as JudgedBroken, LogFull as JudgedFull, KeeperFault as JudgedFault, OutOfMemory as JudgedNoMemory}
 use Rattle.index_state.specs.declared.answer.Published.{Published}
 use Rattle.index_state.specs.declared.answer.Published.TheVariants.{Added, Replaced, Already, NotListed, Broken, LogFull, KeeperFault, OutOfMemory}
-use Rattle.index_state.specs.declared.events.Event.{Event}
-use Rattle.index_state.specs.declared.events.Event.TheVariants.{Begin, Take, Publish, GroomTake, Judge, Miss, Retry, Look}
-use Rattle.index_state.specs.declared.events.EventAnswer.{EventAnswer}
-use Rattle.index_state.specs.declared.events.EventAnswer.TheVariants.{Begin as BeginSaid, Take as TakeSaid, Publish as PublishSaid, GroomTake as GroomSaid, Judge as JudgeSaid, Miss as MissSaid, Retry as RetrySaid, Look as LookSaid}
+use Rattle.index_events.specs.declared.events.Event.{Event}
+use Rattle.index_events.specs.declared.events.Event.TheVariants.{Begin, Take, Publish, GroomTake, Judge, Miss, Retry, Look}
+use Rattle.index_events.specs.declared.events.EventAnswer.{EventAnswer}
+use Rattle.index_events.specs.declared.events.EventAnswer.TheVariants.{Begin as BeginSaid, Take as TakeSaid, Publish as PublishSaid, GroomTake as GroomSaid, Judge as JudgeSaid, Miss as MissSaid, Retry as RetrySaid, Look as LookSaid}
 use Rattle.index_state.proofs.ByName.{tables_by_path}
 use Rattle.index_state.proofs.Lasting.{image_bytes, table_bytes}
-use Rattle.index_state.proofs.Runs.{first_none, wants_self}
+use Rattle.index_events.proofs.Runs.{first_none, wants_self}
 use Rattle.index_state.proofs.StoreSteps.{tables_put, tables_without}
 
 -- the last elements of two lists that are one list

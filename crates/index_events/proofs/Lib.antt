@@ -1,0 +1,2 @@
+pub mod PutsStand
+pub mod Runs

@@ -1,0 +1,13 @@
+pub use Rattle.row_types.specs.Faults
+pub use Rattle.row_types.specs.Row
+pub use Rattle.row_codec.specs.RowBytes
+pub use Rattle.index_keeper.specs.Keeper
+pub use Rattle.index_keeper.specs.Store
+pub use Rattle.index_keeper.specs.Tables
+pub use Rattle.index_state.specs.Invariant
+pub use Rattle.index_state.specs.Opening
+pub use Rattle.index_state.specs.State
+pub use Rattle.index_state.specs.Step
+pub mod EventParts
+pub mod Events
+pub mod Puts
