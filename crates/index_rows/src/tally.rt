@@ -110,7 +110,7 @@ impl Tally {
             Ok(place) => {
                 let count = count_there(entries, place) - 1;
                 if count == 0 {
-                    self.entries.remove(place);
+                    drop(self.entries.remove(place));
                 } else {
                     set_count(&mut self.entries, place, count);
                 }

@@ -41,6 +41,18 @@ loop-folder-preserved g c =
           (λ none. absurd none);
     }
 
+pub loop-folder-preserved-in_ok-read_folder : goal.loop-folder-preserved-in_ok-read_folder
+loop-folder-preserved-in_ok-read_folder g c =
+    let roots : List (List ℕ) = c.args.roots.now in
+    record {
+      goes = goes_then c.loop-folder.invariant.goes c.loop-folder.invariant.hands.still
+          (λ heard u. c.in_ok-read_folder.ensures.goes heard roots
+          (subst (λ (s : SearchFacts). IsUnderway heard roots s [] []) c.in-Some.ensures u))
+          (λ heard u. u);
+      hands = hands_then c.loop-folder.invariant.hands c.read_folder.ensures.hands (λ some. inl some)
+          (λ none. absurd none);
+    }
+
 pub returns-clause-walk : goal.returns-clause-walk
 returns-clause-walk g c =
     let now : c.next_folder.new.self ≡ c.loop-folder.search = c.in_default.ensures.0 in
