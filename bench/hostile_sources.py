@@ -112,9 +112,9 @@ FILES = {
     "folders_5000": lambda: folders(5000, 5000, b"/"),
     "folders_20000": lambda: folders(20000, 20000, b"/"),
     "folders_long": lambda: folders(200, 20000, b"/" + b"x" * 3900),
-    "lists_short": lambda: folders(1820, 1820, b"/"),
-    "lists_middle": lambda: folders(842, 842, b"/" + b"x" * 150),
-    "lists_long": lambda: folders(32, 1016, b"/" + b"x" * 4080),
+    "lists_short": lambda: folders(1790, 1790, b"/"),
+    "lists_middle": lambda: folders(710, 710, b"/" + b"x" * 150),
+    "lists_long": lambda: folders(32, 680, b"/" + b"x" * 4080),
 }
 
 # The files that have to end with 6.

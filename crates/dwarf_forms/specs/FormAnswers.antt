@@ -34,6 +34,26 @@ abbrev pub ReadsAs : {A R : Type 0} → (R → A) → (Input → ℕ → Read A)
     → Result R FormFault → Type 0
 ReadsAs facts expected f old new result = Answers facts (expected (input_of old f) old.place) old new result
 
+-- the answer is what a relation has at the place, and the cursor is where what follows begins
+pub record StandsBy {A : Type 0} (Here : Read A → Type 0) (old new : View) (answer : A) : Type 0 where
+  pub value : Here (Ok (record { value = answer; next = new.place }))
+  pub moved : new ≡ record old { place = new.place }
+
+-- the fault is what a relation has at the place, and only the cursor's place has changed
+pub record LacksBy {A : Type 0} (Here : Read A → Type 0) (old new : View) (fault : FormFault) : Type 0 where
+  pub cause : Here (Err (fault_facts fault))
+  pub moved : new ≡ record old { place = new.place }
+
+-- a read answers by a relation
+abbrev pub AnswersBy : {A R : Type 0} → (R → A) → (Read A → Type 0) → View → View → Result R FormFault → Type 0
+AnswersBy facts Here old new result =
+    MatchResult result (λ r. StandsBy Here old new (facts r)) (λ e. LacksBy Here old new e)
+
+-- a read in a format answers by what a relation has at the cursor's place
+abbrev pub ReadsWhere : {A R : Type 0} → (R → A) → (Input → ℕ → Read A → Type 0) → Format → View → View
+    → Result R FormFault → Type 0
+ReadsWhere facts Here f old new result = AnswersBy facts (Here (input_of old f) old.place) old new result
+
 -- a number as it is
 abbrev pub same : ℕ → ℕ
 same n = n

@@ -1,7 +1,7 @@
 -- What callers see of the texts and of a value (this project's rule).
-use Rattle.std.specs.Prelude.{ℕ, Option, Ok, ℤ}
+use Rattle.std.specs.Prelude.{◌≡◌, ℕ, Option, Ok, ℤ}
 use Rattle.file_formats.specs.DwarfReads.{Input, Read, ◌>>=◌}
-use Rattle.file_formats.specs.DwarfForms.{form_at}
+use Rattle.file_formats.specs.DwarfForms.{Raw, IsForm}
 use Rattle.file_formats.specs.DwarfTexts.{Texts, FormValue, number_is, text_is, is_other, value_of}
 use Rattle.dwarf_forms.specs.TextBytes.{text_said}
 use Rattle.dwarf_forms.specs.declared.numbers.Format.{Format}
@@ -31,6 +31,7 @@ value_facts (Text text) = text_is (text_said text)
 value_facts Other = is_other
 
 -- the value of any form at the place, with its text
-abbrev pub value_at : Texts → Input → Option ℤ → ℕ → ℕ → Read FormValue
-value_at t s constant form p =
-    form_at s constant form p >>= λ raw. Ok (record { value = value_of t raw.value; next = raw.next })
+pub record IsValue (t : Texts) (s : Input) (constant : Option ℤ) (form p : ℕ) (value : Read FormValue) : Type 0 where
+  pub raw : Read Raw
+  pub stands : IsForm s constant form p raw
+  pub says : value ≡ (raw >>= λ at. Ok (record { value = value_of t at.value; next = at.next }))

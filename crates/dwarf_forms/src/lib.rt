@@ -18,7 +18,7 @@ pub use layouts::is_index_form;
 pub use numbers::{Format, read_number};
 pub use parts::DebugParts;
 pub use piece::{Piece, number_from, piece_at};
-pub use raw::{RawValue, read_raw};
+pub use raw::{RawValue, read_direct, read_raw};
 pub use strings::Strings;
 pub use text::{Text, texts_in};
 pub use value::{Value, read_form};

@@ -1,8 +1,8 @@
 //! Values as they stand in the bytes.
 
 ghost use Rattle.file_formats.specs.DwarfReads.{fixed_at};
-ghost use Rattle.file_formats.specs.DwarfForms.{layout_at, direct_at, resolved_at, form_at};
-ghost use Rattle.dwarf_forms.specs.FormAnswers.{ReadsAs, same, raw_facts, nothing};
+ghost use Rattle.file_formats.specs.DwarfForms.{layout_at, direct_at, LeadsToForm, IsForm};
+ghost use Rattle.dwarf_forms.specs.FormAnswers.{ReadsAs, ReadsWhere, same, raw_facts, nothing};
 
 use crate::fault::FormFault;
 use crate::layouts::form_layout;
@@ -59,9 +59,9 @@ fn read_layout<'a>(
     }
 }
 
-/// Reads a value of a form that isn't indirect.
+/// Reads a value of a form that isn't indirect; indirect is no form here.
 #[inline(always)]
-fn read_direct<'a>(
+pub fn read_direct<'a>(
     cursor: &mut Cursor<'a>,
     form: u64,
     constant: Option<i64>,
@@ -85,7 +85,7 @@ fn read_direct<'a>(
 /// Reads the form that stands before the value, as long as the form is indirect.
 #[inline(always)]
 fn resolve(cursor: &mut Cursor<'_>, form: u64, format: Format) -> Result<u64, FormFault>
-    ensures { ReadsAs same (λ s. resolved_at s form) format cursor.old cursor.new result }
+    ensures { ReadsWhere same (λ s. LeadsToForm s form) format cursor.old cursor.new result }
 {
     let mut last = form;
     while last == DW_FORM_INDIRECT {
@@ -102,7 +102,7 @@ pub fn read_raw<'a>(
     constant: Option<i64>,
     format: Format,
 ) -> Result<RawValue<'a>, FormFault>
-    ensures { ReadsAs raw_facts (λ s. form_at s constant form) format cursor.old cursor.new result }
+    ensures { ReadsWhere raw_facts (λ s. IsForm s constant form) format cursor.old cursor.new result }
 {
     let last = resolve(cursor, form, format)?;
     let constant = if form == DW_FORM_INDIRECT {

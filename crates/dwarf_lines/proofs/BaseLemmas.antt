@@ -3,14 +3,14 @@ use Rattle.std.proofs.Common.{◌≡◌, ℕ, zero, suc, ◌+◌, Bool, true, fa
 use Rattle.std.specs.Prelude.{ℤ, ◌==◌, ◌||◌, nat_le, if◌then◌else◌}
 use Rattle.std.specs.Option.{option_or}
 use Rattle.std.specs.Result.{result_ok}
-use Rattle.file_formats.specs.declared.dwarf_forms.TheConstants.{DW_FORM_INDIRECT, DW_FORM_IMPLICIT_CONST}
+use Rattle.file_formats.specs.declared.dwarf_forms.TheConstants.{DW_FORM_IMPLICIT_CONST}
 use Rattle.file_formats.specs.declared.dwarf_forms.Sense.TheVariants.{Number, Place, Str, LineStr, SupStr, StrIndex, Other}
 use Rattle.file_formats.specs.declared.dwarf_forms.Layout.{Layout}
 use Rattle.file_formats.specs.declared.dwarf_forms.Layout.TheVariants.{Numbered, Signed, Text, Address, Passed, Block}
 use Rattle.file_formats.specs.declared.dwarf_lines.TheConstants.{DW_LNCT_PATH}
 use Rattle.file_formats.specs.declared.dwarf_lines.FieldFormat.{FieldFormat}
 use Rattle.file_formats.specs.DwarfReads.{Input, At, Read, is_short, ◌>>=◌, fixed_at, signed_at, unsigned_at, number_at, string_at}
-use Rattle.file_formats.specs.DwarfForms.{Raw, numbered, inline, passed_by, layout_of, layout_at, known_at, implicit_at, direct_at, chain_at, resolved_at, constant_for, form_at}
+use Rattle.file_formats.specs.DwarfForms.{Raw, numbered, inline, passed_by, layout_of, layout_at, known_at, implicit_at, direct_at}
 use Rattle.file_formats.specs.DwarfLines.{LineEntry, field_at, directory_of, entry_of, entry_of_path}
 use Rattle.file_formats.specs.DwarfTexts.{Texts, value_of}
 use Rattle.file_formats.specs.DwarfUnits.{where_named}
@@ -56,17 +56,6 @@ direct-index s constant form p e =
     elim (form == DW_FORM_IMPLICIT_CONST) as (λ v. gives_index (if v then implicit_at constant p else known_at s form (layout_of form) p) ≡ false)
     [ true ↦ implicit-index constant p | false ↦ known-index s form (layout_of form) p e ]
 
--- a form that isn't indirect leads to itself
-resolved : (s : Input) (form p : ℕ) → (form == DW_FORM_INDIRECT) ≡ false → resolved_at s form p ≡ Ok (record { value = form; next = p })
-unfolding chain_at
-resolved s form p e = rw (add-one, e)
-
-form-index : (s : Input) (form p : ℕ) → (form == DW_FORM_INDIRECT) ≡ false → is_index_form form ≡ false
-    → gives_index (form_at s None form p) ≡ false
-form-index s form p other e =
-    subst (λ r. gives_index (r >>= λ last. direct_at s (constant_for form None) last.value last.next) ≡ false) (sym (resolved s form p other))
-    (direct-index s (constant_for form None) form p e)
-
 -- an index is what stands at a place
 abbrev stands_index : Option (At Raw) → Bool
 stands_index None = false
@@ -77,12 +66,7 @@ read-index (Ok raw) e = e
 read-index (Err fault) e = refl
 
 field-index : (s : Input) (field : FieldFormat) (p : ℕ) → is_index_form field.form ≡ false → stands_index (field_at s field p) ≡ false
-field-index s field p e =
-    elim (field.form == DW_FORM_INDIRECT) as (λ v. (field.form == DW_FORM_INDIRECT) ≡ v
-    → stands_index (if v then None else result_ok (form_at s None field.form p)) ≡ false) [
-      | true ↦ λ _. refl
-      | false ↦ λ other. read-index (form_at s None field.form p) (form-index s field.form p other e)
-    ] refl
+field-index s field p e = read-index (direct_at s None field.form p) (direct-index s None field.form p e)
 
 -- a value that may not be there is an index
 abbrev value_index : Option Raw → Bool

@@ -9,7 +9,7 @@ use Rattle.file_formats.specs.DwarfForms.{Raw}
 use Rattle.file_formats.specs.DwarfTexts.{Texts}
 use Rattle.file_formats.specs.DwarfLengths.{Piece, piece_at}
 use Rattle.file_formats.specs.DwarfSequences.{Along, ends, goes}
-use Rattle.file_formats.specs.DwarfLines.{Row, no_more, one_more, format_at, AreFormats, field_at, first_value, LineEntry, IsLineEntry, IsLineList, LineTable, AreLineLists, line_head, IsLineTable}
+use Rattle.file_formats.specs.DwarfLines.{Row, no_more, one_more, format_at, AreFormats, field_at, FieldAt, first_value, LineEntry, IsLineEntry, IsLineList, LineTable, AreLineLists, line_head, IsLineTable}
 use Rattle.dwarf_lines.specs.Lists.{at_map, row_at, EntryFields, one_field, with_first, fields_at, entry_with, entry_at, formats_at, entries_at, list_at, table_of, lists_at, ending_by, lists_within, lists_of, table_in, table_at}
 use Rattle.dwarf_forms.specs.Tells.{Tells}
 use Rattle.dwarf_lines.specs.declared.table.ReadTable.{ReadTable}
@@ -92,24 +92,24 @@ module _ (s : Input) where
     directory = first_value DW_LNCT_DIRECTORY_INDEX fields raws;
   }
 
-  fields-found : {p : ℕ} {fields : List FieldFormat} {raws : List Raw} {q : ℕ} → Along (field_at s) p fields raws q
+  fields-found : {p : ℕ} {fields : List FieldFormat} {raws : List Raw} {q : ℕ} → Along (FieldAt s) p fields raws q
       → fields_at s fields p ≡ Some (record { value = values_of fields raws; next = q })
   unfolding fields_at first_value
   fields-found (ends p) = refl
   fields-found (goes p field raw fields raws q e rest) = rw (e, fields-found rest)
 
   fields-there : (fields : List FieldFormat) (p : ℕ) (r : At EntryFields) → fields_at s fields p ≡ Some r
-      → (raws : List Raw) × Along (field_at s) p fields raws r.next × (r.value ≡ values_of fields raws)
+      → (raws : List Raw) × Along (FieldAt s) p fields raws r.next × (r.value ≡ values_of fields raws)
   unfolding fields_at first_value
   fields-there [] p r e =
-      ([], subst (λ (y : At EntryFields). Along (field_at s) p [] [] y.next) (some_same e) (ends p), sym (ap (λ (y : At EntryFields). y.value) (some_same e)))
+      ([], subst (λ (y : At EntryFields). Along (FieldAt s) p [] [] y.next) (some_same e) (ends p), sym (ap (λ (y : At EntryFields). y.value) (some_same e)))
   fields-there (field ∷ fields) p r e =
       let (raw, here, by) = by_some (λ raw. option_map (at_map (with_first (one_field field.content_type raw.value))) (fields_at s fields raw.next))
       (field_at s field p) r e in
       let (rest, stands, is) = of_some (at_map (with_first (one_field field.content_type raw.value))) (fields_at s fields raw.next) r by in
       let (raws, along, values) = fields-there fields raw.next rest stands in (
         raw.value ∷ raws,
-        subst (λ (y : At EntryFields). Along (field_at s) p (field ∷ fields) (raw.value ∷ raws) y.next) is
+        subst (λ (y : At EntryFields). Along (FieldAt s) p (field ∷ fields) (raw.value ∷ raws) y.next) is
             (goes p field raw fields raws rest.next here along),
         sym (ap (λ (y : At EntryFields). y.value) is) ∙ ap (with_first (one_field field.content_type raw.value)) values,
       )

@@ -8,8 +8,7 @@ ghost use Rattle.dwarf_lines.specs.Lists.{fields_at, no_fields, one_field, with_
 ghost use Rattle.dwarf_lines.specs.Entries.{values_facts};
 
 use byte_read::Cursor;
-use dwarf_forms::{Format, RawValue, Width, read_number, read_raw};
-use file_formats::dwarf_forms::DW_FORM_INDIRECT;
+use dwarf_forms::{Format, RawValue, Width, read_direct, read_number};
 use file_formats::dwarf_lines::{DW_LNCT_DIRECTORY_INDEX, DW_LNCT_PATH, FieldFormat};
 
 /// The values of an entry's fields that are read; None where no field has the content type.
@@ -54,7 +53,7 @@ pub(crate) fn read_format(cursor: &mut Cursor<'_>, format: Format) -> Option<Fie
     Some(FieldFormat { content_type, form })
 }
 
-/// Reads a field's value.
+/// Reads a field's value, which no indirect form gives.
 #[inline(always)]
 fn read_field<'a>(
     cursor: &mut Cursor<'a>,
@@ -63,10 +62,7 @@ fn read_field<'a>(
 ) -> Option<RawValue<'a>>
     ensures { Finds raw_facts (λ s. field_at s field.now) format cursor.old cursor.new result }
 {
-    if field.form == DW_FORM_INDIRECT {
-        return None;
-    }
-    read_raw(cursor, field.form, None, format).ok()
+    read_direct(cursor, field.form, None, format).ok()
 }
 
 /// Reads an entry's fields, of which the first of a content type counts.

@@ -1,12 +1,13 @@
 -- What a value that comes by tests, or by other values, tells of them.
-use Rattle.std.proofs.Common.{◌≡◌, ◌⊎◌, inl, inr, Bool, true, false, Option, Some, None, Result, Ok, Err, ap, refl, subst}
+use Rattle.std.proofs.Common.{◌≡◌, ◌⊎◌, inl, inr, Bool, true, false, Option, Some, None, Result, Ok, Err, refl, subst}
 use Rattle.std.specs.Prelude.{if◌then◌else◌}
 use Rattle.std.specs.Option.{option_map, option_and_then}
 use Rattle.std.specs.Result.{result_ok}
 use Rattle.byte_read.specs.View.{View}
 use Rattle.file_formats.specs.DwarfReads.{Read}
 use Rattle.dwarf_forms.specs.declared.fault.FormFault.{FormFault}
-use Rattle.dwarf_forms.specs.FormAnswers.{Answers, Got}
+use Rattle.dwarf_forms.specs.Faults.{fault_facts}
+use Rattle.dwarf_forms.specs.FormAnswers.{Answers, Got, AnswersBy, StandsBy}
 
 -- what a test lets through is what was there
 pub only_then : {A : Type 0} (t : Bool) (x r : A) → (if t then Some x else None) ≡ Some r → (t ≡ true) × (x ≡ r)
@@ -54,8 +55,15 @@ read_some facts expected old new (Ok y) got {x} e =
     let same : y ≡ x = some_same e in subst (λ z. Got expected old new (facts z)) same got
 read_some facts expected old new (Err fault) failed e = absurd (cc)
 
--- a read that gave none found that nothing could be read
-pub read_none : {A R : Type 0} (facts : R → A) (expected : Read A) (old new : View) (r : Result R FormFault) → Answers facts expected old new r
-    → result_ok r ≡ None → result_ok expected ≡ None
-read_none facts expected old new (Ok y) got e = absurd (cc)
-read_none facts expected old new (Err fault) failed e = ap result_ok failed.cause
+-- a read by a relation that gave a value found what stands there
+pub stands_some : {A R : Type 0} (facts : R → A) (Here : Read A → Type 0) (old new : View) (r : Result R FormFault) → AnswersBy facts Here old new r
+    → {x : R} → result_ok r ≡ Some x → StandsBy Here old new (facts x)
+stands_some facts Here old new (Ok y) got {x} e =
+    let same : y ≡ x = some_same e in subst (λ z. StandsBy Here old new (facts z)) same got
+stands_some facts Here old new (Err fault) failed e = absurd (cc)
+
+-- a read by a relation that gave none found why nothing stands there
+pub stands_none : {A R : Type 0} (facts : R → A) (Here : Read A → Type 0) (old new : View) (r : Result R FormFault) → AnswersBy facts Here old new r
+    → result_ok r ≡ None → (fault : FormFault) × Here (Err (fault_facts fault))
+stands_none facts Here old new (Ok y) got e = absurd (cc)
+stands_none facts Here old new (Err fault) failed e = (fault, failed.cause)

@@ -1,22 +1,24 @@
 -- A reader of an entry's values that keeps what it has noted: what is noted, with what is left, decides the entry.
-use Rattle.std.proofs.Common.{◌≡◌, ℕ, true, false, List, [], ◌∷◌, Option, Some, None, ap, refl, subst, sym, ◌∙◌}
-use Rattle.std.specs.Result.{result_ok}
+use Rattle.std.proofs.Common.{◌≡◌, ℕ, true, false, List, [], ◌∷◌, Option, Some, None, Ok, Err, ap, refl, subst, sym, ◌∙◌}
 use Rattle.byte_read.specs.View.{View}
 use Rattle.file_formats.specs.declared.dwarf_units.Pair.{Pair}
-use Rattle.file_formats.specs.DwarfReads.{Input, At}
-use Rattle.file_formats.specs.DwarfForms.{Raw, form_at}
+use Rattle.file_formats.specs.DwarfReads.{Input, At, Read}
+use Rattle.file_formats.specs.DwarfForms.{Raw, IsForm}
 use Rattle.file_formats.specs.DwarfSequences.{Along, ends, goes}
 use Rattle.file_formats.specs.DwarfAbbreviations.{pair_at, is_last, ended, more}
-use Rattle.file_formats.specs.DwarfUnits.{RawEntry, IsRaw, attribute_at, entry_with, no_attributes, one_attribute, with_first}
+use Rattle.file_formats.specs.DwarfUnits.{RawEntry, IsRaw, AttributeAt, entry_with, no_attributes, one_attribute, with_first}
 use Rattle.dwarf_forms.proofs.ChoiceLemmas.{or_assoc, or-none}
+use Rattle.dwarf_forms.proofs.FormLemmas.{form_once}
 use Rattle.dwarf_forms.specs.declared.numbers.Format.{Format}
-use Rattle.dwarf_forms.specs.FormAnswers.{input_of, Got}
+use Rattle.dwarf_forms.specs.declared.fault.FormFault.{FormFault}
+use Rattle.dwarf_forms.specs.Faults.{fault_facts}
+use Rattle.dwarf_forms.specs.FormAnswers.{input_of, StandsBy}
 use Rattle.dwarf_units.specs.Finds.{Found}
 use Rattle.dwarf_forms.specs.Tells.{IsOnly}
 use Rattle.dwarf_units.specs.Entries.{RawAt}
-use Rattle.dwarf_units.proofs.CaseLemmas.{some_same}
+use Rattle.dwarf_units.proofs.CaseLemmas.{ok_same}
 use Rattle.dwarf_units.proofs.WalkLemmas.{last_only, more_only, none_only}
-use Rattle.dwarf_units.proofs.TableLemmas.{HasMoved, read_on, moved-start, moved_on}
+use Rattle.dwarf_units.proofs.TableLemmas.{HasMoved, input_on, read_on, moved-start, moved_on}
 
 with_first_assoc : (e f g : RawEntry) → with_first (with_first e f) g ≡ with_first e (with_first f g)
 with_first_assoc e f g = simp or_assoc
@@ -25,20 +27,24 @@ with_first-none : (e : RawEntry) → with_first e no_attributes ≡ e
 with_first-none e = simp or-none
 
 -- values along no formats
-along_none : {F A : Type 0} {at : F → ℕ → Option (At A)} {p : ℕ} {xs : List A} {q : ℕ} → Along at p [] xs q → xs ≡ []
+along_none : {F A : Type 0} {R : F → ℕ → At A → Type 0} {p : ℕ} {xs : List A} {q : ℕ} → Along R p [] xs q → xs ≡ []
 along_none (ends p) = refl
 
 -- values along a format and others: the first stands at the place
-along_some : {F A : Type 0} {at : F → ℕ → Option (At A)} {p : ℕ} {f : F} {fs : List F} {xs : List A} {q : ℕ} → Along at p (f ∷ fs) xs q
-    → {a : At A} → at f p ≡ Some a → (rest : List A) × (xs ≡ a.value ∷ rest) × Along at a.next fs rest q
-along_some {A = A} {at = at} (goes p f b fs xs q e h) {a} here =
-    let same : b ≡ a = some_same (sym e ∙ here) in
-    (xs, ap (λ (x : At A). x.value ∷ xs) same, subst (λ (x : At A). Along at x.next fs xs q) same h)
+along_some : {F A : Type 0} {R : F → ℕ → At A → Type 0} {p : ℕ} {f : F} {fs : List F} {xs : List A} {q : ℕ} → Along R p (f ∷ fs) xs q
+    → {a : At A} → ((b : At A) → R f p b → b ≡ a) → (rest : List A) × (xs ≡ a.value ∷ rest) × Along R a.next fs rest q
+along_some {A = A} {R = R} (goes p f b fs xs q e h) {a} only =
+    let same : b ≡ a = only b e in
+    (xs, ap (λ (x : At A). x.value ∷ xs) same, subst (λ (x : At A). Along R x.next fs xs q) same h)
 
 -- values along a format whose value is faulty
-along_faulty : {F A : Type 0} {at : F → ℕ → Option (At A)} {p : ℕ} {f : F} {fs : List F} {xs : List A} {q : ℕ} → Along at p (f ∷ fs) xs q
-    → at f p ≡ None → ⊥
-along_faulty (goes p f b fs xs q e h) none = cc
+along_faulty : {F A : Type 0} {R : F → ℕ → At A → Type 0} {p : ℕ} {f : F} {fs : List F} {xs : List A} {q : ℕ} → Along R p (f ∷ fs) xs q
+    → ((a : At A) → R f p a → ⊥) → ⊥
+along_faulty (goes p f b fs xs q e h) none = none b e
+
+-- what stands for a pair at a place is one value
+attribute_once : {s : Input} (pair : Pair) {p : ℕ} {a b : At Raw} → AttributeAt s pair p b → AttributeAt s pair p a → b ≡ a
+attribute_once pair h k = ok_same (form_once h k)
 
 module _ (table info : Input) where
   -- the entry is what is noted, and what stands from two places on
@@ -64,7 +70,7 @@ module _ (table info : Input) where
     unfolding entry_with
     last_rest last rest raw =
         let (none, _) = last_only table raw.cut e last in
-        let stand : Along (attribute_at info) at [] raw.raws raw.raws_end = subst (λ ps. Along (attribute_at info) at ps raw.raws raw.raws_end) none raw.stand in
+        let stand : Along (AttributeAt info) at [] raw.raws raw.raws_end = subst (λ ps. Along (AttributeAt info) at ps raw.raws raw.raws_end) none raw.stand in
         raw.says ∙ ap (λ ps. entry_with ps raw.raws) none
 
     last_raw : is_last pair.value ≡ true → IsRaw table info p at no_attributes
@@ -81,19 +87,19 @@ module _ (table info : Input) where
 
     module _ (differs : is_last pair.value ≡ false) where
       -- an entry whose next value is faulty
-      faulty_rest : attribute_at info pair.value at ≡ None → (rest : RawEntry) → IsRaw table info p at rest → ⊥
+      faulty_rest : ((a : At Raw) → AttributeAt info pair.value at a → ⊥) → (rest : RawEntry) → IsRaw table info p at rest → ⊥
       faulty_rest none rest raw =
           let (ps, is, cut) = more_only table raw.cut e differs in
-          along_faulty (subst (λ xs. Along (attribute_at info) at xs raw.raws raw.raws_end) is raw.stand) none
+          along_faulty (subst (λ xs. Along (AttributeAt info) at xs raw.raws raw.raws_end) is raw.stand) none
 
-      module _ {value : At Raw} (stands : attribute_at info pair.value at ≡ Some value) where
+      module _ {value : At Raw} (stands : AttributeAt info pair.value at value) where
         -- an entry is its next value and the rest
         more_rest : (rest : RawEntry) → IsRaw table info p at rest
             → (next : RawEntry) × IsRaw table info pair.next value.next next × (rest ≡ with_first (one_attribute pair.value.attribute value.value) next)
         unfolding entry_with
         more_rest rest raw =
             let (ps, is, cut) = more_only table raw.cut e differs in
-            let (xs, are, stand) = along_some (subst (λ zs. Along (attribute_at info) at zs raw.raws raw.raws_end) is raw.stand) stands in (
+            let (xs, are, stand) = along_some (subst (λ zs. Along (AttributeAt info) at zs raw.raws raw.raws_end) is raw.stand) (λ b h. attribute_once pair.value h stands) in (
               entry_with ps xs,
               record { pairs = ps; pairs_end = raw.pairs_end; cut = cut; raws = xs; raws_end = raw.raws_end; stand = stand; says = refl },
               raw.says ∙ ap (λ zs. entry_with zs raw.raws) is ∙ ap (λ zs. entry_with (pair.value ∷ ps) zs) are,
@@ -148,19 +154,23 @@ module _ {f : Format} {table values now_table now_values : View} {noted : RawEnt
     }
 
     module _ (differs : is_last pair ≡ false) where
-      pub reading-faulty : result_ok (form_at (input_of now_values f) pair.spec.constant pair.spec.form now_values.place) ≡ None
+      -- what stands there now stands there from the beginning on
+      form_on : {answer : Read Raw} → IsForm (input_of now_values f) pair.spec.constant pair.spec.form now_values.place answer
+          → IsForm (input_of values f) pair.spec.constant pair.spec.form now_values.place answer
+      form_on {answer} h = subst (λ s. IsForm s pair.spec.constant pair.spec.form now_values.place answer) (input_on w.values_move f) h
+
+      pub reading-faulty : (fault : FormFault) × IsForm (input_of now_values f) pair.spec.constant pair.spec.form now_values.place (Err (fault_facts fault))
           → (all : RawEntry) → RawAt f table values all → ⊥
-      reading-faulty none all h =
+      reading-faulty (fault, none) all h =
           let o = w.under_way.ahead all h in
-          faulty_rest _ _ pair_here differs (read_on w.values_move f (λ s. attribute_at s pair) none) o.rest o.raw
+          faulty_rest _ _ pair_here differs (λ a there. let same : Err (fault_facts fault) ≡ Ok a = form_once (form_on none) there in cc) o.rest o.raw
 
       pub reading-next : {new_values : View} {raw : Raw} {next : RawEntry}
-          → Got (form_at (input_of now_values f) pair.spec.constant pair.spec.form now_values.place) now_values new_values raw
+          → StandsBy (IsForm (input_of now_values f) pair.spec.constant pair.spec.form now_values.place) now_values new_values raw
           → next ≡ with_first noted (one_attribute pair.attribute raw) → IsReading f table values new_table new_values next
       reading-next {new_values} {raw} {next} found is =
           let value : At Raw = record { value = raw; next = new_values.place } in
-          let stands : attribute_at (input_of values f) pair now_values.place ≡ Some value =
-          read_on w.values_move f (λ s. attribute_at s pair) (ap result_ok found.value) in
+          let stands : AttributeAt (input_of values f) pair now_values.place value = form_on found.value in
           let one = one_attribute pair.attribute raw in
           record {
             table_moves = moved_on w.table_moves got.moved;

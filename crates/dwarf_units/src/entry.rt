@@ -90,7 +90,7 @@ pub(crate) fn entry_said<'a>(
 }
 
 /// Reads the values of the entry at a place, by the first abbreviation of its code in a table.
-fn read_values_at<'a>(
+pub(crate) fn read_values_at<'a>(
     table: &mut Cursor<'_>,
     values: &mut Cursor<'a>,
     format: Format,

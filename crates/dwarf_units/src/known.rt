@@ -1,16 +1,16 @@
 //! An abbreviation table as far as it was read. DWARF 5, section 7.5.3.
 
-ghost use Rattle.std.specs.Prelude.{◌≡◌, ◌<◌, ◌≤◌, ◌-◌, length, false, OnOk, OnErr, IfOk, IfSome};
+ghost use Rattle.std.specs.Prelude.{◌≡◌, ◌<◌, ◌≤◌, ◌-◌, length, false, IsTrue, OnOk, OnErr, IfOk, IfSome};
 ghost use Rattle.std.specs.Option.{option_map};
 ghost use Rattle.file_formats.specs.DwarfAbbreviations.{abbreviation_at};
 ghost use Rattle.file_formats.specs.DwarfReads.{Input};
-ghost use Rattle.file_formats.specs.DwarfUnits.{DebugSections};
 ghost use Rattle.dwarf_forms.specs.Tells.{Tells};
 ghost use Rattle.dwarf_units.specs.Entries.{raw_entry, EntryAt};
-ghost use Rattle.dwarf_units.specs.Known.{AreKept, Ends, IsKnown, Keeps, Places, head_of};
+ghost use Rattle.dwarf_units.specs.Known.{AreKept, Ends, Keeps, Places, head_of};
 ghost use Rattle.dwarf_units.specs.Known.{start_of, table_input};
 
 use crate::abbreviations::{pass_pairs, read_code};
+use crate::entry::read_values_at;
 use crate::raw_entry::{RawAttributes, read_values};
 use byte_read::{Cursor, Order};
 use dwarf_forms::{Format, Width, read_number};
@@ -144,7 +144,7 @@ impl Kept {
     }
 
     /// Reads the values of the entry at a place, by the first abbreviation of its code in a table.
-    pub(crate) fn read_entry<'b>(
+    fn read_entry<'b>(
         &mut self,
         table: &Table<'_>,
         values: &mut Cursor<'b>,
@@ -173,7 +173,7 @@ impl Known {
     pub(crate) fn new(alloc: Global, offset: u64, format: Format) -> Known
         ensures offset { result.offset ≡ offset }
         ensures format { result.format ≡ format }
-        ensures known { (s : DebugSections) → IsKnown s result }
+        ensures kept { (s : Input) → AreKept s result.kept }
     {
         Known {
             offset,
@@ -182,14 +182,37 @@ impl Known {
         }
     }
 
-    /// Goes to the table at an offset, for units of this format.
-    pub(crate) fn go_to(&mut self, alloc: Global, offset: u64, format: Format)
-        ensures offset { self.new.offset ≡ offset }
-        ensures format { self.new.format ≡ format }
-        ensures known { (s : DebugSections) → IsKnown s self.old → IsKnown s self.new }
+    /// Whether it is of the table at an offset, for units of this format.
+    fn is_of(&self, offset: u64, format: Format) -> bool
+        ensures offset { IsTrue result → self.now.offset ≡ offset }
+        ensures format { IsTrue result → self.now.format ≡ format }
     {
-        if self.offset != offset || self.format != format {
-            *self = Known::new(alloc, offset, format);
+        self.offset == offset && self.format == format
+    }
+
+    /// Reads the values of the entry at a place, by the first abbreviation of its code in the table at
+    /// an offset. A table that isn't the last one is read up to the code alone, and is the last one
+    /// then: places are kept from its second entry on.
+    pub(crate) fn read_entry<'b>(
+        &mut self,
+        alloc: Global,
+        offset: u64,
+        table: &Table<'_>,
+        values: &mut Cursor<'b>,
+    ) -> Result<Option<RawAttributes<'b>>, AllocError>
+        requires { self.old.offset ≡ offset → self.old.format ≡ table.now.format
+            → AreKept (table_input table.now) self.old.kept }
+        ensures offset { self.new.offset ≡ offset }
+        ensures format { self.new.format ≡ table.now.format }
+        ensures kept { AreKept (table_input table.now) self.new.kept }
+        ensures entry { IfOk result (Tells raw_entry
+            (EntryAt table.now.format (start_of table.now) values.old)) }
+    {
+        if self.is_of(offset, table.format) {
+            return self.kept.read_entry(table, values);
         }
+        *self = Known::new(alloc, offset, table.format);
+        let mut abbreviations = Cursor::new(table.bytes, table.order);
+        Ok(read_values_at(&mut abbreviations, values, table.format))
     }
 }

@@ -20,8 +20,8 @@ use std::alloc::{AllocError, Global};
 use std::marker::Model;
 
 /// A reader of units' first entries. Contracts see it as the file's debug sections. Of the
-/// abbreviation table that it read last it keeps where each code's pairs begin, so that units that
-/// share a table have it read once.
+/// abbreviation table that it read last it keeps where codes' pairs begin, so that units that share a
+/// table have it read twice at most.
 #[derive(Drop)]
 pub struct UnitReader<'a> {
     parts: DebugParts<'a>,
@@ -56,7 +56,8 @@ impl<'a> UnitReader<'a> {
     }
 
     /// Reads what a unit's first entry says of its sources, None where the unit can't be read. A code
-    /// and a place are kept for each abbreviation that was read of the table that was read last.
+    /// and a place are kept for abbreviations of the table that was read last, from the second unit
+    /// on that names it.
     pub fn first_entry(
         &mut self,
         alloc: Global,
@@ -90,14 +91,14 @@ fn read_entry<'a>(
         wide: unit.wide,
         address_size: head.address_size,
     };
-    known.go_to(alloc, head.debug_abbrev_offset, format);
     let table = Table {
         bytes: rest_from(parts.abbrev, head.debug_abbrev_offset),
         order: parts.order,
         format,
     };
     let mut values = Cursor::new(rest_from(unit.bytes, head.size as u64), parts.order);
-    let Some(raw) = known.kept.read_entry(&table, &mut values)? else {
+    let offset = head.debug_abbrev_offset;
+    let Some(raw) = known.read_entry(alloc, offset, &table, &mut values)? else {
         return Ok(None);
     };
     Ok(Some(entry_said(raw, unit.wide, parts)))

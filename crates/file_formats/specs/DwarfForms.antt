@@ -1,6 +1,6 @@
 -- The forms of an attribute's value (DWARF 5, section 7.5.6, "Form Encodings", table 7.6): how a value of each form
 -- stands in the bytes, and where what follows begins.
-use Rattle.std.specs.Prelude.{ℕ, ◌+◌, ◌∷◌, [], List, Option, Some, None, Ok, Err, ◌==◌, if◌then◌else◌, length, zero, suc, ℤ}
+use Rattle.std.specs.Prelude.{◌≡◌, ℕ, ◌∷◌, [], List, Option, Some, None, Ok, Err, true, false, ◌==◌, if◌then◌else◌, ℤ}
 use Rattle.std.specs.Option.{option_map}
 use Rattle.std.specs.List.{find}
 use Rattle.file_formats.specs.declared.dwarf_forms.TheConstants.{DW_FORM_ADDR, DW_FORM_BLOCK2, DW_FORM_BLOCK4, DW_FORM_DATA2, DW_FORM_DATA4, DW_FORM_DATA8, DW_FORM_STRING, DW_FORM_BLOCK, DW_FORM_BLOCK1, DW_FORM_DATA1, DW_FORM_FLAG, DW_FORM_SDATA, DW_FORM_STRP, DW_FORM_UDATA, DW_FORM_REF_ADDR, DW_FORM_REF1, DW_FORM_REF2, DW_FORM_REF4, DW_FORM_REF8, DW_FORM_REF_UDATA, DW_FORM_INDIRECT, DW_FORM_SEC_OFFSET, DW_FORM_EXPRLOC, DW_FORM_FLAG_PRESENT, DW_FORM_STRX, DW_FORM_ADDRX, DW_FORM_REF_SUP4, DW_FORM_STRP_SUP, DW_FORM_DATA16, DW_FORM_LINE_STRP, DW_FORM_REF_SIG8, DW_FORM_IMPLICIT_CONST, DW_FORM_LOCLISTX, DW_FORM_RNGLISTX, DW_FORM_REF_SUP8, DW_FORM_STRX1, DW_FORM_STRX2, DW_FORM_STRX3, DW_FORM_STRX4, DW_FORM_ADDRX1, DW_FORM_ADDRX2, DW_FORM_ADDRX3, DW_FORM_ADDRX4}
@@ -9,7 +9,7 @@ use Rattle.file_formats.specs.declared.dwarf_forms.Sense.{Sense}
 use Rattle.file_formats.specs.declared.dwarf_forms.Sense.TheVariants.{Number, Place, Str, LineStr, SupStr, StrIndex, Other}
 use Rattle.file_formats.specs.declared.dwarf_forms.Layout.{Layout}
 use Rattle.file_formats.specs.declared.dwarf_forms.Layout.TheVariants.{Numbered, Signed, Text, Address, Passed, Block}
-use Rattle.file_formats.specs.DwarfReads.{Input, Read, is_short, is_unknown_form, ◌>>=◌, fixed_at, signed_at, unsigned_at, number_at, string_at}
+use Rattle.file_formats.specs.DwarfReads.{Input, At, Read, ReadFault, is_unknown_form, ◌>>=◌, fixed_at, signed_at, unsigned_at, number_at, string_at}
 
 -- a form's code, and how its values stand in the bytes
 pub record FormRow : Type 0 where
@@ -100,21 +100,21 @@ abbrev pub direct_at : Input → Option ℤ → ℕ → ℕ → Read Raw
 direct_at s constant form p =
     if form == DW_FORM_IMPLICIT_CONST then implicit_at constant p else known_at s form (layout_of form) p
 
--- the form that a chain of forms at the place leads to, where it has at most so many members
-unfoldable pub chain_at : Input → ℕ → ℕ → ℕ → Read ℕ
-chain_at s zero form p = Err is_short
-chain_at s (suc n) form p =
-    if form == DW_FORM_INDIRECT then (unsigned_at s p >>= λ next. chain_at s n next.value next.next)
-    else Ok (record { value = form; next = p })
-
--- the form that an attribute's form leads to: itself, or the form that stands before the value; each takes a byte at least
-abbrev pub resolved_at : Input → ℕ → ℕ → Read ℕ
-resolved_at s form p = chain_at s (length s.bytes + 1) form p
+-- what a form leads to at a place: itself, with the place; through the number that stands there, which is a form again, where it
+-- is indirect; and to a fault where no number can be read there
+pub data LeadsToForm (s : Input) : ℕ → ℕ → Read ℕ → Type 0 where
+  itself : (form p : ℕ) → (form == DW_FORM_INDIRECT) ≡ false → LeadsToForm s form p (Ok (record { value = form; next = p }))
+  through : (form p : ℕ) (next : At ℕ) (last : Read ℕ) → (form == DW_FORM_INDIRECT) ≡ true → unsigned_at s p ≡ Ok next
+      → LeadsToForm s next.value next.next last → LeadsToForm s form p last
+  cut_off : (form p : ℕ) (fault : ReadFault) → (form == DW_FORM_INDIRECT) ≡ true → unsigned_at s p ≡ Err fault
+      → LeadsToForm s form p (Err fault)
 
 -- the constant of the abbreviation, which counts only where the form isn't indirect
 abbrev pub constant_for : ℕ → Option ℤ → Option ℤ
 constant_for form constant = if form == DW_FORM_INDIRECT then None else constant
 
--- the value of any form at the place
-abbrev pub form_at : Input → Option ℤ → ℕ → ℕ → Read Raw
-form_at s constant form p = resolved_at s form p >>= λ last. direct_at s (constant_for form constant) last.value last.next
+-- the value of any form at the place: that of the form that it leads to, behind the chain; or the first fault
+pub record IsForm (s : Input) (constant : Option ℤ) (form p : ℕ) (raw : Read Raw) : Type 0 where
+  pub last : Read ℕ
+  pub leads : LeadsToForm s form p last
+  pub says : raw ≡ (last >>= λ at. direct_at s (constant_for form constant) at.value at.next)

@@ -4,7 +4,6 @@ use Rattle.std.specs.Prelude.{◌≡◌, ℕ, ◌+◌, ◌≤◌, List, [], ◌�
 use Rattle.std.specs.Option.{option_map, option_and_then, option_or}
 use Rattle.std.specs.Result.{result_ok}
 use Rattle.file_formats.specs.declared.encoding.Order.{Order}
-use Rattle.file_formats.specs.declared.dwarf_forms.TheConstants.{DW_FORM_INDIRECT}
 use Rattle.file_formats.specs.declared.dwarf_forms.Width.TheVariants.{One}
 use Rattle.file_formats.specs.declared.dwarf_units.TheConstants.{DWARF_VERSION}
 use Rattle.file_formats.specs.declared.dwarf_lines.TheConstants.{DW_LNCT_PATH, DW_LNCT_DIRECTORY_INDEX, DW_LNCT_TIMESTAMP, DW_LNCT_SIZE, DW_LNCT_MD5, ADDRESS_SIZE_PLACE, HEADER_LENGTH_PLACE, LINE_PARAMETERS_SIZE}
@@ -12,7 +11,7 @@ use Rattle.file_formats.specs.declared.dwarf_lines.LineHead.{LineHead}
 use Rattle.file_formats.specs.declared.dwarf_lines.FieldFormat.{FieldFormat}
 use Rattle.file_formats.specs.Numbers.{bytes_at, number}
 use Rattle.file_formats.specs.DwarfReads.{Input, At, offset_size, unsigned_at, number_at}
-use Rattle.file_formats.specs.DwarfForms.{Raw, form_at}
+use Rattle.file_formats.specs.DwarfForms.{Raw, direct_at}
 use Rattle.file_formats.specs.DwarfTexts.{Texts, FormValue, number_is, text_is, number_within, value_of}
 use Rattle.file_formats.specs.DwarfLengths.{Piece, piece_at}
 use Rattle.file_formats.specs.DwarfSequences.{Along}
@@ -82,7 +81,11 @@ pub record AreFormats (s : Input) (p : ℕ) (fields : List FieldFormat) (q : ℕ
 
 -- a field's value at the place; indirect is no form here, and neither is implicit_const, which has no constant
 abbrev pub field_at : Input → FieldFormat → ℕ → Option (At Raw)
-field_at s field p = if field.form == DW_FORM_INDIRECT then None else result_ok (form_at s None field.form p)
+field_at s field p = result_ok (direct_at s None field.form p)
+
+-- the value of a field stands at the place
+abbrev pub FieldAt : Input → FieldFormat → ℕ → At Raw → Type 0
+FieldAt s field p raw = field_at s field p ≡ Some raw
 
 -- the value of the first field of a content type, none where no field has it
 unfoldable pub first_value : ℕ → List FieldFormat → List Raw → Option Raw
@@ -118,7 +121,7 @@ entry_of texts (Some path) directory = entry_of_path (value_of texts path) (dire
 -- an entry of these fields, from place p to place q
 pub record IsLineEntry (s : Input) (texts : Texts) (fields : List FieldFormat) (p : ℕ) (entry : LineEntry) (q : ℕ) : Type 0 where
   pub raws : List Raw
-  pub stand : Along (field_at s) p fields raws q
+  pub stand : Along (FieldAt s) p fields raws q
   pub says : entry_of texts (first_value DW_LNCT_PATH fields raws) (first_value DW_LNCT_DIRECTORY_INDEX fields raws)
       ≡ Some entry
 

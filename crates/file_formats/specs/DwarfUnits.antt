@@ -2,7 +2,6 @@
 -- the units of .debug_info, and of a unit's first entry the three attributes that lead to its sources.
 use Rattle.std.specs.Prelude.{◌≡◌, ℕ, ◌+◌, List, [], ◌∷◌, Bool, false, Option, Some, None, Ok, not, ◌||◌, ◌==◌, nat_le, nat_lt, if◌then◌else◌, length, slice_index, drop}
 use Rattle.std.specs.Option.{option_and_then, option_or}
-use Rattle.std.specs.Result.{result_ok}
 use Rattle.file_formats.specs.declared.encoding.Order.{Order}
 use Rattle.file_formats.specs.declared.dwarf_forms.Sense.TheVariants.{Place}
 use Rattle.file_formats.specs.declared.dwarf_units.TheConstants.{DWARF_VERSION, DW_UT_COMPILE, DW_UT_TYPE, DW_UT_PARTIAL, DW_UT_SKELETON, DW_UT_SPLIT_COMPILE, DW_UT_SPLIT_TYPE, DW_AT_STMT_LIST, DW_AT_COMP_DIR, DW_AT_STR_OFFSETS_BASE}
@@ -10,7 +9,7 @@ use Rattle.file_formats.specs.declared.dwarf_units.UnitHead.{UnitHead}
 use Rattle.file_formats.specs.declared.dwarf_units.Pair.{Pair}
 use Rattle.file_formats.specs.Numbers.{bytes_at, number}
 use Rattle.file_formats.specs.DwarfReads.{Input, At, offset_size, unsigned_at}
-use Rattle.file_formats.specs.DwarfForms.{Raw, numbered, form_at}
+use Rattle.file_formats.specs.DwarfForms.{Raw, numbered, IsForm}
 use Rattle.file_formats.specs.DwarfTexts.{Texts, FormValue, text_is, number_within, value_of}
 use Rattle.file_formats.specs.DwarfLengths.{Piece, piece_at}
 use Rattle.file_formats.specs.DwarfSequences.{Along}
@@ -89,9 +88,9 @@ entry_with (pair ∷ pairs) (raw ∷ raws) = with_first (one_attribute pair.attr
 entry_with (pair ∷ pairs) [] = no_attributes
 entry_with [] raws = no_attributes
 
--- the value of a pair's form at the place, none where it is faulty
-abbrev pub attribute_at : Input → Pair → ℕ → Option (At Raw)
-attribute_at s pair p = result_ok (form_at s pair.spec.constant pair.spec.form p)
+-- the value of a pair's form stands at the place
+abbrev pub AttributeAt : Input → Pair → ℕ → At Raw → Type 0
+AttributeAt s pair p raw = IsForm s pair.spec.constant pair.spec.form p (Ok raw)
 
 -- the entry whose attributes the pairs at place p of the table name, and whose values stand from place at on
 pub record IsRaw (table info : Input) (p at : ℕ) (entry : RawEntry) : Type 0 where
@@ -100,7 +99,7 @@ pub record IsRaw (table info : Input) (p at : ℕ) (entry : RawEntry) : Type 0 w
   pub cut : Pairs table p pairs pairs_end
   pub raws : List Raw
   pub raws_end : ℕ
-  pub stand : Along (attribute_at info) at pairs raws raws_end
+  pub stand : Along (AttributeAt info) at pairs raws raws_end
   pub says : entry ≡ entry_with pairs raws
 
 -- a place in a section, none where the value is no number that may be one

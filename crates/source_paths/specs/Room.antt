@@ -7,9 +7,9 @@ pub record RoomLimits : Type 0 where
   pub sources : SOURCES_LIMIT ≡ 2 ^ 28
   pub text : TEXT_ROOM ≡ 64
 
--- the room of a text: its bytes in the list, once more in the bytes of a row, and what holds them
+-- the room of a text: its bytes in the list, in the bytes of a row, and in those that a store writes, and what holds them
 abbrev pub text_room : List ℕ → ℕ
-text_room text = length text + length text + TEXT_ROOM
+text_room text = length text + length text + length text + TEXT_ROOM
 
 -- the room of texts
 abbrev pub texts_room : List (List ℕ) → ℕ

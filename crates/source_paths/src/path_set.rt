@@ -75,5 +75,5 @@ fn room_of(path: &CanonPath) -> u64
     ensures { result ≡ text_room path.now }
 {
     let size = path.text().len() as u64;
-    size + size + TEXT_ROOM
+    size + size + size + TEXT_ROOM
 }

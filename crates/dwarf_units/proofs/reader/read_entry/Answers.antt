@@ -10,13 +10,12 @@ use Rattle.dwarf_units.proofs.EntryLemmas.{root-none, root-only, unit_format}
 use Rattle.dwarf_units.proofs.reader.read_entry.Goals as goal
 
 pub read_entry-requires : goal.read_entry-requires
-read_entry-requires c =
+read_entry-requires c = λ same_offset same_format.
     let s = sections_of c.args.parts.now in
-    let kept = c.go_to.new.self.kept in
-    subst (λ b. AreKept (input_of (at_start b s.order) (unit_format (unit_facts c.args.unit.now) c.args.head)) kept) (sym c.rest_from.ensures)
-    (subst (λ f. AreKept (input_of (at_start (drop c.args.head.debug_abbrev_offset s.abbrevs) s.order) f) kept) c.go_to.ensures.format
-    (subst (λ n. AreKept (input_of (at_start (drop n s.abbrevs) s.order) c.go_to.new.self.format) kept) c.go_to.ensures.offset
-    (c.go_to.ensures.known s c.requires)))
+    let known = c.args.known.now in
+    subst (λ b. AreKept (input_of (at_start b s.order) (unit_format (unit_facts c.args.unit.now) c.args.head)) known.kept) (sym c.rest_from.ensures)
+    (subst (λ f. AreKept (input_of (at_start (drop c.args.head.debug_abbrev_offset s.abbrevs) s.order) f) known.kept) same_format
+    (subst (λ n. AreKept (input_of (at_start (drop n s.abbrevs) s.order) known.format) known.kept) same_offset c.requires))
 
 pub returns-in_default-clause-entry : goal.returns-in_default-clause-entry
 returns-in_default-clause-entry c =
