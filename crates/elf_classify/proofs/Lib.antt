@@ -1,3 +1,4 @@
-pub mod NamedLemmas
 pub mod IdLemmas
 pub mod SeenLemmas
+pub mod PlacedLemmas
+pub mod DebugLemmas

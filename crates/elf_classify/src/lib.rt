@@ -10,5 +10,5 @@ mod parts;
 
 pub use dwarf_forms::DebugParts;
 pub use identity::{IdentView, ident, ident_view};
-pub use named::section_of;
-pub use parts::debug_parts;
+pub use named::{SectionView, section_of, section_view};
+pub use parts::{PartsView, debug_parts, parts_view};

@@ -1,49 +1,67 @@
 //! The section of a name.
 
-ghost use Rattle.std.specs.Prelude.{◌≡◌, ℕ, List, Option, IfNone, IfSome};
+ghost use Rattle.std.specs.Prelude.{◌≡◌, ℕ, List, Option, IfNone, IfSome, MatchResult};
 ghost use Rattle.std.specs.Option.{option_copied};
-ghost use Rattle.file_formats.specs.Table.{HasSection, IsSectionIndex, IsSectionAnswer, IsSectionOf};
+ghost use Rattle.file_formats.specs.Numbers.{bytes_at};
+ghost use Rattle.file_formats.specs.Table.{HasSection, IsSectionIndex, IsSectionAnswer, section_at};
+ghost use Rattle.file_formats.specs.Windows.{extent, range};
+ghost use Rattle.file_picture.specs.Agrees.{filled};
+ghost use Rattle.elf_file.specs.Steps.{AllHere, Needs};
+ghost use Rattle.elf_classify.specs.Placed.{IsPlaced, NeedsSection, SaysSection, SeesNamed, SeesSection};
+ghost use Rattle.elf_classify.specs.declared.named.SectionView.TheVariants as view;
 
-use elf_file::ElfFile;
-use file_formats::SHF_COMPRESSED;
+use crate::ids::build_id;
+use elf_file::{ElfView, Stop};
+use file_formats::{ET_CORE, SHF_COMPRESSED};
+use file_picture::{Need, Picture, View};
 
-/// The bytes of the section of an index, where it has this name and is one that is handed out.
-fn section_at<'a>(file: &ElfFile<'a>, index: u64, name: &[u8]) -> Option<&'a [u8]>
+/// Where the section of an index stands, where it has this name and is one that is handed out.
+fn place_at(file: &ElfView<'_>, index: u64, name: &[u8]) -> Option<Need>
     requires { IsSectionIndex file.now.table index }
-    ensures found { IfSome result (λ bytes.
-        HasSection file.now.bytes file.now.table name.now index bytes.now) }
+    ensures found { IfSome result (λ at. HasSection (filled file.now.file) file.now.table name.now
+        index (bytes_at (filled file.now.file) at.at at.len)) }
+    ensures placed { IfSome result (λ at. range at.at at.len
+        ≡ extent (section_at (filled file.now.file) file.now.table index)) }
     ensures none { IfNone result ((bytes : List ℕ)
-        → HasSection file.now.bytes file.now.table name.now index bytes → ⊥) }
+        → HasSection (filled file.now.file) file.now.table name.now index bytes → ⊥) }
 {
     let header = file.header(index);
-    if header.is_flagged(SHF_COMPRESSED) || !file.has_name(&header, name) {
+    if header.is_flagged(SHF_COMPRESSED) {
         return None;
     }
-    file.contents(&header)
+    if !file.has_name(&header, name) {
+        return None;
+    }
+    file.extent(&header)
 }
 
-/// The bytes of the first section of a name that is handed out.
-fn first_named<'a>(file: &ElfFile<'a>, name: &[u8]) -> Option<&'a [u8]>
-    ensures found { IfSome result (λ bytes.
-        IsSectionOf file.now.bytes file.now.table name.now bytes.now) }
+/// Where the first section of a name that is handed out stands.
+fn first_named(file: &ElfView<'_>, name: &[u8]) -> Option<Need>
+    ensures found { IfSome result (IsPlaced (filled file.now.file) file.now.table name.now) }
     ensures none { IfNone result ((i : ℕ) (bytes : List ℕ)
-        → HasSection file.now.bytes file.now.table name.now i bytes → ⊥) }
+        → HasSection (filled file.now.file) file.now.table name.now i bytes → ⊥) }
 {
     for index in 1..file.count() {
-        if let Some(bytes) = section_at(file, index, name) {
-            return Some(bytes);
+        if let Some(at) = place_at(file, index, name) {
+            return Some(at);
         }
     }
     None
 }
 
-/// The bytes of the section of a name, by the definition.
-fn section_in<'a>(bytes: &'a [u8], name: &[u8]) -> Option<&'a [u8]>
-    ensures { IsSectionAnswer bytes.now name.now (option_copied result) }
+/// The bytes of the first section of a name that is handed out, or what is needed for them.
+pub fn section_in<'a>(file: &ElfView<'a>, name: &[u8]) -> Result<Option<&'a [u8]>, Need>
+    ensures { MatchResult result
+        (λ found. SeesSection file.now name.now (option_copied found))
+        (NeedsSection file.now.file name.now) }
 {
-    match ElfFile::parse(bytes) {
-        Ok(file) => first_named(&file, name),
-        Err(_) => None,
+    file.knows();
+    let Some(at) = first_named(file, name) else {
+        return Ok(None);
+    };
+    match file.slice(&at) {
+        Ok(bytes) => Ok(Some(bytes)),
+        Err(need) => Err(need),
     }
 }
 
@@ -54,5 +72,76 @@ pub fn section_of<'a>(bytes: &'a [u8], name: &[u8]) -> Option<&'a [u8]>
     ensures only { (r : Option (List ℕ))
         → IsSectionAnswer bytes.now name.now r → option_copied result ≡ r }
 {
-    section_in(bytes, name)
+    let file = match ElfView::of_bytes(bytes) {
+        Ok(file) => file,
+        Err(_) => return None,
+    };
+    match section_in(&file, name) {
+        Ok(found) => found,
+        Err(_) => unreachable!(),
+    }
+}
+
+/// What a picture says of the section of a name.
+#[derive(Clone, Copy, PartialEq, Eq)]
+pub enum SectionView<'a> {
+    /// These bytes are needed, and aren't there.
+    Need {
+        /// Where they begin, in bytes from the file's start.
+        at: u64,
+        /// How many they are.
+        len: u64,
+    },
+    /// The bytes of the first section that has the name, has contents and isn't compressed.
+    Section(Option<&'a [u8]>),
+}
+
+/// The answer that a range is needed.
+fn needs<'a>(need: Need) -> SectionView<'a>
+    ensures { result ≡ view.Need need.at need.len }
+{
+    SectionView::Need {
+        at: need.at,
+        len: need.len,
+    }
+}
+
+/// Finds that all windows are there, or one that isn't.
+fn windows(file: &ElfView<'_>) -> Result<(), Need>
+    ensures { MatchResult result (λ _. (n : ℕ) → AllHere file.now.file n) (Needs file.now.file) }
+{
+    file.knows();
+    if file.kind() == ET_CORE {
+        return Ok(());
+    }
+    match build_id(file) {
+        Ok(_) => Ok(()),
+        Err(need) => Err(need),
+    }
+}
+
+/// What a view says of the section of a name, where all its windows are there.
+fn section_seen<'a>(seen: View<'a>, name: &[u8]) -> SectionView<'a>
+    ensures { SeesNamed seen.entry name.now result }
+{
+    let file = match ElfView::open(seen) {
+        Ok(file) => file,
+        Err(Stop::Need(need)) => return needs(need),
+        Err(Stop::Fault(_)) => return SectionView::Section(None),
+    };
+    if let Err(need) = windows(&file) {
+        return needs(need);
+    }
+    match section_in(&file, name) {
+        Ok(found) => SectionView::Section(found),
+        Err(need) => needs(need),
+    }
+}
+
+/// The section of a name in each file that agrees with a picture, where all its windows and that
+/// section are there; else one of these that isn't. It takes no memory.
+pub fn section_view<'a>(picture: &'a Picture, name: &[u8]) -> SectionView<'a>
+    ensures { SaysSection picture.now name.now result }
+{
+    section_seen(View::part(picture), name)
 }

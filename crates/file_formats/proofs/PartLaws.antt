@@ -81,7 +81,7 @@ pub section-of_ranges : {b c : List ℕ} {name : List ℕ} {x : Option (List ℕ
 section-of_ranges a h = answer_moves (on_windows a) (λ r is. a.same r (inr is)) h
 
 -- a range of the section in the one file is one in the other
-section_range_moves : {b c : List ℕ} {name : List ℕ} {r : Range} → AgreeOnWindows b c → IsSectionRange b name r
+pub section_range_moves : {b c : List ℕ} {name : List ℕ} {r : Range} → AgreeOnWindows b c → IsSectionRange b name r
     → IsSectionRange c name r
 section_range_moves {b} {c} {name} a h =
     let s : SameSections b c h.of = same_sections (all_below 4 a) (omega arith) h.is_table in
@@ -123,7 +123,7 @@ parts_move a h = record {
 }
 
 -- the range of a debug section of the one file is one of the other
-debug_range_moves : {b c : List ℕ} {r : Range} → AgreeOnWindows b c → IsDebugRange b r → IsDebugRange c r
+pub debug_range_moves : {b c : List ℕ} {r : Range} → AgreeOnWindows b c → IsDebugRange b r → IsDebugRange c r
 debug_range_moves a h = record {
   has = parts_move a h.has;
   name = h.name;

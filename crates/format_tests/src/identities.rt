@@ -4,6 +4,7 @@
 mod changes;
 mod parts;
 mod sections;
+mod views;
 mod windows;
 
 pub use changes::changed;

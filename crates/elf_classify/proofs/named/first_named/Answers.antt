@@ -4,9 +4,12 @@ use Rattle.elf_classify.proofs.named.first_named.Goals as goal
 
 pub returns-in-Some-clause-found : goal.returns-in-Some-clause-found
 returns-in-Some-clause-found c = record {
-  index = c.loop-index.index;
-  here = c.in-Some.ensures.found;
-  first = λ i other h. none_before c.loop-index.invariant h.index (other, h);
+  found = record {
+    index = c.loop-index.index;
+    here = c.in-Some.ensures.found;
+    first = λ i other h. none_before c.loop-index.invariant h.index (other, h);
+  };
+  is = c.in-Some.ensures.placed;
 }
 
 pub loop-index-preserved : goal.loop-index-preserved

@@ -1,13 +1,15 @@
-use Rattle.elf_classify.proofs.NamedLemmas.{answer-of_table}
-use Rattle.file_formats.specs.Table.{no_table}
+use Rattle.elf_classify.proofs.PlacedLemmas.{sees_absent, sees_present, needs_present}
 use Rattle.elf_classify.proofs.named.section_in.Goals as goal
+
+pub returns-in_default : goal.returns-in_default
+returns-in_default c = sees_absent c.args.file.now c.args.name.now c.knows.ensures c.in_default.ensures.none
 
 pub returns-in-Ok : goal.returns-in-Ok
 returns-in-Ok c =
-    let there = rw (← c.in-Ok.ensures.ok.0) at c.in-Ok.ensures.ok.1 in
-    rw (← c.in-Ok.ensures.ok.0)
-    (answer-of_table c.first_named.result there
-    c.first_named.ensures.found c.first_named.ensures.none)
+    sees_present c.args.file.now c.args.name.now c.in-Ok.bytes.now c.in-Some.at c.knows.ensures c.in-Some.ensures.found
+    c.in-Ok.ensures.0 c.in-Ok.ensures.1
 
 pub returns-in-Err : goal.returns-in-Err
-returns-in-Err c = no_table c.in-Err.field-0 c.in-Err.ensures.err
+returns-in-Err c =
+    needs_present c.args.file.now c.args.name.now c.in-Some.at c.in-Err.need c.knows.ensures c.in-Some.ensures.found
+    c.in-Err.ensures.0 c.in-Err.ensures.1
