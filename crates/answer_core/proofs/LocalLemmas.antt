@@ -1,15 +1,14 @@
 -- The answer by the candidates, as the answer to the route.
-use Rattle.std.proofs.Common.{◌≡◌, ℕ, List, length, refl, sym, subst, slice_index_or, Result, Ok, Err, IfOk}
+use Rattle.std.proofs.Common.{◌≡◌, ℕ, List, refl, sym, subst, slice_index_or, Result, Ok, Err, IfOk}
 use Rattle.row_types.specs.Row.{RowFacts}
 use Rattle.index_rows.specs.declared.change.Change.{Change}
 use Rattle.webapi_routes.specs.declared.route.Route.{Route}
 use Rattle.tree_trait.specs.Shown.{ShownTree}
 use Rattle.answer_core.specs.Loads.{Hand, HasPassed}
 use Rattle.answer_core.specs.Candidates.{candidates}
-use Rattle.answer_core.specs.Local.{AnswersFrom, AreCandidatesAt, AreRowsAt, HasGeneration, IsGiven, IsLocal, IsOf, Sight}
+use Rattle.answer_core.specs.Local.{AnswersFrom, AreCandidatesAt, AreRowsAt, IsGiven}
 use Rattle.answer_core.specs.declared.candidate.Candidate.{Candidate}
 use Rattle.answer_core.specs.declared.local.Local.{Local}
-use Rattle.answer_core.specs.declared.local.Local.TheVariants.{File, Section, Source, Nothing, Fault, OutOfMemory}
 use Rattle.answer_check.specs.declared.passed.Passed.{Passed}
 use Rattle.answer_check.specs.declared.passed.Passed.TheVariants as passed
 
@@ -20,18 +19,6 @@ pub candidates_at : {V E : Type 0} {true_row : RowFacts → Type 0} {log : List 
     → IfOk list (λ v. AreCandidatesAt true_row log folders route (items v))
 candidates_at {rows = rows} folders route items (Ok v) stood are = record { rows = rows; stood = stood; are = are }
 candidates_at folders route items (Err fault) stood are = tt
-
--- what the loads of the candidates give is the answer
-pub local_of_all : (sight : Sight) (route : Route) (answer : Local) (all : List Candidate)
-    → AreCandidatesAt sight.true_row sight.log sight.folders route all
-    → IsOf sight.hand route sight.answers answer all → HasGeneration answer (length sight.log)
-    → IsLocal sight route answer
-local_of_all sight route (File from path generation) all stood is at = (record { all = all; stood = stood; are = is }, at)
-local_of_all sight route (Section from path generation) all stood is at = (record { all = all; stood = stood; are = is }, at)
-local_of_all sight route (Source bytes path generation) all stood is at = (record { all = all; stood = stood; are = is }, at)
-local_of_all sight route (Nothing generation) all stood is at = (record { all = all; stood = stood; are = is }, at)
-local_of_all sight route (Fault generation) all stood is at = (record { all = all; stood = stood; are = is }, at)
-local_of_all sight route OutOfMemory all stood is at = tt
 
 -- what the first candidate that passed gives is the answer
 pub from_first : (hand : Hand) (route : Route) (all : List Candidate) (place : ℕ) (given : Passed) (path : List ℕ)

@@ -1,23 +1,16 @@
 -- In a told world the file of a row that is there is among the candidates, and would pass.
-use Rattle.std.proofs.Common.{◌≡◌, ℕ, zero, suc, ◌<◌, ◌≤◌, ◌⊎◌, ◌||◌, ◌&&◌, inl, inr, Bool, true, false, List, [], ◌∷◌, ◌++◌}
-use Rattle.std.proofs.Common.{map, filter, length, get_or, All, Contains, IsTrue, Some, refl, sym, ◌∙◌, ap, subst, arith, if◌then◌else◌}
-use Rattle.std.specs.List.{list_any}
+use Rattle.std.proofs.Common.{◌≡◌, ℕ, zero, suc, ◌<◌, ◌&&◌, inl, inr, Bool, true, false, List, [], ◌∷◌, ◌++◌}
+use Rattle.std.proofs.Common.{map, filter, length, get_or, Contains, IsTrue, Some, refl, ◌∙◌, ap, subst, arith}
 use Rattle.std.proofs.lemmas.List.Folds.{list_any_at}
 use Rattle.index_rows.specs.Classes.{has_class, lists_source}
-use Rattle.row_types.specs.Name.{stamp_at}
-use Rattle.row_types.specs.Reading.{IsTrueRow}
 use Rattle.row_types.specs.Row.{RowFacts}
 use Rattle.row_types.specs.declared.identity.Kind.{Kind}
 use Rattle.row_types.specs.declared.identity.Kind.TheVariants as kind
-use Rattle.row_types.specs.declared.limits.TheConstants.{FILE_LIMIT}
-use Rattle.tree_trait.specs.Found.{FoundFacts}
-use Rattle.tree_trait.specs.Heard.{Heard}
-use Rattle.tree_trait.specs.Load.{IsAskedFile}
 use Rattle.answer_check.specs.Certified.{IsCertified}
 use Rattle.webapi_routes.specs.declared.route.Route.{Route}
 use Rattle.webapi_routes.specs.declared.route.Route.TheVariants.{Debuginfo, Executable, Source, Section}
-use Rattle.answer_core.specs.Candidates.{as_class, as_source, candidates, is_in_one, is_listed, of_class, source_in}
-use Rattle.answer_core.specs.Complete.{HasToFind, IsSourceThere, IsThere, IsThereWith, IsToldWorld, NoneIsThere, SomeWouldPass, WouldPass}
+use Rattle.answer_core.specs.Candidates.{as_class, candidates, is_in_one, is_listed, of_class, source_in}
+use Rattle.answer_core.specs.Complete.{HasToFind, IsSourceThere, IsThere, IsToldWorld, NoneIsThere, SomeWouldPass, WouldPass}
 use Rattle.answer_core.specs.Loads.{Hand, NonePasses}
 use Rattle.answer_core.specs.Local.{AreCandidatesAt, Sight}
 use Rattle.answer_check.specs.Passing.{Passes}

@@ -1,8 +1,9 @@
 -- Candidates that are tried one after the other.
 use Rattle.std.proofs.Common.{◌≡◌, ℕ, ◌+◌, ◌<◌, ◌||◌, inl, inr, Bool, true, false, List, [], ◌∷◌, ◌++◌, length, take}
 use Rattle.std.proofs.Common.{get_or, IsTrue, refl, sym, ◌∙◌, ap}
-use Rattle.std.proofs.lemmas.Bool.{false≢true}
+use Rattle.std.proofs.lemmas.Bool.{false≢true, or_right}
 use Rattle.std.proofs.lemmas.List.{take_more}
+use Rattle.std.proofs.lemmas.List.Folds.{list_any-append}
 use Rattle.std.specs.List.{AllZip, list_any}
 use Rattle.row_types.specs.declared.limits.TheConstants.{FILE_LIMIT}
 use Rattle.tree_trait.specs.Asks.{Asks}
@@ -23,24 +24,9 @@ zip_more R [] (b ∷ ys) x y h r = absurd h
 zip_more R (a ∷ xs) [] x y h r = absurd h
 zip_more R (a ∷ xs) (b ∷ ys) x y h r = (h.0, zip_more R xs ys x y h.1 r)
 
-or_false : (b : Bool) → (b || false) ≡ b
-or_false true = refl
-or_false false = refl
-
-or_assoc : (a b c : Bool) → (a || (b || c)) ≡ ((a || b) || c)
-or_assoc true b c = refl
-or_assoc false b c = refl
-
-or_true : (b : Bool) → (b || true) ≡ true
-or_true true = refl
-or_true false = refl
-
-any_more : (answers : List Heard) (last : Heard)
-    → list_any has_failed (answers ++ last ∷ []) ≡ (list_any has_failed answers || has_failed last)
-any_more [] last = or_false (has_failed last)
-any_more (x ∷ answers) last =
-    ap (λ b. has_failed x || b) (any_more answers last)
-    ∙ or_assoc (has_failed x) (list_any has_failed answers) (has_failed last)
+or_same : (b c : Bool) → c ≡ false → (b || (c || false)) ≡ b
+or_same true c e = refl
+or_same false c e = rw e refl
 
 -- one more of a list is taken
 pub take_one : {X : Type 0} (xs : List X) (i : ℕ) {x : X} → i < length xs → x ≡ get_or xs i x
@@ -68,8 +54,8 @@ tried_refused {hand} {route} {done} {fails} {now} {after} one h t =
       none = record {
         none = zip_more (DoesNotPass hand route) done h.answers one heard h.none.none
             (record { answer = t.0; loads = load_is one t.0 h.hears t.1; nothing = t.2 });
-        failed = any_more h.answers heard ∙ ap (λ b. list_any has_failed h.answers || b) sound
-            ∙ or_false (list_any has_failed h.answers) ∙ h.none.failed;
+        failed = list_any-append has_failed h.answers (heard ∷ [])
+            ∙ or_same (list_any has_failed h.answers) (has_failed heard) sound ∙ h.none.failed;
       };
       hears = hears_more heard (is_given one.path FILE_LIMIT t.0 t.3) h.hears t.1 (λ f. inl f);
     }
@@ -86,7 +72,7 @@ tried_failed {hand} {route} {done} {fails} {now} {after} one h t =
       none = record {
         none = zip_more (DoesNotPass hand route) done h.answers one heard h.none.none
             (record { answer = failed; loads = load_is one failed h.hears t; nothing = tt });
-        failed = any_more h.answers heard ∙ or_true (list_any has_failed h.answers);
+        failed = list_any-append has_failed h.answers (heard ∷ []) ∙ or_right (list_any has_failed h.answers) true refl;
       };
       hears = hears_more heard refl h.hears t (λ f. inr refl);
     }

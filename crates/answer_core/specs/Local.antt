@@ -1,6 +1,6 @@
 -- The local answer (this project's rule): by the rows of the index at one moment, and by what the loads of its candidates
 -- gave.
-use Rattle.std.specs.Prelude.{◌≡◌, ℕ, false, true, List, length}
+use Rattle.std.specs.Prelude.{◌≡◌, ℕ, false, true, List, length, IfOk}
 use Rattle.row_types.specs.Row.{RowFacts}
 use Rattle.index_rows.specs.Log.{replay}
 use Rattle.index_rows.specs.Rows.{row_names}
@@ -14,6 +14,7 @@ use Rattle.answer_core.specs.Loads.{Hand, Hears, NonePasses, PassesAt}
 use Rattle.answer_core.specs.declared.candidate.Candidate.{Candidate}
 use Rattle.answer_core.specs.declared.local.Local.{Local}
 use Rattle.answer_core.specs.declared.local.Local.TheVariants as local
+use Rattle.answer_core.specs.declared.look_up.Picked.{Picked}
 use Rattle.answer_check.specs.declared.passed.Passed.{Passed}
 use Rattle.answer_check.specs.declared.passed.Passed.TheVariants as passed
 
@@ -29,6 +30,12 @@ pub record AreCandidatesAt
   pub rows : List RowFacts
   pub stood : AreRowsAt true_row log rows
   pub are : all ≡ candidates rows folders route
+
+-- what is picked from an index that has this log: the log's length, and the candidates by its rows, where there is memory
+pub record Picks
+    (true_row : RowFacts → Type 0) (log : List Change) (folders : List (List ℕ)) (route : Route) (picked : Picked) : Type 0 where
+  pub at : picked.generation ≡ length log
+  pub list : IfOk picked.list (λ list. AreCandidatesAt true_row log folders route list.items)
 
 -- what an answer rests on: the true rows of the world, the log at the hold, the folders of sources, what is known of the
 -- hand, and what it was asked and answered

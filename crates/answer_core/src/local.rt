@@ -7,7 +7,7 @@ ghost use Rattle.answer_core.specs.declared.candidate.Candidate.{Candidate};
 
 use crate::attempts::{Outcome, try_all};
 use crate::candidate::Candidate;
-use crate::look_up::look_up;
+use crate::look_up::{Picked, look_up};
 use answer_check::{Certified, FileSection, Passed};
 use index_keeper::Keeper;
 use index_lock::{Seat, TurnLock};
@@ -83,7 +83,8 @@ pub fn answer_local<W: Truth, K: Keeper<W>, T: Tree<W>, G: Gate, R: Wait + Sync>
         (record { told = T.told; version = W.version; start = T.shows hand.old })
         route.now result.1 (T.shows hand.new) }
 {
-    let (seat, generation, list) = look_up(rt, alloc, lock, seat, route, folders);
+    let (seat, picked) = look_up(rt, alloc, lock, seat, route, folders);
+    let Picked { generation, list } = picked;
     match list {
         Ok(list) => (
             seat,

@@ -1,13 +1,14 @@
 //! The candidates of a route, picked while the lock is held.
 
-ghost use Rattle.std.specs.Prelude.{◌≡◌, ◌++◌, length, map, IfOk, OnOk};
+ghost use Rattle.std.specs.Prelude.{◌≡◌, ◌++◌, map, IfOk, OnOk};
 ghost use Rattle.answer_core.specs.Candidates.{as_class, candidates, is_in_one, of_class};
 ghost use Rattle.answer_core.specs.Candidates.{source_in};
 ghost use Rattle.row_types.specs.declared.identity.Kind.TheVariants as kind;
-ghost use Rattle.answer_core.specs.Local.{AreCandidatesAt};
+ghost use Rattle.answer_core.specs.Local.{Picks};
 ghost use Rattle.index_lock.specs.Tokens.{IsLater};
 
 use crate::candidate::Candidate;
+use index_desk::look_once;
 use index_keeper::Keeper;
 use index_lock::{Seat, TurnLock};
 use index_rows::RowIter;
@@ -18,7 +19,16 @@ use std::alloc::{AllocError, Global};
 use std::sync::Wait;
 use webapi_routes::Route;
 
-/// Takes the lock once. Gives the length of the log then and the candidates by the rows then.
+/// What is picked from an index.
+#[derive(Drop)]
+pub(crate) struct Picked {
+    /// The length of the log.
+    pub generation: u64,
+    /// The candidates by the rows, where there is memory.
+    pub list: Result<Vec<Candidate>, AllocError>,
+}
+
+/// Takes the lock once, to pick the candidates.
 pub(crate) fn look_up<W: Truth, K: Keeper<W>, R: Wait>(
     rt: &R,
     alloc: Global,
@@ -26,32 +36,33 @@ pub(crate) fn look_up<W: Truth, K: Keeper<W>, R: Wait>(
     seat: Seat<State<W, K>>,
     route: &Route,
     folders: &[CanonPath],
-) -> (Seat<State<W, K>>, u64, Result<Vec<Candidate>, AllocError>)
+) -> (Seat<State<W, K>>, Picked)
     requires { seat.lock ≡ lock.now }
     ensures later { IsLater seat result.0 }
-    ensures generation { result.1 ≡ length result.0.seen }
-    ensures found { IfOk result.2 (λ list.
-        AreCandidatesAt W.true_row result.0.seen folders.now route.now list.items) }
+    ensures picks { Picks W.true_row result.0.seen folders.now route.now result.1 }
 {
-    let held = lock.enter(rt, seat);
-    let (generation, list) = pick(alloc, held.value(), route, folders);
-    (lock.leave(held), generation, list)
+    look_once(
+        rt,
+        lock,
+        seat,
+        |index: &State<W, K>| pick(alloc, index, route, folders),
+    )
 }
 
-/// The length of the log of this index, and the candidates by its rows.
+/// Picks the candidates from this index.
 fn pick<W: Truth, K: Keeper<W>>(
     alloc: Global,
     index: &State<W, K>,
     route: &Route,
     folders: &[CanonPath],
-) -> (u64, Result<Vec<Candidate>, AllocError>)
-    ensures generation { result.0 ≡ length index.now.log }
-    ensures found { IfOk result.1 (λ list.
-        AreCandidatesAt W.true_row index.now.log folders.now route.now list.items) }
+) -> Picked
+    ensures { Picks W.true_row index.now.log folders.now route.now result }
 {
-    let generation = index.standing().log;
     show_index(index);
-    (generation, candidates(alloc, index, route, folders))
+    Picked {
+        generation: index.standing().log,
+        list: candidates(alloc, index, route, folders),
+    }
 }
 
 /// The candidates by the rows of this index.

@@ -13,7 +13,7 @@ use Rattle.answer_core.specs.declared.local.Local.TheVariants as local
 use Rattle.conn_server.specs.Cases.{IsPassed}
 use Rattle.conn_server.specs.Lawful.{Carries}
 use Rattle.conn_server.specs.Replies.{Shows}
-use Rattle.conn_server.specs.declared.decide.Body.TheVariants as bodies
+use Rattle.conn_server.specs.declared.body.Body.TheVariants as bodies
 use Rattle.conn_server.specs.declared.reason.Reason.{Reason}
 use Rattle.conn_server.specs.declared.report.Asked.TheVariants as asked
 

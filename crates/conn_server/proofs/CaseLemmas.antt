@@ -13,7 +13,7 @@ use Rattle.conn_server.specs.PassedOver.{FindsAll}
 use Rattle.conn_server.specs.Replies.{Shows, reason_of_route}
 use Rattle.conn_server.specs.Scene.{Scene, Stand, hand_at, sight_at}
 use Rattle.conn_server.specs.Sent.{CanCarry}
-use Rattle.conn_server.specs.declared.decide.Body.{Body}
+use Rattle.conn_server.specs.declared.body.Body.{Body}
 use Rattle.conn_server.specs.declared.reason.Reason.{Reason}
 use Rattle.conn_server.specs.declared.reason.Reason.TheVariants as reason
 use Rattle.conn_server.specs.declared.report.Asked as given

@@ -1,21 +1,19 @@
 -- What was written is the reply to what is decided.
-use Rattle.std.proofs.Common.{◌≡◌, ℕ, Bool, Result, Ok, Err, ap}
+use Rattle.std.proofs.Common.{◌≡◌, ℕ, Bool, List, Option, Result, Ok, Err, ap}
 use Rattle.http_wire.specs.Stream.{ShownStream}
 use Rattle.http_wire.specs.declared.reply.ReplyFault.{ReplyFault}
-use Rattle.conn_server.specs.Sent.{Sends, SendsBody, served_of, told_of}
-use Rattle.conn_server.specs.declared.decide.Body.{Body}
-use Rattle.conn_server.specs.declared.reason.Reason.{Reason}
-use Rattle.conn_server.specs.declared.report.Asked as given
+use Rattle.conn_server.specs.Replies.{Shows}
+use Rattle.conn_server.specs.Sent.{Sends, SendsBytes, served_of, told_of}
+use Rattle.conn_server.specs.declared.decide.Decided.{Decided}
 
-pub sends : (what : given.Asked) (why : Reason) (n : ℕ) (carried : Body) (close with_body : Bool) (before after : ShownStream)
-    (sent : Result ℕ ReplyFault) → SendsBody why carried close with_body before after sent
-    → Sends (record { asked = what; reason = why; generation = n; body = carried }) close with_body before after
-    (told_of what why n sent)
-sends what why n carried close with_body before after (Ok len) s = record {
-  body = s.body;
-  file = s.file;
-  shows = s.shows;
-  tells = (s.writes.0, ap (λ (l : ℕ). served_of what why n l) s.writes.1);
+pub sends : (d : Decided) (body : List ℕ) (file : Option (List ℕ)) (close with_body : Bool) (before after : ShownStream)
+    (sent : Result ℕ ReplyFault) → Shows d.reason d.body body file → SendsBytes d.reason body file close with_body before after sent
+    → Sends d close with_body before after (told_of d.asked d.reason d.generation sent)
+sends d body file close with_body before after (Ok len) shows wrote = record {
+  body = body;
+  file = file;
+  shows = shows;
+  tells = (wrote.0, ap (λ (l : ℕ). served_of d.asked d.reason d.generation l) wrote.1);
 }
-sends what why n carried close with_body before after (Err fault) s =
-    record { body = s.body; file = s.file; shows = s.shows; tells = s.writes }
+sends d body file close with_body before after (Err fault) shows wrote =
+    record { body = body; file = file; shows = shows; tells = wrote }

@@ -31,7 +31,7 @@ use Rattle.conn_server.specs.Replies.{Shows, bytes_of}
 use Rattle.conn_server.specs.Scene.{Scene, Stand, Wire, hand_at, wire_of}
 use Rattle.conn_server.specs.Sent.{sent_len, served_as}
 use Rattle.conn_server.specs.Turns.{Closes, EndsBehind, Exchanges, Replies, StopsFor, StopsOn, Takes, TakesNext, Turns, Writing, end_after, end_of}
-use Rattle.conn_server.specs.declared.decide.Body.TheVariants as bodies
+use Rattle.conn_server.specs.declared.body.Body.TheVariants as bodies
 use Rattle.conn_server.specs.declared.decide.Decided.{Decided}
 use Rattle.conn_server.specs.declared.reason.Reason.{Reason}
 use Rattle.conn_server.specs.declared.reason.Reason.TheVariants as reason

@@ -14,8 +14,8 @@ use Rattle.answer_core.specs.declared.local.Local.TheVariants as local
 use Rattle.conn_server.specs.Asked.{AsksFor, HeadFacts, IsTaken, Request, is_served, readable, refused}
 use Rattle.conn_server.specs.Replies.{reason_of_route}
 use Rattle.conn_server.specs.Scene.{Scene, Stand, sight_at}
-use Rattle.conn_server.specs.declared.decide.Body.{Body}
-use Rattle.conn_server.specs.declared.decide.Body.TheVariants as bodies
+use Rattle.conn_server.specs.declared.body.Body.{Body}
+use Rattle.conn_server.specs.declared.body.Body.TheVariants as bodies
 use Rattle.conn_server.specs.declared.reason.Reason.{Reason}
 use Rattle.conn_server.specs.declared.reason.Reason.TheVariants as reason
 use Rattle.conn_server.specs.declared.report.Asked as declared

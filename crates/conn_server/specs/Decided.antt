@@ -8,8 +8,8 @@ use Rattle.answer_core.specs.declared.local.Local.TheVariants as local
 use Rattle.conn_server.specs.Asked.{AsksFor, HeadFacts, Request, readable}
 use Rattle.conn_server.specs.Cases.{IsCase}
 use Rattle.conn_server.specs.Scene.{Scene, Stand, hand_at}
-use Rattle.conn_server.specs.declared.decide.Body.{Body}
-use Rattle.conn_server.specs.declared.decide.Body.TheVariants as bodies
+use Rattle.conn_server.specs.declared.body.Body.{Body}
+use Rattle.conn_server.specs.declared.body.Body.TheVariants as bodies
 use Rattle.conn_server.specs.declared.decide.Decided as declared
 use Rattle.conn_server.specs.declared.reason.Reason.{Reason}
 use Rattle.conn_server.specs.declared.reason.Reason.TheVariants as reason

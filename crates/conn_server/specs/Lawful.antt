@@ -16,8 +16,8 @@ use Rattle.conn_server.specs.Asked.{Request, closes_after, sends_body}
 use Rattle.conn_server.specs.Cases.{IsCase, IsPassed, generation_of}
 use Rattle.conn_server.specs.Replies.{Shows, bytes_of, status_of}
 use Rattle.conn_server.specs.Scene.{Scene, Stand}
-use Rattle.conn_server.specs.declared.decide.Body.{Body}
-use Rattle.conn_server.specs.declared.decide.Body.TheVariants as bodies
+use Rattle.conn_server.specs.declared.body.Body.{Body}
+use Rattle.conn_server.specs.declared.body.Body.TheVariants as bodies
 use Rattle.conn_server.specs.declared.reason.Reason.{Reason}
 use Rattle.conn_server.specs.declared.reason.Reason.TheVariants as reason
 use Rattle.conn_server.specs.declared.report.Asked as declared

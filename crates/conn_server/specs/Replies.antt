@@ -9,8 +9,8 @@ use Rattle.webapi_routes.specs.declared.fault.RouteFault.{RouteFault}
 use Rattle.webapi_routes.specs.declared.fault.RouteFault.TheVariants as route_fault
 use Rattle.answer_core.specs.declared.local.Local.{Local}
 use Rattle.answer_core.specs.declared.local.Local.TheVariants as local
-use Rattle.conn_server.specs.declared.decide.Body.{Body}
-use Rattle.conn_server.specs.declared.decide.Body.TheVariants as bodies
+use Rattle.conn_server.specs.declared.body.Body.{Body}
+use Rattle.conn_server.specs.declared.body.Body.TheVariants as bodies
 use Rattle.conn_server.specs.declared.reason.Reason.{Reason}
 use Rattle.conn_server.specs.declared.reason.Reason.TheVariants as reason
 
@@ -64,14 +64,18 @@ reason_of_head head_fault.TooLong = Some reason.TooLarge
 reason_of_head head_fault.TooMany = Some reason.TooLarge
 reason_of_head (head_fault.Cut len) = None
 
+-- the bytes of what passed, and the path of its file
+abbrev pub ShowsPassed : Local → List ℕ → Option (List ℕ) → Type 0
+ShowsPassed (local.File from path generation) bytes file = (bytes ≡ from.bytes) × (file ≡ Some path)
+ShowsPassed (local.Section from path generation) bytes file =
+    IsSectionAnswer from.file.bytes from.name (Some bytes) × (file ≡ Some path)
+ShowsPassed (local.Source source path generation) bytes file = (bytes ≡ source.items) × (file ≡ Some path)
+ShowsPassed _ bytes file = ⊥
+
 -- the bytes of what a reply carries, and the path that it is told to come from: a line of text without one; or what passed
 abbrev pub Shows : Reason → Body → List ℕ → Option (List ℕ) → Type 0
 Shows why bodies.Line bytes file = (bytes ≡ text_of why) × (file ≡ None)
-Shows why (bodies.Found (local.File from path generation)) bytes file = (bytes ≡ from.bytes) × (file ≡ Some path)
-Shows why (bodies.Found (local.Section from path generation)) bytes file =
-    IsSectionAnswer from.file.bytes from.name (Some bytes) × (file ≡ Some path)
-Shows why (bodies.Found (local.Source source path generation)) bytes file = (bytes ≡ source.items) × (file ≡ Some path)
-Shows why (bodies.Found _) bytes file = ⊥
+Shows why (bodies.Found answer) bytes file = ShowsPassed answer bytes file
 
 -- whether the reply of a reason is a text
 abbrev pub is_text : Reason → Bool

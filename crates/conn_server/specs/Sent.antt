@@ -6,8 +6,8 @@ use Rattle.http_wire.specs.Stream.{ShownStream}
 use Rattle.http_wire.specs.declared.reply.ReplyFault.{ReplyFault}
 use Rattle.conn_server.specs.Cases.{IsPassed}
 use Rattle.conn_server.specs.Replies.{Shows, bytes_of, status_of}
-use Rattle.conn_server.specs.declared.decide.Body.{Body}
-use Rattle.conn_server.specs.declared.decide.Body.TheVariants as bodies
+use Rattle.conn_server.specs.declared.body.Body.{Body}
+use Rattle.conn_server.specs.declared.body.Body.TheVariants as bodies
 use Rattle.conn_server.specs.declared.decide.Decided.{Decided}
 use Rattle.conn_server.specs.declared.report.Asked as declared
 use Rattle.conn_server.specs.declared.reason.Reason.{Reason}
@@ -27,15 +27,6 @@ abbrev pub SendsBytes : Reason → List ℕ → Option (List ℕ) → Bool → B
     → Type 0
 SendsBytes why body file close with_body before after result =
     Writes (bytes_of why body file close with_body) (sent_len with_body body) before after result
-
--- what a reply carries is written
-pub record SendsBody
-    (why : Reason) (carried : Body) (close with_body : Bool) (before after : ShownStream) (result : Result ℕ ReplyFault)
-    : Type 0 where
-  pub body : List ℕ
-  pub file : Option (List ℕ)
-  pub shows : Shows why carried body file
-  pub writes : SendsBytes why body file close with_body before after result
 
 -- a reply can be written of this
 abbrev pub CanCarry : Body → Type 0

@@ -5,9 +5,10 @@ ghost use Rattle.index_lock.specs.Tokens.{IsLater};
 ghost use Rattle.conn_server.specs.Asked.{readable, told_facts};
 ghost use Rattle.conn_server.specs.Decided.{Decides, DecidesRoute, by_local, for_route, plain};
 ghost use Rattle.conn_server.specs.Scene.{scene_of, stand_of};
-ghost use Rattle.conn_server.specs.declared.decide.Body.TheVariants as bodies;
+ghost use Rattle.conn_server.specs.declared.body.Body.TheVariants as bodies;
 ghost use Rattle.conn_server.specs.declared.reason.Reason.TheVariants as reason;
 
+use crate::body::Body;
 use crate::method::is_served;
 use crate::reason::{Reason, reason_of_route};
 use crate::report::Asked;
@@ -21,15 +22,6 @@ use row_types::Truth;
 use std::sync::Wait;
 use tree_trait::{Gate, Point, Tree};
 use webapi_routes::{Route, parse};
-
-/// What a reply carries.
-#[derive(Drop)]
-pub(crate) enum Body {
-    /// The text of its reason.
-    Line,
-    /// What passed here.
-    Found(Local),
-}
 
 /// What is asked, and how it is answered.
 #[derive(Drop)]

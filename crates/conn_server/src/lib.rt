@@ -2,6 +2,7 @@
 //! stream, routes are read and local answers are found in the crates below.
 #![tactic(auto)]
 
+mod body;
 mod connection;
 mod decide;
 mod method;

@@ -127,6 +127,31 @@ fn cut(
     }
 }
 
+/// A gate behind another.
+#[derive(Drop)]
+struct Both {
+    first: TurnGate,
+    second: TurnGate,
+}
+
+impl Gate for Both {
+    fn at<Rt: Wait + Sync>(&self, rt: &Rt, point: &Point<'_>) {
+        self.first.at(rt, point);
+        self.second.at(rt, point);
+    }
+}
+
+/// Holds the second connection until the first is about to load the tool, and the first there until
+/// the second was answered.
+fn crossing(rt: &impl Abort, alloc: Global) -> Both {
+    let tool = String::from_str(alloc, "/srv/bin/tool").expect(rt, "memory");
+    let again = String::from_str(alloc, "/srv/bin/tool").expect(rt, "memory");
+    Both {
+        first: TurnGate::new(Hold::Asking(2), Hold::Loading(tool), 1_000_000),
+        second: TurnGate::new(Hold::Loading(again), Hold::Answered(2), 1_000_000),
+    }
+}
+
 /// Two connections beside each other: the first asks for the tool, the second for the program.
 fn ask_beside<G: Gate, R: Abort + Threads + Wait + Sync>(
     rt: &R,
@@ -155,8 +180,7 @@ fn ask_beside<G: Gate, R: Abort + Threads + Wait + Sync>(
 #[test]
 fn a_load_is_made_while_the_lock_is_free(rt: HostRuntime) {
     let alloc = rt.alloc();
-    let tool = String::from_str(alloc, "/srv/bin/tool").expect(&rt, "memory");
-    let gate = TurnGate::new(Hold::Loading(tool), Hold::Answered(2), 1_000_000);
+    let gate = crossing(&rt, alloc);
     let (first, second) = match TurnLock::make(alloc, reference_index(&rt, alloc)) {
         Ok((lock, seat)) => {
             let (first, second) = cut(&lock, seat);
@@ -166,8 +190,9 @@ fn a_load_is_made_while_the_lock_is_free(rt: HostRuntime) {
     };
     assert!(rt; first == 1, "the tool");
     assert!(rt; second == 1, "the program");
+    assert!(rt; gate.first.met(), "the second asked behind the first");
     assert!(rt;
-        gate.met(),
+        gate.second.met(),
         "the second was answered while the first was held"
     );
 }

@@ -1,0 +1,48 @@
+//! What a reply carries.
+
+ghost use Rattle.std.specs.Prelude.{option_copied};
+ghost use Rattle.conn_server.specs.Cases.{IsPassed};
+ghost use Rattle.conn_server.specs.Replies.{Shows, ShowsPassed};
+ghost use Rattle.conn_server.specs.Sent.{CanCarry};
+
+use crate::reason::Reason;
+use answer_core::Local;
+use row_types::CanonPath;
+
+/// What a reply carries.
+#[derive(Drop)]
+pub(crate) enum Body {
+    /// The text of its reason.
+    Line,
+    /// What passed here.
+    Found(Local),
+}
+
+impl Body {
+    /// The bytes of the reply's body, and the path that it is told to come from, if it is told.
+    pub(crate) fn parts(&self, why: Reason) -> (&[u8], Option<&CanonPath>)
+        requires { CanCarry self.now }
+        ensures { Shows why self.now result.0.now (option_copied result.1) }
+    {
+        match self {
+            Body::Line => (why.text(), None),
+            Body::Found(local) => passed(local),
+        }
+    }
+}
+
+/// The bytes of what passed, and the path of its file.
+fn passed(local: &Local) -> (&[u8], Option<&CanonPath>)
+    requires { IsPassed local.now }
+    ensures { ShowsPassed local.now result.0.now (option_copied result.1) }
+{
+    match local {
+        Local::File { from, path, .. } => (from.bytes(), Some(path)),
+        Local::Section { from, path, .. } => {
+            let part = from.bytes();
+            (part, Some(path))
+        }
+        Local::Source { bytes, path, .. } => (bytes.as_slice(), Some(path)),
+        Local::Nothing { .. } | Local::Fault { .. } | Local::OutOfMemory => unreachable!(),
+    }
+}
