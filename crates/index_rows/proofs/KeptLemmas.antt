@@ -110,14 +110,14 @@ at_rest is_true facts RowsRoom LogRoom none h = record {
 }
 
 -- the fields after a put
-pub put_index : {is_true : RowFacts → Type 0} {self inside : RowsFacts} {row given copy : RowFacts} {name : NameFacts} {rows : List RowFacts} {log : List Change} {prepared : Prepared} → inside ≡ self → IsIndex is_true inside → self.prepared ≡ Put row → Put copy ≡ inside.prepared → given ≡ row → is_true row → name ≡ copy.name → rows ≡ with_row given inside.rows → log ≡ inside.log ++ put_of name ∷ [] → prepared ≡ Nothing → IsIndex is_true (facts_from rows log prepared)
+pub put_index : {is_true : RowFacts → Type 0} {self inside : RowsFacts} {row given copy : RowFacts} {name : NameFacts} {rows : List RowFacts} {log : List Change} {prepared : Prepared} → inside ≡ self → IsIndex is_true inside → self.prepared ≡ Put row → Put copy ≡ inside.prepared → given ≡ row → is_true row → name ≡ given.name → rows ≡ with_row copy inside.rows → log ≡ inside.log ++ put_of name ∷ [] → prepared ≡ Nothing → IsIndex is_true (facts_from rows log prepared)
 put_index {is_true} {self} {inside} {row} {given} {copy} {name} {rows} {log} {prepared} same h asked taken given_is one name_is rows_is log_is none =
     let e : inside.prepared ≡ Put row = ap (λ (f : RowsFacts). f.prepared) same ∙ asked in
     let both : Put copy ≡ Put row = taken ∙ e in
     let copy_is : copy ≡ row = cc in
     index_same is_true (after_put row inside) rows log prepared
-    (rows_is ∙ ap (λ (r : RowFacts). with_row r inside.rows) given_is)
-    (log_is ∙ ap (λ (n : NameFacts). inside.log ++ put_of n ∷ []) (name_is ∙ ap (λ (r : RowFacts). r.name) copy_is))
+    (rows_is ∙ ap (λ (r : RowFacts). with_row r inside.rows) copy_is)
+    (log_is ∙ ap (λ (n : NameFacts). inside.log ++ put_of n ∷ []) (name_is ∙ ap (λ (r : RowFacts). r.name) given_is))
     none (index_after_put is_true inside row h e one)
 
 -- there is place for one more row

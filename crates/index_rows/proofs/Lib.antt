@@ -4,6 +4,7 @@ pub mod FindLemmas
 pub mod HasLemmas
 pub mod KeptLemmas
 pub mod Lists
+pub mod MergeLemmas
 pub mod PathLemmas
 pub mod RowLemmas
 pub mod ShelfLemmas

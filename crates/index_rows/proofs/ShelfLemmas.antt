@@ -110,7 +110,7 @@ module _ (held : Held) (numbers : Numbers) where
       of [] = refl
       of (e ∷ es) =
           elim (slice_cmp nat_cmp path e.0) as (λ o. match_ordering o ((path, held_in held number) ∷ shelved held (e ∷ es)) ((e.0, held_in held number) ∷ shelved held es) ((e.0, held_in held e.1) ∷ insert_entry (slice_cmp nat_cmp) (shelved held es) path (held_in held number))
-              ≡ shelved held (match_ordering o ((path, number) ∷ e ∷ es) ((e.0, number) ∷ es) (e ∷ insert_entry (slice_cmp nat_cmp) es path number)))
+          ≡ shelved held (match_ordering o ((path, number) ∷ e ∷ es) ((e.0, number) ∷ es) (e ∷ insert_entry (slice_cmp nat_cmp) es path number)))
           [ Less ↦ refl | Equal ↦ refl | Greater ↦ ap (λ (l : List Slot). (e.0, held_in held e.1) ∷ l) (of es) ]
 
   taken_there : (path : List ℕ) → remove_entry (is_path path) (shelved held numbers) ≡ shelved held (remove_entry (is_path path) numbers)
@@ -296,5 +296,5 @@ make_done held roomy new numbers more path key number given h room none same vac
       made_slots roomy new numbers more path key number now same absent vacant there is changes ordered ∙ ap (λ (l : List Slot). insert_entry (slice_cmp nat_cmp) l path None) view,
       made_has roomy new numbers more path key number now same absent vacant there is changes ordered,
       λ other some. made_keeps roomy new numbers more path key number now same absent vacant there is changes ordered other
-      (let P : List Slot → Type 0 = λ l. IsSome (slot_at other l) in subst P (sym view) some),
+          (let P : List Slot → Type 0 = λ l. IsSome (slot_at other l) in subst P (sym view) some),
     )

@@ -4,6 +4,7 @@
 
 mod change;
 mod fault;
+mod merge;
 mod prepared;
 mod row_iter;
 mod row_map;

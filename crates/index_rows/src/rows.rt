@@ -160,8 +160,9 @@ impl<W: Truth> Rows<W> {
     {
         match mem::replace(&mut self.prepared, Prepared::Nothing) {
             Prepared::Put(copy) => {
-                let name = into_name(copy);
-                self.rows.put(row.into_row());
+                // The copy stays: its texts are those of all that was made for it.
+                self.rows.put(copy);
+                let name = into_name(row.into_row());
                 list_change(&mut self.log, Change { put: true, name });
             }
             Prepared::Nothing | Prepared::Drop(_) => unreachable!(),

@@ -97,21 +97,42 @@ impl Tallies {
         self.make_path(alloc, id, path, number)
     }
 
-    /// Makes room for each of the paths under the id.
+    /// Makes room for each of the paths under the id, which has room.
+    fn make_paths(
+        &mut self,
+        alloc: Global,
+        id: &BuildId,
+        paths: &[CanonPath],
+    ) -> Result<(), AllocError>
+        requires has { HasId id.now self.old.ids.entries }
+        requires ascends { Ascends paths.now }
+        ensures ok { OnOk result (All (λ path. HasKey id.now path self.new.ids.entries) paths.now) }
+        ensures same { CountsSame self.old.ids.entries self.new.ids.entries }
+        ensures keeps { KeepsKeys self.old.ids.entries self.new.ids.entries }
+    {
+        match self.ids.get_mut(id) {
+            Some(tally) => tally.make_rooms(alloc, paths),
+            None => unreachable!(),
+        }
+    }
+
+    /// Makes room for each of the paths under the id. No slot is theirs.
     pub fn make_rooms(
         &mut self,
         alloc: Global,
         id: &BuildId,
         paths: &[CanonPath],
     ) -> Result<(), AllocError>
+        requires { Ascends paths.now }
         ensures ok { OnOk result (All (λ path. HasKey id.now path self.new.ids.entries) paths.now) }
         ensures same { CountsSame self.old.ids.entries self.new.ids.entries }
         ensures keeps { KeepsKeys self.old.ids.entries self.new.ids.entries }
     {
-        for path in paths {
-            self.make_room(alloc, id, path, 0)?;
+        if paths.is_empty() {
+            return Ok(());
         }
-        Ok(())
+        self.make_id(alloc, id)?;
+        self.make_paths(alloc, id, paths)
     }
 
     /// Counts the path under the id once more. It has room.

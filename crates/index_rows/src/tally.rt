@@ -1,11 +1,12 @@
 //! The paths of one id, each with a number.
 
-ghost use Rattle.std.specs.Prelude.{◌≡◌, ◌+◌, ◌<◌, ◌^◌, [], ℕ, List, OnOk, length, slice_index_or, vec_len};
-ghost use Rattle.row_types.specs.Ascends.{AscendsBy};
+ghost use Rattle.std.specs.Prelude.{◌≡◌, ◌+◌, ◌<◌, ◌^◌, [], ℕ, All, List, OnOk, length, slice_index_or, vec_len};
+ghost use Rattle.row_types.specs.Ascends.{Ascends, AscendsBy};
 ghost use Rattle.index_rows.specs.declared.tally.Tallied.{Tallied};
 ghost use Rattle.index_rows.specs.Places.{IsPlace};
 ghost use Rattle.index_rows.specs.Tally.{HasPlace, KeepsPlaces, SetsCount, count_at, one, tallied_path};
 
+use crate::merge::{have_places, merged};
 use row_types::CanonPath;
 use std::alloc::{AllocError, Global};
 use std::marker::Model;
@@ -93,6 +94,19 @@ impl Tally {
         }
     }
 
+    /// Makes room for each of the paths. Both lists are gone through once.
+    pub fn make_rooms(&mut self, alloc: Global, paths: &[CanonPath]) -> Result<(), AllocError>
+        requires { Ascends paths.now }
+        ensures ok { OnOk result (All (λ path. HasPlace path self.new) paths.now) }
+        ensures same { (other : List ℕ) → count_at other self.new ≡ count_at other self.old }
+        ensures keeps { KeepsPlaces self.old self.new }
+    {
+        if !have_places(self.entries.as_slice(), paths) {
+            self.entries = merged(alloc, self.entries.as_slice(), paths)?;
+        }
+        Ok(())
+    }
+
     /// Counts the path once more. It has room.
     pub fn add(&mut self, path: &CanonPath)
         requires room { HasPlace path.now self.old }
@@ -133,7 +147,7 @@ impl Tally {
 }
 
 /// The path's place, or else the place at which it would stand. The search halves the list.
-fn place_of(entries: &[Tallied], path: &CanonPath) -> Result<usize, usize>
+pub(crate) fn place_of(entries: &[Tallied], path: &CanonPath) -> Result<usize, usize>
     requires { AscendsBy tallied_path entries.now }
     ensures { IsPlace tallied_path path.now entries.now result }
 {
