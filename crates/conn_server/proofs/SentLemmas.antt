@@ -1,5 +1,5 @@
 -- What was written is the reply to what is decided.
-use Rattle.std.proofs.Common.{◌≡◌, ℕ, Bool, List, Option, Result, Ok, Err, ap}
+use Rattle.std.proofs.Common.{ℕ, Bool, List, Option, Result, Ok, Err, ap}
 use Rattle.http_wire.specs.Stream.{ShownStream}
 use Rattle.http_wire.specs.declared.reply.ReplyFault.{ReplyFault}
 use Rattle.conn_server.specs.Replies.{Shows}
