@@ -1,8 +1,8 @@
 -- The statement that raises the number of openings writes the second table alone, whatever columns that has.
-use Rattle.std.proofs.Common.{◌≡◌, inl, inr, ℕ, ℤ, Bool, true, false, List, [], ◌∷◌, Ok, Err, Result, Option, None, Some, refl, sym, ◌∙◌, ap, subst, rules}
+use Rattle.std.proofs.Common.{◌≡◌, inl, inr, ℕ, ℤ, Bool, true, false, List, [], ◌∷◌, Ok, Option, None, Some, refl, sym, ◌∙◌, ap, subst}
 use Rattle.std.specs.Prelude.{IfOk, MatchBool, if◌then◌else◌, ◌==◌, codes, length}
 use Rattle.sqlite_value.specs.Order.{Row}
-use Rattle.sqlite_trees.specs.Tree.{Trees, rowid}
+use Rattle.sqlite_trees.specs.Tree.{Trees}
 use Rattle.sqlite_ast.specs.declared.Conflict.TheVariants as conflict
 use Rattle.sqlite_ast.specs.declared.Rows.{Rows}
 use Rattle.sqlite_ast.specs.declared.Statement.{Statement}
@@ -18,7 +18,7 @@ use Rattle.sqlite_schema.specs.declared.command.Upsert.{Upsert}
 use Rattle.sqlite_schema.specs.declared.program.Program.{Program}
 use Rattle.sqlite_schema.specs.declared.schema.Keys.{Keys}
 use Rattle.sqlite_schema.specs.declared.schema.Table.{Table}
-use Rattle.sqlite_rules.specs.Edit.{Edit, edit_of}
+use Rattle.sqlite_rules.specs.Edit.{edit_of}
 use Rattle.sqlite_rules.specs.declared.error.Refusal.{Refusal}
 use Rattle.sqlite_rules.specs.declared.error.Rowids.{Rowids}
 use Rattle.sqlite_rules.specs.declared.error.Rowids.TheVariants.{Given}
@@ -26,7 +26,6 @@ use Rattle.sqlite_rules.specs.Calls.{ids_of}
 use Rattle.sqlite_resolve.specs.Body.{table_at}
 use Rattle.sqlite_resolve.specs.Compile.{command, compiled, first, insert_or, insert_or_abort, new_rows, target}
 use Rattle.sqlite_resolve.specs.Given.{upserts}
-use Rattle.sqlite_resolve.specs.Lowering.{Checked}
 use Rattle.sqlite_resolve.specs.Scope.{Name}
 use Rattle.sqlite_resolve.specs.declared.compiled.Compiled.{Compiled}
 use Rattle.sqlite_tied.specs.Compute.{everything}
@@ -34,10 +33,10 @@ use Rattle.sqlite.specs.Does.{Does, Tally}
 use Rattle.sqlite.specs.Effect.{Database, edit_error}
 use Rattle.sqlite.specs.Listing.{if_select, listing_schema, reads_listing, understood}
 use Rattle.sqlite.specs.Rows.{Clears, Counts, CountsIn, Edited, Gives, InsertsOr, Judged, Meets, Puts, Refuses, Resolves, Task, Tries, TriesEach, Updates, Upserts, Written, nothing, passes_over, sequence}
-use Rattle.sqlite.specs.State.{State, QueriesRow, Shown, ShowsRows, Writes, mode_of}
+use Rattle.sqlite.specs.State.{State, Shown, ShowsRows, Writes, mode_of}
 use Rattle.sqlite.specs.declared.run.Mode.{Mode}
 use Rattle.sqlite.proofs.Callers.{one_step}
-use Rattle.sqlite_keeper.specs.Schema.{IsStore, rows_table, second_of, store_of}
+use Rattle.sqlite_keeper.specs.Schema.{IsStore, second_of, store_of}
 use Rattle.sqlite_keeper.specs.Statements.{raise_text}
 use Rattle.sqlite_keeper.specs.Told.{first_of, tables, tables_in}
 use Rattle.sqlite_keeper.proofs.StatementLemmas.{same_value, went}
@@ -194,8 +193,8 @@ showed_run old new rows store it = by it.0 _ it.0.returning it.1.is it.2
     wrote c what ps text count is w =
         let on : OnSecond c.command = subst (λ r. IfOk r (λ k. OnSecond k.command)) (ap (λ s. understood s raise_text) (sym store.is) ∙ is) (raise_second store.second) in
         let stays =
-            does_stay old.step_limit (mode_of old) ps store.second old.now new.now text (Some what) c.command w.tally on
-            (subst (λ s. Does old.step_limit (mode_of old) ps (record old.now { schema = s }) text (Some what) c.command (Ok (w.tally, new.now))) store.is w.changed) in
+        does_stay old.step_limit (mode_of old) ps store.second old.now new.now text (Some what) c.command w.tally on
+        (subst (λ s. Does old.step_limit (mode_of old) ps (record old.now { schema = s }) text (Some what) c.command (Ok (w.tally, new.now))) store.is w.changed) in
         ap (λ s. first_of s.tables (new.now.trees 0)) (stays.0 ∙ sym store.is) ∙ ap (first_of old.now.schema.tables) stays.1
 
     by : (c : Compiled) (ps : Row) (returning : Option Returning) → understood old.now.schema raise_text ≡ Ok c → ShowsRows old new raise_text c ps rows returning → tables new ≡ tables old

@@ -1,5 +1,5 @@
 -- The statements of the store (this project's format): their texts, and what came of running one.
-use Rattle.std.specs.Prelude.{◌≡◌, ℕ, pos, Bool, true, false, List, [], ◌∷◌, Result, Ok, Err, codes, IsTrue}
+use Rattle.std.specs.Prelude.{◌≡◌, ℕ, pos, Bool, true, false, List, [], Result, Ok, Err, codes, IsTrue}
 use Rattle.index_keeper.specs.declared.answer.KeepAnswer.{KeepAnswer}
 use Rattle.index_keeper.specs.declared.answer.KeepAnswer.TheVariants as answer
 use Rattle.sqlite.specs.Held.{Held, state}

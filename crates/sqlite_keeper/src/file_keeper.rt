@@ -92,7 +92,8 @@ impl Keeper<OpenWorld> for FileKeeper {
 
     fn put(&mut self, _alloc: Global, path: &str, bytes: &[u8]) -> KeepAnswer
         ensures asks { Asks false (keeper_shown over_files self.old.keeper)
-            (keeper_shown over_files self.new.keeper) (for_change (put_of path.now bytes.now) result) }
+            (keeper_shown over_files self.new.keeper)
+            (for_change (put_of path.now bytes.now) result) }
         ensures changes { Changes over_files put_text (Text path.now ∷ Blob bytes.now ∷ [])
             self.old.keeper.connection self.new.keeper.connection result }
         ensures tells { TellsChange over_files (put_of path.now bytes.now)

@@ -1,6 +1,5 @@
 use Rattle.std.proofs.Common.{None, Some, refl, sym, arith}
 use Rattle.std.proofs.lemmas.Bool.{false≢true}
-use Rattle.sqlite.specs.Held.{state}
 use Rattle.index_keeper.specs.declared.answer.KeptAnswer.TheVariants.{All, Failed, OutOfMemory}
 use Rattle.sqlite_keeper.specs.Reading.{Looks}
 use Rattle.sqlite_keeper.proofs.KeeperLemmas.{asks_rows, by_laws, not_counted}
