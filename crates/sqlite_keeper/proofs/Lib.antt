@@ -1,6 +1,7 @@
 pub mod TextLemmas
 pub mod OutsideLemmas
 pub mod SurvivesLemmas
+pub mod UndoneLemmas
 pub mod ReadingLemmas
 pub mod HasLemmas
 pub mod KeptLemmas
@@ -8,7 +9,11 @@ pub mod RowLemmas
 pub mod QueryLemmas
 pub mod StatementLemmas
 pub mod PutLemmas
+pub mod MadeLemmas
+pub mod RaiseLemmas
+pub mod OpeningLemmas
 pub mod ToldLemmas
+pub mod KeeperLemmas
 pub mod PartLemmas
 pub mod AscendLemmas
 pub mod FileKeeperSends

@@ -1,6 +1,6 @@
 -- Rows that are read one at a time are what the query shows.
-use Rattle.std.proofs.Common.{◌≡◌, ◌⊎◌, inl, inr, ℕ, List, [], ◌∷◌, ◌++◌, map, Ok, Err, Result, Option, None, Some, sym, ◌∙◌, ap, subst}
-use Rattle.std.specs.Prelude.{IfOk}
+use Rattle.std.proofs.Common.{◌≡◌, ◌⊎◌, inl, inr, List, [], ◌∷◌, ◌++◌, map, Ok, Err, Result, Option, None, Some, refl, sym, ◌∙◌, ap, subst}
+use Rattle.std.specs.Prelude.{IfOk, OnOk}
 use Rattle.std.proofs.lemmas.List.{map-append}
 use Rattle.sqlite_resolve.specs.declared.compiled.Compiled.{Compiled}
 use Rattle.sqlite_resolve.specs.declared.error.CompileError.{CompileError}
@@ -10,7 +10,7 @@ use Rattle.sqlite.specs.Given.{Advances, GivesOn, HasBegun, HasGiven, Returns}
 use Rattle.sqlite.specs.Held.{Held, state}
 use Rattle.sqlite.specs.Listing.{IsSourceOf, reads_listing, understood}
 use Rattle.sqlite.specs.Order.{Row}
-use Rattle.sqlite.specs.State.{State, Fails, FailsToQuery, FailsToShow, IsNotRun, IsRolledBack, IsUnchanged, Shown, ShowsRows}
+use Rattle.sqlite.specs.State.{State, Fails, FailsToQuery, IsRolledBack, IsUnchanged, Shown, ShowsRows}
 use Rattle.sqlite.specs.Store.{Ghosts}
 use Rattle.sqlite.specs.declared.error.Error.{Error}
 use Rattle.sqlite.proofs.Callers.{unchanged_then}
@@ -18,6 +18,7 @@ use Rattle.index_keeper.specs.Tables.{KeptFacts}
 use Rattle.sqlite_keeper.specs.Reading.{GivesAll, GivesRow, LeavesAlone, shown_kept}
 use Rattle.sqlite_keeper.specs.Statements.{rows_text}
 use Rattle.sqlite_keeper.proofs.TextLemmas.{rows_show_none}
+use Rattle.sqlite_keeper.proofs.UndoneLemmas.{query_undone}
 
 returns_never : (r : Result Compiled CompileError) → IfOk r (λ c. c.returning ≡ None) → Returns r → ⊥
 returns_never (Ok c) none some = absurd (let e = rw none at some in cc)
@@ -64,17 +65,12 @@ left_by_step old new P e (inr same) = left_unchanged old new same
 
 -- and so does a query that doesn't begin
 pub left_by_query : (old new : State) (e : Error) → FailsToQuery rows_text [] old new e → LeavesAlone old new
-unfolding FailsToQuery IsNotRun
-left_by_query old new e h = elim h [
-  | inl not_run ↦ elim not_run [ inl no_text ↦ left_unchanged old new no_text.1 | inr failed ↦ left_back old new failed.3 ]
-  | inr run ↦ refused run.0 run.1.now run.1.is run.2
-]
-  where
-    refused : (c : Compiled) (now : ℕ) → understood old.now.schema rows_text ≡ Ok c → FailsToShow old new rows_text c (timed [] c.formats now) e c.returning → LeavesAlone old new
-    refused c now is h =
-        let bare : c.returning ≡ None = subst (λ r. IfOk r (λ k. k.returning ≡ None)) is (rows_show_none old.now.schema) in
-        let it = subst (FailsToShow old new rows_text c (timed [] c.formats now) e) bare h in
-        left_unchanged old new it.3
+left_by_query old new e h = elim (query_undone rows_text [] old new e h) [ inl same ↦ left_unchanged old new same | inr undone ↦ left_back old new undone ]
+
+-- what follows where the answer is good
+pub on_ok : {A E : Type 0} (r : Result A E) (P Q : Type 0) → (P → Q) → OnOk r P → OnOk r Q
+on_ok (Ok a) P Q f h = f h
+on_ok (Err e) P Q f h = tt
 
 module _ {S : Type 0} (g : Ghosts S) where
   pub given_more : (old new : Held S) (o : Option Row) (row : Row) (its : KeptFacts) → Some row ≡ o → Advances g old new o → its ≡ shown_kept row → GivesRow g old new (Some its)
@@ -87,6 +83,20 @@ module _ {S : Type 0} (g : Ghosts S) where
   pub begun : (old new : Held S) → HasBegun g rows_text [] old new → HasGiven g rows_text [] new [] × IsUnchanged (state g old) (state g new)
   begun old new (inl h) = h
   begun old new (inr h) = absurd (returns_never (understood old.schema rows_text) (rows_show_none old.schema) h.0)
+
+  -- a query that has given nothing is that of an open database
+  pub given_rests : (h : Held S) → HasGiven g rows_text [] h [] → IsUnchanged (state g h) (state g h)
+  unfolding HasGiven
+  given_rests h it = (record { was_open = it.0.is_open; is_open = it.0.is_open; now_is = refl; committed_is = refl; mode = refl }, record { changes = refl; last_rowid = refl }, refl)
+
+  -- what a query gives of a database is given of one that was the same
+  pub gave_since : (first now last : Held S) (items : List KeptFacts) → IsUnchanged (state g first) (state g now) → GivesAll g now last items → GivesAll g first last items
+  gave_since first now last items same it = record {
+    answer = it.answer;
+    shown = shown_from (state g first) (state g now) (state g last) it.answer same it.shown;
+    spelled = it.spelled;
+    same = unchanged_then (state g first) (state g now) (state g last) same it.same;
+  }
 
   -- no row is left: those that were given are all
   pub gave_all : (first now last : Held S) (given : List Row) (items : List KeptFacts) → IsUnchanged (state g first) (state g now) → HasGiven g rows_text [] now given

@@ -1,5 +1,5 @@
 -- What a crash leaves after calls in a row.
-use Rattle.std.proofs.Common.{◌≡◌, ℕ, List, None, subst}
+use Rattle.std.proofs.Common.{◌≡◌, inl, ℕ, List, None, refl, subst, arith}
 use Rattle.std.specs.Prelude.{IfOk}
 use Rattle.sqlite.specs.Order.{Row}
 use Rattle.sqlite.specs.Tree.{Trees}
@@ -18,6 +18,11 @@ commits_nothing sql params s db none h =
 pub survives_reading : (sql : List ℕ) (params : Row) (old new : State) → IfOk (understood old.now.schema sql) (λ c. c.returning ≡ None)
     → Survives old new (CommitsShowing sql params old) → Survives old new (λ _. ⊥)
 survives_reading sql params old new none = survives_weaker old new _ _ (λ _ db h. commits_nothing sql params old db none h)
+
+-- nothing has happened
+pub survives_same : (now : State) → Survives now now (λ _. ⊥)
+survives_same now =
+    record { clean = omega arith; shield = λ is. is; counts = omega arith; limit = refl; closes = λ clean opened. inl opened; crash = λ clean db may. inl may }
 
 -- one call after another, neither of which commits
 pub survives_both : (a b c : State) → Survives a b (λ _. ⊥) → Survives b c (λ _. ⊥) → Survives a c (λ _. ⊥)

@@ -55,20 +55,20 @@ is_query (written.Select s) = true
 is_query _ = false
 
 -- what holds of the value, if there is one
-record Holds {A : Type 0} (P : A → Type 0) (x : Checked A) : Type 0 where
-  it : IfOk x P
+pub record Holds {A : Type 0} (P : A → Type 0) (x : Checked A) : Type 0 where
+  pub it : IfOk x P
 
 -- what holds of the value of the last part, by what holds of the first one's
-then_holds : {A B : Type 0} (Q : A → Type 0) (P : B → Type 0) (x : Checked A) (f : A → Checked B) → Holds Q x → ((a : A) → Q a → Holds P (f a)) → Holds P (and_then x f)
+pub then_holds : {A B : Type 0} (Q : A → Type 0) (P : B → Type 0) (x : Checked A) (f : A → Checked B) → Holds Q x → ((a : A) → Q a → Holds P (f a)) → Holds P (and_then x f)
 then_holds Q P (Ok a) f q h = h a q.it
 then_holds Q P (Err e) f q h = record { it = tt }
 
 -- the same where it holds whatever the first one's is
-each_holds : {A B : Type 0} (P : B → Type 0) (x : Checked A) (f : A → Checked B) → ((a : A) → Holds P (f a)) → Holds P (and_then x f)
+pub each_holds : {A B : Type 0} (P : B → Type 0) (x : Checked A) (f : A → Checked B) → ((a : A) → Holds P (f a)) → Holds P (and_then x f)
 each_holds P (Ok a) f h = h a
 each_holds P (Err e) f h = record { it = tt }
 
-either_holds : {B : Type 0} (P : B → Type 0) (b : Bool) (x y : Checked B) → Holds P x → Holds P y → Holds P (if b then x else y)
+pub either_holds : {B : Type 0} (P : B → Type 0) (b : Bool) (x y : Checked B) → Holds P x → Holds P y → Holds P (if b then x else y)
 either_holds P true x y p q = p
 either_holds P false x y p q = q
 
@@ -116,15 +116,20 @@ command_out schema formats base (written.Delete name test shown) h = delete_out 
 command_out schema formats base (written.CreateTable def) h = create_out schema formats def
 command_out schema formats base _ h = absurd (false≢true h)
 
-compiled_out : (schema : Schema) (text : List ℕ) → Holds (λ p. is_change p.statement ≡ true) (first text) → Holds (λ c. begins_none c.command ≡ true) (compiled schema text)
+-- what holds of the command of each statement of a kind holds of the one that a text of the kind compiles to
+pub compiled_by : (Q : Statement → Type 0) (P : Command → Type 0) (schema : Schema) (text : List ℕ)
+    → ((formats : List Name) (base : ℕ) (s : Statement) → Q s → Holds P (command schema formats base s)) → Holds (λ p. Q p.statement) (first text) → Holds (λ c. P c.command) (compiled schema text)
 unfolding compiled planned meaning
-compiled_out schema text h =
-    then_holds (λ p. is_change p.statement ≡ true) (λ c. begins_none c.command ≡ true) (first text) _ h (λ p is.
-    then_holds (λ plan. begins_none plan.1.0 ≡ true) (λ c. begins_none c.command ≡ true) _ _
-    (then_holds (λ found. begins_none found.0 ≡ true) (λ plan. begins_none plan.1.0 ≡ true) _ _
-    (each_holds (λ found. begins_none found.0 ≡ true) _ _ (λ shown.
-    then_holds Out (λ found. begins_none found.0 ≡ true) _ _ (command_out schema p.formats _ p.statement is) (λ k it. record { it = it })))
+compiled_by Q P schema text each h =
+    then_holds (λ p. Q p.statement) (λ c. P c.command) (first text) _ h (λ p is.
+    then_holds (λ plan. P plan.1.0) (λ c. P c.command) _ _
+    (then_holds (λ found. P found.0) (λ plan. P plan.1.0) _ _
+    (each_holds (λ found. P found.0) _ _ (λ shown.
+    then_holds P (λ found. P found.0) _ _ (each p.formats _ p.statement is) (λ k it. record { it = it })))
     (λ found it. record { it = it })) (λ plan it. record { it = it }))
+
+compiled_out : (schema : Schema) (text : List ℕ) → Holds (λ p. is_change p.statement ≡ true) (first text) → Holds (λ c. begins_none c.command ≡ true) (compiled schema text)
+compiled_out schema text = compiled_by (λ s. is_change s ≡ true) Out schema text (command_out schema)
 
 returns_none : (schema : Schema) (base : ℕ) (s : Statement) → is_query s ≡ true → Holds (λ shown. shown ≡ None) (returning schema base s)
 unfolding returning

@@ -1,31 +1,30 @@
 -- What the statements of the store give and change in a told database, by what they answered.
-use Rattle.std.proofs.Common.{◌≡◌, ◌⊎◌, inl, inr, ℕ, List, [], ◌∷◌, Ok, Err, Result, Option, None, Some, true, false, sym, ◌∙◌, ap, subst}
-use Rattle.std.specs.Prelude.{IfSome, IsTrue, MatchBool, if◌then◌else◌}
-use Rattle.sqlite_resolve.specs.declared.compiled.Compiled.{Compiled}
+use Rattle.std.proofs.Common.{◌≡◌, ◌⊎◌, inl, inr, ℕ, List, [], ◌∷◌, Ok, Err, Result, Option, None, Some, false, sym, ◌∙◌, ap, subst}
+use Rattle.std.specs.Prelude.{IfSome, IsTrue, if◌then◌else◌}
 use Rattle.sqlite.specs.declared.error.Error.{Error}
-use Rattle.sqlite.specs.declared.error.Error.TheVariants.{ExecuteReturnedResults}
 use Rattle.sqlite.specs.Effect.{Database, IsDatabase}
 use Rattle.sqlite.specs.Held.{Held, state}
 use Rattle.sqlite.specs.Order.{Row}
 use Rattle.sqlite.specs.Schema.{Schema}
-use Rattle.sqlite.specs.State.{State, HasCleanDisk, Shows, Executes, ExecutesIn, IsNotRun, IsRolledBack, IsUnchanged, RunsAlone, RunsCommand, shows_rows}
+use Rattle.sqlite.specs.State.{State, HasCleanDisk, Shows, Executes, IsUnchanged}
 use Rattle.sqlite_catalog.specs.Listing.{IsSound}
 use Rattle.sqlite_value.specs.declared.value.Value.TheVariants.{Text, Blob}
 use Rattle.sqlite.specs.Store.{Ghosts}
-use Rattle.index_keeper.specs.Tables.{AscendsByPath, EditFacts, KeptFacts, put_of, removal_of}
+use Rattle.index_keeper.specs.Tables.{AscendsByPath, EditFacts, KeptFacts, edited, put_of, removal_of}
 use Rattle.index_keeper.specs.declared.answer.KeepAnswer.{KeepAnswer}
 use Rattle.sqlite_keeper.specs.Faults.{fault_of}
 use Rattle.sqlite_keeper.specs.Reading.{GivesAll, LeavesAlone, Looks}
 use Rattle.sqlite_keeper.specs.Schema.{store_of}
 use Rattle.sqlite_keeper.specs.Statements.{HasRun, answer_for, answer_to, put_text, remove_text}
 use Rattle.sqlite_keeper.specs.Stored.{tables_of}
-use Rattle.sqlite_keeper.specs.Told.{IsNumbered, IsTold, IsToldBy, Stays, Tells, TellsAll, TellsChange, tables}
+use Rattle.sqlite_keeper.specs.Told.{IsNumbered, IsTold, IsToldBy, Stays, Tells, TellsAll, TellsChange, first_of, tables, tables_in}
 use Rattle.sqlite_keeper.specs.declared.fault.SqlFault.{SqlFault}
 use Rattle.sqlite_keeper.specs.declared.fault.SqlFault.TheVariants.{Failed, OutOfMemory}
 use Rattle.sqlite_keeper.proofs.KeptLemmas.{put_in, removed}
 use Rattle.sqlite_keeper.proofs.PutLemmas.{puts}
 use Rattle.sqlite_keeper.proofs.RowLemmas.{AreKept, kept_rows}
 use Rattle.sqlite_keeper.proofs.StatementLemmas.{removes, shows}
+use Rattle.sqlite_keeper.proofs.UndoneLemmas.{executes_undone}
 
 -- the rows of a told database are numbers, paths and bytes, and no path comes twice
 pub told_rows : (now : State) → IsTold now → IsNumbered now → AreKept (now.now.trees 0)
@@ -52,7 +51,7 @@ unchanged old new told now kept outside = record {
     outside = outside;
     settled = now ∙ told.settled ∙ sym kept;
   };
-  same = ap (λ (d : Database). tables_of (d.trees 0)) now;
+  same = ap tables_in now;
 }
 
 pub stays_unchanged : (old new : State) → IsTold old → IsUnchanged old new → Stays old new
@@ -60,39 +59,33 @@ stays_unchanged old new told it = unchanged old new told it.0.now_is it.0.commit
 
 -- a statement that is refused or fails leaves a database as it was, where it is open still
 pub refused : (sql : List ℕ) (params : Row) (old new : State) (e : Error) → IsTold old → IsTrue new.is_open → Executes sql params old new (Err e) → Stays old new
-unfolding ExecutesIn IsNotRun
-refused sql params old new e told opened h = elim h [
-  | inl not_run ↦ elim not_run [ inl no_text ↦ stays_unchanged old new told no_text.1 | inr failed ↦ back failed.3 ]
-  | inr run ↦ alone run.0 _ run.2
+refused sql params old new e told opened h = elim (executes_undone sql params old new e h) [
+  | inl same ↦ stays_unchanged old new told same
+  | inr back ↦ let undone = back.undone opened in unchanged old new told (undone.0 ∙ sym told.settled) undone.1 back.autocommit
 ]
-  where
-    back : IsRolledBack old new → Stays old new
-    back it = let undone = it.undone opened in unchanged old new told (undone.0 ∙ sym told.settled) undone.1 it.autocommit
 
-    went_back : (c : Compiled) (ps : Row) → RunsCommand old new sql c ps (Err e) → Stays old new
-    went_back c ps (inl it) = stays_unchanged old new told it.1
-    went_back c ps (inr failed) = back failed.3
+-- the tables of a told database are the rows of its first tree
+told_tables : (now : State) → IsTold now → tables now ≡ tables_of (now.now.trees 0)
+told_tables now told = ap (λ (s : Schema). first_of s.tables (now.now.trees 0)) told.schema.is
 
-    alone : (c : Compiled) (ps : Row) → RunsAlone false old new sql c ps (Err e) → Stays old new
-    alone c ps h =
-        elim (shows_rows false c) as (λ b. MatchBool b ((◌≡◌ {A = Result ℕ Error} (Err e) (Err ExecuteReturnedResults)) × IsUnchanged old new) (RunsCommand old new sql c ps (Err e)) → Stays old new)
-        [ true ↦ λ it. stays_unchanged old new told it.1 | false ↦ λ it. went_back c ps it ] h
+changed_as : (edit : EditFacts) (old new : State) → IsTold old → IsTold new → tables_of (new.now.trees 0) ≡ edited (tables_of (old.now.trees 0)) edit → tables new ≡ edited (tables old) edit
+changed_as edit old new told after e = told_tables new after ∙ e ∙ ap (λ rows. edited rows edit) (sym (told_tables old told))
 
-pub removes_told : (old new : State) (path : List ℕ) (count : ℕ) → IsTold old → IsNumbered old → IsNumbered new → Executes remove_text (Text path ∷ []) old new (Ok count) → Tells (removal_of path) old new
+pub removes_told : (old new : State) (path : List ℕ) (count : ℕ) → IsTold old → IsNumbered old → (IsTold new → IsNumbered new) → Executes remove_text (Text path ∷ []) old new (Ok count) → Tells (removal_of path) old new
 removes_told old new path count told was is h =
     let did = removes told.schema.second old new path count told.schema.is (told_rows old told was) h in
     let after : IsTold new = committed old new told did.0 did.1 did.2 in
-    record { told = after; changed = removed path _ _ (told_rows old told was).apart (told_rows new after is).apart did.3 }
+    record { told = after; changed = changed_as (removal_of path) old new told after (removed path _ _ (told_rows old told was).apart (told_rows new after (is after)).apart did.3) }
 
-pub puts_told : (old new : State) (path body : List ℕ) (count : ℕ) → IsTold old → IsNumbered old → IsNumbered new → Executes put_text (Text path ∷ Blob body ∷ []) old new (Ok count) → Tells (put_of path body) old new
+pub puts_told : (old new : State) (path body : List ℕ) (count : ℕ) → IsTold old → IsNumbered old → (IsTold new → IsNumbered new) → Executes put_text (Text path ∷ Blob body ∷ []) old new (Ok count) → Tells (put_of path body) old new
 puts_told old new path body count told was is h =
     let did = puts told.schema.second old new path body count told.schema.is (told_rows old told was) h in
     let after : IsTold new = committed old new told did.0 did.1 did.2 in
-    record { told = after; changed = put_in path body _ _ (told_rows old told was).apart (told_rows new after is).apart did.3 }
+    record { told = after; changed = changed_as (put_of path body) old new told after (put_in path body _ _ (told_rows old told was).apart (told_rows new after (is after)).apart did.3) }
 
 -- the answer to a change tells what came of its statement
 pub change_told : {S : Type 0} (g : Ghosts S) (edit : EditFacts) (sql : List ℕ) (params : Row) (before after : Held S) (given : KeepAnswer)
-    → ((count : ℕ) → IsTold (state g before) → IsNumbered (state g before) → IsNumbered (state g after) → Executes sql params (state g before) (state g after) (Ok count) → Tells edit (state g before) (state g after))
+    → ((count : ℕ) → IsTold (state g before) → IsNumbered (state g before) → (IsTold (state g after) → IsNumbered (state g after)) → Executes sql params (state g before) (state g after) (Ok count) → Tells edit (state g before) (state g after))
     → (HasCleanDisk (state g after) → HasRun g sql params before after given) → TellsChange g edit before after given
 change_told g edit sql params before after given done runs told was is clean opened = let h = runs clean in answered h.came h.ran h.told
   where
@@ -124,4 +117,5 @@ rows_told g before after given ascends looks told was is clean opened = record {
   where
     all : (rows : Option (List KeptFacts)) → IfSome rows AscendsByPath → IfSome rows (GivesAll g before after) → IfSome rows (λ it. it ≡ tables (state g before))
     all None a h = tt
-    all (Some it) a h = shows told.schema.second (state g before) (state g after) h.answer it told.schema.is (told_rows (state g before) told was) h.shown h.spelled a
+    all (Some it) a h =
+        shows told.schema.second (state g before) (state g after) h.answer it told.schema.is (told_rows (state g before) told was) h.shown h.spelled a ∙ sym (told_tables (state g before) told)

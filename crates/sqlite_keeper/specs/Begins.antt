@@ -6,7 +6,7 @@ use Rattle.sqlite.specs.declared.error.Error.{Error}
 use Rattle.sqlite_keeper.specs.Keeper.{KeeperFacts}
 use Rattle.sqlite_keeper.specs.Schema.{Fits}
 use Rattle.sqlite_keeper.specs.Statements.{HasPassed, Raises, StaysOutside, WasRaised, WasRun, epoch_table, kept_table}
-use Rattle.sqlite_keeper.specs.Told.{IsTold}
+use Rattle.sqlite_keeper.specs.Told.{IsTold, KeepsTables}
 use Rattle.sqlite_keeper.specs.declared.adopt.AdoptAnswer.{AdoptAnswer}
 use Rattle.sqlite_keeper.specs.declared.adopt.AdoptAnswer.TheVariants as adopt
 use Rattle.sqlite_keeper.specs.declared.fault.SqlFault.{SqlFault}
@@ -20,13 +20,19 @@ pub record MakesNumber {S : Type 0} (g : Ghosts S) (before after : Held S) (numb
   pub makes_epoch : HasPassed g epoch_table first made
   pub raised : Raises g made after number
 
--- this was done outside a transaction, on a database that has no tables but the store's; where it is open still, it is
--- told then
+-- this was done outside a transaction, on a database that has no tables but the store's, which shows the tables that it did;
+-- where it is open still, it is told then
 pub record HasNumber {S : Type 0} (g : Ghosts S) (before after : Held S) (number : ℕ) : Type 0 where
   pub outside : before.in_transaction ≡ false
   pub fits : Fits before.schema
   pub makes : MakesNumber g before after number
+  pub kept : KeepsTables g before after
   pub told : IsTrue (state g after).is_open → IsTold (state g after)
+
+-- the same, and the number is above the last one
+pub record IsReady {S : Type 0} (g : Ghosts S) (last : ℕ) (before after : Held S) (epoch : ℕ) : Type 0 where
+  pub number : HasNumber g before after epoch
+  pub rises : last < epoch
 
 -- the keeper begins: its number is above the last one, and it hasn't failed
 pub record Begins {S : Type 0} (g : Ghosts S) (last : ℕ) (before : Held S) (keeper : KeeperFacts S) : Type 0 where
@@ -49,12 +55,13 @@ pub record StopsShort {S : Type 0} (g : Ghosts S) (before after : Held S) : Type
   pub front : Front g before after
   pub outside : StaysOutside g before after
 
--- a connection comes back from an opening that is refused; where it came inside a transaction, or has other tables, it is
--- as it was
+-- a connection comes back from an opening that is refused, and shows the tables that it did; where it came inside a
+-- transaction, or has other tables, it is as it was
 pub record ComesBack {S : Type 0} (g : Ghosts S) (before after : Held S) : Type 0 where
   pub same : IsTrue before.in_transaction → after ≡ before
   pub other : (Fits before.schema → ⊥) → after ≡ before
   pub short : StopsShort g before after
+  pub kept : KeepsTables g before after
 
 -- the opening is refused: inside a transaction and over other tables it fails, and the connection comes back
 pub record Refuses {S : Type 0} (g : Ghosts S) (before : Held S) (fault : SqlFault) (after : Held S) : Type 0 where

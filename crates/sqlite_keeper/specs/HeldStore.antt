@@ -1,14 +1,16 @@
 -- The store of a connection (this project's rule): the connection goes to the keeper, and comes back with it.
-use Rattle.std.specs.Prelude.{◌≡◌, ℕ, false, [], Option, Some, None, IsSomeAnd, MatchOption, refl}
+use Rattle.std.specs.Prelude.{◌≡◌, ℕ, Bool, false, if◌then◌else◌, List, [], Option, Some, None, IsSomeAnd, MatchOption, refl}
 use Rattle.std.specs.Coded.{Coded, code_by, coded×, coded_ℕ, coded_option}
 use Rattle.row_types.specs.Faults.{summed}
 use Rattle.index_keeper.specs.Store.{ShownStore}
+use Rattle.index_keeper.specs.Tables.{KeptFacts}
 use Rattle.index_keeper.specs.declared.answer.StoreAnswer.{StoreAnswer}
 use Rattle.index_keeper.specs.declared.answer.StoreAnswer.TheVariants.{Opened, Failed, OutOfMemory}
-use Rattle.sqlite.specs.Held.{Held, held_code}
+use Rattle.sqlite.specs.Held.{Held, held_code, state}
 use Rattle.sqlite.specs.Store.{Ghosts}
 use Rattle.sqlite_keeper.specs.Begins.{Begins, ComesBack}
 use Rattle.sqlite_keeper.specs.Keeper.{KeeperFacts}
+use Rattle.sqlite_keeper.specs.Told.{tables}
 
 -- the connection, while no keeper is out; how often an opening, or a call of a keeper that was given back, failed;
 -- the number of the last opening
@@ -23,9 +25,15 @@ held_facts_code {S} store =
     code_by (Option (Held S) × (ℕ × ℕ)) (coded× (coded_option (held_code store)) (coded× coded_ℕ coded_ℕ)) (λ s. (s.connection, (s.faults, s.epoch)))
     (λ p. record { connection = p.0; faults = p.1.0; epoch = p.1.1 }) (λ _. refl)
 
--- what the store shows: its number and its count
-abbrev pub held_shown : {S : Type 0} → HeldFacts S → ShownStore
-held_shown store = record { tables = []; made = None; epoch = store.epoch; faults = store.faults; paths = None }
+-- the tables of the connection that is held, if one is
+abbrev pub tables_held : {S : Type 0} → Ghosts S → Option (Held S) → List KeptFacts
+tables_held g None = []
+tables_held g (Some held) = tables (state g held)
+
+-- what the store shows: these tables, where they are told, its number and its count
+abbrev pub held_shown : {S : Type 0} → Bool → Ghosts S → HeldFacts S → ShownStore
+held_shown told g store =
+    record { tables = if told then tables_held g store.connection else []; made = None; epoch = store.epoch; faults = store.faults; paths = None }
 
 -- the store that holds the connection, and was never opened
 abbrev pub holding : {S : Type 0} → Held S → HeldFacts S

@@ -1,6 +1,5 @@
 -- The statements of the store (this project's format): their texts, and what came of running one.
-use Rattle.std.specs.Prelude.{◌≡◌, ℕ, pos, Bool, true, false, List, [], ◌∷◌, Option, Some, None, Result, Ok, Err, codes, IsTrue}
-use Rattle.index_keeper.specs.Tables.{EditFacts}
+use Rattle.std.specs.Prelude.{◌≡◌, ℕ, pos, Bool, true, false, List, [], Result, Ok, Err, codes, IsTrue}
 use Rattle.index_keeper.specs.declared.answer.KeepAnswer.{KeepAnswer}
 use Rattle.index_keeper.specs.declared.answer.KeepAnswer.TheVariants as answer
 use Rattle.sqlite.specs.Held.{Held, state}
@@ -8,7 +7,7 @@ use Rattle.sqlite.specs.Order.{Row, column}
 use Rattle.sqlite.specs.State.{State, HasCleanDisk, Executes, Survives, CommitsBy, CommitsShowing, QueriesRow}
 use Rattle.sqlite.specs.Store.{Ghosts}
 use Rattle.sqlite.specs.declared.error.Error.{Error}
-use Rattle.sqlite.specs.declared.types.Value.TheVariants.{Int, Text, Blob}
+use Rattle.sqlite.specs.declared.types.Value.TheVariants.{Int}
 use Rattle.sqlite_keeper.specs.Faults.{fault_of}
 use Rattle.sqlite_keeper.specs.declared.fault.SqlFault.{SqlFault}
 use Rattle.sqlite_keeper.specs.declared.fault.SqlFault.TheVariants.{Failed, OutOfMemory}
@@ -90,15 +89,6 @@ pub record Changes {S : Type 0} (g : Ghosts S) (sql : List ℕ) (params : Row) (
   pub committed : given ≡ answer.Done → IsCommitted (state g after)
   pub survives : Survives (state g before) (state g after) (CommitsBy sql params (state g before))
   pub outside : StaysOutside g before after
-
--- the change after which the bytes are kept under the path, or nothing
-abbrev pub edit_of : List ℕ → Option (List ℕ) → EditFacts
-edit_of path bytes = record { path = path; bytes = bytes }
-
--- the statement of such a change was asked for and answered
-abbrev pub Edits : {S : Type 0} → Ghosts S → List ℕ → Option (List ℕ) → Held S → Held S → KeepAnswer → Type 0
-Edits g path (Some bytes) before after given = Changes g put_text (Text path ∷ Blob bytes ∷ []) before after given
-Edits g path None before after given = Changes g remove_text (Text path ∷ []) before after given
 
 -- the number of the opening was shown by the statement that raises it
 pub record IsShown {S : Type 0} (g : Ghosts S) (before after : Held S) (number : ℕ) : Type 0 where

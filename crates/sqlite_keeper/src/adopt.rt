@@ -1,18 +1,21 @@
 //! Taking over an open connection.
 
-ghost use Rattle.std.specs.Prelude.{◌≡◌, Err, IfOk, IsTrue};
-ghost use Rattle.sqlite_keeper.specs.Begins.{Adopts, Front, HasNumber, MakesNumber, StopsShort};
-ghost use Rattle.sqlite_keeper.specs.Schema.{Fits};
+ghost use Rattle.std.specs.Prelude.{◌≡◌, IfErr, IfOk, IsTrue};
+ghost use Rattle.sqlite.specs.Held.{state};
+ghost use Rattle.sqlite_keeper.specs.Begins.{Adopts, Front, HasNumber, IsReady, MakesNumber};
+ghost use Rattle.sqlite_keeper.specs.Begins.{Refuses};
 ghost use Rattle.sqlite_keeper.specs.Statements.{StaysOutside};
+ghost use Rattle.sqlite_keeper.specs.Told.{IsTold, tables};
 
 use crate::fault::SqlFault;
 use crate::keeper::SqliteKeeper;
+use crate::telling::Telling;
 use crate::{schema, sql};
 use sqlite::{Alter, Connection};
 
 /// What came of taking over a connection. A refusal gives the connection back.
 #[derive(Drop)]
-pub enum AdoptAnswer<F: Alter> {
+pub enum AdoptAnswer<F: Telling> {
     /// The keeper stands on the connection.
     Adopted(SqliteKeeper<F>),
     /// A transaction is open, the database has other tables, refused a statement or failed, or the
@@ -28,20 +31,22 @@ fn make<F: Alter>(connection: &mut Connection<F>) -> Result<u64, SqlFault>
     ensures front { Front F.Store connection.old connection.new }
     ensures outside { StaysOutside F.Store connection.old connection.new }
 {
-    sql::make_kept(connection)?;
-    sql::make_epoch(connection)?;
+    connection.execute(sql::KEPT_TABLE, &[])?;
+    connection.execute(sql::EPOCH_TABLE, &[])?;
     sql::raise_epoch(connection)
 }
 
-/// Makes the tables, where they aren't there, and gives the number of the opening. Nothing is run
-/// inside a transaction, or where the database has other tables.
-pub(crate) fn prepare<F: Alter>(connection: &mut Connection<F>) -> Result<u64, SqlFault>
-    ensures ok { IfOk result (HasNumber F.Store connection.old connection.new) }
-    ensures short { StopsShort F.Store connection.old connection.new }
-    ensures inside { IsTrue connection.old.in_transaction →
-        (result ≡ Err SqlFault.Failed) × (connection.new ≡ connection.old) }
-    ensures strange { (Fits connection.old.schema → ⊥) →
-        (result ≡ Err SqlFault.Failed) × (connection.new ≡ connection.old) }
+/// Makes the tables, where they aren't there, and gives the number of the opening, which is above
+/// the last one. Nothing is run inside a transaction, or where the database has other tables.
+pub(crate) fn prepare<F: Telling>(
+    connection: &mut Connection<F>,
+    last: u64,
+) -> Result<u64, SqlFault>
+    ensures ok { IfOk result (IsReady F.Store last connection.old connection.new) }
+    ensures err { IfErr result (λ fault. Refuses F.Store connection.old fault connection.new) }
+    ensures told { IfOk result (λ _. IsTrue F.tells → IsTold (state F.Store connection.new)) }
+    ensures kept { IsTrue F.tells →
+        tables (state F.Store connection.new) ≡ tables (state F.Store connection.old) }
 {
     if !connection.is_autocommit() {
         return Err(SqlFault::Failed);
@@ -53,19 +58,22 @@ pub(crate) fn prepare<F: Alter>(connection: &mut Connection<F>) -> Result<u64, S
     if !schema::is_store(connection.schema()) {
         return Err(SqlFault::Failed);
     }
+    if number <= last {
+        return Err(SqlFault::Failed);
+    }
     Ok(number)
 }
 
-impl<F: Alter> SqliteKeeper<F> {
+impl<F: Telling> SqliteKeeper<F> {
     /// Makes the tables, where they aren't there, raises the number of openings, and gives the
     /// keeper on the connection.
-    pub fn adopt(connection: Connection<F>) -> AdoptAnswer<F>
+    pub fn adopt(mut connection: Connection<F>) -> AdoptAnswer<F>
         ensures { Adopts F.Store connection result }
     {
-        match SqliteKeeper::open(connection, 0) {
-            Ok(keeper) => AdoptAnswer::Adopted(keeper),
-            Err((SqlFault::Failed, connection)) => AdoptAnswer::Failed(connection),
-            Err((SqlFault::OutOfMemory, connection)) => AdoptAnswer::OutOfMemory(connection),
+        match prepare(&mut connection, 0) {
+            Ok(epoch) => AdoptAnswer::Adopted(SqliteKeeper::new(connection, epoch)),
+            Err(SqlFault::Failed) => AdoptAnswer::Failed(connection),
+            Err(SqlFault::OutOfMemory) => AdoptAnswer::OutOfMemory(connection),
         }
     }
 }

@@ -1,6 +1,6 @@
 //! The keeper of the store in a file.
 
-ghost use Rattle.std.specs.Prelude.{◌≡◌, [], ◌∷◌, false, IfOk, IfSome, option_copied};
+ghost use Rattle.std.specs.Prelude.{◌≡◌, [], ◌∷◌, false, IfOk, IfSome};
 ghost use Rattle.row_types.specs.declared.limits.TheConstants.{EDITION};
 ghost use Rattle.sqlite.specs.Files.{over_files};
 ghost use Rattle.sqlite.specs.declared.types.Value.TheVariants.{Blob, Text};
@@ -10,9 +10,10 @@ ghost use Rattle.index_keeper.specs.Tables.{put_of, removal_of};
 ghost use Rattle.sqlite_keeper.specs.FileStore.{BeginsAnew};
 ghost use Rattle.sqlite_keeper.specs.Keeper.{keeper_shown};
 ghost use Rattle.sqlite_keeper.specs.Reading.{Looks};
-ghost use Rattle.sqlite_keeper.specs.Statements.{Changes, Edits, edit_of, put_text, remove_text};
+ghost use Rattle.sqlite_keeper.specs.Statements.{Changes, put_text, remove_text};
 ghost use Rattle.sqlite_keeper.specs.Told.{TellsAll, TellsChange};
 
+use crate::adopt::prepare;
 use crate::fault::SqlFault;
 use crate::keeper::SqliteKeeper;
 use index_keeper::{KeepAnswer, Keeper, KeptAnswer};
@@ -40,26 +41,16 @@ impl FileKeeper {
     pub(crate) fn open(rt: &HostRuntime, path: &str, last: u64) -> Result<FileKeeper, SqlFault>
         ensures { IfOk result (λ it. BeginsAnew over_files last it.keeper) }
     {
-        let connection = Connection::open(rt, path)?;
-        match SqliteKeeper::open(connection, last) {
-            Ok(keeper) => Ok(FileKeeper { keeper }),
-            Err((fault, connection)) => {
+        let mut connection = Connection::open(rt, path)?;
+        match prepare(&mut connection, last) {
+            Ok(epoch) => Ok(FileKeeper {
+                keeper: SqliteKeeper::new(connection, epoch),
+            }),
+            Err(fault) => {
                 let _copied = connection.close();
                 Err(fault)
             }
         }
-    }
-
-    /// Keeps the bytes under the path from then on, or nothing.
-    fn edit(&mut self, path: &str, bytes: Option<&[u8]>) -> KeepAnswer
-        ensures asks { Asks false (keeper_shown self.old.keeper) (keeper_shown self.new.keeper)
-            (for_change (edit_of path.now (option_copied bytes.entry)) result) }
-        ensures changes { Edits over_files path.now (option_copied bytes.entry)
-            self.old.keeper.connection self.new.keeper.connection result }
-        ensures tells { TellsChange over_files (edit_of path.now (option_copied bytes.entry))
-            self.old.keeper.connection self.new.keeper.connection result }
-    {
-        self.keeper.edit(path, bytes)
     }
 
     /// Ends the keeper, and says how often a call has failed. The log is copied into the file;
@@ -80,15 +71,16 @@ impl FileKeeper {
 
 impl Keeper<OpenWorld> for FileKeeper {
     ghost use Rattle.std.specs.Prelude.{false};
+    ghost use Rattle.sqlite.specs.Files.{over_files};
     ghost use Rattle.sqlite_keeper.specs.Keeper.{keeper_shown};
 
     ghost told = { false };
 
-    ghost shows = { λ k. keeper_shown k.keeper };
+    ghost shows = { λ k. keeper_shown over_files k.keeper };
 
     fn rows(&mut self, alloc: Global) -> KeptAnswer
-        ensures asks { Asks false (keeper_shown self.old.keeper) (keeper_shown self.new.keeper)
-            (for_rows result) }
+        ensures asks { Asks false (keeper_shown over_files self.old.keeper)
+            (keeper_shown over_files self.new.keeper) (for_rows result) }
         ensures rows { IfSome (rows_in result) (AreKept (λ row. row.edition ≡ EDITION)) }
         ensures looks { Looks over_files self.old.keeper.connection self.new.keeper.connection
             (rows_in result) }
@@ -99,25 +91,26 @@ impl Keeper<OpenWorld> for FileKeeper {
     }
 
     fn put(&mut self, _alloc: Global, path: &str, bytes: &[u8]) -> KeepAnswer
-        ensures asks { Asks false (keeper_shown self.old.keeper) (keeper_shown self.new.keeper)
+        ensures asks { Asks false (keeper_shown over_files self.old.keeper)
+            (keeper_shown over_files self.new.keeper)
             (for_change (put_of path.now bytes.now) result) }
         ensures changes { Changes over_files put_text (Text path.now ∷ Blob bytes.now ∷ [])
             self.old.keeper.connection self.new.keeper.connection result }
         ensures tells { TellsChange over_files (put_of path.now bytes.now)
             self.old.keeper.connection self.new.keeper.connection result }
     {
-        self.edit(path, Some(bytes))
+        self.keeper.keep(path, bytes)
     }
 
     fn remove(&mut self, _alloc: Global, path: &str) -> KeepAnswer
-        ensures asks { Asks false (keeper_shown self.old.keeper) (keeper_shown self.new.keeper)
-            (for_change (removal_of path.now) result) }
+        ensures asks { Asks false (keeper_shown over_files self.old.keeper)
+            (keeper_shown over_files self.new.keeper) (for_change (removal_of path.now) result) }
         ensures changes { Changes over_files remove_text (Text path.now ∷ [])
             self.old.keeper.connection self.new.keeper.connection result }
         ensures tells { TellsChange over_files (removal_of path.now)
             self.old.keeper.connection self.new.keeper.connection result }
     {
-        self.edit(path, None)
+        self.keeper.forget(path)
     }
 
     fn epoch(&self) -> u64

@@ -2,6 +2,7 @@
 
 ghost use Rattle.std.specs.Prelude.{◌≡◌, false};
 ghost use Rattle.index_keeper.specs.Store.{OpensStore, TakesBack};
+ghost use Rattle.sqlite.specs.Files.{over_files};
 ghost use Rattle.sqlite_keeper.specs.FileStore.{GivesBegun, file_shown, fresh};
 ghost use Rattle.sqlite_keeper.specs.Keeper.{keeper_shown};
 
@@ -50,8 +51,8 @@ impl Store<OpenWorld> for SqliteStore {
     ghost shows = { file_shown };
 
     fn open_store(&mut self, _alloc: Global, path: &str) -> StoreAnswer<FileKeeper>
-        ensures opens { OpensStore false (λ k. keeper_shown k.keeper) path.now
-            (file_shown self.old) (file_shown self.new) result }
+        ensures opens { OpensStore false (λ k. keeper_shown over_files k.keeper)
+            path.now (file_shown self.old) (file_shown self.new) result }
         ensures begins { GivesBegun self.old.epoch result }
     {
         match FileKeeper::open(&self.rt, path, self.epoch) {
@@ -69,8 +70,8 @@ impl Store<OpenWorld> for SqliteStore {
 
     /// The log is copied into the file. Where that fails nothing is lost: the log keeps it.
     fn give_back(&mut self, keeper: FileKeeper)
-        ensures { TakesBack false (keeper_shown keeper.keeper) (file_shown self.old)
-            (file_shown self.new) }
+        ensures { TakesBack false (keeper_shown over_files keeper.keeper)
+            (file_shown self.old) (file_shown self.new) }
     {
         self.faults.add(keeper.close());
     }

@@ -1,30 +1,32 @@
 //! The store of a connection that it was given.
 
-ghost use Rattle.std.specs.Prelude.{◌≡◌, false};
+ghost use Rattle.std.specs.Prelude.{◌≡◌};
 ghost use Rattle.index_keeper.specs.Store.{OpensStore, TakesBack};
 ghost use Rattle.sqlite_keeper.specs.HeldStore.{Hands, after_giving, held_shown, holding};
 ghost use Rattle.sqlite_keeper.specs.Keeper.{keeper_shown};
 
+use crate::adopt::prepare;
 use crate::fault::SqlFault;
 use crate::keeper::SqliteKeeper;
 use crate::telling::Telling;
 use index_keeper::{Store, StoreAnswer};
 use row_types::{Faults, OpenWorld};
-use sqlite::{Alter, Connection};
+use sqlite::Connection;
 use std::alloc::Global;
 use std::marker::Model;
 
 /// The store of the connection that it holds, whatever the path. The connection goes to the keeper
-/// that is opened, and comes back with it. Contracts see the store as a record of the connection
-/// that it holds, its count of faults and the number of its last opening.
+/// that is opened, and comes back with it. It tells the tables of the connection where the store of
+/// bytes below tells what it holds. Contracts see the store as a record of the connection that it
+/// holds, its count of faults and the number of its last opening.
 #[derive(Drop)]
-pub struct HeldStore<F: Alter> {
+pub struct HeldStore<F: Telling> {
     connection: Option<Connection<F>>,
     faults: Faults,
     epoch: u64,
 }
 
-impl<F: Alter> Model for HeldStore<F> {
+impl<F: Telling> Model for HeldStore<F> {
     ghost use Rattle.sqlite_keeper.specs.HeldStore.{HeldFacts, held_facts_code};
 
     ghost Value = { HeldFacts F };
@@ -38,7 +40,7 @@ impl<F: Alter> Model for HeldStore<F> {
     } };
 }
 
-impl<F: Alter> HeldStore<F> {
+impl<F: Telling> HeldStore<F> {
     /// The store that holds this connection, before its first opening.
     pub fn new(connection: Connection<F>) -> HeldStore<F>
         ensures { result ≡ holding connection }
@@ -68,38 +70,37 @@ impl<F: Telling + Send + Drop> Store<OpenWorld> for HeldStore<F> {
 
     type K = SqliteKeeper<F>;
 
-    ghost shows = { held_shown };
+    ghost shows = { held_shown F.tells F.Store };
 
     fn open_store(&mut self, _alloc: Global, path: &str) -> StoreAnswer<SqliteKeeper<F>>
-        ensures opens { OpensStore false keeper_shown path.now (held_shown self.old)
-            (held_shown self.new) result }
+        ensures opens { OpensStore F.tells (keeper_shown F.Store) path.now
+            (held_shown F.tells F.Store self.old) (held_shown F.tells F.Store self.new)
+            result }
         ensures hands { Hands F.Store self.old self.new result }
     {
-        let Some(connection) = self.connection.take() else {
+        let Some(connection) = &mut self.connection else {
             self.faults.raise();
             return StoreAnswer::Failed;
         };
-        match SqliteKeeper::open(connection, self.epoch) {
-            Ok(keeper) => {
-                self.epoch = keeper.epoch;
-                StoreAnswer::Opened(keeper)
-            }
-            Err((fault, connection)) => {
-                self.connection = Some(connection);
-                match fault {
-                    SqlFault::OutOfMemory => StoreAnswer::OutOfMemory,
-                    SqlFault::Failed => {
-                        self.faults.raise();
-                        StoreAnswer::Failed
-                    }
+        match prepare(connection, self.epoch) {
+            Ok(epoch) => {
+                self.epoch = epoch;
+                match self.connection.take() {
+                    Some(connection) => StoreAnswer::Opened(SqliteKeeper::new(connection, epoch)),
+                    None => unreachable!(),
                 }
+            }
+            Err(SqlFault::OutOfMemory) => StoreAnswer::OutOfMemory,
+            Err(SqlFault::Failed) => {
+                self.faults.raise();
+                StoreAnswer::Failed
             }
         }
     }
 
     fn give_back(&mut self, keeper: SqliteKeeper<F>)
-        ensures takes { TakesBack false (keeper_shown keeper) (held_shown self.old)
-            (held_shown self.new) }
+        ensures takes { TakesBack F.tells (keeper_shown F.Store keeper)
+            (held_shown F.tells F.Store self.old) (held_shown F.tells F.Store self.new) }
         ensures after { self.new ≡ after_giving self.old keeper }
     {
         let SqliteKeeper {

@@ -1,38 +1,41 @@
 //! The keeper over a connection.
 
-ghost use Rattle.std.specs.Prelude.{◌≡◌, [], ◌∷◌, false, IfOk, IfErr, IfSome, option_copied};
+ghost use Rattle.std.specs.Prelude.{◌≡◌, [], ◌∷◌, IfSome, IsTrue};
+ghost use Rattle.sqlite.specs.Held.{state};
 ghost use Rattle.sqlite.specs.declared.types.Value.TheVariants.{Blob, Text};
 ghost use Rattle.row_types.specs.declared.limits.TheConstants.{EDITION};
-ghost use Rattle.index_keeper.specs.Answers.{for_change, for_rows, rows_in};
+ghost use Rattle.index_keeper.specs.Answers.{for_change, for_rows, has_failed, rows_in};
 ghost use Rattle.index_keeper.specs.Keeper.{AreKept, Asks};
 ghost use Rattle.index_keeper.specs.Tables.{EditFacts, put_of, removal_of};
-ghost use Rattle.sqlite_keeper.specs.Begins.{Begins, Refuses};
-ghost use Rattle.sqlite_keeper.specs.Keeper.{keeper_shown, opened};
+ghost use Rattle.sqlite_keeper.specs.Keeper.{IsCounted, keeper_shown, opened};
 ghost use Rattle.sqlite_keeper.specs.Reading.{Looks};
-ghost use Rattle.sqlite_keeper.specs.Statements.{Changes, Edits, edit_of, put_text, remove_text};
-ghost use Rattle.sqlite_keeper.specs.Told.{TellsAll, TellsChange};
+ghost use Rattle.sqlite_keeper.specs.Statements.{Changes, put_text, remove_text};
+ghost use Rattle.sqlite_keeper.specs.Told.{IsTold, TellsAll, TellsChange};
 
-use crate::adopt::prepare;
 use crate::fault::SqlFault;
 use crate::telling::Telling;
 use crate::{rows, sql};
 use index_keeper::{KeepAnswer, Keeper, KeptAnswer};
 use row_types::{Faults, OpenWorld};
-use sqlite::{Alter, Connection};
+use sqlite::Connection;
 use std::alloc::Global;
 use std::marker::Model;
 
-/// A keeper over a database, which doesn't tell its tables. Each change is one commit. Contracts
-/// see it as a record of its connection, its count of faults and the number of its opening.
+/// A keeper over a database, which tells its tables where the store of bytes below tells what it
+/// holds. Each change is one commit. Contracts see it as a record of its connection, its count of
+/// faults and the number of its opening.
 #[derive(Drop)]
-pub struct SqliteKeeper<F: Alter> {
+pub struct SqliteKeeper<F: Telling> {
     pub(crate) connection: Connection<F>,
     pub(crate) faults: Faults,
     pub(crate) epoch: u64,
 }
 
-impl<F: Alter> Model for SqliteKeeper<F> {
+impl<F: Telling> Model for SqliteKeeper<F> {
+    ghost use Rattle.std.specs.Prelude.{IsTrue};
+    ghost use Rattle.sqlite.specs.Held.{state};
     ghost use Rattle.sqlite_keeper.specs.Keeper.{KeeperFacts, keeper_code};
+    ghost use Rattle.sqlite_keeper.specs.Told.{IsTold};
 
     ghost Value = { KeeperFacts F };
 
@@ -43,33 +46,20 @@ impl<F: Alter> Model for SqliteKeeper<F> {
       faults = k.faults;
       epoch = k.epoch;
     } };
+
+    ghost invariant = { λ k. IsTrue F.tells → IsTold (state F.Store k.connection) };
 }
 
-impl<F: Alter> SqliteKeeper<F> {
+impl<F: Telling> SqliteKeeper<F> {
     /// The keeper on a connection, by the number of the opening.
-    fn new(connection: Connection<F>, epoch: u64) -> SqliteKeeper<F>
+    pub(crate) fn new(connection: Connection<F>, epoch: u64) -> SqliteKeeper<F>
+        requires { IsTrue F.tells → IsTold (state F.Store connection) }
         ensures { result ≡ opened connection epoch }
     {
         SqliteKeeper {
             connection,
             faults: Faults::new(),
             epoch,
-        }
-    }
-
-    /// Opens the store of an open connection, whose last opening had this number. A refusal gives
-    /// the connection back.
-    pub(crate) fn open(
-        mut connection: Connection<F>,
-        last: u64,
-    ) -> Result<SqliteKeeper<F>, (SqlFault, Connection<F>)>
-        ensures ok { IfOk result (Begins F.Store last connection) }
-        ensures err { IfErr result (λ e. Refuses F.Store connection e.0 e.1) }
-    {
-        match prepare(&mut connection) {
-            Ok(epoch) if last < epoch => Ok(SqliteKeeper::new(connection, epoch)),
-            Ok(_) => Err((SqlFault::Failed, connection)),
-            Err(fault) => Err((fault, connection)),
         }
     }
 
@@ -80,44 +70,19 @@ impl<F: Alter> SqliteKeeper<F> {
         self.faults
     }
 
-    /// Counts a fault, if the answer is one.
-    fn count(&mut self, answer: KeepAnswer) -> KeepAnswer
-        ensures same { result ≡ answer }
-        ensures asks { (edit : EditFacts) → Asks false (keeper_shown self.old)
-            (keeper_shown self.new) (for_change edit answer) }
-        ensures stays { self.new.connection ≡ self.old.connection }
-    {
-        if answer == KeepAnswer::Failed {
-            self.faults.raise();
-        }
-        answer
-    }
-
-    /// Keeps the bytes under the path from then on, or nothing.
-    pub(crate) fn edit(&mut self, path: &str, bytes: Option<&[u8]>) -> KeepAnswer
-        ensures asks { Asks false (keeper_shown self.old) (keeper_shown self.new)
-            (for_change (edit_of path.now (option_copied bytes.entry)) result) }
-        ensures changes { Edits F.Store path.now (option_copied bytes.entry)
-            self.old.connection self.new.connection result }
-        ensures tells { TellsChange F.Store (edit_of path.now (option_copied bytes.entry))
-            self.old.connection self.new.connection result }
-    {
-        let answer = sql::edit(&mut self.connection, path, bytes);
-        self.count(answer)
-    }
-
     /// All rows of the tables, by path.
     pub(crate) fn read(&mut self, alloc: Global) -> KeptAnswer
-        ensures asks { Asks false (keeper_shown self.old) (keeper_shown self.new)
-            (for_rows result) }
+        ensures asks { Asks F.tells (keeper_shown F.Store self.old)
+            (keeper_shown F.Store self.new) (for_rows result) }
         ensures rows { IfSome (rows_in result) (AreKept (λ row. row.edition ≡ EDITION)) }
         ensures looks { Looks F.Store self.old.connection self.new.connection
             (rows_in result) }
         ensures tells { TellsAll F.Store self.old.connection self.new.connection
             (rows_in result) }
     {
-        match rows::all_rows(alloc, &mut self.connection) {
-            Ok(rows) => KeptAnswer::All(rows),
+        let mut kept = Vec::new(alloc);
+        match rows::read_all(&mut self.connection, &mut kept) {
+            Ok(()) => KeptAnswer::All(kept),
             Err(SqlFault::OutOfMemory) => KeptAnswer::OutOfMemory,
             Err(SqlFault::Failed) => {
                 self.faults.raise();
@@ -125,19 +90,56 @@ impl<F: Alter> SqliteKeeper<F> {
             }
         }
     }
+
+    /// Keeps the bytes under the path, in place of those that were kept there.
+    pub(crate) fn keep(&mut self, path: &str, bytes: &[u8]) -> KeepAnswer
+        ensures asks { Asks F.tells (keeper_shown F.Store self.old)
+            (keeper_shown F.Store self.new) (for_change (put_of path.now bytes.now) result) }
+        ensures changes { Changes F.Store put_text (Text path.now ∷ Blob bytes.now ∷ [])
+            self.old.connection self.new.connection result }
+        ensures tells { TellsChange F.Store (put_of path.now bytes.now)
+            self.old.connection self.new.connection result }
+    {
+        let answer = sql::put(&mut self.connection, path, bytes);
+        count(&mut self.faults, answer);
+        answer
+    }
+
+    /// Keeps nothing under the path.
+    pub(crate) fn forget(&mut self, path: &str) -> KeepAnswer
+        ensures asks { Asks F.tells (keeper_shown F.Store self.old)
+            (keeper_shown F.Store self.new) (for_change (removal_of path.now) result) }
+        ensures changes { Changes F.Store remove_text (Text path.now ∷ [])
+            self.old.connection self.new.connection result }
+        ensures tells { TellsChange F.Store (removal_of path.now)
+            self.old.connection self.new.connection result }
+    {
+        let answer = sql::remove(&mut self.connection, path);
+        count(&mut self.faults, answer);
+        answer
+    }
+}
+
+/// Counts a fault, if the answer is one.
+fn count(faults: &mut Faults, answer: KeepAnswer)
+    ensures { (edit : EditFacts) →
+        IsCounted (has_failed (for_change edit answer)) faults.old faults.new }
+{
+    if answer == KeepAnswer::Failed {
+        faults.raise();
+    }
 }
 
 impl<F: Telling + Send + Drop> Keeper<OpenWorld> for SqliteKeeper<F> {
-    ghost use Rattle.std.specs.Prelude.{false};
     ghost use Rattle.sqlite_keeper.specs.Keeper.{keeper_shown};
 
-    ghost told = { false };
+    ghost told = { F.tells };
 
-    ghost shows = { keeper_shown };
+    ghost shows = { keeper_shown F.Store };
 
     fn rows(&mut self, alloc: Global) -> KeptAnswer
-        ensures asks { Asks false (keeper_shown self.old) (keeper_shown self.new)
-            (for_rows result) }
+        ensures asks { Asks F.tells (keeper_shown F.Store self.old)
+            (keeper_shown F.Store self.new) (for_rows result) }
         ensures rows { IfSome (rows_in result) (AreKept (λ row. row.edition ≡ EDITION)) }
         ensures looks { Looks F.Store self.old.connection self.new.connection
             (rows_in result) }
@@ -148,25 +150,25 @@ impl<F: Telling + Send + Drop> Keeper<OpenWorld> for SqliteKeeper<F> {
     }
 
     fn put(&mut self, _alloc: Global, path: &str, bytes: &[u8]) -> KeepAnswer
-        ensures asks { Asks false (keeper_shown self.old) (keeper_shown self.new)
-            (for_change (put_of path.now bytes.now) result) }
+        ensures asks { Asks F.tells (keeper_shown F.Store self.old)
+            (keeper_shown F.Store self.new) (for_change (put_of path.now bytes.now) result) }
         ensures changes { Changes F.Store put_text (Text path.now ∷ Blob bytes.now ∷ [])
             self.old.connection self.new.connection result }
         ensures tells { TellsChange F.Store (put_of path.now bytes.now)
             self.old.connection self.new.connection result }
     {
-        self.edit(path, Some(bytes))
+        self.keep(path, bytes)
     }
 
     fn remove(&mut self, _alloc: Global, path: &str) -> KeepAnswer
-        ensures asks { Asks false (keeper_shown self.old) (keeper_shown self.new)
-            (for_change (removal_of path.now) result) }
+        ensures asks { Asks F.tells (keeper_shown F.Store self.old)
+            (keeper_shown F.Store self.new) (for_change (removal_of path.now) result) }
         ensures changes { Changes F.Store remove_text (Text path.now ∷ [])
             self.old.connection self.new.connection result }
         ensures tells { TellsChange F.Store (removal_of path.now)
             self.old.connection self.new.connection result }
     {
-        self.edit(path, None)
+        self.forget(path)
     }
 
     fn epoch(&self) -> u64

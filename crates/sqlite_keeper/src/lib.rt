@@ -1,5 +1,6 @@
 //! The store in a file: rows that are kept by the SQL of `sqlite`, and what its answers mean for a
-//! keeper. What the bytes of a row are is said elsewhere, and nothing is told of the tables.
+//! keeper. What the bytes of a row are is said elsewhere. The tables of a database in memory are
+//! told.
 #![tactic(auto)]
 
 mod adopt;

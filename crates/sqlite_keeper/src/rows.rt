@@ -1,17 +1,18 @@
 //! All rows of the tables, read one at a time.
 
-ghost use Rattle.std.specs.Prelude.{◌≡◌, ◌++◌, ◌∷◌, [], false, map, IfOk, OnOk};
+ghost use Rattle.std.specs.Prelude.{◌≡◌, ◌++◌, ◌∷◌, [], false, IfOk, OnOk};
+ghost use Rattle.sqlite.specs.Given.{HasGiven};
 ghost use Rattle.sqlite.specs.Held.{state};
 ghost use Rattle.sqlite.specs.State.{HasCleanDisk, IsUnchanged, Survives};
 ghost use Rattle.index_keeper.specs.Tables.{AscendsByPath};
 ghost use Rattle.sqlite_keeper.specs.Ascend.{stands_last};
 ghost use Rattle.sqlite_keeper.specs.Reading.{GivesAll, GivesRow, LeavesAlone, shown_kept};
+ghost use Rattle.sqlite_keeper.specs.Statements.{rows_text};
 
 use crate::fault::SqlFault;
 use crate::sql;
 use index_keeper::Kept;
 use sqlite::{Alter, Connection, Row, Rows};
-use std::alloc::Global;
 
 /// The path and the bytes of a row.
 fn kept_of(row: &Row) -> Result<Kept, SqlFault>
@@ -71,8 +72,37 @@ fn add(rows: &mut Vec<Kept>, row: Kept) -> Result<(), SqlFault>
     }
 }
 
-/// Reads all rows of the tables into a list in which there are none.
-fn read_all<F: Alter>(connection: &mut Connection<F>, kept: &mut Vec<Kept>) -> Result<(), SqlFault>
+/// Reads the rows of a query that has given none yet into a list in which there are none. Rows that
+/// don't come strictly by path are a fault.
+fn read_from<F: Alter>(rows: &mut Rows<'_, F>, kept: &mut Vec<Kept>) -> Result<(), SqlFault>
+    requires { kept.old.items ≡ [] }
+    ensures same_reference { rows.new.conn.ghost_name ≡ rows.old.conn.ghost_name }
+    ensures ascends { AscendsByPath kept.new.items }
+    ensures gives { HasCleanDisk (state F.Store rows.new.conn.now) →
+        HasGiven F.Store rows_text [] rows.old.conn.now [] →
+        OnOk result (GivesAll F.Store rows.old.conn.now rows.new.conn.now kept.new.items) }
+    ensures leaves { HasCleanDisk (state F.Store rows.new.conn.now) →
+        HasGiven F.Store rows_text [] rows.old.conn.now [] →
+        LeavesAlone (state F.Store rows.old.conn.now) (state F.Store rows.new.conn.now) }
+    ensures outside { rows.old.conn.now.in_transaction ≡ false →
+        rows.new.conn.now.in_transaction ≡ false }
+    ensures survives { Survives (state F.Store rows.old.conn.now)
+        (state F.Store rows.new.conn.now) (λ _. ⊥) }
+{
+    'rows: for _ in 0..u64::MAX {
+        match next_of(rows)? {
+            Some(row) => add(kept, row)?,
+            None => return Ok(()),
+        }
+    }
+    Err(SqlFault::Failed)
+}
+
+/// Reads all rows of the tables into a list in which there are none, strictly by path.
+pub fn read_all<F: Alter>(
+    connection: &mut Connection<F>,
+    kept: &mut Vec<Kept>,
+) -> Result<(), SqlFault>
     requires { kept.old.items ≡ [] }
     ensures ascends { AscendsByPath kept.new.items }
     ensures gives { HasCleanDisk (state F.Store connection.new) →
@@ -84,34 +114,6 @@ fn read_all<F: Alter>(connection: &mut Connection<F>, kept: &mut Vec<Kept>) -> R
     ensures survives { Survives (state F.Store connection.old) (state F.Store connection.new)
         (λ _. ⊥) }
 {
-    let mut rows = sql::begin_reading(connection)?;
-    'rows: for _ in 0..u64::MAX {
-        let Some(row) = next_of(&mut rows)? else {
-            return Ok(());
-        };
-        add(kept, row)?;
-    }
-    Err(SqlFault::Failed)
-}
-
-/// All rows, strictly by path; rows in another order are a fault.
-pub fn all_rows<F: Alter>(
-    alloc: Global,
-    connection: &mut Connection<F>,
-) -> Result<Vec<Kept>, SqlFault>
-    ensures ascends { IfOk result (λ rows. AscendsByPath rows.items) }
-    ensures gives { HasCleanDisk (state F.Store connection.new) → IfOk result
-        (λ rows. GivesAll F.Store connection.old connection.new rows.items) }
-    ensures leaves { HasCleanDisk (state F.Store connection.new) →
-        LeavesAlone (state F.Store connection.old) (state F.Store connection.new) }
-    ensures outside { connection.old.in_transaction ≡ false →
-        connection.new.in_transaction ≡ false }
-    ensures survives { Survives (state F.Store connection.old) (state F.Store connection.new)
-        (λ _. ⊥) }
-{
-    let mut kept = Vec::new(alloc);
-    match read_all(connection, &mut kept) {
-        Ok(()) => Ok(kept),
-        Err(fault) => Err(fault),
-    }
+    let mut rows = connection.query(sql::ROWS, &[])?;
+    read_from(&mut rows, kept)
 }
