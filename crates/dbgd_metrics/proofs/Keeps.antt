@@ -1,5 +1,5 @@
 -- Each kind of step keeps the rule of the counters' table.
-use Rattle.std.proofs.Common.{◌≡◌, ◌≢◌, ◌⊎◌, ℕ, zero, suc, ◌+◌, ◌*◌, ◌<◌, List, [], ◌∷◌, ◌++◌, length, get_or, set, replicate, refl, sym, ap, ◌∙◌, ⊎_elim, arith, get_or-set_same, get_or-set_other, length-set, Some, None}
+use Rattle.std.proofs.Common.{◌≡◌, ◌≢◌, ◌⊎◌, ℕ, zero, suc, ◌+◌, ◌*◌, ◌<◌, ◌≤◌, List, [], ◌∷◌, ◌++◌, length, get_or, set, replicate, refl, sym, ap, ◌∙◌, ⊎_elim, arith, get_or-set_same, get_or-set_other, length-set, Some, None}
 use Rattle.std.proofs.lemmas.List.{length-replicate}
 use mathlib.Core.Option.{some, some-ne-none}
 use mathlib.Core.Logic.{dite}
@@ -9,7 +9,7 @@ use Rattle.atomic_table.specs.Table.{State, opening}
 use Rattle.atomic_table.proofs.Lists.{at_snoc, at_longer}
 use Rattle.dbgd_metrics.specs.declared.view.Known.{Known}
 use Rattle.dbgd_metrics.specs.Numbers.{zeros}
-use Rattle.dbgd_metrics.specs.Rule.{KeepsBook, blank, word_at}
+use Rattle.dbgd_metrics.specs.Rule.{KeepsBook, blank, heir, word_at}
 use Rattle.dbgd_metrics.proofs.Views.{row_or_none, one_row, set_there, by_view, still_owned}
 
 -- a list of zeros has only zeros
@@ -20,17 +20,18 @@ zero_at (suc n) (suc place) = zero_at n place
 
 module _ {S : Type 0} where
   -- a seat's view becomes another with the same row and numbers
-  pub keeps_look : {rows : ℕ} {old : Known} (id : ℕ) (s : State S Known) (new : Known) → KeepsBook rows s → get_elem? s.views id ≡ some old → new.row ≡ old.row → new.numbers ≡ old.numbers
+  pub keeps_look : {rows : ℕ} {old : Known} (id : ℕ) (s : State S Known) (new : Known) → KeepsBook rows s → get_elem? s.views id ≡ some old → new.row ≡ old.row → new.numbers ≡ old.numbers → new.drawn ≡ old.drawn
       → KeepsBook rows record { words = s.words; homes = s.homes; views = set s.views id new }
-  keeps_look {rows} {old} id s new k at row numbers =
-      let Had : ℕ → Known → Type 0 = λ j known. (b : Known) × (get_elem? s.views j ≡ some b) × (b.row ≡ known.row) × (b.numbers ≡ known.numbers) in
+  keeps_look {rows} {old} id s new k at row numbers drawn =
+      let Had : ℕ → Known → Type 0 = λ j known. (b : Known) × (get_elem? s.views j ≡ some b) × (b.row ≡ known.row) × (b.numbers ≡ known.numbers) × (b.drawn ≡ known.drawn) in
       let had : (j : ℕ) (known : Known) → get_elem? (set s.views id new) j ≡ some known → Had j known =
-      by_view Had s.views id new (old, at, sym row, sym numbers) (λ j known n e. (known, e, refl, refl)) in record {
+      by_view Had s.views id new (old, at, sym row, sym numbers, sym drawn) (λ j known n e. (known, e, refl, refl, refl)) in record {
         size = k.size;
         drawn = k.drawn;
         below = λ j known r e is. let b = had j known e in k.below j b.0 r b.1 (b.2 ∙ is);
         owned = λ r less. let o = k.owned r less in let a = still_owned s.views id o.0 r old new o.1 at (λ is. row ∙ is) o.2 o.3 in (o.0, a.0, a.1, a.2);
         alone = λ i j one other r e f is is'. let a = had i one e in let b = had j other f in k.alone i j a.0 b.0 r a.1 b.1 (a.2 ∙ is) (b.2 ∙ is');
+        behind = λ j known e. let b = had j known e in let less = k.behind j b.0 b.1 in omega (arith, b.4, less);
         whole = λ j known e. let b = had j known e in ap length (sym b.3) ∙ k.whole j b.0 b.1;
         same = λ j known r place e is small. let b = had j known e in k.same j b.0 r place b.1 (b.2 ∙ is) small ∙ ap (λ (ns : List ℕ). get_or ns place 0) b.3;
         idle = λ j known e is. let b = had j known e in sym b.3 ∙ k.idle j b.0 b.1 (b.2 ∙ is);
@@ -39,10 +40,10 @@ module _ {S : Type 0} where
 
   -- a seat without a row takes the next
   pub keeps_draw : {rows : ℕ} {old : Known} (id : ℕ) (s : State S Known) (d : ℕ) → KeepsBook rows s → get_elem? s.views id ≡ some old → old.row ≡ None → get_or s.words 0 0 ≡ d → d < rows
-      → KeepsBook rows record { words = set s.words 0 (d + 1); homes = s.homes; views = set s.views id (record old { row = Some d }) }
+      → KeepsBook rows record { words = set s.words 0 (d + 1); homes = s.homes; views = set s.views id (record old { row = Some d; drawn = d + 1 }) }
   keeps_draw {rows} {old} id s d k at none is more =
       let words : List ℕ = set s.words 0 (d + 1) in
-      let new : Known = record old { row = Some d } in
+      let new : Known = record old { row = Some d; drawn = d + 1 } in
       let some_word : 0 < length s.words = omega (arith, k.size) in
       let first : get_or words 0 0 ≡ d + 1 = get_or-set_same s.words 0 (d + 1) 0 some_word in
       let other : (w : ℕ) → w ≢ 0 → get_or words w 0 ≡ get_or s.words w 0 = λ w n. get_or-set_other s.words 0 w (d + 1) 0 n in
@@ -62,6 +63,8 @@ module _ {S : Type 0} where
             (λ i v n h g. by_view (λ j w. w.row ≡ Some r → i ≡ j) s.views id new
             (λ g'. let b = k.below i v r h g in let same : d ≡ r = one_row refl g' in absurd (omega (arith, is, b, same)))
             (λ j w n' h' g'. k.alone i j v w r h h' g g') j two f is'') i one e is';
+        behind = by_view (λ _ v. v.drawn ≤ get_or words 0 0) s.views id new (omega (arith, first))
+            (λ j v n e. let b = k.behind j v e in omega (arith, first, is, b));
         whole = by_view (λ _ v. length v.numbers ≡ 53) s.views id new (k.whole id old at) (λ j v n e. k.whole j v e);
         same = λ j known r place e is' small. by_view (λ _ v. v.row ≡ Some r → get_or words (word_at r place) 0 ≡ get_or v.numbers place 0) s.views id new
             (λ g. let same : d ≡ r = one_row refl g in
@@ -92,6 +95,8 @@ module _ {S : Type 0} where
         alone = λ i j one two r e f is is'. by_view (λ i v. v.row ≡ Some r → i ≡ j) s.views id new
             (λ g. by_view (λ j w. w.row ≡ Some r → id ≡ j) s.views id new (λ _. refl) (λ j w ne h g'. k.alone id j old w r at h g g') j two f is')
             (λ i v ne h g. by_view (λ j w. w.row ≡ Some r → i ≡ j) s.views id new (λ g'. k.alone i id v old r h at g g') (λ j w ne' h' g'. k.alone i j v w r h h' g g') j two f is') i one e is;
+        behind = by_view (λ _ v. v.drawn ≤ get_or words 0 0) s.views id new (let b = k.behind id old at in omega (arith, first, b))
+            (λ j v ne e. let b = k.behind j v e in omega (arith, first, b));
         whole = by_view (λ _ v. length v.numbers ≡ 53) s.views id new (length-set old.numbers place n ∙ k.whole id old at) (λ j v ne e. k.whole j v e);
         same = λ j known r p e is less. by_view (λ _ v. v.row ≡ Some r → get_or words (word_at r p) 0 ≡ get_or v.numbers p 0) s.views id new
             (λ g. let one : r ≡ row = one_row g mine in dite (ℕ_discrete p place)
@@ -103,20 +108,23 @@ module _ {S : Type 0} where
         rest = λ w big less. other w (λ h. omega (arith, h, big, first, below, small)) ∙ k.rest w (omega (arith, big, first)) less;
       }
 
-  -- a new seat knows nothing
-  pub keeps_split : {rows : ℕ} (s : State S Known) → KeepsBook rows s → KeepsBook rows record { words = s.words; homes = s.homes; views = s.views ++ blank ∷ [] }
-  keeps_split {rows} s k =
-      let had : (j : ℕ) (known : Known) → get_elem? (s.views ++ blank ∷ []) j ≡ some known → (get_elem? s.views j ≡ some known) ⊎ (blank ≡ known) = λ j known e. at_snoc s.views blank known j e in
-      let rowed : (j r : ℕ) (known : Known) → get_elem? (s.views ++ blank ∷ []) j ≡ some known → known.row ≡ Some r → get_elem? s.views j ≡ some known =
-      λ j r known e is. ⊎_elim (λ (h : get_elem? s.views j ≡ some known). h) (λ (h : blank ≡ known). absurd (row_or_none is (ap (λ (v : Known). v.row) (sym h)))) (had j known e) in record {
+  -- a new seat knows nothing but what an old one knows of the drawn rows
+  pub keeps_split : {rows : ℕ} {old : Known} (id : ℕ) (s : State S Known) → KeepsBook rows s → get_elem? s.views id ≡ some old
+      → KeepsBook rows record { words = s.words; homes = s.homes; views = s.views ++ heir old ∷ [] }
+  keeps_split {rows} {old} id s k at =
+      let had : (j : ℕ) (known : Known) → get_elem? (s.views ++ heir old ∷ []) j ≡ some known → (get_elem? s.views j ≡ some known) ⊎ (heir old ≡ known) = λ j known e. at_snoc s.views (heir old) known j e in
+      let rowed : (j r : ℕ) (known : Known) → get_elem? (s.views ++ heir old ∷ []) j ≡ some known → known.row ≡ Some r → get_elem? s.views j ≡ some known =
+      λ j r known e is. ⊎_elim (λ (h : get_elem? s.views j ≡ some known). h) (λ (h : heir old ≡ known). absurd (row_or_none is (ap (λ (v : Known). v.row) (sym h)))) (had j known e) in record {
         size = k.size;
         drawn = k.drawn;
         below = λ j known r e is. k.below j known r (rowed j r known e is) is;
-        owned = λ r less. let o = k.owned r less in (o.0, o.1, at_longer s.views (blank ∷ []) o.0 o.1 o.2, o.3);
+        owned = λ r less. let o = k.owned r less in (o.0, o.1, at_longer s.views (heir old ∷ []) o.0 o.1 o.2, o.3);
         alone = λ i j one two r e f is is'. k.alone i j one two r (rowed i r one e is) (rowed j r two f is') is is';
-        whole = λ j known e. ⊎_elim (λ (h : get_elem? s.views j ≡ some known). k.whole j known h) (λ (h : blank ≡ known). ap (λ (v : Known). length v.numbers) (sym h)) (had j known e);
+        behind = λ j known e. ⊎_elim (λ (h : get_elem? s.views j ≡ some known). k.behind j known h)
+            (λ (h : heir old ≡ known). let less = k.behind id old at in let same = ap (λ (v : Known). v.drawn) h in omega (arith, less, same)) (had j known e);
+        whole = λ j known e. ⊎_elim (λ (h : get_elem? s.views j ≡ some known). k.whole j known h) (λ (h : heir old ≡ known). ap (λ (v : Known). length v.numbers) (sym h)) (had j known e);
         same = λ j known r place e is small. k.same j known r place (rowed j r known e is) is small;
-        idle = λ j known e is. ⊎_elim (λ (h : get_elem? s.views j ≡ some known). k.idle j known h is) (λ (h : blank ≡ known). ap (λ (v : Known). v.numbers) (sym h)) (had j known e);
+        idle = λ j known e is. ⊎_elim (λ (h : get_elem? s.views j ≡ some known). k.idle j known h is) (λ (h : heir old ≡ known). ap (λ (v : Known). v.numbers) (sym h)) (had j known e);
         rest = k.rest;
       }
 
@@ -132,6 +140,7 @@ module _ {S : Type 0} where
         below = λ j known r e f. absurd (rowed j r known e f);
         owned = λ r less. absurd (omega (arith, less, all 0));
         alone = λ i j one two r e f g h. absurd (rowed i r one e g);
+        behind = λ j known e. let none = ap (λ (v : Known). v.drawn) (had j known e) in omega (arith, none);
         whole = λ j known e. ap (λ (v : Known). length v.numbers) (sym (had j known e));
         same = λ j known r place e f small. absurd (rowed j r known e f);
         idle = λ j known e f. ap (λ (v : Known). v.numbers) (sym (had j known e));

@@ -4,3 +4,4 @@ pub mod Steps
 pub mod Loads
 pub mod Rows
 pub mod Seats
+pub mod Apart

@@ -1,5 +1,5 @@
 -- What a share shows and keeps once its seat made a step.
-use Rattle.std.proofs.Common.{◌≡◌, ℕ, ◌≤◌, List, [], ◌∷◌, ◌++◌, sym, ap, ◌∙◌, subst, arith, Bool, false, Option, Some, None}
+use Rattle.std.proofs.Common.{◌≡◌, ℕ, ◌+◌, ◌≤◌, List, [], ◌∷◌, ◌++◌, sym, ap, ◌∙◌, subst, arith, Bool, false, Option, Some, None}
 use Rattle.std.specs.Prelude.{IsSome}
 use Rattle.dbgd_metrics.proofs.Rows.{no_row, place_bound}
 use Rattle.dbgd_metrics.proofs.Views.{one_row, row_or_none}
@@ -15,8 +15,8 @@ use Rattle.dbgd_metrics.specs.declared.view.Known.{Known}
 
 -- what a share shows after a step on its seat
 pub facts_after : (old new : Token) (marked : Bool) (known : Known) → new.table_id ≡ old.table_id → new.me ≡ (known, old.me.1)
-    → facts_of new marked ≡ record (facts_of old marked) { row = known.row; numbers = known.numbers; loads = known.loads }
-facts_after old new marked known table me = λ k. record { book = table k; row = (me k).0.row; numbers = (me k).0.numbers; marked = marked; loads = (me k).0.loads }
+    → facts_of new marked ≡ record (facts_of old marked) { row = known.row; numbers = known.numbers; loads = known.loads; drawn = known.drawn }
+facts_after old new marked known table me = λ k. record { book = table k; row = (me k).0.row; numbers = (me k).0.numbers; marked = marked; loads = (me k).0.loads; drawn = (me k).0.drawn }
 
 -- a seat that noted loads is still the share's
 pub still_seat : (old new : Token) (row : Option ℕ) (marked : Bool) → HasSeat old row marked → new.table_id ≡ old.table_id → new.me.1 ≡ old.me.1 → new.me.0.row ≡ old.me.0.row → new.me.0.numbers ≡ old.me.0.numbers
@@ -43,7 +43,8 @@ takes_row {rows} {row} {share} old new marked gets shows nothing = record {
   free = gets.free;
   row = row;
   below = gets.below;
-  share = facts_after old new marked _ gets.table gets.me ∙ ap (λ (s : ShareFacts). record s { row = Some row; loads = s.loads ++ gets.tries ++ finds row ∷ [] }) shows;
+  behind = let known = ap (λ (s : ShareFacts). s.drawn) shows in omega (arith, gets.behind, known);
+  share = facts_after old new marked _ gets.table gets.me ∙ ap (λ (s : ShareFacts). record s { row = Some row; loads = s.loads ++ gets.tries ++ finds row ∷ []; drawn = row + 1 }) shows;
   nothing = ap (λ m. m.0.numbers) gets.me ∙ (ap (λ (s : ShareFacts). s.numbers) shows ∙ nothing);
 }
 

@@ -8,7 +8,7 @@ use prog.Atomic.{either}
 use Rattle.atomic_table.specs.Table.{State, Me, step, Act, keeps, Valid, stepped, carried_after, Allows, Splits}
 use Rattle.atomic_table.proofs.Lists.{exchanged, set_again}
 use Rattle.dbgd_metrics.specs.declared.view.Known.{Known}
-use Rattle.dbgd_metrics.specs.Rule.{KeepsBook, blank, word_at, noted, TellsOwn, read, noticed, drew, added}
+use Rattle.dbgd_metrics.specs.Rule.{KeepsBook, heir, word_at, noted, TellsOwn, read, noticed, drew, added}
 use Rattle.dbgd_metrics.proofs.Views.{one_row}
 use Rattle.dbgd_metrics.proofs.Keeps.{keeps_look, keeps_draw, keeps_add, keeps_split}
 
@@ -26,13 +26,13 @@ tells {rows} id slots word first s me k at row place mine small is = ap (λ (w :
 
 -- a load changes nothing
 pub reads : (rows slots id word : ℕ) (me : Me U Known) → Allows (KeepsBook rows) slots id me word (λ n. n) (read (step slots word 0 0 none) me)
-reads rows slots id word me s k deep at fits = (me.0, keeps, tt, same_word word s (keeps_look id s me.0 k at refl refl), (refl, tells id slots word 0 s me k at))
+reads rows slots id word me s k deep at fits = (me.0, keeps, tt, same_word word s (keeps_look id s me.0 k at refl refl refl), (refl, tells id slots word 0 s me k at))
 
 -- a load may be noted
 pub notices : (rows slots id word : ℕ) (me : Me U Known) → Allows (KeepsBook rows) slots id me word (λ n. n) (noticed (step slots word 0 0 none) me)
 notices rows slots id word me s k deep at fits =
     let new = noted me.0 (record { word = word; found = get_or s.words word 0 } ∷ []) in
-    (new, keeps, tt, same_word word s (keeps_look id s new k at refl refl), (refl, tells id slots word 0 s me k at))
+    (new, keeps, tt, same_word word s (keeps_look id s new k at refl refl refl), (refl, tells id slots word 0 s me k at))
 
 -- a seat without a row takes the next, or finds another number and nothing changes
 pub takes_next : (rows slots id d next : ℕ) (me : Me U Known) → me.0.row ≡ None → d < rows → next ≡ d + 1
@@ -41,13 +41,16 @@ takes_next rows slots id d next me off more is s k deep at fits =
     exchanged (get_or s.words 0 0) d next (λ (m : ℕ). (w : Known) × (a : Act U) × Valid s.homes me.1 a × KeepsBook rows (stepped s 0 m id me.1 w a)
     × drew (step slots 0 d next none) me (get_or s.words 0 0) (w, carried_after me.1 a))
     (λ here. (
-      record me.0 { row = Some d },
+      record me.0 { row = Some d; drawn = d + 1 },
       keeps,
       tt,
-      subst (λ (m : ℕ). KeepsBook rows record { words = set s.words 0 m; homes = s.homes; views = set s.views id (record me.0 { row = Some d }) }) (sym is) (keeps_draw id s d k at off here more),
-      ((λ e. ap (λ (n : ℕ). (record me.0 { row = Some n }, me.1)) (sym e)), (λ n. absurd (n here))),
+      subst (λ (m : ℕ). KeepsBook rows record { words = set s.words 0 m; homes = s.homes; views = set s.views id (record me.0 { row = Some d; drawn = d + 1 }) }) (sym is) (keeps_draw id s d k at off here more),
+      (
+        (λ e. (ap (λ (n : ℕ). (record me.0 { row = Some n; drawn = n + 1 }, me.1)) (sym e), k.behind id me.0 at)),
+        (λ n. absurd (n here)),
+      ),
     ))
-    (λ other. (me.0, keeps, tt, same_word 0 s (keeps_look id s me.0 k at refl refl), ((λ e. absurd (other e)), (λ _. refl))))
+    (λ other. (me.0, keeps, tt, same_word 0 s (keeps_look id s me.0 k at refl refl refl), ((λ e. absurd (other e)), (λ _. refl))))
 
 -- a number of the own row grows
 pub adds : (rows slots id row place n : ℕ) (word : ℕ) (me : Me U Known) → me.0.row ≡ Some row → place < 53 → word ≡ word_at row place → get_or me.0.numbers place 0 + n < 2 ^ 64
@@ -66,5 +69,7 @@ adds rows slots id row place n word me mine small is room s k deep at fits =
     )
 
 -- a new seat comes, and the old one stays as it is
-pub splits_off : (rows id : ℕ) (known : Known) → Splits {S = U} (KeepsBook rows) id known known blank
-splits_off rows id known s k at = subst (λ (vs : List Known). KeepsBook rows record { words = s.words; homes = s.homes; views = vs ++ blank ∷ [] }) (sym (set_again s.views id known at)) (keeps_split s k)
+pub splits_off : (rows id : ℕ) (known : Known) → Splits {S = U} (KeepsBook rows) id known known (heir known)
+splits_off rows id known s k at =
+    subst (λ (vs : List Known). KeepsBook rows record { words = s.words; homes = s.homes; views = vs ++ heir known ∷ [] })
+    (sym (set_again s.views id known at)) (keeps_split id s k at)

@@ -19,7 +19,11 @@ IsInside row words = (row < most_rows) × (word_at (row + 1) 0 ≤ words)
 
 -- a seat without a row, that has counted and noted nothing
 abbrev pub blank : Known
-blank = record { row = None; numbers = zeros; loads = [] }
+blank = record { row = None; numbers = zeros; loads = []; drawn = 0 }
+
+-- the same, but for what another knows of the drawn rows
+abbrev pub heir : Known → Known
+heir known = record blank { drawn = known.drawn }
 
 -- what the table keeps at every moment
 pub record KeepsBook {S : Type 0} (rows : ℕ) (state : State S Known) : Type 0 where
@@ -28,6 +32,7 @@ pub record KeepsBook {S : Type 0} (rows : ℕ) (state : State S Known) : Type 0 
   pub below : (id : ℕ) (known : Known) (row : ℕ) → get_elem? state.views id ≡ some known → known.row ≡ Some row → row < slice_index state.words 0  -- a seat's row was drawn
   pub owned : (row : ℕ) → row < slice_index state.words 0 → (id : ℕ) × (known : Known) × (get_elem? state.views id ≡ some known) × (known.row ≡ Some row)  -- each drawn row is a seat's
   pub alone : (i j : ℕ) (one other : Known) (row : ℕ) → get_elem? state.views i ≡ some one → get_elem? state.views j ≡ some other → one.row ≡ Some row → other.row ≡ Some row → i ≡ j  -- no two seats have one row
+  pub behind : (id : ℕ) (known : Known) → get_elem? state.views id ≡ some known → known.drawn ≤ slice_index state.words 0  -- what a seat knows to be drawn was drawn
   pub whole : (id : ℕ) (known : Known) → get_elem? state.views id ≡ some known → length known.numbers ≡ count_of_numbers  -- a seat has all numbers
   pub same : (id : ℕ) (known : Known) (row place : ℕ) → get_elem? state.views id ≡ some known → known.row ≡ Some row → place < count_of_numbers → slice_index state.words (word_at row place) ≡ slice_index known.numbers place  -- the words of its row are its numbers
   pub idle : (id : ℕ) (known : Known) → get_elem? state.views id ≡ some known → known.row ≡ None → known.numbers ≡ zeros  -- a seat without a row has counted nothing
@@ -50,9 +55,9 @@ module _ {S : Type 0} where
   abbrev pub noticed : Step S → Me S Known → ℕ → Me S Known → Type 0
   noticed step before found after = (after ≡ (noted before.0 (record { word = step.word; found = found } ∷ []), before.1)) × TellsOwn step before found
 
-  -- an exchange on the number of drawn rows: the seat has the row of the number that it found, or the number was another and nothing changes
+  -- an exchange on the number of drawn rows: the seat has the row of the number that it found, behind those that it knew to be drawn, or the number was another and nothing changes
   abbrev pub drew : Step S → Me S Known → ℕ → Me S Known → Type 0
-  drew step before found after = (found ≡ step.first → after ≡ (record before.0 { row = Some found }, before.1)) × (found ≢ step.first → after ≡ before)
+  drew step before found after = (found ≡ step.first → (after ≡ (record before.0 { row = Some found; drawn = found + 1 }, before.1)) × (before.0.drawn ≤ found)) × (found ≢ step.first → after ≡ before)
 
   -- an addition to a word of the own row, by which that number of the seat grows
   abbrev pub added : Step S → Me S Known → ℕ → Me S Known → Type 0

@@ -6,7 +6,7 @@ use Rattle.dbgd_metrics.specs.Shares.{ShareFacts}
 
 -- what contracts see of a share with this seat and this mark
 abbrev pub facts_of : Token → Bool → ShareFacts
-facts_of token marked = record { book = token.table_id; row = token.me.0.row; numbers = token.me.0.numbers; marked = marked; loads = token.me.0.loads }
+facts_of token marked = record { book = token.table_id; row = token.me.0.row; numbers = token.me.0.numbers; marked = marked; loads = token.me.0.loads; drawn = token.me.0.drawn }
 
 -- the seat has no slot, and the share has noted its row, which is one of the table; without a row it has counted nothing and isn't marked
 abbrev pub HasSeat : Token → Option ℕ → Bool → Type 0

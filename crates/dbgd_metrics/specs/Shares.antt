@@ -1,4 +1,4 @@
--- What contracts see of the counter table and of its shares, and and what a new share is.
+-- What contracts see of the counter table and of its shares, and what a new share is.
 use Rattle.std.specs.Prelude.{◌≡◌, ℕ, List, Bool, false, Option, None}
 use Rattle.atomic_table.specs.Seated.{TableId}
 use Rattle.dbgd_metrics.specs.declared.view.Load.{Load}
@@ -9,13 +9,15 @@ pub record BookFacts : Type 0 where
   pub id : TableId
   pub rows : ℕ
 
--- which table a share is of, its row, its numbers, whether a count was ever refused, and the loads that it has noted
+-- which table a share is of, its row, its numbers, whether a count was ever refused, the loads that it has noted, and how many rows
+-- it knows to be drawn
 pub record ShareFacts : Type 0 where
   pub book : TableId
   pub row : Option ℕ
   pub numbers : List ℕ
   pub marked : Bool
   pub loads : List Load
+  pub drawn : ℕ
 
 -- a share of that table without a row, which has counted nothing and isn't marked
 pub record IsNew (book : TableId) (share : ShareFacts) : Type 0 where

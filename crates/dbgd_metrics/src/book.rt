@@ -3,7 +3,7 @@ ghost use Rattle.std.specs.Prelude.{◌≡◌, ◌<◌, ◌≤◌, ◌*◌, ◌+
 ghost use Rattle.dbgd_metrics.specs.declared.book.TheConstants.{MOST_ROWS};
 ghost use Rattle.dbgd_metrics.specs.declared.number.TheConstants.{NUMBERS};
 ghost use Rattle.dbgd_metrics.specs.Numbers.{count_of_numbers, most_rows};
-ghost use Rattle.dbgd_metrics.specs.Draws.{Draws, GetsRow, SeesNone};
+ghost use Rattle.dbgd_metrics.specs.Draws.{Draws, DrawsApart, GetsRow, SeesNone};
 ghost use Rattle.dbgd_metrics.specs.Shares.{IsNew};
 ghost use Rattle.dbgd_metrics.specs.Splits.{Splits};
 
@@ -58,10 +58,9 @@ impl Book {
         Ok((Book { table, rows }, share))
     }
 
-    /// Makes a second share of one without a row.
+    /// Makes a second share, which has no row. Of a share with a row it is one that draws a row behind it.
     pub fn split(&self, mut share: Share) -> ShareSplit
         requires book { share.book ≡ self.now.id }
-        requires no_row { share.row ≡ None }
         ensures { Splits share result }
     {
         let token = self.table.shared.split_seat::<Blank>(&mut share.token);
@@ -74,10 +73,12 @@ impl Book {
     }
 
     /// Gives a share the next row that no other has, if there is one left.
+    #[tactic(auto, using(crate::proofs::Apart::draws_apart))]
     pub fn draw<R: Wait>(&self, rt: &R, mut share: Share) -> Drawn
         requires book { share.book ≡ self.now.id }
         requires no_row { share.row ≡ None }
-        ensures { Draws self.now.rows share result }
+        ensures draws { Draws self.now.rows share result }
+        ensures apart { DrawsApart }
     {
         match self.draw_row(rt, &mut share.token) {
             Some(row) => {

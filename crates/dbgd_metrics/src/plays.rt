@@ -38,13 +38,13 @@ impl Play<(), Known> for Adds {
     ghost then = { added };
 }
 
-/// A new seat knows nothing; the old one stays.
+/// A new seat knows how many rows the old one knows to be drawn, and nothing else; the old one stays.
 pub(crate) struct Blank;
 
 impl Split<Known> for Blank {
-    ghost use Rattle.dbgd_metrics.specs.Rule.{blank};
+    ghost use Rattle.dbgd_metrics.specs.Rule.{heir};
 
     ghost left = { λ known. known };
 
-    ghost right = { λ _. blank };
+    ghost right = { λ known. heir known };
 }

@@ -4,7 +4,7 @@ use crate::view::Token;
 use std::marker::Model;
 
 /// A seat of the counter table. Contracts see the table, the row if it has drawn one, its numbers,
-/// its mark and the loads that it has noted.
+/// its mark, the loads that it has noted, and how many rows it knows to be drawn.
 pub struct Share {
     pub(crate) token: Token,
     pub(crate) row: Option<u64>,

@@ -18,6 +18,8 @@ pub struct Known {
     pub numbers: LinkedList<u64>,
     /// The loads that it has noted, oldest first.
     pub loads: LinkedList<Load>,
+    /// So many rows were drawn, or more.
+    pub drawn: u64,
 }
 
 pub struct BookRule;

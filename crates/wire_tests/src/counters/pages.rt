@@ -7,7 +7,7 @@ use crate::counters::expected::{
     AT_THE_END, EACH_ROUTE_AND_STATUS, TWO_REQUESTS_AND_A_PASS, ZEROS,
 };
 use crate::counters::shares::{
-    compare, count_often, cut, drawn, drawn_pair, one_drawn, request, two_drawn,
+    compare, count_often, cut, drawn, drawn_behind, drawn_pair, one_drawn, request, two_drawn,
 };
 use dbgd_metrics::{Book, Count, Counted, Drawn, RouteName, Share};
 
@@ -89,6 +89,17 @@ fn a_number_at_its_end_stays_and_marks_the_share(rt: HostRuntime) {
     let mut second = count_often(&book, second, most, 1);
     assert!(rt; !second.is_marked());
     compare(&rt, rt.alloc(), &book, &mut second, AT_THE_END);
+}
+
+// Where both had one row, its bytes would pass 2^64 - 1 at the second count.
+#[test]
+fn a_share_that_is_split_off_behind_a_row_has_another(rt: HostRuntime) {
+    let (book, share) = Book::make(rt.alloc(), 2).expect(&rt, "memory");
+    let (first, second) = drawn_behind(&rt, &book, share).expect(&rt, "two rows");
+    let most = request(RouteName::Other, 200, u64::MAX);
+    let first = count_often(&book, first, most, 1);
+    let second = count_often(&book, second, most, 1);
+    assert!(rt; !first.is_marked() && !second.is_marked());
 }
 
 #[test]

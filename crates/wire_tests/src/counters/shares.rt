@@ -47,6 +47,23 @@ pub fn drawn_pair<R: Wait>(rt: &R, book: &Book, share: Share) -> Option<(Share, 
     Some((first, second))
 }
 
+/// A share with a row, and one that was split off behind it and has another, if there were two left.
+pub fn drawn_behind<R: Wait>(rt: &R, book: &Book, share: Share) -> Option<(Share, Share)>
+    requires book { share.book ≡ book.now.id }
+    requires no_row { share.row ≡ None }
+    ensures { IfSome result (λ s. (s.0.book ≡ book.now.id) × IsSome s.0.row
+        × (s.1.book ≡ book.now.id) × IsSome s.1.row) }
+{
+    let first = drawn(rt, book, share)?;
+    match book.split(first) {
+        ShareSplit::Two(first, second) => {
+            let second = drawn(rt, book, second)?;
+            Some((first, second))
+        }
+        ShareSplit::OutOfMemory(_) => unreachable!(),
+    }
+}
+
 /// A table of so many rows, and a share that has one of them.
 pub fn one_drawn<R: Abort + Wait>(rt: &R, alloc: Global, rows: u64) -> (Book, Share)
     requires { (1 ≤ rows) × (rows ≤ 65) }
