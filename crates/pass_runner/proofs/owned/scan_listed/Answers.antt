@@ -13,12 +13,7 @@ use Rattle.pass_runner.proofs.owned.scan_listed.Goals as goal
 
 pub returns-clause-over : goal.returns-clause-over
 returns-clause-over g c =
-    first_goes
-    (λ hand later. EndsOver {K = g.row.K.Denot} (rules g.W.Truth.version g.W.Truth.true_row g.W.Truth.told) g.T.Tree.told
-    g.K.Keeper.told g.K.Keeper.shows g.T.Tree.shows c.args.hands.len c.args.listing c.args.roots.now hand later c.args.state
-    c.run_over-end.new.state c.run_over-end.result)
-    (λ hand later. Helps g.T.Tree.told g.W.Truth.version c.args.listing (row_names c.args.state.rows)
-    (g.T.Tree.shows hand) (g.T.Tree.shows later))
+    first_goes _ _
     c.args.hands.items c.index_mut.result.now c.run_over-end.new.hand
     (subst (λ n. 0 < n) c.args.hands.ok.0 c.requires.hand) c.index_mut.ensures.value
     (subst (λ (n : ℕ). EndsOver {K = g.row.K.Denot} (rules g.W.Truth.version g.W.Truth.true_row g.W.Truth.told) g.T.Tree.told
@@ -29,10 +24,7 @@ returns-clause-over g c =
 
 pub returns-clause-hands : goal.returns-clause-hands
 returns-clause-hands g c =
-    first_goes
-    (λ hand later. HandsOn g.T.Tree.told g.W.Truth.version (g.T.Tree.shows hand) (g.T.Tree.shows later) ⊥
-    (IsTrue (is_hand_fault c.run_over-end.result)))
-    (λ hand later. HandsOn g.T.Tree.told g.W.Truth.version (g.T.Tree.shows hand) (g.T.Tree.shows later) ⊥ ⊥)
+    first_goes _ _
     c.args.hands.items c.index_mut.result.now c.run_over-end.new.hand
     (subst (λ n. 0 < n) c.args.hands.ok.0 c.requires.hand) c.index_mut.ensures.value
     c.run_over-end.ensures.hand (λ other. hands_none (λ never. never))
