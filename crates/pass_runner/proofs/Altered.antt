@@ -28,7 +28,7 @@ use Rattle.index_state.proofs.PassSteps.{in_added}
 use Rattle.scan_worker.specs.Read.{FindsOther, MayWant, Reads, load_of}
 use Rattle.tree_trait.specs.Heard.{Heard, load}
 use Rattle.tree_trait.specs.Listens.{heard_of}
-use Rattle.tree_trait.specs.Load.{LoadFacts, loaded, too_large, gone, failed, no_memory}
+use Rattle.tree_trait.specs.Load.{LoadFacts, loaded, too_large, failed, no_memory}
 use Rattle.tree_trait.proofs.ListenLemmas.{all_heard}
 use Rattle.pass_runner.specs.Settled.{AlteredAreMissed, IsHeardAltered, MissesStay, is_missed}
 use Rattle.pass_runner.specs.Turns.{IsLookUnder}

@@ -26,7 +26,7 @@ use Rattle.index_state.specs.State.{StateFacts, pass_of}
 use Rattle.index_state.proofs.ByName.{has_stamp_is_in, names_by_path, one_of_path}
 use Rattle.index_state.proofs.Keeps.{there}
 use Rattle.tree_trait.specs.Heard.{Heard}
-use Rattle.pass_runner.specs.Passes.{IsApart, IsFirstMissed, IsHandedOut}
+use Rattle.pass_runner.specs.Passes.{IsFirstMissed, IsHandedOut}
 use Rattle.pass_runner.specs.Settled.{AppearedStand, HasNotAppeared, IsBacked, NoneAppeared, StandsIfAppeared}
 use Rattle.pass_runner.specs.Turns.{AppearsBy}
 use Rattle.pass_runner.proofs.Altered.{first_least}

@@ -7,7 +7,6 @@ use Rattle.row_types.specs.Faults.{HasCause}
 use Rattle.row_types.specs.Name.{NameFacts}
 use Rattle.row_types.specs.Row.{RowFacts}
 use Rattle.index_keeper.specs.Keeper.{ShownKeeper}
-use Rattle.index_rows.specs.Rows.{row_names}
 use Rattle.scan_queue.specs.Names.{is_in, without}
 use Rattle.scan_queue.specs.Pass.{Adds, IsPass, PassFacts}
 use Rattle.index_state.specs.Away.{GroomsNext}

@@ -41,7 +41,7 @@ use Rattle.groomer.specs.declared.looking.Looked.{Looked}
 use Rattle.groomer.specs.declared.looking.Looked.TheVariants as looked
 use Rattle.pass_runner.proofs.Altered.{altered_by, failed_same, missed_self, read_same, unaltered_by, unaltered_looks, wanting_same}
 use Rattle.pass_runner.proofs.Appearing.{appears_same, dropped_stand, left_none, left_stand, missed_none, missed_stand}
-use Rattle.pass_runner.proofs.Bounding.{bounded_same, bounded_void}
+use Rattle.pass_runner.proofs.Bounding.{bounded_void}
 use Rattle.pass_runner.proofs.Loads.{loads_heard, loads_looks}
 use Rattle.tree_trait.proofs.ListenLemmas.{all_heard, is_heard, listens_none, listens_one}
 use Rattle.pass_runner.proofs.NameLists.{stamp_listed}

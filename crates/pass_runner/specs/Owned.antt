@@ -2,7 +2,7 @@
 -- the other hands help with it over a lock, and what is left is settled by the first hand. Whole: the index is one scan of
 -- the walk listing, and the numbers are those of its plan against the rows that the index brought. What a hand that helps
 -- may ask is said of each.
-use Rattle.std.specs.Prelude.{◌≡◌, ◌⊎◌, ℕ, ◌+◌, ◌≤◌, Bool, true, false, List, [], ◌∷◌, ◌++◌, All, length, drop}
+use Rattle.std.specs.Prelude.{◌≡◌, ◌⊎◌, ℕ, ◌+◌, ◌≤◌, Bool, true, false, List, ◌∷◌, ◌++◌, All, length, drop}
 use Rattle.std.specs.Prelude.{Option, Some, None, IsSome, IsTrue, Ok, Err}
 use mathlib.Core.List.{IsPrefix}
 use Rattle.std.specs.List.{AllZip, filter, sum_by}

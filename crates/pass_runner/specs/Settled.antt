@@ -1,7 +1,7 @@
 -- Settling (this project's rule): with one hand the names of a pass that are to be read are loaded and their rows
 -- published, then the names that are to be looked for are looked for and judged. What is said here holds from one moment
 -- of it to any later one.
-use Rattle.std.specs.Prelude.{◌≡◌, ◌≢◌, ◌⊎◌, ℕ, ◌≤◌, Bool, true, false, List, All, Contains, count_by, Option, Some, None, IsTrue}
+use Rattle.std.specs.Prelude.{◌≡◌, ◌≢◌, ◌⊎◌, ℕ, ◌≤◌, Bool, true, false, List, All, Contains, count_by, Option, Some, None}
 use Rattle.std.specs.Str.{bytes_eq}
 use Rattle.row_types.specs.Faults.{Rose}
 use Rattle.row_types.specs.Name.{NameFacts, stamp_at}

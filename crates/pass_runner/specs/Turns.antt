@@ -4,14 +4,11 @@ use Rattle.row_types.specs.Faults.{HasCause, Rose}
 use Rattle.row_types.specs.Name.{NameFacts}
 use Rattle.row_types.specs.Row.{RowFacts}
 use Rattle.index_keeper.specs.Keeper.{ShownKeeper}
-use Rattle.index_rows.specs.Rows.{row_names}
-use Rattle.index_state.specs.Bound.{StaysBounded}
 use Rattle.index_state.specs.Judge.{is_under}
 use Rattle.index_state.specs.State.{StateFacts, pass_of}
 use Rattle.index_state.specs.Step.{Breaks, FindsNoMemory, IsShut, Judges, Stays, Stores}
 use Rattle.index_state.specs.declared.answer.Judged.{Judged}
 use Rattle.index_state.specs.declared.answer.Judged.TheVariants.{Broken as JudgedBroken, LogFull as JudgedFull, KeeperFault as JudgedFault, OutOfMemory as JudgedNoMemory}
-use Rattle.scan_queue.specs.Names.{is_in}
 use Rattle.scan_queue.specs.declared.miss.Seen.{Seen}
 use Rattle.index_desk.specs.declared.work_end.WorkEnd.{WorkEnd}
 use Rattle.index_desk.specs.declared.work_end.WorkEnd.TheVariants.{Broken, KeeperFault, LogFull, OutOfMemory}
@@ -21,7 +18,7 @@ use Rattle.tree_trait.specs.Listens.{Listens}
 use Rattle.tree_trait.specs.Shown.{ShownTree}
 use Rattle.tree_trait.specs.declared.stat.StatAnswer.{StatAnswer}
 use Rattle.pass_runner.specs.Ends.{TurnsBy}
-use Rattle.pass_runner.specs.Settled.{AppearedStand, IsBrought, IsMissBy, IsPassOn, MayGo, MissesStay, NoneAppeared, Proceeds, times_loaded, times_named}
+use Rattle.pass_runner.specs.Settled.{AppearedStand, NoneAppeared, Proceeds, times_loaded, times_named}
 use Rattle.groomer.specs.Looks.{looked_of}
 use Rattle.groomer.specs.declared.looking.Looked.{Looked}
 use Rattle.groomer.specs.declared.looking.Looked.TheVariants as looked

@@ -1,13 +1,10 @@
 -- What the parts came to, as the pass of all hands.
-use Rattle.std.proofs.Common.{ℕ, List, inl, ap, arith, refl, sym, subst, length, IsTrue}
+use Rattle.std.proofs.Common.{ℕ, List, inl, ap, arith, refl, sym, subst, length}
 use Rattle.std.proofs.lemmas.Bool.{true≢false}
 use Rattle.std.proofs.lemmas.Bool.Decides.{nat_tests}
 use Rattle.row_types.specs.Rules.{rules}
 use Rattle.index_rows.specs.Rows.{row_names}
-use Rattle.tree_trait.specs.Shown.{HandsOn}
-use Rattle.pass_runner.specs.Owned.{HandsGo, Helps, is_hand_fault}
 use Rattle.pass_runner.specs.Passes.{EndsOver}
-use Rattle.pass_runner.specs.declared.pass_end.PassEnd.TheVariants.{OutOfMemory}
 use Rattle.pass_runner.proofs.BesideLemmas.{over_weighed}
 use Rattle.pass_runner.proofs.CrewHands.{goes_with, same_goes}
 use Rattle.pass_runner.proofs.PassHands.{hands_none, hands_so}
@@ -43,8 +40,7 @@ returns-in-Ok-apart-clause-over g c =
     let out = c.scan_parts-state in
     let parts = c.in-Ok-apart.field-0 in
     let gave = c.in-Ok-apart.ensures in
-    goes_with _ _
-    c.args.hands.items c.together-hands.result.0.items parts.first out.result.1 parts.helpers.items
+    goes_with _ _ c.args.hands.items c.together-hands.result.0.items parts.first out.result.1 parts.helpers.items
     out.result.2.items gave.hands c.together-hands.ensures.hands
     (over_weighed {K = g.row.K.Denot} (rules g.W.Truth.version g.W.Truth.true_row g.W.Truth.told) g.T.Tree.told
     g.K.Keeper.told g.K.Keeper.shows g.T.Tree.shows c.args.hands.len c.args.listing c.args.roots.now parts.first
@@ -62,8 +58,7 @@ returns-in-Ok-apart-clause-hands g c =
     let out = c.scan_parts-state in
     let parts = c.in-Ok-apart.field-0 in
     let gave = c.in-Ok-apart.ensures in
-    goes_with _ _
-    c.args.hands.items c.together-hands.result.0.items parts.first out.result.1 parts.helpers.items
+    goes_with _ _ c.args.hands.items c.together-hands.result.0.items parts.first out.result.1 parts.helpers.items
     out.result.2.items gave.hands c.together-hands.ensures.hands
     (hands_so out.ensures.hand
     (λ f. out.ensures.hand.cause.rose (weighed_fault out.result.3 c.together-hands.result.1 _ c.weighed.result c.weighed.ensures f)))

@@ -1,12 +1,10 @@
 -- What the parts came to, as the pass of all hands.
-use Rattle.std.proofs.Common.{◌<◌, List, [], drop, refl, sym, ◌∙◌, ap, subst, IsTrue}
+use Rattle.std.proofs.Common.{◌<◌, List, [], drop, refl, sym, ◌∙◌, ap, subst}
 use Rattle.std.proofs.lemmas.Bool.{true≢false}
 use Rattle.row_types.specs.Rules.{rules}
 use Rattle.index_lock.proofs.Later.{later_self}
-use Rattle.tree_trait.specs.Shown.{HandsOn}
 use Rattle.pass_runner.specs.Helped.{hands_in}
 use Rattle.pass_runner.specs.Leading.{LeadsPass}
-use Rattle.pass_runner.specs.Owned.{HandsGo, Helps, is_hand_fault}
 use Rattle.pass_runner.specs.declared.pass_end.PassEnd.TheVariants.{OutOfMemory}
 use Rattle.pass_runner.proofs.CrewHands.{goes_with, same_goes}
 use Rattle.pass_runner.proofs.PlannedLemmas.{leads_early}
@@ -52,8 +50,7 @@ pub returns-in-Ok-apart-clause-over : goal.returns-in-Ok-apart-clause-over
 returns-in-Ok-apart-clause-over g c =
     let out = c.pass_parts-desk in
     let parts = c.in-Ok-apart.field-0 in
-    goes_with _ _
-    c.args.hands.items c.together-hands.result.0.items parts.first out.result.1 parts.helpers.items out.result.2.items
+    goes_with _ _ c.args.hands.items c.together-hands.result.0.items parts.first out.result.1 parts.helpers.items out.result.2.items
     c.in-Ok-apart.ensures.hands c.together-hands.ensures.hands
     (subst (λ (rs : List (List _)). LeadsPass (rules g.W.Truth.version g.W.Truth.true_row g.W.Truth.told) g.T.Tree.told
     c.args.listing rs c.args.desk.seat.seen out.result.0.seat.seen (g.T.Tree.shows parts.first) (g.T.Tree.shows out.result.1)
@@ -65,8 +62,7 @@ pub returns-in-Ok-apart-clause-hands : goal.returns-in-Ok-apart-clause-hands
 returns-in-Ok-apart-clause-hands g c =
     let out = c.pass_parts-desk in
     let parts = c.in-Ok-apart.field-0 in
-    goes_with _ _
-    c.args.hands.items c.together-hands.result.0.items parts.first out.result.1 parts.helpers.items out.result.2.items
+    goes_with _ _ c.args.hands.items c.together-hands.result.0.items parts.first out.result.1 parts.helpers.items out.result.2.items
     c.in-Ok-apart.ensures.hands c.together-hands.ensures.hands
     (hands_so out.ensures.over.listens.hand
     (leads_fault (rules g.W.Truth.version g.W.Truth.true_row g.W.Truth.told) out.result.3 out.ensures.over))

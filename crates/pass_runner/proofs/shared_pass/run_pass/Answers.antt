@@ -1,13 +1,8 @@
 -- The first hand walks, and the pass over what was listed follows.
-use Rattle.std.proofs.Common.{◌<◌, [], inl, length, slice_set, refl, ◌∙◌, subst, IsTrue}
+use Rattle.std.proofs.Common.{◌<◌, [], inl, slice_set, refl, ◌∙◌, subst}
 use Rattle.row_types.specs.Rules.{rules}
 use Rattle.index_lock.proofs.Later.{later_self}
-use Rattle.tree_trait.specs.Shown.{HandsOn}
 use Rattle.tree_trait.proofs.HandLemmas.{hands_then}
-use Rattle.pass_runner.specs.Leading.{LeadsPass}
-use Rattle.pass_runner.specs.Owned.{Helps, is_hand_fault}
-use Rattle.pass_runner.specs.SharedPass.{EndsShared, IsDoneShared, IsUnhinderedPass}
-use Rattle.pass_runner.specs.declared.pass_end.PassEnd.TheVariants.{Walk as Unwalked}
 use Rattle.pass_runner.proofs.FirstHand.{goes_never, idle_unwalked, unbegun_idle, walks_first}
 use Rattle.pass_runner.proofs.PassHands.{first_goes, hands_none, hands_walked}
 use Rattle.pass_runner.proofs.PassWalks.{helps_none}
@@ -17,8 +12,7 @@ use Rattle.pass_runner.proofs.shared_pass.run_pass.Goals as goal
 
 pub returns-in-Ok-clause-pass : goal.returns-in-Ok-clause-pass
 returns-in-Ok-clause-pass g c =
-    walks_first _ _ _
-    c.args.hands.items c.pass_listed-desk.result.1.items c.index_mut.result.now c.walk.new.hand
+    walks_first _ _ _ c.args.hands.items c.pass_listed-desk.result.1.items c.index_mut.result.now c.walk.new.hand
     (subst (λ n. 0 < n) c.args.hands.ok.0 c.requires.hand) c.index_mut.ensures.value
     c.pass_listed-desk.ensures.over
     (λ later led. ends_shared (rules g.W.Truth.version g.W.Truth.true_row g.W.Truth.told) c.args.seat.seen
@@ -27,8 +21,7 @@ returns-in-Ok-clause-pass g c =
 
 pub returns-in-Ok-clause-hands : goal.returns-in-Ok-clause-hands
 returns-in-Ok-clause-hands g c =
-    walks_first _ _ _
-    c.args.hands.items c.pass_listed-desk.result.1.items c.index_mut.result.now c.walk.new.hand
+    walks_first _ _ _ c.args.hands.items c.pass_listed-desk.result.1.items c.index_mut.result.now c.walk.new.hand
     (subst (λ n. 0 < n) c.args.hands.ok.0 c.requires.hand) c.index_mut.ensures.value
     c.pass_listed-desk.ensures.hands
     (λ later on. hands_then c.walk.ensures.hands on (λ asked. inl asked) (λ f. f))
@@ -36,16 +29,14 @@ returns-in-Ok-clause-hands g c =
 pub returns-in-Ok-clause-idle : goal.returns-in-Ok-clause-idle
 returns-in-Ok-clause-idle g c = λ unbegun.
     unbegun_idle c.pass_listed-desk.result.2
-    (λ unwalked. goes_never _ _
-    (slice_set c.args.hands.items 0 c.walk.new.hand) c.pass_listed-desk.result.1.items
+    (λ unwalked. goes_never _ _ (slice_set c.args.hands.items 0 c.walk.new.hand) c.pass_listed-desk.result.1.items
     c.pass_listed-desk.ensures.over (λ hand later led.
     leads_walked (rules g.W.Truth.version g.W.Truth.true_row g.W.Truth.told) c.pass_listed-desk.result.2 led unwalked))
     (λ is. c.pass_listed-desk.ensures.idle is ∙ idle_unwalked c.args.hands.items c.walk.new.hand) unbegun
 
 pub returns-in-Ok-clause-complete : goal.returns-in-Ok-clause-complete
 returns-in-Ok-clause-complete g c =
-    walks_first _ _ _
-    c.args.hands.items c.pass_listed-desk.result.1.items c.index_mut.result.now c.walk.new.hand
+    walks_first _ _ _ c.args.hands.items c.pass_listed-desk.result.1.items c.index_mut.result.now c.walk.new.hand
     (subst (λ n. 0 < n) c.args.hands.ok.0 c.requires.hand) c.index_mut.ensures.value
     (goes_both _ _ _ _ (slice_set c.args.hands.items 0 c.walk.new.hand) c.pass_listed-desk.result.1.items
     c.pass_listed-desk.ensures.over c.pass_listed-desk.ensures.hands)
@@ -58,16 +49,14 @@ returns-in-Err-clause-later g c = later_self c.args.seat
 
 pub returns-in-Err-clause-pass : goal.returns-in-Err-clause-pass
 returns-in-Err-clause-pass g c =
-    first_goes _ _
-    c.args.hands.items c.index_mut.result.now c.walk.new.hand
+    first_goes _ _ c.args.hands.items c.index_mut.result.now c.walk.new.hand
     (subst (λ n. 0 < n) c.args.hands.ok.0 c.requires.hand) c.index_mut.ensures.value
     (record { walks = c.in-Err.ensures.walk; fits = λ t. c.in-Err.ensures.refused t.0 t.1; same = refl })
     (helps_none g.T.Tree.shows g.T.Tree.told g.W.Truth.version [] [])
 
 pub returns-in-Err-clause-hands : goal.returns-in-Err-clause-hands
 returns-in-Err-clause-hands g c =
-    first_goes _ _
-    c.args.hands.items c.index_mut.result.now c.walk.new.hand
+    first_goes _ _ c.args.hands.items c.index_mut.result.now c.walk.new.hand
     (subst (λ n. 0 < n) c.args.hands.ok.0 c.requires.hand) c.index_mut.ensures.value
     (hands_walked c.walk.result c.in-Err.fault c.in-Err.is c.walk.ensures.hands) (λ other. hands_none (λ never. never))
 
@@ -76,8 +65,7 @@ returns-in-Err-clause-idle g c = λ unwalked. idle_unwalked c.args.hands.items c
 
 pub returns-in-Err-clause-complete : goal.returns-in-Err-clause-complete
 returns-in-Err-clause-complete g c =
-    first_goes _ _
-    c.args.hands.items c.index_mut.result.now c.walk.new.hand
+    first_goes _ _ c.args.hands.items c.index_mut.result.now c.walk.new.hand
     (subst (λ n. 0 < n) c.args.hands.ok.0 c.requires.hand) c.index_mut.ensures.value
     (done_unwalked c.in-Err.fault (λ t. c.in-Err.ensures.refused t.0 t.1)
     (λ failed. (hands_walked c.walk.result c.in-Err.fault c.in-Err.is c.walk.ensures.hands).cause.rose (fault_failed c.in-Err.fault failed)))
