@@ -29,7 +29,7 @@ use Rattle.tree_walk.specs.Files.{FitsFault}
 use Rattle.tree_walk.specs.declared.fault.WalkFault.{WalkFault}
 use Rattle.tree_walk.specs.declared.walked.Walk.{Walk}
 use Rattle.pass_runner.specs.Numbers.{summary_of}
-use Rattle.pass_runner.specs.Owned.{HandsGo, HearsPass, Helps, LoadsBeside, TellsStill}
+use Rattle.pass_runner.specs.Owned.{HandsGo, HearsPass, Helps, LoadsBeside, NoneAlteredBefore, TellsStill}
 use Rattle.pass_runner.specs.Settled.{IsBacked, IsReadOf, MayGo}
 use Rattle.pass_runner.specs.declared.pass_end.PassEnd.{PassEnd}
 use Rattle.pass_runner.specs.declared.pass_end.PassEnd.TheVariants as pass
@@ -159,11 +159,13 @@ pub record IsWholeScan (world : Rules) (told : Bool) (new : ShownStore) (summary
   pub has : HasRows told new left
   pub numbers : summary ≡ summary_of (plan_of listing (row_names found)) left
 
--- a name was missed for a reason, where it appeared its path isn't listed, and the store has the rows that are left
+-- a name was missed for a reason, no listed file that the first hand heard to be another stands before it by path, where it
+-- appeared its path isn't listed, and the store has the rows that are left
 pub record MissesName (told : Bool) (new : ShownStore) (Failed : Type 0) (miss : Miss)
     (listing : List NameFacts) (more : List Heard) (met left : List RowFacts) : Type 0 where
   pub path : IsCanonPath miss.name.path
   pub why : IsBacked listing (row_names met) more Failed miss.name miss.cause
+  pub before : NoneAlteredBefore listing more miss.name
   pub apart : miss.cause ≡ Appeared → stamp_at listing miss.name.path ≡ None
   pub has : HasRows told new left
 

@@ -26,9 +26,10 @@ use Rattle.index_state.specs.State.{StateFacts, pass_of}
 use Rattle.index_state.proofs.ByName.{has_stamp_is_in, names_by_path, one_of_path}
 use Rattle.index_state.proofs.Keeps.{there}
 use Rattle.tree_trait.specs.Heard.{Heard}
-use Rattle.pass_runner.specs.Passes.{IsApart, IsFirstMissed, IsHandedOut}
+use Rattle.pass_runner.specs.Passes.{IsFirstMissed, IsHandedOut}
 use Rattle.pass_runner.specs.Settled.{AppearedStand, HasNotAppeared, IsBacked, NoneAppeared, StandsIfAppeared}
 use Rattle.pass_runner.specs.Turns.{AppearsBy}
+use Rattle.pass_runner.proofs.Altered.{first_least}
 use Rattle.pass_runner.proofs.NameLists.{drop_stays}
 
 -- where none appeared, each one that did stands
@@ -101,7 +102,7 @@ module _ {K : Type 0} (old new : StateFacts K) where
       subst (λ (o : Option PassFacts). All HasNotAppeared (pass_of o).missed) (sym pass) (left_all HasNotAppeared name old.pass h)
 
   -- a name was missed, if it was out
-  missed_all : {name : NameFacts} {cause : Cause} (P : Miss → Type 0) (was_out : Bool) → P (record { name = name; cause = cause })
+  pub missed_all : {name : NameFacts} {cause : Cause} (P : Miss → Type 0) (was_out : Bool) → P (record { name = name; cause = cause })
       → MissesOut name cause old was_out new → All P (pass_of old.pass).missed → All P (pass_of new.pass).missed
   missed_all {name} {cause} P true own misses h =
       subst (λ (o : Option PassFacts). All P (pass_of o).missed) (sym misses.missed.is)
@@ -201,12 +202,17 @@ module _ (pass : PassFacts) (rows : List RowFacts) (miss : Miss) (place : IsPass
           (sym (has_stamp_is_in name pass.listing place.listing.by_path) ∙ ap (λ (o : Option StampFacts). has_stamp o t) is
           ∙ (same_stamp-Decides t t).1 refl))
 
--- the path of a name that appeared and was missed first isn't listed
+-- no name that was missed stands before the first, and the path of one that appeared and was missed first isn't listed
 pub first_apart : {K : Type 0} {true_row : RowFacts → Type 0} {tells : Bool} {shows : K → ShownKeeper} {state : StateFacts K} (miss : Miss)
     → IndexInvariant true_row tells shows state → IsHandedOut state → first_missed (pass_of state.pass).missed ≡ Some miss
     → IsFirstMissed miss state
 first_apart {state = state} miss holds handed first = record {
   first = first;
+  least = λ name missed.
+      let order : InOrder (pass_of state.pass).listing (missed_names (pass_of state.pass).missed) =
+      subst (λ (p : PassFacts). InOrder p.listing (missed_names p.missed)) (sym (ap pass_of handed.is_open.was))
+      (there IsPass handed.is_open.was holds.each_name_in_one_place).missed in
+      first_least (pass_of state.pass).listing (pass_of state.pass).missed miss order first name missed;
   apart = λ is unlisted.
       let pass : PassFacts = handed.is_open.from in
       let was : pass_of state.pass ≡ pass = ap pass_of handed.is_open.was in

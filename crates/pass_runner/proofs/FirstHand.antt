@@ -9,11 +9,11 @@ use Rattle.pass_runner.specs.declared.pass_end.PassEnd.TheVariants.{KeeperFault,
 
 -- what the first hand did before, and then
 pub walks_first : {T : Type 0} (Then First Other : T → T → Type 0) (hands laters : List T) (hand met : T)
-    → 0 < length hands → hand ≡ slice_index_or hands 0 hand → ((later : T) → Then met later → First hand later)
-    → HandsGo Then Other (slice_set hands 0 met) laters → HandsGo First Other hands laters
-walks_first Then First Other [] laters hand met some is so goes = absurd (omega (arith, some))
-walks_first Then First Other (h ∷ hs) [] hand met some is so goes = absurd goes
-walks_first {T} Then First Other (h ∷ hs) (later ∷ left) hand met some is so goes =
+    → 0 < length hands → hand ≡ slice_index_or hands 0 hand → HandsGo Then Other (slice_set hands 0 met) laters
+    → ((later : T) → Then met later → First hand later) → HandsGo First Other hands laters
+walks_first Then First Other [] laters hand met some is goes so = absurd (omega (arith, some))
+walks_first Then First Other (h ∷ hs) [] hand met some is goes so = absurd goes
+walks_first {T} Then First Other (h ∷ hs) (later ∷ left) hand met some is goes so =
     (subst (λ (x : T). First x later) is (so later goes.0), goes.1)
 
 -- the hands from the third on are the same, whatever the first one did before
@@ -61,7 +61,7 @@ unbegun_idle OutOfMemory walked broken is = absurd (true≢false (sym is))
 
 -- what no first hand can do was not done
 pub goes_never : {T : Type 0} (First Other : T → T → Type 0) (hands laters : List T)
-    → ((hand later : T) → First hand later → ⊥) → HandsGo First Other hands laters → ⊥
-goes_never First Other [] laters never goes = goes
-goes_never First Other (h ∷ hs) [] never goes = goes
-goes_never First Other (h ∷ hs) (l ∷ ls) never goes = never h l goes.0
+    → HandsGo First Other hands laters → ((hand later : T) → First hand later → ⊥) → ⊥
+goes_never First Other [] laters goes never = goes
+goes_never First Other (h ∷ hs) [] goes never = goes
+goes_never First Other (h ∷ hs) (l ∷ ls) goes never = never h l goes.0

@@ -1,6 +1,5 @@
--- What single holds of a shared index leave of its log, and show.
-use Rattle.std.proofs.Common.{◌≡◌, ℕ, ◌+◌, Bool, true, false, not, cond, List, [], ◌∷◌, ◌++◌, length, Option, Some, None, refl, sym, ◌∙◌, ap, subst, arith}
-use Rattle.std.specs.Option.{option_map}
+-- What single holds of a shared index show.
+use Rattle.std.proofs.Common.{◌≡◌, ℕ, ◌+◌, Bool, true, false, not, cond, List, [], ◌∷◌, length, Option, Some, None, refl, sym, ◌∙◌, ap, subst, arith}
 use Rattle.std.specs.Prelude.{is_none}
 use Rattle.std.proofs.lemmas.Bool.{and_parts}
 use Rattle.std.proofs.lemmas.List.Sums.{sum_by-cons}
@@ -8,29 +7,25 @@ use Rattle.row_types.specs.Name.{NameFacts, stamp_at}
 use Rattle.row_types.specs.Row.{RowFacts}
 use Rattle.row_types.specs.Stamp.{StampFacts, same_stamp}
 use Rattle.index_keeper.specs.Keeper.{ShownKeeper}
-use Rattle.index_lock.proofs.Prefixes.{prefix_of_same}
-use Rattle.index_rows.specs.Log.{drop_of, put_of, replay}
+use Rattle.index_rows.specs.Log.{replay}
 use Rattle.index_rows.specs.Rows.{row_names}
 use Rattle.index_rows.specs.declared.change.Change.{Change}
 use Rattle.scan_queue.specs.Names.{IsByPath, is_in}
 use Rattle.scan_queue.specs.declared.miss.Seen.{Seen}
-use Rattle.index_state.specs.Away.{TriesAll, filled}
 use Rattle.index_state.specs.Changes.{VoidWhere}
 use Rattle.index_state.specs.Invariant.{IndexInvariant}
 use Rattle.index_state.specs.Judge.{is_file, is_under}
 use Rattle.index_state.specs.Plan.{has_stamp, is_other, plan_of}
-use Rattle.index_state.specs.State.{StateFacts}
-use Rattle.index_desk.proofs.Goes.{same_origin}
-use Rattle.index_state.specs.Step.{Begins, BeginsPass, Judges, Publishes}
+use Rattle.index_state.specs.State.{Origin, StateFacts}
+use Rattle.index_state.specs.Step.{Begins, BeginsPass, Judges, begins, judges, to_begin, to_judge}
 use Rattle.index_state.specs.declared.answer.Begun.{Begun}
 use Rattle.index_state.specs.declared.answer.Begun.TheVariants as begun
 use Rattle.index_state.specs.declared.answer.Judged.{Judged}
 use Rattle.index_state.specs.declared.answer.Judged.TheVariants as judged
 use Rattle.index_state.specs.declared.answer.Plan.{Plan}
-use Rattle.index_state.specs.declared.answer.Published.{Published}
-use Rattle.index_state.specs.declared.answer.Published.TheVariants as said
 use Rattle.index_state.proofs.ByName.{has_stamp_is_in, names_by_path}
-use Rattle.index_desk.specs.Holds.{LogGoesOn as GoesOn}
+use Rattle.index_desk.specs.Holds.{HoldsEvent}
+use Rattle.index_lock.specs.Tokens.{SeatFacts}
 use Rattle.pass_runner.specs.Leading.{BeginShows, IsPlanned, IsStanding}
 
 -- each listed name is counted once by a plan
@@ -63,64 +58,6 @@ void_by tells shows {state = state} broken holds is =
     subst (λ (b : Bool). VoidWhere b state.log) is holds.broken_means_a_void_last_change.void
 
 module _ {K : Type 0} (tells : Bool) (shows : K → ShownKeeper) {old new : StateFacts K} where
-  -- the log stays, or has one change more
-  goes_as : {state : StateFacts K} → new ≡ state → state.log ≡ old.log → state.origin ≡ old.origin → GoesOn old new
-  goes_as is log origin = record {
-    log = prefix_of_same old.log new.log (sym (ap (λ (s : StateFacts K). s.log) is ∙ log));
-    origin = ap (λ (s : StateFacts K). s.origin) is ∙ origin;
-  }
-
-  goes_by : (change : Change) {state : StateFacts K} → new ≡ state → state.log ≡ old.log ++ change ∷ []
-      → state.origin ≡ old.origin → GoesOn old new
-  goes_by change is log origin = record {
-    log = (change ∷ [], sym (ap (λ (s : StateFacts K). s.log) is ∙ log));
-    origin = ap (λ (s : StateFacts K). s.origin) is ∙ origin;
-  }
-
-  -- where a row was published
-  pub published_on : (row : RowFacts) (answer : Published) → Publishes tells shows row old answer new → GoesOn old new
-  published_on row said.Broken h = goes_as h.same refl refl
-  published_on row (said.NotListed listed) h = goes_as h.same refl refl
-  published_on row said.Already h = goes_as h.after refl refl
-  published_on row said.LogFull h = goes_as h.same refl refl
-  published_on row said.OutOfMemory h = goes_as h.same refl refl
-  published_on row said.KeeperFault h = goes_by (drop_of row.name) h.after refl refl
-  published_on row said.Added h = goes_by (put_of row.name) h.stored.after refl refl
-  published_on row said.Replaced h = goes_by (put_of row.name) h.stored.after refl refl
-
-  -- where a name was judged
-  pub judged_goes : (name : NameFacts) (met : Seen) (answer : Judged) → Judges tells shows name met old answer new
-      → GoesOn old new
-  judged_goes name met judged.Broken h = goes_as h.same refl refl
-  judged_goes name met judged.Kept h = goes_as h.same refl refl
-  judged_goes name met (judged.Moved now) h = goes_as h.after refl refl
-  judged_goes name met judged.Strange h = goes_as h.missed.same refl refl
-  judged_goes name met judged.LogFull h = goes_as h.drops.same refl refl
-  judged_goes name met judged.OutOfMemory h = goes_as h.drops.same refl refl
-  judged_goes name met judged.KeeperFault h = goes_by (put_of name) h.drops.after refl refl
-  judged_goes name met judged.Dropped h = goes_by (drop_of name) h.drops.after refl refl
-
-  -- where a pass began
-  pub begun_goes : (listing : List NameFacts) (roots : List (List ℕ)) → old.origin.sparing ≡ None → old.origin.spared ≡ []
-      → (answer : Begun)
-      → Begins listing roots old answer new → GoesOn old new
-  begun_goes listing roots never none (begun.Begun plan) h = goes_as h.after refl (same_origin old.origin never none)
-  begun_goes listing roots never none begun.Broken h = goes_as h.same refl refl
-  begun_goes listing roots never none begun.OutOfMemory h = goes_as h.same refl refl
-
-  -- where names that were out or missed may be tried again
-  pub retried_on : {mid : StateFacts K} {count : ℕ} → mid ≡ record old { pass = option_map filled old.pass }
-      → TriesAll mid count new → GoesOn old new
-  retried_on {mid} fills tries = record {
-    log =
-        prefix_of_same old.log new.log
-        (sym (ap (λ (s : StateFacts K). s.log) tries.same ∙ ap (λ (s : StateFacts K). s.log) fills));
-    origin = ap (λ (s : StateFacts K). s.origin) tries.same ∙ ap (λ (s : StateFacts K). s.origin) fills;
-  }
-
-  pub stays_on : new ≡ old → GoesOn old new
-  stays_on is = goes_as is refl refl
-
   -- a row whose own file was seen stands
   pub strange_stands : {true_row : RowFacts → Type 0} (name : NameFacts) (met : Seen)
       → IndexInvariant true_row tells shows new → Judges tells shows name met old judged.Strange new
@@ -158,3 +95,29 @@ begin_shows tells shows old listing roots holds (begun.Begun plan) h = planned_b
 begin_shows {K} tells shows old listing roots holds begun.Broken h =
     void_by tells shows true holds (ap (λ (s : StateFacts K). s.broken) h.same ∙ h.why)
 begin_shows tells shows old listing roots holds begun.OutOfMemory h = tt
+
+module _ {K : Type 0} (tells : Bool) (shows : K → ShownKeeper) {true_row : RowFacts → Type 0} {seat later : SeatFacts Change Origin} where
+  pub begin_shown : (listing : List NameFacts) (roots : List (List ℕ)) (answer : Begun)
+      → HoldsEvent true_row tells shows (begins listing roots) (to_begin answer) seat later
+      → BeginShows listing answer later.seen
+  begin_shown listing roots answer h =
+      subst (λ (log : List Change). BeginShows listing answer log) (sym h.seen)
+      (begin_shows tells shows h.old listing roots h.does.holds answer h.does.does)
+
+  -- a pass begins where no name was spared, so that none is skipped
+  pub begin_none : (listing : List NameFacts) (roots : List (List ℕ)) (answer : Begun)
+      → HoldsEvent true_row tells shows (begins listing roots) (to_begin answer) seat later
+      → seat.origin.sparing ≡ None → seat.origin.spared ≡ []
+  begin_none listing roots answer h never =
+      let same : h.new.origin ≡ seat.origin = h.stays ∙ h.from in
+      ap (λ (o : Origin). o.spared) (sym same)
+      ∙ h.does.holds.skipped_names_stand.none (ap (λ (o : Origin). o.sparing) same ∙ never)
+
+  -- and what a judgement shows
+  pub stands_shown : (name : NameFacts) (met : Seen) (answer : Judged)
+      → HoldsEvent true_row tells shows (judges name met) (to_judge answer) seat later
+      → answer ≡ judged.Strange → IsStanding name met later.seen
+  stands_shown name met answer h is =
+      subst (λ (log : List Change). IsStanding name met log) (sym h.seen)
+      (strange_stands tells shows name met h.does.holds
+      (subst (λ (a : Judged). Judges tells shows name met h.old a h.new) is h.does.does))

@@ -36,7 +36,8 @@ use Rattle.pass_runner.specs.declared.pass_end.PassEnd.{PassEnd}
 use Rattle.pass_runner.specs.declared.pass_end.PassEnd.TheVariants.{Whole, Missed, Walk, Broken}
 use Rattle.pass_runner.specs.declared.pass_end.PassEnd.TheVariants.{KeeperFault, LogFull, OutOfMemory}
 use Rattle.pass_runner.specs.declared.summary.Summary.{Summary}
-use Rattle.pass_runner.proofs.HoldLemmas.{begun_goes, void_by}
+use Rattle.index_desk.proofs.Goes.{begin_goes}
+use Rattle.pass_runner.proofs.HoldLemmas.{void_by}
 
 -- names that all stand in a list leave none that doesn't
 none_beside : (others names : List NameFacts) → ((n : NameFacts) → is_in names n ≡ true → is_in others n ≡ true)
@@ -210,7 +211,7 @@ last_goes {K} world tells shows listing roots plan own {old} {new} never none en
     }
 
     opens : {e : PassEnd} → OpensLast world tells shows listing roots plan own old new e → GoesOn old new
-    opens h = begun_goes tells shows listing roots never none (begun.Begun h.again) h.begins
+    opens h = begin_goes listing roots never none (begun.Begun h.again) h.begins
 
     by : (e : PassEnd) → BeginsLast world tells shows listing roots plan own old new e → GoesOn old new
     by KeeperFault h = same h

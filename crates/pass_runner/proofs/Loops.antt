@@ -7,7 +7,6 @@ use Rattle.row_types.specs.Faults.{HasCause}
 use Rattle.row_types.specs.Name.{NameFacts}
 use Rattle.row_types.specs.Row.{RowFacts}
 use Rattle.index_keeper.specs.Keeper.{ShownKeeper}
-use Rattle.index_rows.specs.Rows.{row_names}
 use Rattle.scan_queue.specs.Names.{is_in, without}
 use Rattle.scan_queue.specs.Pass.{Adds, IsPass, PassFacts}
 use Rattle.index_state.specs.Away.{GroomsNext}
@@ -26,9 +25,10 @@ use Rattle.tree_trait.specs.Found.{Versions}
 use Rattle.tree_trait.specs.Heard.{Heard}
 use Rattle.tree_trait.specs.Shown.{ShownTree}
 use Rattle.pass_runner.specs.Ends.{IsOver, IsRead, IsSettled, ReadsBy, SettlesBy}
-use Rattle.pass_runner.specs.Settled.{AppearedStand, HasNotAppeared, IsPassOn, IsWanted, NoneAppeared, Proceeds, times_loaded, times_named}
+use Rattle.pass_runner.specs.Settled.{AppearedStand, HasNotAppeared, IsPassOn, NoneAppeared, Proceeds, Wants, times_loaded, times_named}
 use Rattle.pass_runner.specs.Turns.{Goes, Takes, TurnsOver}
 use Rattle.tree_trait.proofs.ListenLemmas.{listens_none}
+use Rattle.pass_runner.proofs.Altered.{unaltered_none}
 use Rattle.pass_runner.proofs.Appearing.{appears_same, none_stand}
 use Rattle.pass_runner.proofs.Moves.{rose_after}
 use Rattle.pass_runner.proofs.Composed.{settles_by, settles_none, settles_then, takes_then}
@@ -98,7 +98,7 @@ module _ {K : Type 0} {told : Bool} {version : Versions} {shows : K → ShownKee
     does = does;
     takes = λ path.
         let loads : times_loaded does.answers path ≡ 0 = ap (λ (l : List Heard). times_loaded l path) none in
-        let left = does.todo path in
+        let left = does.on.todo path in
         omega (arith, loads, left);
   }
 
@@ -115,11 +115,13 @@ module _ {K : Type 0} {told : Bool} {version : Versions} {shows : K → ShownKee
   abbrev takes_on : {hand : ShownTree} {old mid : StateFacts K} (answer : Option NameFacts) → IsPassOn old.pass old.pass → TakesNext old answer mid
       → Proceeds told version shows hand hand old mid
   takes_on {old = old} {mid = mid} None opened takes =
-      settles_by listens_none (All-nil (IsWanted (pass_of old.pass).listing old.roots (row_names old.rows)))
+      settles_by listens_none (All-nil (Wants old))
+      (unaltered_none (pass_of old.pass).listing mid)
       (pass_on (subst (λ (o : Option PassFacts). IsPassOn old.pass o) (sym takes.taken.same) opened)
       (ap (λ (o : Option PassFacts). (pass_of o).missed) takes.taken.same) (same_todo takes.taken.same) takes.same)
   takes_on {old = old} {mid = mid} (Some name) opened takes =
-      settles_by listens_none (All-nil (IsWanted (pass_of old.pass).listing old.roots (row_names old.rows)))
+      settles_by listens_none (All-nil (Wants old))
+      (unaltered_none (pass_of old.pass).listing mid)
       (pass_on (record {
         from = takes.taken.from;
         into = takes.taken.into;
@@ -134,11 +136,13 @@ module _ {K : Type 0} {told : Bool} {version : Versions} {shows : K → ShownKee
   abbrev grooms_on : {hand : ShownTree} {old mid : StateFacts K} (answer : Option GroomTask) → IsPassOn old.pass old.pass → GroomsNext old answer mid
       → Proceeds told version shows hand hand old mid
   grooms_on {old = old} {mid = mid} None opened takes =
-      settles_by listens_none (All-nil (IsWanted (pass_of old.pass).listing old.roots (row_names old.rows)))
+      settles_by listens_none (All-nil (Wants old))
+      (unaltered_none (pass_of old.pass).listing mid)
       (pass_on (subst (λ (o : Option PassFacts). IsPassOn old.pass o) (sym takes.taken.same) opened)
       (ap (λ (o : Option PassFacts). (pass_of o).missed) takes.taken.same) (same_todo takes.taken.same) takes.same)
   grooms_on {old = old} {mid = mid} (Some task) opened takes =
-      settles_by listens_none (All-nil (IsWanted (pass_of old.pass).listing old.roots (row_names old.rows)))
+      settles_by listens_none (All-nil (Wants old))
+      (unaltered_none (pass_of old.pass).listing mid)
       (pass_on (record {
         from = takes.taken.from;
         into = takes.taken.into;
@@ -153,10 +157,10 @@ module _ {K : Type 0} {told : Bool} {version : Versions} {shows : K → ShownKee
   -- the pass is still open
   pub open_still : {before after : ShownTree} {start old : StateFacts K} → Proceeds told version shows before after start old → IsPassOn old.pass old.pass
   open_still settles = record {
-    from = settles.pass.into;
-    into = settles.pass.into;
-    was = settles.pass.is;
-    is = settles.pass.is;
+    from = settles.on.pass.into;
+    into = settles.on.pass.into;
+    was = settles.on.pass.is;
+    is = settles.on.pass.is;
     over = refl;
   }
 
@@ -187,7 +191,7 @@ module _ {K : Type 0} {told : Bool} {version : Versions} {shows : K → ShownKee
             let before = so.settles.takes path in
             let out = took_todo takes path in
             let here = turn.loads path in
-            let left = turn.settles.todo path in
+            let left = turn.settles.on.todo path in
             omega (arith, all, none, before, out, here, left);
       }
 
@@ -207,7 +211,7 @@ module _ {K : Type 0} {told : Bool} {version : Versions} {shows : K → ShownKee
             let before = so.settles.takes path in
             let out = ap (λ (l : List NameFacts). times_named l path) (groomed_todo takes) in
             let here : times_loaded turn.settles.answers path ≤ 0 = turn.loads path in
-            let left = turn.settles.todo path in
+            let left = turn.settles.on.todo path in
             omega (arith, all, none, before, out, here, left);
       }
 
@@ -318,7 +322,7 @@ module _ {K : Type 0} {told : Bool} {version : Versions} {shows : K → ShownKee
       → HasCause (shows start.keeper).faults (shows new.keeper).faults (end ≡ KeeperFault)
   took_cause so takes turn =
       let same : (shows mid.keeper).faults ≡ (shows old.keeper).faults = ap (λ (s : StateFacts K). (shows s.keeper).faults) takes.same in
-      let first : (shows start.keeper).faults ≤ (shows old.keeper).faults = so.settles.does.keeper in
+      let first : (shows start.keeper).faults ≤ (shows old.keeper).faults = so.settles.does.on.keeper in
       cause_later (omega (arith, same, first)) (λ is. ap Some is) turn.keeper
 
   pub groomed_cause : {task : GroomTask} {end : WorkEnd} → Goes told version shows before between start old
@@ -326,7 +330,7 @@ module _ {K : Type 0} {told : Bool} {version : Versions} {shows : K → ShownKee
       → HasCause (shows start.keeper).faults (shows new.keeper).faults (end ≡ KeeperFault)
   groomed_cause so takes turn =
       let same : (shows mid.keeper).faults ≡ (shows old.keeper).faults = ap (λ (s : StateFacts K). (shows s.keeper).faults) takes.same in
-      let first : (shows start.keeper).faults ≤ (shows old.keeper).faults = so.settles.does.keeper in
+      let first : (shows start.keeper).faults ≤ (shows old.keeper).faults = so.settles.does.on.keeper in
       cause_later (omega (arith, same, first)) (λ is. ap Some is) turn.keeper
 
 -- no name is left
@@ -362,7 +366,7 @@ module _ {K : Type 0} {told : Bool} {version : Versions} {shows : K → ShownKee
 pub quiet_cause : {K : Type 0} {told : Bool} {version : Versions} {shows : K → ShownKeeper} {before after : ShownTree}
     {start new : StateFacts K} {end : WorkEnd} → (end ≡ KeeperFault → ⊥) → Takes told version shows before after start new
     → HasCause (shows start.keeper).faults (shows new.keeper).faults (end ≡ KeeperFault)
-quiet_cause never settles = record { later = settles.does.keeper; rose = λ is. absurd (never is) }
+quiet_cause never settles = record { later = settles.does.on.keeper; rose = λ is. absurd (never is) }
 
 -- the rows are looked for once the listed files were read
 module _ {K : Type 0} {old mid : StateFacts K} (new : StateFacts K) where

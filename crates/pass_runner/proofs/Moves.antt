@@ -17,8 +17,7 @@ use Rattle.scan_queue.specs.declared.miss.Cause.{Cause}
 use Rattle.scan_queue.specs.declared.miss.Cause.TheVariants.{ReadFault, Altered, Appeared}
 use Rattle.scan_queue.specs.declared.miss.Miss.{Miss}
 use Rattle.tree_trait.specs.Heard.{Heard}
-use Rattle.pass_runner.specs.Settled.{IsBacked, IsBrought, IsMissBy, IsPassOn, IsSeenGone}
-use Rattle.pass_runner.specs.Turns.{Advances}
+use Rattle.pass_runner.specs.Settled.{Advances, IsBacked, IsBrought, IsMissBy, IsPassOn, IsSeenGone, MissesBy}
 
 -- a count that rose before or after has risen
 pub rose_before : (a : ℕ) {b c : ℕ} → Rose a b → b ≤ c → Rose a c
@@ -82,9 +81,10 @@ module _ (some more : List Heard) {Failed Fails : Type 0} (among : (h : Heard) �
     comes = on.comes;
     brings = All-weaker (IsBrought old.rows some) (IsBrought old.rows more) (brought_as old.rows) new.rows on.brings;
     missed =
-        All-weaker (IsMissBy (pass_of old.pass).listing (row_names old.rows) (pass_of old.pass).missed some Failed)
-        (IsMissBy (pass_of old.pass).listing (row_names old.rows) (pass_of old.pass).missed more Fails)
+        All-weaker (MissesBy old some Failed)
+        (MissesBy old more Fails)
         (miss_as (pass_of old.pass).listing (row_names old.rows) (pass_of old.pass).missed) (pass_of new.pass).missed on.missed;
+    still = on.still;
     todo = on.todo;
     bounded = on.bounded;
   }
@@ -151,6 +151,8 @@ advances_then {K} {shows} {xs} {ys} {First} {Second} {Failed} {old} {mid} {new} 
           All-weaker (Later (pass_of old.pass).listing) (Sooner (pass_of old.pass).listing) (λ m why. before m why)
           (pass_of new.pass).missed
           (subst (λ (l : List NameFacts). All (Later l) (pass_of new.pass).missed) listing b.missed);
+      still = λ name listed missed.
+          q.still name (ap (λ (l : List NameFacts). is_in l name) listing ∙ listed) (p.still name listed missed);
       todo = λ path. let first = p.todo path in let later = q.todo path in omega (arith, first, later);
       bounded =
           let later : StaysBounded (pass_of old.pass).listing mid new = subst (λ (l : List NameFacts). StaysBounded l mid new) listing q.bounded in

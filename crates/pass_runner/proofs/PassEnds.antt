@@ -143,7 +143,7 @@ module _ {K : Type 0} {told : Bool} {version : Versions} {shows : K → ShownKee
   pub handed_out : IsFresh old → Settles told version shows before after old new → IsSettled old new → IsHandedOut new
   handed_out fresh settles ends = record {
     sound = ends.sound;
-    is_open = record { from = settles.does.pass.into; into = settles.does.pass.into; was = settles.does.pass.is; is = settles.does.pass.is; over = refl };
+    is_open = record { from = settles.does.on.pass.into; into = settles.does.on.pass.into; was = settles.does.on.pass.is; is = settles.does.on.pass.is; over = refl };
     todo = ends.todo;
     out = ends.out fresh.out;
     groom = ends.groom;
@@ -159,7 +159,7 @@ module _ {K : Type 0} {told : Bool} {version : Versions} {shows : K → ShownKee
       (λ (miss : Miss). IsBacked (pass_of old.pass).listing (row_names old.rows) settles.does.answers (Rose before.faults after.faults) miss.name miss.cause)
       (backed_alone (pass_of old.pass).listing (row_names old.rows) settles.does.answers (Rose before.faults after.faults)) (pass_of new.pass).missed
       (subst (λ (ms : List Miss). All (IsMissBy (pass_of old.pass).listing (row_names old.rows) ms settles.does.answers (Rose before.faults after.faults)) (pass_of new.pass).missed)
-      none settles.does.missed)
+      none settles.does.on.missed)
 
 -- the end by what is left
 pub begun_done : {K : Type 0} {told : Bool} {shows : K → ShownKeeper} {before after : ShownTree} {old new : StateFacts K}
@@ -170,7 +170,7 @@ begun_done {shows = shows} {new = new} world tells plan (Whole summary) settles 
   settles = settles;
   ends = record {
     complete =
-        subst (λ (l : List NameFacts). CompletePass world.told world.true_row tells shows l new) (same_listing settles.does.pass) h.complete;
+        subst (λ (l : List NameFacts). CompletePass world.told world.true_row tells shows l new) (same_listing settles.does.on.pass) h.complete;
     whole = h.whole;
     sound = sound;
     numbers = h.numbers;

@@ -54,7 +54,7 @@ module _ {K : Type 0} (world : Rules) (hands_given : ℕ) (old found : StateFact
   -- what the hand heard, of the walk and of the settling
   heard_pass : HearsPass told world.version roots (row_names found.rows) walk walks.goes.more settles.does.answers before after
   heard_pass = record {
-    heard = heard_both before.heard met.heard after.heard walks.goes.more settles.does.answers walks.goes.heard settles.does.heard;
+    heard = heard_both before.heard met.heard after.heard walks.goes.more settles.does.answers walks.goes.heard settles.does.listens.heard;
     whole = walks.goes.ends;
     full =
         full_stays roots (IsWanted walk.listing roots (row_names found.rows)) (λ path answer never. never) walks.goes.more
@@ -64,11 +64,11 @@ module _ {K : Type 0} (world : Rules) (hands_given : ℕ) (old found : StateFact
         settles.does.answers settles.does.wanted walks.goes.ends.full walk.listing walks.goes.ends.listing;
     wanted = settles.does.wanted;
     once = settles.once;
-    fits = settles.does.fits;
+    fits = settles.does.listens.fits;
     tells = λ t.
         All-append (IsTold before.present) walks.goes.more settles.does.answers (walks.goes.tells t.0 t.1)
         (subst (λ (names : List NameFacts). All (IsTold names) settles.does.answers) (hands.still t.1).same
-        (settles.does.tells t.0 (hands.still t.1).still));
+        (settles.does.listens.tells t.0 (hands.still t.1).still));
     under = under;
   }
 
@@ -87,19 +87,19 @@ module _ {K : Type 0} (world : Rules) (hands_given : ℕ) (old found : StateFact
   -- what it left of the index
   left_index : LeavesIndex roots walk.listing settles.does.answers (Rose before.faults after.faults) found new
   left_index = record {
-    pass = settles.does.pass.into;
-    is_open = settles.does.pass.is;
-    over = sym (ap (λ (o : Option PassFacts). (pass_of o).listing) settles.does.pass.is) ∙ same_listing settles.does.pass;
-    roots = settles.does.roots;
-    origin = settles.does.origin;
-    bounded = settles.does.bounded;
-    stays = settles.does.stays;
-    goes = settles.does.goes;
-    comes = settles.does.comes;
-    brings = settles.does.brings;
+    pass = settles.does.on.pass.into;
+    is_open = settles.does.on.pass.is;
+    over = sym (ap (λ (o : Option PassFacts). (pass_of o).listing) settles.does.on.pass.is) ∙ same_listing settles.does.on.pass;
+    roots = settles.does.on.roots;
+    origin = settles.does.on.origin;
+    bounded = settles.does.on.bounded;
+    stays = settles.does.on.stays;
+    goes = settles.does.on.goes;
+    comes = settles.does.on.comes;
+    brings = settles.does.on.brings;
     missed =
         subst (λ (o : Option PassFacts). All (λ (miss : Miss). IsBacked walk.listing (row_names found.rows) settles.does.answers (Rose before.faults after.faults) miss.name miss.cause) (pass_of o).missed)
-        settles.does.pass.is backed_new;
+        settles.does.on.pass.is backed_new;
   }
 
   -- and both, with the end
@@ -114,7 +114,7 @@ module _ {K : Type 0} (world : Rules) (hands_given : ℕ) (old found : StateFact
     helped = helped;
     hears = heard_pass;
     leaves = left_index;
-    bounded = omega (arith, helped.allowed, helped.bounded, settles.does.bounded);
+    bounded = omega (arith, helped.allowed, helped.bounded, settles.does.on.bounded);
     ends = ends;
   }
 
@@ -124,10 +124,11 @@ module _ {K : Type 0} (world : Rules) (hands_given : ℕ) (old found : StateFact
       let why =
       first_is (λ (m : Miss). IsBacked walk.listing (row_names found.rows) settles.does.answers (Rose before.faults after.faults) m.name m.cause)
       (pass_of new.pass).missed miss backed_new h.missed.first in
-      let over : (pass_of new.pass).listing ≡ walk.listing = same_listing settles.does.pass in
+      let over : (pass_of new.pass).listing ≡ walk.listing = same_listing settles.does.on.pass in
       record {
         first = h.missed.first;
         why = why;
+        before = λ other met altered. h.missed.least other (settles.does.altered other met altered);
         apart = λ is.
             subst (λ (l : List NameFacts). IsApart l miss) over h.missed.apart is
             (backed_unlisted walk.listing (row_names found.rows) settles.does.answers (Rose before.faults after.faults) miss.name miss.cause why is);

@@ -1,11 +1,11 @@
 -- Where the index goes in each of its steps.
-use Rattle.std.proofs.Common.{◌≡◌, ℕ, ◌≤◌, ◌⊎◌, inl, inr, ◌&&◌, Bool, true, false, not, cond, List, [], ◌∷◌, ◌++◌, length, Option, Some, None, refl, sym, ◌∙◌, ap, subst, arith}
+use Rattle.std.proofs.Common.{◌≡◌, ℕ, ◌≤◌, inr, ◌&&◌, Bool, true, false, not, cond, List, [], ◌∷◌, length, Option, Some, None, refl, sym, ◌∙◌, ap, subst, arith}
 use Rattle.std.specs.List.{All, Contains, filter}
 use Rattle.std.specs.Option.{option_map}
 use Rattle.std.specs.Prelude.{IfSome}
 use Rattle.std.proofs.lemmas.Bool.{and_parts, true≢false}
 use Rattle.std.proofs.lemmas.List.{length_push}
-use Rattle.std.proofs.lemmas.List.Elements.{All-nil, All-contains_itself, All-filter, All-weaker, Contains-append_cases, Contains-append_left, Contains-append_right, Contains-push_cases}
+use Rattle.std.proofs.lemmas.List.Elements.{All-filter}
 use Rattle.row_types.specs.Name.{NameFacts, same_name}
 use Rattle.row_types.specs.Row.{RowFacts}
 use Rattle.row_types.specs.Stamp.{StampFacts}
@@ -14,7 +14,7 @@ use Rattle.std.specs.Str.{bytes_eq}
 use Rattle.index_rows.specs.Rows.{row_names, row_path}
 use Rattle.index_rows.proofs.PathLemmas.{put_holds}
 use Rattle.scan_queue.specs.Names.{IsByPath, is_in, without}
-use Rattle.scan_queue.specs.Pass.{Adds, IsPass, MissesName, PassFacts, left}
+use Rattle.scan_queue.specs.Pass.{IsPass, MissesName, PassFacts, left}
 use Rattle.scan_queue.specs.declared.miss.Cause.{Cause}
 use Rattle.scan_queue.specs.declared.miss.Miss.{Miss}
 use Rattle.scan_queue.specs.declared.miss.Seen.{Seen}
@@ -29,14 +29,17 @@ use Rattle.index_state.specs.State.{StateFacts, pass_of}
 use Rattle.index_state.specs.Step.{IsAwaited, Stores}
 use Rattle.index_state.proofs.Bounds.{drop_open, put_open}
 use Rattle.index_state.proofs.Keeps.{there}
+use Rattle.index_state.proofs.Members.{differs_in}
 use Rattle.tree_trait.specs.Heard.{Heard, stat}
 use Rattle.tree_trait.specs.declared.stat.StatAnswer.{StatAnswer}
 use Rattle.tree_trait.specs.declared.stat.StatAnswer.TheVariants.{Folder, File, Other, Gone, Failed, OutOfMemory}
 use Rattle.pass_runner.specs.Ends.{IsOver}
-use Rattle.pass_runner.specs.Settled.{IsBacked, IsBrought, IsMissBy, IsMissing, IsPassOn, IsReadOf, IsSeenGone, times_named}
+use Rattle.pass_runner.specs.Settled.{Advances, IsBacked, IsBrought, IsMissBy, IsMissing, IsPassOn, IsReadOf, IsSeenGone, MissesBy, times_named}
 use Rattle.groomer.specs.Looks.{looked_of}
-use Rattle.pass_runner.specs.Turns.{Advances, HasSeen}
+use Rattle.pass_runner.specs.Turns.{HasSeen}
 use Rattle.groomer.specs.declared.looking.Looked.TheVariants as looked
+use Rattle.pass_runner.proofs.Altered.{left_still, out_differs, still_more, still_same}
+use Rattle.pass_runner.proofs.Appearing.{left_all, missed_all}
 use Rattle.pass_runner.proofs.Bounding.{bounded_same}
 use Rattle.pass_runner.proofs.Loads.{same_names, same_todo, times_left}
 use Rattle.pass_runner.proofs.Moves.{still_brought, still_missed}
@@ -73,10 +76,9 @@ left_on name opened = record {
 
 left_missed : (name : NameFacts) (pass : Option PassFacts) (names : List NameFacts) (answers : List Heard) (Fails : Type 0)
     → All (IsMissBy (pass_of pass).listing names (pass_of pass).missed answers Fails) (pass_of (option_map (left name) pass)).missed
-left_missed name None names answers Fails = All-nil (IsMissBy [] names [] answers Fails)
-left_missed name (Some p) names answers Fails =
-    All-filter (λ (m : Miss). not (same_name name m.name)) (IsMissBy p.listing names p.missed answers Fails) p.missed
-    (still_missed p.listing names p.missed answers Fails)
+left_missed name pass names answers Fails =
+    left_all (IsMissBy (pass_of pass).listing names (pass_of pass).missed answers Fails) name pass
+    (still_missed (pass_of pass).listing names (pass_of pass).missed answers Fails)
 
 filter_short : {X : Type 0} (p : X → Bool) (xs : List X) → length (filter p xs) ≤ length xs
 filter_short p [] = omega arith
@@ -104,11 +106,20 @@ module _ {K : Type 0} {shows : K → ShownKeeper} {old new : StateFacts K} where
         absurd (true≢false (sym stands ∙ ap (λ (r : List RowFacts). is_in (row_names r) name) rows ∙ fresh));
     brings = subst (λ (r : List RowFacts). All (IsBrought old.rows answers) r) (sym rows) (still_brought old.rows answers);
     missed =
-        subst (λ (o : Option PassFacts). All (IsMissBy (pass_of old.pass).listing (row_names old.rows) (pass_of old.pass).missed answers F) (pass_of o).missed)
+        subst (λ (o : Option PassFacts). All (MissesBy old answers F) (pass_of o).missed)
         (sym pass) (still_missed (pass_of old.pass).listing (row_names old.rows) (pass_of old.pass).missed answers F);
+    still = still_same old new (pass_of old.pass).listing (ap (λ (o : Option PassFacts). (pass_of o).missed) pass);
     todo = same_todo pass;
     bounded = bounded;
   }
+
+  pub kept_on : {F : Type 0} {answers : List Heard} {keeper : K} → IsPassOn old.pass old.pass
+      → (shows old.keeper).faults ≤ (shows new.keeper).faults → new ≡ record old { keeper = keeper } → Advances shows answers F old new
+  kept_on opened later same =
+      same_on opened later (ap (λ (s : StateFacts K). s.pass) same) (ap (λ (s : StateFacts K). s.rows) same)
+      (ap (λ (s : StateFacts K). s.roots) same) (ap (λ (s : StateFacts K). s.origin) same)
+      (bounded_same old new (pass_of old.pass).listing (ap (λ (s : StateFacts K). s.log) same)
+      (ap (λ (s : StateFacts K). s.rows) same) (ap (λ (s : StateFacts K). s.broken) same))
 
   -- the pass alone changed, and no name was missed
   pub pass_on : {F : Type 0} {answers : List Heard} → IsPassOn old.pass new.pass
@@ -129,8 +140,9 @@ module _ {K : Type 0} {shows : K → ShownKeeper} {old new : StateFacts K} where
         subst (λ (r : List RowFacts). All (IsBrought old.rows answers) r) (sym (ap (λ (s : StateFacts K). s.rows) same))
         (still_brought old.rows answers);
     missed =
-        subst (λ (ms : List Miss). All (IsMissBy (pass_of old.pass).listing (row_names old.rows) (pass_of old.pass).missed answers F) ms) (sym missed)
+        subst (λ (ms : List Miss). All (MissesBy old answers F) ms) (sym missed)
         (still_missed (pass_of old.pass).listing (row_names old.rows) (pass_of old.pass).missed answers F);
+    still = still_same old new (pass_of old.pass).listing missed;
     todo = todo;
     bounded =
         bounded_same old new (pass_of old.pass).listing (ap (λ (s : StateFacts K). s.log) same) (ap (λ (s : StateFacts K). s.rows) same)
@@ -138,9 +150,9 @@ module _ {K : Type 0} {shows : K → ShownKeeper} {old new : StateFacts K} where
   }
 
   -- a name whose row stands no more, or by another stamp, left
-  pub moved_on : {F : Type 0} {answers : List Heard} (name : NameFacts) → IsPassOn old.pass old.pass
-      → new ≡ record old { pass = option_map (left name) old.pass } → Advances shows answers F old new
-  moved_on {F} {answers} name opened after =
+  pub moved_on : {F : Type 0} {answers : List Heard} (name : NameFacts) → is_in (pass_of old.pass).listing name ≡ false
+      → IsPassOn old.pass old.pass → new ≡ record old { pass = option_map (left name) old.pass } → Advances shows answers F old new
+  moved_on {F} {answers} name unlisted opened after =
       subst (λ (s : StateFacts K). Advances shows answers F old s) (sym after) (record {
         keeper = omega arith;
         pass = left_on name opened;
@@ -151,15 +163,16 @@ module _ {K : Type 0} {shows : K → ShownKeeper} {old new : StateFacts K} where
         comes = λ n stands fresh. absurd (true≢false (sym stands ∙ fresh));
         brings = still_brought old.rows answers;
         missed = left_missed name old.pass (row_names old.rows) answers F;
+        still = λ n listed missed. left_still name n old.pass (differs_in (pass_of old.pass).listing n name listed unlisted) missed;
         todo = times_left name old.pass;
         bounded = omega arith;
       })
 
   -- the row of a listed name was put
   pub stored_on : {F : Type 0} {answers : List Heard} {true_row : RowFacts → Type 0} {tells : Bool} {row : RowFacts}
-      → IndexInvariant true_row tells shows old → IsReadOf answers row → Stores tells shows row old new
-      → Advances shows answers F old new
-  stored_on {F} {answers} {row = row} holds read stored =
+      → IndexInvariant true_row tells shows old → is_in (pass_of old.pass).out row.name ≡ true → IsReadOf answers row
+      → Stores tells shows row old new → Advances shows answers F old new
+  stored_on {F} {answers} {row = row} holds out read stored =
       let awaited : IsAwaited row.name old = stored.can.awaited in
       let opened : IsPassOn old.pass old.pass = listed_open old.pass row.name awaited.listed in
       let by_path : IsByPath (pass_of old.pass).listing = listing_by_path old.pass holds.each_name_in_one_place opened in
@@ -174,6 +187,8 @@ module _ {K : Type 0} {shows : K → ShownKeeper} {old new : StateFacts K} where
         comes = put_comes row (pass_of old.pass).listing old.rows awaited.listed;
         brings = put_holds (IsBrought old.rows answers) row_path row old.rows (still_brought old.rows answers) (inr read);
         missed = left_missed row.name old.pass (row_names old.rows) answers F;
+        still = λ n listed missed.
+            left_still row.name n old.pass (out_differs old.pass row.name n holds.each_name_in_one_place out missed) missed;
         todo = times_left row.name old.pass;
         bounded =
             let less = put_open old.rows row (pass_of old.pass).listing by_path awaited.listed awaited.absent in
@@ -228,30 +243,6 @@ module _ {answers : List Heard} (roots : List (List ℕ)) {name : NameFacts} {me
       let saw : HasSeen answers name met = sees both.0 in
       subst (λ (a : StatAnswer). Contains answers (stat name.path a)) (file_by saw.answer met name.stamp saw.saw both.1) saw.heard
 
--- of a name that is put among those that were missed
-added_miss : (listing names : List NameFacts) (m : Miss) (before after : List Miss) (answers : List Heard) (F : Type 0)
-    → Adds m before after → IsBacked listing names answers F m.name m.cause → All (IsMissBy listing names before answers F) after
-added_miss listing names m before after answers F adds why =
-    All-weaker (Contains after) (IsMissBy listing names before answers F) each after (All-contains_itself after)
-  where
-    was : (x : Miss) → Contains (adds.front ++ adds.back) x → Contains before x
-    was x h = subst (λ (ms : List Miss). Contains ms x) (sym adds.old) h
-
-    one : (x : Miss) → Contains [] x ⊎ (m ≡ x) → IsMissBy listing names before answers F x
-    one x (inl none) = absurd (omega (arith, none.1))
-    one x (inr same) = subst (λ (y : Miss). IsMissBy listing names before answers F y) same (inr why)
-
-    behind : (x : Miss) → Contains (m ∷ []) x ⊎ Contains adds.back x → IsMissBy listing names before answers F x
-    behind x (inl here) = one x (Contains-push_cases [] m x here)
-    behind x (inr later) = inl (was x (Contains-append_right adds.front adds.back x later))
-
-    parts : (x : Miss) → Contains adds.front x ⊎ Contains (m ∷ adds.back) x → IsMissBy listing names before answers F x
-    parts x (inl first) = inl (was x (Contains-append_left adds.front adds.back x first))
-    parts x (inr rest) = behind x (Contains-append_cases (m ∷ []) adds.back x rest)
-
-    each : (x : Miss) → Contains after x → IsMissBy listing names before answers F x
-    each x h = parts x (Contains-append_cases adds.front (m ∷ adds.back) x (subst (λ (ms : List Miss). Contains ms x) adds.new h))
-
 module _ {K : Type 0} {shows : K → ShownKeeper} {old new : StateFacts K} where
   -- a name was missed, if it was out
   pub missed_on : {F : Type 0} {answers : List Heard} {name : NameFacts} {cause : Cause} (was_out : Bool)
@@ -281,12 +272,9 @@ module _ {K : Type 0} {shows : K → ShownKeeper} {old new : StateFacts K} where
             subst (λ (r : List RowFacts). All (IsBrought old.rows answers) r) (sym (ap (λ (s : StateFacts K). s.rows) same))
             (still_brought old.rows answers);
         missed =
-            subst (λ (o : Option PassFacts). All (IsMissBy (pass_of old.pass).listing (row_names old.rows) (pass_of old.pass).missed answers F) (pass_of o).missed)
-            (sym misses.missed.is)
-            (subst (λ (o : Option PassFacts). All (IsMissBy (pass_of old.pass).listing (row_names old.rows) (pass_of o).missed answers F) misses.missed.into.missed)
-            (sym misses.missed.was)
-            (added_miss (pass_of old.pass).listing (row_names old.rows) (record { name = name; cause = cause }) misses.missed.from.missed misses.missed.into.missed answers F
-            misses.missed.step.missed why));
+            missed_all old new (MissesBy old answers F) true (inr why) misses
+            (still_missed (pass_of old.pass).listing (row_names old.rows) (pass_of old.pass).missed answers F);
+        still = still_more (pass_of old.pass).listing misses;
         todo =
             same_names
             (ap (λ (o : Option PassFacts). (pass_of o).todo) misses.missed.is ∙ ap (λ (p : PassFacts). p.todo) misses.missed.step.same
@@ -325,6 +313,7 @@ module _ {K : Type 0} {shows : K → ShownKeeper} {old new : StateFacts K} where
             All-filter (λ (r : RowFacts). not (bytes_eq (row_path r) name.path)) (IsBrought old.rows answers) old.rows
             (still_brought old.rows answers);
         missed = left_missed name old.pass (row_names old.rows) answers F;
+        still = λ n listed missed. left_still name n old.pass (differs_in (pass_of old.pass).listing n name listed unlisted) missed;
         todo = times_left name old.pass;
         bounded =
             let less =

@@ -10,7 +10,7 @@ use Rattle.row_types.specs.Row.{RowFacts}
 use Rattle.index_keeper.specs.Keeper.{ShownKeeper}
 use Rattle.index_rows.specs.Log.{drop_of, put_of}
 use Rattle.index_rows.specs.Rows.{row_names}
-use Rattle.scan_queue.specs.Names.{is_in}
+use Rattle.scan_queue.specs.Names.{IsByPath, is_in}
 use Rattle.scan_queue.specs.declared.miss.Cause.{Cause}
 use Rattle.scan_queue.specs.declared.miss.Cause.TheVariants.{ReadFault, Altered, Appeared}
 use Rattle.scan_queue.specs.declared.miss.Seen.{Seen}
@@ -22,7 +22,7 @@ use Rattle.index_state.specs.State.{StateFacts, pass_of}
 use Rattle.index_state.specs.Step.{IsAwaited, Judges}
 use Rattle.index_state.specs.declared.answer.Judged.{Judged}
 use Rattle.index_state.specs.declared.answer.Judged.TheVariants as judged
-use Rattle.scan_worker.specs.Read.{FindsOther, Reads, load_of}
+use Rattle.scan_worker.specs.Read.{FindsOther, MayWant, Reads, load_of}
 use Rattle.index_desk.specs.declared.work_end.WorkEnd.{WorkEnd}
 use Rattle.index_desk.specs.declared.work_end.WorkEnd.TheVariants.{KeeperFault, LogFull, OutOfMemory}
 use Rattle.tree_trait.specs.Asks.{Asks}
@@ -34,18 +34,19 @@ use Rattle.tree_trait.specs.Shown.{ShownTree}
 use Rattle.tree_trait.specs.declared.stat.StatAnswer.{StatAnswer}
 use Rattle.tree_trait.specs.declared.stat.StatAnswer.TheVariants as said
 use Rattle.pass_runner.specs.Ends.{IsOutOfRoom, TurnsBy}
-use Rattle.pass_runner.specs.Settled.{IsBacked, IsPassOn, IsReadOf, IsWanted, times_loaded, times_named}
-use Rattle.pass_runner.specs.Turns.{Advances, AppearsBy, HasSeen, IsLookUnder, JudgesLeft, Looks, LooksTo, PublishesNew, TurnsOver, after_judged}
+use Rattle.pass_runner.specs.Settled.{Advances, AlteredAreMissed, IsBacked, IsPassOn, IsReadOf, IsWanted, Wants, is_missed, times_loaded, times_named}
+use Rattle.pass_runner.specs.Turns.{AppearsBy, HasSeen, IsLookUnder, JudgesLeft, Looks, LooksTo, PublishesNew, TurnsOver, after_judged}
 use Rattle.groomer.specs.Looks.{LooksAt, looked_of}
 use Rattle.groomer.specs.declared.looking.Looked.{Looked}
 use Rattle.groomer.specs.declared.looking.Looked.TheVariants as looked
+use Rattle.pass_runner.proofs.Altered.{altered_by, failed_same, missed_self, read_same, unaltered_by, unaltered_looks, wanting_same}
 use Rattle.pass_runner.proofs.Appearing.{appears_same, dropped_stand, left_none, left_stand, missed_none, missed_stand}
-use Rattle.pass_runner.proofs.Bounding.{bounded_same, bounded_void}
+use Rattle.pass_runner.proofs.Bounding.{bounded_void}
 use Rattle.pass_runner.proofs.Loads.{loads_heard, loads_looks}
 use Rattle.tree_trait.proofs.ListenLemmas.{all_heard, is_heard, listens_none, listens_one}
 use Rattle.pass_runner.proofs.NameLists.{stamp_listed}
 use Rattle.pass_runner.proofs.Composed.{settles_by}
-use Rattle.pass_runner.proofs.Steps.{kept_listed, left_over_pass, listed_open, listing_by_path, missed_on, missed_over, moved_on, out_open, removed_on, same_on, seen_there, stored_on}
+use Rattle.pass_runner.proofs.Steps.{kept_listed, kept_on, left_over_pass, listed_open, listing_by_path, missed_on, missed_over, moved_on, out_open, removed_on, same_on, seen_there, stored_on}
 
 -- where a name is in the one list and not in the other, they differ
 apart_by : (names listing : List NameFacts) (name : NameFacts) (a b : Bool) → (a ≡ b → ⊥) → is_in names name ≡ a
@@ -58,28 +59,21 @@ false≢true e = true≢false (sym e)
 module _ {K : Type 0} (tells : Bool) (shows : K → ShownKeeper) (old new : StateFacts K) where
   -- where a row is published
   published_on : {F : Type 0} {true_row : RowFacts → Type 0} {answers : List Heard} (row : RowFacts) (end : Option WorkEnd) → IndexInvariant true_row tells shows old
-      → IsReadOf answers row → IsAwaited row.name old → PublishesNew tells shows row old new end → Advances shows answers F old new
-  published_on row None holds read awaited h = stored_on holds read h
-  published_on row (Some KeeperFault) holds read awaited h =
+      → is_in (pass_of old.pass).out row.name ≡ true → IsReadOf answers row → IsAwaited row.name old → PublishesNew tells shows row old new end
+      → Advances shows answers F old new
+  published_on row None holds out read awaited h = stored_on holds out read h
+  published_on row (Some KeeperFault) holds out read awaited h =
       same_on (listed_open old.pass row.name awaited.listed) h.keeper.asked.cause.later
       (ap (λ (s : StateFacts K). s.pass) h.after) (ap (λ (s : StateFacts K). s.rows) h.after)
       (ap (λ (s : StateFacts K). s.roots) h.after) (ap (λ (s : StateFacts K). s.origin) h.after)
       (bounded_void old new (pass_of old.pass).listing (drop_of row.name) h.can.sound (ap (λ (s : StateFacts K). s.log) h.after)
       (ap (λ (s : StateFacts K). s.rows) h.after) (ap (λ (s : StateFacts K). s.broken) h.after))
-  published_on row (Some LogFull) holds read awaited h =
-      same_on (listed_open old.pass row.name awaited.listed)
-      (let e = ap (λ (s : StateFacts K). (shows s.keeper).faults) h.same in omega (arith, e))
-      (ap (λ (s : StateFacts K). s.pass) h.same) (ap (λ (s : StateFacts K). s.rows) h.same)
-      (ap (λ (s : StateFacts K). s.roots) h.same) (ap (λ (s : StateFacts K). s.origin) h.same)
-      (bounded_same old new (pass_of old.pass).listing (ap (λ (s : StateFacts K). s.log) h.same) (ap (λ (s : StateFacts K). s.rows) h.same)
-      (ap (λ (s : StateFacts K). s.broken) h.same))
-  published_on row (Some OutOfMemory) holds read awaited h =
-      same_on (listed_open old.pass row.name awaited.listed) (let e = h.keeper.faultless in omega (arith, e))
-      (ap (λ (s : StateFacts K). s.pass) h.same) (ap (λ (s : StateFacts K). s.rows) h.same)
-      (ap (λ (s : StateFacts K). s.roots) h.same) (ap (λ (s : StateFacts K). s.origin) h.same)
-      (bounded_same old new (pass_of old.pass).listing (ap (λ (s : StateFacts K). s.log) h.same) (ap (λ (s : StateFacts K). s.rows) h.same)
-      (ap (λ (s : StateFacts K). s.broken) h.same))
-  published_on row (Some _) holds read awaited h = absurd h
+  published_on row (Some LogFull) holds out read awaited h =
+      kept_on {keeper = old.keeper} (listed_open old.pass row.name awaited.listed)
+      (let e = ap (λ (s : StateFacts K). (shows s.keeper).faults) h.same in omega (arith, e)) h.same
+  published_on row (Some OutOfMemory) holds out read awaited h =
+      kept_on (listed_open old.pass row.name awaited.listed) (let e = h.keeper.faultless in omega (arith, e)) h.same
+  published_on row (Some _) holds out read awaited h = absurd h
 
   published_ends : (row : RowFacts) (end : Option WorkEnd) → old.broken ≡ false → IsAwaited row.name old
       → PublishesNew tells shows row old new end → TurnsBy row.name old new end
@@ -122,7 +116,8 @@ module _ {K : Type 0} (tells : Bool) (shows : K → ShownKeeper) (old new : Stat
         → Judges tells shows name met old answer new → Advances shows answers F old new
     judged_on judged.Broken holds sees h = absurd (true≢false (sym h.why ∙ sound))
     judged_on judged.Kept holds sees h = absurd (true≢false (sym h.why.kept ∙ unlisted))
-    judged_on (judged.Moved now) holds sees h = moved_on name (out_open old.pass name out) h.after
+    judged_on (judged.Moved now) holds sees h =
+        moved_on name (kept_listed old.pass name unlisted) (out_open old.pass name out) h.after
     judged_on judged.Strange holds sees h =
         missed_on {cause = Appeared} h.was_out (out_open old.pass name out) h.missed
         (record {
@@ -130,18 +125,10 @@ module _ {K : Type 0} (tells : Bool) (shows : K → ShownKeeper) (old new : Stat
           row = h.strange.left_over.stands;
         })
     judged_on judged.LogFull holds sees h =
-        same_on (out_open old.pass name out)
-        (let e = ap (λ (s : StateFacts K). (shows s.keeper).faults) h.drops.same in omega (arith, e))
-        (ap (λ (s : StateFacts K). s.pass) h.drops.same) (ap (λ (s : StateFacts K). s.rows) h.drops.same)
-        (ap (λ (s : StateFacts K). s.roots) h.drops.same) (ap (λ (s : StateFacts K). s.origin) h.drops.same)
-        (bounded_same old new (pass_of old.pass).listing (ap (λ (s : StateFacts K). s.log) h.drops.same)
-        (ap (λ (s : StateFacts K). s.rows) h.drops.same) (ap (λ (s : StateFacts K). s.broken) h.drops.same))
+        kept_on {keeper = old.keeper} (out_open old.pass name out)
+        (let e = ap (λ (s : StateFacts K). (shows s.keeper).faults) h.drops.same in omega (arith, e)) h.drops.same
     judged_on judged.OutOfMemory holds sees h =
-        same_on (out_open old.pass name out) (let e = h.drops.keeper.faultless in omega (arith, e))
-        (ap (λ (s : StateFacts K). s.pass) h.drops.same) (ap (λ (s : StateFacts K). s.rows) h.drops.same)
-        (ap (λ (s : StateFacts K). s.roots) h.drops.same) (ap (λ (s : StateFacts K). s.origin) h.drops.same)
-        (bounded_same old new (pass_of old.pass).listing (ap (λ (s : StateFacts K). s.log) h.drops.same)
-        (ap (λ (s : StateFacts K). s.rows) h.drops.same) (ap (λ (s : StateFacts K). s.broken) h.drops.same))
+        kept_on (out_open old.pass name out) (let e = h.drops.keeper.faultless in omega (arith, e)) h.drops.same
     judged_on judged.KeeperFault holds sees h =
         same_on (out_open old.pass name out) h.drops.keeper.cause.later
         (ap (λ (s : StateFacts K). s.pass) h.drops.after) (ap (λ (s : StateFacts K). s.rows) h.drops.after)
@@ -216,17 +203,21 @@ unloaded : (roots : List (List ℕ)) (answers : List Heard) → All (IsLookUnder
     → times_loaded answers path ≤ times_named [] path
 unloaded roots answers asked path = let none = loads_looks roots answers path asked in omega (arith, none)
 
+-- a name is awaited in a listing by path
+awaited_by_path : {K : Type 0} {true_row : RowFacts → Type 0} {tells : Bool} {shows : K → ShownKeeper} {state : StateFacts K} {name : NameFacts}
+    → IndexInvariant true_row tells shows state → IsAwaited name state → IsByPath (pass_of state.pass).listing
+awaited_by_path {state = state} {name = name} holds awaited =
+    listing_by_path state.pass holds.each_name_in_one_place (listed_open state.pass name awaited.listed)
+
 -- the load of a name that is awaited may be asked
 wanted_load : {K : Type 0} {true_row : RowFacts → Type 0} {tells : Bool} {shows : K → ShownKeeper} {state : StateFacts K}
     (name : NameFacts) (answer : LoadFacts) → IndexInvariant true_row tells shows state → IsAwaited name state
-    → IsWanted (pass_of state.pass).listing state.roots (row_names state.rows) (load_of name answer)
+    → Wants state (load_of name answer)
 wanted_load {state = state} name answer holds awaited = (
   refl,
   record {
     stamp = name.stamp;
-    listed =
-        stamp_listed name (pass_of state.pass).listing
-        (listing_by_path state.pass holds.each_name_in_one_place (listed_open state.pass name awaited.listed)) awaited.listed;
+    listed = stamp_listed name (pass_of state.pass).listing (awaited_by_path holds awaited) awaited.listed;
     absent = awaited.absent;
   },
 )
@@ -273,19 +264,22 @@ module _ {K : Type 0} {told : Bool} {version : Versions} {shows : K → ShownKee
     {before after : ShownTree} {old new : StateFacts K} {name : NameFacts} where
   -- the file was read, and its row is published
   pub turns_read : {true_row : RowFacts → Type 0} {tells : Bool} (row : RowFacts) {end : Option WorkEnd} (answer : LoadFacts) → IndexInvariant true_row tells shows old
-      → old.broken ≡ false → IsAwaited name old → Asks told version before after (load_of name answer)
-      → Reads name answer row → PublishesNew tells shows row old new end
+      → old.broken ≡ false → IsAwaited name old → is_in (pass_of old.pass).out name ≡ true
+      → Asks told version before after (load_of name answer) → Reads name answer row → PublishesNew tells shows row old new end
       → TurnsOver told version shows (name ∷ []) name before after old new end
-  turns_read {tells = tells} row {end = end} answer holds sound awaited asks reads h =
+  turns_read {tells = tells} row {end = end} answer holds sound awaited out asks reads h =
       let named : row.name ≡ name = read_named name answer row reads in
       let waits : IsAwaited row.name old = subst (λ (n : NameFacts). IsAwaited n old) (sym named) awaited in
       let on : Advances shows (heard_of (load_of name answer)) (Rose before.faults after.faults) old new
-      = published_on tells shows old new row end holds (read_of name answer row reads named) waits h in
+      = published_on tells shows old new row end holds (subst (λ (n : NameFacts). is_in (pass_of old.pass).out n ≡ true) (sym named) out)
+      (read_of name answer row reads named) waits h in
       record {
         settles =
             settles_by (listens_one (load_of name answer) asks)
-            (all_heard (IsWanted (pass_of old.pass).listing old.roots (row_names old.rows)) (load_of name answer)
-            (wanted_load name answer holds awaited)) on;
+            (all_heard (Wants old) (load_of name answer)
+            (wanted_load name answer holds awaited))
+            (unaltered_by (pass_of old.pass).listing name answer (awaited_by_path holds awaited) awaited.listed new
+            (read_same name answer row reads)) on;
         loads = loads_heard name answer;
         ends = subst (λ (n : NameFacts). TurnsBy n old new end) named (published_ends tells shows old new row end sound waits h);
         appears = published_appears tells shows old new name row end h;
@@ -295,15 +289,15 @@ module _ {K : Type 0} {told : Bool} {version : Versions} {shows : K → ShownKee
   -- it was missed
   missed_so : {cause : Cause} {answers : List Heard} (reads : List NameFacts) (was_out : Bool) → old.broken ≡ false
       → is_in (pass_of old.pass).out name ≡ true → Listens told version before after answers
-      → All (IsWanted (pass_of old.pass).listing old.roots (row_names old.rows)) answers
+      → All (Wants old) answers
       → IsBacked (pass_of old.pass).listing (row_names old.rows) answers (Rose before.faults after.faults) name cause
-      → ((path : List ℕ) → times_loaded answers path ≤ times_named reads path) → MissesOut name cause old was_out new
+      → (is_missed new name ≡ true → AlteredAreMissed (pass_of old.pass).listing answers new) → ((path : List ℕ) → times_loaded answers path ≤ times_named reads path) → MissesOut name cause old was_out new
       → AppearsBy reads old new → TurnsOver told version shows reads name before after old new None
-  missed_so {answers = answers} reads was_out sound out listens wanted why loads misses appears =
+  missed_so {answers = answers} reads was_out sound out listens wanted why altered loads misses appears =
       let on : Advances shows answers (Rose before.faults after.faults) old new
       = missed_on was_out (out_open old.pass name out) misses why in
       record {
-        settles = settles_by listens wanted on;
+        settles = settles_by listens wanted (altered (missed_self was_out out misses)) on;
         loads = loads;
         ends = missed_over was_out out sound misses;
         appears = appears;
@@ -317,14 +311,15 @@ module _ {K : Type 0} {told : Bool} {version : Versions} {shows : K → ShownKee
       → MissesOut name (Altered met) old was_out new → TurnsOver told version shows (name ∷ []) name before after old new None
   turns_altered {met = met} was_out answer holds sound awaited out asks other misses =
       missed_so {cause = Altered met} (name ∷ []) was_out sound out (listens_one (load_of name answer) asks)
-      (all_heard (IsWanted (pass_of old.pass).listing old.roots (row_names old.rows)) (load_of name answer)
+      (all_heard (Wants old) (load_of name answer)
       (wanted_load name answer holds awaited))
       (record {
         listed = awaited.listed;
         answer = answer;
         heard = is_heard (load_of name answer) (other_heard name answer met other);
         other = other;
-      }) (loads_heard name answer) misses (λ none. missed_none old new {cause = Altered met} was_out (λ is. cc) misses none)
+      }) (altered_by (pass_of old.pass).listing name answer (awaited_by_path holds awaited) awaited.listed new)
+      (loads_heard name answer) misses (λ none. missed_none old new {cause = Altered met} was_out (λ is. cc) misses none)
 
   -- the load failed
   pub turns_unread : {true_row : RowFacts → Type 0} {tells : Bool} (was_out : Bool) (answer : LoadFacts) → IndexInvariant true_row tells shows old → old.broken ≡ false
@@ -333,10 +328,11 @@ module _ {K : Type 0} {told : Bool} {version : Versions} {shows : K → ShownKee
       → TurnsOver told version shows (name ∷ []) name before after old new None
   turns_unread was_out answer holds sound awaited out asks is misses =
       missed_so {cause = ReadFault} (name ∷ []) was_out sound out (listens_one (load_of name answer) asks)
-      (all_heard (IsWanted (pass_of old.pass).listing old.roots (row_names old.rows)) (load_of name answer)
+      (all_heard (Wants old) (load_of name answer)
       (wanted_load name answer holds awaited))
       (asks.hands.cause.rose (subst (λ (a : LoadFacts). IsTrue (has_failed (load_of name a))) (sym is) refl))
-      (loads_heard name answer) misses (λ none. missed_none old new {cause = ReadFault} was_out (λ is. cc) misses none)
+      (λ missed. unaltered_by (pass_of old.pass).listing name answer (awaited_by_path holds awaited) awaited.listed new
+      (failed_same name answer is)) (loads_heard name answer) misses (λ none. missed_none old new {cause = ReadFault} was_out (λ is. cc) misses none)
 
   -- the look failed
   pub turns_unseen : (was_out : Bool) → old.broken ≡ false → is_in (pass_of old.pass).out name ≡ true
@@ -344,6 +340,7 @@ module _ {K : Type 0} {told : Bool} {version : Versions} {shows : K → ShownKee
       → TurnsOver told version shows [] name before after old new None
   turns_unseen was_out sound out looks misses =
       missed_so {cause = ReadFault} [] was_out sound out looks.listens (wanted_looks (pass_of old.pass).listing old.roots (row_names old.rows) looks.answers looks.asked) looks.leads
+      (λ missed. unaltered_looks (pass_of old.pass).listing old.roots looks.answers new looks.asked)
       (unloaded old.roots looks.answers looks.asked) misses
       (λ stood. missed_stand old new {cause = ReadFault} was_out (λ is. absurd (cc)) misses stood)
 
@@ -356,7 +353,9 @@ module _ {K : Type 0} {told : Bool} {version : Versions} {shows : K → ShownKee
       let on : Advances shows looks.answers (Rose before.faults after.faults) old new
       = judged_on tells shows old new name met sound unlisted out h.answer holds looks.leads h.judged in
       record {
-        settles = settles_by looks.listens (wanted_looks (pass_of old.pass).listing old.roots (row_names old.rows) looks.answers looks.asked) on;
+        settles =
+            settles_by looks.listens (wanted_looks (pass_of old.pass).listing old.roots (row_names old.rows) looks.answers looks.asked)
+            (unaltered_looks (pass_of old.pass).listing old.roots looks.answers new looks.asked) on;
         loads = unloaded old.roots looks.answers looks.asked;
         ends = subst (λ (e : Option WorkEnd). TurnsBy name old new e) (sym h.ends) (judged_ends tells shows old new name met sound unlisted out h.answer h.judged);
         appears = judged_appears tells shows old new name met sound unlisted out h.answer holds h.judged;
@@ -368,11 +367,12 @@ module _ {K : Type 0} {told : Bool} {version : Versions} {shows : K → ShownKee
 
 module _ {K : Type 0} {told : Bool} {version : Versions} {shows : K → ShownKeeper} {before after : ShownTree} {state : StateFacts K} {name : NameFacts} where
   wanting : {answers : List Heard} (reads : List NameFacts) → IsPassOn state.pass state.pass → state.broken ≡ false → Listens told version before after answers
-      → All (IsWanted (pass_of state.pass).listing state.roots (row_names state.rows)) answers
+      → All (Wants state) answers
+      → AlteredAreMissed (pass_of state.pass).listing answers state
       → ((path : List ℕ) → times_loaded answers path ≤ times_named reads path)
       → TurnsOver told version shows reads name before after state state (Some OutOfMemory)
-  wanting reads opened sound listens wanted loads = record {
-    settles = settles_by listens wanted (same_on opened (omega arith) refl refl refl refl (omega arith));
+  wanting reads opened sound listens wanted altered loads = record {
+    settles = settles_by listens wanted altered (same_on opened (omega arith) refl refl refl refl (omega arith));
     loads = loads;
     ends = sound;
     appears = appears_same state state reads refl refl;
@@ -381,12 +381,14 @@ module _ {K : Type 0} {told : Bool} {version : Versions} {shows : K → ShownKee
 
   -- memory was refused for the load, or for the row
   pub turns_wanting : {true_row : RowFacts → Type 0} {tells : Bool} (answer : LoadFacts) → IndexInvariant true_row tells shows state
-      → state.broken ≡ false → IsAwaited name state → Asks told version before after (load_of name answer)
+      → state.broken ≡ false → IsAwaited name state → Asks told version before after (load_of name answer) → MayWant name answer
       → TurnsOver told version shows (name ∷ []) name before after state state (Some OutOfMemory)
-  turns_wanting answer holds sound awaited asks =
+  turns_wanting answer holds sound awaited asks wants =
       wanting (name ∷ []) (listed_open state.pass name awaited.listed) sound (listens_one (load_of name answer) asks)
-      (all_heard (IsWanted (pass_of state.pass).listing state.roots (row_names state.rows)) (load_of name answer)
-      (wanted_load name answer holds awaited)) (loads_heard name answer)
+      (all_heard (Wants state) (load_of name answer)
+      (wanted_load name answer holds awaited))
+      (unaltered_by (pass_of state.pass).listing name answer (awaited_by_path holds awaited) awaited.listed state
+      (wanting_same name answer wants)) (loads_heard name answer)
 
   -- or for the look
   pub turns_blind : state.broken ≡ false → is_in (pass_of state.pass).out name ≡ true
@@ -394,6 +396,7 @@ module _ {K : Type 0} {told : Bool} {version : Versions} {shows : K → ShownKee
       → TurnsOver told version shows [] name before after state state (Some OutOfMemory)
   turns_blind sound out looks =
       wanting [] (out_open state.pass name out) sound looks.listens (wanted_looks (pass_of state.pass).listing state.roots (row_names state.rows) looks.answers looks.asked)
+      (unaltered_looks (pass_of state.pass).listing state.roots looks.answers state looks.asked)
       (unloaded state.roots looks.answers looks.asked)
 
 -- a look that was made

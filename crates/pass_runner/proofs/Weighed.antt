@@ -1,5 +1,5 @@
 -- A pass whose end was weighed against the loads that were counted.
-use Rattle.std.proofs.Common.{◌≡◌, ℕ, ◌≤◌, inl, inr, Bool, false, List, ◌∷◌, length, map, sym, ◌∙◌, ap, subst, arith, IsTrue}
+use Rattle.std.proofs.Common.{◌≡◌, ℕ, ◌≤◌, inl, inr, Bool, false, List, ◌∷◌, length, sym, ◌∙◌, ap, subst, arith, IsTrue}
 use Rattle.std.specs.Prelude.{◌⊎◌}
 use Rattle.std.specs.List.{AllZip, filter, sum_by}
 use Rattle.std.proofs.lemmas.Bool.{true≢false}
@@ -8,9 +8,9 @@ use Rattle.scan_queue.specs.Names.{is_in}
 use Rattle.tree_trait.specs.Found.{Versions}
 use Rattle.tree_trait.specs.Shown.{HandsOn, ShownTree}
 use Rattle.pass_runner.specs.Beside.{IsWeighed, is_whole}
-use Rattle.pass_runner.specs.Helped.{BeginsWithLook, HelpedFrom}
-use Rattle.pass_runner.specs.Owned.{HandsGo, Helps, LoadsBeside, is_hand_fault}
-use Rattle.pass_runner.specs.declared.helper.Task.{Task}
+use Rattle.pass_runner.specs.Helped.{BeginsWithLook, HelpedFrom, asked_by, hands_in}
+use Rattle.pass_runner.specs.Owned.{Helps, LoadsBeside, is_hand_fault}
+use Rattle.pass_runner.specs.declared.helper.Helper.{Helper}
 use Rattle.pass_runner.specs.declared.pass_end.PassEnd.{PassEnd}
 use Rattle.pass_runner.specs.declared.pass_end.PassEnd.TheVariants.{Whole, Missed, Walk, Broken}
 use Rattle.pass_runner.specs.declared.pass_end.PassEnd.TheVariants.{KeeperFault, LogFull, OutOfMemory}
@@ -39,38 +39,38 @@ weighed_keeper end asked many Broken w is = absurd (cc)
 weighed_keeper end asked many LogFull w is = absurd (cc)
 weighed_keeper end asked many OutOfMemory w is = absurd (cc)
 
-module _ {P T : Type 0} (hand_of : P → T) (task_of : P → Task) (asked_of : P → ℕ) (sees : T → ShownTree) (told : Bool)
-    (version : Versions) (listing names : List NameFacts) (before after : List P) (end : PassEnd) where
+module _ {T : Type 0} (sees : T → ShownTree) (told : Bool) (version : Versions) (listing names : List NameFacts)
+    (before after : List (Helper T)) (end : PassEnd) where
   -- the helpers helped, or are as they were, and then the pass isn't whole
   abbrev Came : Type 0
-  Came = AllZip (HelpedFrom (λ p. sees (hand_of p)) task_of asked_of told version (filter (is_in names) listing)) before after
+  Came = AllZip (HelpedFrom sees told version (filter (is_in names) listing)) before after
       ⊎ ((after ≡ before) × (is_whole end ≡ false))
 
   pub came_helps : Came → AllZip (λ hand later. Helps told version listing names (sees hand) (sees later))
-      (map hand_of before) (map hand_of after)
+      (hands_in before) (hands_in after)
   came_helps (inl zip) =
-      zip_hands hand_of (λ hand later. Helps told version listing names (sees hand) (sees later))
-      (helps_one hand_of task_of asked_of sees told version listing names) before after zip
+      zip_hands (λ hand later. Helps told version listing names (sees hand) (sees later))
+      (helps_one sees told version listing names) before after zip
   came_helps (inr same) =
-      zip_places hand_of (λ hand later. Helps told version listing names (sees hand) (sees later))
+      zip_places (λ hand later. Helps told version listing names (sees hand) (sees later))
       (helps_none sees told version listing names) before after same.0
 
   pub came_hands : Came → AllZip (λ hand later. HandsOn told version (sees hand) (sees later) ⊥ ⊥)
-      (map hand_of before) (map hand_of after)
+      (hands_in before) (hands_in after)
   came_hands (inl zip) =
-      zip_hands hand_of (λ hand later. HandsOn told version (sees hand) (sees later) ⊥ ⊥)
-      (hands_one hand_of task_of asked_of sees told version listing names) before after zip
+      zip_hands (λ hand later. HandsOn told version (sees hand) (sees later) ⊥ ⊥)
+      (hands_one sees told version listing names) before after zip
   came_hands (inr same) =
-      zip_places hand_of (λ hand later. HandsOn told version (sees hand) (sees later) ⊥ ⊥)
+      zip_places (λ hand later. HandsOn told version (sees hand) (sees later) ⊥ ⊥)
       (λ hand. hands_none (λ never. never)) before after same.0
 
   -- the loads of a pass that came to be whole
-  pub came_loads : (first later : T) (asked : ℕ) (many : Bool) (final : PassEnd) → Came → BeginsWithLook task_of before
-      → asked ≤ sum_by asked_of after → (3 ≤ length (first ∷ map hand_of before) → IsTrue many)
+  pub came_loads : (first later : T) (asked : ℕ) (many : Bool) (final : PassEnd) → Came → BeginsWithLook before
+      → asked ≤ sum_by asked_by after → (3 ≤ length (first ∷ hands_in before) → IsTrue many)
       → IsWeighed end asked many final
-      → LoadsBeside sees (first ∷ map hand_of before) (later ∷ map hand_of after) final
+      → LoadsBeside sees (first ∷ hands_in before) (later ∷ hands_in after) final
   came_loads first later asked many (Whole summary) (inl zip) look counts three w = λ long told_all.
-      let hear = loads_beside hand_of task_of asked_of sees told version listing names first later asked before after zip look counts told_all in
+      let hear = loads_beside sees told version listing names first later asked before after zip look counts told_all in
       let enough = w.1 (three long) in
       omega (arith, hear, enough)
   came_loads first later asked many (Whole summary) (inr same) look counts three w =
@@ -83,16 +83,9 @@ module _ {P T : Type 0} (hand_of : P → T) (task_of : P → Task) (asked_of : P
   came_loads first later asked many OutOfMemory came look counts three w = tt
 
   -- the hands are those of the first one and of the helpers
-  pub goes_by : (First Other : T → T → Type 0) (hands laters : List T) (first later : T) → hands ≡ first ∷ map hand_of before
-      → laters ≡ later ∷ map hand_of after → First first later → AllZip Other (map hand_of before) (map hand_of after)
-      → HandsGo First Other hands laters
-  goes_by First Other hands laters first later was is went others =
-      subst (λ (hs : List T). HandsGo First Other hs laters) (sym was)
-      (subst (λ (ls : List T). HandsGo First Other (first ∷ map hand_of before) ls) (sym is) (went, others))
-
-  pub loads_by : (hands laters : List T) (first later : T) (final : PassEnd) → hands ≡ first ∷ map hand_of before
-      → laters ≡ later ∷ map hand_of after
-      → LoadsBeside sees (first ∷ map hand_of before) (later ∷ map hand_of after) final → LoadsBeside sees hands laters final
+  pub loads_by : (hands laters : List T) (first later : T) (final : PassEnd) → hands ≡ first ∷ hands_in before
+      → laters ≡ later ∷ hands_in after
+      → LoadsBeside sees (first ∷ hands_in before) (later ∷ hands_in after) final → LoadsBeside sees hands laters final
   loads_by hands laters first later final was is heard =
       subst (λ (hs : List T). LoadsBeside sees hs laters final) (sym was)
-      (subst (λ (ls : List T). LoadsBeside sees (first ∷ map hand_of before) ls final) (sym is) heard)
+      (subst (λ (ls : List T). LoadsBeside sees (first ∷ hands_in before) ls final) (sym is) heard)

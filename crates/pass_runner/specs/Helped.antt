@@ -1,5 +1,6 @@
 -- What a hand does that helps with a pass over a shared index (this project's rule).
-use Rattle.std.specs.Prelude.{◌≡◌, ℕ, ◌≤◌, Bool, List, [], ◌∷◌, All, None}
+use Rattle.std.specs.Prelude.{◌≡◌, ℕ, ◌≤◌, Bool, List, [], ◌∷◌, All, None, map}
+use Rattle.crossbeam_utils.specs.Padded.{padded_value}
 use Rattle.row_types.specs.Name.{NameFacts, stamp_at}
 use Rattle.row_types.specs.declared.limits.TheConstants.{FILE_LIMIT}
 use Rattle.index_lock.specs.Tokens.{SeatFacts}
@@ -9,6 +10,7 @@ use Rattle.tree_trait.specs.Found.{Versions}
 use Rattle.tree_trait.specs.Heard.{Heard, load, stat, read_dir}
 use Rattle.tree_trait.specs.Listens.{Listens, loads}
 use Rattle.tree_trait.specs.Shown.{ShownTree}
+use Rattle.pass_runner.specs.declared.helper.Helper.{Helper}
 use Rattle.pass_runner.specs.declared.helper.Task.{Task}
 use Rattle.pass_runner.specs.declared.helper.Task.TheVariants.{Look, Read}
 
@@ -31,21 +33,27 @@ abbrev pub IsCounted : Task → ℕ → Type 0
 IsCounted Look asked = asked ≡ 0
 IsCounted Read asked = Unit {0}
 
--- what a place comes to whose hand helped while these names were skipped, by the hand of the place, what it helps with
--- and how many loads it counts
-abbrev pub HelpedFrom : {P : Type 0} → (P → ShownTree) → (P → Task) → (P → ℕ) → Bool → Versions
-    → List NameFacts → P → P → Type 0
-HelpedFrom sees task_of asked_of told version spared before after =
-    Helped told version spared (sees before) (sees after) (asked_of after)
-    × (task_of after ≡ task_of before) × IsCounted (task_of after) (asked_of after)
+-- how many loads a helper counts
+abbrev pub asked_by : {T : Type 0} → Helper T → ℕ
+asked_by helper = padded_value helper.asked
 
--- what a run of a slot makes of its place
-abbrev pub HelpsFrom : {P : Type 0} → (P → ShownTree) → (P → Task) → (P → ℕ) → Bool → Versions
-    → SeatFacts Change Origin → P → SeatFacts Change Origin → P → Type 0
-HelpsFrom sees task_of asked_of told version start before later after =
-    HelpedFrom sees task_of asked_of told version start.origin.spared before after
+-- the hands of helpers, in order
+abbrev pub hands_in : {T : Type 0} → List (Helper T) → List T
+hands_in helpers = map (λ helper. helper.hand) helpers
+
+-- what a helper comes to whose hand helped while these names were skipped
+abbrev pub HelpedFrom : {T : Type 0} → (T → ShownTree) → Bool → Versions → List NameFacts → Helper T → Helper T → Type 0
+HelpedFrom sees told version spared before after =
+    Helped told version spared (sees before.hand) (sees after.hand) (asked_by after)
+    × (after.task ≡ before.task) × IsCounted after.task (asked_by after)
+
+-- what a run of a slot makes of its helper
+abbrev pub HelpsFrom : {T : Type 0} → (T → ShownTree) → Bool → Versions → SeatFacts Change Origin → Helper T
+    → SeatFacts Change Origin → Helper T → Type 0
+HelpsFrom sees told version start before later after =
+    HelpedFrom sees told version start.origin.spared before after
 
 -- the first helper looks for files, if there is one
-abbrev pub BeginsWithLook : {P : Type 0} → (P → Task) → List P → Type 0
-BeginsWithLook task_of [] = Unit {0}
-BeginsWithLook task_of (place ∷ places) = task_of place ≡ Look
+abbrev pub BeginsWithLook : {T : Type 0} → List (Helper T) → Type 0
+BeginsWithLook [] = Unit {0}
+BeginsWithLook (helper ∷ helpers) = helper.task ≡ Look

@@ -2,11 +2,12 @@
 -- the other hands help with it over a lock, and what is left is settled by the first hand. Whole: the index is one scan of
 -- the walk listing, and the numbers are those of its plan against the rows that the index brought. What a hand that helps
 -- may ask is said of each.
-use Rattle.std.specs.Prelude.{◌≡◌, ◌⊎◌, ℕ, ◌+◌, ◌≤◌, Bool, true, false, List, [], ◌∷◌, ◌++◌, All, length, drop}
+use Rattle.std.specs.Prelude.{◌≡◌, ◌⊎◌, ℕ, ◌+◌, ◌≤◌, Bool, true, false, List, ◌∷◌, ◌++◌, All, length, drop}
 use Rattle.std.specs.Prelude.{Option, Some, None, IsSome, IsTrue, Ok, Err}
 use mathlib.Core.List.{IsPrefix}
 use Rattle.std.specs.List.{AllZip, filter, sum_by}
 use Rattle.row_types.specs.Faults.{Rose}
+use Rattle.row_types.specs.Ascends.{IsBefore}
 use Rattle.row_types.specs.Name.{NameFacts, stamp_at}
 use Rattle.row_types.specs.Rules.{Rules}
 use Rattle.index_keeper.specs.Keeper.{ShownKeeper}
@@ -21,6 +22,7 @@ use Rattle.scan_queue.specs.Pass.{IsWhole, PassFacts, first_missed}
 use Rattle.scan_queue.specs.declared.miss.Cause.{Cause}
 use Rattle.scan_queue.specs.declared.miss.Cause.TheVariants.{Appeared, ReadFault}
 use Rattle.scan_queue.specs.declared.miss.Miss.{Miss}
+use Rattle.scan_queue.specs.declared.miss.Seen.{Seen}
 use Rattle.tree_trait.specs.Asks.{FitsAny, IsTold}
 use Rattle.tree_trait.specs.Found.{Versions}
 use Rattle.tree_trait.specs.Heard.{Heard, with_answers}
@@ -35,7 +37,7 @@ use Rattle.tree_walk.specs.declared.walked.Walk.{Walk}
 use Rattle.pass_runner.specs.Ends.{IsOutOfRoom}
 use Rattle.pass_runner.specs.Helped.{IsSparing}
 use Rattle.pass_runner.specs.Numbers.{summary_of}
-use Rattle.pass_runner.specs.Settled.{IsBacked, IsBrought, IsWanted, MayGo, times_loaded}
+use Rattle.pass_runner.specs.Settled.{IsBacked, IsBrought, IsHeardAltered, IsWanted, MayGo, times_loaded}
 use Rattle.pass_runner.specs.declared.pass_end.PassEnd.{PassEnd}
 use Rattle.pass_runner.specs.declared.pass_end.PassEnd.TheVariants.{Whole, Missed, Walk as Unwalked, Broken}
 use Rattle.pass_runner.specs.declared.pass_end.PassEnd.TheVariants.{KeeperFault, LogFull, OutOfMemory}
@@ -126,11 +128,18 @@ pub record IsWholePass {K : Type 0} (world : Rules) (tells : Bool) (shows : K �
   pub sound : new.broken ≡ false
   pub numbers : summary ≡ summary_of plan new.rows
 
--- a name was missed for a reason, and this was the first; the path of one that appeared isn't listed
+-- no listed file that was heard to be another stands before this name, by path
+abbrev pub NoneAlteredBefore : List NameFacts → List Heard → NameFacts → Type 0
+NoneAlteredBefore listing answers name =
+    (other : NameFacts) (met : Seen) → IsHeardAltered listing answers other met → ¬ IsBefore other.path name.path
+
+-- a name was missed for a reason, and this was the first, so no file that was heard altered stands before it; the path of
+-- one that appeared isn't listed
 pub record HasMissed {K : Type 0} (miss : Miss) (Failed : Type 0) (listing : List NameFacts) (new found : StateFacts K)
     (more : List Heard) : Type 0 where
   pub first : first_missed (pass_of new.pass).missed ≡ Some miss
   pub why : IsBacked listing (row_names found.rows) more Failed miss.name miss.cause
+  pub before : NoneAlteredBefore listing more miss.name
   pub apart : miss.cause ≡ Appeared → stamp_at listing miss.name.path ≡ None
   pub sound : new.broken ≡ false
 

@@ -1,5 +1,6 @@
 -- A pass that was begun, and how it ends (this crate's bookkeeping, which no public clause cites).
 use Rattle.std.specs.Prelude.{◌≡◌, ◌⊎◌, ℕ, Bool, true, false, List, [], Some, None}
+use Rattle.row_types.specs.Ascends.{IsBefore}
 use Rattle.row_types.specs.Name.{NameFacts, stamp_at}
 use Rattle.row_types.specs.Rules.{Rules}
 use Rattle.index_keeper.specs.Keeper.{ShownKeeper}
@@ -17,7 +18,7 @@ use Rattle.tree_trait.specs.Shown.{ShownTree}
 use Rattle.pass_runner.specs.Ends.{IsOutOfRoom}
 use Rattle.pass_runner.specs.Numbers.{summary_of}
 use Rattle.pass_runner.specs.Owned.{IsHelped, IsWholePass}
-use Rattle.pass_runner.specs.Settled.{AppearedStand, IsPassOn, Settles}
+use Rattle.pass_runner.specs.Settled.{AppearedStand, IsPassOn, Settles, is_missed}
 use Rattle.pass_runner.specs.declared.pass_end.PassEnd.{PassEnd}
 use Rattle.pass_runner.specs.declared.pass_end.PassEnd.TheVariants.{Whole, Missed}
 use Rattle.pass_runner.specs.declared.pass_end.PassEnd.TheVariants.{KeeperFault, LogFull, OutOfMemory}
@@ -50,9 +51,10 @@ pub record IsDone {K : Type 0} (world : Rules) (tells : Bool) (shows : K → Sho
 abbrev pub IsApart : List NameFacts → Miss → Type 0
 IsApart listing miss = miss.cause ≡ Appeared → is_in listing miss.name ≡ false → stamp_at listing miss.name.path ≡ None
 
--- the name was missed first, and where it appeared its path isn't listed
+-- the name was missed first, so no name that was missed stands before it; and where it appeared its path isn't listed
 pub record IsFirstMissed {K : Type 0} (miss : Miss) (state : StateFacts K) : Type 0 where
   pub first : first_missed (pass_of state.pass).missed ≡ Some miss
+  pub least : (name : NameFacts) → is_missed state name ≡ true → ¬ IsBefore name.path miss.name.path
   pub apart : IsApart (pass_of state.pass).listing miss
 
 -- the end of a pass of which no name is left to be handed out

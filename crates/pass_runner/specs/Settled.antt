@@ -1,7 +1,7 @@
 -- Settling (this project's rule): with one hand the names of a pass that are to be read are loaded and their rows
 -- published, then the names that are to be looked for are looked for and judged. What is said here holds from one moment
 -- of it to any later one.
-use Rattle.std.specs.Prelude.{◌≡◌, ◌≢◌, ◌⊎◌, ℕ, ◌≤◌, Bool, true, false, List, All, Contains, count_by, Option, Some, None, IsTrue}
+use Rattle.std.specs.Prelude.{◌≡◌, ◌≢◌, ◌⊎◌, ℕ, ◌≤◌, Bool, true, false, List, All, Contains, count_by, Option, Some, None}
 use Rattle.std.specs.Str.{bytes_eq}
 use Rattle.row_types.specs.Faults.{Rose}
 use Rattle.row_types.specs.Name.{NameFacts, stamp_at}
@@ -14,17 +14,17 @@ use Rattle.index_state.specs.Bound.{StaysBounded}
 use Rattle.index_state.specs.Judge.{is_under}
 use Rattle.index_state.specs.State.{StateFacts, pass_of}
 use Rattle.scan_queue.specs.Names.{is_in}
-use Rattle.scan_queue.specs.Pass.{PassFacts}
+use Rattle.scan_queue.specs.Pass.{PassFacts, missed_names}
 use Rattle.scan_queue.specs.declared.miss.Cause.{Cause}
 use Rattle.scan_queue.specs.declared.miss.Cause.TheVariants.{ReadFault, Altered, Appeared}
 use Rattle.scan_queue.specs.declared.miss.Miss.{Miss}
 use Rattle.scan_queue.specs.declared.miss.Seen.{Seen}
 use Rattle.scan_worker.specs.Read.{FindsOther, Reads, load_of}
-use Rattle.tree_trait.specs.Asks.{FitsAny, IsTold}
 use Rattle.tree_trait.specs.Found.{Versions}
-use Rattle.tree_trait.specs.Heard.{Heard, load, stat, read_dir, with_answers}
+use Rattle.tree_trait.specs.Heard.{Heard, load, stat, read_dir}
+use Rattle.tree_trait.specs.Listens.{Listens}
 use Rattle.tree_trait.specs.Load.{LoadFacts}
-use Rattle.tree_trait.specs.Shown.{HandsOn, ShownTree}
+use Rattle.tree_trait.specs.Shown.{ShownTree}
 use Rattle.tree_trait.specs.declared.stat.StatAnswer.{StatAnswer}
 use Rattle.tree_trait.specs.declared.stat.StatAnswer.TheVariants.{Folder, File, Other, Gone}
 
@@ -39,6 +39,10 @@ abbrev pub IsWanted : List NameFacts → List (List ℕ) → List NameFacts → 
 IsWanted listing roots names (load path limit answer) = (limit ≡ FILE_LIMIT) × IsNew listing names path
 IsWanted listing roots names (stat path answer) = is_under roots path ≡ true
 IsWanted listing roots names (read_dir path answer) = ⊥
+
+-- what may be asked of an index at a moment
+abbrev pub Wants : {K : Type 0} → StateFacts K → Heard → Type 0
+Wants state = IsWanted (pass_of state.pass).listing state.roots (row_names state.rows)
 
 -- whether this is a load of the path
 abbrev pub is_load_of : List ℕ → Heard → Bool
@@ -115,6 +119,10 @@ abbrev pub IsMissBy : List NameFacts → List NameFacts → List Miss → List H
 IsMissBy listing names missed answers Failed miss =
     Contains missed miss ⊎ IsBacked listing names answers Failed miss.name miss.cause
 
+-- of the names that were missed since a moment
+abbrev pub MissesBy : {K : Type 0} → StateFacts K → List Heard → Type 0 → Miss → Type 0
+MissesBy state = IsMissBy (pass_of state.pass).listing (row_names state.rows) (pass_of state.pass).missed
+
 -- a load found the file of the row's name, and the row says what it is
 pub record IsReadOf (answers : List Heard) (row : RowFacts) : Type 0 where
   pub answer : LoadFacts
@@ -125,6 +133,20 @@ pub record IsReadOf (answers : List Heard) (row : RowFacts) : Type 0 where
 abbrev pub IsBrought : List RowFacts → List Heard → RowFacts → Type 0
 IsBrought rows answers row = Contains rows row ⊎ IsReadOf answers row
 
+-- whether the name was missed
+abbrev pub is_missed : {K : Type 0} → StateFacts K → NameFacts → Bool
+is_missed state name = is_in (missed_names (pass_of state.pass).missed) name
+
+-- each listed name that was missed is missed still
+abbrev pub MissesStay : {K : Type 0} → List NameFacts → StateFacts K → StateFacts K → Type 0
+MissesStay listing old new =
+    (name : NameFacts) → is_in listing name ≡ true → is_missed old name ≡ true → is_missed new name ≡ true
+
+-- each listed name for which a load found another file is missed
+abbrev pub AlteredAreMissed : {K : Type 0} → List NameFacts → List Heard → StateFacts K → Type 0
+AlteredAreMissed listing answers state =
+    (name : NameFacts) (met : Seen) → IsHeardAltered listing answers name met → is_missed state name ≡ true
+
 -- the pass is open all the while, over the same listing
 pub record IsPassOn (old new : Option PassFacts) : Type 0 where
   pub from : PassFacts
@@ -133,19 +155,13 @@ pub record IsPassOn (old new : Option PassFacts) : Type 0 where
   pub is : new ≡ Some into
   pub over : into.listing ≡ from.listing
 
--- what the settling did from one moment to a later one: nothing else was heard; the pass goes on, over the same listing
--- and roots; no row of a listed name went; a row whose path isn't listed and lies under a root went only where a look
--- did not find its file; a row that came is of a listed name; a row that wasn't there says what a load found; a name is
--- missed only for a reason; no name came to be read; and the log did not grow more than what is open became less, but for
--- a void change
-pub record Proceeds {K : Type 0} (told : Bool) (version : Versions) (shows : K → ShownKeeper)
-    (before after : ShownTree) (old new : StateFacts K) : Type 0 where
-  pub answers : List Heard
-  pub heard : after.heard ≡ with_answers before.heard answers
-  pub fits : All (FitsAny version) answers
-  pub tells : IsTrue told → before.Still → All (IsTold before.present) answers
-  pub wanted : All (IsWanted (pass_of old.pass).listing old.roots (row_names old.rows)) answers
-  pub hand : HandsOn told version before after ⊥ ⊥
+-- where the index went from one moment of the settling to a later one, while this was heard and calls of the hand failed only
+-- so: the pass goes on, over the same listing and roots; no row of a listed name went; a row whose path isn't listed and lies
+-- under a root went only where a look did not find its file; a row that came is of a listed name; a row that wasn't there
+-- says what a load found; a name is missed only for a reason, and a listed one that was missed is missed still; no name came
+-- to be read; and the log did not grow more than what is open became less, but for a void change
+pub record Advances {K : Type 0} (shows : K → ShownKeeper) (answers : List Heard) (Failed : Type 0)
+    (old new : StateFacts K) : Type 0 where
   pub keeper : (shows old.keeper).faults ≤ (shows new.keeper).faults
   pub pass : IsPassOn old.pass new.pass
   pub roots : new.roots ≡ old.roots
@@ -158,11 +174,21 @@ pub record Proceeds {K : Type 0} (told : Bool) (version : Versions) (shows : K �
   pub comes : (name : NameFacts) → is_in (row_names new.rows) name ≡ true
       → is_in (row_names old.rows) name ≡ false → is_in (pass_of old.pass).listing name ≡ true
   pub brings : All (IsBrought old.rows answers) new.rows
-  pub missed : All (IsMissBy (pass_of old.pass).listing (row_names old.rows) (pass_of old.pass).missed answers
-      (Rose before.faults after.faults)) (pass_of new.pass).missed
+  pub missed : All (MissesBy old answers Failed) (pass_of new.pass).missed
+  pub still : MissesStay (pass_of old.pass).listing old new
   pub todo : (path : List ℕ)
       → times_named (pass_of new.pass).todo path ≤ times_named (pass_of old.pass).todo path
   pub bounded : StaysBounded (pass_of old.pass).listing old new
+
+-- what the settling did from one moment to a later one: nothing else was heard, all of it was wanted, the index went on so,
+-- and a listed name for which a load found another file is missed
+pub record Proceeds {K : Type 0} (told : Bool) (version : Versions) (shows : K → ShownKeeper)
+    (before after : ShownTree) (old new : StateFacts K) : Type 0 where
+  pub answers : List Heard
+  pub listens : Listens told version before after answers
+  pub wanted : All (Wants old) answers
+  pub on : Advances shows answers (Rose before.faults after.faults) old new
+  pub altered : AlteredAreMissed (pass_of old.pass).listing answers new
 
 -- and no path was loaded twice
 pub record Settles {K : Type 0} (told : Bool) (version : Versions) (shows : K → ShownKeeper)

@@ -4,14 +4,11 @@ use Rattle.row_types.specs.Faults.{HasCause, Rose}
 use Rattle.row_types.specs.Name.{NameFacts}
 use Rattle.row_types.specs.Row.{RowFacts}
 use Rattle.index_keeper.specs.Keeper.{ShownKeeper}
-use Rattle.index_rows.specs.Rows.{row_names}
-use Rattle.index_state.specs.Bound.{StaysBounded}
 use Rattle.index_state.specs.Judge.{is_under}
 use Rattle.index_state.specs.State.{StateFacts, pass_of}
 use Rattle.index_state.specs.Step.{Breaks, FindsNoMemory, IsShut, Judges, Stays, Stores}
 use Rattle.index_state.specs.declared.answer.Judged.{Judged}
 use Rattle.index_state.specs.declared.answer.Judged.TheVariants.{Broken as JudgedBroken, LogFull as JudgedFull, KeeperFault as JudgedFault, OutOfMemory as JudgedNoMemory}
-use Rattle.scan_queue.specs.Names.{is_in}
 use Rattle.scan_queue.specs.declared.miss.Seen.{Seen}
 use Rattle.index_desk.specs.declared.work_end.WorkEnd.{WorkEnd}
 use Rattle.index_desk.specs.declared.work_end.WorkEnd.TheVariants.{Broken, KeeperFault, LogFull, OutOfMemory}
@@ -21,30 +18,10 @@ use Rattle.tree_trait.specs.Listens.{Listens}
 use Rattle.tree_trait.specs.Shown.{ShownTree}
 use Rattle.tree_trait.specs.declared.stat.StatAnswer.{StatAnswer}
 use Rattle.pass_runner.specs.Ends.{TurnsBy}
-use Rattle.pass_runner.specs.Settled.{AppearedStand, IsBrought, IsMissBy, IsPassOn, MayGo, NoneAppeared, Proceeds, times_loaded, times_named}
+use Rattle.pass_runner.specs.Settled.{AppearedStand, NoneAppeared, Proceeds, times_loaded, times_named}
 use Rattle.groomer.specs.Looks.{looked_of}
 use Rattle.groomer.specs.declared.looking.Looked.{Looked}
 use Rattle.groomer.specs.declared.looking.Looked.TheVariants as looked
-
--- the index went on, while this was heard and calls of the hand failed only so
-pub record Advances {K : Type 0} (shows : K → ShownKeeper) (answers : List Heard) (Failed : Type 0)
-    (old new : StateFacts K) : Type 0 where
-  pub keeper : (shows old.keeper).faults ≤ (shows new.keeper).faults
-  pub pass : IsPassOn old.pass new.pass
-  pub roots : new.roots ≡ old.roots
-  pub origin : new.origin ≡ old.origin
-  pub stays : (name : NameFacts) → is_in (pass_of old.pass).listing name ≡ true
-      → is_in (row_names old.rows) name ≡ true → is_in (row_names new.rows) name ≡ true
-  pub goes : (name : NameFacts) → is_in (row_names old.rows) name ≡ true
-      → is_in (row_names new.rows) name ≡ false
-      → MayGo (pass_of old.pass).listing old.roots answers name
-  pub comes : (name : NameFacts) → is_in (row_names new.rows) name ≡ true
-      → is_in (row_names old.rows) name ≡ false → is_in (pass_of old.pass).listing name ≡ true
-  pub brings : All (IsBrought old.rows answers) new.rows
-  pub missed : All (IsMissBy (pass_of old.pass).listing (row_names old.rows) (pass_of old.pass).missed answers Failed) (pass_of new.pass).missed
-  pub todo : (path : List ℕ)
-      → times_named (pass_of new.pass).todo path ≤ times_named (pass_of old.pass).todo path
-  pub bounded : StaysBounded (pass_of old.pass).listing old new
 
 -- a name that is read doesn't appear; one that is looked for appears only where its row stands
 abbrev pub AppearsBy : {K : Type 0} → List NameFacts → StateFacts K → StateFacts K → Type 0

@@ -17,6 +17,7 @@ use crate::owned::{copies, settle_begun};
 use crate::parts::{Parts, apart, together};
 use crate::pass_end::PassEnd;
 use crate::shared::run_shared;
+use index_desk::Ground;
 use index_keeper::Keeper;
 use index_state::{Begun, Plan, State, show_index};
 use lock_crew::{Slot, rooms};
@@ -47,14 +48,11 @@ pub(crate) fn scan_beside<
     G: Gate,
     Rt: Threads + Wait + Sync,
 >(
-    rt: &Rt,
-    alloc: Global,
+    ground: Ground<'_, R, G, Rt>,
     state: State<W, K>,
     hands: Vec<T>,
     listing: Listing,
     roots: &[CanonPath],
-    reader: &R,
-    gate: &G,
 ) -> (State<W, K>, Vec<T>, PassEnd)
     requires hands { 1 < vec_len hands }
     requires sound { state.broken ≡ false }
@@ -72,10 +70,10 @@ pub(crate) fn scan_beside<
     ensures keeper { result.2 ≡ PassEnd.KeeperFault → 0 < (K.shows result.0.keeper).faults }
 {
     let many = hands.len() > 2;
-    let Ok(needs) = needs_of(alloc, &listing, roots, hands.len()) else {
+    let Ok(needs) = needs_of(ground.alloc, &listing, roots, hands.len()) else {
         return (state, hands, PassEnd::OutOfMemory);
     };
-    match apart(alloc, hands) {
+    match apart(ground.alloc, hands) {
         Ok(
             Parts {
                 first,
@@ -84,7 +82,7 @@ pub(crate) fn scan_beside<
             },
         ) => {
             let (state, first, helpers, end) = scan_parts(
-                rt, alloc, state, first, helpers, listing, needs, reader, gate,
+                ground, state, first, helpers, listing, needs,
             );
             let (hands, asked) = together(first, helpers, room);
             (state, hands, weighed(end, asked, many))
@@ -124,15 +122,12 @@ fn scan_parts<
     G: Gate,
     Rt: Threads + Wait + Sync,
 >(
-    rt: &Rt,
-    alloc: Global,
+    ground: Ground<'_, R, G, Rt>,
     state: State<W, K>,
     first: T,
     helpers: Vec<Helper<T>>,
     listing: Listing,
     needs: Needs<W, K, T>,
-    reader: &R,
-    gate: &G,
 ) -> (State<W, K>, T, Vec<Helper<T>>, PassEnd)
     requires sound { state.broken ≡ false }
     requires again { (needs.roots_again.items ≡ needs.roots.items)
@@ -143,8 +138,7 @@ fn scan_parts<
     ensures over { (hands : ℕ) → 1 < hands
         → EndsOver (rules W.version W.true_row W.told) T.told K.told K.shows T.shows
         hands listing needs.roots.items first result.1 state result.0 result.3 }
-    ensures helped { AllZip (HelpedFrom (λ place. T.shows place.hand) (λ place. place.task)
-        (λ place. place.asked) T.told W.version
+    ensures helped { AllZip (HelpedFrom T.shows T.told W.version
         (filter (is_in (row_names state.rows)) listing)) helpers.items result.2.items
         ⊎ ((result.2.items ≡ helpers.items) × (is_whole result.3 ≡ false)) }
     ensures hand { HandsOn T.told W.version (T.shows first) (T.shows result.1)
@@ -160,22 +154,22 @@ fn scan_parts<
         back,
     } = needs;
     let mut state = state;
-    match state.begin(alloc, listing, roots) {
+    match state.begin(ground.alloc, listing, roots) {
         Begun::Begun(plan) => {
             state.spare();
             let _rows = state.rows();
-            match run_shared(rt, alloc, state, helpers, (slots, back), reader, gate) {
+            match run_shared(ground, state, helpers, (slots, back)) {
                 Ok((mut state, helpers)) => {
                     show_index(&state);
                     let mut first = first;
                     let end = settle_again(
-                        alloc,
+                        ground.alloc,
                         &mut state,
                         &mut first,
                         listing_again,
                         roots_again,
                         &plan,
-                        reader,
+                        ground.reader,
                     );
                     (state, first, helpers, end)
                 }

@@ -17,18 +17,18 @@ use crate::last_hold::end_one;
 use crate::leading::settle_shared;
 use crate::parts::{Parts, apart, together};
 use crate::pass_end::PassEnd;
+use index_desk::{Desk, Ground};
 use index_keeper::Keeper;
-use index_lock::{Seat, TurnLock};
-use index_state::{Begun, Plan, State};
+use index_state::{Begun, Plan};
 use row_types::{CanonPath, Truth};
 use scan_queue::Listing;
-use std::alloc::Global;
 use std::sync::Wait;
 use std::thread::Threads;
 use tree_trait::{Gate, Reader, Tree};
 
 /// Makes a pass over a listing. Memory is looked for before it begins.
 pub(crate) fn pass_listed<
+    'a,
     W: Truth + Send + Sync,
     K: Keeper<W>,
     T: Tree<W>,
@@ -36,23 +36,18 @@ pub(crate) fn pass_listed<
     G: Gate,
     Rt: Threads + Wait + Sync,
 >(
-    rt: &Rt,
-    alloc: Global,
-    lock: &TurnLock<State<W, K>>,
-    seat: Seat<State<W, K>>,
+    ground: Ground<'_, R, G, Rt>,
+    desk: Desk<'a, W, K>,
     hands: Vec<T>,
     listing: Listing,
     roots: &[CanonPath],
-    reader: &R,
-    gate: &G,
-) -> (Seat<State<W, K>>, Vec<T>, PassEnd)
-    requires lock { seat.lock ≡ lock.now }
+) -> (Desk<'a, W, K>, Vec<T>, PassEnd)
     requires hand { 0 < vec_len hands }
-    requires spared { seat.origin.sparing ≡ None }
-    ensures later { IsLater seat result.0 }
+    requires spared { desk.seat.origin.sparing ≡ None }
+    ensures later { IsLater desk.entry.seat result.0.seat }
     ensures over { HandsGo
         (λ hand later. LeadsPass (rules W.version W.true_row W.told) T.told listing roots.now
-        seat.seen result.0.seen (T.shows hand) (T.shows later) result.2)
+        desk.entry.seat.seen result.0.seat.seen (T.shows hand) (T.shows later) result.2)
         (λ hand later. Helps T.told W.version [] [] (T.shows hand) (T.shows later))
         hands.items result.1.items }
     ensures hands { HandsGo
@@ -62,10 +57,10 @@ pub(crate) fn pass_listed<
         hands.items result.1.items }
     ensures idle { result.2 ≡ PassEnd.Broken → drop 1 result.1.items ≡ drop 1 hands.items }
 {
-    let Ok(needs) = needs_of(alloc, &listing, roots, hands.len()) else {
-        return (seat, hands, PassEnd::OutOfMemory);
+    let Ok(needs) = needs_of(ground.alloc, &listing, roots, hands.len()) else {
+        return (desk, hands, PassEnd::OutOfMemory);
     };
-    match apart(alloc, hands) {
+    match apart(ground.alloc, hands) {
         Ok(
             Parts {
                 first,
@@ -73,18 +68,19 @@ pub(crate) fn pass_listed<
                 room,
             },
         ) => {
-            let (seat, first, helpers, end) = pass_parts(
-                rt, alloc, lock, seat, first, helpers, listing, needs, reader, gate,
+            let (desk, first, helpers, end) = pass_parts(
+                ground, desk, first, helpers, listing, needs,
             );
             let (hands, _asked) = together(first, helpers, room);
-            (seat, hands, end)
+            (desk, hands, end)
         }
-        Err(hands) => (seat, hands, PassEnd::OutOfMemory),
+        Err(hands) => (desk, hands, PassEnd::OutOfMemory),
     }
 }
 
 /// Begins a pass, has the other hands help with it, and lets the first one settle what is left.
 fn pass_parts<
+    'a,
     W: Truth + Send + Sync,
     K: Keeper<W>,
     T: Tree<W>,
@@ -92,29 +88,23 @@ fn pass_parts<
     G: Gate,
     Rt: Threads + Wait + Sync,
 >(
-    rt: &Rt,
-    alloc: Global,
-    lock: &TurnLock<State<W, K>>,
-    seat: Seat<State<W, K>>,
+    ground: Ground<'_, R, G, Rt>,
+    desk: Desk<'a, W, K>,
     first: T,
     helpers: Vec<Helper<T>>,
     listing: Listing,
     needs: Needs<W, K, T>,
-    reader: &R,
-    gate: &G,
-) -> (Seat<State<W, K>>, T, Vec<Helper<T>>, PassEnd)
-    requires lock { seat.lock ≡ lock.now }
-    requires spared { seat.origin.sparing ≡ None }
+) -> (Desk<'a, W, K>, T, Vec<Helper<T>>, PassEnd)
+    requires spared { desk.seat.origin.sparing ≡ None }
     requires again { (needs.roots_again.items ≡ needs.roots.items)
         × (needs.listing_again ≡ listing) }
     requires none { (needs.slots.items ≡ []) × (needs.back.items ≡ []) }
     requires room { (vec_len helpers ≤ vec_capacity needs.slots)
         × (vec_len helpers ≤ vec_capacity needs.back) }
-    ensures later { IsLater seat result.0 }
+    ensures later { IsLater desk.entry.seat result.0.seat }
     ensures over { LeadsPass (rules W.version W.true_row W.told) T.told listing needs.roots.items
-        seat.seen result.0.seen (T.shows first) (T.shows result.1) result.3 }
-    ensures helped { AllZip (HelpedFrom (λ place. T.shows place.hand) (λ place. place.task)
-        (λ place. place.asked) T.told W.version []) helpers.items result.2.items
+        desk.entry.seat.seen result.0.seat.seen (T.shows first) (T.shows result.1) result.3 }
+    ensures helped { AllZip (HelpedFrom T.shows T.told W.version []) helpers.items result.2.items
         ⊎ (result.2.items ≡ helpers.items) }
     ensures count { vec_len result.2 ≡ vec_len helpers }
     ensures idle { result.3 ≡ PassEnd.Broken → result.2.items ≡ helpers.items }
@@ -126,48 +116,49 @@ fn pass_parts<
         slots,
         back,
     } = needs;
-    let (seat, begun) = begin_one(rt, alloc, lock, seat, listing, roots);
+    let (desk, begun) = begin_one(ground.rt, ground.alloc, desk, listing, roots);
     match begun {
         Begun::Begun(plan) => {
-            let rooms = (slots, back);
-            let (seat, helpers) = run_crew(rt, alloc, lock, seat, helpers, rooms, reader, gate);
+            let (desk, helpers) = run_crew(ground, desk, helpers, (slots, back));
             let mut first = first;
-            let (seat, end) = settle_last(
-                rt,
-                alloc,
-                lock,
-                seat,
+            let (desk, end) = settle_last(
+                ground,
+                desk,
                 &mut first,
                 listing_again,
                 roots_again,
                 &plan,
-                reader,
             );
-            (seat, first, helpers, end)
+            (desk, first, helpers, end)
         }
-        Begun::Broken => (seat, first, helpers, PassEnd::Broken),
-        Begun::OutOfMemory => (seat, first, helpers, PassEnd::OutOfMemory),
+        Begun::Broken => (desk, first, helpers, PassEnd::Broken),
+        Begun::OutOfMemory => (desk, first, helpers, PassEnd::OutOfMemory),
     }
 }
 
 /// Lets the first hand settle what is left of a pass, and decides how it ended.
-fn settle_last<W: Truth, K: Keeper<W>, T: Tree<W>, R: Reader<W>, Rt: Wait + Sync>(
-    rt: &Rt,
-    alloc: Global,
-    lock: &TurnLock<State<W, K>>,
-    seat: Seat<State<W, K>>,
+fn settle_last<'a, W: Truth, K: Keeper<W>, T: Tree<W>, R: Reader<W>, G, Rt: Wait>(
+    ground: Ground<'_, R, G, Rt>,
+    desk: Desk<'a, W, K>,
     hand: &mut T,
     listing: Listing,
     roots: Vec<CanonPath>,
     plan: &Plan,
-    reader: &R,
-) -> (Seat<State<W, K>>, PassEnd)
-    requires lock { seat.lock ≡ lock.now }
-    requires spared { seat.origin.sparing ≡ None }
-    ensures later { IsLater seat result.0 }
+) -> (Desk<'a, W, K>, PassEnd)
+    requires { desk.seat.origin.sparing ≡ None }
+    ensures later { IsLater desk.entry.seat result.0.seat }
     ensures over { SettlesLast (rules W.version W.true_row W.told) T.told listing roots.items
-        plan.now seat.seen result.0.seen (T.shows hand.old) (T.shows hand.new) result.1 }
+        plan.now desk.entry.seat.seen result.0.seat.seen (T.shows hand.old) (T.shows hand.new)
+        result.1 }
 {
-    let (seat, met) = settle_shared(rt, alloc, lock, seat, hand, reader);
-    end_one(rt, alloc, lock, seat, listing, roots, plan, met.as_slice())
+    let (desk, met) = settle_shared(ground, desk, hand);
+    end_one(
+        ground.rt,
+        ground.alloc,
+        desk,
+        listing,
+        roots,
+        plan,
+        met.as_slice(),
+    )
 }

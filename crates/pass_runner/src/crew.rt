@@ -7,8 +7,9 @@ ghost use Rattle.lock_crew.specs.Runs.{RunsBy, SlotHas, SlotRan};
 ghost use Rattle.pass_runner.specs.Helped.{HelpsFrom};
 
 use crate::helper::{Helper, run_slot};
+use index_desk::{Desk, Ground};
 use index_keeper::Keeper;
-use index_lock::{Seat, TurnLock};
+use index_lock::TurnLock;
 use index_state::State;
 use lock_crew::{Slot, seats_in, seats_out};
 use row_types::Truth;
@@ -21,6 +22,7 @@ use tree_trait::{Gate, Reader, Tree};
 /// Has the hands help side by side until nothing is left to be handed out, and waits for all. They
 /// come back in their order.
 pub(crate) fn run_crew<
+    'a,
     W: Truth + Send + Sync,
     K: Keeper<W>,
     T: Tree<W>,
@@ -28,28 +30,25 @@ pub(crate) fn run_crew<
     G: Gate,
     Rt: Threads + Wait + Sync,
 >(
-    rt: &Rt,
-    alloc: Global,
-    lock: &TurnLock<State<W, K>>,
-    seat: Seat<State<W, K>>,
+    ground: Ground<'_, R, G, Rt>,
+    desk: Desk<'a, W, K>,
     helpers: Vec<Helper<T>>,
     rooms: (Vec<Option<Slot<State<W, K>, Helper<T>>>>, Vec<Helper<T>>),
-    reader: &R,
-    gate: &G,
-) -> (Seat<State<W, K>>, Vec<Helper<T>>)
-    requires lock { seat.lock ≡ lock.now }
+) -> (Desk<'a, W, K>, Vec<Helper<T>>)
     requires none { (rooms.0.items ≡ []) × (rooms.1.items ≡ []) }
     requires room { (vec_len helpers ≤ vec_capacity rooms.0)
         × (vec_len helpers ≤ vec_capacity rooms.1) }
-    ensures later { IsLater seat result.0 }
-    ensures ran { AllZip (RunsBy (HelpsFrom (λ place. T.shows place.hand) (λ place. place.task)
-        (λ place. place.asked) T.told W.version) seat result.0) helpers.items result.1.items }
+    ensures later { IsLater desk.entry.seat result.0.seat }
+    ensures ran { AllZip (RunsBy (HelpsFrom T.shows T.told W.version) desk.entry.seat result.0.seat) helpers.items
+        result.1.items }
     ensures count { vec_len result.1 ≡ vec_len helpers }
 {
+    let Desk { lock, seat } = desk;
     let (slots, back) = rooms;
     let (seat, mut slots) = seats_out(lock, seat, helpers, slots);
-    run_slots(rt, alloc, lock, &mut slots, reader, gate);
-    seats_in(lock, seat, slots, back)
+    run_slots(ground, lock, &mut slots);
+    let (seat, helpers) = seats_in(lock, seat, slots, back);
+    (Desk { lock, seat }, helpers)
 }
 
 /// Has the hands of the slots help, in threads where they can be made, and waits for all.
@@ -61,17 +60,13 @@ fn run_slots<
     G: Gate,
     Rt: Threads + Wait + Sync,
 >(
-    rt: &Rt,
-    alloc: Global,
+    ground: Ground<'_, R, G, Rt>,
     lock: &TurnLock<State<W, K>>,
     slots: &mut Vec<Option<Slot<State<W, K>, Helper<T>>>>,
-    reader: &R,
-    gate: &G,
 )
     requires { All (SlotHas (λ slot. slot.seat.lock ≡ lock.now)) slots.old.items }
     ensures ran { AllZip (SlotRan (λ before after. IsLater before.seat after.seat
-        × HelpsFrom (λ place. T.shows place.hand) (λ place. place.task) (λ place. place.asked)
-        T.told W.version before.seat before.place after.seat after.place)) slots.old.items slots.new.items }
+        × HelpsFrom T.shows T.told W.version before.seat before.place after.seat after.place)) slots.old.items slots.new.items }
     ensures locks { All (SlotHas (λ slot. slot.seat.lock ≡ lock.now)) slots.new.items }
     ensures count { vec_len slots.new ≡ vec_len slots.old }
 {
@@ -79,6 +74,12 @@ fn run_slots<
     if threads == 0 {
         return;
     }
+    let Ground {
+        rt,
+        alloc,
+        reader,
+        gate,
+    } = ground;
     run_each(rt, alloc, lock, slots.as_mut_slice(), threads, reader, gate);
 }
 
@@ -103,8 +104,7 @@ fn run_each<
     requires filled { All (SlotHas (λ slot. slot.seat.lock ≡ lock.now)) slots.old }
     ensures each { (i : ℕ) (d : _) → i < length slots.old
         → SlotRan (λ before after. IsLater before.seat after.seat
-        × HelpsFrom (λ place. T.shows place.hand) (λ place. place.task) (λ place. place.asked)
-        T.told W.version before.seat before.place after.seat after.place)
+        × HelpsFrom T.shows T.told W.version before.seat before.place after.seat after.place)
         (slice_index_or slots.old i d) (slice_index_or slots.new i d) }
     ensures length { length slots.new ≡ length slots.old }
 {
@@ -115,8 +115,7 @@ fn run_each<
         &|_, slot: &mut Option<Slot<State<W, K>, Helper<T>>>|
             requires { SlotHas (λ slot. slot.seat.lock ≡ lock.now) slot.now }
             ensures { SlotRan (λ before after. IsLater before.seat after.seat
-                × HelpsFrom (λ place. T.shows place.hand) (λ place. place.task)
-                (λ place. place.asked) T.told W.version before.seat before.place after.seat
+                × HelpsFrom T.shows T.told W.version before.seat before.place after.seat
                 after.place) slot.entry.now slot.exit.now }
         { run_slot(rt, alloc, lock, slot, reader, gate) },
     );

@@ -3,8 +3,9 @@
 ghost use Rattle.std.specs.Prelude.{◌≡◌};
 ghost use Rattle.index_lock.specs.Tokens.{IsLater};
 ghost use Rattle.lock_crew.specs.Runs.{SlotHas, SlotRan};
-ghost use Rattle.pass_runner.specs.Helped.{Helped, HelpsFrom, IsCounted};
+ghost use Rattle.pass_runner.specs.Helped.{Helped, HelpsFrom, IsCounted, asked_by};
 
+use crossbeam_utils::CachePadded;
 use groomer::groom;
 use index_keeper::Keeper;
 use index_lock::{Seat, TurnLock};
@@ -25,12 +26,13 @@ pub(crate) enum Task {
     Read,
 }
 
-/// A hand that helps, what it helps with, and how many loads it was asked for.
+/// A hand that helps, what it helps with, and how many loads it was asked for. That number is what
+/// its thread reports: it has cache lines of its own in the slot.
 #[derive(Drop)]
 pub(crate) struct Helper<T: Drop> {
     pub(crate) hand: T,
     pub(crate) task: Task,
-    pub(crate) asked: u64,
+    pub(crate) asked: CachePadded<u64>,
 }
 
 /// Has the hand of a slot help until nothing is left to be handed out.
@@ -44,8 +46,7 @@ pub(crate) fn run_slot<W: Truth, K: Keeper<W>, T: Tree<W>, R: Reader<W>, G: Gate
 )
     requires { SlotHas (λ slot. slot.seat.lock ≡ lock.now) slot.old }
     ensures { SlotRan (λ before after. IsLater before.seat after.seat
-        × HelpsFrom (λ place. T.shows place.hand) (λ place. place.task) (λ place. place.asked)
-        T.told W.version before.seat before.place after.seat after.place) slot.old slot.new }
+        × HelpsFrom T.shows T.told W.version before.seat before.place after.seat after.place) slot.old slot.new }
 {
     if let Some(Slot { seat, place }) = slot.take() {
         let (seat, place) = help(rt, alloc, lock, seat, place, reader, gate);
@@ -66,9 +67,9 @@ fn help<W: Truth, K: Keeper<W>, T: Tree<W>, R: Reader<W>, G: Gate, Rt: Wait + Sy
     requires { seat.lock ≡ lock.now }
     ensures later { IsLater seat result.0 }
     ensures helped { Helped T.told W.version seat.origin.spared (T.shows place.hand)
-        (T.shows result.1.hand) result.1.asked }
+        (T.shows result.1.hand) (asked_by result.1) }
     ensures task { result.1.task ≡ place.task }
-    ensures counted { IsCounted result.1.task result.1.asked }
+    ensures counted { IsCounted result.1.task (asked_by result.1) }
 {
     let Helper {
         hand,
@@ -79,7 +80,14 @@ fn help<W: Truth, K: Keeper<W>, T: Tree<W>, R: Reader<W>, G: Gate, Rt: Wait + Sy
         Task::Look => look_on(rt, alloc, lock, seat, hand, gate),
         Task::Read => read_on(rt, alloc, lock, seat, hand, reader, gate),
     };
-    (seat, Helper { hand, task, asked })
+    (
+        seat,
+        Helper {
+            hand,
+            task,
+            asked: CachePadded::new(asked),
+        },
+    )
 }
 
 /// Has a hand look for files until no name is left to be looked for. It loads none.

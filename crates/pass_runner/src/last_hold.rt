@@ -14,8 +14,8 @@ ghost use Rattle.pass_runner.specs.SharedPass.{IsOfPass, IsStray};
 use crate::owned::copy_miss;
 use crate::pass_end::PassEnd;
 use crate::summary::summary_of;
+use index_desk::{Desk, act_once};
 use index_keeper::Keeper;
-use index_lock::{Seat, TurnLock};
 use index_rows::LOG_LIMIT;
 use index_state::{Begun, Plan, Standing, State, show_index};
 use path_canon::is_under;
@@ -26,25 +26,30 @@ use std::sync::Wait;
 
 /// Decides how a pass ended, in one hold: by a plan over a copy of its listing, and then by the
 /// first name that was missed, if it is still open and the hand that leads missed it itself.
-pub(crate) fn end_one<W: Truth, K: Keeper<W>, Rt: Wait + Sync>(
+pub(crate) fn end_one<'a, W: Truth, K: Keeper<W>, Rt: Wait>(
     rt: &Rt,
     alloc: Global,
-    lock: &TurnLock<State<W, K>>,
-    seat: Seat<State<W, K>>,
+    desk: Desk<'a, W, K>,
     listing: Listing,
     roots: Vec<CanonPath>,
     plan: &Plan,
     met: &[Miss],
-) -> (Seat<State<W, K>>, PassEnd)
-    requires lock { seat.lock ≡ lock.now }
-    requires spared { seat.origin.sparing ≡ None }
-    ensures later { IsLater seat result.0 }
+) -> (Desk<'a, W, K>, PassEnd)
+    requires { desk.seat.origin.sparing ≡ None }
+    ensures later { IsLater desk.entry.seat result.0.seat }
     ensures shows { LastShows (rules W.version W.true_row W.told) listing roots.items plan.now
-        met.now result.0.seen result.1 }
+        met.now result.0.seat.seen result.1 }
 {
-    let mut held = lock.enter(rt, seat);
-    let end = end_held(alloc, held.value_mut(), listing, roots, plan, met);
-    (lock.leave(held), end)
+    let Desk { lock, seat } = desk;
+    let (seat, end) = act_once(
+        rt,
+        lock,
+        seat,
+        move |state: &mut State<W, K>|
+            requires { state.old.origin.sparing ≡ None }
+        { end_held(alloc, state, listing, roots, plan, met) },
+    );
+    (Desk { lock, seat }, end)
 }
 
 /// Decides how a pass ended in an index that is held and of which no name was spared.

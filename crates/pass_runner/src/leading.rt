@@ -4,11 +4,11 @@ ghost use Rattle.std.specs.Prelude.{◌≡◌, []};
 ghost use Rattle.index_lock.specs.Tokens.{IsLater};
 ghost use Rattle.pass_runner.specs.Leading.{Leads, MayNote, MayNoteThere};
 
-use crate::holds::{judge_one, miss_one, publish_one, retry_all, take_one, take_task};
+use crate::holds::{is_open, judge_one};
 use groomer::{Looked, look};
+use index_desk::{Desk, Ground};
 use index_keeper::Keeper;
-use index_lock::{Seat, TurnLock};
-use index_state::{GroomTask, Judged, State};
+use index_state::{GroomTask, Judged};
 use row_types::{Name, Truth};
 use scan_queue::{Cause, Miss, Seen};
 use scan_worker::{NameRead, read_name};
@@ -19,183 +19,174 @@ use tree_trait::{Reader, Tree};
 /// Tries again what is left of a pass with the hand that leads it: the listed files without a row
 /// are read, and the rows that are no longer listed are judged by looks at their paths. What the
 /// hand missed itself is told. How it ends isn't: the pass shows what is left.
-pub(crate) fn settle_shared<W: Truth, K: Keeper<W>, T: Tree<W>, R: Reader<W>, Rt: Wait + Sync>(
-    rt: &Rt,
-    alloc: Global,
-    lock: &TurnLock<State<W, K>>,
-    seat: Seat<State<W, K>>,
+pub(crate) fn settle_shared<'a, W: Truth, K: Keeper<W>, T: Tree<W>, R: Reader<W>, G, Rt: Wait>(
+    ground: Ground<'_, R, G, Rt>,
+    desk: Desk<'a, W, K>,
     hand: &mut T,
-    reader: &R,
-) -> (Seat<State<W, K>>, Vec<Miss>)
-    requires { seat.lock ≡ lock.now }
-    ensures { Leads T.told W.version seat (T.shows hand.old) result.0 (T.shows hand.new) []
-        result.1.items }
+) -> (Desk<'a, W, K>, Vec<Miss>)
+    ensures { Leads T.told W.version desk.entry.seat (T.shows hand.old) result.0.seat
+        (T.shows hand.new) [] result.1.items }
 {
-    let mut met = Vec::new(alloc);
-    let (seat, ready) = retry_all(rt, lock, seat);
-    if !ready {
-        return (seat, met);
+    let mut met = Vec::new(ground.alloc);
+    let (desk, ready) = desk.retry(ground.rt);
+    if ready.is_err() {
+        return (desk, met);
     }
-    let seat = read_left(rt, alloc, lock, seat, hand, reader, &mut met);
-    let seat = look_left(rt, alloc, lock, seat, hand, &mut met);
-    (seat, met)
+    let desk = read_left(ground, desk, hand, &mut met);
+    let desk = look_left(ground.rt, ground.alloc, desk, hand, &mut met);
+    (desk, met)
 }
 
 /// Reads the listed files that have no row, in path order, until none is left or the work ends.
-fn read_left<W: Truth, K: Keeper<W>, T: Tree<W>, R: Reader<W>, Rt: Wait + Sync>(
-    rt: &Rt,
-    alloc: Global,
-    lock: &TurnLock<State<W, K>>,
-    seat: Seat<State<W, K>>,
+fn read_left<'a, W: Truth, K: Keeper<W>, T: Tree<W>, R: Reader<W>, G, Rt: Wait>(
+    ground: Ground<'_, R, G, Rt>,
+    desk: Desk<'a, W, K>,
     hand: &mut T,
-    reader: &R,
     met: &mut Vec<Miss>,
-) -> Seat<State<W, K>>
-    requires { seat.lock ≡ lock.now }
-    ensures { Leads T.told W.version seat (T.shows hand.old) result (T.shows hand.new)
-        met.old.items met.new.items }
+) -> Desk<'a, W, K>
+    ensures { Leads T.told W.version desk.entry.seat (T.shows hand.old) result.seat
+        (T.shows hand.new) met.old.items met.new.items }
 {
-    let mut seat = seat;
-    for _ in rt.forever() {
-        let (next, goes_on) = read_next(rt, alloc, lock, seat, hand, reader, met);
-        seat = next;
+    let Desk { lock, mut seat } = desk;
+    for _ in ground.rt.forever() {
+        let (desk, goes_on) = read_next(ground, Desk { lock, seat }, hand, met);
         if !goes_on {
-            return seat;
+            return desk;
         }
+        let Desk {
+            lock: _,
+            seat: next,
+        } = desk;
+        seat = next;
     }
     unreachable!()
 }
 
 /// Reads the next listed file that has no row, if one is left. Says whether the work goes on.
-fn read_next<W: Truth, K: Keeper<W>, T: Tree<W>, R: Reader<W>, Rt: Wait + Sync>(
-    rt: &Rt,
-    alloc: Global,
-    lock: &TurnLock<State<W, K>>,
-    seat: Seat<State<W, K>>,
+fn read_next<'a, W: Truth, K: Keeper<W>, T: Tree<W>, R: Reader<W>, G, Rt: Wait>(
+    ground: Ground<'_, R, G, Rt>,
+    desk: Desk<'a, W, K>,
     hand: &mut T,
-    reader: &R,
     met: &mut Vec<Miss>,
-) -> (Seat<State<W, K>>, bool)
-    requires { seat.lock ≡ lock.now }
-    ensures { Leads T.told W.version seat (T.shows hand.old) result.0 (T.shows hand.new)
-        met.old.items met.new.items }
+) -> (Desk<'a, W, K>, bool)
+    ensures { Leads T.told W.version desk.entry.seat (T.shows hand.old) result.0.seat
+        (T.shows hand.new) met.old.items met.new.items }
 {
-    let (seat, name) = take_one(rt, lock, seat);
+    let (desk, name) = desk.take(ground.rt);
     let Some(name) = name else {
-        return (seat, false);
+        return (desk, false);
     };
-    match read_name(alloc, hand, reader, &name) {
-        NameRead::Row(row) => publish_one(rt, alloc, lock, seat, row),
+    match read_name(ground.alloc, hand, ground.reader, &name) {
+        NameRead::Row(row) => {
+            let (desk, said) = desk.publish(ground.rt, ground.alloc, row);
+            (desk, is_open(said))
+        }
         NameRead::Altered(seen) => {
             let cause = Cause::Altered { seen };
-            miss_own(rt, lock, seat, met, Miss { name, cause })
+            miss_own(ground.rt, desk, met, Miss { name, cause })
         }
         NameRead::Failed => {
             let cause = Cause::ReadFault;
-            miss_own(rt, lock, seat, met, Miss { name, cause })
+            miss_own(ground.rt, desk, met, Miss { name, cause })
         }
-        NameRead::OutOfMemory => (seat, false),
+        NameRead::OutOfMemory => (desk, false),
     }
 }
 
 /// Looks for the files of the rows that are no longer listed, in path order, until none is left or
 /// the work ends.
-fn look_left<W: Truth, K: Keeper<W>, T: Tree<W>, Rt: Wait + Sync>(
+fn look_left<'a, W: Truth, K: Keeper<W>, T: Tree<W>, Rt: Wait>(
     rt: &Rt,
     alloc: Global,
-    lock: &TurnLock<State<W, K>>,
-    seat: Seat<State<W, K>>,
+    desk: Desk<'a, W, K>,
     hand: &mut T,
     met: &mut Vec<Miss>,
-) -> Seat<State<W, K>>
-    requires { seat.lock ≡ lock.now }
-    ensures { Leads T.told W.version seat (T.shows hand.old) result (T.shows hand.new)
-        met.old.items met.new.items }
+) -> Desk<'a, W, K>
+    ensures { Leads T.told W.version desk.entry.seat (T.shows hand.old) result.seat
+        (T.shows hand.new) met.old.items met.new.items }
 {
-    let mut seat = seat;
+    let Desk { lock, mut seat } = desk;
     for _ in rt.forever() {
-        let (next, goes_on) = look_next(rt, alloc, lock, seat, hand, met);
-        seat = next;
+        let (desk, goes_on) = look_next(rt, alloc, Desk { lock, seat }, hand, met);
         if !goes_on {
-            return seat;
+            return desk;
         }
+        let Desk {
+            lock: _,
+            seat: next,
+        } = desk;
+        seat = next;
     }
     unreachable!()
 }
 
 /// Looks for the file of the next row that is no longer listed, if one is left. Says whether the
 /// work goes on.
-fn look_next<W: Truth, K: Keeper<W>, T: Tree<W>, Rt: Wait + Sync>(
+fn look_next<'a, W: Truth, K: Keeper<W>, T: Tree<W>, Rt: Wait>(
     rt: &Rt,
     alloc: Global,
-    lock: &TurnLock<State<W, K>>,
-    seat: Seat<State<W, K>>,
+    desk: Desk<'a, W, K>,
     hand: &mut T,
     met: &mut Vec<Miss>,
-) -> (Seat<State<W, K>>, bool)
-    requires { seat.lock ≡ lock.now }
-    ensures { Leads T.told W.version seat (T.shows hand.old) result.0 (T.shows hand.new)
-        met.old.items met.new.items }
+) -> (Desk<'a, W, K>, bool)
+    ensures { Leads T.told W.version desk.entry.seat (T.shows hand.old) result.0.seat
+        (T.shows hand.new) met.old.items met.new.items }
 {
-    let (seat, task) = take_task(rt, lock, seat);
+    let (desk, task) = desk.groom_take(rt);
     let Some(task) = task else {
-        return (seat, false);
+        return (desk, false);
     };
     match look(alloc, hand, &task) {
-        Looked::Saw(seen) => judge_own(rt, alloc, lock, seat, met, task, seen),
+        Looked::Saw(seen) => judge_own(rt, alloc, desk, met, task, seen),
         Looked::Failed => {
             let GroomTask { name, under: _ } = task;
             let cause = Cause::ReadFault;
-            miss_own(rt, lock, seat, met, Miss { name, cause })
+            miss_own(rt, desk, met, Miss { name, cause })
         }
-        Looked::OutOfMemory => (seat, false),
+        Looked::OutOfMemory => (desk, false),
     }
 }
 
 /// Judges a row by what the hand saw at its path, and notes it where its file stands there. Says
 /// whether the work goes on.
-fn judge_own<W: Truth, K: Keeper<W>, Rt: Wait + Sync>(
+fn judge_own<'a, W: Truth, K: Keeper<W>, Rt: Wait>(
     rt: &Rt,
     alloc: Global,
-    lock: &TurnLock<State<W, K>>,
-    seat: Seat<State<W, K>>,
+    desk: Desk<'a, W, K>,
     met: &mut Vec<Miss>,
     task: GroomTask,
     seen: Seen,
-) -> (Seat<State<W, K>>, bool)
-    requires { seat.lock ≡ lock.now }
-    ensures later { IsLater seat result.0 }
-    ensures noted { MayNoteThere task.name seen result.0.seen met.old.items met.new.items }
+) -> (Desk<'a, W, K>, bool)
+    ensures later { IsLater desk.entry.seat result.0.seat }
+    ensures noted { MayNoteThere task.name seen result.0.seat.seen met.old.items met.new.items }
 {
-    let (seat, answer) = judge_one(rt, alloc, lock, seat, &task.name, seen);
+    let (desk, answer) = judge_one(rt, alloc, desk, &task.name, seen);
     match answer {
         Judged::Strange => {
             let GroomTask { name, under: _ } = task;
-            (seat, note(met, name, Cause::Appeared))
+            (desk, note(met, name, Cause::Appeared))
         }
-        Judged::Kept | Judged::Dropped | Judged::Moved { .. } => (seat, true),
+        Judged::Kept | Judged::Dropped | Judged::Moved { .. } => (desk, true),
         Judged::Broken | Judged::LogFull | Judged::KeeperFault | Judged::OutOfMemory => {
-            (seat, false)
+            (desk, false)
         }
     }
 }
 
 /// Notes that the hand missed a name itself, in the pass and in its own list. Says whether the work
 /// goes on.
-fn miss_own<W: Truth, K: Keeper<W>, Rt: Wait + Sync>(
+fn miss_own<'a, W: Truth, K: Keeper<W>, Rt: Wait>(
     rt: &Rt,
-    lock: &TurnLock<State<W, K>>,
-    seat: Seat<State<W, K>>,
+    desk: Desk<'a, W, K>,
     met: &mut Vec<Miss>,
     miss: Miss,
-) -> (Seat<State<W, K>>, bool)
-    requires { seat.lock ≡ lock.now }
-    ensures later { IsLater seat result.0 }
+) -> (Desk<'a, W, K>, bool)
+    ensures later { IsLater desk.entry.seat result.0.seat }
     ensures noted { MayNote miss met.old.items met.new.items }
 {
-    let seat = miss_one(rt, lock, seat, &miss.name, miss.cause);
+    let (desk, _) = desk.miss(rt, &miss.name, miss.cause);
     let Miss { name, cause } = miss;
-    (seat, note(met, name, cause))
+    (desk, note(met, name, cause))
 }
 
 /// Adds a miss to the hand's own list. Says whether there was memory for it.

@@ -13,7 +13,7 @@ use crate::beside::scan_beside;
 use crate::pass_end::PassEnd;
 use crate::settling::settle_pass;
 use crate::summary::summary_of;
-use index_desk::WorkEnd;
+use index_desk::{Ground, WorkEnd};
 use index_keeper::Keeper;
 use index_state::{Begun, Plan, State, show_index};
 use row_types::{CanonPath, Truth};
@@ -69,7 +69,15 @@ pub fn scan_state<
                 listing,
                 skipped: _,
             },
-        ) => scan_listed(rt, alloc, state, hands, listing, roots, reader, gate),
+        ) => {
+            let ground = Ground {
+                rt,
+                alloc,
+                reader,
+                gate,
+            };
+            scan_listed(ground, state, hands, listing, roots)
+        }
         Err(fault) => (state, hands, PassEnd::Walk(fault)),
     }
 }
@@ -83,14 +91,11 @@ fn scan_listed<
     G: Gate,
     Rt: Threads + Wait + Sync,
 >(
-    rt: &Rt,
-    alloc: Global,
+    ground: Ground<'_, R, G, Rt>,
     state: State<W, K>,
     hands: Vec<T>,
     listing: Listing,
     roots: &[CanonPath],
-    reader: &R,
-    gate: &G,
 ) -> (State<W, K>, Vec<T>, PassEnd)
     requires hand { 0 < vec_len hands }
     requires sound { state.broken ≡ false }
@@ -110,10 +115,11 @@ fn scan_listed<
         (K.shows result.0.keeper).faults (result.2 ≡ PassEnd.KeeperFault) }
 {
     if hands.len() > 1 {
-        return scan_beside(rt, alloc, state, hands, listing, roots, reader, gate);
+        return scan_beside(ground, state, hands, listing, roots);
     }
     let mut state = state;
     let mut hands = hands;
+    let Ground { alloc, reader, .. } = ground;
     let end = run_over(alloc, &mut state, &mut hands[0], listing, roots, reader);
     (state, hands, end)
 }

@@ -1,10 +1,11 @@
 //! The first hand of a pass, and those that help.
 
-ghost use Rattle.std.specs.Prelude.{◌≡◌, ◌∷◌, ◌<◌, ◌≤◌, [], map, vec_capacity, vec_len, IfErr, IfOk};
+ghost use Rattle.std.specs.Prelude.{◌≡◌, ◌∷◌, ◌<◌, ◌≤◌, [], vec_capacity, vec_len, IfErr, IfOk};
 ghost use Rattle.std.specs.List.{sum_by};
-ghost use Rattle.pass_runner.specs.Helped.{BeginsWithLook};
+ghost use Rattle.pass_runner.specs.Helped.{BeginsWithLook, asked_by, hands_in};
 
 use crate::helper::{Helper, Task};
+use crossbeam_utils::CachePadded;
 use std::alloc::Global;
 
 /// The first hand, which walks and settles, the others, of which the first one looks for files and
@@ -20,9 +21,8 @@ pub(crate) struct Parts<T: Drop> {
 pub(crate) fn apart<T: Drop>(alloc: Global, hands: Vec<T>) -> Result<Parts<T>, Vec<T>>
     requires { 0 < vec_len hands }
     ensures hands { IfOk result (λ parts.
-        hands.items ≡ parts.first ∷ map (λ place. place.hand) parts.helpers.items) }
-    ensures tasks { IfOk result (λ parts.
-        BeginsWithLook (λ place. place.task) parts.helpers.items) }
+        hands.items ≡ parts.first ∷ hands_in parts.helpers.items) }
+    ensures tasks { IfOk result (λ parts. BeginsWithLook parts.helpers.items) }
     ensures count { IfOk result (λ parts. vec_len parts.helpers < vec_len hands) }
     ensures room { IfOk result (λ parts.
         (parts.room.items ≡ []) × (vec_len hands ≤ vec_capacity parts.room)) }
@@ -48,8 +48,8 @@ pub(crate) fn apart<T: Drop>(alloc: Global, hands: Vec<T>) -> Result<Parts<T>, V
 fn helpers_of<T: Drop>(hands: Vec<T>, helpers: Vec<Helper<T>>) -> Vec<Helper<T>>
     requires none { helpers.items ≡ [] }
     requires room { vec_len hands ≤ vec_capacity helpers }
-    ensures hands { map (λ place. place.hand) result.items ≡ hands.items }
-    ensures tasks { BeginsWithLook (λ place. place.task) result.items }
+    ensures hands { hands_in result.items ≡ hands.items }
+    ensures tasks { BeginsWithLook result.items }
     ensures count { vec_len result ≡ vec_len hands }
 {
     let mut helpers = helpers;
@@ -62,7 +62,7 @@ fn helpers_of<T: Drop>(hands: Vec<T>, helpers: Vec<Helper<T>>) -> Vec<Helper<T>>
         helpers.push_reserved(Helper {
             hand,
             task,
-            asked: 0,
+            asked: CachePadded::new(0),
         });
     }
     helpers
@@ -73,8 +73,8 @@ fn helpers_of<T: Drop>(hands: Vec<T>, helpers: Vec<Helper<T>>) -> Vec<Helper<T>>
 pub(crate) fn together<T: Drop>(first: T, helpers: Vec<Helper<T>>, room: Vec<T>) -> (Vec<T>, u64)
     requires none { room.items ≡ [] }
     requires room { vec_len helpers < vec_capacity room }
-    ensures hands { result.0.items ≡ first ∷ map (λ place. place.hand) helpers.items }
-    ensures asked { result.1 ≤ sum_by (λ place. place.asked) helpers.items }
+    ensures hands { result.0.items ≡ first ∷ hands_in helpers.items }
+    ensures asked { result.1 ≤ sum_by asked_by helpers.items }
 {
     let mut hands = room;
     hands.push_reserved(first);
@@ -85,7 +85,7 @@ pub(crate) fn together<T: Drop>(first: T, helpers: Vec<Helper<T>>, room: Vec<T>)
             task: _,
             asked: more,
         } = helper;
-        asked = asked.saturating_add(more);
+        asked = asked.saturating_add(more.into_inner());
         hands.push_reserved(hand);
     }
     (hands, asked)

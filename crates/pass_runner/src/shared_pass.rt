@@ -9,6 +9,7 @@ ghost use Rattle.pass_runner.specs.SharedPass.{EndsShared, IsDoneShared, IsUnhin
 
 use crate::coordinate::pass_listed;
 use crate::pass_end::PassEnd;
+use index_desk::{Desk, Ground};
 use index_keeper::Keeper;
 use index_lock::{Seat, TurnLock};
 use index_state::State;
@@ -73,7 +74,23 @@ pub fn run_pass<
                 listing,
                 skipped: _,
             },
-        ) => pass_listed(rt, alloc, lock, seat, hands, listing, roots, reader, gate),
+        ) => {
+            let ground = Ground {
+                rt,
+                alloc,
+                reader,
+                gate,
+            };
+            let (desk, hands, end) = pass_listed(
+                ground,
+                Desk { lock, seat },
+                hands,
+                listing,
+                roots,
+            );
+            let Desk { lock: _, seat } = desk;
+            (seat, hands, end)
+        }
         Err(fault) => (seat, hands, PassEnd::Walk(fault)),
     }
 }

@@ -1,88 +1,47 @@
 -- What the parts came to, as the pass of all hands.
-use Rattle.std.proofs.Common.{ℕ, List, inl, ap, arith, refl, sym, subst, length, IsTrue}
+use Rattle.std.proofs.Common.{ℕ, List, inl, ap, arith, refl, sym, subst, length}
 use Rattle.std.proofs.lemmas.Bool.{true≢false}
 use Rattle.std.proofs.lemmas.Bool.Decides.{nat_tests}
 use Rattle.row_types.specs.Rules.{rules}
 use Rattle.index_rows.specs.Rows.{row_names}
-use Rattle.tree_trait.specs.Shown.{HandsOn}
-use Rattle.pass_runner.specs.Owned.{HandsGo, Helps, is_hand_fault}
 use Rattle.pass_runner.specs.Passes.{EndsOver}
-use Rattle.pass_runner.specs.declared.helper.Helper.{Helper}
-use Rattle.pass_runner.specs.declared.pass_end.PassEnd.TheVariants.{OutOfMemory}
 use Rattle.pass_runner.proofs.BesideLemmas.{over_weighed}
-use Rattle.pass_runner.proofs.CrewHands.{same_goes}
+use Rattle.pass_runner.proofs.CrewHands.{goes_with, same_goes}
 use Rattle.pass_runner.proofs.PassHands.{hands_none, hands_so}
 use Rattle.pass_runner.proofs.PassWalks.{helps_none}
-use Rattle.pass_runner.proofs.Weighed.{came_hands, came_helps, came_loads, goes_by, loads_by, weighed_fault, weighed_keeper}
+use Rattle.pass_runner.proofs.Weighed.{came_hands, came_helps, came_loads, loads_by, weighed_fault, weighed_keeper}
 use Rattle.pass_runner.proofs.beside.scan_beside.Goals as goal
 
 pub returns-in_default-clause-over : goal.returns-in_default-clause-over
 returns-in_default-clause-over g c =
-    same_goes
-    (λ hand later. EndsOver {K = g.row.K.Denot} (rules g.W.Truth.version g.W.Truth.true_row g.W.Truth.told) g.T.Tree.told
-    g.K.Keeper.told g.K.Keeper.shows g.T.Tree.shows c.args.hands.len c.args.listing c.args.roots.now hand later c.args.state
-    c.args.state OutOfMemory)
-    (λ hand later. Helps g.T.Tree.told g.W.Truth.version c.args.listing (row_names c.args.state.rows)
-    (g.T.Tree.shows hand) (g.T.Tree.shows later))
+    same_goes _ _ c.args.hands.items c.args.hands.items refl (omega (arith, c.requires.hands, c.args.hands.ok.0))
     (λ hand. inl (record { hand = refl; state = refl }))
     (helps_none g.T.Tree.shows g.T.Tree.told g.W.Truth.version c.args.listing (row_names c.args.state.rows))
-    c.args.hands.items (omega (arith, c.requires.hands, c.args.hands.ok.0))
 
 pub returns-in_default-clause-hands : goal.returns-in_default-clause-hands
 returns-in_default-clause-hands g c =
-    same_goes
-    (λ hand later. HandsOn g.T.Tree.told g.W.Truth.version (g.T.Tree.shows hand) (g.T.Tree.shows later) ⊥
-    (IsTrue (is_hand_fault OutOfMemory)))
-    (λ hand later. HandsOn g.T.Tree.told g.W.Truth.version (g.T.Tree.shows hand) (g.T.Tree.shows later) ⊥ ⊥)
+    same_goes _ _ c.args.hands.items c.args.hands.items refl (omega (arith, c.requires.hands, c.args.hands.ok.0))
     (λ hand. hands_none (λ f. true≢false (sym f))) (λ hand. hands_none (λ never. never))
-    c.args.hands.items (omega (arith, c.requires.hands, c.args.hands.ok.0))
 
 pub returns-in-Err-clause-over : goal.returns-in-Err-clause-over
 returns-in-Err-clause-over g c =
-    subst (λ hands. HandsGo
-    (λ hand later. EndsOver {K = g.row.K.Denot} (rules g.W.Truth.version g.W.Truth.true_row g.W.Truth.told) g.T.Tree.told
-    g.K.Keeper.told g.K.Keeper.shows g.T.Tree.shows c.args.hands.len c.args.listing c.args.roots.now hand later c.args.state
-    c.args.state OutOfMemory)
-    (λ hand later. Helps g.T.Tree.told g.W.Truth.version c.args.listing (row_names c.args.state.rows)
-    (g.T.Tree.shows hand) (g.T.Tree.shows later)) c.args.hands.items hands.items) (sym c.in-Err.ensures.err)
-    (same_goes
-    (λ hand later. EndsOver {K = g.row.K.Denot} (rules g.W.Truth.version g.W.Truth.true_row g.W.Truth.told) g.T.Tree.told
-    g.K.Keeper.told g.K.Keeper.shows g.T.Tree.shows c.args.hands.len c.args.listing c.args.roots.now hand later c.args.state
-    c.args.state OutOfMemory)
-    (λ hand later. Helps g.T.Tree.told g.W.Truth.version c.args.listing (row_names c.args.state.rows)
-    (g.T.Tree.shows hand) (g.T.Tree.shows later))
-    (λ hand. inl (record { hand = refl; state = refl }))
+    same_goes _ _ c.args.hands.items c.in-Err.hands.items (ap (λ v. v.items) c.in-Err.ensures.err)
+    (omega (arith, c.requires.hands, c.args.hands.ok.0)) (λ hand. inl (record { hand = refl; state = refl }))
     (helps_none g.T.Tree.shows g.T.Tree.told g.W.Truth.version c.args.listing (row_names c.args.state.rows))
-    c.args.hands.items (omega (arith, c.requires.hands, c.args.hands.ok.0)))
 
 pub returns-in-Err-clause-hands : goal.returns-in-Err-clause-hands
 returns-in-Err-clause-hands g c =
-    subst (λ hands. HandsGo
-    (λ hand later. HandsOn g.T.Tree.told g.W.Truth.version (g.T.Tree.shows hand) (g.T.Tree.shows later) ⊥
-    (IsTrue (is_hand_fault OutOfMemory)))
-    (λ hand later. HandsOn g.T.Tree.told g.W.Truth.version (g.T.Tree.shows hand) (g.T.Tree.shows later) ⊥ ⊥)
-    c.args.hands.items hands.items) (sym c.in-Err.ensures.err)
-    (same_goes
-    (λ hand later. HandsOn g.T.Tree.told g.W.Truth.version (g.T.Tree.shows hand) (g.T.Tree.shows later) ⊥
-    (IsTrue (is_hand_fault OutOfMemory)))
-    (λ hand later. HandsOn g.T.Tree.told g.W.Truth.version (g.T.Tree.shows hand) (g.T.Tree.shows later) ⊥ ⊥)
-    (λ hand. hands_none (λ f. true≢false (sym f))) (λ hand. hands_none (λ never. never))
-    c.args.hands.items (omega (arith, c.requires.hands, c.args.hands.ok.0)))
+    same_goes _ _ c.args.hands.items c.in-Err.hands.items (ap (λ v. v.items) c.in-Err.ensures.err)
+    (omega (arith, c.requires.hands, c.args.hands.ok.0)) (λ hand. hands_none (λ f. true≢false (sym f)))
+    (λ hand. hands_none (λ never. never))
 
 pub returns-in-Ok-apart-clause-over : goal.returns-in-Ok-apart-clause-over
 returns-in-Ok-apart-clause-over g c =
     let out = c.scan_parts-state in
     let parts = c.in-Ok-apart.field-0 in
     let gave = c.in-Ok-apart.ensures in
-    goes_by (λ (place : Helper g.row.T.Denot). place.hand) (λ place. place.task) (λ place. place.asked) g.T.Tree.shows g.T.Tree.told
-    g.W.Truth.version c.args.listing (row_names c.args.state.rows) parts.helpers.items out.result.2.items out.result.3
-    (λ hand later. EndsOver {K = g.row.K.Denot} (rules g.W.Truth.version g.W.Truth.true_row g.W.Truth.told) g.T.Tree.told
-    g.K.Keeper.told g.K.Keeper.shows g.T.Tree.shows c.args.hands.len c.args.listing c.args.roots.now hand later c.args.state
-    out.result.0 c.weighed.result)
-    (λ hand later. Helps g.T.Tree.told g.W.Truth.version c.args.listing (row_names c.args.state.rows)
-    (g.T.Tree.shows hand) (g.T.Tree.shows later))
-    c.args.hands.items c.together-hands.result.0.items parts.first out.result.1 gave.hands
-    c.together-hands.ensures.hands
+    goes_with _ _ c.args.hands.items c.together-hands.result.0.items parts.first out.result.1 parts.helpers.items
+    out.result.2.items gave.hands c.together-hands.ensures.hands
     (over_weighed {K = g.row.K.Denot} (rules g.W.Truth.version g.W.Truth.true_row g.W.Truth.told) g.T.Tree.told
     g.K.Keeper.told g.K.Keeper.shows g.T.Tree.shows c.args.hands.len c.args.listing c.args.roots.now parts.first
     out.result.1 c.args.state out.result.0 c.together-hands.result.1 _ out.result.3 c.weighed.result c.weighed.ensures
@@ -90,7 +49,7 @@ returns-in-Ok-apart-clause-over g c =
     g.T.Tree.told g.K.Keeper.told g.K.Keeper.shows g.T.Tree.shows c.args.hands.len c.args.listing rs parts.first
     out.result.1 c.args.state out.result.0 out.result.3) c.in-Ok.ensures.roots.0
     (out.ensures.over c.args.hands.len c.requires.hands)))
-    (came_helps (λ (place : Helper g.row.T.Denot). place.hand) (λ place. place.task) (λ place. place.asked) g.T.Tree.shows
+    (came_helps g.T.Tree.shows
     g.T.Tree.told g.W.Truth.version c.args.listing (row_names c.args.state.rows) parts.helpers.items
     out.result.2.items out.result.3 out.ensures.helped)
 
@@ -99,16 +58,11 @@ returns-in-Ok-apart-clause-hands g c =
     let out = c.scan_parts-state in
     let parts = c.in-Ok-apart.field-0 in
     let gave = c.in-Ok-apart.ensures in
-    goes_by (λ (place : Helper g.row.T.Denot). place.hand) (λ place. place.task) (λ place. place.asked) g.T.Tree.shows g.T.Tree.told
-    g.W.Truth.version c.args.listing (row_names c.args.state.rows) parts.helpers.items out.result.2.items out.result.3
-    (λ hand later. HandsOn g.T.Tree.told g.W.Truth.version (g.T.Tree.shows hand) (g.T.Tree.shows later) ⊥
-    (IsTrue (is_hand_fault c.weighed.result)))
-    (λ hand later. HandsOn g.T.Tree.told g.W.Truth.version (g.T.Tree.shows hand) (g.T.Tree.shows later) ⊥ ⊥)
-    c.args.hands.items c.together-hands.result.0.items parts.first out.result.1 gave.hands
-    c.together-hands.ensures.hands
+    goes_with _ _ c.args.hands.items c.together-hands.result.0.items parts.first out.result.1 parts.helpers.items
+    out.result.2.items gave.hands c.together-hands.ensures.hands
     (hands_so out.ensures.hand
     (λ f. out.ensures.hand.cause.rose (weighed_fault out.result.3 c.together-hands.result.1 _ c.weighed.result c.weighed.ensures f)))
-    (came_hands (λ (place : Helper g.row.T.Denot). place.hand) (λ place. place.task) (λ place. place.asked) g.T.Tree.shows
+    (came_hands g.T.Tree.shows
     g.T.Tree.told g.W.Truth.version c.args.listing (row_names c.args.state.rows) parts.helpers.items
     out.result.2.items out.result.3 out.ensures.helped)
 
@@ -118,11 +72,11 @@ returns-in-Ok-apart-clause-loads g c =
     let parts = c.in-Ok-apart.field-0 in
     let gave = c.in-Ok-apart.ensures in
     let long = ap length gave.hands in
-    loads_by (λ (place : Helper g.row.T.Denot). place.hand) (λ place. place.task) (λ place. place.asked) g.T.Tree.shows g.T.Tree.told
+    loads_by g.T.Tree.shows g.T.Tree.told
     g.W.Truth.version c.args.listing (row_names c.args.state.rows) parts.helpers.items out.result.2.items out.result.3
     c.args.hands.items c.together-hands.result.0.items parts.first out.result.1 c.weighed.result gave.hands
     c.together-hands.ensures.hands
-    (came_loads (λ (place : Helper g.row.T.Denot). place.hand) (λ place. place.task) (λ place. place.asked) g.T.Tree.shows
+    (came_loads g.T.Tree.shows
     g.T.Tree.told g.W.Truth.version c.args.listing (row_names c.args.state.rows) parts.helpers.items
     out.result.2.items out.result.3 parts.first out.result.1 c.together-hands.result.1 _ c.weighed.result out.ensures.helped
     gave.tasks c.together-hands.ensures.asked (λ three. grind (arith, nat_tests, long, three, c.args.hands.ok.0))

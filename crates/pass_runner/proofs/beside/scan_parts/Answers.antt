@@ -5,7 +5,6 @@ use Rattle.std.proofs.lemmas.Bool.{true≢false}
 use Rattle.row_types.specs.Name.{NameFacts}
 use Rattle.row_types.specs.Rules.{rules}
 use Rattle.pass_runner.specs.Helped.{HelpedFrom}
-use Rattle.pass_runner.specs.declared.helper.Helper.{Helper}
 use Rattle.pass_runner.proofs.BesideLemmas.{not_shared, over_shared, spared_names}
 use Rattle.pass_runner.proofs.PassHands.{hands_none}
 use Rattle.pass_runner.proofs.beside.scan_parts.Goals as goal
@@ -21,8 +20,7 @@ returns-in-Ok-clause-over g c = λ hands some.
 
 pub returns-in-Ok-clause-helped : goal.returns-in-Ok-clause-helped
 returns-in-Ok-clause-helped g c =
-    inl (subst (λ (spared : List NameFacts). AllZip (HelpedFrom (λ (place : Helper g.row.T.Denot). g.T.Tree.shows place.hand)
-    (λ place. place.task) (λ place. place.asked) g.T.Tree.told g.W.Truth.version spared) c.args.helpers.items c.in-Ok.helpers.items)
+    inl (subst (λ (spared : List NameFacts). AllZip (HelpedFrom g.T.Tree.shows g.T.Tree.told g.W.Truth.version spared) c.args.helpers.items c.in-Ok.helpers.items)
     (spared_names {K = g.row.K.Denot} 2 (omega arith) c.in-Begun.ensures.step c.spare.ensures) c.in-Ok.ensures.ran)
 
 pub returns-in-Err-clause-over : goal.returns-in-Err-clause-over

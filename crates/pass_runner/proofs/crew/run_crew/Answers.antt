@@ -11,6 +11,5 @@ use Rattle.pass_runner.proofs.crew.run_crew.Goals as goal
 pub returns-clause-ran : goal.returns-clause-ran
 returns-clause-ran g c =
     run_places {C = Slot (State g.row.W.Denot g.row.K.Denot) (Helper g.row.T.Denot) Change Opening} (λ slot. slot.seat) (λ slot. slot.place)
-    (HelpsFrom (λ place. g.T.Tree.shows place.hand) (λ place. place.task) (λ place. place.asked)
-    g.T.Tree.told g.W.Truth.version) c.args.seat c.seats_in.result.0
-    _ _ _ _ c.seats_out-seat.ensures.slots c.run_slots.ensures.ran c.seats_in.ensures.places
+    (HelpsFrom g.T.Tree.shows g.T.Tree.told g.W.Truth.version) c.args.desk.seat c.seats_in-seat.result.0
+    _ _ _ _ c.seats_out-seat.ensures.slots c.run_slots.ensures.ran c.seats_in-seat.ensures.places

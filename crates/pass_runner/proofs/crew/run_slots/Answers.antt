@@ -18,23 +18,19 @@ returns g c =
     let each = c.run_each.ensures in
     let long : c.args.slots.now.len ≡ length c.run_each.new.slots = sym (each.length ∙ before.len) in
     let ran = subst (λ xs. AllZip (SlotRan (RanSlot {C = Slot (State g.row.W.Denot g.row.K.Denot) (Helper g.row.T.Denot) Change Opening}
-    (λ slot. slot.seat) (λ slot. slot.place) (HelpsFrom (λ place. g.T.Tree.shows place.hand) (λ place. place.task) (λ place. place.asked)
-    g.T.Tree.told g.W.Truth.version)))
+    (λ slot. slot.seat) (λ slot. slot.place) (HelpsFrom g.T.Tree.shows g.T.Tree.told g.W.Truth.version)))
     xs c.run_each.new.slots) before.value
     (zip_by_index (SlotRan (RanSlot {C = Slot (State g.row.W.Denot g.row.K.Denot) (Helper g.row.T.Denot) Change Opening}
-    (λ slot. slot.seat) (λ slot. slot.place) (HelpsFrom (λ place. g.T.Tree.shows place.hand) (λ place. place.task) (λ place. place.asked)
-    g.T.Tree.told g.W.Truth.version)))
+    (λ slot. slot.seat) (λ slot. slot.place) (HelpsFrom g.T.Tree.shows g.T.Tree.told g.W.Truth.version)))
     c.as_mut_slice.result.now c.run_each.new.slots each.length each.each) in
     let same = sym (front_all c.args.slots.now.len c.run_each.new.slots
     (drop (length c.run_each.new.slots) c.args.slots.now.items) long) in record {
       ran = subst (AllZip (SlotRan (RanSlot {C = Slot (State g.row.W.Denot g.row.K.Denot) (Helper g.row.T.Denot) Change Opening}
-          (λ slot. slot.seat) (λ slot. slot.place) (HelpsFrom (λ place. g.T.Tree.shows place.hand) (λ place. place.task) (λ place. place.asked)
-          g.T.Tree.told g.W.Truth.version)))
+          (λ slot. slot.seat) (λ slot. slot.place) (HelpsFrom g.T.Tree.shows g.T.Tree.told g.W.Truth.version)))
           c.args.slots.now.items) same ran;
       locks = subst (All (SlotHas {C = Slot (State g.row.W.Denot g.row.K.Denot) (Helper g.row.T.Denot) Change Opening}
           (λ slot. slot.seat.lock ≡ c.args.lock.now))) same
-          (ran_locks (λ slot. slot.seat) (λ slot. slot.place) (HelpsFrom (λ place. g.T.Tree.shows place.hand) (λ place. place.task) (λ place. place.asked)
-          g.T.Tree.told g.W.Truth.version) c.args.lock.now
+          (ran_locks (λ slot. slot.seat) (λ slot. slot.place) (HelpsFrom g.T.Tree.shows g.T.Tree.told g.W.Truth.version) c.args.lock.now
           c.args.slots.now.items c.run_each.new.slots c.requires ran);
       count = refl;
     }

@@ -6,7 +6,7 @@ pub loop-init : goal.loop-init
 loop-init g c = leads_none
 
 pub loop-preserved : goal.loop-preserved
-loop-preserved g c = leads_then c.loop.invariant c.read_next-next.ensures
+loop-preserved g c = leads_then c.loop.invariant c.read_next-desk.ensures
 
 pub returns-then-not-goes_on : goal.returns-then-not-goes_on
-returns-then-not-goes_on g c = leads_then c.loop.invariant c.read_next-next.ensures
+returns-then-not-goes_on g c = leads_then c.loop.invariant c.read_next-desk.ensures

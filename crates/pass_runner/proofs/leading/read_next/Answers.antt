@@ -5,22 +5,22 @@ use Rattle.index_lock.proofs.Later.{later_self}
 use Rattle.pass_runner.proofs.leading.read_next.Goals as goal
 
 pub returns-in_default : goal.returns-in_default
-returns-in_default g c = leads_later c.take_one-seat.ensures
+returns-in_default g c = leads_later c.take-desk.ensures.holds.later
 
 pub returns-in-Row : goal.returns-in-Row
 returns-in-Row g c =
-    leads_load c.in-Some.name c.in-Row.ensures.0 c.take_one-seat.ensures c.publish_one.ensures c.in-Row.ensures.1
+    leads_load c.in-Some.name c.in-Row.ensures.0 c.take-desk.ensures.holds.later c.publish-desk.ensures.holds.later c.in-Row.ensures.1
 
 pub returns-in-Altered : goal.returns-in-Altered
 returns-in-Altered g c =
-    leads_other c.in-Some.name c.in-Altered.ensures.0 c.take_one-seat.ensures c.miss_own.ensures.later
+    leads_other c.in-Some.name c.in-Altered.ensures.0 c.take-desk.ensures.holds.later c.miss_own.ensures.later
     c.in-Altered.ensures.1 c.in-Altered.seen c.in-Altered.ensures.2 c.miss_own.ensures.noted
 
 pub returns-in-Failed : goal.returns-in-Failed
 returns-in-Failed g c =
-    leads_unread c.in-Some.name c.in-Failed.ensures.0 c.take_one-seat.ensures c.miss_own-in-Failed.ensures.later
+    leads_unread c.in-Some.name c.in-Failed.ensures.0 c.take-desk.ensures.holds.later c.miss_own-in-Failed.ensures.later
     c.in-Failed.ensures.1 c.in-Failed.ensures.2 c.miss_own-in-Failed.ensures.noted
 
-pub returns-in-OutOfMemory : goal.returns-in-OutOfMemory
-returns-in-OutOfMemory g c =
-    leads_load c.in-Some.name c.in-OutOfMemory.ensures.0 c.take_one-seat.ensures (later_self _) c.in-OutOfMemory.ensures.1
+pub returns : goal.returns
+returns g c =
+    leads_load c.in-Some.name c.in-OutOfMemory.ensures.0 c.take-desk.ensures.holds.later (later_self _) c.in-OutOfMemory.ensures.1

@@ -1,9 +1,7 @@
 -- With one hand the pass is its own; with more it is that of all.
-use Rattle.std.proofs.Common.{◌<◌, ℕ, arith, slice_set, subst, IsTrue}
+use Rattle.std.proofs.Common.{◌<◌, ℕ, arith, slice_set, subst}
 use Rattle.row_types.specs.Rules.{rules}
 use Rattle.index_rows.specs.Rows.{row_names}
-use Rattle.tree_trait.specs.Shown.{HandsOn}
-use Rattle.pass_runner.specs.Owned.{Helps, is_hand_fault}
 use Rattle.pass_runner.specs.Passes.{EndsOver}
 use Rattle.pass_runner.proofs.FirstHand.{loads_alone}
 use Rattle.pass_runner.proofs.PassEnds.{rose_counted}
@@ -13,13 +11,7 @@ use Rattle.pass_runner.proofs.owned.scan_listed.Goals as goal
 
 pub returns-clause-over : goal.returns-clause-over
 returns-clause-over g c =
-    first_goes
-    (λ hand later. EndsOver {K = g.row.K.Denot} (rules g.W.Truth.version g.W.Truth.true_row g.W.Truth.told) g.T.Tree.told
-    g.K.Keeper.told g.K.Keeper.shows g.T.Tree.shows c.args.hands.len c.args.listing c.args.roots.now hand later c.args.state
-    c.run_over-end.new.state c.run_over-end.result)
-    (λ hand later. Helps g.T.Tree.told g.W.Truth.version c.args.listing (row_names c.args.state.rows)
-    (g.T.Tree.shows hand) (g.T.Tree.shows later))
-    c.args.hands.items c.index_mut.result.now c.run_over-end.new.hand
+    first_goes _ _ c.args.hands.items c.index_mut.result.now c.run_over-end.new.hand
     (subst (λ n. 0 < n) c.args.hands.ok.0 c.requires.hand) c.index_mut.ensures.value
     (subst (λ (n : ℕ). EndsOver {K = g.row.K.Denot} (rules g.W.Truth.version g.W.Truth.true_row g.W.Truth.told) g.T.Tree.told
     g.K.Keeper.told g.K.Keeper.shows g.T.Tree.shows n c.args.listing c.args.roots.now c.index_mut.result.now
@@ -29,11 +21,7 @@ returns-clause-over g c =
 
 pub returns-clause-hands : goal.returns-clause-hands
 returns-clause-hands g c =
-    first_goes
-    (λ hand later. HandsOn g.T.Tree.told g.W.Truth.version (g.T.Tree.shows hand) (g.T.Tree.shows later) ⊥
-    (IsTrue (is_hand_fault c.run_over-end.result)))
-    (λ hand later. HandsOn g.T.Tree.told g.W.Truth.version (g.T.Tree.shows hand) (g.T.Tree.shows later) ⊥ ⊥)
-    c.args.hands.items c.index_mut.result.now c.run_over-end.new.hand
+    first_goes _ _ c.args.hands.items c.index_mut.result.now c.run_over-end.new.hand
     (subst (λ n. 0 < n) c.args.hands.ok.0 c.requires.hand) c.index_mut.ensures.value
     c.run_over-end.ensures.hand (λ other. hands_none (λ never. never))
 

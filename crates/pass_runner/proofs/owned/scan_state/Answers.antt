@@ -1,12 +1,8 @@
 -- The first hand walks, and the pass over what was listed follows.
-use Rattle.std.proofs.Common.{◌<◌, [], inl, length, slice_set, refl, subst, IsTrue}
+use Rattle.std.proofs.Common.{◌<◌, [], inl, slice_set, refl, subst}
 use Rattle.row_types.specs.Rules.{rules}
 use Rattle.index_rows.specs.Rows.{row_names}
-use Rattle.tree_trait.specs.Shown.{HandsOn}
 use Rattle.tree_trait.proofs.HandLemmas.{hands_then}
-use Rattle.pass_runner.specs.Owned.{EndsPass, Helps, is_hand_fault}
-use Rattle.pass_runner.specs.Passes.{EndsOver}
-use Rattle.pass_runner.specs.declared.pass_end.PassEnd.TheVariants.{Walk as Unwalked}
 use Rattle.pass_runner.proofs.FirstHand.{goes_never, idle_unwalked, loads_past_first, walks_first}
 use Rattle.pass_runner.proofs.PassEnds.{over_walked}
 use Rattle.pass_runner.proofs.PassHands.{first_goes, hands_none, hands_walked}
@@ -16,36 +12,21 @@ use Rattle.pass_runner.proofs.owned.scan_state.Goals as goal
 pub returns-in-Ok-clause-pass : goal.returns-in-Ok-clause-pass
 returns-in-Ok-clause-pass g c = (
   c.in-Ok.field-0.listing,
-  walks_first
-      (λ hand later. EndsOver {K = g.row.K.Denot} (rules g.W.Truth.version g.W.Truth.true_row g.W.Truth.told) g.T.Tree.told
-      g.K.Keeper.told g.K.Keeper.shows g.T.Tree.shows c.args.hands.len c.in-Ok.field-0.listing c.args.roots.now hand later c.args.state
-      c.scan_listed.result.0 c.scan_listed.result.2)
-      (λ hand later. EndsPass (rules g.W.Truth.version g.W.Truth.true_row g.W.Truth.told) g.T.Tree.told g.K.Keeper.told
-      g.K.Keeper.shows c.args.hands.len c.args.roots.now c.in-Ok.field-0.listing (g.T.Tree.shows hand) (g.T.Tree.shows later) c.args.state
-      c.scan_listed.result.0 c.scan_listed.result.2)
-      (λ hand later. Helps g.T.Tree.told g.W.Truth.version c.in-Ok.field-0.listing (row_names c.args.state.rows) (g.T.Tree.shows hand)
-      (g.T.Tree.shows later))
-      c.args.hands.items c.scan_listed.result.1.items c.index_mut.result.now c.walk.new.hand
+  walks_first _ _ _ c.args.hands.items c.scan_listed.result.1.items c.index_mut.result.now c.walk.new.hand
       (subst (λ n. 0 < n) c.args.hands.ok.0 c.requires.hand) c.index_mut.ensures.value
+      c.scan_listed.ensures.over
       (λ later over. ends_walked {K = g.row.K.Denot} (rules g.W.Truth.version g.W.Truth.true_row g.W.Truth.told) g.T.Tree.told
       g.K.Keeper.told g.K.Keeper.shows g.T.Tree.shows c.args.hands.len c.args.roots.now c.index_mut.result.now c.walk.new.hand later
       c.args.state c.scan_listed.result.0 c.in-Ok.field-0 c.scan_listed.result.2 c.in-Ok.ensures.walk
-      (λ t. c.in-Ok.ensures.files t.0 t.1) c.walk.ensures.hands over)
-      c.scan_listed.ensures.over,
+      (λ t. c.in-Ok.ensures.files t.0 t.1) c.walk.ensures.hands over),
 )
 
 pub returns-in-Ok-clause-hands : goal.returns-in-Ok-clause-hands
 returns-in-Ok-clause-hands g c =
-    walks_first
-    (λ hand later. HandsOn g.T.Tree.told g.W.Truth.version (g.T.Tree.shows hand) (g.T.Tree.shows later) ⊥
-    (IsTrue (is_hand_fault c.scan_listed.result.2)))
-    (λ hand later. HandsOn g.T.Tree.told g.W.Truth.version (g.T.Tree.shows hand) (g.T.Tree.shows later)
-    (0 < length c.args.roots.now) (IsTrue (is_hand_fault c.scan_listed.result.2)))
-    (λ hand later. HandsOn g.T.Tree.told g.W.Truth.version (g.T.Tree.shows hand) (g.T.Tree.shows later) ⊥ ⊥)
-    c.args.hands.items c.scan_listed.result.1.items c.index_mut.result.now c.walk.new.hand
+    walks_first _ _ _ c.args.hands.items c.scan_listed.result.1.items c.index_mut.result.now c.walk.new.hand
     (subst (λ n. 0 < n) c.args.hands.ok.0 c.requires.hand) c.index_mut.ensures.value
-    (λ later on. hands_then c.walk.ensures.hands on (λ asked. inl asked) (λ f. f))
     c.scan_listed.ensures.hands
+    (λ later on. hands_then c.walk.ensures.hands on (λ asked. inl asked) (λ f. f))
 
 pub returns-in-Ok-clause-loads : goal.returns-in-Ok-clause-loads
 returns-in-Ok-clause-loads g c =
@@ -55,13 +36,7 @@ returns-in-Ok-clause-loads g c =
 pub returns-in-Err-clause-pass : goal.returns-in-Err-clause-pass
 returns-in-Err-clause-pass g c = (
   [],
-  first_goes
-      (λ hand later. EndsPass (rules g.W.Truth.version g.W.Truth.true_row g.W.Truth.told) g.T.Tree.told g.K.Keeper.told
-      g.K.Keeper.shows c.args.hands.len c.args.roots.now [] (g.T.Tree.shows hand) (g.T.Tree.shows later) c.args.state c.args.state
-      (Unwalked c.in-Err.fault))
-      (λ hand later. Helps g.T.Tree.told g.W.Truth.version [] (row_names c.args.state.rows) (g.T.Tree.shows hand)
-      (g.T.Tree.shows later))
-      c.args.hands.items c.index_mut.result.now c.walk.new.hand
+  first_goes _ _ c.args.hands.items c.index_mut.result.now c.walk.new.hand
       (subst (λ n. 0 < n) c.args.hands.ok.0 c.requires.hand) c.index_mut.ensures.value
       (record { walks = c.in-Err.ensures.walk; fits = λ t. c.in-Err.ensures.refused t.0 t.1; same = refl })
       (helps_none g.T.Tree.shows g.T.Tree.told g.W.Truth.version [] (row_names c.args.state.rows)),
@@ -69,25 +44,17 @@ returns-in-Err-clause-pass g c = (
 
 pub returns-in-Err-clause-hands : goal.returns-in-Err-clause-hands
 returns-in-Err-clause-hands g c =
-    first_goes
-    (λ hand later. HandsOn g.T.Tree.told g.W.Truth.version (g.T.Tree.shows hand) (g.T.Tree.shows later)
-    (0 < length c.args.roots.now) (IsTrue (is_hand_fault (Unwalked c.in-Err.fault))))
-    (λ hand later. HandsOn g.T.Tree.told g.W.Truth.version (g.T.Tree.shows hand) (g.T.Tree.shows later) ⊥ ⊥)
-    c.args.hands.items c.index_mut.result.now c.walk.new.hand
+    first_goes _ _ c.args.hands.items c.index_mut.result.now c.walk.new.hand
     (subst (λ n. 0 < n) c.args.hands.ok.0 c.requires.hand) c.index_mut.ensures.value
     (hands_walked c.walk.result c.in-Err.fault c.in-Err.is c.walk.ensures.hands) (λ other. hands_none (λ never. never))
 
 pub returns-in-Ok-clause-idle : goal.returns-in-Ok-clause-idle
 returns-in-Ok-clause-idle g c = λ unwalked.
-    absurd (goes_never (λ hand later. EndsOver {K = g.row.K.Denot} (rules g.W.Truth.version g.W.Truth.true_row g.W.Truth.told) g.T.Tree.told
-    g.K.Keeper.told g.K.Keeper.shows g.T.Tree.shows c.args.hands.len c.in-Ok.field-0.listing c.args.roots.now hand later c.args.state
-    c.scan_listed.result.0 c.scan_listed.result.2)
-    (λ hand later. Helps g.T.Tree.told g.W.Truth.version c.in-Ok.field-0.listing (row_names c.args.state.rows) (g.T.Tree.shows hand)
-    (g.T.Tree.shows later))
-    (slice_set c.args.hands.items 0 c.walk.new.hand) c.scan_listed.result.1.items
+    absurd (goes_never _ _ (slice_set c.args.hands.items 0 c.walk.new.hand) c.scan_listed.result.1.items
+    c.scan_listed.ensures.over
     (λ hand later over. over_walked {K = g.row.K.Denot} (rules g.W.Truth.version g.W.Truth.true_row g.W.Truth.told) g.T.Tree.told
     g.K.Keeper.told g.K.Keeper.shows g.T.Tree.shows c.args.hands.len c.in-Ok.field-0.listing c.args.roots.now hand later c.args.state
-    c.scan_listed.result.0 c.scan_listed.result.2 over unwalked) c.scan_listed.ensures.over)
+    c.scan_listed.result.0 c.scan_listed.result.2 over unwalked))
 
 pub returns-in-Err-clause-idle : goal.returns-in-Err-clause-idle
 returns-in-Err-clause-idle g c = λ unwalked. idle_unwalked c.args.hands.items c.walk.new.hand

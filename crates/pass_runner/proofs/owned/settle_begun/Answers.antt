@@ -13,7 +13,7 @@ returns-in-Empty-clause-ends g c =
 
 pub returns-in-Empty-clause-hand : goal.returns-in-Empty-clause-hand
 returns-in-Empty-clause-hand g c =
-    hands_so c.in-Empty.ensures.settles.does.hand
+    hands_so c.in-Empty.ensures.settles.does.listens.hand
     (begun_fault {K = g.row.K.Denot} (rules g.W.Truth.version g.W.Truth.true_row g.W.Truth.told) g.T.Tree.told g.K.Keeper.told
     g.K.Keeper.shows c.args.plan.now (g.T.Tree.shows c.args.hand.now) (g.T.Tree.shows c.settle_pass.new.hand) c.args.state.now
     c.settle_pass.new.state c.end_of.result c.requires.fresh

@@ -6,8 +6,8 @@ publish_row-requires-clause-awaited g c = λ κs within. reads_awaited c.in-Row.
 
 pub returns-in-Row : goal.returns-in-Row
 returns-in-Row g c =
-    turns_read c.in-Row.row c.in-Row.ensures.0 c.show_index.ensures c.requires.sound c.requires.awaited c.in-Row.ensures.1
-    c.in-Row.ensures.2 c.publish_row.ensures
+    turns_read c.in-Row.row c.in-Row.ensures.0 c.show_index.ensures c.requires.sound c.requires.awaited c.requires.out
+    c.in-Row.ensures.1 c.in-Row.ensures.2 c.publish_row.ensures
 
 pub returns-in-Altered : goal.returns-in-Altered
 returns-in-Altered g c =
@@ -22,4 +22,4 @@ returns-in-Failed g c =
 pub returns-in-OutOfMemory : goal.returns-in-OutOfMemory
 returns-in-OutOfMemory g c =
     turns_wanting c.in-OutOfMemory.ensures.0 c.show_index.ensures c.requires.sound c.requires.awaited
-    c.in-OutOfMemory.ensures.1
+    c.in-OutOfMemory.ensures.1 c.in-OutOfMemory.ensures.2

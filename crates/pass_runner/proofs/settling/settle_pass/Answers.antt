@@ -19,7 +19,7 @@ pub returns-in-Empty-clause-ends : goal.returns-in-Empty-clause-ends
 returns-in-Empty-clause-ends g c = settled_after c.look_for_all.new.state c.look_for_all.result c.in-Empty.ensures.ends c.look_for_all.ensures.ends
 
 pub returns-in-Empty-clause-keeper : goal.returns-in-Empty-clause-keeper
-returns-in-Empty-clause-keeper g c = cause_later c.in-Empty.ensures.settles.does.keeper (λ is. is) c.look_for_all.ensures.keeper
+returns-in-Empty-clause-keeper g c = cause_later c.in-Empty.ensures.settles.does.on.keeper (λ is. is) c.look_for_all.ensures.keeper
 
 pub returns-in_default-clause-settles : goal.returns-in_default-clause-settles
 returns-in_default-clause-settles g c = settles_once c.show_index.ensures c.read_new.ensures.settles

@@ -5,13 +5,11 @@ use Rattle.row_types.specs.Name.{NameFacts}
 use Rattle.index_state.specs.State.{Origin}
 use Rattle.lock_crew.proofs.Zips.{zip_weaker}
 use Rattle.pass_runner.specs.Helped.{HelpedFrom}
-use Rattle.pass_runner.specs.declared.helper.Helper.{Helper}
 use Rattle.pass_runner.proofs.shared.run_shared.Goals as goal
 
 pub returns-in-Ok-clause-ran : goal.returns-in-Ok-clause-ran
 returns-in-Ok-clause-ran g c =
-    subst (λ (spared : List NameFacts). AllZip (HelpedFrom (λ (place : Helper g.row.T.Denot). g.T.Tree.shows place.hand)
-    (λ place. place.task) (λ place. place.asked) g.T.Tree.told g.W.Truth.version spared)
-    c.args.helpers.items c.run_crew-seat.result.1.items)
+    subst (λ (spared : List NameFacts). AllZip (HelpedFrom g.T.Tree.shows g.T.Tree.told g.W.Truth.version spared)
+    c.args.helpers.items c.run_crew-desk.result.1.items)
     (ap (λ (o : Origin). o.spared) c.in-Ok.ensures.seen.1)
-    (zip_weaker (λ before after ran. ran.made) c.args.helpers.items c.run_crew-seat.result.1.items c.run_crew-seat.ensures.ran)
+    (zip_weaker (λ before after ran. ran.made) c.args.helpers.items c.run_crew-desk.result.1.items c.run_crew-desk.ensures.ran)
