@@ -98,8 +98,8 @@ pub debug_none : (f : Opened) → Knows f → (f.table.e_type == ET_REL) ≡ tru
 debug_none f knows linking = record {
   is = relocatable f.table knows.is_table linking;
   there = λ r w.
-    let same : w.has.of ≡ f.table = same_ok (sym w.has.is_table ∙ knows.is_table) in
-    absurd (both_ways (f.table.e_type == ET_REL) (subst (λ (t : SectionTable). (t.e_type == ET_REL) ≡ false) same w.has.linked) linking);
+      let same : w.has.of ≡ f.table = same_ok (sym w.has.is_table ∙ knows.is_table) in
+      absurd (both_ways (f.table.e_type == ET_REL) (subst (λ (t : SectionTable). (t.e_type == ET_REL) ≡ false) same w.has.linked) linking);
 }
 
 -- of one without a table
@@ -149,8 +149,8 @@ says_debug p is k (view.Need at len) (inl n) = record { gone = n.gone; among = �
 says_debug p is k (view.Need at len) (inr n) = record {
   gone = n.part.section.gone;
   among = λ b f.
-    inr
-    (debug_range_moves (agree_there is f (all_known p is k))
+      inr
+      (debug_range_moves (agree_there is f (all_known p is k))
       (record {
         has = record {
           identity = k.identity;
@@ -166,14 +166,15 @@ says_debug p is k (view.Need at len) (inr n) = record {
 }
 says_debug p is k (view.Parts parts) s = record {
   is = λ b f.
-    debug-of_parts (record { sized = (agree_there is f (all_known p is k)).sized; same = same b f })
-    (k.known.is (filled p) (filled-agrees p is)) s.is;
+      debug-of_parts (record { sized = (agree_there is f (all_known p is k)).sized; same = same b f })
+      (k.known.is (filled p) (filled-agrees p is)) s.is;
   there = of;
 }
   where
     same : (b : List ℕ) → Agrees b p → (r : Range) → IsSomePart (filled p) r → bytes_in (filled p) r ≡ bytes_in b r
     same b f r (inl h) = (agree_there is f (all_known p is k)).same r h
     same b f r (inr h) = agree-covered p (filled p) b r.at r.len (filled-agrees p is) f (s.there r h)
+
     of : (b : List ℕ) → Agrees b p → (r : Range) → IsSomePart b r → IsCovered p r.at r.len
     of b f r (inl h) = windows-of_each is (all_known p is k) b f r h
     of b f r (inr h) = s.there r (debug_range_moves (agree-symmetric (agree_there is f (all_known p is k))) h)

@@ -33,9 +33,9 @@ one_range {b} {t} {name} {r} at is_table p w =
     let same : w.of ≡ t = same_ok (sym w.is_table ∙ is_table) in
     let here : HasSection b t name w.found.index w.bytes = subst (λ u. HasSection b u name w.found.index w.bytes) same w.found.here in
     let back : HasSection b w.of name p.found.index (bytes_at b at.at at.len) =
-      subst (λ u. HasSection b u name p.found.index (bytes_at b at.at at.len)) (sym same) p.found.here in
+    subst (λ u. HasSection b u name p.found.index (bytes_at b at.at at.len)) (sym same) p.found.here in
     let index : p.found.index ≡ w.found.index =
-      omega (arith, p.found.first w.found.index w.bytes here, w.found.first p.found.index _ back) in
+    omega (arith, p.found.first w.found.index w.bytes here, w.found.first p.found.index _ back) in
     p.is ∙ ap (λ i. extent (section_at b t i)) index ∙ ap (λ u. extent (section_at b u w.found.index)) (sym same) ∙ sym w.is
 
 -- ---- what is found of an opened file
@@ -46,9 +46,9 @@ pub sees_absent : (f : Opened) (name : List ℕ) → Knows f
 sees_absent f name knows none = record {
   is = absent f.table knows.is_table none;
   there = λ r w.
-    let same : w.of ≡ f.table = same_ok (sym w.is_table ∙ knows.is_table) in
-    absurd
-    (none w.found.index w.bytes
+      let same : w.of ≡ f.table = same_ok (sym w.is_table ∙ knows.is_table) in
+      absurd
+      (none w.found.index w.bytes
       (subst (λ u. HasSection (filled f.file) u name w.found.index w.bytes) same w.found.here));
 }
 
@@ -133,8 +133,8 @@ says_named p name is (view.Need at len) (inr n) = record {
 }
 says_named p name is (view.Section found) s = record {
   is = λ b f.
-    answer_moves (agree_there is f s.all)
-    (λ r w. agree-covered p (filled p) b r.at r.len (filled-agrees p is) f (s.there r w)) s.is;
+      answer_moves (agree_there is f s.all)
+      (λ r w. agree-covered p (filled p) b r.at r.len (filled-agrees p is) f (s.there r w)) s.is;
   there = of;
 }
   where

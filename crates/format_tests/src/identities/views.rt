@@ -3,7 +3,8 @@
 
 use crate::pictures::{fill, gap};
 use elf_classify::{
-    IdentView, PartsView, SectionView, debug_parts, ident_view, parts_view, section_of, section_view,
+    IdentView, PartsView, SectionView, debug_parts, ident_view, parts_view, section_of,
+    section_view,
 };
 use file_picture::Picture;
 use sample_files::{debug_companion, dwarf_five, executable};
@@ -39,7 +40,10 @@ fn is_known_from(
 type Named = (&'static [u8], &'static [Range]);
 
 static OF_PROGRAM: [Named; 2] = [
-    (b".text", &[(0, 64), (152, 256), (113, 36), (64, 36), (112, 1)]),
+    (
+        b".text",
+        &[(0, 64), (152, 256), (113, 36), (64, 36), (112, 1)],
+    ),
     (b".tex", &[(0, 64), (152, 256), (113, 36), (64, 36)]),
 ];
 
@@ -75,7 +79,14 @@ fn a_section_is_known_from_the_windows_and_its_bytes(rt: HostRuntime) {
 static WINDOWS: [Range; 4] = [(0, 64), (376, 640), (255, 120), (64, 36)];
 
 /// Its debug sections, in the order in which they are asked for.
-static SECTIONS: [Range; 6] = [(125, 22), (113, 12), (147, 69), (216, 7), (223, 20), (243, 12)];
+static SECTIONS: [Range; 6] = [
+    (125, 22),
+    (113, 12),
+    (147, 69),
+    (216, 7),
+    (223, 20),
+    (243, 12),
+];
 
 /// The range that is asked for, none where the sections are handed out.
 fn asked(rt: &impl Abort, picture: &Picture) -> Option<Range> {

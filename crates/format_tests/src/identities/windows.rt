@@ -97,11 +97,23 @@ fn each_sample_is_known_from_its_windows_in_every_order(rt: HostRuntime) {
     sample(&rt, alloc, "32-bit", big_endian_debug(alloc), &BIG);
     let narrow = narrow_extended_counts(alloc);
     sample(&rt, alloc, "32-bit, extended", narrow, &BIG_EXTENDED);
-    sample(&rt, alloc, "8-aligned", eight_aligned_notes(alloc), &ALIGNED);
+    sample(
+        &rt,
+        alloc,
+        "8-aligned",
+        eight_aligned_notes(alloc),
+        &ALIGNED,
+    );
     let narrow = narrow_eight_aligned_notes(alloc);
     sample(&rt, alloc, "32-bit, 8-aligned", narrow, &BIG_ALIGNED);
     sample(&rt, alloc, "a program", executable(alloc), &PROGRAM);
-    sample(&rt, alloc, "its companion", debug_companion(alloc), &COMPANION);
+    sample(
+        &rt,
+        alloc,
+        "its companion",
+        debug_companion(alloc),
+        &COMPANION,
+    );
     sample(&rt, alloc, "DWARF 5", dwarf_five(alloc), &DWARF);
 }
 
@@ -117,8 +129,18 @@ static OF_BOTH: [Change; 9] = [
     ("no section of names", 62, &[5], &[(0, 64), (168, 320)]),
     ("no names", 62, &[0], &[(0, 64), (168, 320), (64, 36)]),
     ("a core image", 16, &[4], &[(0, 64), (168, 320), (113, 48)]),
-    ("compressed notes", 240, &[2, 8], &[(0, 64), (168, 320), (113, 48)]),
-    ("another type of note", 72, &[1], &[(0, 64), (168, 320), (113, 48), (64, 36)]),
+    (
+        "compressed notes",
+        240,
+        &[2, 8],
+        &[(0, 64), (168, 320), (113, 48)],
+    ),
+    (
+        "another type of note",
+        72,
+        &[1],
+        &[(0, 64), (168, 320), (113, 48), (64, 36)],
+    ),
 ];
 
 static OF_EXTENDED: [Change; 3] = [

@@ -15,7 +15,7 @@ pub returns-in-Ok : goal.returns-in-Ok
 returns-in-Ok c =
     debug_found c.args.file.now (sections_of c.in-Ok.parts) c.knows.ensures
     (false_from_ne_true (c.args.file.now.table.e_type == ET_REL)
-      (λ e. c.if-kind-eq-ET_REL.false (c.kind.ensures ∙ eqb-true c.args.file.now.table.e_type ET_REL e)))
+    (λ e. c.if-kind-eq-ET_REL.false (c.kind.ensures ∙ eqb-true c.args.file.now.table.e_type ET_REL e)))
     c.in-Ok.ensures
 
 pub returns-in-Err : goal.returns-in-Err

@@ -15,7 +15,7 @@ pub returns-in-Err-clause-only : goal.returns-in-Err-clause-only
 returns-in-Err-clause-only c = λ r is.
     debug-unique
     (debug_whole c.args.bytes.now (whole c.args.bytes.now) None refl
-      (debug_fault (whole c.args.bytes.now) c.in-Err.field-0 c.in-Err.ensures)) is
+    (debug_fault (whole c.args.bytes.now) c.in-Err.field-0 c.in-Err.ensures)) is
 
 pub unreachable-requires : goal.unreachable-requires
 unreachable-requires c =
