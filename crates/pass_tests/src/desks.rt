@@ -3,17 +3,16 @@
 ghost use Rattle.std.specs.Prelude.{◌≡◌, None};
 ghost use Rattle.index_desk.specs.Holds.{LogGoesOn};
 
-use crate::rig::{
-    Index, Lock, Shared, Token, Version, begin, empty_index, listed, passing, put_behind, rows_of,
-    version_name, version_tree,
-};
+use crate::rig::{Version, listed, version_name, version_tree};
 use elf_reading::ElfReader;
 use index_desk::{Desk, act_once, look_once};
 use index_keeper::MemKeeper;
-use index_lock::TurnLock;
 use index_state::{Begun, Judged, Plan, Published};
 use row_types::TrueRow;
-use sample_rows::{name_text, paths};
+use sample_index::{
+    Index, Lock, Shared, Token, Unspared, begin, empty_shared, passing, put_behind,
+};
+use sample_rows::{name_text, paths, rows_text};
 use scan_queue::{Cause, Listing, Seen};
 use scan_worker::{NameRead, read_name};
 use std::alloc::Global;
@@ -37,17 +36,18 @@ fn row(rt: &impl Abort, alloc: Global) -> TrueRow<TwoWorld> {
 /// The index without rows, in a pass that lists `x`, behind a lock.
 fn reading(rt: &impl Abort, alloc: Global) -> Shared<TwoWorld> {
     let names = listed(rt, alloc, Some(Version::First));
-    put_behind(rt, alloc, passing(rt, alloc, None, names, "/w"))
+    let index = passing(alloc, None, names, "/w").expect(rt, "a pass begins");
+    put_behind(alloc, index).expect(rt, "memory")
 }
 
 /// The index with the row of `x`, in a pass that lists nothing, behind a lock.
 fn grooming(rt: &impl Abort, alloc: Global) -> Shared<TwoWorld> {
     let names = listed(rt, alloc, Some(Version::First));
-    let mut index = passing(rt, alloc, None, names, "/w");
+    let mut index = passing(alloc, None, names, "/w").expect(rt, "a pass begins");
     let said = index.publish(alloc, row(rt, alloc));
     assert!(rt; said == Published::Added, "a row is added");
-    begin(rt, alloc, &mut index, Vec::new(alloc), "/w");
-    put_behind(rt, alloc, index)
+    begin(alloc, &mut index, Vec::new(alloc), "/w").expect(rt, "a pass begins");
+    put_behind(alloc, index).expect(rt, "memory")
 }
 
 /// Takes the next name, as a text.
@@ -72,7 +72,7 @@ fn rows<R: Abort + Wait>(
         rt,
         lock,
         seat,
-        |index: &Index<TwoWorld>| rows_of(rt, alloc, index),
+        |index: &Index<TwoWorld>| rows_text(alloc, index.rows()).expect(rt, "memory"),
     );
     text
 }
@@ -123,30 +123,6 @@ fn a_row_is_looked_for_and_judged(rt: HostRuntime) {
     assert!(rt; rows(&rt, alloc, lock, seat).as_str() == "");
 }
 
-/// An index behind a lock, of which no name was spared.
-#[derive(Drop)]
-struct Unspared {
-    lock: Lock<TwoWorld>,
-    seat: Token<TwoWorld>,
-    ghost of_lock: { seat.lock ≡ lock },
-    ghost spared: { seat.origin.sparing ≡ None },
-}
-
-/// The index without rows, in a pass over nothing, behind a lock.
-fn without_rows(rt: &impl Abort, alloc: Global) -> Unspared {
-    let mut index: Index<TwoWorld> = empty_index(rt, alloc, None);
-    let Ok(none) = Listing::new(Vec::new(alloc)) else {
-        panic!(rt; "no name is by path")
-    };
-    let Begun::Begun(_) = index.begin(alloc, none, Vec::new(alloc)) else {
-        panic!(rt; "a pass begins")
-    };
-    let Ok((lock, seat)) = TurnLock::make(alloc, index) else {
-        panic!(rt; "there is memory for the lock")
-    };
-    Unspared { lock, seat }
-}
-
 /// Begins a pass over `x`.
 fn begin_over<'a, R: Abort + Wait>(rt: &R, alloc: Global, desk: TwoDesk<'a>) -> (TwoDesk<'a>, Begun)
     requires { desk.seat.origin.sparing ≡ None }
@@ -161,7 +137,7 @@ fn begin_over<'a, R: Abort + Wait>(rt: &R, alloc: Global, desk: TwoDesk<'a>) -> 
 #[test]
 fn a_pass_begins(rt: HostRuntime) {
     let alloc = rt.alloc();
-    let Unspared { lock, seat } = without_rows(&rt, alloc);
+    let Unspared { lock, seat } = empty_shared(alloc, None).expect(&rt, "an index");
     let (desk, begun) = begin_over(&rt, alloc, Desk { lock: &lock, seat });
     let plan = Plan {
         files: 1,

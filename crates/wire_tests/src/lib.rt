@@ -9,8 +9,6 @@ mod connections;
 #[cfg(test)]
 mod counters;
 #[cfg(test)]
-mod indexes;
-#[cfg(test)]
 mod routes;
 #[cfg(test)]
 mod wire;

@@ -1,8 +1,9 @@
 //! Tables of calls of an index, each with its answer.
 
-use crate::states::helpers::{Index, begin, ended, opened, store_stopping_at, taken_text};
+use crate::states::helpers::{begin, ended, taken_text};
 use index_state::{GroomTask, Standing};
 use row_types::{Name, OpenWorld};
+use sample_index::{Index, empty_store, opened};
 use sample_rows::{name, name_text, plain, stamp};
 use scan_queue::{Cause, Miss, Seen};
 use std::alloc::Global;
@@ -171,8 +172,8 @@ fn answer_to(rt: &impl Abort, alloc: Global, index: &mut Index<OpenWorld>, call:
 /// Runs the case on a new store, and compares each answer, and the rows and how the index stands at
 /// the end.
 pub fn run_case(rt: &impl Abort, alloc: Global, case: &Case) {
-    let mut store = store_stopping_at(alloc, case.stop_at);
-    let mut index = opened(rt, alloc, &mut store);
+    let mut store = empty_store(alloc, case.stop_at);
+    let mut index = opened(alloc, &mut store).ok().expect(rt, "an index opens");
     for (call, want) in case.calls {
         let answer = answer_to(rt, alloc, &mut index, *call);
         assert!(rt; answer.as_str() == *want, "{}: {answer}", case.shows);

@@ -1,14 +1,13 @@
 //! Lists of events, most of them in the told world of one path with two versions.
 
 use crate::states::calls::task_text;
-use crate::states::helpers::{
-    Index, NOTHING, ended, found_rows, listing, opened, store_stopping_at,
-};
+use crate::states::helpers::{NOTHING, ended, found_rows, listing};
 use crate::states::told::{Step, Version, events_of, scan};
 use index_events::{Event, EventAnswer, EventsEnd, run_events};
 use index_keeper::MemStore;
 use index_state::{OpenFault, Standing};
 use row_types::{BuildId, CanonPath, Kind, OpenWorld, TrueRow, Truth};
+use sample_index::{Index, empty_store, opened};
 use sample_rows::{elf, name_text, paths, row};
 use std::alloc::Global;
 use std::process::Abort;
@@ -113,8 +112,8 @@ const ONE_ROW: Standing = Standing {
 #[test]
 fn each_event_is_answered(rt: HostRuntime) {
     let alloc = rt.alloc();
-    let mut store = store_stopping_at(alloc, None);
-    let index = opened(&rt, alloc, &mut store);
+    let mut store = empty_store(alloc, None);
+    let index = opened(alloc, &mut store).ok().expect(&rt, "an index opens");
     let events = events_of(&rt, alloc, EACH_EVENT.as_slice());
     let (rows, standing) = run(
         &rt,
@@ -146,7 +145,7 @@ static FORGOTTEN: [&str; 4] = [
 
 /// An index with the first version's row.
 fn with_first(rt: &impl Abort, alloc: Global, store: &mut MemStore<TwoWorld>) -> Index<TwoWorld> {
-    let mut index = opened(rt, alloc, store);
+    let mut index = opened(alloc, store).ok().expect(rt, "an index opens");
     let _scanned = scan(rt, alloc, &mut index, Version::First);
     index
 }
@@ -154,7 +153,7 @@ fn with_first(rt: &impl Abort, alloc: Global, store: &mut MemStore<TwoWorld>) ->
 #[test]
 fn a_reopening_forgets_the_pass(rt: HostRuntime) {
     let alloc = rt.alloc();
-    let mut store = store_stopping_at(alloc, None);
+    let mut store = empty_store(alloc, None);
     let index = with_first(&rt, alloc, &mut store);
     let events = events_of(&rt, alloc, REOPENED.as_slice());
     let (_, standing) = run(&rt, alloc, &mut store, index, events, FORGOTTEN.as_slice());
@@ -189,8 +188,8 @@ static FOUND: [&str; 4] = [
 #[test]
 fn a_look_up_finds_the_paths_of_an_id(rt: HostRuntime) {
     let alloc = rt.alloc();
-    let mut store = store_stopping_at::<OpenWorld>(alloc, None);
-    let index = opened(&rt, alloc, &mut store);
+    let mut store = empty_store::<OpenWorld>(alloc, None);
+    let index = opened(alloc, &mut store).ok().expect(&rt, "an index opens");
     let events = publishes_and_looks(&rt, alloc);
     let _came = run(&rt, alloc, &mut store, index, events, FOUND.as_slice());
 }
@@ -216,7 +215,7 @@ fn refused(
 fn a_reopening_that_is_refused_ends_the_events(rt: HostRuntime) {
     let alloc = rt.alloc();
     for stop_at in [3, 4] {
-        let mut store = store_stopping_at(alloc, Some(stop_at));
+        let mut store = empty_store(alloc, Some(stop_at));
         let index = with_first(&rt, alloc, &mut store);
         let (done, keeper_failed) = refused(&rt, alloc, &mut store, index);
         assert!(rt; done == 1 && keeper_failed, "{stop_at}");

@@ -1,15 +1,13 @@
 //! What the tests share: stores, listings, and what an index is to answer.
 
-use index_keeper::{MemKeeper, MemStore, Store, StoreAnswer};
-use index_state::{Begun, OpenFault, Plan, Standing, State, open_state};
+use index_keeper::{MemStore, Store};
+use index_state::{Begun, Plan, Standing};
 use row_types::{Name, OpenWorld, Truth};
+use sample_index::{Index, opened};
 use sample_rows::{name_text, names, paths, rows_text};
 use scan_queue::Listing;
 use std::alloc::Global;
 use std::process::Abort;
-
-/// An index on a store in memory.
-pub type Index<W> = State<W, MemKeeper<W>>;
 
 /// The listing of files of these paths and sizes.
 pub fn listing(rt: &impl Abort, alloc: Global, files: &[(&str, u64)]) -> Listing {
@@ -21,39 +19,6 @@ pub fn listing(rt: &impl Abort, alloc: Global, files: &[(&str, u64)]) -> Listing
 pub fn listing_of(rt: &impl Abort, alloc: Global, name: Name) -> Listing {
     let names = vec![in alloc; name].expect(rt, "memory");
     Listing::new(names).ok().expect(rt, "one name is by path")
-}
-
-/// A store without rows, which stops at this call.
-pub fn store_stopping_at<W: Truth>(alloc: Global, number: Option<u64>) -> MemStore<W> {
-    MemStore::new(alloc, Vec::new(alloc), number, Vec::new(alloc))
-}
-
-/// What comes of opening an index on the store; the keeper is given back where it is refused.
-pub fn open<W: Truth + Send>(
-    rt: &impl Abort,
-    alloc: Global,
-    store: &mut MemStore<W>,
-) -> Result<Index<W>, OpenFault> {
-    let StoreAnswer::Opened(keeper) = store.open_store(alloc, "m") else {
-        panic!(rt; "the store opens")
-    };
-    match open_state(alloc, keeper) {
-        Ok(index) => Ok(index),
-        Err((fault, keeper)) => {
-            store.give_back(keeper);
-            Err(fault)
-        }
-    }
-}
-
-/// The index on the store, which opens with it.
-pub fn opened<W: Truth + Send>(
-    rt: &impl Abort,
-    alloc: Global,
-    store: &mut MemStore<W>,
-) -> Index<W> {
-    let index = open(rt, alloc, store).ok();
-    index.expect(rt, "the store opens with its index")
 }
 
 /// The rows of the index, and how it stands. Its keeper is given back.
@@ -75,7 +40,7 @@ pub fn found_rows<W: Truth + Send>(
     alloc: Global,
     store: &mut MemStore<W>,
 ) -> String {
-    let index = opened(rt, alloc, store);
+    let index = opened(alloc, store).ok().expect(rt, "an index opens");
     ended(rt, alloc, store, index).0
 }
 

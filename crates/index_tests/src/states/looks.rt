@@ -1,10 +1,11 @@
 //! Look-ups in an index of four files of two ids, and its log, which a lock counts.
 
-use crate::states::helpers::{Index, NO_PLAN, begin, opened, store_stopping_at};
+use crate::states::helpers::{NO_PLAN, begin};
 use index_keeper::Store;
 use index_lock::Logged;
 use index_state::{Begun, Plan, Published, show_index};
 use row_types::{BuildId, Kind, OpenWorld};
+use sample_index::{Index, empty_store, opened};
 use sample_rows::{elf, path, plain, row, rows_text};
 use std::alloc::Global;
 use std::process::Abort;
@@ -69,8 +70,8 @@ fn look_by_path(rt: &impl Abort, alloc: Global, index: &Index<OpenWorld>, id: &B
 fn rows_are_looked_up_by_id_kind_path_and_source(rt: HostRuntime) {
     let alloc = rt.alloc();
     let id = BuildId::new(b"ab").expect(&rt, "two bytes are an id");
-    let mut store = store_stopping_at(alloc, None);
-    let mut index = opened(&rt, alloc, &mut store);
+    let mut store = empty_store(alloc, None);
+    let mut index = opened(alloc, &mut store).ok().expect(&rt, "an index opens");
     begin_all(&rt, alloc, &mut index);
     publish_all(&rt, alloc, &mut index);
     look_by_id(&rt, alloc, &index, &id);
@@ -86,8 +87,8 @@ fn publish(rt: &impl Abort, alloc: Global, index: &mut Index<OpenWorld>, text: &
 #[test]
 fn the_log_has_a_change_for_each_row(rt: HostRuntime) {
     let alloc = rt.alloc();
-    let mut store = store_stopping_at(alloc, None);
-    let mut index = opened(&rt, alloc, &mut store);
+    let mut store = empty_store(alloc, None);
+    let mut index = opened(alloc, &mut store).ok().expect(&rt, "an index opens");
     let _begun = begin(&rt, alloc, &mut index, "/", &[("/a", 1), ("/b", 2)]);
     publish(&rt, alloc, &mut index, "/a", 1);
     index.spare();

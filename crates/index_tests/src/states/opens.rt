@@ -1,10 +1,11 @@
 //! Openings of stores that hold rows.
 
-use crate::states::helpers::{NOTHING, begin, ended, open, opened};
+use crate::states::helpers::{NOTHING, begin, ended};
 use index_keeper::{Keeper, Kept, KeptAnswer, MemStore, Store, StoreAnswer};
 use index_state::{Begun, OpenFault, Plan, Published, Standing};
 use row_codec::CodecFault;
 use row_types::OpenWorld;
+use sample_index::opened;
 use sample_rows::plain;
 use std::alloc::Global;
 use std::process::Abort;
@@ -83,7 +84,7 @@ fn kept_paths(rt: &impl Abort, alloc: Global, store: &mut MemStore<OpenWorld>) -
 
 /// Opens the index, and compares its rows and how it stands.
 fn opens_with_two(rt: &impl Abort, alloc: Global, store: &mut MemStore<OpenWorld>) {
-    let index = opened(rt, alloc, store);
+    let index = opened(alloc, store).ok().expect(rt, "an index opens");
     let (rows, standing) = ended(rt, alloc, store, index);
     assert!(rt; rows.as_str() == "/a 0, /c 0, ");
     let two = Standing {
@@ -109,7 +110,7 @@ fn an_opening_that_a_removal_ended_is_mended_by_the_next(rt: HostRuntime) {
     let alloc = rt.alloc();
     for stop_at in [1, 2] {
         let mut store = store_of(&rt, alloc, [1, 255, 1], Some(stop_at));
-        let refusal = open(&rt, alloc, &mut store).err();
+        let refusal = opened(alloc, &mut store).err();
         assert!(rt;
             matches!(refusal, Some(OpenFault::KeeperFault)),
             "{stop_at}"
@@ -125,7 +126,7 @@ fn bad_row(
     alloc: Global,
     store: &mut MemStore<OpenWorld>,
 ) -> (Kept, Option<CodecFault>) {
-    match open(rt, alloc, store) {
+    match opened(alloc, store) {
         Err(OpenFault::BadRow { kept, fault }) => (kept, fault),
         _ => panic!(rt; "the value of /b is no row"),
     }
@@ -157,7 +158,7 @@ fn the_first_value_that_is_no_row_is_found(rt: HostRuntime) {
 fn an_index_goes_on_from_the_rows_that_it_found(rt: HostRuntime) {
     let alloc = rt.alloc();
     let mut store = store_of(&rt, alloc, [1, 1, 1], None);
-    let mut index = opened(&rt, alloc, &mut store);
+    let mut index = opened(alloc, &mut store).ok().expect(&rt, "an index opens");
     let begun = begin(&rt, alloc, &mut index, "/", &[("/a", 0), ("/b", 7)]);
     let plan = Plan {
         files: 2,

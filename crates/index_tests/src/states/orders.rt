@@ -1,11 +1,10 @@
 //! The rows have the first of two versions of a file, and the second is listed. It is published,
 //! and the first is judged by what stands there, in both orders.
 
-use crate::states::helpers::{
-    Index, NO_PLAN, NOTHING, ended, opened, store_stopping_at, taken_text,
-};
+use crate::states::helpers::{NO_PLAN, NOTHING, ended, taken_text};
 use crate::states::told::{Version, begin_over, name_of, row_of, scan, stamp_of};
 use index_state::{Begun, GroomTask, Judged, Plan, Published, Standing};
+use sample_index::{Index, empty_store, opened};
 use scan_queue::Seen;
 use std::alloc::Global;
 use std::process::Abort;
@@ -87,8 +86,8 @@ fn answers_in_order(
 
 /// The pass in this order, which ends with the second version's row. No name is left.
 fn pass_in_order(rt: &impl Abort, alloc: Global, order: &Order) {
-    let mut store = store_stopping_at(alloc, None);
-    let mut index = opened(rt, alloc, &mut store);
+    let mut store = empty_store(alloc, None);
+    let mut index = opened(alloc, &mut store).ok().expect(rt, "an index opens");
     have_both_out(rt, alloc, &mut index);
     let answers = answers_in_order(rt, alloc, &mut index, order);
     assert!(rt;

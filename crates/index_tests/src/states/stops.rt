@@ -1,9 +1,10 @@
 //! A store that stops at one of its calls, and is opened again.
 
-use crate::states::helpers::{Index, begin, found_rows, store_stopping_at};
+use crate::states::helpers::{begin, found_rows};
 use index_keeper::{MemStore, Store, StoreAnswer};
 use index_state::{OpenFault, open_state};
 use row_types::OpenWorld;
+use sample_index::{Index, empty_store};
 use sample_rows::{name, plain};
 use scan_queue::Seen;
 use std::alloc::Global;
@@ -87,7 +88,7 @@ fn pass_twice(rt: &impl Abort, alloc: Global, store: &mut MemStore<OpenWorld>, w
 fn a_stop_at_any_call_leaves_the_rows_before_it_or_after_it(rt: HostRuntime) {
     for stop in STOPS {
         let (call, what) = stop.call;
-        let mut store = store_stopping_at(rt.alloc(), Some(call));
+        let mut store = empty_store(rt.alloc(), Some(call));
         pass_twice(&rt, rt.alloc(), &mut store, what);
         let rows = found_rows(&rt, rt.alloc(), &mut store);
         assert!(rt; rows.as_str() == stop.rows, "{what}: {rows}");

@@ -3,12 +3,11 @@
 ghost use Rattle.std.specs.Prelude.{◌≡◌, ◌⊎◌};
 ghost use Rattle.tree_trait.specs.TwoWorld.{first_stamp, path as only_path, second_stamp};
 
-use crate::states::helpers::{
-    Index, NO_PLAN, NOTHING, ended, found_rows, listing_of, opened, store_stopping_at, taken_text,
-};
+use crate::states::helpers::{NO_PLAN, NOTHING, ended, found_rows, listing_of, taken_text};
 use index_events::Event;
 use index_state::{Begun, Plan, Published, Standing};
 use row_types::{BuildId, CanonPath, EDITION, Kind, Name, Reading, Row, Stamp, TrueRow, Why};
+use sample_index::{Index, empty_store, opened};
 use sample_rows::{path, paths, rows_text};
 use scan_queue::{Cause, Listing, Seen};
 use std::alloc::Global;
@@ -209,8 +208,8 @@ fn scan_both(rt: &impl Abort, alloc: Global, index: &mut Index<TwoWorld>) {
 #[test]
 fn a_second_version_replaces_the_first(rt: HostRuntime) {
     let alloc = rt.alloc();
-    let mut store = store_stopping_at(alloc, None);
-    let mut index = opened(&rt, alloc, &mut store);
+    let mut store = empty_store(alloc, None);
+    let mut index = opened(alloc, &mut store).ok().expect(&rt, "an index opens");
     scan_both(&rt, alloc, &mut index);
     let (_, standing) = ended(&rt, alloc, &mut store, index);
     let left = Standing {

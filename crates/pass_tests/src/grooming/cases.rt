@@ -1,10 +1,11 @@
 //! What becomes of one row, case by case.
 
 use crate::grooming::helpers::{index_of, outcome_of_one};
-use crate::rig::{Index, begin, file, still_tree};
+use crate::rig::{file, still_tree};
 use index_desk::WorkEnd;
 use index_state::Published;
 use row_types::OpenWorld;
+use sample_index::{Index, begin};
 use sample_rows::{names, plain};
 use std::alloc::Global;
 use std::process::Abort;
@@ -173,7 +174,7 @@ fn publish_other(rt: &impl Abort, alloc: Global, index: &mut Index<OpenWorld>) {
 fn begun(rt: &impl Abort, alloc: Global, case: &Case) -> Index<OpenWorld> {
     let mut index = index_of(rt, alloc, case.stop_at, &[("/srv/x", 1)]);
     let listed = names(alloc, &[("/srv/run.sh", 10)]).expect(rt, "names");
-    begin(rt, alloc, &mut index, listed, case.root);
+    begin(alloc, &mut index, listed, case.root).expect(rt, "a pass begins");
     if case.publishes {
         publish_other(rt, alloc, &mut index);
     }

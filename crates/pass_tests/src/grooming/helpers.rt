@@ -1,10 +1,10 @@
 //! What the tests share: indexes with rows, the work of one groomer, and what it comes to.
 
-use crate::rig::{Index, Outcome, Shared, begin, empty_index, outcome_of, put_behind, taken};
 use groomer::{GroomReport, groom};
 use index_desk::WorkEnd;
 use index_state::Published;
 use row_types::{OpenWorld, TrueRow, Truth};
+use sample_index::{Index, Outcome, Shared, begin, empty_index, outcome_of, put_behind, taken};
 use sample_rows::{names, plain};
 use std::alloc::Global;
 use std::process::Abort;
@@ -38,9 +38,9 @@ pub fn index_of(
     stop_at: Option<u64>,
     files: &[(&str, u64)],
 ) -> Index<OpenWorld> {
-    let mut index = empty_index(rt, alloc, stop_at);
+    let mut index = empty_index(alloc, stop_at).expect(rt, "an index");
     let listed = names(alloc, files).expect(rt, "names");
-    begin(rt, alloc, &mut index, listed, "/");
+    begin(alloc, &mut index, listed, "/").expect(rt, "a pass begins");
     for (path, size) in files {
         let row = plain(alloc, path, *size).expect(rt, "a row");
         publish(rt, alloc, &mut index, row);
@@ -55,7 +55,7 @@ pub fn groomed<W: Truth + Send, R: Abort + Wait + Sync>(
     index: Index<W>,
     hand: MemTree<W>,
 ) -> (Index<W>, MemTree<W>, GroomReport) {
-    let Shared { lock, seat } = put_behind(rt, alloc, index);
+    let Shared { lock, seat } = put_behind(alloc, index).expect(rt, "memory");
     let (seat, hand, report) = groom(rt, alloc, &lock, seat, hand, &NoGate);
     (taken(rt, Shared { lock, seat }), hand, report)
 }
@@ -68,5 +68,5 @@ pub fn outcome_of_one<W: Truth + Send, R: Abort + Wait + Sync>(
     hand: MemTree<W>,
 ) -> Outcome<GroomReport> {
     let (index, _, report) = groomed(rt, alloc, index, hand);
-    outcome_of(rt, alloc, index, report)
+    outcome_of(alloc, index, report).expect(rt, "memory")
 }

@@ -4,13 +4,13 @@ ghost use Rattle.std.specs.Prelude.{◌≡◌};
 ghost use Rattle.std.specs.Thread.{IsSync};
 
 use crate::grooming::helpers::{index_of, outcome_of_one, report};
-use crate::rig::{
-    Index, Lock, Outcome, Shared, Token, begin, cut, file, outcome_of, put_behind, still_tree,
-    taken,
-};
+use crate::rig::{file, still_tree};
 use groomer::{GroomReport, groom};
 use index_desk::WorkEnd;
 use row_types::OpenWorld;
+use sample_index::{
+    Index, Lock, Outcome, Shared, Token, begin, cut, outcome_of, put_behind, taken,
+};
 use std::alloc::Global;
 use std::process::Abort;
 use std::sync::Wait;
@@ -29,7 +29,7 @@ static FILES: [(&str, u64); 5] = [
 /// The index with their rows, in a pass over `/srv` that lists nothing.
 fn index(rt: &impl Abort, alloc: Global) -> Index<OpenWorld> {
     let mut index = index_of(rt, alloc, None, &FILES);
-    begin(rt, alloc, &mut index, Vec::new(alloc), "/srv");
+    begin(alloc, &mut index, Vec::new(alloc), "/srv").expect(rt, "a pass begins");
     index
 }
 
@@ -88,12 +88,12 @@ fn outcome_of_two<R: Abort + Threads + Wait + Sync>(
     rt: &R,
     alloc: Global,
 ) -> Outcome<(GroomReport, GroomReport)> {
-    let Shared { lock, seat } = put_behind(rt, alloc, index(rt, alloc));
-    let tokens = cut(rt, &lock, seat);
+    let Shared { lock, seat } = put_behind(alloc, index(rt, alloc)).expect(rt, "memory");
+    let tokens = cut(&lock, seat).expect(rt, "memory");
     let one = tree(rt, alloc, &[]);
     let other = tree(rt, alloc, &[]);
     let (seat, reports) = groom_by_two(rt, alloc, &lock, tokens, one, other);
-    outcome_of(rt, alloc, taken(rt, Shared { lock, seat }), reports)
+    outcome_of(alloc, taken(rt, Shared { lock, seat }), reports).expect(rt, "memory")
 }
 
 #[test]

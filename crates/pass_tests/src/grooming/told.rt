@@ -1,10 +1,11 @@
 //! Grooming in a told world, by a hand that tells what it has.
 
 use crate::grooming::helpers::{groomed, outcome_of_one, publish, report};
-use crate::rig::{Index, Outcome, Version, begin, changing_tree, listed, passing, version_name};
+use crate::rig::{Version, changing_tree, listed, version_name};
 use elf_reading::ElfReader;
 use groomer::GroomReport;
 use row_types::TrueRow;
+use sample_index::{Index, Outcome, begin, passing};
 use scan_worker::{NameRead, read_name};
 use std::alloc::Global;
 use std::process::Abort;
@@ -30,9 +31,9 @@ fn row(rt: &impl Abort, alloc: Global) -> TrueRow<TwoWorld> {
 /// The index with the row of `x`, in a pass that lists nothing.
 fn index(rt: &impl Abort, alloc: Global) -> Index<TwoWorld> {
     let names = listed(rt, alloc, Some(Version::First));
-    let mut index = passing(rt, alloc, None, names, "/w");
+    let mut index = passing(alloc, None, names, "/w").expect(rt, "a pass begins");
     publish(rt, alloc, &mut index, row(rt, alloc));
-    begin(rt, alloc, &mut index, Vec::new(alloc), "/w");
+    begin(alloc, &mut index, Vec::new(alloc), "/w").expect(rt, "a pass begins");
     index
 }
 

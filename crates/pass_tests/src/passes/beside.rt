@@ -1,7 +1,8 @@
 //! Passes with which other hands help, in threads of their own.
 
 use crate::passes::passes::{Holds, Pass, run_hands, run_passes};
-use crate::rig::{FOLDERS, Files, empty_index, sample_tree};
+use crate::rig::{FOLDERS, Files, sample_tree};
+use sample_index::empty_index;
 use sample_world::SampleWorld;
 use std::alloc::Global;
 use std::process::Abort;
@@ -176,7 +177,7 @@ fn first_pass<G: Gate, Rt: Abort + Threads + Wait + Sync>(
     hands: Vec<MemTree<SampleWorld>>,
     gate: &G,
 ) -> (String, u64) {
-    let index = empty_index(rt, alloc, stop_at);
+    let index = empty_index(alloc, stop_at).expect(rt, "an index");
     let (index, end) = run_hands(rt, alloc, index, hands, &FOLDERS, gate);
     (end, index.standing().rows)
 }

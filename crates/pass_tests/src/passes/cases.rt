@@ -1,9 +1,11 @@
 //! What the settling of a pass comes to, case by case.
 
-use crate::rig::{Index, Version, begin, empty_index, listed, rows_of, version_tree};
+use crate::rig::{Version, listed, version_tree};
 use elf_reading::ElfReader;
 use index_desk::WorkEnd;
 use pass_runner::settle;
+use sample_index::{Index, begin, empty_index};
+use sample_rows::rows_text;
 use scan_queue::{Cause, Miss, Seen};
 use std::alloc::Global;
 use std::process::Abort;
@@ -207,7 +209,7 @@ fn settled(
     version: Option<Version>,
     hand: MemTree<TwoWorld>,
 ) -> (Index<TwoWorld>, WorkEnd) {
-    begin(rt, alloc, &mut index, listed(rt, alloc, version), root);
+    begin(alloc, &mut index, listed(rt, alloc, version), root).expect(rt, "a pass begins");
     let (index, _, end) = settle(alloc, index, hand, &ElfReader);
     (index, end)
 }
@@ -219,7 +221,7 @@ fn begun(
     stop_at: Option<u64>,
     stood: Option<Version>,
 ) -> Index<TwoWorld> {
-    let index = empty_index(rt, alloc, stop_at);
+    let index = empty_index(alloc, stop_at).expect(rt, "an index");
     if stood.is_none() {
         return index;
     }
@@ -232,7 +234,7 @@ fn run_case(rt: &impl Abort, alloc: Global, case: &Case) {
     let index = begun(rt, alloc, case.stop_at, case.stood);
     let hand = version_tree(rt, alloc, case.there, case.fails);
     let (index, end) = settled(rt, alloc, index, case.root, case.listed, hand);
-    let rows = rows_of(rt, alloc, &index);
+    let rows = rows_text(alloc, index.rows()).expect(rt, "memory");
     assert!(rt; end == case.end, "{}", case.shows);
     assert!(rt; rows.as_str() == case.rows, "{}", case.shows);
     assert!(rt;

@@ -1,7 +1,7 @@
 //! The ends of passes, in words.
 
-use crate::rig::missed_text;
 use pass_runner::{PassEnd, Summary};
+use sample_index::missed_text;
 use scan_queue::Miss;
 use std::alloc::Global;
 use std::process::Abort;
@@ -43,7 +43,7 @@ fn summary_text(rt: &impl Abort, alloc: Global, numbers: &Summary) -> String {
 
 /// The name that was missed, and why, in words.
 fn miss_text(rt: &impl Abort, alloc: Global, miss: &Miss) -> String {
-    let name = missed_text(rt, alloc, miss);
+    let name = missed_text(alloc, miss).expect(rt, "memory");
     format!(in alloc; "missed {name}").expect(rt, "memory")
 }
 

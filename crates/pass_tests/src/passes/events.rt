@@ -1,10 +1,11 @@
 //! A list of events with each of them, in the told world with ELF files.
 
-use crate::rig::{Files, empty_store, name_of, names_of, opened, rows_of, sample_tree};
+use crate::rig::{Files, sample_tree};
 use elf_reading::ElfReader;
 use index_events::{Event, EventAnswer, EventsEnd, run_events};
 use row_types::{BuildId, CanonPath, Kind, Name, Stamp};
-use sample_rows::{name_text, paths};
+use sample_index::{empty_store, name_of, names_of, opened};
+use sample_rows::{name_text, paths, rows_text};
 use sample_world::{Sample, SampleWorld};
 use scan_queue::{Cause, Listing, Seen};
 use scan_worker::{NameRead, read_name};
@@ -31,22 +32,22 @@ fn seen(size: u64, secs: i64) -> Seen {
 
 /// `/srv/a` before it changed.
 fn before(rt: &impl Abort, alloc: Global) -> Name {
-    name_of(rt, alloc, Sample::Before)
+    name_of(alloc, Sample::Before).expect(rt, "a name")
 }
 
 /// `/srv/a` after it changed.
 fn after(rt: &impl Abort, alloc: Global) -> Name {
-    name_of(rt, alloc, Sample::After)
+    name_of(alloc, Sample::After).expect(rt, "a name")
 }
 
 /// `/srv/bin/tool`.
 fn tool(rt: &impl Abort, alloc: Global) -> Name {
-    name_of(rt, alloc, Sample::Tool)
+    name_of(alloc, Sample::Tool).expect(rt, "a name")
 }
 
 /// A pass over these samples under `/srv` begins.
 fn begin(rt: &impl Abort, alloc: Global, samples: &[Sample]) -> Happening {
-    let Ok(listing) = Listing::new(names_of(rt, alloc, samples)) else {
+    let Ok(listing) = Listing::new(names_of(alloc, samples).expect(rt, "names")) else {
         panic!(rt; "the paths ascend")
     };
     Event::Begin(listing, paths(alloc, &["/srv"]).expect(rt, "a path"))
@@ -54,7 +55,7 @@ fn begin(rt: &impl Abort, alloc: Global, samples: &[Sample]) -> Happening {
 
 /// The row of the sample, as it is read of these files, is published.
 fn publish(rt: &impl Abort, alloc: Global, files: Files, sample: Sample) -> Happening {
-    let name = name_of(rt, alloc, sample);
+    let name = name_of(alloc, sample).expect(rt, "a name");
     let mut hand = sample_tree(rt, alloc, files, None, &[]);
     match read_name(alloc, &mut hand, &ElfReader, &name) {
         NameRead::Row(row) => Event::Publish(row),
@@ -173,9 +174,12 @@ fn happen(rt: &impl Abort, alloc: Global) -> (Vec<EventAnswer>, String) {
     first_pass(rt, alloc, &mut events);
     second_pass(rt, alloc, &mut events);
     let mut store = empty_store(alloc, None);
-    let index = opened(rt, alloc, &mut store);
+    let index = opened(alloc, &mut store).ok().expect(rt, "an index opens");
     match run_events(alloc, index, &mut store, "m", events) {
-        EventsEnd::All { state, answers } => (answers, rows_of(rt, alloc, &state)),
+        EventsEnd::All { state, answers } => {
+            let rows = rows_text(alloc, state.rows());
+            (answers, rows.expect(rt, "memory"))
+        }
         EventsEnd::Stopped { .. } => panic!(rt; "memory suffices"),
         EventsEnd::Unopened { .. } => panic!(rt; "the store opens with its index"),
     }

@@ -1,10 +1,11 @@
 //! Passes over one index, one after the other.
 
 use crate::passes::ends::end_text;
-use crate::rig::{Files, Index, empty_index, rows_of, sample_tree};
+use crate::rig::{Files, sample_tree};
 use elf_reading::ElfReader;
 use pass_runner::scan_state;
-use sample_rows::paths;
+use sample_index::{Index, empty_index};
+use sample_rows::{paths, rows_text};
 use sample_world::SampleWorld;
 use std::alloc::Global;
 use std::process::Abort;
@@ -109,7 +110,7 @@ fn run_one<Rt: Abort + Threads + Wait + Sync>(
 ) -> Index<SampleWorld> {
     let hands = hands_of(rt, alloc, pass, others);
     let (index, end) = run_hands(rt, alloc, index, hands, pass.roots, &NoGate);
-    let rows = rows_of(rt, alloc, &index);
+    let rows = rows_text(alloc, index.rows()).expect(rt, "memory");
     compare(rt, alloc, pass, end.as_str(), rows.as_str());
     index
 }
@@ -122,7 +123,7 @@ pub fn run_passes<Rt: Abort + Threads + Wait + Sync>(
     passes: &[Pass],
     others: u64,
 ) {
-    let mut index = empty_index(rt, alloc, stop_at);
+    let mut index = empty_index(alloc, stop_at).expect(rt, "an index");
     for pass in passes {
         index = run_one(rt, alloc, index, pass, others);
     }

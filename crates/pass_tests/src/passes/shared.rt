@@ -7,44 +7,17 @@ use crate::passes::ends::end_text;
 use crate::passes::missed::MISSED;
 use crate::passes::passes::{Pass, compare, hands_of};
 use crate::passes::whole::WHOLE;
-use crate::rig::{FOLDERS, Index, Lock, Shared, Token, empty_index, rows_of, taken};
+use crate::rig::FOLDERS;
 use elf_reading::ElfReader;
-use index_lock::TurnLock;
-use index_state::Begun;
 use pass_runner::run_pass;
-use sample_rows::paths;
+use sample_index::{Lock, Shared, Token, Unspared, empty_shared, taken};
+use sample_rows::{paths, rows_text};
 use sample_world::SampleWorld;
-use scan_queue::Listing;
 use std::alloc::Global;
 use std::process::Abort;
 use std::sync::Wait;
 use std::thread::Threads;
 use tree_trait::{Gate, MemTree, NoGate};
-
-/// An index behind a lock, with a token that skips no name.
-#[derive(Drop)]
-pub struct Unspared {
-    pub lock: Lock<SampleWorld>,
-    pub seat: Token<SampleWorld>,
-    pub ghost of_lock: { seat.lock ≡ lock },
-    pub ghost spared: { seat.origin.sparing ≡ None },
-}
-
-/// The index without rows behind a lock, on a store that stops at this call. A pass over nothing is
-/// begun first, so that no name is skipped.
-pub fn empty_shared(rt: &impl Abort, alloc: Global, stop_at: Option<u64>) -> Unspared {
-    let mut index: Index<SampleWorld> = empty_index(rt, alloc, stop_at);
-    let Ok(none) = Listing::new(Vec::new(alloc)) else {
-        panic!(rt; "no name is by path")
-    };
-    let Begun::Begun(_) = index.begin(alloc, none, Vec::new(alloc)) else {
-        panic!(rt; "a pass begins")
-    };
-    let Ok((lock, seat)) = TurnLock::make(alloc, index) else {
-        panic!(rt; "there is memory for the lock")
-    };
-    Unspared { lock, seat }
-}
 
 /// Makes a pass with these hands by a token of the lock, and says how it ended.
 pub fn pass_by<G: Gate, Rt: Abort + Threads + Wait + Sync>(
@@ -82,21 +55,25 @@ pub fn pass_by<G: Gate, Rt: Abort + Threads + Wait + Sync>(
 pub fn pass<G: Gate, Rt: Abort + Threads + Wait + Sync>(
     rt: &Rt,
     alloc: Global,
-    index: Unspared,
+    index: Unspared<SampleWorld>,
     hands: Vec<MemTree<SampleWorld>>,
     roots: &[&str],
     gate: &G,
-) -> (Unspared, String) {
+) -> (Unspared<SampleWorld>, String) {
     let Unspared { lock, seat } = index;
     let (seat, end) = pass_by(rt, alloc, &lock, seat, hands, roots, gate);
     (Unspared { lock, seat }, end)
 }
 
 /// The rows, one after the other.
-pub fn held_rows<Rt: Abort + Wait>(rt: &Rt, alloc: Global, index: Unspared) -> (Unspared, String) {
+pub fn held_rows<Rt: Abort + Wait>(
+    rt: &Rt,
+    alloc: Global,
+    index: Unspared<SampleWorld>,
+) -> (Unspared<SampleWorld>, String) {
     let Unspared { lock, seat } = index;
     let held = lock.enter(rt, seat);
-    let text = rows_of(rt, alloc, held.value());
+    let text = rows_text(alloc, held.value().rows()).expect(rt, "memory");
     let seat = lock.leave(held);
     (Unspared { lock, seat }, text)
 }
@@ -105,10 +82,10 @@ pub fn held_rows<Rt: Abort + Wait>(rt: &Rt, alloc: Global, index: Unspared) -> (
 fn share_one<Rt: Abort + Threads + Wait + Sync>(
     rt: &Rt,
     alloc: Global,
-    index: Unspared,
+    index: Unspared<SampleWorld>,
     step: &Pass,
     others: u64,
-) -> Unspared {
+) -> Unspared<SampleWorld> {
     let hands = hands_of(rt, alloc, step, others);
     let (index, end) = pass(rt, alloc, index, hands, step.roots, &NoGate);
     let (index, rows) = held_rows(rt, alloc, index);
@@ -123,7 +100,7 @@ fn share_passes<Rt: Abort + Threads + Wait + Sync>(
     steps: &[Pass],
     others: u64,
 ) {
-    let mut index = empty_shared(rt, alloc, None);
+    let mut index = empty_shared(alloc, None).expect(rt, "an index");
     for step in steps {
         index = share_one(rt, alloc, index, step, others);
     }
@@ -160,7 +137,7 @@ fn two_passes<Rt: Abort + Threads + Wait + Sync>(
     stop_at: Option<u64>,
     hands: Vec<MemTree<SampleWorld>>,
 ) -> (String, String, u64) {
-    let index = empty_shared(rt, alloc, stop_at);
+    let index = empty_shared(alloc, stop_at).expect(rt, "an index");
     let (index, end) = pass(rt, alloc, index, hands, &FOLDERS, &NoGate);
     let (index, then) = pass(rt, alloc, index, many(rt, alloc, 1), &FOLDERS, &NoGate);
     let Unspared { lock, seat } = index;
@@ -228,7 +205,7 @@ fn a_first_hand_whose_walk_fails_leaves_the_index(rt: HostRuntime) {
 fn a_file_is_read_over_a_lock_while_another_is_held(rt: HostRuntime) {
     let alloc = rt.alloc();
     let gate = holding_gate(&rt, alloc);
-    let index = empty_shared(&rt, alloc, None);
+    let index = empty_shared(alloc, None).expect(&rt, "an index");
     let (_, end) = pass(&rt, alloc, index, many(&rt, alloc, 4), &FOLDERS, &gate);
     assert!(rt; end.as_str() == "12 12 0 0 0 4 4", "{end}");
     assert!(rt; gate.met());

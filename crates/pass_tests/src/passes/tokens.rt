@@ -3,8 +3,9 @@
 ghost use Rattle.std.specs.Prelude.{◌≡◌, []};
 
 use crate::passes::beside::many;
-use crate::passes::shared::{Unspared, empty_shared, held_rows, pass, pass_by};
-use crate::rig::{FOLDERS, ROWS, cut};
+use crate::passes::shared::{held_rows, pass, pass_by};
+use crate::rig::{FOLDERS, ROWS};
+use sample_index::{Unspared, cut, empty_shared};
 use std::thread::join;
 use tree_trait::NoGate;
 
@@ -17,8 +18,8 @@ fn is_whole_or_undone(end: &str) -> bool {
 #[test]
 fn two_tokens_pass_side_by_side(rt: HostRuntime) {
     let alloc = rt.alloc();
-    let Unspared { lock, seat } = empty_shared(&rt, alloc, None);
-    let (one, two) = cut(&rt, &lock, seat);
+    let Unspared { lock, seat } = empty_shared(alloc, None).expect(&rt, "an index");
+    let (one, two) = cut(&lock, seat).expect(&rt, "memory");
     let (four, three) = (many(&rt, alloc, 4), many(&rt, alloc, 3));
     let ((one, first), (two, second)) = join(
         &rt,
@@ -40,8 +41,8 @@ fn two_tokens_pass_side_by_side(rt: HostRuntime) {
 #[test]
 fn another_token_sees_what_a_pass_left(rt: HostRuntime) {
     let alloc = rt.alloc();
-    let Unspared { lock, seat } = empty_shared(&rt, alloc, None);
-    let (own, other) = cut(&rt, &lock, seat);
+    let Unspared { lock, seat } = empty_shared(alloc, None).expect(&rt, "an index");
+    let (own, other) = cut(&lock, seat).expect(&rt, "memory");
     let (_, end) = pass_by(
         &rt,
         alloc,

@@ -3,8 +3,6 @@
 ghost use Rattle.std.specs.Prelude.{IfOk, IsTrue};
 ghost use Rattle.tree_trait.specs.Script.{is_stage};
 
-use row_types::Name;
-use sample_rows::path;
 use sample_world::{REFERENCE_TREE, Sample, SampleWorld, files_of};
 use std::alloc::{AllocError, Global};
 use std::process::Abort;
@@ -91,22 +89,4 @@ pub fn sample_tree(
         bad_calls: Vec::from_slice(alloc, bad_calls).expect(rt, "memory"),
     };
     MemTree::new(alloc, script)
-}
-
-/// The name of a sample.
-pub fn name_of(rt: &impl Abort, alloc: Global, sample: Sample) -> Name {
-    let found = sample.found(alloc).expect(rt, "memory");
-    Name {
-        path: path(alloc, sample.path()).expect(rt, "a path"),
-        stamp: found.stamp,
-    }
-}
-
-/// The names of these samples.
-pub fn names_of(rt: &impl Abort, alloc: Global, samples: &[Sample]) -> Vec<Name> {
-    let mut names = Vec::new(alloc);
-    for sample in samples {
-        names.push(name_of(rt, alloc, *sample)).expect(rt, "memory");
-    }
-    names
 }

@@ -1,8 +1,9 @@
 //! What the work on one listed file comes to, case by case.
 
-use crate::rig::{Version, listed, passing, version_tree};
+use crate::rig::{Version, listed, version_tree};
 use crate::workers::helpers::outcome_of_one;
 use index_desk::WorkEnd;
+use sample_index::passing;
 use std::alloc::Global;
 use std::process::Abort;
 use std::sync::Wait;
@@ -114,7 +115,7 @@ static CASES: [Case; 7] = [
 /// Runs a case, and compares.
 fn run_case<Rt: Abort + Wait + Sync>(rt: &Rt, alloc: Global, case: &Case) {
     let names = listed(rt, alloc, case.listed);
-    let index = passing(rt, alloc, case.stop_at, names, "/w");
+    let index = passing(alloc, case.stop_at, names, "/w").expect(rt, "a pass begins");
     let hand = version_tree(rt, alloc, case.there, case.fails);
     let outcome = outcome_of_one(rt, alloc, index, hand, &NoGate);
     let report = outcome.report;

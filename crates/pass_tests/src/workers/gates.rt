@@ -1,9 +1,10 @@
 //! The points that a worker passes, in order.
 
-use crate::rig::{file, passing, still_tree};
+use crate::rig::{file, still_tree};
 use crate::workers::helpers::{outcome_of_one, report};
 use index_desk::WorkEnd;
 use row_types::OpenWorld;
+use sample_index::passing;
 use sample_rows::names;
 use scan_worker::WorkReport;
 use std::alloc::Global;
@@ -69,7 +70,7 @@ fn four_files(rt: &impl Abort, alloc: Global) -> MemTree<OpenWorld> {
 /// The report of a worker on the four files, listed with one byte each.
 fn report_of<G: Gate, Rt: Abort + Wait + Sync>(rt: &Rt, alloc: Global, gate: &G) -> WorkReport {
     let listed = names(alloc, &[("/a", 1), ("/b", 1), ("/c", 1), ("/d", 1)]).expect(rt, "names");
-    let index = passing(rt, alloc, None, listed, "/");
+    let index = passing(alloc, None, listed, "/").expect(rt, "a pass begins");
     outcome_of_one(rt, alloc, index, four_files(rt, alloc), gate).report
 }
 

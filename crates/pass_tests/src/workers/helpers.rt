@@ -2,9 +2,9 @@
 
 ghost use Rattle.std.specs.Prelude.{◌≡◌};
 
-use crate::rig::{Index, Lock, Outcome, Shared, Token, cut, outcome_of, put_behind, taken};
 use elf_reading::{ElfReader, ElfTruth};
 use index_desk::WorkEnd;
+use sample_index::{Index, Lock, Outcome, Shared, Token, cut, outcome_of, put_behind, taken};
 use scan_worker::{WorkReport, work};
 use std::alloc::Global;
 use std::process::Abort;
@@ -45,7 +45,7 @@ pub fn worked<W: ElfTruth + Send, G: Gate, Rt: Abort + Wait + Sync>(
     hand: MemTree<W>,
     gate: &G,
 ) -> (Index<W>, WorkReport) {
-    let Shared { lock, seat } = put_behind(rt, alloc, index);
+    let Shared { lock, seat } = put_behind(alloc, index).expect(rt, "memory");
     let (seat, report) = works(rt, alloc, &lock, seat, hand, gate);
     (taken(rt, Shared { lock, seat }), report)
 }
@@ -59,7 +59,7 @@ pub fn outcome_of_one<W: ElfTruth + Send, G: Gate, Rt: Abort + Wait + Sync>(
     gate: &G,
 ) -> Outcome<WorkReport> {
     let (index, report) = worked(rt, alloc, index, hand, gate);
-    outcome_of(rt, alloc, index, report)
+    outcome_of(alloc, index, report).expect(rt, "memory")
 }
 
 /// Lets two workers work with a token and a hand each, one after the other.
@@ -73,7 +73,7 @@ fn two_work<W: ElfTruth + Send, Rt: Abort + Wait + Sync>(
     requires { token.lock ≡ lock.now }
     ensures { result.0.lock ≡ lock.now }
 {
-    let (mine, theirs) = cut(rt, lock, token);
+    let (mine, theirs) = cut(lock, token).expect(rt, "memory");
     let (one, other) = hands;
     let (mine, first) = works(rt, alloc, lock, mine, one, &NoGate);
     let (theirs, second) = works(rt, alloc, lock, theirs, other, &NoGate);
@@ -87,7 +87,7 @@ pub fn outcome_of_two<W: ElfTruth + Send, Rt: Abort + Wait + Sync>(
     index: Index<W>,
     hands: (MemTree<W>, MemTree<W>),
 ) -> Outcome<(WorkReport, WorkReport)> {
-    let Shared { lock, seat } = put_behind(rt, alloc, index);
+    let Shared { lock, seat } = put_behind(alloc, index).expect(rt, "memory");
     let (seat, reports) = two_work(rt, alloc, &lock, seat, hands);
-    outcome_of(rt, alloc, taken(rt, Shared { lock, seat }), reports)
+    outcome_of(alloc, taken(rt, Shared { lock, seat }), reports).expect(rt, "memory")
 }

@@ -1,8 +1,9 @@
 //! The work on the reference tree in a told world, by a hand that tells what it has.
 
-use crate::rig::{Files, Index, Outcome, ROWS, begin, names_of, passing, sample_tree};
+use crate::rig::{Files, ROWS, sample_tree};
 use crate::workers::helpers::{outcome_of_one, outcome_of_two, report, worked};
 use index_desk::WorkEnd;
+use sample_index::{Index, Outcome, begin, names_of, passing};
 use sample_world::{REFERENCE_TREE, Sample, SampleWorld};
 use scan_worker::WorkReport;
 use std::alloc::Global;
@@ -17,7 +18,8 @@ fn index_of(
     stop_at: Option<u64>,
     samples: &[Sample],
 ) -> Index<SampleWorld> {
-    passing(rt, alloc, stop_at, names_of(rt, alloc, samples), "/")
+    let names = names_of(alloc, samples).expect(rt, "names");
+    passing(alloc, stop_at, names, "/").expect(rt, "a pass begins")
 }
 
 /// The reference tree, whose calls of these numbers fail.
@@ -61,8 +63,8 @@ fn first_pass<Rt: Abort + Wait + Sync>(rt: &Rt, alloc: Global) -> Index<SampleWo
 /// The index with these rows, in a pass over an empty file and the tool, whose name is skipped.
 fn second_pass<Rt: Abort + Wait + Sync>(rt: &Rt, alloc: Global) -> Index<SampleWorld> {
     let mut index = first_pass(rt, alloc);
-    let listed = names_of(rt, alloc, &[Sample::Empty, Sample::Tool]);
-    begin(rt, alloc, &mut index, listed, "/");
+    let listed = names_of(alloc, &[Sample::Empty, Sample::Tool]).expect(rt, "names");
+    begin(alloc, &mut index, listed, "/").expect(rt, "a pass begins");
     index.spare();
     index
 }

@@ -1,9 +1,8 @@
 //! What is asked, and answers as texts.
 
-use crate::indexes::Index;
 use answer_core::{Local, answer_local};
-use index_lock::TurnLock;
 use row_types::{BuildId, CanonPath, Truth};
+use sample_index::{Index, Shared, put_behind};
 use sample_rows::{path, paths};
 use std::alloc::{AllocError, Global};
 use std::process::Abort;
@@ -79,15 +78,9 @@ fn answer<W: Truth + Send, T: Tree<W>, R: Abort + Wait + Sync>(
     route: &Route,
     folders: &[CanonPath],
 ) -> String {
-    match TurnLock::make(alloc, index) {
-        Ok((lock, seat)) => {
-            let (_seat, local) = answer_local(
-                rt, alloc, &lock, seat, hand, route, folders, &NoGate,
-            );
-            text_of(alloc, &local).expect(rt, "memory")
-        }
-        Err(_) => panic!(rt; "there is memory"),
-    }
+    let Shared { lock, seat } = put_behind(alloc, index).expect(rt, "memory");
+    let (_seat, local) = answer_local(rt, alloc, &lock, seat, hand, route, folders, &NoGate);
+    text_of(alloc, &local).expect(rt, "memory")
 }
 
 /// How the request of a case is answered by an index and a hand.

@@ -3,9 +3,10 @@
 ghost use Rattle.std.specs.Prelude.{◌≡◌};
 
 use crate::answers::helpers::{Case, Wanted, answer_to};
-use crate::indexes::{Index, add, begin, empty_index};
+use index_state::Published;
 use row_types::{Name, OpenWorld, Stamp, TrueRow};
 use sample_files::{ID_A, ID_C, debug_companion, executable};
+use sample_index::{Index, passing};
 use sample_rows::{elf, name, row};
 use std::alloc::Global;
 use std::process::Abort;
@@ -44,11 +45,10 @@ fn row_of(rt: &impl Abort, alloc: Global, path: &str, is_code: bool) -> TrueRow<
 
 /// The index of the files.
 fn index(rt: &impl Abort, alloc: Global) -> Index<OpenWorld> {
-    let mut index = empty_index(rt, alloc);
-    begin(rt, alloc, &mut index, listed(rt, alloc));
+    let mut index = passing(alloc, None, listed(rt, alloc), "/").expect(rt, "an index");
     for (path, is_code) in &FILES {
         let row = row_of(rt, alloc, path, *is_code);
-        add(rt, alloc, &mut index, row);
+        assert!(rt; index.publish(alloc, row) == Published::Added, "{path}");
     }
     index
 }

@@ -2,8 +2,8 @@
 //! is met by real readings.
 
 use crate::answers::helpers::{Case, Wanted, answer_to};
-use crate::indexes::reference_index;
 use sample_files::{ID_A, ID_B, ID_C};
+use sample_index::reference_index;
 use sample_world::{SampleWorld, reference_script};
 use std::alloc::Global;
 use std::process::Abort;
@@ -86,7 +86,8 @@ fn the_files_of_a_told_world_answer(rt: HostRuntime) {
     let alloc = rt.alloc();
     for case in &CASES {
         let mut hand = hand(&rt, alloc, case.3);
-        let text = answer_to(&rt, alloc, reference_index(&rt, alloc), &mut hand, case);
+        let index = reference_index(alloc).expect(&rt, "an index");
+        let text = answer_to(&rt, alloc, index, &mut hand, case);
         assert!(rt; text.as_str() == case.4, "{text} for {}", case.4);
     }
 }

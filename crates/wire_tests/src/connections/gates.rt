@@ -5,10 +5,9 @@ ghost use Rattle.std.specs.Thread.{IsSync};
 
 use crate::connections::helpers::{conn, report_of, serve_through, whole};
 use crate::connections::texts::request;
-use crate::indexes::{Index, reference_index};
 use conn_server::ConnEnd;
 use http_wire::MemConn;
-use index_lock::{Seat, Split, TurnLock};
+use sample_index::{Lock, Shared, Token, cut, put_behind, reference_index};
 use sample_world::SampleWorld;
 use std::alloc::Global;
 use std::process::Abort;
@@ -95,8 +94,8 @@ fn the_gate_is_passed_before_the_index_and_behind_replies(rt: HostRuntime) {
 fn ask_for<G: Gate, R: Abort + Wait + Sync>(
     rt: &R,
     alloc: Global,
-    lock: &TurnLock<Index<SampleWorld>>,
-    seat: Seat<Index<SampleWorld>>,
+    lock: &Lock<SampleWorld>,
+    seat: Token<SampleWorld>,
     id: &str,
     number: u64,
     gate: &G,
@@ -111,20 +110,6 @@ fn ask_for<G: Gate, R: Abort + Wait + Sync>(
         .iter()
         .filter(|served| served.status == 200)
         .count()
-}
-
-/// Two tokens of one.
-fn cut(
-    lock: &TurnLock<Index<SampleWorld>>,
-    seat: Seat<Index<SampleWorld>>,
-) -> (Seat<Index<SampleWorld>>, Seat<Index<SampleWorld>>)
-    requires { seat.lock ≡ lock.now }
-    ensures { (result.0 ≡ seat) × (result.1 ≡ seat) }
-{
-    match lock.split(seat) {
-        Split::Two(first, second) => (first, second),
-        Split::OutOfMemory(_) => unreachable!(),
-    }
 }
 
 /// A gate behind another.
@@ -156,9 +141,9 @@ fn crossing(rt: &impl Abort, alloc: Global) -> Both {
 fn ask_beside<G: Gate, R: Abort + Threads + Wait + Sync>(
     rt: &R,
     alloc: Global,
-    lock: &TurnLock<Index<SampleWorld>>,
-    first: Seat<Index<SampleWorld>>,
-    second: Seat<Index<SampleWorld>>,
+    lock: &Lock<SampleWorld>,
+    first: Token<SampleWorld>,
+    second: Token<SampleWorld>,
     gate: &G,
 ) -> (usize, usize)
     requires first { first.lock ≡ lock.now }
@@ -181,13 +166,10 @@ fn ask_beside<G: Gate, R: Abort + Threads + Wait + Sync>(
 fn a_load_is_made_while_the_lock_is_free(rt: HostRuntime) {
     let alloc = rt.alloc();
     let gate = crossing(&rt, alloc);
-    let (first, second) = match TurnLock::make(alloc, reference_index(&rt, alloc)) {
-        Ok((lock, seat)) => {
-            let (first, second) = cut(&lock, seat);
-            ask_beside(&rt, alloc, &lock, first, second, &gate)
-        }
-        Err(_) => panic!(rt; "there is memory"),
-    };
+    let index = reference_index(alloc).expect(&rt, "an index");
+    let Shared { lock, seat } = put_behind(alloc, index).expect(&rt, "memory");
+    let (first, second) = cut(&lock, seat).expect(&rt, "memory");
+    let (first, second) = ask_beside(&rt, alloc, &lock, first, second, &gate);
     assert!(rt; first == 1, "the tool");
     assert!(rt; second == 1, "the program");
     assert!(rt; gate.first.met(), "the second asked behind the first");

@@ -2,11 +2,10 @@
 
 ghost use Rattle.std.specs.Prelude.{◌≡◌, ◌<◌, All};
 
-use crate::indexes::{Index, empty_index, reference_index};
 use conn_server::{ConnEnd, ConnReport, serve_connection};
 use http_wire::{MemConn, Sink, Source};
-use index_lock::{Seat, TurnLock};
 use row_types::CanonPath;
+use sample_index::{Index, Lock, Shared, Token, empty_index, put_behind, reference_index};
 use sample_rows::paths;
 use sample_world::{SampleWorld, changed_file_script, reference_script};
 use std::alloc::Global;
@@ -64,15 +63,9 @@ fn serve_by<N: Source + Sink, G: Gate, R: Abort + Wait + Sync>(
     conn: &mut N,
     gate: &G,
 ) -> ConnReport {
-    match TurnLock::make(alloc, index) {
-        Ok((lock, seat)) => {
-            let (_seat, report) = serve_connection(
-                rt, alloc, &lock, seat, hand, folders, conn, 7, gate,
-            );
-            report
-        }
-        Err(_) => panic!(rt; "there is memory"),
-    }
+    let Shared { lock, seat } = put_behind(alloc, index).expect(rt, "memory");
+    let (_seat, report) = serve_connection(rt, alloc, &lock, seat, hand, folders, conn, 7, gate);
+    report
 }
 
 /// The folders of sources.
@@ -100,7 +93,7 @@ pub fn report_of<N: Source + Sink, G: Gate, R: Abort + Wait + Sync>(
 ) -> ConnReport {
     let folders = folders(rt, alloc);
     let mut hand = hand(rt, alloc, bad_loads);
-    let index = reference_index(rt, alloc);
+    let index = reference_index(alloc).expect(rt, "an index");
     serve_by(rt, alloc, index, &mut hand, folders.as_slice(), conn, gate)
 }
 
@@ -109,8 +102,8 @@ pub fn report_of<N: Source + Sink, G: Gate, R: Abort + Wait + Sync>(
 pub fn serve_through<N: Source + Sink, G: Gate, R: Abort + Wait + Sync>(
     rt: &R,
     alloc: Global,
-    lock: &TurnLock<Index<SampleWorld>>,
-    seat: Seat<Index<SampleWorld>>,
+    lock: &Lock<SampleWorld>,
+    seat: Token<SampleWorld>,
     conn: &mut N,
     number: u64,
     gate: &G,
@@ -151,7 +144,7 @@ pub fn serve_without_rows<N: Source + Sink, R: Abort + Wait + Sync>(
 ) -> (usize, ConnEnd) {
     let script = changed_file_script(alloc, 0).expect(rt, "memory");
     let mut hand = MemTree::new(alloc, script);
-    let index = empty_index(rt, alloc);
+    let index = empty_index(alloc, None).expect(rt, "an index");
     let report = serve_by(rt, alloc, index, &mut hand, &[], conn, &NoGate);
     (report.served.len(), report.end)
 }

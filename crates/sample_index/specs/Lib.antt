@@ -1,0 +1,9 @@
+pub use Rattle.row_types.specs.Name
+pub use Rattle.index_keeper.specs.MemStore
+pub use Rattle.index_state.specs.Complete
+pub use Rattle.index_state.specs.Opening
+pub use Rattle.index_state.specs.State
+pub use Rattle.index_state.specs.Step
+pub use Rattle.sample_world.specs.Samples
+pub use Rattle.tree_trait.specs.Found
+pub mod Indexes
