@@ -9,7 +9,7 @@ use Rattle.std.proofs.lemmas.Bool.{and_parts, leb-true}
 use Rattle.clap.specs.Kinds.{Kinds}
 use Rattle.clap.specs.Walk.{Row, all_of, first_of}
 use Rattle.row_types.specs.Canon.{canon}
-use Rattle.dbgd_words.specs.Limits.{FitsLimits}
+use Rattle.dbgd_words.specs.Limits.{FitsLimits, IsScanFit}
 use Rattle.dbgd_words.specs.Numbers.{is_number, is_within, number_in}
 use Rattle.dbgd_words.specs.Options.{query_faults, query_rows, scan_faults, scan_rows}
 use Rattle.dbgd_words.specs.Words.{Line, asks_help, asks_query, asks_scan, asks_trial, id_of, ident_line, is_help, is_root, line_of}
@@ -81,12 +81,21 @@ query_fits [] rows =
     by_option (asks_query store) (option_and_then id_of (first_of (codes "ID") rows)) (λ id _. tt))
 query_fits (kind ∷ more) rows = by_test (is_help kind) asks_help unreadable tt tt
 
+-- a number of workers that is read is one that a scan may have
+workers_fit : (text : Option (List ℕ)) (workers : ℕ) → option_and_then (number_in 1 MOST_WORKERS) text ≡ Some workers
+    → IsScanFit workers
+workers_fit None workers at = absurd (cc)
+workers_fit (Some text) workers at =
+    let ends = number_fits 1 MOST_WORKERS text workers at in
+    record { one = ends.0; most = ends.1 }
+
 scan_fits : (kinds : Kinds) (rows : List Row) → FitsLimits (scan_said kinds rows)
 scan_fits [] rows =
     by_option _ (first_of (codes "database") rows) (λ store _.
-    by_option _ (option_and_then (number_in 1 MOST_WORKERS) (first_of (codes "concurrency") rows)) (λ workers _.
+    by_option _ (option_and_then (number_in 1 MOST_WORKERS) (first_of (codes "concurrency") rows)) (λ workers at.
     by_option _ (all_of (codes "DIR") rows) (λ folders _.
-    by_test (list_all is_root folders) (asks_scan store workers (map canon folders)) unreadable tt tt)))
+    let fit = workers_fit (first_of (codes "concurrency") rows) workers at in
+    by_test (list_all is_root folders) (asks_scan store workers (map canon folders)) unreadable fit tt)))
 scan_fits (kind ∷ more) rows = by_test (is_help kind) asks_help unreadable tt tt
 
 -- whatever the words are

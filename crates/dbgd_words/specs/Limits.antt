@@ -1,6 +1,6 @@
 -- What is known of the numbers of a line that was read (this project's rule).
 use Rattle.std.specs.Prelude.{ℕ, ◌≤◌}
-use Rattle.dbgd_words.specs.Words.{Line, asks_trial}
+use Rattle.dbgd_words.specs.Words.{Line, asks_scan, asks_trial}
 use Rattle.dbgd_words.specs.declared.scan.TheConstants.{MOST_WORKERS}
 use Rattle.dbgd_words.specs.declared.trial.TheConstants.{MOST_FILES}
 
@@ -11,7 +11,13 @@ pub record IsTrialFit (files workers : ℕ) : Type 0 where
   pub one : 1 ≤ workers
   pub most : workers ≤ MOST_WORKERS
 
--- so is it of a line that asks for one
+-- a scan has 1 to 64 workers
+pub record IsScanFit (workers : ℕ) : Type 0 where
+  pub one : 1 ≤ workers
+  pub most : workers ≤ MOST_WORKERS
+
+-- so is it of a line that asks for one or the other
 abbrev pub FitsLimits : Line → Type 0
+FitsLimits (asks_scan path workers roots) = IsScanFit workers
 FitsLimits (asks_trial seed files workers) = IsTrialFit files workers
 FitsLimits _ = Unit {0}
