@@ -34,13 +34,6 @@ loop-task-preserved-in_default-look_for g c = (
   groomed_stand c.args.state.now c.loop-task.invariant.2 c.in-Some.ensures.step c.in_default-look_for.ensures,
 )
 
-pub loop-task-preserved-in_default-look_for : goal.loop-task-preserved-in_default-look_for
-loop-task-preserved-in_default-look_for g c = (
-  groomed_goes c.loop-task.invariant.0 c.in-Some.ensures.step c.in_default-look_for.ensures,
-  groomed_read c.loop-task.invariant.1 c.in-Some.ensures.step c.in_default-look_for.ensures.ends,
-  groomed_stand c.args.state.now c.loop-task.invariant.2 c.in-Some.ensures.step c.in_default-look_for.ensures,
-)
-
 pub returns-clause-settles : goal.returns-clause-settles
 returns-clause-settles g c = looks_at_all c.loop-task.invariant.0 c.in_default.ensures.step
 

@@ -30,12 +30,6 @@ loop-name-preserved-in_default-read_one g c = (
   took_none c.args.state.now c.loop-name.invariant.1 c.in-Some.ensures.step c.in_default-read_one.ensures,
 )
 
-pub loop-name-preserved-in_default-read_one : goal.loop-name-preserved-in_default-read_one
-loop-name-preserved-in_default-read_one g c = (
-  took_goes c.loop-name.invariant.0 c.in-Some.ensures.step c.in_default-read_one.ensures,
-  took_none c.args.state.now c.loop-name.invariant.1 c.in-Some.ensures.step c.in_default-read_one.ensures,
-)
-
 pub returns-clause-settles : goal.returns-clause-settles
 returns-clause-settles g c = reads_all c.loop-name.invariant.0 c.in_default.ensures.step
 
