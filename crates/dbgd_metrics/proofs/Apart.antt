@@ -1,5 +1,5 @@
 -- Shares that know of one another's rows draw different rows.
-use Rattle.std.proofs.Common.{◌≡◌, ℕ, ◌+◌, ◌<◌, ◌≤◌, Some, ap, sym, ◌∙◌, arith}
+use Rattle.std.proofs.Common.{◌≡◌, ℕ, ◌<◌, ◌≤◌, Some, ap, sym, ◌∙◌, arith}
 use Rattle.dbgd_metrics.specs.Draws.{DrawsApart, TakesRow}
 use Rattle.dbgd_metrics.specs.Shares.{ShareFacts}
 use Rattle.dbgd_metrics.proofs.Views.{one_row}
