@@ -27,6 +27,13 @@ returns-in-Some-look_for-clause-keeper g c =
 pub loop-task-smaller : goal.loop-task-smaller
 loop-task-smaller g c = groomed_smaller c.in-Some.ensures.step c.in_default-look_for.ensures.ends
 
+pub loop-task-preserved : goal.loop-task-preserved
+loop-task-preserved g c = (
+  groomed_goes c.loop-task.invariant.0 c.in-Some.ensures.step c.in_default-look_for.ensures,
+  groomed_read c.loop-task.invariant.1 c.in-Some.ensures.step c.in_default-look_for.ensures.ends,
+  groomed_stand c.args.state.now c.loop-task.invariant.2 c.in-Some.ensures.step c.in_default-look_for.ensures,
+)
+
 pub loop-task-preserved-in_default-look_for : goal.loop-task-preserved-in_default-look_for
 loop-task-preserved-in_default-look_for g c = (
   groomed_goes c.loop-task.invariant.0 c.in-Some.ensures.step c.in_default-look_for.ensures,

@@ -24,6 +24,12 @@ returns-in-Some-read_one-clause-keeper g c =
 pub loop-name-smaller : goal.loop-name-smaller
 loop-name-smaller g c = took_smaller c.in-Some.ensures.step c.in_default-read_one.ensures.ends
 
+pub loop-name-preserved : goal.loop-name-preserved
+loop-name-preserved g c = (
+  took_goes c.loop-name.invariant.0 c.in-Some.ensures.step c.in_default-read_one.ensures,
+  took_none c.args.state.now c.loop-name.invariant.1 c.in-Some.ensures.step c.in_default-read_one.ensures,
+)
+
 pub loop-name-preserved-in_default-read_one : goal.loop-name-preserved-in_default-read_one
 loop-name-preserved-in_default-read_one g c = (
   took_goes c.loop-name.invariant.0 c.in-Some.ensures.step c.in_default-read_one.ensures,
