@@ -82,6 +82,7 @@ module _ (told : Bool) (path id : List ℕ) where
     ends = record {
       tables = λ t. inl (ap (λ (o : ShownStore). o.tables) same);
       removed = [];
+      front = inl refl;
       made = ap (λ (o : ShownStore). o.made) same ∙ none_swept old.made;
     };
     store = record { later = let a = ap (λ (o : ShownStore). o.faults) same in omega arith; rose = λ e. absurd (cc) };
@@ -94,7 +95,7 @@ module _ (told : Bool) (path id : List ℕ) where
   pub queries_closed : {old new : ShownStore} → IsClosed told path old new
       → Queries told path id old new (Refused refusal.KeeperFault)
   queries_closed {old} closed = record {
-    ends = record { tables = λ t. inl (closed.tables t); removed = []; made = closed.made ∙ none_swept old.made };
+    ends = record { tables = λ t. inl (closed.tables t); removed = []; front = inl refl; made = closed.made ∙ none_swept old.made };
     store = record { later = closed.faults; rose = λ _. closed.cause };
     later = closed.later;
     opened = λ e. absurd (cc);

@@ -1,5 +1,5 @@
 -- The store of a scan, around the index that was opened on it or wasn't.
-use Rattle.std.proofs.Common.{◌≡◌, ◌⊎◌, inl, inr, ℕ, ◌<◌, Bool, List, [], length, Option, Some, None, sym, refl, ◌∙◌, ap, subst, IsTrue, arith}
+use Rattle.std.proofs.Common.{◌≡◌, ◌⊎◌, inl, inr, ℕ, ◌<◌, Bool, List, [], ◌∷◌, length, Option, Some, None, sym, refl, ◌∙◌, ap, subst, IsTrue, arith}
 use Rattle.std.proofs.lemmas.Bool.{true≢false}
 use Rattle.std.proofs.lemmas.List.{append-nil}
 use Rattle.row_types.specs.Faults.{Rose, summed}
@@ -8,16 +8,17 @@ use Rattle.index_keeper.specs.Answers.{for_rows}
 use Rattle.index_keeper.specs.Keeper.{Asks, IsUntouched, ShownKeeper}
 use Rattle.index_keeper.specs.Store.{HasAll, IsClosed, IsOpened, ShownStore, TakesBack, with_path}
 use Rattle.index_keeper.specs.Tables.{EditFacts, KeptFacts}
+use Rattle.index_keeper.specs.declared.answer.KeepAnswer.{KeepAnswer}
 use Rattle.index_keeper.specs.declared.answer.KeptAnswer.{KeptAnswer}
 use Rattle.index_keeper.specs.declared.answer.KeptAnswer.TheVariants as kept
-use Rattle.index_state.specs.Opening.{Gives, LacksStrays, LeavesRows, Refuses, RefusesOn, made_swept}
+use Rattle.index_state.specs.Opening.{AreRows, Gives, LacksStrays, LeavesRows, Refuses, RefusesOn, StopsSweeping, made_swept}
 use Rattle.index_state.specs.declared.open_fault.OpenFault.{OpenFault}
 use Rattle.index_state.specs.declared.open_fault.OpenFault.TheVariants as refusal
 use Rattle.tree_trait.specs.Shown.{HandsOn}
 use Rattle.pass_runner.specs.Owned.{HandsGo}
 use Rattle.pass_runner.specs.declared.pass_end.PassEnd.{PassEnd}
 use Rattle.pass_runner.specs.declared.pass_end.PassEnd.TheVariants as ended
-use Rattle.dbgd_run.specs.Kept.{LacksFirst}
+use Rattle.dbgd_run.specs.Kept.{AreFirstGiven, GivesValues, LacksFirst}
 use Rattle.dbgd_run.specs.Scan.{EndsBy, LoadsBy, OpensBy, RefusesBy, RefusesValues, Scans}
 use Rattle.dbgd_run.specs.ScanSaid.{is_hand_fault, is_store_fault}
 use Rattle.dbgd_run.specs.Scene.{Setting}
@@ -39,13 +40,31 @@ untouched before after kept.Failed asks told = asks.tells told
 untouched before after kept.OutOfMemory asks told = asks.tells told
 
 module _ {K : Type 0} (tells : Bool) (shows : K → ShownKeeper) {from mid into : ShownStore} {keeper given : K} (has : HasAll tells from (shows keeper)) (back : TakesBack tells (shows given) mid into) where
+  -- the values that the keeper gave are those of the store
+  given_by : {asked : K} {values : List KeptFacts} → Gives tells shows keeper asked values → GivesValues tells from values
+  given_by {asked = asked} {values = values} gave = record {
+    by_path = gave.by_path;
+    tells = λ t. gave_all (shows keeper) (shows asked) gave.answer values gave.heard gave.gave t ∙ has.tables t;
+  }
+
+  -- the rows that were swept are the first of those that it gave
+  first_given : {asked : K} {values : List KeptFacts} {answer : KeepAnswer} → Gives tells shows keeper asked values
+      → (stopped : StopsSweeping tells shows values asked given answer) → AreFirstGiven tells from stopped.stops.front
+  first_given {values = values} gave stopped = record {
+    values = values;
+    gave = given_by gave;
+    last = stopped.stops.row ∷ stopped.stops.back;
+    sound = subst (λ (rows : List RowFacts). AreRows rows values) stopped.stops.parts stopped.sound;
+  }
+
   -- whatever is left lacks rows of other editions alone
-  lacks : (removed : List RowFacts) → LeavesRows tells (shows keeper) (shows given)
+  lacks : (removed : List RowFacts) → (removed ≡ []) ⊎ AreFirstGiven tells from removed → LeavesRows tells (shows keeper) (shows given)
       → (shows given).made ≡ made_swept removed (shows keeper).made → LacksFirst tells from into
-  lacks removed left made = record {
+  lacks removed front left made = record {
     tables = λ t.
         subst (λ tables. (into.tables ≡ tables) ⊎ LacksStrays tables into.tables) (has.tables t) (left t into.tables (back.image t));
     removed = removed;
+    front = front;
     made = back.made ∙ made ∙ ap (made_swept removed) has.made;
   }
 
@@ -54,10 +73,7 @@ module _ {K : Type 0} (tells : Bool) (shows : K → ShownKeeper) {from mid into 
       → Why values → given ≡ asked → RefusesValues tells from into Why
   keeps {asked = asked} {values = values} gave why same = record {
     values = values;
-    gave = record {
-      by_path = gave.by_path;
-      tells = λ t. gave_all (shows keeper) (shows asked) gave.answer values gave.heard gave.gave t ∙ has.tables t;
-    };
+    gave = given_by gave;
     why = why;
     keeps = record {
       tables = λ t.
@@ -72,23 +88,23 @@ module _ {K : Type 0} (tells : Bool) (shows : K → ShownKeeper) {from mid into 
   -- why no index was opened
   pub refused_by : (fault : OpenFault) → Refuses tells shows keeper fault given
       → LeavesRows tells (shows keeper) (shows given) → RefusesBy tells from into fault
-  refused_by refusal.KeeperFault (inl none) left = lacks [] left (none.heard.grows ∙ none_swept (shows keeper).made)
+  refused_by refusal.KeeperFault (inl none) left = lacks [] (inl refl) left (none.heard.grows ∙ none_swept (shows keeper).made)
   refused_by refusal.KeeperFault (inr rows) left =
-      lacks rows.why.stops.front left
+      lacks rows.why.stops.front (inr (first_given rows.gave rows.why)) left
       (rows.why.stops.asked.grows ∙ rows.why.stops.swept.made ∙ ap (made_swept rows.why.stops.front) rows.gave.heard.grows)
   refused_by (refusal.BadRow kept fault) (inl none) left = absurd none.why
   refused_by (refusal.BadRow kept fault) (inr rows) left = keeps rows.gave rows.why.0 rows.why.1
   refused_by refusal.LogFull (inl none) left = absurd none.why
   refused_by refusal.LogFull (inr rows) left = keeps rows.gave rows.why.0 rows.why.1
-  refused_by refusal.OutOfMemory (inl none) left = lacks [] left (none.heard.grows ∙ none_swept (shows keeper).made)
+  refused_by refusal.OutOfMemory (inl none) left = lacks [] (inl refl) left (none.heard.grows ∙ none_swept (shows keeper).made)
   refused_by refusal.OutOfMemory (inr rows) left = wanting rows.why
     where
       wanting : RefusesOn tells shows rows.values rows.asked refusal.OutOfMemory given → LacksFirst tells from into
       wanting (inl same) =
-          lacks [] left
+          lacks [] (inl refl) left
           (ap (λ (k : K). (shows k).made) same ∙ rows.gave.heard.grows ∙ none_swept (shows keeper).made)
       wanting (inr stopped) =
-          lacks stopped.stops.front left
+          lacks stopped.stops.front (inr (first_given rows.gave stopped)) left
           (stopped.stops.asked.grows ∙ stopped.stops.swept.made ∙ ap (made_swept stopped.stops.front) rows.gave.heard.grows)
 
 -- a fault of a keeper is one of its store once it is given back
@@ -138,6 +154,7 @@ module _ {T : Type 0} (s : Setting T) (path : List ℕ) {roots : List (List ℕ)
       store = record {
         tables = λ t. inl (ap (λ (o : ShownStore). o.tables) same);
         removed = [];
+        front = inl refl;
         made = ap (λ (o : ShownStore). o.made) same ∙ none_swept old.made;
       };
     };
@@ -155,7 +172,7 @@ module _ {T : Type 0} (s : Setting T) (path : List ℕ) {roots : List (List ℕ)
   scans_closed {hands} {old} some closed = record {
     ends = record {
       hands = refl;
-      store = record { tables = λ t. inl (closed.tables t); removed = []; made = closed.made ∙ none_swept old.made };
+      store = record { tables = λ t. inl (closed.tables t); removed = []; front = inl refl; made = closed.made ∙ none_swept old.made };
     };
     loads = tt;
     hands = hands_stay s.tells_files s.world.version s.sees hands some (λ e. absurd (cc));

@@ -1,5 +1,5 @@
 -- What a scan finds in the store and leaves in it (this project's rule), by rows.
-use Rattle.std.specs.Prelude.{◌≡◌, ◌⊎◌, ◌≤◌, Bool, List, length, Option, IsTrue}
+use Rattle.std.specs.Prelude.{◌≡◌, ◌⊎◌, ◌≤◌, Bool, List, [], ◌++◌, length, Option, IsTrue}
 use Rattle.row_types.specs.Row.{RowFacts}
 use Rattle.index_keeper.specs.Store.{ShownStore}
 use Rattle.index_keeper.specs.Tables.{AscendsByPath, EditFacts, KeptFacts}
@@ -26,10 +26,19 @@ pub record KeepsAll (told : Bool) (before after : ShownStore) : Type 0 where
   pub tables : IsTrue told → after.tables ≡ before.tables
   pub made : after.made ≡ before.made
 
--- of what the store had only rows of other editions may be missing, the first by path, and nothing else was done
+-- the values that the store gave are rows, of which these are the first by path
+pub record AreFirstGiven (told : Bool) (before : ShownStore) (first : List RowFacts) : Type 0 where
+  pub values : List KeptFacts
+  pub gave : GivesValues told before values
+  pub last : List RowFacts
+  pub sound : AreRows (first ++ last) values
+
+-- of what the store had only rows of other editions may be missing, the first by path, and nothing else was done: it made
+-- the removals of those among the first rows that it gave, or none
 pub record LacksFirst (told : Bool) (before after : ShownStore) : Type 0 where
   pub tables : IsTrue told → (after.tables ≡ before.tables) ⊎ LacksStrays before.tables after.tables
   pub removed : List RowFacts
+  pub front : (removed ≡ []) ⊎ AreFirstGiven told before removed
   pub made : after.made ≡ made_swept removed before.made
 
 -- the store has these rows, and nothing else
