@@ -65,7 +65,7 @@ first_both s A B C (hand ∷ hands) (later ∷ left) a b each = each (s.sees han
 first_both s A B C _ _ a b each = absurd a
 
 -- a hand that isn't asked is handed on
-stays_on : (told : Bool) (version : Versions) (tree : ShownTree) {Fails : Type 0} → ¬ Fails → HandsOn told version tree tree ⊥ Fails
+pub stays_on : (told : Bool) (version : Versions) (tree : ShownTree) {Fails : Type 0} → ¬ Fails → HandsOn told version tree tree ⊥ Fails
 stays_on told version tree never = record {
   cause = record { later = omega arith; rose = λ fails. absurd (never fails) };
   known = λ t asked. absurd asked;

@@ -5,6 +5,7 @@ pub mod CountLemmas
 pub mod ForgedLemmas
 pub mod HandLemmas
 pub mod LimitInstances
+pub mod OtherHands
 pub mod PassLemmas
 pub mod QueryLemmas
 pub mod RowLemmas

@@ -1,5 +1,5 @@
 -- A run, by what its words ask.
-use Rattle.std.proofs.Common.{◌≡◌, ◌⊎◌, ℕ, ◌<◌, List, [], length, inl, inr, refl, sym, subst}
+use Rattle.std.proofs.Common.{◌≡◌, ◌⊎◌, ℕ, ◌+◌, ◌<◌, List, [], drop, length, inl, inr, refl, sym, ap, subst}
 use Rattle.index_state.specs.declared.open_fault.OpenFault.TheVariants as refusal
 use Rattle.dbgd_words.specs.Words.{Line, asks_help, asks_ident, asks_query, asks_scan, asks_section, asks_sources, asks_trial, line_of, unbuilt, unreadable}
 use Rattle.dbgd_words.proofs.OptionLemmas.{AsksByOptions, options_ask}
@@ -51,7 +51,7 @@ module _ {T : Type 0} (s : Setting T) (words : List (List ℕ)) (before after : 
   has_status (asks_sources path) run = sources_status s before after end path run
   has_status (asks_section path name) run = section_status s before after end path name run
   has_status (asks_query path id) run = query_status s path id before after end run
-  has_status (asks_scan path workers roots) run = scan_status s path roots before after end run
+  has_status (asks_scan path workers roots) run = scan_status s path roots before after workers end run
   has_status (asks_trial seed files workers) run = trial_status seed files run
   has_status asks_help run = help_status run
   has_status unbuilt run = run.says.ends
@@ -69,8 +69,8 @@ module _ {T : Type 0} (s : Setting T) (words : List (List ℕ)) (before after : 
         let does : RunsQuery s path id before after end = subst (λ (l : Line). Runs s l before after end) is run in
         record { does = does; ends = query_ends s path id before after end does };
     scan = λ path workers roots is.
-        let does : RunsScan s path roots before after end = subst (λ (l : Line). Runs s l before after end) is run in
-        record { does = does; ends = scan_ends s path roots before after end does };
+        let does : RunsScan s path workers roots before after end = subst (λ (l : Line). Runs s l before after end) is run in
+        record { does = does; ends = scan_ends s path roots before after workers end does };
     trial = λ seed files workers is. subst (λ (l : Line). Runs s l before after end) is run;
     help = λ is. subst (λ (l : Line). Runs s l before after end) is run;
     not_built = λ is. subst (λ (l : Line). Runs s l before after end) is run;
@@ -90,12 +90,13 @@ module _ {T : Type 0} (s : Setting T) (words : List (List ℕ)) (before after : 
       hands = lacks.alone.hands;
     }
 
-    scan_lacks : (path : List ℕ) (roots : List (List ℕ)) → RunsScan s path roots before after end
-    scan_lacks path roots = record {
+    scan_lacks : (path : List ℕ) (workers : ℕ) (roots : List (List ℕ)) → RunsScan s path workers roots before after end
+    scan_lacks path workers roots = record {
       end = scanned.Refused refusal.OutOfMemory;
       scans =
           subst (λ (hands : List T). Scans s path roots before.hands hands before.store after.store (scanned.Refused refusal.OutOfMemory))
           (sym lacks.alone.hands) (scans_wanting s path some lacks.alone.store);
+      others = ap (λ (hands : List T). drop (workers + 2) hands) lacks.alone.hands;
       said = lacks.alone.says;
     }
 
@@ -122,7 +123,10 @@ module _ {T : Type 0} (s : Setting T) (words : List (List ℕ)) (before after : 
       section = λ path name is. absurd (asks (asks_section path name) is);
       query = λ path id is. record { does = query_lacks path id; ends = query_ends s path id before after end (query_lacks path id) };
       scan = λ path workers roots is.
-          record { does = scan_lacks path roots; ends = scan_ends s path roots before after end (scan_lacks path roots) };
+          record {
+            does = scan_lacks path workers roots;
+            ends = scan_ends s path roots before after workers end (scan_lacks path workers roots);
+          };
       trial = λ seed files workers is. absurd (asks (asks_trial seed files workers) is);
       help = λ is. record { text = []; says = inr lacks.alone.says; hands = lacks.alone.hands; store = lacks.alone.store };
       not_built = λ is. absurd (asks unbuilt is);

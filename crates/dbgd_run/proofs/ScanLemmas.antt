@@ -199,8 +199,8 @@ module _ {T : Type 0} (s : Setting T) (path : List ℕ) (roots : List (List ℕ)
   end_status (Passed ended.LogFull) scans said = of_changes scans.ends
   end_status (Passed ended.OutOfMemory) scans said = tt
 
-  pub scan_status : (end : Status) → RunsScan s path roots before after end → ScanStatus s roots before after end
-  scan_status end run =
+  pub scan_status : (workers : ℕ) (end : Status) → RunsScan s path workers roots before after end → ScanStatus s roots before after end
+  scan_status workers end run =
       by_end (ScanStatus s roots before after) run.end before.streams after.streams end (end_status run.end run.scans) tt
       (λ summary whole rose. inr (inr rose)) run.said
 
@@ -321,9 +321,9 @@ module _ {T : Type 0} (s : Setting T) (path : List ℕ) (roots : List (List ℕ)
   complete_end (Passed ended.OutOfMemory) free scans = tt
 
   -- how a scan ends when
-  pub scan_ends : (end : Status) → RunsScan s path roots before after end → ScanEnds s roots before after end
+  pub scan_ends : (workers : ℕ) (end : Status) → RunsScan s path workers roots before after end → ScanEnds s roots before after end
   unfolding found_rows
-  scan_ends end run = record {
+  scan_ends workers end run = record {
     bad = λ tells bad.
         by_end (EndsOnlyWith status.BadRow before.store after.store) run.end before.streams after.streams end
         (λ _. bad_end run.end tells bad run.scans) (inr (inr refl))

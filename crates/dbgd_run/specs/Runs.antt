@@ -46,9 +46,9 @@ pub record IsQueryRun {T : Type 0} (s : Setting T) (path id : List ℕ)
   pub ends : QueryEnds s before after status
 
 -- a scan: what it does, and how it ends when
-pub record IsScanRun {T : Type 0} (s : Setting T) (path : List ℕ) (roots : List (List ℕ))
+pub record IsScanRun {T : Type 0} (s : Setting T) (path : List ℕ) (workers : ℕ) (roots : List (List ℕ))
     (before after : Scene T) (status : Status) : Type 0 where
-  pub does : RunsScan s path roots before after status
+  pub does : RunsScan s path workers roots before after status
   pub ends : ScanEnds s roots before after status
 
 -- whether a line asks for a scan, of folders or of generated files
@@ -66,7 +66,8 @@ Runs s (asks_sources path) before after status =
 Runs s (asks_section path name) before after status =
     RunsFile s path (SaysSection path name) before after status
 Runs s (asks_query path id) before after status = RunsQuery s path id before after status
-Runs s (asks_scan path workers roots) before after status = RunsScan s path roots before after status
+Runs s (asks_scan path workers roots) before after status =
+    RunsScan s path workers roots before after status
 Runs s (asks_trial seed files workers) before after status = RunsTrial seed files before after status
 Runs s asks_help before after status = SaysHelp before after status
 Runs s unbuilt before after status = SaysAlone not_built_saying before after status
@@ -99,7 +100,7 @@ pub record IsRun {T : Type 0} (s : Setting T) (words : List (List ℕ)) (before 
       → IsQueryRun s path id before after status
   pub scan : (path : List ℕ) (workers : ℕ) (roots : List (List ℕ))
       → line_of words ≡ asks_scan path workers roots
-      → IsScanRun s path roots before after status
+      → IsScanRun s path workers roots before after status
   pub trial : (seed files workers : ℕ) → line_of words ≡ asks_trial seed files workers
       → RunsTrial seed files before after status
   pub help : line_of words ≡ asks_help → SaysHelp before after status

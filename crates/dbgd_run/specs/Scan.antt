@@ -1,7 +1,7 @@
 -- The command `scan` (this project's rule): the store is opened, the index on it makes one pass over the folders, and
 -- the store has its keeper back. The rows that the store held and those that it has in the end are what the pass is
 -- said of.
-use Rattle.std.specs.Prelude.{◌≡◌, ◌≢◌, ◌⊎◌, ℕ, ◌+◌, ◌≤◌, Bool, true, false, List, All, Contains, length, None, IsTrue, Ok, Err}
+use Rattle.std.specs.Prelude.{◌≡◌, ◌≢◌, ◌⊎◌, ℕ, ◌+◌, ◌≤◌, Bool, true, false, List, All, Contains, drop, length, None, IsTrue, Ok, Err}
 use Rattle.row_types.specs.Canon.{IsCanonPath}
 use Rattle.row_types.specs.Faults.{HasCause, Rose}
 use Rattle.row_types.specs.Name.{NameFacts, stamp_at}
@@ -238,9 +238,11 @@ pub record Scans {T : Type 0} (s : Setting T) (path : List ℕ) (roots : List (L
   pub opened : IsTrue (is_open end) → Rose old.epoch new.epoch
   pub opens : OpensBy path old new end
 
--- the scan came to an end, and it was said
-pub record RunsScan {T : Type 0} (s : Setting T) (path : List ℕ) (roots : List (List ℕ))
+-- the scan came to an end, and it was said. The hands behind those that it is made with, two and one for each worker, are
+-- as they were
+pub record RunsScan {T : Type 0} (s : Setting T) (path : List ℕ) (workers : ℕ) (roots : List (List ℕ))
     (before after : Scene T) (status : Status) : Type 0 where
   pub end : ScanEnd
   pub scans : Scans s path roots before.hands after.hands before.store after.store end
+  pub others : drop (workers + 2) after.hands ≡ drop (workers + 2) before.hands
   pub said : SaysEnd end before.streams after.streams status

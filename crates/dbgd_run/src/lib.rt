@@ -3,7 +3,9 @@
 #![tactic(auto)]
 
 mod demands;
+mod handed;
 mod ident;
+mod lent;
 mod outside;
 mod query;
 mod query_end;
@@ -24,8 +26,9 @@ mod wants;
 
 pub use demands::needs;
 pub use elf_reading::ElfTruth;
+pub use handed::Outside;
 pub use http_wire::{MemSink, Sink, Stream, WriteAnswer, WriteFault, write_all};
-pub use outside::{Outside, run, run_local};
+pub use outside::{run, run_local};
 pub use scan_end::ScanEnd;
 pub use scan_sayings::say_end;
 pub use status::Status;

@@ -12,6 +12,7 @@ ghost use Rattle.dbgd_run.specs.Scene.{scene, setting};
 ghost use Rattle.dbgd_run.specs.Statuses.{code_of};
 ghost use Rattle.dbgd_run.specs.declared.status.Status.TheVariants.{OutOfMemory};
 
+use crate::handed::Outside;
 use crate::ident::run_ident;
 use crate::query::run_query;
 use crate::scan::run_scan;
@@ -25,22 +26,9 @@ use elf_reading::ElfTruth;
 use http_wire::Sink;
 use index_keeper::Store;
 use std::alloc::Global;
-use std::marker::PhantomData;
 use std::sync::Wait;
 use std::thread::Threads;
 use tree_trait::{Gate, Tree};
-
-/// What the program is handed: the hands that read files, of which the first serves single files,
-/// the store of the index, its two sinks, and the gate that its threads pass.
-#[derive(Drop)]
-pub struct Outside<W: ElfTruth + Send + Sync, T: Tree<W>, S: Store<W>, O: Sink, G: Gate + Drop> {
-    pub hands: Vec<T>,
-    pub store: S,
-    pub out: O,
-    pub err: O,
-    pub gate: G,
-    pub of: PhantomData<W>,
-}
 
 /// Says how the words of each command read.
 fn say_usage<O: Sink>(out: &mut O, err: &mut O) -> Status
@@ -114,33 +102,14 @@ fn run_line<
     match line {
         Line::Scan {
             store,
-            workers: _,
+            workers,
             roots,
-        } => run_scan(
-            rt,
-            alloc,
-            store,
-            roots.as_slice(),
-            &mut outside.hands,
-            &mut outside.store,
-            &mut outside.out,
-            &mut outside.err,
-            &outside.gate,
-        ),
+        } => run_scan(rt, alloc, store, workers, roots.as_slice(), outside),
         Line::Trial {
             seed,
             files,
             workers,
-        } => run_trial(
-            rt,
-            alloc,
-            seed,
-            files,
-            workers,
-            &mut outside.out,
-            &mut outside.err,
-            &outside.gate,
-        ),
+        } => run_trial(rt, alloc, seed, files, workers, outside),
         line => run_alone(alloc, line, outside),
     }
 }

@@ -1,18 +1,21 @@
 //! The command `scan`.
 
-ghost use Rattle.std.specs.Prelude.{◌≡◌, ◌<◌, false, vec_len, IsTrue};
+ghost use Rattle.std.specs.Prelude.{◌≡◌, ◌+◌, ◌<◌, drop, false, vec_len, IsTrue};
 ghost use Rattle.row_types.specs.Canon.{IsCanonPath};
 ghost use Rattle.row_types.specs.Rules.{rules};
 ghost use Rattle.index_keeper.specs.Store.{HasAll, ShownStore, TakesBack};
 ghost use Rattle.index_state.specs.Opening.{CanOpen};
 ghost use Rattle.tree_trait.specs.Shown.{HandsOn};
 ghost use Rattle.pass_runner.specs.Owned.{HandsGo, is_hand_fault as is_hand_fault_of};
+ghost use Rattle.dbgd_words.specs.Limits.{IsScanFit};
 ghost use Rattle.dbgd_run.specs.Endings.{streams};
 ghost use Rattle.dbgd_run.specs.Passing.{HasPath, ScansIndex};
 ghost use Rattle.dbgd_run.specs.Scan.{EndsBy, LoadsBy, RunsScan, Scans};
 ghost use Rattle.dbgd_run.specs.ScanSaid.{is_hand_fault, is_store_fault};
 ghost use Rattle.dbgd_run.specs.Scene.{scene, setting};
 
+use crate::handed::Outside;
+use crate::lent::{asked, lend, rejoin};
 use crate::scan_end::ScanEnd;
 use crate::scan_sayings::say_end;
 use crate::status::Status;
@@ -145,32 +148,79 @@ fn scan<W: ElfTruth + Send + Sync, T: Tree<W>, S: Store<W>, G: Gate, Rt: Threads
     }
 }
 
-/// Scans the folders into a store, and says how that ended.
-pub fn run_scan<
+/// Scans the folders into a store by so many workers, and says how the scan ended: one hand walks, one
+/// looks for the files of rows, and one for each worker reads. The hands behind these aren't asked.
+fn scan_by<
     W: ElfTruth + Send + Sync,
     T: Tree<W>,
     S: Store<W>,
     O: Sink,
-    G: Gate,
+    G: Gate + Drop,
     Rt: Threads + Wait + Sync,
 >(
     rt: &Rt,
     alloc: Global,
     path: &str,
+    workers: u64,
     roots: &[CanonPath],
-    hands: &mut Vec<T>,
-    store: &mut S,
-    out: &mut O,
-    err: &mut O,
-    gate: &G,
-) -> Status
-    requires { 0 < vec_len hands.old }
-    ensures runs { RunsScan (setting (rules W.version W.true_row W.told) T.told T.shows S.K.told)
-        path.now roots.now
-        (scene hands.old.items (S.shows store.old) (streams O.shows out.old err.old))
-        (scene hands.new.items (S.shows store.new) (streams O.shows out.new err.new)) result }
-    ensures count { vec_len hands.new ≡ vec_len hands.old }
+    outside: &mut Outside<W, T, S, O, G>,
+) -> ScanEnd
+    requires hand { 0 < vec_len outside.old.hands }
+    requires fits { IsScanFit workers }
+    ensures scans { Scans (setting (rules W.version W.true_row W.told) T.told T.shows S.K.told)
+        path.now roots.now outside.old.hands.items outside.new.hands.items
+        (S.shows outside.old.store) (S.shows outside.new.store) result }
+    ensures others { drop (workers + 2) outside.new.hands.items
+        ≡ drop (workers + 2) outside.old.hands.items }
+    ensures count { vec_len outside.new.hands ≡ vec_len outside.old.hands }
+    ensures sinks { (outside.new.out ≡ outside.old.out) × (outside.new.err ≡ outside.old.err) }
 {
-    let end = scan(rt, alloc, path, roots, hands, store, gate);
-    say_end(alloc, &end, out, err)
+    let hands = &mut outside.hands;
+    let count = asked(workers, hands.len());
+    match lend(alloc, hands, count) {
+        Ok(others) => {
+            let end = scan(
+                rt,
+                alloc,
+                path,
+                roots,
+                hands,
+                &mut outside.store,
+                &outside.gate,
+            );
+            rejoin(hands, others);
+            end
+        }
+        Err(_) => ScanEnd::Refused(OpenFault::OutOfMemory),
+    }
+}
+
+/// Scans the folders into a store by so many workers, and says how that ended.
+pub fn run_scan<
+    W: ElfTruth + Send + Sync,
+    T: Tree<W>,
+    S: Store<W>,
+    O: Sink,
+    G: Gate + Drop,
+    Rt: Threads + Wait + Sync,
+>(
+    rt: &Rt,
+    alloc: Global,
+    path: &str,
+    workers: u64,
+    roots: &[CanonPath],
+    outside: &mut Outside<W, T, S, O, G>,
+) -> Status
+    requires hand { 0 < vec_len outside.old.hands }
+    requires fits { IsScanFit workers }
+    ensures runs { RunsScan (setting (rules W.version W.true_row W.told) T.told T.shows S.K.told)
+        path.now workers roots.now
+        (scene outside.old.hands.items (S.shows outside.old.store)
+        (streams O.shows outside.old.out outside.old.err))
+        (scene outside.new.hands.items (S.shows outside.new.store)
+        (streams O.shows outside.new.out outside.new.err)) result }
+    ensures count { vec_len outside.new.hands ≡ vec_len outside.old.hands }
+{
+    let end = scan_by(rt, alloc, path, workers, roots, outside);
+    say_end(alloc, &end, &mut outside.out, &mut outside.err)
 }

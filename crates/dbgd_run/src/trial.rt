@@ -1,6 +1,6 @@
 //! The command `trial`.
 
-ghost use Rattle.std.specs.Prelude.{◌≡◌, ◌≤◌, replicate, IfOk};
+ghost use Rattle.std.specs.Prelude.{◌≡◌, ◌≤◌, replicate, vec_len, IfOk};
 ghost use Rattle.std.specs.String.{string_bytes};
 ghost use Rattle.elf_forge.specs.Tree.{fresh_tree};
 ghost use Rattle.elf_forge.specs.declared.digits.TheConstants.{FILES_LIMIT};
@@ -10,6 +10,7 @@ ghost use Rattle.dbgd_run.specs.Trial.{HasScanned, IsLineOf, SaysTrial, forged_r
 ghost use Rattle.dbgd_run.specs.TrialPass.{EndsWell, IsNewIndex};
 ghost use Rattle.dbgd_words.specs.Limits.{IsTrialFit};
 
+use crate::handed::Outside;
 use crate::scan::show_end;
 use crate::speech::{say, say_no_memory};
 use crate::status::Status;
@@ -17,15 +18,16 @@ use crate::trial_keeper::TrialKeeper;
 use crate::trial_sum::{Totals, totals_in};
 use crate::trial_text::totals_line;
 use elf_forge::ForgeTree;
-use elf_reading::ElfReader;
+use elf_reading::{ElfReader, ElfTruth};
 use http_wire::Sink;
+use index_keeper::Store;
 use index_state::{OpenFault, State, open_state, show_index};
 use pass_runner::{PassEnd, Summary, scan_state};
 use row_types::{CanonPath, OpenWorld};
 use std::alloc::{AllocError, Global};
 use std::sync::Wait;
 use std::thread::Threads;
-use tree_trait::Gate;
+use tree_trait::{Gate, Tree};
 use tree_walk::WalkFault;
 
 /// The index of a trial.
@@ -132,22 +134,36 @@ fn line_of<G: Gate, Rt: Threads + Wait + Sync>(
 }
 
 /// Scans generated files into a new index in memory, by so many workers, and says what it has then.
-pub fn run_trial<O: Sink, G: Gate, Rt: Threads + Wait + Sync>(
+/// The hands and the store that the program is handed aren't looked at.
+pub fn run_trial<
+    W: ElfTruth + Send + Sync,
+    T: Tree<W>,
+    S: Store<W>,
+    O: Sink,
+    G: Gate + Drop,
+    Rt: Threads + Wait + Sync,
+>(
     rt: &Rt,
     alloc: Global,
     seed: u64,
     files: u64,
     workers: u64,
-    out: &mut O,
-    err: &mut O,
-    gate: &G,
+    outside: &mut Outside<W, T, S, O, G>,
 ) -> Status
     requires { IsTrialFit files workers }
-    ensures { SaysTrial seed files
-        (streams O.shows out.old err.old) (streams O.shows out.new err.new) result }
+    ensures says { SaysTrial seed files (streams O.shows outside.old.out outside.old.err)
+        (streams O.shows outside.new.out outside.new.err) result }
+    ensures hands { outside.new.hands.items ≡ outside.old.hands.items }
+    ensures count { vec_len outside.new.hands ≡ vec_len outside.old.hands }
+    ensures store { S.shows outside.new.store ≡ S.shows outside.old.store }
 {
-    match line_of(rt, alloc, seed, files, workers, gate) {
-        Ok(line) => say(line.as_bytes(), Status::Done, out, err),
-        Err(_) => say_no_memory(out, err),
+    match line_of(rt, alloc, seed, files, workers, &outside.gate) {
+        Ok(line) => say(
+            line.as_bytes(),
+            Status::Done,
+            &mut outside.out,
+            &mut outside.err,
+        ),
+        Err(_) => say_no_memory(&mut outside.out, &mut outside.err),
     }
 }

@@ -12,7 +12,7 @@ use std::marker::PhantomData;
 use std::process::Abort;
 use std::sync::Wait;
 use std::thread::Threads;
-use tree_trait::{NoGate, Tree};
+use tree_trait::{LoadAnswer, NoGate, Tree};
 
 /// When the objects around a hand fail: the call of the store from which on it fails, until it is
 /// opened again, those of its calls that fail once, the writes that fail on out and on err, and how
@@ -248,4 +248,22 @@ pub fn said_by<W: ElfTruth + Send + Sync, T: Tree<W>, Rt: Threads + Wait + Sync 
     assert!(rt; ended == 0, "{words:?}: {ended}");
     let got = outside.out.sink.written().expect(rt, "told");
     Vec::from_slice(alloc, got).expect(rt, "memory")
+}
+
+/// Whether a load by the hand at a place fails after a run of these words, which ends with 0.
+pub fn fails_after<W: ElfTruth + Send + Sync, T: Tree<W>, Rt: Threads + Wait + Sync + Abort>(
+    rt: &Rt,
+    alloc: Global,
+    hands: Vec<T>,
+    words: &[&str],
+    place: usize,
+) -> bool {
+    let store = empty_store(rt, alloc, &SOUND);
+    let mut outside = outside_of(rt, alloc, hands, store, &SOUND);
+    let ended = status_of(rt, alloc, &mut outside, words);
+    assert!(rt; ended == 0, "{words:?}: {ended}");
+    match outside.hands.as_mut_slice().get_mut(place) {
+        Some(hand) => matches!(hand.load(alloc, "/srv/a", 1000), LoadAnswer::Failed),
+        None => false,
+    }
 }

@@ -2,29 +2,19 @@
 
 use crate::runs::hands::Files::{BothAltered, Two};
 use crate::runs::hands::{hand_of, reference, turning};
-use crate::runs::rig::{Run, SOUND, empty_store, run_over, words_of};
+use crate::runs::rig::{Run, SOUND, empty_store, fails_after, run_over, words_of};
 use dbgd_run::needs;
 use row_types::OpenWorld;
 use std::alloc::Global;
 use std::process::Abort;
 use tree_trait::MemTree;
 
-/// The first scan of the reference tree, and one that finds nothing new. The lines are those of the
-/// worked row of this tree.
-static TWICE: [Run; 2] = [
-    Run(
-        &["scan", "-d", "m", "/srv/bin", "/srv/debug", "/w"],
-        b"scan: 12 files, 12 added, 0 replaced, 0 dropped, 0 kept, 4 executables, 4 debuginfo\n",
-        "",
-        0,
-    ),
-    Run(
-        &["scan", "-d", "m", "/srv/bin", "/srv/debug", "/w"],
-        b"scan: 12 files, 12 added, 0 replaced, 0 dropped, 0 kept, 4 executables, 4 debuginfo\n\
-            scan: 12 files, 0 added, 0 replaced, 0 dropped, 12 kept, 4 executables, 4 debuginfo\n",
-        "",
-        0,
-    ),
+/// What the first scan of the reference tree prints, and what one that finds nothing new prints behind
+/// it. The lines are those of the worked row of this tree.
+static LINES: [&[u8]; 2] = [
+    b"scan: 12 files, 12 added, 0 replaced, 0 dropped, 0 kept, 4 executables, 4 debuginfo\n",
+    b"scan: 12 files, 12 added, 0 replaced, 0 dropped, 0 kept, 4 executables, 4 debuginfo\n\
+        scan: 12 files, 0 added, 0 replaced, 0 dropped, 12 kept, 4 executables, 4 debuginfo\n",
 ];
 
 /// So many hands, each of which has the reference tree.
@@ -36,32 +26,44 @@ fn references(rt: &impl Abort, alloc: Global, count: u64) -> Vec<MemTree<OpenWor
     hands
 }
 
-/// Numbers of hands: two, and one for each worker.
-static HANDS: [u64; 4] = [3, 4, 9, 66];
+/// Numbers of workers, and of the hands: two, and one for each of them, or fewer, or more.
+static WORKERS: [(&str, u64); 6] = [
+    ("1", 3),
+    ("2", 4),
+    ("7", 9),
+    ("64", 66),
+    ("64", 5),
+    ("1", 9),
+];
 
 #[test]
 fn any_number_of_workers_says_the_same(rt: HostRuntime) {
     let alloc = rt.alloc();
-    for count in &HANDS {
-        let hands = references(&rt, alloc, *count);
+    let [first, both] = LINES;
+    for (workers, count) in &WORKERS {
+        let words = [
+            "scan",
+            "-d",
+            "m",
+            "-c",
+            *workers,
+            "/srv/bin",
+            "/srv/debug",
+            "/w",
+        ];
         run_over(
             &rt,
             alloc,
-            hands,
+            references(&rt, alloc, *count),
             empty_store(&rt, alloc, &SOUND),
             &SOUND,
-            &TWICE,
+            &[Run(&words, first, "", 0), Run(&words, both, "", 0)],
         );
     }
 }
 
 /// Two files are others by the time that they are loaded; the first of them is told.
-static FIRST_OF_TWO: [Run; 1] = [Run(
-    &["scan", "-d", "m", "/srv"],
-    b"",
-    "dbgd: altered /srv/a listed 488:100:000000000 seen 7:100:000000000\n",
-    4,
-)];
+static FIRST_OF_TWO: &str = "dbgd: altered /srv/a listed 488:100:000000000 seen 7:100:000000000\n";
 
 /// So many hands: files change for the first one behind its walk, and for the others they have
 /// changed before. A walk of two files makes four calls.
@@ -77,20 +79,45 @@ fn changing(rt: &impl Abort, alloc: Global, count: u64) -> Vec<MemTree<OpenWorld
     hands
 }
 
-// With one, two and seven workers.
 #[test]
 fn the_first_of_two_altered_files_is_told(rt: HostRuntime) {
     let alloc = rt.alloc();
-    for count in [3, 4, 9] {
-        let hands = changing(&rt, alloc, count);
+    for (workers, count) in [("1", 3), ("2", 4), ("7", 9)] {
+        let words = ["scan", "-d", "m", "-c", workers, "/srv"];
         run_over(
             &rt,
             alloc,
-            hands,
+            changing(&rt, alloc, count),
             empty_store(&rt, alloc, &SOUND),
             &SOUND,
-            &FIRST_OF_TWO,
+            &[Run(&words, b"", FIRST_OF_TWO, 4)],
         );
+    }
+}
+
+/// Three hands, and two that fail at their first call and at no other.
+fn with_others(rt: &impl Abort, alloc: Global) -> Vec<MemTree<OpenWorld>> {
+    let mut hands = Vec::new(alloc);
+    for place in 0..5 {
+        let bad: &[u64] = if place < 3 { &[] } else { &[0] };
+        hands
+            .push(hand_of(rt, alloc, &Two, bad))
+            .expect(rt, "memory");
+    }
+    hands
+}
+
+/// Hands, from 0, and whether their first call behind a scan by one worker fails: those that were not
+/// asked by the scan fail then. The worker has loaded both files.
+static NEXT_CALLS: [(usize, bool); 3] = [(2, false), (3, true), (4, true)];
+
+#[test]
+fn hands_behind_those_of_the_workers_are_not_asked(rt: HostRuntime) {
+    let alloc = rt.alloc();
+    for (place, fails) in &NEXT_CALLS {
+        let words = ["scan", "-d", "m", "-c", "1", "/srv"];
+        let failed = fails_after(&rt, alloc, with_others(&rt, alloc), &words, *place);
+        assert!(rt; failed == *fails, "{place}: {failed}");
     }
 }
 
