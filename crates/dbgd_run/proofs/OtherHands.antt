@@ -40,23 +40,17 @@ all_front : {T : Type 0} (P : T → Type 0) (xs ys : List T) → All P (xs ++ ys
 all_front {T} P xs ys all =
     subst (λ (l : List T). All P l) (take_at xs ys (length xs) refl) (All-take P (length xs) (xs ++ ys) all)
 
-module _ {T : Type 0} (s : Setting T) (roots : List (List ℕ)) (rest : List T) {hand later : T} {hands left : List T} {old new : ShownStore} where
-  -- a hand that isn't asked helps with nothing
-  idle : (listing : List NameFacts) (rows : List RowFacts) (one : T) → HelpsWith s listing rows one one
-  idle listing rows one = record {
-    more = [];
-    listens = listens_none;
-    spares = All-nil (IsSparing (filter (is_in (row_names rows)) listing));
-  }
+-- a hand that isn't asked helps with nothing
+idle : {T : Type 0} (s : Setting T) (listing : List NameFacts) (rows : List RowFacts) (one : T) → HelpsWith s listing rows one one
+idle s listing rows one = record {
+  more = [];
+  listens = listens_none;
+  spares = All-nil (IsSparing (filter (is_in (row_names rows)) listing));
+}
 
-  abbrev Before : List T
-  Before = (hand ∷ hands) ++ rest
-
-  abbrev After : List T
-  After = (later ∷ left) ++ rest
-
+module _ {T : Type 0} (s : Setting T) (roots : List (List ℕ)) (rest : List T) (hand later : T) (hands left : List T) (old new : ShownStore) where
   makes_beside : {Ends : List NameFacts → List Heard → List RowFacts → List RowFacts → List RowFacts → Type 0}
-      → MakesPass s roots (hand ∷ hands) (later ∷ left) old new Ends → MakesPass s roots Before After old new Ends
+      → MakesPass s roots (hand ∷ hands) (later ∷ left) old new Ends → MakesPass s roots ((hand ∷ hands) ++ rest) ((later ∷ left) ++ rest) old new Ends
   makes_beside run = record {
     found = run.found;
     held = run.held;
@@ -70,7 +64,7 @@ module _ {T : Type 0} (s : Setting T) (roots : List (List ℕ)) (rest : List T) 
     more = run.more;
     hands = (
       run.hands.0,
-      zip_beside (HelpsWith s run.walk.listing (current run.found)) hands left rest (idle run.walk.listing (current run.found)) run.hands.1,
+      zip_beside (HelpsWith s run.walk.listing (current run.found)) hands left rest (idle s run.walk.listing (current run.found)) run.hands.1,
     );
     kept = run.kept;
     stays = run.stays;
@@ -81,7 +75,7 @@ module _ {T : Type 0} (s : Setting T) (roots : List (List ℕ)) (rest : List T) 
   }
 
   helped_beside : {Ends : List RowFacts → Type 0} → EndsHelped s roots (hand ∷ hands) (later ∷ left) old new Ends
-      → EndsHelped s roots Before After old new Ends
+      → EndsHelped s roots ((hand ∷ hands) ++ rest) ((later ∷ left) ++ rest) old new Ends
   helped_beside run = record {
     found = run.found;
     held = run.held;
@@ -91,27 +85,27 @@ module _ {T : Type 0} (s : Setting T) (roots : List (List ℕ)) (rest : List T) 
     walk = run.walk;
     hands = (
       run.hands.0,
-      zip_beside (HelpsWith s run.walk.listing (current run.found)) hands left rest (idle run.walk.listing (current run.found)) run.hands.1,
+      zip_beside (HelpsWith s run.walk.listing (current run.found)) hands left rest (idle s run.walk.listing (current run.found)) run.hands.1,
     );
     stays = run.stays;
     ends = run.ends;
   }
 
-  unbegun_beside : EndsUnbegun s roots (hand ∷ hands) (later ∷ left) old new → EndsUnbegun s roots Before After old new
+  unbegun_beside : EndsUnbegun s roots (hand ∷ hands) (later ∷ left) old new → EndsUnbegun s roots ((hand ∷ hands) ++ rest) ((later ∷ left) ++ rest) old new
   unbegun_beside run = record {
     found = run.found;
     held = run.held;
     walk = run.walk;
     hands = (
       run.hands.0,
-      zip_beside (HelpsWith s run.walk.listing (current run.found)) hands left rest (idle run.walk.listing (current run.found)) run.hands.1,
+      zip_beside (HelpsWith s run.walk.listing (current run.found)) hands left rest (idle s run.walk.listing (current run.found)) run.hands.1,
     );
     has = run.has;
     made = run.made;
   }
 
   walk_beside : {Walked : ShownTree → ShownTree → Type 0} → EndsInWalk s (hand ∷ hands) (later ∷ left) old new Walked
-      → EndsInWalk s Before After old new Walked
+      → EndsInWalk s ((hand ∷ hands) ++ rest) ((later ∷ left) ++ rest) old new Walked
   walk_beside run = record {
     found = run.found;
     held = run.held;
@@ -121,7 +115,7 @@ module _ {T : Type 0} (s : Setting T) (roots : List (List ℕ)) (rest : List T) 
   }
 
   passed_beside : (end : PassEnd) → EndsPassed s roots (hand ∷ hands) (later ∷ left) old new end
-      → EndsPassed s roots Before After old new end
+      → EndsPassed s roots ((hand ∷ hands) ++ rest) ((later ∷ left) ++ rest) old new end
   passed_beside (ended.Whole summary) run = makes_beside run
   passed_beside (ended.Missed miss) run = makes_beside run
   passed_beside (ended.Walk fault) run = walk_beside run
@@ -133,10 +127,10 @@ module _ {T : Type 0} (s : Setting T) (roots : List (List ℕ)) (rest : List T) 
   passed_beside ended.OutOfMemory (inr (inl run)) = inr (inl (makes_beside run))
   passed_beside ended.OutOfMemory (inr (inr run)) = inr (inr (helped_beside run))
 
-  early_beside : (fault : OpenFault) → EndsEarly s (hand ∷ hands) (later ∷ left) old new fault → EndsEarly s Before After old new fault
+  early_beside : (fault : OpenFault) → EndsEarly s (hand ∷ hands) (later ∷ left) old new fault → EndsEarly s ((hand ∷ hands) ++ rest) ((later ∷ left) ++ rest) old new fault
   early_beside fault run = record { hands = ap (λ (l : List T). l ++ rest) run.hands; store = run.store }
 
-  ends_beside : (end : ScanEnd) → EndsBy s roots (hand ∷ hands) (later ∷ left) old new end → EndsBy s roots Before After old new end
+  ends_beside : (end : ScanEnd) → EndsBy s roots (hand ∷ hands) (later ∷ left) old new end → EndsBy s roots ((hand ∷ hands) ++ rest) ((later ∷ left) ++ rest) old new end
   ends_beside (Refused fault) run = early_beside fault run
   ends_beside (Passed end) run = passed_beside end run
 
@@ -170,24 +164,25 @@ module _ {T : Type 0} (sees : T → ShownTree) (before after rest : List T) (sam
   by_beside (Refused fault) hear = tt
   by_beside (Passed end) hear = pass_beside end hear
 
+-- how a scan hands the first hand on, and each other one
+abbrev First : {T : Type 0} → Setting T → ScanEnd → T → T → Type 0
+First s end hand later = HandsOn s.tells_files s.world.version (s.sees hand) (s.sees later) ⊥ (IsTrue (is_hand_fault end))
+
+abbrev Other : {T : Type 0} → Setting T → T → T → Type 0
+Other s hand later = HandsOn s.tells_files s.world.version (s.sees hand) (s.sees later) ⊥ ⊥
+
 module _ {T : Type 0} (s : Setting T) (path : List ℕ) {roots : List (List ℕ)} {old new : ShownStore} (end : ScanEnd) where
-  abbrev First : T → T → Type 0
-  First hand later = HandsOn s.tells_files s.world.version (s.sees hand) (s.sees later) ⊥ (IsTrue (is_hand_fault end))
-
-  abbrev Other : T → T → Type 0
-  Other hand later = HandsOn s.tells_files s.world.version (s.sees hand) (s.sees later) ⊥ ⊥
-
   -- a scan that some of the hands were lent to is one of all of them
   scans_beside : (before after rest : List T) → (3 ≤ length (before ++ rest) → 3 ≤ length before)
       → Scans s path roots before after old new end → Scans s path roots (before ++ rest) (after ++ rest) old new end
   scans_beside (hand ∷ hands) (later ∷ left) rest enough scans =
-      let same = goes_length First Other (hand ∷ hands) (later ∷ left) scans.hands in
+      let same = goes_length (First s end) (Other s) (hand ∷ hands) (later ∷ left) scans.hands in
       record {
-        ends = ends_beside s roots rest end scans.ends;
+        ends = ends_beside s roots rest hand later hands left old new end scans.ends;
         loads = by_beside s.sees (hand ∷ hands) (later ∷ left) rest same enough end scans.loads;
         hands = (
           scans.hands.0,
-          zip_beside Other hands left rest (λ h. stays_on s.tells_files s.world.version (s.sees h) (λ none. none)) scans.hands.1,
+          zip_beside (Other s) hands left rest (λ h. stays_on s.tells_files s.world.version (s.sees h) (λ none. none)) scans.hands.1,
         );
         store = scans.store;
         later = scans.later;
