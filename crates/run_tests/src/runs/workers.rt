@@ -36,6 +36,9 @@ static WORKERS: [(&str, u64); 6] = [
     ("1", 9),
 ];
 
+/// A later scan of the same folders, by four workers.
+static AGAIN: [&str; 6] = ["scan", "-d", "m", "/srv/bin", "/srv/debug", "/w"];
+
 #[test]
 fn any_number_of_workers_says_the_same(rt: HostRuntime) {
     let alloc = rt.alloc();
@@ -57,7 +60,7 @@ fn any_number_of_workers_says_the_same(rt: HostRuntime) {
             references(&rt, alloc, *count),
             empty_store(&rt, alloc, &SOUND),
             &SOUND,
-            &[Run(&words, first, "", 0), Run(&words, both, "", 0)],
+            &[Run(&words, first, "", 0), Run(&AGAIN, both, "", 0)],
         );
     }
 }
