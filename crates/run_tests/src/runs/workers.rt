@@ -26,41 +26,65 @@ fn references(rt: &impl Abort, alloc: Global, count: u64) -> Vec<MemTree<OpenWor
     hands
 }
 
-/// Numbers of workers, and of the hands: two, and one for each of them, or fewer, or more.
-static WORKERS: [(&str, u64); 6] = [
-    ("1", 3),
-    ("2", 4),
-    ("7", 9),
-    ("64", 66),
-    ("64", 5),
-    ("1", 9),
+/// Scans of the reference tree by numbers of workers, and numbers of hands: two, and one for each of
+/// the workers, or fewer, or more.
+static SCANS: [(&[&str], u64); 6] = [
+    (
+        &["scan", "-d", "m", "-c", "1", "/srv/bin", "/srv/debug", "/w"],
+        3,
+    ),
+    (
+        &["scan", "-d", "m", "-c", "2", "/srv/bin", "/srv/debug", "/w"],
+        4,
+    ),
+    (
+        &["scan", "-d", "m", "-c", "7", "/srv/bin", "/srv/debug", "/w"],
+        9,
+    ),
+    (
+        &[
+            "scan",
+            "-d",
+            "m",
+            "-c",
+            "64",
+            "/srv/bin",
+            "/srv/debug",
+            "/w",
+        ],
+        66,
+    ),
+    (
+        &[
+            "scan",
+            "-d",
+            "m",
+            "-c",
+            "64",
+            "/srv/bin",
+            "/srv/debug",
+            "/w",
+        ],
+        5,
+    ),
+    (
+        &["scan", "-d", "m", "-c", "1", "/srv/bin", "/srv/debug", "/w"],
+        9,
+    ),
 ];
-
-/// A later scan of the same folders, by four workers.
-static AGAIN: [&str; 6] = ["scan", "-d", "m", "/srv/bin", "/srv/debug", "/w"];
 
 #[test]
 fn any_number_of_workers_says_the_same(rt: HostRuntime) {
     let alloc = rt.alloc();
     let [first, both] = LINES;
-    for (workers, count) in &WORKERS {
-        let words = [
-            "scan",
-            "-d",
-            "m",
-            "-c",
-            *workers,
-            "/srv/bin",
-            "/srv/debug",
-            "/w",
-        ];
+    for (words, count) in &SCANS {
         run_over(
             &rt,
             alloc,
             references(&rt, alloc, *count),
             empty_store(&rt, alloc, &SOUND),
             &SOUND,
-            &[Run(&words, first, "", 0), Run(&AGAIN, both, "", 0)],
+            &[Run(*words, first, "", 0), Run(*words, both, "", 0)],
         );
     }
 }
