@@ -16,11 +16,11 @@ is_of_class Executable i = i.exec
 is_of_class Debuginfo i = i.debug
 
 -- the file has an identity of this id and class
-pub record IsOf (kind : Kind) (id : List ℕ) (b : List ℕ) (i : Identity) : Type 0 where
+pub record IsOfClass (kind : Kind) (id : List ℕ) (b : List ℕ) (i : Identity) : Type 0 where
   pub identity : IsIdentity b (Ok i)
   pub same_id : i.id ≡ id
   pub of_class : is_of_class kind i ≡ true
 
 -- the bytes are a file of this id and class
 abbrev pub IsCertified : Kind → List ℕ → List ℕ → Type 0
-IsCertified kind id b = (i : Identity) × IsOf kind id b i
+IsCertified kind id b = (i : Identity) × IsOfClass kind id b i

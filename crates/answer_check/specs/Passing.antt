@@ -12,8 +12,8 @@ use Rattle.answer_check.specs.declared.passed.Passed.{Passed}
 use Rattle.answer_check.specs.declared.passed.Passed.TheVariants as passed
 
 -- the file of a class and an id with these bytes
-abbrev pub file_of : Kind → List ℕ → List ℕ → CertifiedFacts
-file_of class id bytes = record { kind = class; id = id; bytes = bytes }
+abbrev pub certified_file : Kind → List ℕ → List ℕ → CertifiedFacts
+certified_file class id bytes = record { kind = class; id = id; bytes = bytes }
 
 -- these bytes of a candidate of the class pass: a file of the id and of the class that is asked; for a section a file of
 -- the id and of the candidate's class that has the section; any bytes of a source
@@ -25,22 +25,22 @@ Passes (Section id name) None bytes = ⊥
 Passes (Source id path) class bytes = Unit {0}
 
 -- what is given of bytes that pass: the file, the section of the route's name, the source
-abbrev pub Gives : Route → Option Kind → List ℕ → Passed → Type 0
-Gives (Debuginfo id) class bytes (passed.File file) = file ≡ file_of kind.Debuginfo id bytes
-Gives (Executable id) class bytes (passed.File file) = file ≡ file_of kind.Executable id bytes
-Gives (Section id name) (Some class) bytes (passed.Section section) = section ≡ named (file_of class id bytes) name
-Gives (Source id path) class bytes (passed.Source source) = source.items ≡ bytes
-Gives _ _ _ _ = ⊥
+abbrev pub GivesPassed : Route → Option Kind → List ℕ → Passed → Type 0
+GivesPassed (Debuginfo id) class bytes (passed.File file) = file ≡ certified_file kind.Debuginfo id bytes
+GivesPassed (Executable id) class bytes (passed.File file) = file ≡ certified_file kind.Executable id bytes
+GivesPassed (Section id name) (Some class) bytes (passed.Section section) = section ≡ named (certified_file class id bytes) name
+GivesPassed (Source id path) class bytes (passed.Source source) = source.items ≡ bytes
+GivesPassed _ _ _ _ = ⊥
 
 -- what came of the check of bytes
 abbrev pub Checks : Route → Option Kind → List ℕ → Checked → Type 0
-Checks route class bytes (checked.Passed given) = Passes route class bytes × Gives route class bytes given
+Checks route class bytes (checked.Passed given) = Passes route class bytes × GivesPassed route class bytes given
 Checks route class bytes checked.Refused = ¬ Passes route class bytes
 Checks route class bytes checked.OutOfMemory = Unit {0}
 
 -- what came of the check of bytes that are to be a file of this class and id
 abbrev pub ChecksFile : Kind → List ℕ → List ℕ → Checked → Type 0
-ChecksFile class id bytes (checked.Passed (passed.File file)) = IsCertified class id bytes × (file ≡ file_of class id bytes)
+ChecksFile class id bytes (checked.Passed (passed.File file)) = IsCertified class id bytes × (file ≡ certified_file class id bytes)
 ChecksFile class id bytes (checked.Passed _) = ⊥
 ChecksFile class id bytes checked.Refused = ¬ IsCertified class id bytes
 ChecksFile class id bytes checked.OutOfMemory = ⊥

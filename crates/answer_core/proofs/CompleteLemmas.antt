@@ -20,7 +20,7 @@ use Rattle.row_types.specs.declared.reading.Reading.{Reading}
 use Rattle.row_types.specs.declared.reading.Reading.TheVariants.{Plain, Elf}
 use Rattle.index_rows.specs.Classes.{has_class, is_of_kind}
 use Rattle.tree_trait.specs.Found.{FoundFacts, Versions}
-use Rattle.tree_trait.specs.Heard.{Heard, has_failed, load}
+use Rattle.tree_trait.specs.Heard.{Heard, call_failed, load}
 use Rattle.tree_trait.specs.Load.{FitsLoad, IsAskedFile, LoadFacts, TellsLoad, loaded, too_large, gone, failed, no_memory}
 use Rattle.answer_check.specs.Certified.{IsCertified, is_of_class}
 use Rattle.webapi_routes.specs.declared.route.Route.{Route}
@@ -31,7 +31,7 @@ use Rattle.answer_core.specs.declared.candidate.Candidate.{Candidate}
 -- the load of a candidate that would pass, and gave nothing, failed
 load_failed : (hand : Hand) (route : Route) (one : Candidate) → WouldPass hand route one → (answer : LoadFacts)
     → FitsLoad hand.version one.path FILE_LIMIT answer → TellsLoad hand.start.present one.path answer
-    → GivesNothing route one.class answer → IsTrue (has_failed (load one.path FILE_LIMIT answer))
+    → GivesNothing route one.class answer → IsTrue (call_failed (load one.path FILE_LIMIT answer))
 load_failed hand route one would (loaded found) fits tells nothing =
     absurd (nothing (would.passes found fits (same_Some found.stamp would.stamp (sym tells ∙ would.there))))
 load_failed hand route one would (too_large stamp) fits tells nothing =
@@ -43,20 +43,20 @@ load_failed hand route one would failed fits tells nothing = refl
 load_failed hand route one would no_memory fits tells nothing = absurd nothing
 
 one_failed : (hand : Hand) (route : Route) (one : Candidate) (heard : Heard) → IsTrue hand.told → hand.start.Still
-    → WouldPass hand route one → DoesNotPass hand route one heard → has_failed heard ≡ true
+    → WouldPass hand route one → DoesNotPass hand route one heard → call_failed heard ≡ true
 one_failed hand route one heard told still would d =
-    ap has_failed d.loads.asked
+    ap call_failed d.loads.asked
     ∙ load_failed hand route one would d.answer d.loads.fits (d.loads.tells told still) d.nothing
 
 some_failed : (hand : Hand) (route : Route) (all : List Candidate) (answers : List Heard) → IsTrue hand.told
     → hand.start.Still → AllZip (DoesNotPass hand route) all answers → SomeWouldPass hand route all
-    → list_any has_failed answers ≡ true
+    → list_any call_failed answers ≡ true
 some_failed hand route [] answers told still none some = absurd some
 some_failed hand route (one ∷ all) [] told still none some = absurd none
 some_failed hand route (one ∷ all) (heard ∷ answers) told still none (inl would) =
-    or_left (has_failed heard) (list_any has_failed answers) (one_failed hand route one heard told still would none.0)
+    or_left (call_failed heard) (list_any call_failed answers) (one_failed hand route one heard told still would none.0)
 some_failed hand route (one ∷ all) (heard ∷ answers) told still none (inr some) =
-    or_right (has_failed heard) (list_any has_failed answers)
+    or_right (call_failed heard) (list_any call_failed answers)
     (some_failed hand route all answers told still none.1 some)
 
 -- nothing was found only where no candidate that would pass is there

@@ -5,8 +5,8 @@ use Rattle.std.proofs.Common.{if◌then◌else◌}
 use Rattle.std.proofs.lemmas.List.{append-nil}
 use Rattle.row_types.specs.declared.limits.TheConstants.{FILE_LIMIT}
 use Rattle.row_types.specs.Name.{NameFacts}
-use Rattle.tree_trait.specs.Asks.{Asks}
-use Rattle.tree_trait.specs.Heard.{Heard, load, has_failed, wants_memory, with_answers}
+use Rattle.tree_trait.specs.Asks.{AsksTree}
+use Rattle.tree_trait.specs.Heard.{Heard, load, call_failed, wants_memory, with_answers}
 use Rattle.tree_trait.specs.Load.{LoadFacts, TellsLoad, loaded, too_large, gone, failed, no_memory}
 use Rattle.tree_trait.specs.Shown.{HandsOn, ShownTree}
 use Rattle.answer_core.specs.Loads.{Hand, Hears, IsAnswer, IsLoad}
@@ -49,8 +49,8 @@ hears_as f hears = record {
 -- what some calls leave of a tree, and then one more
 hands_more : {hand : Hand} {now after : ShownTree} {asked : Heard} {Before After : Type 0} (answers more : List Heard)
     → HandsOn hand.told hand.version hand.start now (0 < length answers) Before
-    → Asks hand.told hand.version now after asked
-    → (After → Before ⊎ IsTrue (has_failed asked))
+    → AsksTree hand.told hand.version now after asked
+    → (After → Before ⊎ IsTrue (call_failed asked))
     → HandsOn hand.told hand.version hand.start after (0 < length more) After
 hands_more answers more first asks fails =
     let second = asks.hands in
@@ -75,8 +75,8 @@ hands_more answers more first asks fails =
 -- one more answer was heard
 pub hears_more : {hand : Hand} {now after : ShownTree} {answers : List Heard} {Before After : Type 0} (asked : Heard)
     → wants_memory asked ≡ false → Hears hand now answers Before
-    → Asks hand.told hand.version now after asked
-    → (After → Before ⊎ IsTrue (has_failed asked)) → Hears hand after (answers ++ asked ∷ []) After
+    → AsksTree hand.told hand.version now after asked
+    → (After → Before ⊎ IsTrue (call_failed asked)) → Hears hand after (answers ++ asked ∷ []) After
 hears_more {hand} {now} {after} {answers} asked given hears asks fails = record {
   heard = asks.listed
       ∙ ap (λ b. if b then now.heard else with_answers now.heard (asked ∷ [])) given
@@ -88,7 +88,7 @@ hears_more {hand} {now} {after} {answers} asked given hears asks fails = record 
 -- memory was refused for one more answer
 pub hears_less : {hand : Hand} {now after : ShownTree} {answers : List Heard} {Before : Type 0} (asked : Heard)
     → wants_memory asked ≡ true → Hears hand now answers Before
-    → Asks hand.told hand.version now after asked → Hears hand after answers ⊥
+    → AsksTree hand.told hand.version now after asked → Hears hand after answers ⊥
 hears_less {hand} {now} {after} {answers} asked refused hears asks = record {
   heard = asks.listed
       ∙ ap (λ b. if b then now.heard else with_answers now.heard (asked ∷ [])) refused
@@ -99,7 +99,7 @@ hears_less {hand} {now} {after} {answers} asked refused hears asks = record {
 -- the load of a candidate, as it was heard
 pub load_is : {hand : Hand} {now after : ShownTree} {answers : List Heard} {Before : Type 0} (one : Candidate)
     (answer : LoadFacts) → Hears hand now answers Before
-    → Asks hand.told hand.version now after (load one.path FILE_LIMIT answer)
+    → AsksTree hand.told hand.version now after (load one.path FILE_LIMIT answer)
     → IsLoad hand one answer (load one.path FILE_LIMIT answer)
 load_is one answer hears asks = record {
   asked = refl;
@@ -120,7 +120,7 @@ is_given path limit failed h = absurd h
 is_given path limit no_memory h = absurd h
 
 pub is_no_failure : (path : List ℕ) (limit : ℕ) (answer : LoadFacts) → IsAnswer answer
-    → has_failed (load path limit answer) ≡ false
+    → call_failed (load path limit answer) ≡ false
 is_no_failure path limit (loaded found) h = refl
 is_no_failure path limit (too_large stamp) h = refl
 is_no_failure path limit gone h = refl

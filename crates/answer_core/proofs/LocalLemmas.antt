@@ -4,7 +4,7 @@ use Rattle.row_types.specs.Row.{RowFacts}
 use Rattle.index_rows.specs.declared.change.Change.{Change}
 use Rattle.webapi_routes.specs.declared.route.Route.{Route}
 use Rattle.tree_trait.specs.Shown.{ShownTree}
-use Rattle.answer_core.specs.Loads.{Hand, HasPassed}
+use Rattle.answer_core.specs.Loads.{Hand, HasCandidatePassed}
 use Rattle.answer_core.specs.Candidates.{candidates}
 use Rattle.answer_core.specs.Local.{AnswersFrom, AreCandidatesAt, AreRowsAt, IsGiven}
 use Rattle.answer_core.specs.declared.candidate.Candidate.{Candidate}
@@ -22,7 +22,7 @@ candidates_at folders route items (Err fault) stood are = tt
 
 -- what the first candidate that passed gives is the answer
 pub from_first : (hand : Hand) (route : Route) (all : List Candidate) (place : ℕ) (given : Passed) (path : List ℕ)
-    (generation : ℕ) (answer : Local) (now : ShownTree) → HasPassed hand route all place given now
+    (generation : ℕ) (answer : Local) (now : ShownTree) → HasCandidatePassed hand route all place given now
     → ((one : Candidate) → one ≡ slice_index_or all place one → path ≡ one.path)
     → IsGiven given path generation answer → AnswersFrom hand route all generation answer now
 from_first hand route all place (passed.File x) path generation answer now h named is =

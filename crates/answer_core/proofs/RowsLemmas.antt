@@ -9,7 +9,7 @@ use Rattle.row_types.specs.declared.identity.Kind.TheVariants as kind
 use Rattle.answer_check.specs.Certified.{IsCertified}
 use Rattle.webapi_routes.specs.declared.route.Route.{Route}
 use Rattle.webapi_routes.specs.declared.route.Route.TheVariants.{Debuginfo, Executable, Source, Section}
-use Rattle.answer_core.specs.Candidates.{as_class, candidates, is_in_one, is_listed, of_class, source_in}
+use Rattle.answer_core.specs.Candidates.{as_class, candidates, is_in_one, is_source_listed, of_class, source_in}
 use Rattle.answer_core.specs.Complete.{HasToFind, IsSourceThere, IsThere, IsToldWorld, NoneIsThere, SomeWouldPass, WouldPass}
 use Rattle.answer_core.specs.Loads.{Hand, NonePasses}
 use Rattle.answer_core.specs.Local.{AreCandidatesAt, Sight}
@@ -71,9 +71,9 @@ source_has : (hand : Hand) (folders : List (List ℕ)) (id path : List ℕ) (row
     → Contains rows row → IsSourceThere hand folders id path row
     → SomeWouldPass hand (Source id path) (source_in rows folders id path)
 source_has hand folders id path rows row in_ there =
-    let listed : is_listed rows id path ≡ true =
+    let listed : is_source_listed rows id path ≡ true =
     list_any_at (λ r. lists_source id path r.reading) rows in_.0 row in_.1 (ap (λ r. lists_source id path r.reading) in_.2 ∙ there.lists) in
-    let both : (is_listed rows id path && is_in_one folders path) ≡ true =
+    let both : (is_source_listed rows id path && is_in_one folders path) ≡ true =
     ap (λ b. b && is_in_one folders path) listed ∙ there.inside in
     rw both (inl (record { stamp = there.stamp; there = there.at; small = there.small; passes = λ found fits same. tt }))
 

@@ -6,12 +6,12 @@ use Rattle.std.proofs.lemmas.List.{take_more}
 use Rattle.std.proofs.lemmas.List.Folds.{list_any-append}
 use Rattle.std.specs.List.{AllZip, list_any}
 use Rattle.row_types.specs.declared.limits.TheConstants.{FILE_LIMIT}
-use Rattle.tree_trait.specs.Asks.{Asks}
-use Rattle.tree_trait.specs.Heard.{Heard, load, has_failed, wants_memory}
+use Rattle.tree_trait.specs.Asks.{AsksTree}
+use Rattle.tree_trait.specs.Heard.{Heard, load, call_failed, wants_memory}
 use Rattle.tree_trait.specs.Load.{LoadFacts, loaded, too_large, gone, failed, no_memory}
 use Rattle.tree_trait.specs.Shown.{ShownTree}
 use Rattle.webapi_routes.specs.declared.route.Route.{Route}
-use Rattle.answer_core.specs.Loads.{DoesNotPass, Hand, HasPassed, HasTried, Hears, Tries}
+use Rattle.answer_core.specs.Loads.{DoesNotPass, Hand, HasCandidatePassed, HasTried, Hears, Tries}
 use Rattle.answer_core.specs.declared.attempt.Tried.TheVariants as tried
 use Rattle.answer_core.specs.declared.candidate.Candidate.{Candidate}
 use Rattle.answer_check.specs.declared.passed.Passed.{Passed}
@@ -54,8 +54,8 @@ tried_refused {hand} {route} {done} {fails} {now} {after} one h t =
       none = record {
         none = zip_more (DoesNotPass hand route) done h.answers one heard h.none.none
             (record { answer = t.0; loads = load_is one t.0 h.hears t.1; nothing = t.2 });
-        failed = list_any-append has_failed h.answers (heard ∷ [])
-            ∙ or_same (list_any has_failed h.answers) (has_failed heard) sound ∙ h.none.failed;
+        failed = list_any-append call_failed h.answers (heard ∷ [])
+            ∙ or_same (list_any call_failed h.answers) (call_failed heard) sound ∙ h.none.failed;
       };
       hears = hears_more heard (is_given one.path FILE_LIMIT t.0 t.3) h.hears t.1 (λ f. inl f);
     }
@@ -72,7 +72,7 @@ tried_failed {hand} {route} {done} {fails} {now} {after} one h t =
       none = record {
         none = zip_more (DoesNotPass hand route) done h.answers one heard h.none.none
             (record { answer = failed; loads = load_is one failed h.hears t; nothing = tt });
-        failed = list_any-append has_failed h.answers (heard ∷ []) ∙ or_right (list_any has_failed h.answers) true refl;
+        failed = list_any-append call_failed h.answers (heard ∷ []) ∙ or_right (list_any call_failed h.answers) true refl;
       };
       hears = hears_more heard refl h.hears t (λ f. inr refl);
     }
@@ -82,7 +82,7 @@ pub tried_passed : {hand : Hand} {route : Route} {all : List Candidate} {fails :
     (place : ℕ) (one : Candidate) (given : Passed) → place < length all → one ≡ get_or all place one
     → HasTried hand route (take place all) fails now
     → Tries hand.told hand.version route one now after (tried.Passed given)
-    → HasPassed hand route all place given after
+    → HasCandidatePassed hand route all place given after
 tried_passed {hand} {route} {all} {fails} {now} {after} place one given within there h t =
     let heard : Heard = load one.path FILE_LIMIT (loaded t.0) in
     record {
@@ -108,13 +108,13 @@ pub tried_memory : {hand : Hand} {route : Route} {done : List Candidate} {fails 
 tried_memory {hand} {route} {done} {fails} {now} {after} one h t = ended t.0 t.1
   where
     listed : (answer : LoadFacts) → wants_memory (load one.path FILE_LIMIT answer) ≡ false
-        → Asks hand.told hand.version now after (load one.path FILE_LIMIT answer)
+        → AsksTree hand.told hand.version now after (load one.path FILE_LIMIT answer)
         → (answers : List Heard) × Hears hand after answers ⊥
     listed answer given asks =
         let heard : Heard = load one.path FILE_LIMIT answer in
         (h.answers ++ heard ∷ [], hears_more heard given h.hears asks (λ f. absurd f))
 
-    ended : (answer : LoadFacts) → Asks hand.told hand.version now after (load one.path FILE_LIMIT answer)
+    ended : (answer : LoadFacts) → AsksTree hand.told hand.version now after (load one.path FILE_LIMIT answer)
         → (answers : List Heard) × Hears hand after answers ⊥
     ended (loaded found) asks = listed (loaded found) refl asks
     ended (too_large stamp) asks = listed (too_large stamp) refl asks

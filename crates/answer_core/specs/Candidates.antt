@@ -27,13 +27,13 @@ abbrev pub is_in_one : List (List ℕ) → List ℕ → Bool
 is_in_one folders path = list_any (λ folder. is_within folder path) folders
 
 -- whether some row of the id lists the source
-abbrev pub is_listed : List RowFacts → List ℕ → List ℕ → Bool
-is_listed rows id path = list_any (λ row. lists_source id path row.reading) rows
+abbrev pub is_source_listed : List RowFacts → List ℕ → List ℕ → Bool
+is_source_listed rows id path = list_any (λ row. lists_source id path row.reading) rows
 
 -- the source at a path, where a row of the id lists it and it lies under one of the folders
 abbrev pub source_in : List RowFacts → List (List ℕ) → List ℕ → List ℕ → List Candidate
 source_in rows folders id path =
-    if is_listed rows id path && is_in_one folders path then as_source path ∷ [] else []
+    if is_source_listed rows id path && is_in_one folders path then as_source path ∷ [] else []
 
 -- the files that may answer a route, in the order in which they are tried: for a section those with debug information
 -- come before those with code

@@ -1,13 +1,13 @@
 -- The loads of the files that may answer a route (this project's rule): one after the other, until one passes.
 use Rattle.std.specs.Prelude.{◌≡◌, ℕ, ◌<◌, Bool, List, [], ◌∷◌, ◌++◌, length, take, Option, IsTrue, slice_index_or}
 use Rattle.std.specs.List.{AllZip, list_any}
-use Rattle.answer_check.specs.Passing.{Gives, Passes}
+use Rattle.answer_check.specs.Passing.{GivesPassed, Passes}
 use Rattle.answer_check.specs.declared.passed.Passed.{Passed}
 use Rattle.row_types.specs.declared.identity.Kind.{Kind}
 use Rattle.row_types.specs.declared.limits.TheConstants.{FILE_LIMIT}
-use Rattle.tree_trait.specs.Asks.{Asks}
+use Rattle.tree_trait.specs.Asks.{AsksTree}
 use Rattle.tree_trait.specs.Found.{FoundFacts, Versions}
-use Rattle.tree_trait.specs.Heard.{Heard, load, has_failed, with_answers}
+use Rattle.tree_trait.specs.Heard.{Heard, load, call_failed, with_answers}
 use Rattle.tree_trait.specs.Load.{FitsLoad, LoadFacts, TellsLoad, loaded, failed, no_memory}
 use Rattle.tree_trait.specs.Shown.{HandsOn, ShownTree}
 use Rattle.webapi_routes.specs.declared.route.Route.{Route}
@@ -48,12 +48,12 @@ pub record LoadPasses (hand : Hand) (route : Route) (one : Candidate) (given : P
   pub found : FoundFacts
   pub loads : IsLoad hand one (loaded found) heard
   pub passes : Passes route one.class found.bytes
-  pub gives : Gives route one.class found.bytes given
+  pub gives : GivesPassed route one.class found.bytes given
 
 -- each candidate was loaded, in order, and none passed; some load failed or none did
 pub record NonePasses (hand : Hand) (route : Route) (all : List Candidate) (answers : List Heard) (fails : Bool) : Type 0 where
   pub none : AllZip (DoesNotPass hand route) all answers
-  pub failed : list_any has_failed answers ≡ fails
+  pub failed : list_any call_failed answers ≡ fails
 
 -- the candidates were loaded in order up to the one at this place, which is the first that passed
 pub record PassesAt
@@ -75,7 +75,7 @@ IsAnswer _ = Unit {0}
 
 -- what came of a file that was found
 abbrev pub FitsFound : Route → Candidate → FoundFacts → Tried → Type 0
-FitsFound route one found (tried.Passed given) = Passes route one.class found.bytes × Gives route one.class found.bytes given
+FitsFound route one found (tried.Passed given) = Passes route one.class found.bytes × GivesPassed route one.class found.bytes given
 FitsFound route one found tried.Refused = ¬ Passes route one.class found.bytes
 FitsFound route one found tried.Failed = ⊥
 FitsFound route one found tried.OutOfMemory = Unit {0}
@@ -83,15 +83,15 @@ FitsFound route one found tried.OutOfMemory = Unit {0}
 -- what came of the load of a candidate
 abbrev pub Tries : Bool → Versions → Route → Candidate → ShownTree → ShownTree → Tried → Type 0
 Tries told version route one before after (tried.Passed given) =
-    (found : FoundFacts) × Asks told version before after (load one.path FILE_LIMIT (loaded found))
-    × Passes route one.class found.bytes × Gives route one.class found.bytes given
+    (found : FoundFacts) × AsksTree told version before after (load one.path FILE_LIMIT (loaded found))
+    × Passes route one.class found.bytes × GivesPassed route one.class found.bytes given
 Tries told version route one before after tried.Refused =
-    (answer : LoadFacts) × Asks told version before after (load one.path FILE_LIMIT answer)
+    (answer : LoadFacts) × AsksTree told version before after (load one.path FILE_LIMIT answer)
     × GivesNothing route one.class answer × IsAnswer answer
 Tries told version route one before after tried.Failed =
-    Asks told version before after (load one.path FILE_LIMIT failed)
+    AsksTree told version before after (load one.path FILE_LIMIT failed)
 Tries told version route one before after tried.OutOfMemory =
-    (answer : LoadFacts) × Asks told version before after (load one.path FILE_LIMIT answer)
+    (answer : LoadFacts) × AsksTree told version before after (load one.path FILE_LIMIT answer)
 
 -- what a hand is known to have been asked since the call began, and whether a load failed
 pub record Hears (hand : Hand) (now : ShownTree) (answers : List Heard) (Fails : Type 0) : Type 0 where
@@ -105,14 +105,14 @@ pub record HasTried (hand : Hand) (route : Route) (done : List Candidate) (faile
   pub hears : Hears hand now answers (IsTrue failed)
 
 -- the candidate at this place is the first that passed, and this is given
-pub record HasPassed
+pub record HasCandidatePassed
     (hand : Hand) (route : Route) (all : List Candidate) (place : ℕ) (given : Passed) (now : ShownTree) : Type 0 where
   pub answers : List Heard
   pub first : PassesAt hand route all answers place given
   pub hears : Hears hand now answers ⊥
 
 -- what came of the loads of all candidates
-abbrev pub TriesAll : Hand → Route → List Candidate → Outcome → ShownTree → Type 0
-TriesAll hand route all (outcome.Passed given place) now = HasPassed hand route all place given now
-TriesAll hand route all (outcome.Nothing fails) now = HasTried hand route all fails now
-TriesAll hand route all outcome.OutOfMemory now = (answers : List Heard) × Hears hand now answers ⊥
+abbrev pub TriesAllCandidates : Hand → Route → List Candidate → Outcome → ShownTree → Type 0
+TriesAllCandidates hand route all (outcome.Passed given place) now = HasCandidatePassed hand route all place given now
+TriesAllCandidates hand route all (outcome.Nothing fails) now = HasTried hand route all fails now
+TriesAllCandidates hand route all outcome.OutOfMemory now = (answers : List Heard) × Hears hand now answers ⊥

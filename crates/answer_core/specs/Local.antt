@@ -60,13 +60,13 @@ pub record PassesFirst
   pub told : path ≡ first.one.path
 
 -- the answer by the loads of these candidates
-abbrev pub IsOf : Hand → Route → List Heard → Local → List Candidate → Type 0
-IsOf hand route answers (local.File from path generation) all = PassesFirst hand route answers (passed.File from) path all
-IsOf hand route answers (local.Section from path generation) all = PassesFirst hand route answers (passed.Section from) path all
-IsOf hand route answers (local.Source bytes path generation) all = PassesFirst hand route answers (passed.Source bytes) path all
-IsOf hand route answers (local.Nothing generation) all = NonePasses hand route all answers false
-IsOf hand route answers (local.Fault generation) all = NonePasses hand route all answers true
-IsOf hand route answers local.OutOfMemory all = Unit {0}
+abbrev pub IsAnswerOf : Hand → Route → List Heard → Local → List Candidate → Type 0
+IsAnswerOf hand route answers (local.File from path generation) all = PassesFirst hand route answers (passed.File from) path all
+IsAnswerOf hand route answers (local.Section from path generation) all = PassesFirst hand route answers (passed.Section from) path all
+IsAnswerOf hand route answers (local.Source bytes path generation) all = PassesFirst hand route answers (passed.Source bytes) path all
+IsAnswerOf hand route answers (local.Nothing generation) all = NonePasses hand route all answers false
+IsAnswerOf hand route answers (local.Fault generation) all = NonePasses hand route all answers true
+IsAnswerOf hand route answers local.OutOfMemory all = Unit {0}
 
 -- the answer has this generation; want of memory has none
 abbrev pub HasGeneration : Local → ℕ → Type 0
@@ -81,7 +81,7 @@ HasGeneration local.OutOfMemory n = Unit {0}
 abbrev pub IsLocal : Sight → Route → Local → Type 0
 IsLocal sight route local.OutOfMemory = Unit {0}
 IsLocal sight route answer =
-    OfCandidates sight route (IsOf sight.hand route sight.answers answer) × HasGeneration answer (length sight.log)
+    OfCandidates sight route (IsAnswerOf sight.hand route sight.answers answer) × HasGeneration answer (length sight.log)
 
 -- the answer is a fault
 abbrev pub IsFault : Local → Type 0
@@ -93,11 +93,11 @@ pub record AnswersFrom
     (hand : Hand) (route : Route) (all : List Candidate) (generation : ℕ) (answer : Local) (now : ShownTree) : Type 0 where
   pub answers : List Heard
   pub hears : Hears hand now answers (IsFault answer)
-  pub is : IsOf hand route answers answer all
+  pub is : IsAnswerOf hand route answers answer all
   pub at : HasGeneration answer generation
 
 -- the local answer to a route, for which the hand was asked since the call began
-pub record Answers
+pub record AnswersRoute
     (true_row : RowFacts → Type 0) (log : List Change) (folders : List (List ℕ)) (hand : Hand) (route : Route)
     (answer : Local) (now : ShownTree) : Type 0 where
   pub answers : List Heard

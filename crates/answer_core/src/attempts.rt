@@ -1,6 +1,6 @@
 //! The loads of candidates, one after the other.
 
-ghost use Rattle.answer_core.specs.Loads.{TriesAll};
+ghost use Rattle.answer_core.specs.Loads.{TriesAllCandidates};
 
 use crate::attempt::{Tried, try_one};
 use crate::candidate::Candidate;
@@ -31,7 +31,7 @@ pub(crate) fn try_all<W: Truth, T: Tree<W>, G: Gate, R: Wait + Sync>(
     all: &[Candidate],
     gate: &G,
 ) -> Outcome
-    ensures { TriesAll (record { told = T.told; version = W.version; start = T.shows hand.old })
+    ensures { TriesAllCandidates (record { told = T.told; version = W.version; start = T.shows hand.old })
         route.now all.now result (T.shows hand.new) }
 {
     let mut fails = false;

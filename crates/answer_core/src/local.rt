@@ -1,7 +1,7 @@
 //! The local answer.
 
 ghost use Rattle.std.specs.Prelude.{◌≡◌, ◌<◌, length, slice_index_or};
-ghost use Rattle.answer_core.specs.Local.{Answers, AnswersFrom, IsGiven};
+ghost use Rattle.answer_core.specs.Local.{AnswersRoute, AnswersFrom, IsGiven};
 ghost use Rattle.index_lock.specs.Tokens.{IsLater};
 ghost use Rattle.answer_core.specs.declared.candidate.Candidate.{Candidate};
 
@@ -79,7 +79,7 @@ pub fn answer_local<W: Truth, K: Keeper<W>, T: Tree<W>, G: Gate, R: Wait + Sync>
 ) -> (Seat<State<W, K>>, Local)
     requires { seat.lock ≡ lock.now }
     ensures later { IsLater seat result.0 }
-    ensures answer { Answers W.true_row result.0.seen folders.now
+    ensures answer { AnswersRoute W.true_row result.0.seen folders.now
         (record { told = T.told; version = W.version; start = T.shows hand.old })
         route.now result.1 (T.shows hand.new) }
 {

@@ -20,7 +20,7 @@ abbrev pub number_here : View → ℕ → ℕ
 number_here v n = number v.order (bytes_here v n)
 
 -- n bytes are there: the value made of them, and the cursor behind them
-pub record Gives {A : Type 0} (value_here : View → ℕ → A) (n : ℕ) (old new : View) (answer : A)
+pub record GivesValue {A : Type 0} (value_here : View → ℕ → A) (n : ℕ) (old new : View) (answer : A)
     : Type 0 where
   pub there : old.place + n ≤ length old.bytes
   pub value : answer ≡ value_here old n
@@ -33,13 +33,13 @@ pub record FallsShort (n : ℕ) (old new : View) (fault : Fault) : Type 0 where
   pub stays : new ≡ old
 
 -- a read of n bytes gives their number, or falls short
-abbrev pub Reads : ℕ → View → View → Result ℕ Fault → Type 0
-Reads n old new result = MatchResult result (Gives number_here n old new) (FallsShort n old new)
+abbrev pub ReadsNumber : ℕ → View → View → Result ℕ Fault → Type 0
+ReadsNumber n old new result = MatchResult result (GivesValue number_here n old new) (FallsShort n old new)
 
 -- a taking of n bytes gives them, or falls short
-abbrev pub Takes : ℕ → View → View → Result (Bor (List ℕ)) Fault → Type 0
-Takes n old new result =
-    MatchResult result (λ bytes. Gives bytes_here n old new bytes.now) (FallsShort n old new)
+abbrev pub TakesBytes : ℕ → View → View → Result (Bor (List ℕ)) Fault → Type 0
+TakesBytes n old new result =
+    MatchResult result (λ bytes. GivesValue bytes_here n old new bytes.now) (FallsShort n old new)
 
 -- the cursor behind the LEB128 number at its place, none where the number's last byte isn't there
 abbrev pub behind_leb : View → Option View

@@ -4,7 +4,7 @@ ghost use Rattle.std.specs.Prelude.{◌≡◌, ◌+◌, ◌≤◌, length, Match
 ghost use Rattle.file_formats.specs.Leb128.{uleb_at, sleb_at};
 ghost use Rattle.byte_read.specs.View.{at_start, left_of};
 ghost use Rattle.byte_read.specs.Septets.{PassesLeb};
-ghost use Rattle.byte_read.specs.Reads.{Reads, Takes, ReadsLeb, ReadsText, Gives, FallsShort, bytes_here, fits_u64, fits_i64};
+ghost use Rattle.byte_read.specs.Reads.{ReadsNumber, TakesBytes, ReadsLeb, ReadsText, GivesValue, FallsShort, bytes_here, fits_u64, fits_i64};
 
 use crate::fault::Fault;
 use crate::leb::{Leb, sleb_of, uleb_of};
@@ -62,7 +62,7 @@ impl<'a> Cursor<'a> {
     /// Reads the next byte.
     #[inline(always)]
     pub fn read_u8(&mut self) -> Result<u8, Fault>
-        ensures { Reads 1 self.old self.new result }
+        ensures { ReadsNumber 1 self.old self.new result }
     {
         let [byte] = self.chunk::<1>()?;
         Ok(byte)
@@ -71,7 +71,7 @@ impl<'a> Cursor<'a> {
     /// Reads the next two bytes as a number in the cursor's order.
     #[inline(always)]
     pub fn read_u16(&mut self) -> Result<u16, Fault>
-        ensures { Reads 2 self.old self.new result }
+        ensures { ReadsNumber 2 self.old self.new result }
     {
         let bytes = self.chunk::<2>()?;
         Ok(u16_of(bytes, self.order))
@@ -79,7 +79,7 @@ impl<'a> Cursor<'a> {
 
     /// Reads the next three bytes as a number in the cursor's order.
     pub fn read_u24(&mut self) -> Result<u32, Fault>
-        ensures { Reads 3 self.old self.new result }
+        ensures { ReadsNumber 3 self.old self.new result }
     {
         let bytes = self.chunk::<3>()?;
         Ok(u24_of(bytes, self.order))
@@ -88,7 +88,7 @@ impl<'a> Cursor<'a> {
     /// Reads the next four bytes as a number in the cursor's order.
     #[inline(always)]
     pub fn read_u32(&mut self) -> Result<u32, Fault>
-        ensures { Reads 4 self.old self.new result }
+        ensures { ReadsNumber 4 self.old self.new result }
     {
         let bytes = self.chunk::<4>()?;
         Ok(u32_of(bytes, self.order))
@@ -97,7 +97,7 @@ impl<'a> Cursor<'a> {
     /// Reads the next eight bytes as a number in the cursor's order.
     #[inline(always)]
     pub fn read_u64(&mut self) -> Result<u64, Fault>
-        ensures { Reads 8 self.old self.new result }
+        ensures { ReadsNumber 8 self.old self.new result }
     {
         let bytes = self.chunk::<8>()?;
         Ok(u64_of(bytes, self.order))
@@ -105,7 +105,7 @@ impl<'a> Cursor<'a> {
 
     /// Gives the next n bytes.
     pub fn take(&mut self, n: u64) -> Result<&'a [u8], Fault>
-        ensures { Takes n self.old self.new result }
+        ensures { TakesBytes n self.old self.new result }
     {
         let rest = self.rest();
         if (rest.len() as u64) < n {
@@ -148,7 +148,7 @@ impl<'a> Cursor<'a> {
     #[inline(always)]
     fn chunk<const N: usize>(&mut self) -> Result<[u8; N], Fault>
         ensures { MatchResult result
-            (Gives bytes_here N self.old self.new)
+            (GivesValue bytes_here N self.old self.new)
             (FallsShort N self.old self.new) }
     {
         match self.rest().first_chunk::<N>() {

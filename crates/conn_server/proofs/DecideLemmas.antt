@@ -2,7 +2,7 @@
 use Rattle.std.proofs.Common.{refl}
 use Rattle.webapi_routes.specs.declared.route.Route.{Route}
 use Rattle.webapi_routes.specs.declared.route.Route.TheVariants.{Debuginfo, Executable, Source, Section}
-use Rattle.answer_core.specs.Local.{Answers}
+use Rattle.answer_core.specs.Local.{AnswersRoute}
 use Rattle.answer_core.specs.declared.local.Local.{Local}
 use Rattle.answer_core.specs.declared.local.Local.TheVariants as local
 use Rattle.answer_core.proofs.HearLemmas.{hears_as}
@@ -17,7 +17,7 @@ is_file (Section id name) = tt
 is_file (Source id path) = tt
 
 pub decides_local : {T : Type 0} (scene : Scene T) (a b : Stand T) (route : Route) (answer : Local)
-    → Answers scene.true_row b.log scene.folders (hand_at scene a) route answer (scene.shows b.hand)
+    → AnswersRoute scene.true_row b.log scene.folders (hand_at scene a) route answer (scene.shows b.hand)
     → DecidesRoute scene a route (by_local route answer) b
 decides_local scene a b route (local.File from path n) given head asks = record {
   answers = given.answers;

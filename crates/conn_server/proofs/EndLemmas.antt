@@ -7,10 +7,10 @@ use Rattle.std.proofs.lemmas.List.{length-append, length-map, map-append}
 use Rattle.tree_trait.specs.Heard.{Heard}
 use Rattle.http_wire.specs.Stream.{ShownStream}
 use Rattle.conn_server.specs.Asked.{HeadFacts, Request, closes_after, readable, refused}
-use Rattle.conn_server.specs.Connection.{Ends, GoOn, LastCloses, Row, Serves, ServesAll, fresh, is_last, more, none}
+use Rattle.conn_server.specs.Connection.{EndsConnection, GoOn, LastCloses, ExchangesRow, Serves, ServesAll, fresh_wire, is_last_request, more, none}
 use Rattle.conn_server.specs.Exchange.{Exchange}
 use Rattle.conn_server.specs.Scene.{Scene, Stand, Wire}
-use Rattle.conn_server.specs.Turns.{Closes, EndsBehind, Exchanges, GoesOn, Stops, StopsFor, Turns, end_of_head}
+use Rattle.conn_server.specs.Turns.{ClosesConnection, EndsBehind, Exchanges, GoesOnBehind, Stops, StopsFor, Turns, end_of_head}
 use Rattle.conn_server.specs.declared.connection.TheConstants.{REQUESTS}
 use Rattle.conn_server.specs.declared.report.ConnEnd.{ConnEnd}
 use Rattle.conn_server.specs.declared.report.ConnEnd.TheVariants as end
@@ -25,7 +25,7 @@ pub record IsOpen {T : Type 0} (scene : Scene T) (a : Stand T) (v : Wire) (told 
   pub xs : List Exchange
   pub told_is : map (λ x. x.served) xs ≡ told
   pub goes : GoOn 0 xs
-  pub row : Row scene a v xs b w
+  pub row : ExchangesRow scene a v xs b w
   pub open_ : w.over ≡ false
 
 -- before the first request
@@ -52,20 +52,20 @@ module _ {T : Type 0} (scene : Scene T) (a : Stand T) (v : Wire) (told : List Se
       ∙ (ap (λ (l : List Served). l ++ x.served ∷ []) base.told_is ∙ ap (λ (s : Served). told ++ s ∷ []) one)
 
   one_more : (served : Served) (closes : Bool) (c : Stand T) (u : Wire)
-      → (e : Exchanges scene (is_last (length base.xs)) b w served closes c u) → Row scene a v (base.xs ++ e.x ∷ []) c u
+      → (e : Exchanges scene (is_last_request (length base.xs)) b w served closes c u) → ExchangesRow scene a v (base.xs ++ e.x ∷ []) c u
   one_more served closes c u e = more base.xs b w e.x c u base.row e.is e.leads e.moves
 
   -- a request that was answered, behind which the connection goes on
-  pub goes_on : (served : Served) (c : Stand T) (u : Wire) → GoesOn scene (is_last (length told)) b w served c u
+  pub goes_on : (served : Served) (c : Stand T) (u : Wire) → GoesOnBehind scene (is_last_request (length told)) b w served c u
       → IsOpen scene a v (told ++ served ∷ []) c u
   goes_on served c u goes =
-      let at : GoesOn scene (is_last (length base.xs)) b w served c u =
-      subst (λ (n : ℕ). GoesOn scene (is_last n) b w served c u) (sym same_length) goes in
+      let at : GoesOnBehind scene (is_last_request (length base.xs)) b w served c u =
+      subst (λ (n : ℕ). GoesOnBehind scene (is_last_request n) b w served c u) (sym same_length) goes in
       record {
         xs = base.xs ++ at.one.x ∷ [];
         told_is = told_more at.one.x served at.one.told;
         goes = goes_more 0 base.xs at.one.x base.goes
-            (subst (λ (n : ℕ). closes_after at.one.x.request (is_last n) ≡ false) (zero_more (length base.xs)) at.one.ends);
+            (subst (λ (n : ℕ). closes_after at.one.x.request (is_last_request n) ≡ false) (zero_more (length base.xs)) at.one.ends);
         row = one_more served false c u at.one;
         open_ = at.open_;
       }
@@ -76,15 +76,15 @@ module _ {T : Type 0} (scene : Scene T) (a : Stand T) (v : Wire) (told : List Se
   -- a connection whose last reply closes
   pub ends_last : (served : Served) (why : ConnEnd) (report : ConnReport) (c : Stand T) (after : ShownStream)
       → length told < REQUESTS
-      → (u : Wire) × (u.stream ≡ after) × Closes scene (is_last (length told)) b w served why c u
+      → (u : Wire) × (u.stream ≡ after) × ClosesConnection scene (is_last_request (length told)) b w served why c u
       → report.served.items ≡ told ++ served ∷ [] → report.end ≡ why
       → (u : Wire) × (u.stream ≡ after) × ServesAll scene a v report c u
   ends_last served why report c after few closes items is =
       let u : Wire = closes.0 in
-      let at : Closes scene (is_last (length base.xs)) b w served why c u =
-      subst (λ (n : ℕ). Closes scene (is_last n) b w served why c u) (sym same_length) closes.2 in
+      let at : ClosesConnection scene (is_last_request (length base.xs)) b w served why c u =
+      subst (λ (n : ℕ). ClosesConnection scene (is_last_request n) b w served why c u) (sym same_length) closes.2 in
       let x : Exchange = at.one.x in
-      let row : Row scene a v (base.xs ++ x ∷ []) c u = one_more served true c u at.one in (
+      let row : ExchangesRow scene a v (base.xs ++ x ∷ []) c u = one_more served true c u at.one in (
         u,
         closes.1,
         record {
@@ -97,7 +97,7 @@ module _ {T : Type 0} (scene : Scene T) (a : Stand T) (v : Wire) (told : List Se
           part = [];
           leaves = leaves_none scene c u;
           flat = flat_row (base.xs ++ x ∷ []) c u row;
-          ends = subst (λ (e : ConnEnd). Ends scene a v e (base.xs ++ x ∷ []) c [] [] c u) (sym is)
+          ends = subst (λ (e : ConnEnd). EndsConnection scene a v e (base.xs ++ x ∷ []) c [] [] c u) (sym is)
               (by_request x u at.one.ends x.request refl at.cause);
         },
       )
@@ -105,7 +105,7 @@ module _ {T : Type 0} (scene : Scene T) (a : Stand T) (v : Wire) (told : List Se
       short : length base.xs < REQUESTS
       short = subst (λ (n : ℕ). n < REQUESTS) (sym same_length) few
 
-      closing : (x : Exchange) (r : Request) → x.request ≡ r → closes_after x.request (is_last (length base.xs)) ≡ true
+      closing : (x : Exchange) (r : Request) → x.request ≡ r → closes_after x.request (is_last_request (length base.xs)) ≡ true
           → LastCloses r (base.xs ++ x ∷ [])
       closing x r asks ends = record {
         going = base.xs;
@@ -113,12 +113,12 @@ module _ {T : Type 0} (scene : Scene T) (a : Stand T) (v : Wire) (told : List Se
         are = refl;
         goes = base.goes;
         asks = asks;
-        closes = subst (λ (q : Request). closes_after q (is_last (length base.xs)) ≡ true) asks ends;
+        closes = subst (λ (q : Request). closes_after q (is_last_request (length base.xs)) ≡ true) asks ends;
       }
 
       -- Limit exactly at the last place
       by_head : (x : Exchange) (u : Wire) (head : HeadFacts) → LastCloses (readable head) (base.xs ++ x ∷ []) → (l : Bool)
-          → is_last (length base.xs) ≡ l → Ends scene a v (end_of_head l) (base.xs ++ x ∷ []) c [] [] c u
+          → is_last_request (length base.xs) ≡ l → EndsConnection scene a v (end_of_head l) (base.xs ++ x ∷ []) c [] [] c u
       by_head x u head last true e =
           let all = length-append base.xs (x ∷ []) in
           (grind (arith, nat_tests, e, all), (refl, refl), (head, last))
@@ -127,24 +127,24 @@ module _ {T : Type 0} (scene : Scene T) (a : Stand T) (v : Wire) (told : List Se
           let less = short in
           (grind (arith, nat_tests, e, all, less), (refl, refl), inl (head, last))
 
-      by_request : (x : Exchange) (u : Wire) → closes_after x.request (is_last (length base.xs)) ≡ true → (r : Request)
-          → x.request ≡ r → EndsBehind (is_last (length base.xs)) r u why → Ends scene a v why (base.xs ++ x ∷ []) c [] [] c u
+      by_request : (x : Exchange) (u : Wire) → closes_after x.request (is_last_request (length base.xs)) ≡ true → (r : Request)
+          → x.request ≡ r → EndsBehind (is_last_request (length base.xs)) r u why → EndsConnection scene a v why (base.xs ++ x ∷ []) c [] [] c u
       by_request x u ends (readable head) asks cause =
-          subst (λ (e : ConnEnd). Ends scene a v e (base.xs ++ x ∷ []) c [] [] c u) (sym cause)
-          (by_head x u head (closing x (readable head) asks ends) (is_last (length base.xs)) refl)
+          subst (λ (e : ConnEnd). EndsConnection scene a v e (base.xs ++ x ∷ []) c [] [] c u) (sym cause)
+          (by_head x u head (closing x (readable head) asks ends) (is_last_request (length base.xs)) refl)
       by_request x u ends (refused fault) asks cause =
-          subst (λ (e : ConnEnd). Ends scene a v e (base.xs ++ x ∷ []) c [] [] c u) (sym cause.0)
+          subst (λ (e : ConnEnd). EndsConnection scene a v e (base.xs ++ x ∷ []) c [] [] c u) (sym cause.0)
           ((refl, refl), fault, closing x (refused fault) asks ends, cause.1)
 
   -- a connection that ended without a further whole reply
   pub ends_by : (why : ConnEnd) (report : ConnReport) (c : Stand T) (after : ShownStream) → length told < REQUESTS
-      → (u : Wire) × (u.stream ≡ after) × Stops scene (is_last (length told)) b w why c u
+      → (u : Wire) × (u.stream ≡ after) × Stops scene (is_last_request (length told)) b w why c u
       → report.served.items ≡ told → report.end ≡ why
       → (u : Wire) × (u.stream ≡ after) × ServesAll scene a v report c u
   ends_by why report c after few stops items is =
       let u : Wire = stops.0 in
-      let at : Stops scene (is_last (length base.xs)) b w why c u =
-      subst (λ (n : ℕ). Stops scene (is_last n) b w why c u) (sym same_length) stops.2 in (
+      let at : Stops scene (is_last_request (length base.xs)) b w why c u =
+      subst (λ (n : ℕ). Stops scene (is_last_request n) b w why c u) (sym same_length) stops.2 in (
         u,
         stops.1,
         record {
@@ -157,7 +157,7 @@ module _ {T : Type 0} (scene : Scene T) (a : Stand T) (v : Wire) (told : List Se
           part = at.part;
           leaves = at.leaves;
           flat = flat_leaves (flat_row base.xs b w base.row) at.leaves;
-          ends = subst (λ (e : ConnEnd). Ends scene a v e base.xs b at.rest at.part c u) (sym is)
+          ends = subst (λ (e : ConnEnd). EndsConnection scene a v e base.xs b at.rest at.part c u) (sym is)
               (by_why u at.rest at.part why at.cause);
         },
       )
@@ -166,7 +166,7 @@ module _ {T : Type 0} (scene : Scene T) (a : Stand T) (v : Wire) (told : List Se
       short = subst (λ (n : ℕ). n < REQUESTS) (sym same_length) few
 
       by_why : (u : Wire) (rest : List Heard) (part : List ℕ) (e : ConnEnd)
-          → StopsFor scene (is_last (length base.xs)) b w rest part c u e → Ends scene a v e base.xs b rest part c u
+          → StopsFor scene (is_last_request (length base.xs)) b w rest part c u e → EndsConnection scene a v e base.xs b rest part c u
       by_why u rest part end.Closed cause =
           (short, cause.0, inr (record { goes = base.goes; none = cause.1; ended = cause.2 }))
       by_why u rest part end.Cut cause = (base.goes, cause.0, cause.1)
@@ -186,19 +186,19 @@ module _ {T : Type 0} (scene : Scene T) (a : Stand T) (v : Wire) (told : List Se
 pub ends_at_once : {T : Type 0} (scene : Scene T) (a : Stand T) (before : ShownStream) (report : ConnReport)
     → report.served.items ≡ [] → report.end ≡ end.OutOfMemory → Serves scene a before report a before
 ends_at_once {T} scene a before report nothing is = (
-  fresh before,
+  fresh_wire before,
   refl,
   record {
     xs = [];
     told = sym nothing;
     at = a;
-    held_at = fresh before;
+    held_at = fresh_wire before;
     row = none;
     rest = [];
     part = [];
-    leaves = leaves_none scene a (fresh before);
-    flat = flat_row [] a (fresh before) none;
-    ends = subst (λ (why : ConnEnd). Ends scene a (fresh before) why [] a [] [] a (fresh before)) (sym is)
+    leaves = leaves_none scene a (fresh_wire before);
+    flat = flat_row [] a (fresh_wire before) none;
+    ends = subst (λ (why : ConnEnd). EndsConnection scene a (fresh_wire before) why [] a [] [] a (fresh_wire before)) (sym is)
         (tt, refl, inl (record { none = refl; stands = refl; stays = refl }));
   },
 )
@@ -216,9 +216,9 @@ closes_last (refused fault) = refl
 -- while the connection goes on, there are fewer replies than it has
 pub goes_few : (place : ℕ) (xs : List Exchange) → GoOn place xs → place < REQUESTS → place + length xs < REQUESTS
 goes_few place [] g few = omega (arith, few)
-goes_few place (x ∷ xs) g few = by_place (goes_few (place + 1) xs g.1) (is_last place) refl
+goes_few place (x ∷ xs) g few = by_place (goes_few (place + 1) xs g.1) (is_last_request place) refl
   where
-    by_place : (place + 1 < REQUESTS → (place + 1) + length xs < REQUESTS) → (b : Bool) → is_last place ≡ b
+    by_place : (place + 1 < REQUESTS → (place + 1) + length xs < REQUESTS) → (b : Bool) → is_last_request place ≡ b
         → place + length (x ∷ xs) < REQUESTS
     by_place rest true e = absurd (false≢true (sym g.0 ∙ (ap (λ (b : Bool). closes_after x.request b) e ∙ closes_last x.request)))
     by_place rest false e =

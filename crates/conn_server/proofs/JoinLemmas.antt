@@ -13,13 +13,13 @@ use Rattle.index_rows.specs.declared.change.Change.{Change}
 use Rattle.tree_trait.specs.Heard.{Heard, with_answers}
 use Rattle.tree_trait.specs.Shown.{IsPresence, ShownTree}
 use Rattle.http_wire.specs.Sink.{Appends}
-use Rattle.http_wire.specs.Source.{Comes}
+use Rattle.http_wire.specs.Source.{ComesFrom}
 use Rattle.answer_core.specs.Loads.{Hand, Hears}
 use Rattle.answer_core.proofs.HearLemmas.{heard_both, hears_none}
-use Rattle.conn_server.specs.Connection.{AreExchanges, GoOn, IsRow, LogsGrow, Row, none, more, is_last}
-use Rattle.conn_server.specs.Exchange.{Exchange, IsExchange, Leads, Leaves, Moves}
+use Rattle.conn_server.specs.Connection.{AreExchanges, GoOn, IsRow, LogsGrow, ExchangesRow, none, more, is_last_request}
+use Rattle.conn_server.specs.Exchange.{Exchange, IsExchange, LeadsByExchange, LeavesUnanswered, Moves}
 use Rattle.conn_server.specs.Asked.{closes_after}
-use Rattle.conn_server.specs.Replies.{is_read_fault}
+use Rattle.conn_server.specs.Replies.{says_read_fault}
 use Rattle.conn_server.specs.Scene.{Scene, Stand, Wire, hand_at}
 use Rattle.conn_server.specs.declared.reason.Reason.{Reason}
 use Rattle.conn_server.specs.declared.reason.Reason.TheVariants as reason
@@ -32,25 +32,25 @@ zero_more : (n : ℕ) → n ≡ 0 + n
 zero_more n = omega arith
 
 are_more : {T : Type 0} (scene : Scene T) (at : Stand T) (place : ℕ) (xs : List Exchange) (x : Exchange)
-    → AreExchanges scene at place xs → IsExchange scene (is_last (place + length xs)) at x
+    → AreExchanges scene at place xs → IsExchange scene (is_last_request (place + length xs)) at x
     → AreExchanges scene at place (xs ++ x ∷ [])
 are_more scene at place [] x a b =
     let same : place + length {A = Exchange} [] ≡ place = omega arith in
-    (subst (λ (p : ℕ). IsExchange scene (is_last p) at x) same b, tt)
+    (subst (λ (p : ℕ). IsExchange scene (is_last_request p) at x) same b, tt)
 are_more scene at place (y ∷ xs) x a b =
     let same : place + length (y ∷ xs) ≡ (place + 1) + length xs = omega arith in (
       a.0,
-      are_more scene at (place + 1) xs x a.1 (subst (λ (p : ℕ). IsExchange scene (is_last p) at x) same b),
+      are_more scene at (place + 1) xs x a.1 (subst (λ (p : ℕ). IsExchange scene (is_last_request p) at x) same b),
     )
 
 pub goes_more : (place : ℕ) (xs : List Exchange) (x : Exchange) → GoOn place xs
-    → closes_after x.request (is_last (place + length xs)) ≡ false → GoOn place (xs ++ x ∷ [])
+    → closes_after x.request (is_last_request (place + length xs)) ≡ false → GoOn place (xs ++ x ∷ [])
 goes_more place [] x a b =
     let same : place + length {A = Exchange} [] ≡ place = omega arith in
-    (subst (λ (p : ℕ). closes_after x.request (is_last p) ≡ false) same b, tt)
+    (subst (λ (p : ℕ). closes_after x.request (is_last_request p) ≡ false) same b, tt)
 goes_more place (y ∷ xs) x a b =
     let same : place + length (y ∷ xs) ≡ (place + 1) + length xs = omega arith in
-    (a.0, goes_more (place + 1) xs x a.1 (subst (λ (p : ℕ). closes_after x.request (is_last p) ≡ false) same b))
+    (a.0, goes_more (place + 1) xs x a.1 (subst (λ (p : ℕ). closes_after x.request (is_last_request p) ≡ false) same b))
 
 logs_later : (first log after : List Change) (xs : List Exchange) → LogsGrow first xs log → IsPrefix log after
     → LogsGrow first xs after
@@ -89,7 +89,7 @@ hears_append hand now later a b first second = record {
         second.hands.keeps told (first.hands.known told (subst (λ (es : List Heard). 0 < length es) (append-nil a) asked))
     known (y ∷ ys) two told asked = two told (omega arith)
 
-is_fault_of : (why : Reason) → is_read_fault why ≡ true → why ≡ reason.ReadFault
+is_fault_of : (why : Reason) → says_read_fault why ≡ true → why ≡ reason.ReadFault
 is_fault_of reason.ReadFault e = refl
 is_fault_of reason.Local e = absurd (false≢true e)
 is_fault_of reason.BadHead e = absurd (false≢true e)
@@ -105,11 +105,11 @@ is_fault_of reason.OutOfMemory e = absurd (false≢true e)
 
 -- a load failed for a request that was answered so
 counted : (x : Exchange) (now later : ℕ) → HasCause now later (x.served.reason ≡ reason.ReadFault)
-    → summed now (count_by (λ y. is_read_fault y.served.reason) (x ∷ [])) ≤ later
+    → summed now (count_by (λ y. says_read_fault y.served.reason) (x ∷ [])) ≤ later
 counted x now later c =
-    by_test (is_read_fault x.served.reason) refl
+    by_test (says_read_fault x.served.reason) refl
   where
-    by_test : (b : Bool) → is_read_fault x.served.reason ≡ b → summed now (0 + cond b 1 0) ≤ later
+    by_test : (b : Bool) → says_read_fault x.served.reason ≡ b → summed now (0 + cond b 1 0) ≤ later
     by_test true e =
         let risen = c.rose (is_fault_of x.served.reason e) in
         omega (arith, risen)
@@ -119,7 +119,7 @@ counted x now later c =
 
 -- The stream
 
-comes_append : (a b d : Option (List ℕ)) (c e : List ℕ) → Comes a c b → Comes b e d → Comes a (c ++ e) d
+comes_append : (a b d : Option (List ℕ)) (c e : List ℕ) → ComesFrom a c b → ComesFrom b e d → ComesFrom a (c ++ e) d
 comes_append a b None c e p q = p ∙ ap (λ (o : Option (List ℕ)). option_map (λ left. c ++ left) o) q
 comes_append a b (Some rest) c e p q =
     p ∙ (ap (λ (o : Option (List ℕ)). option_map (λ left. c ++ left) o) q
@@ -135,7 +135,7 @@ appends_append a None n b e p q = λ some. absurd (false≢true (subst (λ (o : 
 appends_append a (Some w) n b e p q =
     λ some. q some ∙ (ap (λ (o : Option (List ℕ)). option_map (λ w. w ++ e) o) (p refl) ∙ both a b e)
 
-comes_none : (a : Option (List ℕ)) → Comes a [] a
+comes_none : (a : Option (List ℕ)) → ComesFrom a [] a
 comes_none None = refl
 comes_none (Some left) = refl
 
@@ -208,11 +208,11 @@ flat_one f xs x =
     flat_map-append f xs (x ∷ []) ∙ ap (λ l. flat_map f xs ++ l) (append-nil (f x))
 
 flat_more : {T : Type 0} {scene : Scene T} {a b c : Stand T} {v w u : Wire} {xs : List Exchange} (x : Exchange)
-    → IsRow scene a v xs [] [] b w → IsExchange scene (is_last (length xs)) b x → Leads scene x b c
+    → IsRow scene a v xs [] [] b w → IsExchange scene (is_last_request (length xs)) b x → LeadsByExchange scene x b c
     → Moves x.front x.bytes w u → IsRow scene a v (xs ++ x ∷ []) [] [] c u
 flat_more {T} {scene} {a} {b} {c} {v} {w} {u} {xs} x row is leads moves = record {
-  are = are_more scene a 0 xs x row.are (subst (λ (p : ℕ). IsExchange scene (is_last p) a x) (zero_more (length xs))
-      (exchange_at scene (is_last (length xs)) a b x (still_to row) is));
+  are = are_more scene a 0 xs x row.are (subst (λ (p : ℕ). IsExchange scene (is_last_request p) a x) (zero_more (length xs))
+      (exchange_at scene (is_last_request (length xs)) a b x (still_to row) is));
   logs = subst (λ (log : List Change). LogsGrow a.log (xs ++ x ∷ []) log) leads.seen
       (logs_more a.log b.log xs x row.logs (subst (λ (log : List Change). IsPrefix b.log log) (sym leads.seen) leads.log));
   hears = subst (λ (es : List Heard). Hears (hand_at scene a) (scene.shows c.hand) es ⊥)
@@ -223,7 +223,7 @@ flat_more {T} {scene} {a} {b} {c} {v} {w} {u} {xs} x row is leads moves = record
   failed =
       let one = row.failed in
       let two = counted x (scene.shows b.hand).faults (scene.shows c.hand).faults leads.hand.hands.cause in
-      let all = sum_by-append (λ (y : Exchange). cond (is_read_fault y.served.reason) 1 0) xs (x ∷ []) in
+      let all = sum_by-append (λ (y : Exchange). cond (says_read_fault y.served.reason) 1 0) xs (x ∷ []) in
       omega (arith, one, two, all);
   moves = moves_as (sym (flat_one (λ y. y.front) xs x))
       (ap (λ (l : List ℕ). l ++ x.bytes) (append-nil (flat_map (λ y. y.bytes) xs))
@@ -233,7 +233,7 @@ flat_more {T} {scene} {a} {b} {c} {v} {w} {u} {xs} x row is leads moves = record
 
 -- what stands behind a row
 pub flat_leaves : {T : Type 0} {scene : Scene T} {a b c : Stand T} {v w u : Wire} {xs : List Exchange} {rest : List Heard}
-    {part : List ℕ} → IsRow scene a v xs [] [] b w → Leaves scene rest part b w c u → IsRow scene a v xs rest part c u
+    {part : List ℕ} → IsRow scene a v xs [] [] b w → LeavesUnanswered scene rest part b w c u → IsRow scene a v xs rest part c u
 flat_leaves {T} {scene} {a} {b} {c} {v} {w} {u} {xs} {rest} {part} row leaves = record {
   are = row.are;
   logs = logs_later a.log b.log c.log xs row.logs leaves.log;
@@ -250,12 +250,12 @@ flat_leaves {T} {scene} {a} {b} {c} {v} {w} {u} {xs} {rest} {part} row leaves = 
       (moves_then row.moves leaves.moves);
 }
 
-pub leaves_none : {T : Type 0} (scene : Scene T) (a : Stand T) (v : Wire) → Leaves scene [] [] a v a v
+pub leaves_none : {T : Type 0} (scene : Scene T) (a : Stand T) (v : Wire) → LeavesUnanswered scene [] [] a v a v
 leaves_none scene a v = record { log = prefix_self a.log; hand = hears_none (hand_at scene a); moves = moves_none v }
 
 -- of a row all of them follow
 pub flat_row : {T : Type 0} {scene : Scene T} {a : Stand T} {v : Wire} (xs : List Exchange) (b : Stand T) (w : Wire)
-    → Row scene a v xs b w → IsRow scene a v xs [] [] b w
+    → ExchangesRow scene a v xs b w → IsRow scene a v xs [] [] b w
 flat_row {T} {scene} {a} {v} xs b w none = flat_none scene a v
 flat_row {T} {scene} {a} {v} xs b w (more ys c u x d t row is leads moves) =
     flat_more x (flat_row ys c u row) is leads moves

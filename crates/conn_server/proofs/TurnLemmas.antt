@@ -7,12 +7,12 @@ use Rattle.httparse.specs.Grammar.{RequestHead, print_request}
 use Rattle.row_types.specs.Faults.{HasCause}
 use Rattle.index_rows.specs.declared.change.Change.{Change}
 use Rattle.tree_trait.specs.Heard.{Heard}
-use Rattle.http_wire.specs.Heads.{Refuses, Tells}
-use Rattle.http_wire.specs.Reader.{Answers, has_failed}
+use Rattle.http_wire.specs.Heads.{RefusesAsHead, TellsHead}
+use Rattle.http_wire.specs.Reader.{AnswersNext, head_failed}
 use Rattle.http_wire.specs.ReaderFacts.{ReaderFacts}
 use Rattle.http_wire.specs.ReplyFault.{FailsReply}
 use Rattle.http_wire.specs.Sink.{Appends, GetsAll}
-use Rattle.http_wire.specs.Source.{Comes, HasEnded}
+use Rattle.http_wire.specs.Source.{ComesFrom, HasEnded}
 use Rattle.http_wire.specs.Stream.{LeavesWriting, ShownStream}
 use Rattle.http_wire.specs.declared.head.Head.{Head}
 use Rattle.http_wire.specs.declared.head.HeadAnswer.{HeadAnswer}
@@ -30,7 +30,7 @@ use Rattle.conn_server.specs.Exchange.{Exchange, IsExchange, IsFrontOf, IsWhy, M
 use Rattle.conn_server.specs.Replies.{Shows, bytes_of}
 use Rattle.conn_server.specs.Scene.{Scene, Stand, Wire, hand_at, wire_of}
 use Rattle.conn_server.specs.Sent.{sent_len, served_as}
-use Rattle.conn_server.specs.Turns.{Closes, EndsBehind, Exchanges, Replies, StopsFor, StopsOn, Takes, TakesNext, Turns, Writing, end_after, end_of}
+use Rattle.conn_server.specs.Turns.{ClosesConnection, EndsBehind, Exchanges, Replies, StopsFor, StopsOn, TakesWhatCame, TakesNextRequest, Turns, Writing, end_after, end_by_fault}
 use Rattle.conn_server.specs.declared.body.Body.TheVariants as bodies
 use Rattle.conn_server.specs.declared.decide.Decided.{Decided}
 use Rattle.conn_server.specs.declared.reason.Reason.{Reason}
@@ -78,7 +78,7 @@ exchange_is scene a log request front decided body file last answers case_ shows
 }
 
 -- what is told of a head is what it says
-facts_are : (head : Head) (h : RequestHead) → Tells head h → told_facts head ≡ head_facts h
+facts_are : (head : Head) (h : RequestHead) → TellsHead head h → told_facts head ≡ head_facts h
 facts_are head h t =
     let facts_of : List ℕ → List ℕ → Bool → Bool → ℕ → HeadFacts =
     λ m u c b n. record { method = m; target = u; close = c; body = b; hops = n } in
@@ -89,13 +89,13 @@ facts_are head h t =
     ∙ ap (λ (n : ℕ). facts_of h.method h.target (head_facts h).close (head_facts h).body n) t.hops)))
 
 -- what a read and then a write leave of the stream
-moves_of : {front bytes : List ℕ} {v w : Wire} (came : List ℕ) (mid : ShownStream) → Comes v.stream.left came mid.left
+moves_of : {front bytes : List ℕ} {v w : Wire} (came : List ℕ) (mid : ShownStream) → ComesFrom v.stream.left came mid.left
     → v.held ++ came ≡ front ++ w.held → v.stream.read_faults ≤ mid.read_faults → LeavesWriting v.stream mid
     → w.stream.left ≡ mid.left → w.stream.read_faults ≡ mid.read_faults → mid.write_faults ≤ w.stream.write_faults
     → Appends mid.written bytes w.stream.written → Moves front bytes v w
 moves_of {front} {bytes} {v} {w} came mid comes cut later apart left reads writes written = record {
   came = came;
-  comes = subst (λ (rest : Option (List ℕ)). Comes v.stream.left came rest) (sym left) comes;
+  comes = subst (λ (rest : Option (List ℕ)). ComesFrom v.stream.left came rest) (sym left) comes;
   cut = cut;
   written = subst (λ (old : Option (List ℕ)). Appends old bytes w.stream.written) apart.written written;
   read_faults = omega (arith, later, reads);
@@ -106,7 +106,7 @@ moves_of {front} {bytes} {v} {w} came mid comes cut later apart left reads write
 
 -- the bytes that came and were held, and the stream that they came from
 module _ {T : Type 0} (scene : Scene T) (last : Bool) (a b : Stand T) (v : Wire) (mid : ShownStream) (came : List ℕ)
-    (grows : IsPrefix a.log b.log) (comes : Comes v.stream.left came mid.left)
+    (grows : IsPrefix a.log b.log) (comes : ComesFrom v.stream.left came mid.left)
     (later : v.stream.read_faults ≤ mid.read_faults) (apart : LeavesWriting v.stream mid) where
   -- what is held of the stream in the end
   abbrev held_of : ShownStream → Wire
@@ -132,7 +132,7 @@ module _ {T : Type 0} (scene : Scene T) (last : Bool) (a b : Stand T) (v : Wire)
   broken : (x : Exchange) (behind : List ℕ) {Fails : Type 0} → IsExchange scene last a x → x.log ≡ b.log
       → Hears (hand_at scene a) (scene.shows b.hand) x.answers Fails → v.held ++ came ≡ x.front ++ behind
       → IsWhy x.request (v.held ++ came) mid.left → (fault : ReplyFault) (after : ShownStream)
-      → FailsReply fault x.bytes mid after → StopsOn scene last a v (end_of fault) b after
+      → FailsReply fault x.bytes mid after → StopsOn scene last a v (end_by_fault fault) b after
   broken x behind {Fails} is logged hears cut why reply_fault.OutOfMemory after same =
       subst (λ (s : ShownStream). StopsOn scene last a v end.OutOfMemory b s) (sym same) (
         held_of mid,
@@ -212,7 +212,7 @@ module _ {T : Type 0} (scene : Scene T) (last : Bool) (a b : Stand T) (v : Wire)
     open_ = open_;
   }
   head_written reader_after x head asks is logged hears cut open_ decided len told (turn.Last served why) after writes =
-      subst (λ s. (w : Wire) × (w.stream ≡ after) × Closes scene last a v s why b w) (told ∙ sym writes.2) (
+      subst (λ s. (w : Wire) × (w.stream ≡ after) × ClosesConnection scene last a v s why b w) (told ∙ sym writes.2) (
         wire_of after reader_after,
         refl,
         record {
@@ -231,7 +231,7 @@ module _ {T : Type 0} (scene : Scene T) (last : Bool) (a b : Stand T) (v : Wire)
   -- the reply to bytes that are no head, by what came of writing it
   refused_written : (reader_after : ReaderFacts) (fault : HeadFault) (said : Reason) → (said ≡ reason.ReadFault → ⊥)
       → IsCase scene a b.log (refused fault) (asked.Head fault) said 0 bodies.Line []
-      → Refuses fault (v.held ++ came) mid.left → b ≡ a → (what : Turn) (after : ShownStream)
+      → RefusesAsHead fault (v.held ++ came) mid.left → b ≡ a → (what : Turn) (after : ShownStream)
       → Replies (plain (asked.Head fault) said) (refused fault) true mid what after
       → Turns scene last a v what b (wire_of after reader_after)
   refused_written reader_after fault said sound case_ refuses keeps what after r = by_turn what r.ends
@@ -250,14 +250,14 @@ module _ {T : Type 0} (scene : Scene T) (last : Bool) (a b : Stand T) (v : Wire)
           → Turns scene last a v what b (wire_of after reader_after)
       by_turn (turn.Replied served) writes = absurd (false≢true (sym writes.0))
       by_turn (turn.Last served why) writes =
-          subst (λ s. (w : Wire) × (w.stream ≡ after) × Closes scene last a v s why b w) (sym writes.2) (
+          subst (λ s. (w : Wire) × (w.stream ≡ after) × ClosesConnection scene last a v s why b w) (sym writes.2) (
             held_of after,
             refl,
             record {
               one = whole x (held_of after) true is refl hears refl writes.1 refl;
               cause = (
                 writes.3,
-                subst (λ (left : Option (List ℕ)). Refuses fault (v.held ++ came) left) (sym writes.1.reading.left) refuses,
+                subst (λ (left : Option (List ℕ)). RefusesAsHead fault (v.held ++ came) left) (sym writes.1.reading.left) refuses,
               );
             },
           )
@@ -268,7 +268,7 @@ module _ {T : Type 0} (scene : Scene T) (last : Bool) (a b : Stand T) (v : Wire)
 -- what came of the next request
 pub turn_of : {T : Type 0} (scene : Scene T) (last : Bool) (a b : Stand T) (reader reader_after : ReaderFacts)
     (before after : ShownStream) (what : Turn) → reader.over ≡ false → IsPrefix a.log b.log
-    → TakesNext scene a reader last before what b reader_after after
+    → TakesNextRequest scene a reader last before what b reader_after after
     → Turns scene last a (wire_of before reader) what b (wire_of after reader_after)
 turn_of {T} scene last a b reader reader_after before after what open_ grows t = by_answer t.answer t.reads t.cause t.takes
   where
@@ -277,15 +277,15 @@ turn_of {T} scene last a b reader reader_after before after what open_ grows t =
 
     by_refusal : (fault : HeadFault) (said : Reason) → (said ≡ reason.ReadFault → ⊥)
         → IsCase scene a b.log (refused fault) (asked.Head fault) said 0 bodies.Line []
-        → Answers reader before reader_after t.mid (answer.Refused fault) → HasCause before.read_faults t.mid.read_faults ⊥ → b ≡ a
+        → AnswersNext reader before reader_after t.mid (answer.Refused fault) → HasCause before.read_faults t.mid.read_faults ⊥ → b ≡ a
         → Replies (plain (asked.Head fault) said) (refused fault) true t.mid what after
         → Turns scene last a v what b (wire_of after reader_after)
     by_refusal fault said sound case_ reads cause keeps r =
         refused_written scene last a b v t.mid reads.came grows reads.comes cause.later t.apart reader_after fault said sound
         case_ reads.says.2 keeps what after r
 
-    by_answer : (given : HeadAnswer) → Answers reader before reader_after t.mid given
-        → HasCause before.read_faults t.mid.read_faults (IsTrue (has_failed given)) → Takes scene a given last t.mid what b after
+    by_answer : (given : HeadAnswer) → AnswersNext reader before reader_after t.mid given
+        → HasCause before.read_faults t.mid.read_faults (IsTrue (head_failed given)) → TakesWhatCame scene a given last t.mid what b after
         → Turns scene last a v what b (wire_of after reader_after)
     by_answer answer.Closed reads cause takes =
         let closed = subst (λ (o : Bool). MatchBool o ((reads.came ≡ []) × (reader_after ≡ reader))
@@ -301,7 +301,7 @@ turn_of {T} scene last a b reader reader_after before after what open_ grows t =
         (quiet scene last a b v t.mid reads.came grows reads.comes cause.later t.apart end.ReadFault takes.2
         ((refl, refl), cause.rose refl)))
     by_answer (answer.Refused (head_fault.Cut len)) reads cause takes =
-        let refusal = subst (λ (n : ℕ). Refuses (head_fault.Cut n) (reader.held ++ reads.came) t.mid.left) reads.says.2.0
+        let refusal = subst (λ (n : ℕ). RefusesAsHead (head_fault.Cut n) (reader.held ++ reads.came) t.mid.left) reads.says.2.0
         reads.says.2 in
         subst (λ (w : Turn). Turns scene last a v w b (wire_of after reader_after)) (sym takes.0.0)
         (subst (λ (s : ShownStream). StopsOn scene last a v end.Cut b s) (sym takes.0.1)

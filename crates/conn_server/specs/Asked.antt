@@ -53,7 +53,7 @@ pub record IsTaken (head : HeadFacts) : Type 0 where
   pub no_body : head.body ≡ false
 
 -- the head asks for the route
-pub record AsksFor (head : HeadFacts) (route : Route) : Type 0 where
+pub record AsksForRoute (head : HeadFacts) (route : Route) : Type 0 where
   pub taken : IsTaken head
   pub says : IsSaidBy head.target (Ok route)
 

@@ -11,7 +11,7 @@ use Rattle.webapi_routes.specs.declared.route.Route.TheVariants as route
 use Rattle.answer_core.specs.Local.{IsLocal}
 use Rattle.answer_core.specs.declared.local.Local.{Local}
 use Rattle.answer_core.specs.declared.local.Local.TheVariants as local
-use Rattle.conn_server.specs.Asked.{AsksFor, HeadFacts, IsTaken, Request, is_served, readable, refused}
+use Rattle.conn_server.specs.Asked.{AsksForRoute, HeadFacts, IsTaken, Request, is_served, readable, refused}
 use Rattle.conn_server.specs.Replies.{reason_of_route}
 use Rattle.conn_server.specs.Scene.{Scene, Stand, sight_at}
 use Rattle.conn_server.specs.declared.body.Body.{Body}
@@ -61,13 +61,13 @@ pub data IsCase {T : Type 0} (scene : Scene T) (at : Stand T) (log : List Change
       → IsSaidBy head.target (Err fault)
       → IsCase scene at log request (asked.NotRoute fault) (reason_of_route fault) 0 bodies.Line []
   passed : (head : HeadFacts) (route : Route) (answer : Local) (answers : List Heard) → request ≡ readable head
-      → AsksFor head route → IsFileRoute route → IsLocal (sight_at scene at log answers) route answer → IsPassed answer
+      → AsksForRoute head route → IsFileRoute route → IsLocal (sight_at scene at log answers) route answer → IsPassed answer
       → IsCase scene at log request (asked.Route route) reason.Local (generation_of answer) (bodies.Found answer) answers
   read_fault : (head : HeadFacts) (route : Route) (n : ℕ) (answers : List Heard) → request ≡ readable head
-      → AsksFor head route → IsFileRoute route → IsLocal (sight_at scene at log answers) route (local.Fault n)
+      → AsksForRoute head route → IsFileRoute route → IsLocal (sight_at scene at log answers) route (local.Fault n)
       → IsCase scene at log request (asked.Route route) reason.ReadFault n bodies.Line answers
   not_found : (head : HeadFacts) (route : Route) (n : ℕ) (answers : List Heard) → request ≡ readable head
-      → AsksFor head route → IsFileRoute route → IsLocal (sight_at scene at log answers) route (local.Nothing n)
+      → AsksForRoute head route → IsFileRoute route → IsLocal (sight_at scene at log answers) route (local.Nothing n)
       → IsCase scene at log request (asked.Route route) reason.NotFound n bodies.Line answers
-  no_memory : (head : HeadFacts) (route : Route) (answers : List Heard) → request ≡ readable head → AsksFor head route
+  no_memory : (head : HeadFacts) (route : Route) (answers : List Heard) → request ≡ readable head → AsksForRoute head route
       → IsCase scene at log request (asked.Route route) reason.OutOfMemory 0 bodies.Line answers

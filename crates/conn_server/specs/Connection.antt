@@ -5,15 +5,15 @@ use mathlib.Core.List.{IsPrefix}
 use Rattle.row_types.specs.Faults.{Rose, summed}
 use Rattle.index_rows.specs.declared.change.Change.{Change}
 use Rattle.tree_trait.specs.Heard.{Heard}
-use Rattle.http_wire.specs.Heads.{Refuses}
+use Rattle.http_wire.specs.Heads.{RefusesAsHead}
 use Rattle.http_wire.specs.Source.{HasEnded}
 use Rattle.http_wire.specs.Stream.{ShownStream}
 use Rattle.http_wire.specs.declared.head.HeadFault.{HeadFault}
 use Rattle.http_wire.specs.declared.head.HeadFault.TheVariants.{Cut}
 use Rattle.answer_core.specs.Loads.{Hears}
 use Rattle.conn_server.specs.Asked.{HeadFacts, Request, closes_after, readable, refused}
-use Rattle.conn_server.specs.Exchange.{Exchange, IsDue, IsExchange, IsPart, Leads, Leaves, Moves, NoMore}
-use Rattle.conn_server.specs.Replies.{is_read_fault}
+use Rattle.conn_server.specs.Exchange.{Exchange, IsReplyDue, IsExchange, IsPartWritten, LeadsByExchange, LeavesUnanswered, Moves, NoMore}
+use Rattle.conn_server.specs.Replies.{says_read_fault}
 use Rattle.conn_server.specs.Scene.{Scene, Stand, Wire, hand_at}
 use Rattle.conn_server.specs.declared.connection.TheConstants.{REQUESTS}
 use Rattle.conn_server.specs.declared.report.ConnEnd.{ConnEnd}
@@ -21,25 +21,25 @@ use Rattle.conn_server.specs.declared.report.ConnEnd.TheVariants as end
 use Rattle.conn_server.specs.declared.report.ConnReport.{ConnReport}
 
 -- whether the request of this place, counted from 0, is the last that a connection has
-abbrev pub is_last : ℕ → Bool
-is_last place = place + 1 == REQUESTS
+abbrev pub is_last_request : ℕ → Bool
+is_last_request place = place + 1 == REQUESTS
 
 -- these exchanges lead from the first moment to the last, each lawful where the one before it led
-pub data Row {T : Type 0} (scene : Scene T) (a : Stand T) (v : Wire) : List Exchange → Stand T → Wire → Type 0 where
-  none : Row scene a v [] a v
-  more : (xs : List Exchange) (b : Stand T) (w : Wire) (x : Exchange) (c : Stand T) (u : Wire) → Row scene a v xs b w
-      → IsExchange scene (is_last (length xs)) b x → Leads scene x b c → Moves x.front x.bytes w u
-      → Row scene a v (xs ++ x ∷ []) c u
+pub data ExchangesRow {T : Type 0} (scene : Scene T) (a : Stand T) (v : Wire) : List Exchange → Stand T → Wire → Type 0 where
+  none : ExchangesRow scene a v [] a v
+  more : (xs : List Exchange) (b : Stand T) (w : Wire) (x : Exchange) (c : Stand T) (u : Wire) → ExchangesRow scene a v xs b w
+      → IsExchange scene (is_last_request (length xs)) b x → LeadsByExchange scene x b c → Moves x.front x.bytes w u
+      → ExchangesRow scene a v (xs ++ x ∷ []) c u
 
 -- the exchanges from this place on are lawful by the objects as they stood at one moment
 abbrev pub AreExchanges : {T : Type 0} → Scene T → Stand T → ℕ → List Exchange → Type 0
 AreExchanges scene at place [] = Unit {0}
-AreExchanges scene at place (x ∷ xs) = IsExchange scene (is_last place) at x × AreExchanges scene at (place + 1) xs
+AreExchanges scene at place (x ∷ xs) = IsExchange scene (is_last_request place) at x × AreExchanges scene at (place + 1) xs
 
 -- the connection goes on behind each of the replies from this place on
 abbrev pub GoOn : ℕ → List Exchange → Type 0
 GoOn place [] = Unit {0}
-GoOn place (x ∷ xs) = (closes_after x.request (is_last place) ≡ false) × GoOn (place + 1) xs
+GoOn place (x ∷ xs) = (closes_after x.request (is_last_request place) ≡ false) × GoOn (place + 1) xs
 
 -- the logs of the requests go on from this one up to that one, and never back
 abbrev pub LogsGrow : List Change → List Exchange → List Change → Type 0
@@ -55,7 +55,7 @@ pub record IsRow
   pub are : AreExchanges scene a 0 xs
   pub logs : LogsGrow a.log xs b.log
   pub hears : Hears (hand_at scene a) (scene.shows b.hand) (flat_map (λ x. x.answers) xs ++ rest) ⊥
-  pub failed : summed (scene.shows a.hand).faults (count_by (λ x. is_read_fault x.served.reason) xs) ≤ (scene.shows b.hand).faults
+  pub failed : summed (scene.shows a.hand).faults (count_by (λ x. says_read_fault x.served.reason) xs) ≤ (scene.shows b.hand).faults
   pub moves : Moves (flat_map (λ x. x.front) xs) (flat_map (λ x. x.bytes) xs ++ part) v w
 
 -- the connection goes on behind each of these replies but the last one, which answers this request and closes
@@ -65,41 +65,41 @@ pub record LastCloses (request : Request) (xs : List Exchange) : Type 0 where
   pub are : xs ≡ going ++ last ∷ []
   pub goes : GoOn 0 going
   pub asks : last.request ≡ request
-  pub closes : closes_after request (is_last (length going)) ≡ true
+  pub closes : closes_after request (is_last_request (length going)) ≡ true
 
 -- the last reply closes, and answers a head
 abbrev pub LastHeadCloses : List Exchange → Type 0
 LastHeadCloses xs = (head : HeadFacts) × LastCloses (readable head) xs
 
 -- behind these requests nothing is left to read
-pub record IsDone (xs : List Exchange) (w : Wire) : Type 0 where
+pub record IsAllRead (xs : List Exchange) (w : Wire) : Type 0 where
   pub goes : GoOn 0 xs
   pub none : w.held ≡ []
   pub ended : HasEnded w.stream.left
 
 -- nothing was read, written, asked or told
-pub record IsUntouched {T : Type 0} (a : Stand T) (v : Wire) (xs : List Exchange) (b : Stand T) (w : Wire) : Type 0 where
+pub record IsConnectionUntouched {T : Type 0} (a : Stand T) (v : Wire) (xs : List Exchange) (b : Stand T) (w : Wire) : Type 0 where
   pub none : xs ≡ []
   pub stands : b ≡ a
   pub stays : w ≡ v
 
 -- how a connection ended behind these requests, of which the last was answered where the objects stood like this, with its
 -- cause; memory was wanted before anything was read, or for a reply that was due
-abbrev pub Ends : {T : Type 0} → Scene T → Stand T → Wire → ConnEnd → List Exchange → Stand T → List Heard → List ℕ → Stand T
+abbrev pub EndsConnection : {T : Type 0} → Scene T → Stand T → Wire → ConnEnd → List Exchange → Stand T → List Heard → List ℕ → Stand T
     → Wire → Type 0
-Ends scene a v end.Closed xs at rest part b w =
-    (length xs < REQUESTS) × NoMore rest part × (LastHeadCloses xs ⊎ IsDone xs w)
-Ends scene a v end.Cut xs at rest part b w =
-    GoOn 0 xs × NoMore rest part × Refuses (Cut (length w.held)) w.held w.stream.left
-Ends scene a v end.Refused xs at rest part b w =
-    NoMore rest part × (fault : HeadFault) × LastCloses (refused fault) xs × Refuses fault w.held w.stream.left
-Ends scene a v end.Limit xs at rest part b w = (length xs ≡ REQUESTS) × NoMore rest part × LastHeadCloses xs
-Ends scene a v end.ReadFault xs at rest part b w =
+EndsConnection scene a v end.Closed xs at rest part b w =
+    (length xs < REQUESTS) × NoMore rest part × (LastHeadCloses xs ⊎ IsAllRead xs w)
+EndsConnection scene a v end.Cut xs at rest part b w =
+    GoOn 0 xs × NoMore rest part × RefusesAsHead (Cut (length w.held)) w.held w.stream.left
+EndsConnection scene a v end.Refused xs at rest part b w =
+    NoMore rest part × (fault : HeadFault) × LastCloses (refused fault) xs × RefusesAsHead fault w.held w.stream.left
+EndsConnection scene a v end.Limit xs at rest part b w = (length xs ≡ REQUESTS) × NoMore rest part × LastHeadCloses xs
+EndsConnection scene a v end.ReadFault xs at rest part b w =
     GoOn 0 xs × NoMore rest part × Rose v.stream.read_faults w.stream.read_faults
-Ends scene a v end.WriteFault xs at rest part b w =
-    GoOn 0 xs × IsPart scene (is_last (length xs)) at rest part b.log w × Rose v.stream.write_faults w.stream.write_faults
-Ends scene a v end.OutOfMemory xs at rest part b w =
-    GoOn 0 xs × (part ≡ []) × (IsUntouched a v xs b w ⊎ IsDue scene (is_last (length xs)) at rest b.log w)
+EndsConnection scene a v end.WriteFault xs at rest part b w =
+    GoOn 0 xs × IsPartWritten scene (is_last_request (length xs)) at rest part b.log w × Rose v.stream.write_faults w.stream.write_faults
+EndsConnection scene a v end.OutOfMemory xs at rest part b w =
+    GoOn 0 xs × (part ≡ []) × (IsConnectionUntouched a v xs b w ⊎ IsReplyDue scene (is_last_request (length xs)) at rest b.log w)
 
 -- a connection from its first moment to its last: the requests that were answered, what is told of them, and how it ended
 pub record ServesAll
@@ -108,18 +108,18 @@ pub record ServesAll
   pub told : map (λ x. x.served) xs ≡ report.served.items
   pub at : Stand T
   pub held_at : Wire
-  pub row : Row scene a v xs at held_at
+  pub row : ExchangesRow scene a v xs at held_at
   pub rest : List Heard
   pub part : List ℕ
-  pub leaves : Leaves scene rest part at held_at b w
+  pub leaves : LeavesUnanswered scene rest part at held_at b w
   pub flat : IsRow scene a v xs rest part b w
-  pub ends : Ends scene a v report.end xs at rest part b w
+  pub ends : EndsConnection scene a v report.end xs at rest part b w
 
 -- before the first read nothing is held
-abbrev pub fresh : ShownStream → Wire
-fresh stream = record { stream = stream; held = []; over = false }
+abbrev pub fresh_wire : ShownStream → Wire
+fresh_wire stream = record { stream = stream; held = []; over = false }
 
 -- the same of the stream alone, of which some bytes may be held in the end
 abbrev pub Serves : {T : Type 0} → Scene T → Stand T → ShownStream → ConnReport → Stand T → ShownStream → Type 0
 Serves scene a before report b after =
-    (w : Wire) × (w.stream ≡ after) × ServesAll scene a (fresh before) report b w
+    (w : Wire) × (w.stream ≡ after) × ServesAll scene a (fresh_wire before) report b w

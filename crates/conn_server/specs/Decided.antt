@@ -5,7 +5,7 @@ use Rattle.webapi_routes.specs.declared.route.Route.{Route}
 use Rattle.answer_core.specs.Loads.{Hears}
 use Rattle.answer_core.specs.declared.local.Local.{Local}
 use Rattle.answer_core.specs.declared.local.Local.TheVariants as local
-use Rattle.conn_server.specs.Asked.{AsksFor, HeadFacts, Request, readable}
+use Rattle.conn_server.specs.Asked.{AsksForRoute, HeadFacts, Request, readable}
 use Rattle.conn_server.specs.Cases.{IsCase}
 use Rattle.conn_server.specs.Scene.{Scene, Stand, hand_at}
 use Rattle.conn_server.specs.declared.body.Body.{Body}
@@ -44,4 +44,4 @@ pub record Decides
 -- the same of whichever head asks for this route
 abbrev pub DecidesRoute : {T : Type 0} → Scene T → Stand T → Route → declared.Decided → Stand T → Type 0
 DecidesRoute scene before route decided after =
-    (head : HeadFacts) → AsksFor head route → Decides scene before (readable head) decided after
+    (head : HeadFacts) → AsksForRoute head route → Decides scene before (readable head) decided after

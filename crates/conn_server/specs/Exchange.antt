@@ -4,9 +4,9 @@ use mathlib.Core.List.{IsPrefix}
 use Rattle.httparse.specs.Grammar.{RequestHead, print_request}
 use Rattle.index_rows.specs.declared.change.Change.{Change}
 use Rattle.tree_trait.specs.Heard.{Heard}
-use Rattle.http_wire.specs.Heads.{IsServed, Refuses}
+use Rattle.http_wire.specs.Heads.{IsServed, RefusesAsHead}
 use Rattle.http_wire.specs.Sink.{Appends}
-use Rattle.http_wire.specs.Source.{Comes}
+use Rattle.http_wire.specs.Source.{ComesFrom}
 use Rattle.answer_core.specs.Loads.{Hears}
 use Rattle.conn_server.specs.Asked.{HeadFacts, Request, head_facts, readable, refused}
 use Rattle.conn_server.specs.Lawful.{IsLawful}
@@ -45,7 +45,7 @@ pub record IsExchange {T : Type 0} (scene : Scene T) (last : Bool) (at : Stand T
   pub fronts : IsFrontOf x.request x.front
 
 -- an exchange leads from a stand to the next one: a line for each object
-pub record Leads {T : Type 0} (scene : Scene T) (x : Exchange) (a b : Stand T) : Type 0 where
+pub record LeadsByExchange {T : Type 0} (scene : Scene T) (x : Exchange) (a b : Stand T) : Type 0 where
   pub log : IsPrefix a.log b.log
   pub seen : x.log ≡ b.log
   pub hand : Hears (hand_at scene a) (scene.shows b.hand) x.answers (x.served.reason ≡ reason.ReadFault)
@@ -53,14 +53,14 @@ pub record Leads {T : Type 0} (scene : Scene T) (x : Exchange) (a b : Stand T) :
 -- these bytes were in front of what was held and came, and those were written
 pub record Moves (front bytes : List ℕ) (a b : Wire) : Type 0 where
   pub came : List ℕ
-  pub comes : Comes a.stream.left came b.stream.left
+  pub comes : ComesFrom a.stream.left came b.stream.left
   pub cut : a.held ++ came ≡ front ++ b.held
   pub written : Appends a.stream.written bytes b.stream.written
   pub read_faults : a.stream.read_faults ≤ b.stream.read_faults
   pub write_faults : a.stream.write_faults ≤ b.stream.write_faults
 
 -- without a whole reply this was heard, came and was written
-pub record Leaves {T : Type 0} (scene : Scene T) (rest : List Heard) (part : List ℕ) (a : Stand T) (v : Wire) (b : Stand T) (w : Wire)
+pub record LeavesUnanswered {T : Type 0} (scene : Scene T) (rest : List Heard) (part : List ℕ) (a : Stand T) (v : Wire) (b : Stand T) (w : Wire)
     : Type 0 where
   pub log : IsPrefix a.log b.log
   pub hand : Hears (hand_at scene a) (scene.shows b.hand) rest ⊥
@@ -73,10 +73,10 @@ NoMore rest part = (rest ≡ []) × (part ≡ [])
 -- where the request is no head, the bytes that are held are refused for it
 abbrev pub IsWhy : Request → List ℕ → Option (List ℕ) → Type 0
 IsWhy (readable head) held left = Unit {0}
-IsWhy (refused fault) held left = Refuses fault held left
+IsWhy (refused fault) held left = RefusesAsHead fault held left
 
 -- a lawful reply to the next request is due: it was decided by what was heard, and its head is in front of what is held
-pub record IsDue {T : Type 0} (scene : Scene T) (last : Bool) (at : Stand T) (rest : List Heard) (log : List Change) (w : Wire)
+pub record IsReplyDue {T : Type 0} (scene : Scene T) (last : Bool) (at : Stand T) (rest : List Heard) (log : List Change) (w : Wire)
     : Type 0 where
   pub one : Exchange
   pub is : IsExchange scene last at one
@@ -87,10 +87,10 @@ pub record IsDue {T : Type 0} (scene : Scene T) (last : Bool) (at : Stand T) (re
   pub why : IsWhy one.request w.held w.stream.left
 
 -- a proper part of it was written
-pub record IsPart
+pub record IsPartWritten
     {T : Type 0} (scene : Scene T) (last : Bool) (at : Stand T) (rest : List Heard) (part : List ℕ) (log : List Change) (w : Wire)
     : Type 0 where
-  pub due : IsDue scene last at rest log w
+  pub due : IsReplyDue scene last at rest log w
   pub count : ℕ
   pub proper : count < length due.one.bytes
   pub part_is : part ≡ take count due.one.bytes

@@ -30,24 +30,24 @@ status_of reason.ReadFault = 503
 status_of reason.OutOfMemory = 507
 
 -- the text of a reason; that of a file that passed is none
-abbrev pub text_of : Reason → List ℕ
-text_of reason.Local = []
-text_of reason.BadHead = codes "bad request\n"
-text_of reason.TooLarge = codes "too large\n"
-text_of reason.Method = codes "bad method\n"
-text_of reason.Body = codes "request body\n"
-text_of reason.BadEscape = codes "bad escape\n"
-text_of reason.NoRoute = codes "no route\n"
-text_of reason.BadId = codes "bad build-id\n"
-text_of reason.BadPath = codes "bad path\n"
-text_of reason.NotFound = codes "not found\n"
-text_of reason.ReadFault = codes "read fault\n"
-text_of reason.OutOfMemory = codes "out of memory\n"
+abbrev pub reason_text : Reason → List ℕ
+reason_text reason.Local = []
+reason_text reason.BadHead = codes "bad request\n"
+reason_text reason.TooLarge = codes "too large\n"
+reason_text reason.Method = codes "bad method\n"
+reason_text reason.Body = codes "request body\n"
+reason_text reason.BadEscape = codes "bad escape\n"
+reason_text reason.NoRoute = codes "no route\n"
+reason_text reason.BadId = codes "bad build-id\n"
+reason_text reason.BadPath = codes "bad path\n"
+reason_text reason.NotFound = codes "not found\n"
+reason_text reason.ReadFault = codes "read fault\n"
+reason_text reason.OutOfMemory = codes "out of memory\n"
 
 -- whether a reply says that a load failed
-abbrev pub is_read_fault : Reason → Bool
-is_read_fault reason.ReadFault = true
-is_read_fault _ = false
+abbrev pub says_read_fault : Reason → Bool
+says_read_fault reason.ReadFault = true
+says_read_fault _ = false
 
 -- why a target that asks for no route gets its reply
 abbrev pub reason_of_route : RouteFault → Reason
@@ -74,7 +74,7 @@ ShowsPassed _ bytes file = ⊥
 
 -- the bytes of what a reply carries, and the path that it is told to come from: a line of text without one; or what passed
 abbrev pub Shows : Reason → Body → List ℕ → Option (List ℕ) → Type 0
-Shows why bodies.Line bytes file = (bytes ≡ text_of why) × (file ≡ None)
+Shows why bodies.Line bytes file = (bytes ≡ reason_text why) × (file ≡ None)
 Shows why (bodies.Found answer) bytes file = ShowsPassed answer bytes file
 
 -- whether the reply of a reason is a text
@@ -83,8 +83,8 @@ is_text reason.Local = false
 is_text _ = true
 
 -- the head of a reply
-abbrev pub head_of : Reason → List ℕ → Option (List ℕ) → Bool → ReplyHead
-head_of why body file close = record {
+abbrev pub reply_head : Reason → List ℕ → Option (List ℕ) → Bool → ReplyHead
+reply_head why body file close = record {
   status = status_of why;
   text = is_text why;
   len = length body;
@@ -94,4 +94,4 @@ head_of why body file close = record {
 
 -- the bytes of a reply
 abbrev pub bytes_of : Reason → List ℕ → Option (List ℕ) → Bool → Bool → List ℕ
-bytes_of why body file close with_body = reply_bytes (head_of why body file close) body with_body
+bytes_of why body file close with_body = reply_bytes (reply_head why body file close) body with_body

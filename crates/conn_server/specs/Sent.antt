@@ -18,15 +18,15 @@ abbrev pub sent_len : Bool → List ℕ → ℕ
 sent_len with_body body = if with_body then length body else 0
 
 -- these bytes are written whole, and so many of them are of the body; or they aren't
-abbrev pub Writes : List ℕ → ℕ → ShownStream → ShownStream → Result ℕ ReplyFault → Type 0
-Writes bytes len before after (Ok n) = GetsAll bytes before after × (n ≡ len)
-Writes bytes len before after (Err fault) = FailsReply fault bytes before after
+abbrev pub WritesWhole : List ℕ → ℕ → ShownStream → ShownStream → Result ℕ ReplyFault → Type 0
+WritesWhole bytes len before after (Ok n) = GetsAll bytes before after × (n ≡ len)
+WritesWhole bytes len before after (Err fault) = FailsReply fault bytes before after
 
 -- the bytes of a body are written as the reply of a reason, told to come from this path
 abbrev pub SendsBytes : Reason → List ℕ → Option (List ℕ) → Bool → Bool → ShownStream → ShownStream → Result ℕ ReplyFault
     → Type 0
 SendsBytes why body file close with_body before after result =
-    Writes (bytes_of why body file close with_body) (sent_len with_body body) before after result
+    WritesWhole (bytes_of why body file close with_body) (sent_len with_body body) before after result
 
 -- a reply can be written of this
 abbrev pub CanCarry : Body → Type 0
@@ -51,9 +51,9 @@ abbrev pub served_as : Decided → ℕ → Served
 served_as decided len = served_of decided.asked decided.reason decided.generation len
 
 -- the reply's bytes were written and it is told so; or they weren't
-abbrev pub Tells : Decided → List ℕ → ℕ → ShownStream → ShownStream → Result Served ReplyFault → Type 0
-Tells decided bytes len before after (Ok served) = GetsAll bytes before after × (served ≡ served_as decided len)
-Tells decided bytes len before after (Err fault) = FailsReply fault bytes before after
+abbrev pub TellsServed : Decided → List ℕ → ℕ → ShownStream → ShownStream → Result Served ReplyFault → Type 0
+TellsServed decided bytes len before after (Ok served) = GetsAll bytes before after × (served ≡ served_as decided len)
+TellsServed decided bytes len before after (Err fault) = FailsReply fault bytes before after
 
 -- the reply to what is decided is written
 pub record Sends
@@ -61,4 +61,4 @@ pub record Sends
   pub body : List ℕ
   pub file : Option (List ℕ)
   pub shows : Shows decided.reason decided.body body file
-  pub tells : Tells decided (bytes_of decided.reason body file close with_body) (sent_len with_body body) before after result
+  pub tells : TellsServed decided (bytes_of decided.reason body file close with_body) (sent_len with_body body) before after result

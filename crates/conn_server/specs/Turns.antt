@@ -1,9 +1,9 @@
 -- One request of a connection (this project's rule): it is read, decided and answered.
 use Rattle.std.specs.Prelude.{◌≡◌, ℕ, Bool, true, false, List, [], Option, Some, None, IsTrue, if◌then◌else◌, length}
 use Rattle.row_types.specs.Faults.{HasCause, Rose}
-use Rattle.http_wire.specs.Heads.{Refuses}
+use Rattle.http_wire.specs.Heads.{RefusesAsHead}
 use Rattle.http_wire.specs.ReplyFault.{FailsReply}
-use Rattle.http_wire.specs.Reader.{Answers, has_failed}
+use Rattle.http_wire.specs.Reader.{AnswersNext, head_failed}
 use Rattle.http_wire.specs.ReaderFacts.{ReaderFacts}
 use Rattle.http_wire.specs.Sink.{GetsAll}
 use Rattle.http_wire.specs.Source.{HasEnded}
@@ -17,7 +17,7 @@ use Rattle.http_wire.specs.declared.reply.ReplyFault.TheVariants as reply_fault
 use Rattle.tree_trait.specs.Heard.{Heard}
 use Rattle.conn_server.specs.Asked.{HeadFacts, Request, closes_after, readable, refused, sends_body, told_facts}
 use Rattle.conn_server.specs.Decided.{Decides, plain}
-use Rattle.conn_server.specs.Exchange.{Exchange, IsDue, IsExchange, IsPart, Leads, Leaves, Moves, NoMore}
+use Rattle.conn_server.specs.Exchange.{Exchange, IsReplyDue, IsExchange, IsPartWritten, LeadsByExchange, LeavesUnanswered, Moves, NoMore}
 use Rattle.conn_server.specs.Replies.{Shows, bytes_of, reason_of_head}
 use Rattle.conn_server.specs.Scene.{Scene, Stand, Wire}
 use Rattle.conn_server.specs.Sent.{sent_len, served_as}
@@ -31,9 +31,9 @@ use Rattle.conn_server.specs.declared.turn.Turn.{Turn}
 use Rattle.conn_server.specs.declared.turn.Turn.TheVariants as turn
 
 -- how a connection ends where a reply wasn't written whole
-abbrev pub end_of : ReplyFault → ConnEnd
-end_of reply_fault.OutOfMemory = end.OutOfMemory
-end_of reply_fault.WriteFault = end.WriteFault
+abbrev pub end_by_fault : ReplyFault → ConnEnd
+end_by_fault reply_fault.OutOfMemory = end.OutOfMemory
+end_by_fault reply_fault.WriteFault = end.WriteFault
 
 -- how a connection ends behind a reply to a head that closes
 abbrev pub end_of_head : Bool → ConnEnd
@@ -52,7 +52,7 @@ Writing decided request last bytes len before (turn.Last served why) after =
     (closes_after request last ≡ true) × GetsAll bytes before after × (served ≡ served_as decided len)
     × (why ≡ end_after request last)
 Writing decided request last bytes len before (turn.Ended why) after =
-    (fault : ReplyFault) × FailsReply fault bytes before after × (why ≡ end_of fault)
+    (fault : ReplyFault) × FailsReply fault bytes before after × (why ≡ end_by_fault fault)
 
 -- the reply to what is decided for a request was written, or not whole
 pub record Replies
@@ -74,8 +74,8 @@ abbrev pub RefusesHead : HeadFault → ShownStream → Turn → ShownStream → 
 RefusesHead fault before what after = RefusesFor (reason_of_head fault) fault before what after
 
 -- nothing was asked of the objects
-abbrev pub Keeps : {T : Type 0} → Stand T → Stand T → Type 0
-Keeps a b = b ≡ a
+abbrev pub AsksNothing : {T : Type 0} → Stand T → Stand T → Type 0
+AsksNothing a b = b ≡ a
 
 -- a head was decided by what was seen and heard, and answered so
 pub record TakesHead
@@ -86,22 +86,22 @@ pub record TakesHead
   pub replies : Replies decided (readable head) last before what after
 
 -- what was read is answered
-abbrev pub Takes : {T : Type 0} → Scene T → Stand T → HeadAnswer → Bool → ShownStream → Turn → Stand T → ShownStream → Type 0
-Takes scene a (answer.Head head) last before what b after = TakesHead scene a (told_facts head) last before what b after
-Takes scene a answer.Closed last before what b after = (what ≡ turn.Ended end.Closed) × (after ≡ before) × Keeps a b
-Takes scene a (answer.Refused fault) last before what b after = RefusesHead fault before what after × Keeps a b
-Takes scene a answer.ReadFault last before what b after = (what ≡ turn.Ended end.ReadFault) × (after ≡ before) × Keeps a b
+abbrev pub TakesWhatCame : {T : Type 0} → Scene T → Stand T → HeadAnswer → Bool → ShownStream → Turn → Stand T → ShownStream → Type 0
+TakesWhatCame scene a (answer.Head head) last before what b after = TakesHead scene a (told_facts head) last before what b after
+TakesWhatCame scene a answer.Closed last before what b after = (what ≡ turn.Ended end.Closed) × (after ≡ before) × AsksNothing a b
+TakesWhatCame scene a (answer.Refused fault) last before what b after = RefusesHead fault before what after × AsksNothing a b
+TakesWhatCame scene a answer.ReadFault last before what b after = (what ≡ turn.Ended end.ReadFault) × (after ≡ before) × AsksNothing a b
 
 -- the next request is read, and what was read is answered
-pub record TakesNext
+pub record TakesNextRequest
     {T : Type 0} (scene : Scene T) (a : Stand T) (reader : ReaderFacts) (last : Bool) (before : ShownStream) (what : Turn)
     (b : Stand T) (reader_after : ReaderFacts) (after : ShownStream) : Type 0 where
   pub answer : HeadAnswer
   pub mid : ShownStream
-  pub reads : Answers reader before reader_after mid answer
-  pub cause : HasCause before.read_faults mid.read_faults (IsTrue (has_failed answer))
+  pub reads : AnswersNext reader before reader_after mid answer
+  pub cause : HasCause before.read_faults mid.read_faults (IsTrue (head_failed answer))
   pub apart : LeavesWriting before mid
-  pub takes : Takes scene a answer last mid what b after
+  pub takes : TakesWhatCame scene a answer last mid what b after
 
 -- a request was answered whole, and the connection ends behind it or goes on
 pub record Exchanges
@@ -110,23 +110,23 @@ pub record Exchanges
   pub x : Exchange
   pub told : x.served ≡ served
   pub is : IsExchange scene last a x
-  pub leads : Leads scene x a b
+  pub leads : LeadsByExchange scene x a b
   pub moves : Moves x.front x.bytes v w
   pub ends : closes_after x.request last ≡ closes
 
 -- how a connection ends behind a reply that closes, with its cause
 abbrev pub EndsBehind : Bool → Request → Wire → ConnEnd → Type 0
 EndsBehind last (readable head) w why = why ≡ end_of_head last
-EndsBehind last (refused fault) w why = (why ≡ end.Refused) × Refuses fault w.held w.stream.left
+EndsBehind last (refused fault) w why = (why ≡ end.Refused) × RefusesAsHead fault w.held w.stream.left
 
 -- why a connection ends without a further whole reply
 abbrev pub StopsFor : {T : Type 0} → Scene T → Bool → Stand T → Wire → List Heard → List ℕ → Stand T → Wire → ConnEnd → Type 0
 StopsFor scene last a v rest part b w end.Closed = NoMore rest part × (w.held ≡ []) × HasEnded w.stream.left
-StopsFor scene last a v rest part b w end.Cut = NoMore rest part × Refuses (Cut (length w.held)) w.held w.stream.left
+StopsFor scene last a v rest part b w end.Cut = NoMore rest part × RefusesAsHead (Cut (length w.held)) w.held w.stream.left
 StopsFor scene last a v rest part b w end.ReadFault = NoMore rest part × Rose v.stream.read_faults w.stream.read_faults
 StopsFor scene last a v rest part b w end.WriteFault =
-    IsPart scene last a rest part b.log w × Rose v.stream.write_faults w.stream.write_faults
-StopsFor scene last a v rest part b w end.OutOfMemory = (part ≡ []) × IsDue scene last a rest b.log w
+    IsPartWritten scene last a rest part b.log w × Rose v.stream.write_faults w.stream.write_faults
+StopsFor scene last a v rest part b w end.OutOfMemory = (part ≡ []) × IsReplyDue scene last a rest b.log w
 StopsFor scene last a v rest part b w _ = ⊥
 
 -- no further request was answered whole
@@ -135,18 +135,18 @@ pub record Stops
     : Type 0 where
   pub rest : List Heard
   pub part : List ℕ
-  pub leaves : Leaves scene rest part a v b w
+  pub leaves : LeavesUnanswered scene rest part a v b w
   pub cause : StopsFor scene last a v rest part b w why
 
 -- the last reply of a connection
-pub record Closes
+pub record ClosesConnection
     {T : Type 0} (scene : Scene T) (last : Bool) (a : Stand T) (v : Wire) (served : Served) (why : ConnEnd) (b : Stand T)
     (w : Wire) : Type 0 where
   pub one : Exchanges scene last a v served true b w
   pub cause : EndsBehind last one.x.request w why
 
 -- a reply behind which the connection goes on
-pub record GoesOn
+pub record GoesOnBehind
     {T : Type 0} (scene : Scene T) (last : Bool) (a : Stand T) (v : Wire) (served : Served) (b : Stand T) (w : Wire)
     : Type 0 where
   pub one : Exchanges scene last a v served false b w
@@ -154,13 +154,13 @@ pub record GoesOn
 
 -- the same, of the stream alone: some bytes may be held of it
 abbrev pub ClosesOn : {T : Type 0} → Scene T → Bool → Stand T → Wire → Served → ConnEnd → Stand T → ShownStream → Type 0
-ClosesOn scene last a v served why b after = (w : Wire) × (w.stream ≡ after) × Closes scene last a v served why b w
+ClosesOn scene last a v served why b after = (w : Wire) × (w.stream ≡ after) × ClosesConnection scene last a v served why b w
 
 abbrev pub StopsOn : {T : Type 0} → Scene T → Bool → Stand T → Wire → ConnEnd → Stand T → ShownStream → Type 0
 StopsOn scene last a v why b after = (w : Wire) × (w.stream ≡ after) × Stops scene last a v why b w
 
 -- what came of the next request
 abbrev pub Turns : {T : Type 0} → Scene T → Bool → Stand T → Wire → Turn → Stand T → Wire → Type 0
-Turns scene last a v (turn.Replied served) b w = GoesOn scene last a v served b w
+Turns scene last a v (turn.Replied served) b w = GoesOnBehind scene last a v served b w
 Turns scene last a v (turn.Last served why) b w = ClosesOn scene last a v served why b w.stream
 Turns scene last a v (turn.Ended why) b w = StopsOn scene last a v why b w.stream

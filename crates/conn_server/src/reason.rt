@@ -3,7 +3,7 @@
 ghost use Rattle.std.specs.Prelude.{◌≡◌};
 ghost use Rattle.http_wire.specs.Reply.{IsStatus};
 ghost use Rattle.conn_server.specs.Replies.{is_text, reason_of_head, reason_of_route, status_of};
-ghost use Rattle.conn_server.specs.Replies.{text_of};
+ghost use Rattle.conn_server.specs.Replies.{reason_text};
 
 use http_wire::HeadFault;
 use webapi_routes::RouteFault;
@@ -67,7 +67,7 @@ impl Reason {
 
     /// The body of a reply that is a text. A file that passed has none.
     pub(crate) fn text(self) -> &'static [u8]
-        ensures { result.now ≡ text_of self }
+        ensures { result.now ≡ reason_text self }
     {
         match self {
             Reason::Local => b"",

@@ -1,6 +1,6 @@
 //! Writing the reply to what was decided.
 
-ghost use Rattle.conn_server.specs.Replies.{head_of};
+ghost use Rattle.conn_server.specs.Replies.{reply_head};
 ghost use Rattle.conn_server.specs.Sent.{CanSend, Sends, SendsBytes, told_of};
 ghost use Rattle.std.specs.Prelude.{◌≡◌, IfOk, option_copied};
 
@@ -78,7 +78,7 @@ fn head_of(
     file: Option<&CanonPath>,
     close: bool,
 ) -> Result<ReplyHead, AllocError>
-    ensures { IfOk result (λ head. head ≡ head_of why body.now (option_copied file.entry) close) }
+    ensures { IfOk result (λ head. head ≡ reply_head why body.now (option_copied file.entry) close) }
 {
     Ok(ReplyHead {
         status: why.status(),

@@ -5,7 +5,7 @@ ghost use Rattle.index_lock.specs.Tokens.{IsLater};
 ghost use Rattle.conn_server.specs.Asked.{readable, told_facts};
 ghost use Rattle.conn_server.specs.Scene.{scene_of, stand_of, wire_of};
 ghost use Rattle.conn_server.specs.Sent.{CanSend};
-ghost use Rattle.conn_server.specs.Turns.{RefusesHead, Replies, Takes, TakesNext, Turns, end_of};
+ghost use Rattle.conn_server.specs.Turns.{RefusesHead, Replies, TakesWhatCame, TakesNextRequest, Turns, end_by_fault};
 ghost use Rattle.conn_server.specs.Turns.{end_of_head};
 
 use crate::decide::{Decided, decide, plain};
@@ -75,7 +75,7 @@ fn read_turn<W: Truth, K: Keeper<W>, T: Tree<W>, N: Source + Sink, G: Gate, R: W
 ) -> (Seat<State<W, K>>, Turn)
     requires { seat.lock ≡ lock.now }
     ensures later { IsLater seat result.0 }
-    ensures turn { TakesNext (scene_of W.true_row T.told W.version T.shows service.now.folders.now)
+    ensures turn { TakesNextRequest (scene_of W.true_row T.told W.version T.shows service.now.folders.now)
         (stand_of seat.seen hand.old) reader.old last (N.shows conn.old) result.1
         (stand_of result.0.seen hand.new) reader.new (N.shows conn.new) }
 {
@@ -95,7 +95,7 @@ fn take_turn<W: Truth, K: Keeper<W>, T: Tree<W>, N: Sink, G: Gate, R: Wait + Syn
 ) -> (Seat<State<W, K>>, Turn)
     requires { seat.lock ≡ lock.now }
     ensures later { IsLater seat result.0 }
-    ensures turn { Takes (scene_of W.true_row T.told W.version T.shows service.now.folders.now)
+    ensures turn { TakesWhatCame (scene_of W.true_row T.told W.version T.shows service.now.folders.now)
         (stand_of seat.seen hand.old) answer.now last (N.shows conn.old) result.1
         (stand_of result.0.seen hand.new) (N.shows conn.new) }
 {
@@ -165,7 +165,7 @@ fn refuse<N: Sink>(alloc: Global, conn: &mut N, fault: HeadFault) -> Turn
 
 /// How a connection ends where a reply wasn't written whole.
 fn end_of(fault: ReplyFault) -> ConnEnd
-    ensures { result ≡ end_of fault }
+    ensures { result ≡ end_by_fault fault }
 {
     match fault {
         ReplyFault::OutOfMemory => ConnEnd::OutOfMemory,

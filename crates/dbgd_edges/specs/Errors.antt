@@ -40,8 +40,8 @@ fault_by OutOfMemory is_process = fault.OutOfMemory
 fault_by kind is_process = other_fault is_process
 
 -- an error of a call on a path
-abbrev pub fault_of : Error → ReadFault
-fault_of error = fault_by (error_kind error) (is_no_process (raw_os_error error))
+abbrev pub read_fault : Error → ReadFault
+read_fault error = fault_by (error_kind error) (is_no_process (raw_os_error error))
 
 -- an error in the names of a folder, of this kind and so read elsewhere
 abbrev pub listing_fault_by : ErrorKind → ReadFault → ReadFault
@@ -50,7 +50,7 @@ listing_fault_by kind elsewhere = elsewhere
 
 -- an error in the names of a folder
 abbrev pub fault_in_listing : Error → ReadFault
-fault_in_listing error = listing_fault_by (error_kind error) (fault_of error)
+fault_in_listing error = listing_fault_by (error_kind error) (read_fault error)
 
 -- whether it raises the tree's count
 abbrev pub is_counted : ReadFault → Bool
@@ -59,28 +59,28 @@ is_counted fault.OutOfMemory = false
 is_counted why = true
 
 -- the count after it
-abbrev pub counted : ReadFault → ℕ → ℕ
-counted why count = if is_counted why then raised count else count
+abbrev pub faults_after : ReadFault → ℕ → ℕ
+faults_after why count = if is_counted why then raised count else count
 
 -- the answer of a load
-abbrev pub load_of : ReadFault → LoadFacts
-load_of fault.Gone = gone
-load_of fault.OutOfReach = gone
-load_of fault.OutOfMemory = no_memory
-load_of why = failed
+abbrev pub load_fault : ReadFault → LoadFacts
+load_fault fault.Gone = gone
+load_fault fault.OutOfReach = gone
+load_fault fault.OutOfMemory = no_memory
+load_fault why = failed
 
 -- the answer of a look
-abbrev pub stat_of : ReadFault → StatAnswer
-stat_of fault.Gone = stat.Gone
-stat_of fault.OutOfReach = stat.Gone
-stat_of fault.Denied = stat.Gone
-stat_of fault.OutOfMemory = stat.OutOfMemory
-stat_of why = stat.Failed
+abbrev pub stat_fault : ReadFault → StatAnswer
+stat_fault fault.Gone = stat.Gone
+stat_fault fault.OutOfReach = stat.Gone
+stat_fault fault.Denied = stat.Gone
+stat_fault fault.OutOfMemory = stat.OutOfMemory
+stat_fault why = stat.Failed
 
 -- the answer of the read of a folder: one that may not be read lists nothing, with one passed over
-abbrev pub dir_of : ReadFault → DirFacts
-dir_of fault.Gone = no_dir
-dir_of fault.OutOfReach = no_dir
-dir_of fault.Denied = listed [] 1
-dir_of fault.OutOfMemory = dir_no_memory
-dir_of why = dir_failed
+abbrev pub dir_fault : ReadFault → DirFacts
+dir_fault fault.Gone = no_dir
+dir_fault fault.OutOfReach = no_dir
+dir_fault fault.Denied = listed [] 1
+dir_fault fault.OutOfMemory = dir_no_memory
+dir_fault why = dir_failed

@@ -6,7 +6,7 @@ ghost use Rattle.tree_trait.specs.Dir.{dir_facts};
 ghost use Rattle.tree_trait.specs.Heard.{load, stat, read_dir, wants_memory};
 ghost use Rattle.tree_trait.specs.Load.{load_facts};
 ghost use Rattle.dbgd_edges.specs.Errors.{fault_in_listing, is_counted, is_no_process};
-ghost use Rattle.dbgd_edges.specs.Errors.{load_of, stat_of, dir_of};
+ghost use Rattle.dbgd_edges.specs.Errors.{load_fault, stat_fault, dir_fault};
 ghost use Rattle.dbgd_edges.specs.Numbers.{ArePinnedErrors};
 
 use row_types::OpenWorld;
@@ -62,7 +62,7 @@ impl ReadFault {
 
     /// What a load answers.
     pub fn load_answer(self) -> LoadAnswer<OpenWorld>
-        ensures value { load_facts result ≡ load_of self }
+        ensures value { load_facts result ≡ load_fault self }
         ensures memory { (path : List ℕ) (limit : ℕ)
             → IsTrue (wants_memory (load path limit (load_facts result)))
             → self ≡ ReadFault.OutOfMemory }
@@ -76,7 +76,7 @@ impl ReadFault {
 
     /// What a look answers.
     pub fn stat_answer(self) -> StatAnswer
-        ensures value { result ≡ stat_of self }
+        ensures value { result ≡ stat_fault self }
         ensures memory { (path : List ℕ) → IsTrue (wants_memory (stat path result))
             → self ≡ ReadFault.OutOfMemory }
     {
@@ -89,7 +89,7 @@ impl ReadFault {
 
     /// What the read of a folder answers.
     pub fn dir_answer(self, alloc: Global) -> DirAnswer
-        ensures value { dir_facts result ≡ dir_of self }
+        ensures value { dir_facts result ≡ dir_fault self }
         ensures memory { (path : List ℕ)
             → IsTrue (wants_memory (read_dir path (dir_facts result)))
             → self ≡ ReadFault.OutOfMemory }
@@ -119,9 +119,9 @@ impl From<AllocError> for ReadFault {
 
 impl From<io::Error> for ReadFault {
     ghost use Rattle.std.specs.Prelude.{◌≡◌};
-    ghost use Rattle.dbgd_edges.specs.Errors.{fault_of};
+    ghost use Rattle.dbgd_edges.specs.Errors.{read_fault};
 
-    ghost from_gives = { λ error fault. fault ≡ fault_of error };
+    ghost from_gives = { λ error fault. fault ≡ read_fault error };
 
     fn from(error: io::Error) -> ReadFault {
         match error.kind() {

@@ -3,7 +3,7 @@
 ghost use Rattle.std.specs.Prelude.{◌≡◌, IfOk, MatchOption};
 ghost use Rattle.std.specs.Duration.{as_nanos};
 ghost use Rattle.std.specs.Time.{instant_nanos};
-ghost use Rattle.dbgd_edges.specs.Waits.{IsLeft, IsOver};
+ghost use Rattle.dbgd_edges.specs.Waits.{IsTimeLeft, IsWaitOver};
 
 use std::sync::Wait;
 use std::time::{self, Duration, Instant};
@@ -18,8 +18,8 @@ pub struct RealClock<R: Drop> {
 
 /// What is left of a wait of some time that began then, if it isn't over.
 fn left_of(start: Instant, now: Instant, time: Duration) -> Option<Duration>
-    ensures { MatchOption result (IsOver (instant_nanos start) (instant_nanos now) (as_nanos time))
-        (λ left. IsLeft (instant_nanos start) (instant_nanos now) (as_nanos time)
+    ensures { MatchOption result (IsWaitOver (instant_nanos start) (instant_nanos now) (as_nanos time))
+        (λ left. IsTimeLeft (instant_nanos start) (instant_nanos now) (as_nanos time)
         (as_nanos left)) }
 {
     match time.checked_sub(now.duration_since(start)) {
@@ -42,7 +42,7 @@ impl<R: time::Clock + Drop> RealClock<R> {
     /// ends sooner only where the clock can't be read.
     fn wait_out<Rt: Wait>(&self, rt: &Rt, time: Duration) -> io::Result<(Instant, Instant)>
         ensures { IfOk result (λ read.
-            IsOver (instant_nanos read.0) (instant_nanos read.1) (as_nanos time)) }
+            IsWaitOver (instant_nanos read.0) (instant_nanos read.1) (as_nanos time)) }
     {
         let start = Instant::now(&self.clock)?;
         for _ in rt.forever() {

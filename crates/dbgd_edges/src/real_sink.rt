@@ -1,7 +1,7 @@
 //! The standard streams as sinks.
 
 ghost use Rattle.std.specs.Prelude.{◌≡◌};
-ghost use Rattle.http_wire.specs.Sink.{Takes};
+ghost use Rattle.http_wire.specs.Sink.{TakesSome};
 
 use crate::stream_call::write_some;
 use http_wire::{Sink, Stream, WriteAnswer};
@@ -37,7 +37,7 @@ impl RealSink {
 
     /// Writes some bytes to the stream.
     fn pass_on(&mut self, bytes: &[u8]) -> WriteAnswer
-        ensures takes { Takes bytes.now result }
+        ensures takes { TakesSome bytes.now result }
         ensures faults { self.new.faults ≡ self.old.faults }
     {
         match &mut self.stream {

@@ -1,7 +1,7 @@
 //! The real file system as a tree.
 
 ghost use Rattle.std.specs.Prelude.{◌≡◌, ◌≤◌};
-ghost use Rattle.dbgd_edges.specs.Errors.{counted};
+ghost use Rattle.dbgd_edges.specs.Errors.{faults_after};
 
 use crate::file_load::load_file;
 use crate::folder_read::read_folder;
@@ -35,7 +35,7 @@ impl<R: Drop> RealTree<R> {
 
     /// Counts what the system answered in the place of a file or folder.
     fn count_fault(&mut self, fault: ReadFault)
-        ensures value { self.new.faults ≡ counted fault self.old.faults }
+        ensures value { self.new.faults ≡ faults_after fault self.old.faults }
         ensures later { self.old.faults ≤ self.new.faults }
         ensures memory { fault ≡ ReadFault.OutOfMemory → self.new ≡ self.old }
     {

@@ -1,8 +1,8 @@
 //! Reads and writes of a stream of the system. One that a signal interrupted is tried again.
 
 ghost use Rattle.std.specs.Prelude.{◌<◌, None, length};
-ghost use Rattle.http_wire.specs.Sink.{Takes};
-ghost use Rattle.http_wire.specs.Source.{Gives};
+ghost use Rattle.http_wire.specs.Sink.{TakesSome};
+ghost use Rattle.http_wire.specs.Source.{GivesBytes};
 ghost use Rattle.dbgd_edges.specs.Numbers.{ArePinnedSignals};
 
 use crate::stream_fault::{read_answer, write_answer};
@@ -15,7 +15,7 @@ pub const SIGNAL_TRIES: u32 = 1000;
 /// Reads some bytes.
 pub fn read_some<S: Read>(stream: &mut S, room: &mut [u8]) -> ReadAnswer
     requires { 0 < length room.old }
-    ensures gives { Gives room.new None None result }
+    ensures gives { GivesBytes room.new None None result }
     ensures tries { ArePinnedSignals }
 {
     for _ in 0..SIGNAL_TRIES {
@@ -28,7 +28,7 @@ pub fn read_some<S: Read>(stream: &mut S, room: &mut [u8]) -> ReadAnswer
 
 /// Writes some bytes.
 pub fn write_some<S: Write>(stream: &mut S, bytes: &[u8]) -> WriteAnswer
-    ensures takes { Takes bytes.now result }
+    ensures takes { TakesSome bytes.now result }
     ensures tries { ArePinnedSignals }
 {
     for _ in 0..SIGNAL_TRIES {

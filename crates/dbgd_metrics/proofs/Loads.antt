@@ -11,7 +11,7 @@ use mathlib.Core.Logic.{dite}
 use native.Mathlib.Decide.{ℕ_discrete}
 use Rattle.atomic_table.specs.Table.{step}
 use Rattle.dbgd_metrics.specs.Columns.{AddsUp, AddUp}
-use Rattle.dbgd_metrics.specs.Rule.{Token, Looked, noted, noticed, word_at}
+use Rattle.dbgd_metrics.specs.Rule.{CountToken, Looked, known_after, noticed, word_at}
 use Rattle.dbgd_metrics.specs.Totals.{column_loads, page_loads}
 use Rattle.dbgd_metrics.specs.declared.view.Load.{Load}
 
@@ -31,10 +31,10 @@ page_more place (first ∷ columns) column =
     ∙ sym (append_assoc (column_loads place 0 first) (page_loads (place + 1) columns) (column_loads (place + length (first ∷ columns)) 0 column))
 
 -- loads after others
-pub looked_more : {a b c : Token} (xs ys : List Load) → Looked a b xs → c.table_id ≡ b.table_id → c.me ≡ (noted b.me.0 ys, b.me.1) → Looked a c (xs ++ ys)
+pub looked_more : {a b c : CountToken} (xs ys : List Load) → Looked a b xs → c.table_id ≡ b.table_id → c.me ≡ (known_after b.me.0 ys, b.me.1) → Looked a c (xs ++ ys)
 looked_more {a} {b} {c} xs ys p table me = record {
   table = table ∙ p.table;
-  me = me ∙ (ap (λ m. (noted m.0 ys, m.1)) p.me ∙ ap (λ (loads : List Load). (record a.me.0 { loads = loads }, a.me.1)) (append_assoc a.me.0.loads xs ys));
+  me = me ∙ (ap (λ m. (known_after m.0 ys, m.1)) p.me ∙ ap (λ (loads : List Load). (record a.me.0 { loads = loads }, a.me.1)) (append_assoc a.me.0.loads xs ys));
 }
 
 -- the sum of one more
@@ -42,7 +42,7 @@ sum_more : (xs : List ℕ) (n : ℕ) → sum (xs ++ n ∷ []) ≡ sum xs + n
 sum_more xs n = omega (arith, sum_by-append (λ (x : ℕ). x) xs (n ∷ []))
 
 -- the next row is added up
-pub adds_up_more : {rows place total found word : ℕ} {first before after : Token} → AddsUp rows place first before total → place < 53 → word ≡ word_at rows place
+pub adds_up_more : {rows place total found word : ℕ} {first before after : CountToken} → AddsUp rows place first before total → place < 53 → word ≡ word_at rows place
     → after.table_id ≡ before.table_id → noticed (step 0 word 0 0 none) before.me found after.me → AddsUp (rows + 1) place first after (total + found)
 adds_up_more {rows} {place} {total} {found} {word} {first} {before} {after} sums small is table told =
     let loads = column_more place 0 sums.column found in
@@ -64,7 +64,7 @@ adds_up_more {rows} {place} {total} {found} {word} {first} {before} {after} sums
     }
 
 -- the next number is added up
-pub add_up_more : {rows places total : ℕ} {totals : List ℕ} {first before after : Token} → AddUp rows places first before totals → AddsUp rows places before after total → AddUp rows (places + 1) first after (totals ++ total ∷ [])
+pub add_up_more : {rows places total : ℕ} {totals : List ℕ} {first before after : CountToken} → AddUp rows places first before totals → AddsUp rows places before after total → AddUp rows (places + 1) first after (totals ++ total ∷ [])
 add_up_more {rows} {places} {total} {totals} {first} {before} {after} all one =
     let many : length totals ≡ places = ap length all.values ∙ (length-map all.columns sum ∙ all.all) in
     let here : 0 + length all.columns ≡ places = omega (arith, all.all) in record {

@@ -2,7 +2,7 @@
 use Rattle.std.proofs.Common.{◌≡◌, ℕ, suc, ◌+◌, ◌-◌, ◌<◌, ◌≤◌, List, [], ◌∷◌, length, Bool, true, false, refl, subst, arith, Option, Some, None, leb, ltb, eqb, if◌then◌else◌}
 use Rattle.std.specs.Prelude.{IsSome, IfSome, ◌^◌}
 use Rattle.std.proofs.lemmas.Bool.Decides.{nat_tests}
-use Rattle.dbgd_metrics.specs.Numbers.{place_in, place_of, route_place, statuses}
+use Rattle.dbgd_metrics.specs.Numbers.{place_in, number_place, route_place, statuses}
 use Rattle.dbgd_metrics.specs.Rule.{word_at}
 use Rattle.dbgd_metrics.specs.declared.number.Number.{Number}
 use Rattle.dbgd_metrics.specs.declared.number.Number.TheVariants.{Requests, Bytes, Added, Replaced, Dropped, Passes}
@@ -40,7 +40,7 @@ route_bound Metrics = omega arith
 route_bound Other = omega arith
 
 -- each number has a place in a row
-pub place_bound : (number : Number) → place_of number < 53
+pub place_bound : (number : Number) → number_place number < 53
 place_bound (Requests route status) = omega (arith, route_bound route, place_in_bound statuses status)
 place_bound Bytes = omega arith
 place_bound Added = omega arith

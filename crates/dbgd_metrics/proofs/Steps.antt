@@ -8,7 +8,7 @@ use prog.Atomic.{either}
 use Rattle.atomic_table.specs.Table.{State, Me, step, Act, keeps, Valid, stepped, carried_after, Allows, Splits}
 use Rattle.atomic_table.proofs.Lists.{exchanged, set_again}
 use Rattle.dbgd_metrics.specs.declared.view.Known.{Known}
-use Rattle.dbgd_metrics.specs.Rule.{KeepsBook, heir, word_at, noted, TellsOwn, read, noticed, drew, added}
+use Rattle.dbgd_metrics.specs.Rule.{KeepsBook, heir, word_at, known_after, TellsOwn, read, noticed, drew, added}
 use Rattle.dbgd_metrics.proofs.Views.{one_row}
 use Rattle.dbgd_metrics.proofs.Keeps.{keeps_look, keeps_draw, keeps_add, keeps_split}
 
@@ -31,7 +31,7 @@ reads rows slots id word me s k deep at fits = (me.0, keeps, tt, same_word word 
 -- a load may be noted
 pub notices : (rows slots id word : ℕ) (me : Me U Known) → Allows (KeepsBook rows) slots id me word (λ n. n) (noticed (step slots word 0 0 none) me)
 notices rows slots id word me s k deep at fits =
-    let new = noted me.0 (record { word = word; found = get_or s.words word 0 } ∷ []) in
+    let new = known_after me.0 (record { word = word; found = get_or s.words word 0 } ∷ []) in
     (new, keeps, tt, same_word word s (keeps_look id s new k at refl refl refl), (refl, tells id slots word 0 s me k at))
 
 -- a seat without a row takes the next, or finds another number and nothing changes

@@ -19,8 +19,8 @@ place_in [] n = 0
 place_in (x ∷ xs) n = if n == x then 0 else 1 + place_in xs n
 
 -- a status of a reply
-abbrev pub IsStatus : ℕ → Type 0
-IsStatus status = place_in statuses status < length statuses
+abbrev pub IsCountedStatus : ℕ → Type 0
+IsCountedStatus status = place_in statuses status < length statuses
 
 -- a route's place on the page
 abbrev pub route_place : RouteName → ℕ
@@ -32,13 +32,13 @@ route_place Metrics = 4
 route_place Other = 5
 
 -- a number's place in a row: first the requests by route and status, then the five others
-abbrev pub place_of : Number → ℕ
-place_of (Requests route status) = 8 * route_place route + place_in statuses status
-place_of Bytes = 48
-place_of Added = 49
-place_of Replaced = 50
-place_of Dropped = 51
-place_of Passes = 52
+abbrev pub number_place : Number → ℕ
+number_place (Requests route status) = 8 * route_place route + place_in statuses status
+number_place Bytes = 48
+number_place Added = 49
+number_place Replaced = 50
+number_place Dropped = 51
+number_place Passes = 52
 
 -- how many numbers there are
 abbrev pub count_of_numbers : ℕ
@@ -49,12 +49,12 @@ abbrev pub most_rows : ℕ
 most_rows = 65
 
 -- one of the numbers, by its name
-abbrev pub number_in : List ℕ → Number → ℕ
-number_in numbers number = slice_index numbers (place_of number)
+abbrev pub number_of_row : List ℕ → Number → ℕ
+number_of_row numbers number = slice_index numbers (number_place number)
 
 -- the numbers after one of them grew
 abbrev pub grown : List ℕ → Number → ℕ → List ℕ
-grown numbers number k = slice_set numbers (place_of number) (number_in numbers number + k)
+grown numbers number k = slice_set numbers (number_place number) (number_of_row numbers number + k)
 
 -- all numbers before anything was counted
 abbrev pub zeros : List ℕ

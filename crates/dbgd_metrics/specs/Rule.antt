@@ -14,8 +14,8 @@ abbrev pub word_at : ℕ → ℕ → ℕ
 word_at row place = 1 + count_of_numbers * row + place
 
 -- the row lies within a table of so many words
-abbrev pub IsInside : ℕ → ℕ → Type 0
-IsInside row words = (row < most_rows) × (word_at (row + 1) 0 ≤ words)
+abbrev pub IsRowInside : ℕ → ℕ → Type 0
+IsRowInside row words = (row < most_rows) × (word_at (row + 1) 0 ≤ words)
 
 -- a seat without a row, that has counted and noted nothing
 abbrev pub blank : Known
@@ -39,8 +39,8 @@ pub record KeepsBook {S : Type 0} (rows : ℕ) (state : State S Known) : Type 0 
   pub rest : (word : ℕ) → count_of_numbers * slice_index state.words 0 < word → word ≤ count_of_numbers * rows → slice_index state.words word ≡ 0  -- rows that weren't drawn are zeros
 
 -- what a seat knows once it has noted more loads
-abbrev pub noted : Known → List Load → Known
-noted known more = record known { loads = known.loads ++ more }
+abbrev pub known_after : Known → List Load → Known
+known_after known more = record known { loads = known.loads ++ more }
 
 module _ {S : Type 0} where
   -- where the word is one of the own row, it holds the own number
@@ -53,7 +53,7 @@ module _ {S : Type 0} where
 
   -- a load, which changes nothing but that it is noted with what it found
   abbrev pub noticed : Step S → Me S Known → ℕ → Me S Known → Type 0
-  noticed step before found after = (after ≡ (noted before.0 (record { word = step.word; found = found } ∷ []), before.1)) × TellsOwn step before found
+  noticed step before found after = (after ≡ (known_after before.0 (record { word = step.word; found = found } ∷ []), before.1)) × TellsOwn step before found
 
   -- an exchange on the number of drawn rows: the seat has the row of the number that it found, behind those that it knew to be drawn, or the number was another and nothing changes
   abbrev pub drew : Step S → Me S Known → ℕ → Me S Known → Type 0
@@ -65,10 +65,10 @@ module _ {S : Type 0} where
       → after ≡ (record before.0 { numbers = slice_set before.0.numbers place (slice_index before.0.numbers place + step.first) }, before.1)
 
 -- a seat of the table
-abbrev pub Token : Type 0
-Token = Seat (Unit {0}) Known
+abbrev pub CountToken : Type 0
+CountToken = Seat (Unit {0}) Known
 
 -- the seat has noted more loads, and nothing else of it changed
-pub record Looked (old new : Token) (more : List Load) : Type 0 where
+pub record Looked (old new : CountToken) (more : List Load) : Type 0 where
   pub table : new.table_id ≡ old.table_id
-  pub me : new.me ≡ (noted old.me.0 more, old.me.1)
+  pub me : new.me ≡ (known_after old.me.0 more, old.me.1)

@@ -1,15 +1,15 @@
 -- What a share shows of its seat, and what it keeps of it.
 use Rattle.std.specs.Prelude.{◌≡◌, ℕ, [], Bool, false, Option, MatchOption}
 use Rattle.dbgd_metrics.specs.Numbers.{zeros}
-use Rattle.dbgd_metrics.specs.Rule.{Token, IsInside}
+use Rattle.dbgd_metrics.specs.Rule.{CountToken, IsRowInside}
 use Rattle.dbgd_metrics.specs.Shares.{ShareFacts}
 
 -- what contracts see of a share with this seat and this mark
-abbrev pub facts_of : Token → Bool → ShareFacts
-facts_of token marked = record { book = token.table_id; row = token.me.0.row; numbers = token.me.0.numbers; marked = marked; loads = token.me.0.loads; drawn = token.me.0.drawn }
+abbrev pub share_with : CountToken → Bool → ShareFacts
+share_with token marked = record { book = token.table_id; row = token.me.0.row; numbers = token.me.0.numbers; marked = marked; loads = token.me.0.loads; drawn = token.me.0.drawn }
 
 -- the seat has no slot, and the share has noted its row, which is one of the table; without a row it has counted nothing and isn't marked
-abbrev pub HasSeat : Token → Option ℕ → Bool → Type 0
+abbrev pub HasSeat : CountToken → Option ℕ → Bool → Type 0
 HasSeat token row marked =
     (token.me.1 ≡ []) × (row ≡ token.me.0.row)
-    × MatchOption row ((token.me.0.numbers ≡ zeros) × (marked ≡ false)) (λ own. IsInside own token.table_id.words)
+    × MatchOption row ((token.me.0.numbers ≡ zeros) × (marked ≡ false)) (λ own. IsRowInside own token.table_id.words)

@@ -20,7 +20,7 @@ pub record ShareFacts : Type 0 where
   pub drawn : ℕ
 
 -- a share of that table without a row, which has counted nothing and isn't marked
-pub record IsNew (book : TableId) (share : ShareFacts) : Type 0 where
+pub record IsNewShare (book : TableId) (share : ShareFacts) : Type 0 where
   pub of_book : share.book ≡ book
   pub no_row : share.row ≡ None
   pub nothing : share.numbers ≡ zeros

@@ -2,7 +2,7 @@
 use Rattle.std.specs.Prelude.{◌≡◌, ℕ, ◌+◌, ◌≤◌, List, [], ◌∷◌, ◌++◌, map, length, slice_index, slice_index_or, Some, All, sum}
 use Rattle.dbgd_metrics.specs.declared.number.Number.{Number}
 use Rattle.dbgd_metrics.specs.declared.view.Load.{Load}
-use Rattle.dbgd_metrics.specs.Numbers.{number_in, place_of, count_of_numbers}
+use Rattle.dbgd_metrics.specs.Numbers.{number_of_row, number_place, count_of_numbers}
 use Rattle.dbgd_metrics.specs.Page.{metrics_text}
 use Rattle.dbgd_metrics.specs.Rule.{word_at}
 use Rattle.dbgd_metrics.specs.Shares.{ShareFacts}
@@ -31,8 +31,8 @@ pub record Loads (rows : ℕ) (columns : List (List ℕ)) (old new : ShareFacts)
 pub record IsPage (rows : ℕ) (old new : ShareFacts) (text : List ℕ) : Type 0 where
   pub columns : List (List ℕ)
   pub loads : Loads rows columns old new
-  pub own : (number : Number) → number_in old.numbers number ≤ number_in (map sum columns) number
-  pub exact : (row : ℕ) (number : Number) → old.row ≡ Some row → found_at columns (place_of number) row ≡ number_in old.numbers number
+  pub own : (number : Number) → number_of_row old.numbers number ≤ number_of_row (map sum columns) number
+  pub exact : (row : ℕ) (number : Number) → old.row ≡ Some row → found_at columns (number_place number) row ≡ number_of_row old.numbers number
   pub lines : text ≡ metrics_text (map sum columns)
 
 -- the share noted loads, and nothing else of it changed

@@ -4,8 +4,8 @@ ghost use Rattle.dbgd_metrics.specs.declared.book.TheConstants.{MOST_ROWS};
 ghost use Rattle.dbgd_metrics.specs.declared.number.TheConstants.{NUMBERS};
 ghost use Rattle.dbgd_metrics.specs.Numbers.{count_of_numbers, most_rows};
 ghost use Rattle.dbgd_metrics.specs.Draws.{Draws, DrawsApart, GetsRow, SeesNone};
-ghost use Rattle.dbgd_metrics.specs.Shares.{IsNew};
-ghost use Rattle.dbgd_metrics.specs.Splits.{Splits};
+ghost use Rattle.dbgd_metrics.specs.Shares.{IsNewShare};
+ghost use Rattle.dbgd_metrics.specs.Splits.{SplitsShare};
 
 use crate::number::NUMBERS;
 use crate::plays::{Blank, Notices, TakesNext};
@@ -45,7 +45,7 @@ impl Book {
     pub fn make(alloc: Global, rows: u64) -> Result<(Book, Share), AllocError>
         requires { (1 ≤ rows) × (rows ≤ MOST_ROWS) }
         ensures rows { IfOk result (λ made. made.0.rows ≡ rows) }
-        ensures share { IfOk result (λ made. IsNew made.0.id made.1) }
+        ensures share { IfOk result (λ made. IsNewShare made.0.id made.1) }
         ensures numbers { (NUMBERS ≡ count_of_numbers) × (MOST_ROWS ≡ most_rows) }
     {
         let words = vec![in alloc; 0; (1 + NUMBERS * rows) as usize]?;
@@ -61,7 +61,7 @@ impl Book {
     /// Makes a second share, which has no row. Of a share with a row it is one that draws a row behind it.
     pub fn split(&self, mut share: Share) -> ShareSplit
         requires book { share.book ≡ self.now.id }
-        ensures { Splits share result }
+        ensures { SplitsShare share result }
     {
         let token = self.table.shared.split_seat::<Blank>(&mut share.token);
         let other = Share {

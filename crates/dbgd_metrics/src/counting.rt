@@ -1,7 +1,7 @@
 //! Counting.
 ghost use Rattle.std.specs.Prelude.{◌≡◌, ◌<◌, ◌+◌, ◌^◌, IsSome, true};
-ghost use Rattle.dbgd_metrics.specs.Counts.{CanCount, Counts, has_room};
-ghost use Rattle.dbgd_metrics.specs.Numbers.{grown, number_in};
+ghost use Rattle.dbgd_metrics.specs.Counts.{HasReplyStatus, Counts, has_room};
+ghost use Rattle.dbgd_metrics.specs.Numbers.{grown, number_of_row};
 ghost use Rattle.dbgd_metrics.specs.declared.count.Count.TheVariants.{Request, Pass};
 
 use crate::book::Book;
@@ -38,7 +38,7 @@ impl Book {
     fn count_request(&self, share: &mut Share, route: RouteName, status: u16, bytes: u64) -> Counted
         requires book { share.old.book ≡ self.now.id }
         requires row { IsSome share.old.row }
-        requires status { CanCount (Request route status bytes) }
+        requires status { HasReplyStatus (Request route status bytes) }
         ensures { Counts (Request route status bytes) share.old share.new result }
     {
         let requests = Number::Requests { route, status };
@@ -76,7 +76,7 @@ impl Book {
     pub fn count(&self, share: &mut Share, what: Count) -> Counted
         requires book { share.old.book ≡ self.now.id }
         requires row { IsSome share.old.row }
-        requires status { CanCount what }
+        requires status { HasReplyStatus what }
         ensures counts { Counts what share.old share.new result }
         ensures same { (share.new.book ≡ share.old.book) × (share.new.row ≡ share.old.row) }
     {

@@ -1,6 +1,6 @@
 //! The numbers of a share by name, and their places in a row.
 ghost use Rattle.std.specs.Prelude.{◌≡◌, ◌<◌};
-ghost use Rattle.dbgd_metrics.specs.Numbers.{count_of_numbers, place_in, place_of, route_place, statuses};
+ghost use Rattle.dbgd_metrics.specs.Numbers.{count_of_numbers, place_in, number_place, route_place, statuses};
 
 /// How many numbers a row has.
 pub const NUMBERS: u64 = 53;
@@ -82,7 +82,7 @@ fn status_place(status: u16) -> u64
 impl Number {
     /// Its place in a row.
     pub(crate) fn place(self) -> u64
-        ensures value { result ≡ place_of self }
+        ensures value { result ≡ number_place self }
         ensures few { result < count_of_numbers }
     {
         match self {

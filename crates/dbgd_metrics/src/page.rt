@@ -1,8 +1,8 @@
 //! The text of the page.
 ghost use Rattle.std.specs.Prelude.{◌≡◌, ◌++◌, length, decimal, flat_map, IfOk, OnOk, codes};
 ghost use Rattle.std.specs.String.{string_bytes};
-ghost use Rattle.dbgd_metrics.specs.Numbers.{count_of_numbers, number_in, statuses};
-ghost use Rattle.dbgd_metrics.specs.Page.{label, labels, line, line_unless_zero, metrics_text, request_line, route_lines, route_text};
+ghost use Rattle.dbgd_metrics.specs.Numbers.{count_of_numbers, number_of_row, statuses};
+ghost use Rattle.dbgd_metrics.specs.Page.{label, labels, number_line, line_unless_zero, metrics_text, request_line, route_lines, route_label};
 
 use crate::number::{Number, RouteName, STATUSES};
 use itoa::Buffer;
@@ -20,7 +20,7 @@ const ROUTES: [RouteName; 6] = [
 
 // A route's label.
 fn route_text(route: RouteName) -> &'static str
-    ensures { result.now ≡ route_text route }
+    ensures { result.now ≡ route_label route }
 {
     match route {
         RouteName::Debuginfo => "debuginfo",
@@ -34,7 +34,7 @@ fn route_text(route: RouteName) -> &'static str
 
 // Adds a line: what is counted, and its number.
 fn push_line(text: &mut String, name: &str, number: u128) -> Result<(), AllocError>
-    ensures { OnOk result (string_bytes text.new ≡ string_bytes text.old ++ line name.now number) }
+    ensures { OnOk result (string_bytes text.new ≡ string_bytes text.old ++ number_line name.now number) }
 {
     text.push_str(name)?;
     text.push_str(" ")?;
@@ -87,7 +87,7 @@ fn push_series(
 // One of the totals.
 fn number_in(totals: &[u128], number: Number) -> u128
     requires { length totals.now ≡ count_of_numbers }
-    ensures { result ≡ number_in totals.now number }
+    ensures { result ≡ number_of_row totals.now number }
 {
     totals[number.place() as usize]
 }
@@ -153,7 +153,7 @@ fn push_total(
 ) -> Result<(), AllocError>
     requires { length totals.now ≡ count_of_numbers }
     ensures { OnOk result (string_bytes text.new ≡
-        string_bytes text.old ++ line name.now (number_in totals.now number)) }
+        string_bytes text.old ++ number_line name.now (number_of_row totals.now number)) }
 {
     push_line(text, name, number_in(totals, number))
 }

@@ -30,19 +30,19 @@ pub enum Drawn {
 }
 
 impl Model for Share {
-    ghost use Rattle.dbgd_metrics.specs.Seats.{HasSeat, facts_of};
+    ghost use Rattle.dbgd_metrics.specs.Seats.{HasSeat, share_with};
     ghost use Rattle.dbgd_metrics.specs.Shares.{ShareFacts};
 
     ghost Value = { ShareFacts };
 
-    ghost view = { λ share. facts_of share.token share.marked };
+    ghost view = { λ share. share_with share.token share.marked };
 
     ghost invariant = { λ share. HasSeat share.token share.row share.marked };
 }
 
 impl Share {
     ghost use Rattle.std.specs.Prelude.{◌≡◌, ◌<◌, IsSome, IfSome};
-    ghost use Rattle.dbgd_metrics.specs.Numbers.{place_of};
+    ghost use Rattle.dbgd_metrics.specs.Numbers.{number_place};
     ghost use Rattle.dbgd_metrics.specs.Rule.{word_at};
 
     /// Whether a count was ever refused.
@@ -55,7 +55,7 @@ impl Share {
     /// The word of a number in the share's row.
     pub(crate) fn word(&self, number: Number) -> usize
         requires { IsSome self.now.row }
-        ensures value { IfSome self.now.row (λ row. result ≡ word_at row (place_of number)) }
+        ensures value { IfSome self.now.row (λ row. result ≡ word_at row (number_place number)) }
         ensures there { result < self.now.book.words }
     {
         match self.row {

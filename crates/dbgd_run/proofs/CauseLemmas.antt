@@ -4,13 +4,13 @@ use Rattle.row_types.specs.Faults.{Rose}
 use Rattle.row_types.specs.declared.limits.TheConstants.{FILE_LIMIT}
 use Rattle.file_formats.specs.Identity.{Identity}
 use Rattle.file_formats.specs.declared.fault.Why.{Why}
-use Rattle.tree_trait.specs.Heard.{has_failed, load}
+use Rattle.tree_trait.specs.Heard.{call_failed, load}
 use Rattle.tree_trait.specs.Load.{LoadFacts, loaded, too_large, gone, failed, no_memory}
 use Rattle.dbgd_run.specs.Causes.{FileStatus}
-use Rattle.dbgd_run.specs.Endings.{Ends, Saying, Streams}
+use Rattle.dbgd_run.specs.Endings.{EndsSaying, Saying, Streams}
 use Rattle.dbgd_run.specs.File.{RunsFile, RunsOn}
 use Rattle.dbgd_run.specs.Ident.{SaysFile, SaysIdent}
-use Rattle.dbgd_run.specs.Scene.{FirstGoes, FirstRose, Scene, Setting}
+use Rattle.dbgd_run.specs.Scene.{FirstGoes, FirstRose, ProgramScene, Setting}
 use Rattle.dbgd_run.specs.Section.{SaysNamed, SaysSection}
 use Rattle.dbgd_run.specs.Sources.{SaysListed, SaysSources}
 use Rattle.dbgd_run.specs.declared.status.Status.{Status}
@@ -19,17 +19,17 @@ use Rattle.dbgd_run.specs.declared.status.Status.TheVariants as status
 -- what the saying's status says is said, or that the standard output failed
 pub by_ends : (P : Status → Type 0) (saying : Saying) {old new : Streams} {end : Status}
     → P saying.status → (Rose old.out.write_faults new.out.write_faults → P status.Fault)
-    → Ends saying old new end → P end
+    → EndsSaying saying old new end → P end
 by_ends P saying said out (inl whole) = subst P (sym whole.ends) said
 by_ends P saying said out (inr cut) = subst P (sym cut.ends) (out cut.out.rose)
 
-module _ {T : Type 0} (s : Setting T) (before after : Scene T) where
+module _ {T : Type 0} (s : Setting T) (before after : ProgramScene T) where
   -- what a load that failed says
   abbrev Failing : LoadFacts → List ℕ → Type 0
-  Failing answer path = IsTrue (has_failed (load path FILE_LIMIT answer)) → FirstRose s before.hands after.hands
+  Failing answer path = IsTrue (call_failed (load path FILE_LIMIT answer)) → FirstRose s before.hands after.hands
 
   file_ends : {saying : Saying} {end : Status} → FileStatus s before after saying.status
-      → Ends saying before.streams after.streams end → FileStatus s before after end
+      → EndsSaying saying before.streams after.streams end → FileStatus s before after end
   file_ends {saying} said ends = by_ends (FileStatus s before after) saying said (λ rose. inr rose) ends
 
   file_status : (r : Result Identity Why) (end : Status) → SaysFile r before.streams after.streams end
@@ -78,13 +78,13 @@ module _ {T : Type 0} (s : Setting T) (before after : Scene T) where
 by_answer : {T : Type 0} (s : Setting T) (path : List ℕ) (Says : LoadFacts → Streams → Streams → Status → Type 0)
     {old new : Streams} {end : Status} {P : Type 0} (hands left : List T)
     → FirstGoes (λ hand later. RunsOn Says s.tells_files s.world.version path (s.sees hand) (s.sees later) old new end) hands left
-    → ((answer : LoadFacts) → (IsTrue (has_failed (load path FILE_LIMIT answer)) → FirstRose s hands left)
+    → ((answer : LoadFacts) → (IsTrue (call_failed (load path FILE_LIMIT answer)) → FirstRose s hands left)
     → Says answer old new end → P) → P
 by_answer s path Says (hand ∷ hands) (later ∷ left) goes by =
     by goes.0.answer (λ fails. goes.0.asks.hands.cause.rose fails) goes.0.said
 by_answer s path Says _ _ goes by = absurd goes
 
-module _ {T : Type 0} (s : Setting T) (before after : Scene T) (end : Status) where
+module _ {T : Type 0} (s : Setting T) (before after : ProgramScene T) (end : Status) where
   pub ident_status : (path : List ℕ) → RunsFile s path (SaysIdent path) before after end → FileStatus s before after end
   ident_status path run =
       by_answer s path (SaysIdent path) before.hands after.hands run.hands

@@ -8,8 +8,8 @@ use Rattle.row_types.specs.Name.{NameFacts, stamp_at}
 use Rattle.scan_queue.specs.declared.miss.Cause.{Cause}
 use Rattle.scan_queue.specs.declared.miss.Cause.TheVariants.{ReadFault, Altered, Appeared}
 use Rattle.index_state.specs.Judge.{is_under}
-use Rattle.scan_worker.specs.Read.{load_of}
-use Rattle.tree_trait.specs.Asks.{IsTold}
+use Rattle.scan_worker.specs.Read.{heard_load}
+use Rattle.tree_trait.specs.Asks.{IsAnswerTold}
 use Rattle.tree_trait.specs.Found.{Versions}
 use Rattle.tree_trait.specs.Heard.{Heard, stat}
 use Rattle.tree_trait.specs.Shown.{ShownTree}
@@ -18,7 +18,7 @@ use Rattle.tree_walk.specs.declared.walked.Walk.{Walk}
 use Rattle.pass_runner.proofs.NameLists.{in_by_stamp}
 use Rattle.pass_runner.proofs.StillLemmas.{all_front, contained, first_told, is_contained, none_other}
 use Rattle.pass_runner.specs.Owned.{HearsPass, TellsStill}
-use Rattle.pass_runner.specs.Settled.{IsBacked, IsWanted}
+use Rattle.pass_runner.specs.Settled.{IsBacked, MayBeAsked}
 
 -- whether a name was missed since a file is another by now
 abbrev pub IsChange : Cause → Type 0
@@ -33,17 +33,17 @@ pub never_changed : {told : Bool} {version : Versions} {roots : List (List ℕ)}
     → IsBacked walk.listing names more Failed name cause → TellsStill told before → ⊥
 never_changed Failed name ReadFault hears change path why still = change
 never_changed {walk = walk} {walked = walked} {more = more} {before = before} Failed name (Altered met) hears change path why still =
-    let there = first_told before.present name.path walked (File name.stamp) (all_front (IsTold before.present) walked more (hears.tells still))
+    let there = first_told before.present name.path walked (File name.stamp) (all_front (IsAnswerTold before.present) walked more (hears.tells still))
     ((hears.whole.listing.all name).0 (contained walk.listing name why.listed)).file in
     none_other before.present name why.answer met there
-    (All-contains (IsTold before.present) (walked ++ more) (load_of name why.answer) (hears.tells still)
-    (Contains-append_right walked more (load_of name why.answer) why.heard))
+    (All-contains (IsAnswerTold before.present) (walked ++ more) (heard_load name why.answer) (hears.tells still)
+    (Contains-append_right walked more (heard_load name why.answer) why.heard))
     why.other
 never_changed {roots = roots} {names = names} {walk = walk} {walked = walked} {more = more} {before = before} Failed name Appeared hears change path why still =
     let look = stat name.path (File name.stamp) in
     let told : stamp_at before.present name.path ≡ Some name.stamp
-    = All-contains (IsTold before.present) (walked ++ more) look (hears.tells still) (Contains-append_right walked more look why.seen.heard) in
-    let wanted : is_under roots name.path ≡ true = All-contains (IsWanted walk.listing roots names) more look hears.wanted why.seen.heard in
+    = All-contains (IsAnswerTold before.present) (walked ++ more) look (hears.tells still) (Contains-append_right walked more look why.seen.heard) in
+    let wanted : is_under roots name.path ≡ true = All-contains (MayBeAsked walk.listing roots names) more look hears.wanted why.seen.heard in
     let listed : Contains walk.listing name
     = ((hears.under still).all name).1
     (record {

@@ -27,7 +27,7 @@ use Rattle.tree_trait.specs.Stat.{IsNothingAt}
 use Rattle.tree_trait.proofs.EntryLemmas.{entries_same, entry_itself}
 use Rattle.tree_trait.proofs.FolderLemmas.{front_of_longer, made_is_piece, starts_rest}
 use Rattle.tree_walk.specs.Files.{AreFilesUnder, FitsFault, FolderFacts, HasManyEntries, HasManyFiles, IsFileUnder, IsFolderUnder}
-use Rattle.elf_forge.specs.Place.{file_path, folder_at, name_of, names_of, numbers_below}
+use Rattle.elf_forge.specs.Place.{forged_path, folder_at, forged_name, forged_names, numbers_below}
 use Rattle.elf_forge.proofs.FolderLemmas.{by_folder, folder_there, lies_in, some_files}
 use Rattle.dbgd_run.proofs.CountLemmas.{as_many_at_most, has, has_it, once, weigh_at_most}
 
@@ -35,8 +35,8 @@ long_below : (n : ℕ) → length (numbers_below n) ≡ n
 long_below zero = refl
 long_below (suc n) = let before = long_below n in omega (arith, before, length-append (numbers_below n) (n ∷ []))
 
-as_many_names : (seed n : ℕ) → length (names_of seed n) ≡ n
-as_many_names seed n = length-map (numbers_below n) (name_of seed) ∙ long_below n
+as_many_names : (seed n : ℕ) → length (forged_names seed n) ≡ n
+as_many_names seed n = length-map (numbers_below n) (forged_name seed) ∙ long_below n
 
 -- ---- files
 
@@ -58,9 +58,9 @@ by_path_once (name ∷ names) by =
     (by_path_once names (λ i j d before within. by (suc i) (suc j) d (omega (arith, before)) (omega (arith, within))))
 
 not_many_files : (seed files : ℕ) (roots : List (List ℕ)) → files ≤ 100000
-    → HasManyFiles (names_of seed files) roots → ⊥
+    → HasManyFiles (forged_names seed files) roots → ⊥
 not_many_files seed files roots few many =
-    let all : List NameFacts = names_of seed files in
+    let all : List NameFacts = forged_names seed files in
     let most = as_many_at_most same_name same_name-Decides many.names all (by_path_once many.names many.by_path)
     (λ name within. has_it same_name same_name-Decides all name
     (All-contains (IsFileUnder all roots) many.names name many.each within).there) in
@@ -71,9 +71,9 @@ not_many_files seed files roots few many =
 
 -- those under some folders are no more
 pub few_listed : (seed files : ℕ) (roots : List (List ℕ)) {listing : List NameFacts} → files ≤ 100000
-    → AreFilesUnder (names_of seed files) roots listing → length listing ≤ 100000
+    → AreFilesUnder (forged_names seed files) roots listing → length listing ≤ 100000
 few_listed seed files roots {listing} few under =
-    let all : List NameFacts = names_of seed files in
+    let all : List NameFacts = forged_names seed files in
     let most = as_many_at_most same_name same_name-Decides listing all (by_path_once listing under.by_path)
     (λ name within. has_it same_name same_name-Decides all name ((under.all name).0 within).there) in
     let long = as_many_names seed files in
@@ -88,7 +88,7 @@ with_one (Some entry) entries = entry ∷ entries
 
 abbrev pieces : List ℕ → List ℕ → List EntryFacts
 pieces folder [] = []
-pieces folder (k ∷ ks) = with_one (piece_under folder (file_path k)) (pieces folder ks)
+pieces folder (k ∷ ks) = with_one (piece_under folder (forged_path k)) (pieces folder ks)
 
 one_more : (o : Option EntryFacts) (entries : List EntryFacts) → length (with_one o entries) ≤ suc (length entries)
 one_more None entries = omega arith
@@ -97,7 +97,7 @@ one_more (Some entry) entries = omega arith
 few_pieces : (folder ks : List ℕ) → length (pieces folder ks) ≤ length ks
 few_pieces folder [] = omega arith
 few_pieces folder (k ∷ ks) =
-    let more = one_more (piece_under folder (file_path k)) (pieces folder ks) in
+    let more = one_more (piece_under folder (forged_path k)) (pieces folder ks) in
     let rest = few_pieces folder ks in
     omega (arith, more, rest)
 
@@ -115,15 +115,15 @@ still_has (Some other) entries entry h = go (same_entry entry other)
 
 -- an entry that some file makes is a piece
 is_piece : (seed : ℕ) (folder ks : List ℕ) (entry : EntryFacts) → is_entry_name entry.name ≡ true
-    → is_there (map (name_of seed) ks) folder entry ≡ true → has_entry (pieces folder ks) entry ≡ true
+    → is_there (map (forged_name seed) ks) folder entry ≡ true → has_entry (pieces folder ks) entry ≡ true
 is_piece seed folder [] entry valid there = absurd (false≢true there)
 is_piece seed folder (k ∷ ks) entry valid there =
-    elim (or_cases (makes entry.kind (child folder entry.name) (file_path k))
-    (is_there (map (name_of seed) ks) folder entry) there) [
+    elim (or_cases (makes entry.kind (child folder entry.name) (forged_path k))
+    (is_there (map (forged_name seed) ks) folder entry) there) [
       | inl t ↦ subst (λ o. has_entry (with_one o (pieces folder ks)) entry ≡ true)
-          (sym (made_is_piece folder (file_path k) entry.name entry.kind valid t))
+          (sym (made_is_piece folder (forged_path k) entry.name entry.kind valid t))
           (subst (λ b. (b || has_entry (pieces folder ks) entry) ≡ true) (sym (entry_itself entry)) refl)
-      | inr t ↦ still_has (piece_under folder (file_path k)) (pieces folder ks) entry
+      | inr t ↦ still_has (piece_under folder (forged_path k)) (pieces folder ks) entry
           (is_piece seed folder ks entry valid t)
     ]
 
@@ -138,13 +138,13 @@ all_at p xs x all within =
     subst (λ y. p y ≡ true) within.2 (AllPass-from_list_all p xs all within.0 x within.1)
 
 few_in_folder : (seed files : ℕ) (folder : List ℕ) (entries : List EntryFacts)
-    → IsFolderListing (names_of seed files) folder entries → length entries ≤ files
+    → IsFolderListing (forged_names seed files) folder entries → length entries ≤ files
 few_in_folder seed files folder entries listing =
     let most = as_many_at_most same_entry same_entry-Decides entries (pieces folder (numbers_below files))
     (once_entries entries listing.once)
     (λ entry within. is_piece seed folder (numbers_below files) entry
     (all_at (λ (e : EntryFacts). is_entry_name e.name) entries entry listing.names within)
-    (all_at (is_there (names_of seed files) folder) entries entry listing.each within)) in
+    (all_at (is_there (forged_names seed files) folder) entries entry listing.each within)) in
     let few = few_pieces folder (numbers_below files) in
     let long = long_below files in
     omega (arith, most, few, long)
@@ -179,16 +179,16 @@ is_home p =
     at q e h = subst (λ r. has same_path same_path-Decides homes r ≡ true) (sym e) h
 
 -- a folder before a file's path has it
-lies_behind : (p : List ℕ) (k : ℕ) → starts_with nat_eq (file_path k) (front_under p) ≡ true
-    → lies_under p (file_path k) ≡ true
+lies_behind : (p : List ℕ) (k : ℕ) → starts_with nat_eq (forged_path k) (front_under p) ≡ true
+    → lies_under p (forged_path k) ≡ true
 lies_behind p k starts =
-    and_from _ _ starts (ap not (false_from_ne_true (bytes_eq (file_path k) p) (λ t.
-    let long : 11 ≡ length p = ap length ((bytes_eq-Decides (file_path k) p).0 t) in
+    and_from _ _ starts (ap not (false_from_ne_true (bytes_eq (forged_path k) p) (λ t.
+    let long : 11 ≡ length p = ap length ((bytes_eq-Decides (forged_path k) p).0 t) in
     let front : length (front_under p) ≡ length p + 1
     = ap length (front_of_longer p (omega (arith, long))) ∙ length-append p (47 ∷ []) in
-    let whole : 11 ≡ length (front_under p) + length (drop (length (front_under p)) (file_path k))
-    = ap length (starts_rest (front_under p) (file_path k) starts)
-    ∙ length-append (front_under p) (drop (length (front_under p)) (file_path k)) in
+    let whole : 11 ≡ length (front_under p) + length (drop (length (front_under p)) (forged_path k))
+    = ap length (starts_rest (front_under p) (forged_path k) starts)
+    ∙ length-append (front_under p) (drop (length (front_under p)) (forged_path k)) in
     absurd (omega (arith, long, front, whole)))))
 
 piece_starts : (p path : List ℕ) (e : EntryFacts) → piece_under p path ≡ Some e
@@ -202,31 +202,31 @@ piece_starts p path e piece = go (starts_with nat_eq path (front_under p)) refl 
     go false is h = absurd (cc)
 
 some_home : (seed : ℕ) (p ks : List ℕ) (entry : EntryFacts) → is_entry_name entry.name ≡ true
-    → is_there (map (name_of seed) ks) p entry ≡ true → has same_path same_path-Decides homes p ≡ true
+    → is_there (map (forged_name seed) ks) p entry ≡ true → has same_path same_path-Decides homes p ≡ true
 some_home seed p [] entry valid there = absurd (false≢true there)
 some_home seed p (k ∷ ks) entry valid there =
-    elim (or_cases (makes entry.kind (child p entry.name) (file_path k))
-    (is_there (map (name_of seed) ks) p entry) there) [
+    elim (or_cases (makes entry.kind (child p entry.name) (forged_path k))
+    (is_there (map (forged_name seed) ks) p entry) there) [
       | inl t ↦ is_home p (sym (lies_in p k)
           ∙ lies_behind p k
-          (piece_starts p (file_path k) entry (made_is_piece p (file_path k) entry.name entry.kind valid t)))
+          (piece_starts p (forged_path k) entry (made_is_piece p (forged_path k) entry.name entry.kind valid t)))
       | inr t ↦ some_home seed p ks entry valid t
     ]
 
-home_of : (seed files : ℕ) (p : List ℕ) (entries : List EntryFacts) → IsFolderListing (names_of seed files) p entries
+home_of : (seed files : ℕ) (p : List ℕ) (entries : List EntryFacts) → IsFolderListing (forged_names seed files) p entries
     → 0 < length entries → has same_path same_path-Decides homes p ≡ true
 home_of seed files p [] listing some = absurd (omega (arith, some))
 home_of seed files p (entry ∷ rest) listing some =
     some_home seed p (numbers_below files) entry
     (and_parts (is_entry_name entry.name) (list_all (λ (e : EntryFacts). is_entry_name e.name) rest) listing.names).0
-    (and_parts (is_there (names_of seed files) p entry) (list_all (is_there (names_of seed files) p) rest)
+    (and_parts (is_there (forged_names seed files) p entry) (list_all (is_there (forged_names seed files) p) rest)
     listing.each).0
 
 not_many_entries : (seed files : ℕ) (roots : List (List ℕ)) → files ≤ 100000
-    → HasManyEntries (names_of seed files) roots → ⊥
+    → HasManyEntries (forged_names seed files) roots → ⊥
 not_many_entries seed files roots few many =
-    let each : (f : FolderFacts) → Contains many.folders f → IsFolderUnder (names_of seed files) roots f
-    = λ f within. All-contains (IsFolderUnder (names_of seed files) roots) many.folders f many.each within in
+    let each : (f : FolderFacts) → Contains many.folders f → IsFolderUnder (forged_names seed files) roots f
+    = λ f within. All-contains (IsFolderUnder (forged_names seed files) roots) many.folders f many.each within in
     let most = weigh_at_most same_path same_path-Decides (λ (f : FolderFacts). f.path)
     (λ (f : FolderFacts). length f.entries) 100000
     many.folders homes (once_paths (map (λ (f : FolderFacts). f.path) many.folders) many.distinct)
@@ -246,7 +246,7 @@ only_one x y h = go h.0 h.1 h.2
     go (suc k) within e = absurd (omega (arith, within))
 
 root_there : (seed files : ℕ) (path : List ℕ) → 1 ≤ files → path ≡ codes "/t"
-    → IsNothingAt (names_of seed files) path → ⊥
+    → IsNothingAt (forged_names seed files) path → ⊥
 root_there seed zero path some is nothing = absurd (omega (arith, some))
 root_there seed (suc n) path some is nothing =
     false≢true (sym nothing.no_folder ∙ folder_there seed (suc n) path ∙ ap is_some (some_files n path)
@@ -254,7 +254,7 @@ root_there seed (suc n) path some is nothing =
 
 -- no walk of the folder ends at what is there
 pub walks_well : (seed files : ℕ) (fault : WalkFault) → 1 ≤ files → files ≤ 100000
-    → FitsFault (names_of seed files) (codes "/t" ∷ []) fault → (fault ≡ stop.Failed) ⊎ (fault ≡ stop.OutOfMemory)
+    → FitsFault (forged_names seed files) (codes "/t" ∷ []) fault → (fault ≡ stop.Failed) ⊎ (fault ≡ stop.OutOfMemory)
 walks_well seed files stop.Failed some few fits = inl refl
 walks_well seed files stop.OutOfMemory some few fits = inr refl
 walks_well seed files stop.TooMany some few fits = absurd (not_many_files seed files (codes "/t" ∷ []) few fits)

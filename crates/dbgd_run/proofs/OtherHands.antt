@@ -19,8 +19,8 @@ use Rattle.pass_runner.specs.Helped.{IsSparing}
 use Rattle.pass_runner.specs.Owned.{HandsGo, HearLoads, LoadsBeside, loads_told}
 use Rattle.pass_runner.specs.declared.pass_end.PassEnd.{PassEnd}
 use Rattle.pass_runner.specs.declared.pass_end.PassEnd.TheVariants as ended
-use Rattle.dbgd_run.specs.Scan.{EndsBy, EndsEarly, EndsHelped, EndsInWalk, EndsPassed, EndsUnbegun, HelpsWith, LoadsBy, MakesPass, Scans}
-use Rattle.dbgd_run.specs.ScanSaid.{is_hand_fault}
+use Rattle.dbgd_run.specs.Scan.{EndsScan, EndsScanEarly, EndsScanHelped, EndsInWalk, EndsPassed, EndsUnbegun, HelpsWith, LoadsBy, MakesPass, Scans}
+use Rattle.dbgd_run.specs.ScanSaid.{is_first_hand_fault}
 use Rattle.dbgd_run.specs.Scene.{Setting}
 use Rattle.dbgd_run.specs.declared.scan_end.ScanEnd.{ScanEnd}
 use Rattle.dbgd_run.specs.declared.scan_end.ScanEnd.TheVariants.{Refused, Passed}
@@ -74,8 +74,8 @@ module _ {T : Type 0} (s : Setting T) (roots : List (List ℕ)) (rest : List T) 
     ends = run.ends;
   }
 
-  helped_beside : {Ends : List RowFacts → Type 0} → EndsHelped s roots (hand ∷ hands) (later ∷ left) old new Ends
-      → EndsHelped s roots ((hand ∷ hands) ++ rest) ((later ∷ left) ++ rest) old new Ends
+  helped_beside : {Ends : List RowFacts → Type 0} → EndsScanHelped s roots (hand ∷ hands) (later ∷ left) old new Ends
+      → EndsScanHelped s roots ((hand ∷ hands) ++ rest) ((later ∷ left) ++ rest) old new Ends
   helped_beside run = record {
     found = run.found;
     held = run.held;
@@ -127,10 +127,10 @@ module _ {T : Type 0} (s : Setting T) (roots : List (List ℕ)) (rest : List T) 
   passed_beside ended.OutOfMemory (inr (inl run)) = inr (inl (makes_beside run))
   passed_beside ended.OutOfMemory (inr (inr run)) = inr (inr (helped_beside run))
 
-  early_beside : (fault : OpenFault) → EndsEarly s (hand ∷ hands) (later ∷ left) old new fault → EndsEarly s ((hand ∷ hands) ++ rest) ((later ∷ left) ++ rest) old new fault
+  early_beside : (fault : OpenFault) → EndsScanEarly s (hand ∷ hands) (later ∷ left) old new fault → EndsScanEarly s ((hand ∷ hands) ++ rest) ((later ∷ left) ++ rest) old new fault
   early_beside fault run = record { hands = ap (λ (l : List T). l ++ rest) run.hands; store = run.store }
 
-  ends_beside : (end : ScanEnd) → EndsBy s roots (hand ∷ hands) (later ∷ left) old new end → EndsBy s roots ((hand ∷ hands) ++ rest) ((later ∷ left) ++ rest) old new end
+  ends_beside : (end : ScanEnd) → EndsScan s roots (hand ∷ hands) (later ∷ left) old new end → EndsScan s roots ((hand ∷ hands) ++ rest) ((later ∷ left) ++ rest) old new end
   ends_beside (Refused fault) run = early_beside fault run
   ends_beside (Passed end) run = passed_beside end run
 
@@ -166,7 +166,7 @@ module _ {T : Type 0} (sees : T → ShownTree) (before after rest : List T) (sam
 
 -- how a scan hands the first hand on, and each other one
 abbrev First : {T : Type 0} → Setting T → ScanEnd → T → T → Type 0
-First s end hand later = HandsOn s.tells_files s.world.version (s.sees hand) (s.sees later) ⊥ (IsTrue (is_hand_fault end))
+First s end hand later = HandsOn s.tells_files s.world.version (s.sees hand) (s.sees later) ⊥ (IsTrue (is_first_hand_fault end))
 
 abbrev Other : {T : Type 0} → Setting T → T → T → Type 0
 Other s hand later = HandsOn s.tells_files s.world.version (s.sees hand) (s.sees later) ⊥ ⊥

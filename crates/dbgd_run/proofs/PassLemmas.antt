@@ -7,9 +7,9 @@ use Rattle.row_types.specs.Name.{NameFacts}
 use Rattle.row_types.specs.Row.{RowFacts}
 use Rattle.scan_queue.specs.Names.{is_in}
 use Rattle.scan_queue.specs.Pass.{PassFacts}
-use Rattle.index_keeper.specs.Answers.{for_rows, rows_in}
-use Rattle.index_keeper.specs.Keeper.{Asks, ShownKeeper}
-use Rattle.index_keeper.specs.Store.{HasAll, ShownStore, TakesBack}
+use Rattle.index_keeper.specs.Answers.{for_rows, rows_given}
+use Rattle.index_keeper.specs.Keeper.{AsksKeeper, ShownKeeper}
+use Rattle.index_keeper.specs.Store.{HasAll, ShownStore, TakesKeeperBack}
 use Rattle.index_keeper.specs.Tables.{KeptFacts}
 use Rattle.index_keeper.specs.declared.answer.KeptAnswer.{KeptAnswer}
 use Rattle.index_keeper.specs.declared.answer.KeptAnswer.TheVariants as kept
@@ -19,28 +19,28 @@ use Rattle.index_rows.specs.declared.rows.TheConstants.{LOG_LIMIT}
 use Rattle.index_rows.specs.declared.change.Change.{Change}
 use Rattle.index_state.specs.Changes.{TellsSince}
 use Rattle.index_state.specs.Invariant.{IndexInvariant}
-use Rattle.index_state.specs.Kept.{Agrees, IsInDoubt, IsInStore, IsNext, tables_of}
+use Rattle.index_state.specs.Kept.{AgreesOrInDoubt, IsInDoubt, IsInStore, IsNext, tables_of_rows}
 use Rattle.index_state.specs.Opening.{Opens, current, made_swept}
 use Rattle.index_state.specs.Bound.{IsWithinPlan, voids}
 use Rattle.index_state.specs.Plan.{most_changes, plan_of}
-use Rattle.index_state.specs.State.{Origin, StateFacts, pass_of}
+use Rattle.index_state.specs.State.{Origin, StateFacts, pass_or_none}
 use Rattle.tree_trait.specs.Heard.{Heard}
 use Rattle.tree_trait.specs.Shown.{ShownTree}
-use Rattle.tree_walk.specs.Ends.{Walks}
+use Rattle.tree_walk.specs.Ends.{WalksTree}
 use Rattle.tree_walk.specs.declared.walked.Walk.{Walk as WalkFacts}
 use Rattle.pass_runner.specs.Numbers.{summary_of}
-use Rattle.pass_runner.specs.Owned.{EndsHelped as EndsBeside, EndsPass, HandsGo, Helps, IsHelped, LeavesIndex, RunsPass, is_unwalked}
+use Rattle.pass_runner.specs.Owned.{EndsPassHelped as EndsBeside, EndsPass, HandsGo, Helps, IsHelped, LeavesIndex, RunsPass, is_unwalked}
 use Rattle.pass_runner.specs.declared.pass_end.PassEnd.{PassEnd}
 use Rattle.pass_runner.specs.declared.pass_end.PassEnd.TheVariants as ended
-use Rattle.dbgd_run.specs.Kept.{HasOneChange, HasRows, HoldsRows, MakesChanges, MayHaveRows}
-use Rattle.dbgd_run.specs.Passing.{HasPath, IsLent, ScansIndex}
-use Rattle.dbgd_run.specs.Scan.{EndsHelped, EndsInWalk, EndsPassed, EndsUnbegun, HelpsWith, MakesPass}
+use Rattle.dbgd_run.specs.Kept.{HasOneChange, HasRows, StoreHoldsRows, MakesChanges, MayHaveRows}
+use Rattle.dbgd_run.specs.Passing.{HasMissedPath, IsLent, ScansIndex}
+use Rattle.dbgd_run.specs.Scan.{EndsScanHelped, EndsInWalk, EndsPassed, EndsUnbegun, HelpsWith, MakesPass}
 use Rattle.dbgd_run.specs.Scene.{FirstGoes, Setting}
 use Rattle.dbgd_run.proofs.HandLemmas.{others_stay}
 
 -- the values that a keeper gives are its tables
 pub gave_all : {tells : Bool} (before after : ShownKeeper) (answer : KeptAnswer) (values : List KeptFacts)
-    → Asks tells before after (for_rows answer) → rows_in answer ≡ Some values → IsTrue tells → values ≡ before.tables
+    → AsksKeeper tells before after (for_rows answer) → rows_given answer ≡ Some values → IsTrue tells → values ≡ before.tables
 gave_all before after (kept.All rows) values asks gave told =
     let given = asks.tells told in
     let same : rows.items ≡ values = cc in
@@ -49,8 +49,8 @@ gave_all before after _ values asks gave told = absurd (cc)
 
 -- with one change or without
 one_change : {true_row : RowFacts → Type 0} {void : Change} {rows : List RowFacts} {tables : List KeptFacts}
-    → (tables ≡ tables_of rows) ⊎ IsNext true_row void rows tables
-    → (tables ≡ tables_of rows) ⊎ HasOneChange true_row tables rows
+    → (tables ≡ tables_of_rows rows) ⊎ IsNext true_row void rows tables
+    → (tables ≡ tables_of_rows rows) ⊎ HasOneChange true_row tables rows
 one_change (inl same) = inl same
 one_change {void = void} (inr next) = inr (record { change = void; next = next })
 
@@ -64,7 +64,7 @@ module _ {K T : Type 0} (s : Setting T) {shows : K → ShownKeeper} {from into :
   old_names : row_names old.rows ≡ row_names (current lent.opens.opened.rows)
   old_names = ap row_names old_rows
 
-  held : HoldsRows s.tells_tables from lent.opens.opened.rows
+  held : StoreHoldsRows s.tells_tables from lent.opens.opened.rows
   held = record {
     values = lent.opens.values;
     gave = record {
@@ -98,13 +98,13 @@ module _ {K T : Type 0} (s : Setting T) {shows : K → ShownKeeper} {from into :
   has_rows : new.broken ≡ false → HasRows s.tells_tables into new.rows
   has_rows sound = λ t.
       let stands : IsInStore new.rows (shows new.keeper)
-      = subst (λ b. Agrees s.world.true_row b new.log new.rows (shows new.keeper)) sound (holds.store_agrees_with_rows.tables t) in
+      = subst (λ b. AgreesOrInDoubt s.world.true_row b new.log new.rows (shows new.keeper)) sound (holds.store_agrees_with_rows.tables t) in
       stands.settled.only into.tables (lent.back.image t) ∙ stands.same
 
   may_have : new.broken ≡ true → MayHaveRows s.world.true_row s.tells_tables into new.rows
   may_have broken = λ t.
       let doubt : IsInDoubt s.world.true_row new.log new.rows (shows new.keeper)
-      = subst (λ b. Agrees s.world.true_row b new.log new.rows (shows new.keeper)) broken (holds.store_agrees_with_rows.tables t) in
+      = subst (λ b. AgreesOrInDoubt s.world.true_row b new.log new.rows (shows new.keeper)) broken (holds.store_agrees_with_rows.tables t) in
       one_change (doubt.each into.tables (lent.back.image t))
 
   in_walk : {Walked : ShownTree → ShownTree → Type 0} {before after : List T} → new ≡ old
@@ -116,7 +116,7 @@ module _ {K T : Type 0} (s : Setting T) {shows : K → ShownKeeper} {from into :
     hands = hands;
     has = λ t.
         has_rows (ap (λ (st : StateFacts K). st.broken) (same ∙ lent.opens.opened.value)) t
-        ∙ ap (λ (st : StateFacts K). tables_of st.rows) same ∙ ap tables_of old_rows;
+        ∙ ap (λ (st : StateFacts K). tables_of_rows st.rows) same ∙ ap tables_of_rows old_rows;
     made = lent.back.made ∙ ap (λ (st : StateFacts K). (shows st.keeper).made) same ∙ swept_made;
   }
 
@@ -137,7 +137,7 @@ module _ {K T : Type 0} (s : Setting T) {shows : K → ShownKeeper} {from into :
       old_names stays
 
   unbegun : {roots : List (List ℕ)} {hand later : T} {hands left : List T} (walk : WalkFacts) → new ≡ old
-      → Walks s.tells_files (s.sees hand) (s.sees later) roots (Ok walk)
+      → WalksTree s.tells_files (s.sees hand) (s.sees later) roots (Ok walk)
       → AllZip (λ h l. Helps s.tells_files s.world.version walk.listing (row_names old.rows) (s.sees h) (s.sees l)) hands left
       → EndsUnbegun s roots (hand ∷ hands) (later ∷ left) from into
   unbegun {hands = hands} {left = left} walk same walks helps = record {
@@ -147,14 +147,14 @@ module _ {K T : Type 0} (s : Setting T) {shows : K → ShownKeeper} {from into :
     hands = (walks, helps_by walk.listing hands left helps);
     has = λ t.
         has_rows (ap (λ (st : StateFacts K). st.broken) (same ∙ lent.opens.opened.value)) t
-        ∙ ap (λ (st : StateFacts K). tables_of st.rows) same ∙ ap tables_of old_rows;
+        ∙ ap (λ (st : StateFacts K). tables_of_rows st.rows) same ∙ ap tables_of_rows old_rows;
     made = lent.back.made ∙ ap (λ (st : StateFacts K). (shows st.keeper).made) same ∙ swept_made;
   }
 
   helped_on : {roots : List (List ℕ)} {listing : List NameFacts} {hand later : T} {hands left : List T} {count : ℕ} {Ends : Type 0}
       {Into : List RowFacts → Type 0} (run : EndsBeside s.tells_files count roots listing (s.sees hand) (s.sees later) old new Ends)
       → AllZip (λ h l. Helps s.tells_files s.world.version listing (row_names old.rows) (s.sees h) (s.sees l)) hands left
-      → Into new.rows → EndsHelped s roots (hand ∷ hands) (later ∷ left) from into Into
+      → Into new.rows → EndsScanHelped s roots (hand ∷ hands) (later ∷ left) from into Into
   helped_on {hands = hands} {left = left} {count = count} run helps ends =
       let stands = subst (λ (l : List NameFacts). IsHelped count l old new) (sym run.over) run.helped in
       record {
@@ -226,7 +226,7 @@ module _ {K T : Type 0} (s : Setting T) {shows : K → ShownKeeper} {from into :
       omega (arith, full, bounded, long, void, plan)
 
   -- how the pass ended is how the scan does
-  ends_by : (roots : List (List ℕ)) (listing : List NameFacts) (hand later : T) (hands left : List T) (end : PassEnd) → HasPath end
+  ends_by : (roots : List (List ℕ)) (listing : List NameFacts) (hand later : T) (hands left : List T) (end : PassEnd) → HasMissedPath end
       → EndsPass s.world s.tells_files s.tells_tables shows (length (hand ∷ hands)) roots listing (s.sees hand) (s.sees later) old new end
       → AllZip (λ h l. Helps s.tells_files s.world.version listing (row_names old.rows) (s.sees h) (s.sees l)) hands left
       → (IsTrue (is_unwalked end) → left ≡ hands) → EndsPassed s roots (hand ∷ hands) (later ∷ left) from into end
@@ -250,7 +250,7 @@ module _ {K T : Type 0} (s : Setting T) {shows : K → ShownKeeper} {from into :
         names = holds.rows_replay_the_log.names;
         full = run.ends.full;
         apart = λ names.
-            run.ends.apart (names ∙ sym (ap (λ (p : Option PassFacts). (pass_of p).listing) run.leaves.is_open ∙ run.leaves.over));
+            run.ends.apart (names ∙ sym (ap (λ (p : Option PassFacts). (pass_or_none p).listing) run.leaves.is_open ∙ run.leaves.over));
         many = many_changes listing run.ends.full run.ends.sound run.bounded;
         has = has_rows run.ends.sound;
       })
@@ -264,7 +264,7 @@ module _ {K T : Type 0} (s : Setting T) {shows : K → ShownKeeper} {from into :
       inr (inr (helped_on run helps (has_rows run.ends)))
 
   -- the same of the hands in order
-  pub ends_go : (roots : List (List ℕ)) (listing : List NameFacts) (before after : List T) (end : PassEnd) → HasPath end
+  pub ends_go : (roots : List (List ℕ)) (listing : List NameFacts) (before after : List T) (end : PassEnd) → HasMissedPath end
       → HandsGo
       (λ hand later. EndsPass s.world s.tells_files s.tells_tables shows (length before) roots listing (s.sees hand) (s.sees later) old new end)
       (λ hand later. Helps s.tells_files s.world.version listing (row_names old.rows) (s.sees hand) (s.sees later)) before after
@@ -277,8 +277,8 @@ pub ends_passed : {K T : Type 0} (s : Setting T) (shows : K → ShownKeeper) (ro
     {from mid into : ShownStore} {keeper given : K} {old : StateFacts K} (end : PassEnd)
     → Opens s.tells_tables shows keeper old → ScansIndex s shows roots before after old given end
     → HasAll s.tells_tables from (shows keeper)
-    → TakesBack s.tells_tables (shows given) mid into → EndsPassed s roots before after from into end
+    → TakesKeeperBack s.tells_tables (shows given) mid into → EndsPassed s roots before after from into end
 ends_passed {K} s shows roots before after {mid = mid} {into = into} end opens scans has back =
     ends_go s
-    (record { opens = opens; has = has; mid = mid; back = subst (λ (k : K). TakesBack s.tells_tables (shows k) mid into) scans.value back })
+    (record { opens = opens; has = has; mid = mid; back = subst (λ (k : K). TakesKeeperBack s.tells_tables (shows k) mid into) scans.value back })
     scans.holds roots scans.pass.0 before after end scans.path scans.pass.1 scans.idle

@@ -7,16 +7,16 @@ use Rattle.row_types.specs.Faults.{HasCause, Rose}
 use Rattle.row_types.specs.Row.{RowFacts}
 use Rattle.http_wire.specs.Sink.{GetsAll}
 use Rattle.index_keeper.specs.Keeper.{ShownKeeper}
-use Rattle.index_keeper.specs.Store.{HasAll, IsClosed, IsOpened, ShownStore, TakesBack, with_path}
+use Rattle.index_keeper.specs.Store.{HasAll, FailsToOpen, IsOpened, ShownStore, TakesKeeperBack, with_opened_path}
 use Rattle.index_rows.specs.Classes.{has_id}
-use Rattle.index_state.specs.Kept.{IsInStore, tables_of}
+use Rattle.index_state.specs.Kept.{IsInStore, tables_of_rows}
 use Rattle.index_state.specs.Opening.{AreRows, IsOverfull, Opens, current, made_swept}
 use Rattle.index_state.specs.State.{StateFacts}
 use Rattle.index_state.specs.declared.open_fault.OpenFault.TheVariants as refusal
 use Rattle.dbgd_run.specs.Opened.{EndsOnlyWith, HasSomeBad}
-use Rattle.dbgd_run.specs.Query.{Looks, LooksAt, LooksBy, Queries, ReadsLines, RunsQuery, SaysFound, SaysLines, id_rows, is_look_fault, reading_word, row_line, row_lines}
-use Rattle.dbgd_run.specs.QueryCauses.{IsAnswered, IsFreeQuery, QueryEnds, QueryStatus}
-use Rattle.dbgd_run.specs.Scene.{Scene, Setting}
+use Rattle.dbgd_run.specs.Query.{LooksInStore, OpensOnce, LooksBy, Queries, ReadsLines, RunsQuery, SaysFound, SaysLines, id_rows, is_look_fault, reading_word, row_line, row_lines}
+use Rattle.dbgd_run.specs.QueryCauses.{IsQueryAnswered, IsFreeQuery, QueryEnds, QueryStatus}
+use Rattle.dbgd_run.specs.Scene.{ProgramScene, Setting}
 use Rattle.dbgd_run.specs.declared.query_end.QueryEnd.{QueryEnd}
 use Rattle.dbgd_run.specs.declared.query_end.QueryEnd.TheVariants.{Refused, Read, OutOfMemory}
 use Rattle.dbgd_run.specs.declared.scan_end.ScanEnd.TheVariants.{Refused as ScanRefused}
@@ -29,7 +29,7 @@ use Rattle.dbgd_run.proofs.StoreLemmas.{none_swept, opens_once, rose_given}
 -- an index that was opened, and whose keeper went back, leaves the rows of the edition
 pub looks : {K : Type 0} (told : Bool) (shows : K → ShownKeeper) {from mid into : ShownStore} {keeper : K} {state : StateFacts K}
     (Of : List RowFacts → Type 0) (opens : Opens told shows keeper state) → HasAll told from (shows keeper)
-    → TakesBack told (shows state.keeper) mid into → Of opens.opened.rows → Looks told from into Of
+    → TakesKeeperBack told (shows state.keeper) mid into → Of opens.opened.rows → LooksInStore told from into Of
 looks told shows {from} {mid} {into} {keeper} {state} Of opens has back so = record {
   found = opens.opened.rows;
   held = record {
@@ -45,7 +45,7 @@ looks told shows {from} {mid} {into} {keeper} {state} Of opens has back so = rec
   };
   has = λ t.
       let swept : IsInStore (current opens.opened.rows ++ []) (shows state.keeper) = opens.opened.swept.tells t in
-      swept.settled.only into.tables (back.image t) ∙ swept.same ∙ ap tables_of (append-nil (current opens.opened.rows));
+      swept.settled.only into.tables (back.image t) ∙ swept.same ∙ ap tables_of_rows (append-nil (current opens.opened.rows));
   made = back.made ∙ opens.opened.swept.made ∙ ap (made_swept opens.opened.rows) (opens.gave.heard.grows ∙ has.made);
   so = so;
 }
@@ -60,17 +60,17 @@ opened_rows {K} id opens =
 -- what was read of an index that was opened, once its keeper went back
 pub looks_by : {K : Type 0} (told : Bool) (shows : K → ShownKeeper) (id : List ℕ) {from mid into : ShownStore} {keeper given : K}
     {state : StateFacts K} (how : QueryEnd) → ReadsLines id state.rows how → Opens told shows keeper state → given ≡ state.keeper
-    → HasAll told from (shows keeper) → TakesBack told (shows given) mid into → LooksBy told id from into how
+    → HasAll told from (shows keeper) → TakesKeeperBack told (shows given) mid into → LooksBy told id from into how
 looks_by told shows id (Refused fault) read opens same has back = absurd read
 looks_by {K} told shows id {mid = mid} {into = into} (Read lines) read opens same has back =
     looks told shows (λ found. lines.items ≡ row_lines (id_rows id found)) opens has
-    (subst (λ (k : K). TakesBack told (shows k) mid into) same back) (read ∙ opened_rows id opens)
+    (subst (λ (k : K). TakesKeeperBack told (shows k) mid into) same back) (read ∙ opened_rows id opens)
 looks_by {K} told shows id {mid = mid} {into = into} OutOfMemory read opens same has back =
-    looks told shows (λ found. Unit {0}) opens has (subst (λ (k : K). TakesBack told (shows k) mid into) same back) tt
+    looks told shows (λ found. Unit {0}) opens has (subst (λ (k : K). TakesKeeperBack told (shows k) mid into) same back) tt
 
 -- the store was opened by the path
-looks_once : (path : List ℕ) (old new : ShownStore) (end : QueryEnd) → new.paths ≡ with_path path old.paths
-    → LooksAt path old new end
+looks_once : (path : List ℕ) (old new : ShownStore) (end : QueryEnd) → new.paths ≡ with_opened_path path old.paths
+    → OpensOnce path old new end
 looks_once path old new (Refused fault) h = opens_once path old new (ScanRefused fault) h
 looks_once path old new (Read lines) h = h
 looks_once path old new OutOfMemory h = h
@@ -92,7 +92,7 @@ module _ (told : Bool) (path id : List ℕ) where
   }
 
   -- the store failed to be opened
-  pub queries_closed : {old new : ShownStore} → IsClosed told path old new
+  pub queries_closed : {old new : ShownStore} → FailsToOpen told path old new
       → Queries told path id old new (Refused refusal.KeeperFault)
   queries_closed {old} closed = record {
     ends = record { tables = λ t. inl (closed.tables t); removed = []; front = inl refl; made = closed.made ∙ none_swept old.made };
@@ -104,7 +104,7 @@ module _ (told : Bool) (path id : List ℕ) where
 
   -- the store was opened, and had its keeper back in the end
   pub queries_opened : {old mid new : ShownStore} {keeper given : ShownKeeper} (end : QueryEnd)
-      → IsOpened told path old mid keeper → TakesBack told given mid new → LooksBy told id old new end
+      → IsOpened told path old mid keeper → TakesKeeperBack told given mid new → LooksBy told id old new end
       → HasCause keeper.faults given.faults (IsTrue (is_look_fault end)) → Queries told path id old new end
   queries_opened {old} {mid} {new} end opened back ends cause = record {
     ends = ends;
@@ -126,12 +126,12 @@ lines_none (row ∷ rows) e =
     let end = length-append (reading_word row.reading ++ codes " " ++ row.name.path) (10 ∷ []) in
     absurd (omega (arith, parts, end))
 
-module _ {T : Type 0} (s : Setting T) (path id : List ℕ) (before after : Scene T) where
+module _ {T : Type 0} (s : Setting T) (path id : List ℕ) (before after : ProgramScene T) where
   abbrev QueriesTo : QueryEnd → Type 0
   QueriesTo end = Queries s.tells_tables path id before.store after.store end
 
   -- what was found is so, and the rows that were found are the tables of a store that tells
-  told_found : {Of : List RowFacts → Type 0} (look : Looks s.tells_tables before.store after.store Of)
+  told_found : {Of : List RowFacts → Type 0} (look : LooksInStore s.tells_tables before.store after.store Of)
       → IsTrue s.tells_tables → AreRows look.found before.store.tables
   told_found look tells = subst (λ values. AreRows look.found values) (look.held.gave.tells tells) look.held.sound
 
@@ -207,17 +207,17 @@ module _ {T : Type 0} (s : Setting T) (path id : List ℕ) (before after : Scene
 
   -- one that nothing stands against is answered
   free_end : (how : QueryEnd) (end : Status) → IsFreeQuery s before after → QueriesTo how
-      → SaysFound how before.streams after.streams end → IsAnswered end
+      → SaysFound how before.streams after.streams end → IsQueryAnswered end
   free_end (Refused refusal.KeeperFault) end free q said = absurd (free.store (q.store.rose refl))
   free_end (Refused (refusal.BadRow kept fault)) end free q said =
       absurd (none_bad fault (subst (λ values. AreRows free.rows values) (sym (q.ends.gave.tells free.tells)) free.held)
       (first_held q.ends.why) q.ends.why.bad)
   free_end (Refused refusal.LogFull) end free q said =
       absurd (none_overfull free.held free.few (subst (λ values. IsOverfull values) (q.ends.gave.tells free.tells) q.ends.why))
-  free_end (Refused refusal.OutOfMemory) end free q said = subst IsAnswered (sym said.ends) tt
+  free_end (Refused refusal.OutOfMemory) end free q said = subst IsQueryAnswered (sym said.ends) tt
   free_end (Read lines) end free q said =
-      by_lines IsAnswered lines.items end (λ none. tt) (λ some got. tt) (λ rose. absurd (free.out rose)) said
-  free_end OutOfMemory end free q said = subst IsAnswered (sym said.ends) tt
+      by_lines IsQueryAnswered lines.items end (λ none. tt) (λ some got. tt) (λ rose. absurd (free.out rose)) said
+  free_end OutOfMemory end free q said = subst IsQueryAnswered (sym said.ends) tt
 
   -- how a query ends when
   pub query_ends : (end : Status) → RunsQuery s path id before after end → QueryEnds s before after end

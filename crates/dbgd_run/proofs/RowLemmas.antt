@@ -3,14 +3,14 @@ use Rattle.std.proofs.Common.{◌≡◌, ℕ, zero, suc, ◌≤◌, List, [], �
 use Rattle.std.specs.List.{All, Contains}
 use Rattle.std.proofs.lemmas.List.Elements.{All-head, All-tail, Contains-append_right}
 use Rattle.row_types.specs.Row.{RowFacts}
-use Rattle.row_codec.specs.Read.{row_at}
+use Rattle.row_codec.specs.Read.{row_of_bytes}
 use Rattle.row_codec.specs.RowBytes.{IsRowBytes, row_bytes}
 use Rattle.row_codec.specs.Spelled.{IsSpelled}
 use Rattle.row_codec.specs.declared.fault.CodecFault.{CodecFault}
 use Rattle.row_codec.proofs.OneSpelling.{one_row, row_read}
 use Rattle.index_keeper.specs.Tables.{KeptFacts}
 use Rattle.index_rows.specs.declared.rows.TheConstants.{LOG_LIMIT}
-use Rattle.index_state.specs.Kept.{kept_of, tables_of}
+use Rattle.index_state.specs.Kept.{kept_row, tables_of_rows}
 use Rattle.index_state.specs.Opening.{AreRows, IsBad, IsFirstBad, IsOverfull, current}
 
 -- a row's bytes are its own
@@ -18,7 +18,7 @@ own_bytes : {row : RowFacts} → IsSpelled row → IsRowBytes row (row_bytes row
 own_bytes spelled = record { spelled = spelled; written = refl }
 
 -- what is kept of a row isn't bad
-good : {row : RowFacts} (value : KeptFacts) (fault : Option CodecFault) → IsSpelled row → value ≡ kept_of row
+good : {row : RowFacts} (value : KeptFacts) (fault : Option CodecFault) → IsSpelled row → value ≡ kept_row row
     → IsBad value fault → ⊥
 good {row} value None spelled is bad =
     let same : bad.row ≡ row
@@ -26,7 +26,7 @@ good {row} value None spelled is bad =
     (subst (λ (bytes : List ℕ). IsRowBytes row bytes) (sym (ap (λ (v : KeptFacts). v.bytes) is)) (own_bytes spelled)) in
     bad.elsewhere (ap (λ (r : RowFacts). r.name.path) same ∙ sym (ap (λ (v : KeptFacts). v.path) is))
 good {row} value (Some fault) spelled is bad =
-    let read : row_at value.bytes ≡ Ok row
+    let read : row_of_bytes value.bytes ≡ Ok row
     = row_read row value.bytes
     (subst (λ (bytes : List ℕ). IsRowBytes row bytes) (sym (ap (λ (v : KeptFacts). v.bytes) is)) (own_bytes spelled)) in
     let first = bad.first in
@@ -34,7 +34,7 @@ good {row} value (Some fault) spelled is bad =
 
 -- a value of the tables of rows is kept of one of them
 kept_of_one : (rows : List RowFacts) (value : KeptFacts) (fault : Option CodecFault) → All IsSpelled rows
-    → Contains (tables_of rows) value → IsBad value fault → ⊥
+    → Contains (tables_of_rows rows) value → IsBad value fault → ⊥
 kept_of_one [] value fault spelled held bad = absurd (let h = held.1 in omega arith)
 kept_of_one (row ∷ rows) value fault spelled (zero, h, is) bad =
     good {row = row} value fault (All-head IsSpelled row rows spelled) (sym is) bad
@@ -55,13 +55,13 @@ first_held {values} {value} first =
     (Contains-append_right first.before (value ∷ first.behind) value (0, omega arith, refl))
 
 -- rows that are kept alike are the same
-same_rows : (a b : List RowFacts) → All IsSpelled a → All IsSpelled b → tables_of a ≡ tables_of b → a ≡ b
+same_rows : (a b : List RowFacts) → All IsSpelled a → All IsSpelled b → tables_of_rows a ≡ tables_of_rows b → a ≡ b
 same_rows [] [] p q e = refl
 same_rows [] (y ∷ b) p q e = absurd (cc)
 same_rows (x ∷ a) [] p q e = absurd (cc)
 same_rows (x ∷ a) (y ∷ b) p q e =
-    let first : kept_of x ≡ kept_of y = cc in
-    let rest : tables_of a ≡ tables_of b = cc in
+    let first : kept_row x ≡ kept_row y = cc in
+    let rest : tables_of_rows a ≡ tables_of_rows b = cc in
     let one : x ≡ y
     = one_row x y (row_bytes x) (own_bytes (All-head IsSpelled x a p))
     (subst (λ (bytes : List ℕ). IsRowBytes y bytes) (sym (ap (λ (v : KeptFacts). v.bytes) first)) (own_bytes (All-head IsSpelled y b q))) in

@@ -4,13 +4,13 @@ use Rattle.index_state.specs.declared.open_fault.OpenFault.TheVariants as refusa
 use Rattle.dbgd_words.specs.Words.{Line, asks_help, asks_ident, asks_query, asks_scan, asks_section, asks_sources, asks_trial, line_of, unbuilt, unreadable}
 use Rattle.dbgd_words.proofs.OptionLemmas.{AsksByOptions, options_ask}
 use Rattle.dbgd_run.specs.Causes.{HasStatus, HelpStatus, TrialStatus}
-use Rattle.dbgd_run.specs.Endings.{Ends, WantsMemory, out_saying}
+use Rattle.dbgd_run.specs.Endings.{EndsSaying, SaysMemory, out_saying}
 use Rattle.dbgd_run.specs.Query.{RunsQuery}
 use Rattle.dbgd_run.specs.Runs.{DoesWords, IsRun, LacksRoom, Runs, SaysHelp}
 use Rattle.dbgd_run.specs.Scan.{RunsScan, Scans}
-use Rattle.dbgd_run.specs.Scene.{Scene, Setting}
+use Rattle.dbgd_run.specs.Scene.{ProgramScene, Setting}
 use Rattle.dbgd_run.specs.Statuses.{code_of}
-use Rattle.dbgd_run.specs.Trial.{RunsTrial, SaysTrial, trial_line}
+use Rattle.dbgd_run.specs.Trial.{RunsTrial, SaysTrial, trial_end_line}
 use Rattle.dbgd_run.specs.declared.query_end.QueryEnd.TheVariants as looked
 use Rattle.dbgd_run.specs.declared.scan_end.ScanEnd.TheVariants as scanned
 use Rattle.dbgd_run.specs.declared.status.Status.{Status}
@@ -20,12 +20,12 @@ use Rattle.dbgd_run.proofs.QueryLemmas.{queries_wanting, query_ends, query_statu
 use Rattle.dbgd_run.proofs.ScanLemmas.{scan_ends, scan_status}
 use Rattle.dbgd_run.proofs.StoreLemmas.{scans_wanting}
 
-module _ {T : Type 0} (s : Setting T) (words : List (List ℕ)) (before after : Scene T) (end : Status) where
+module _ {T : Type 0} (s : Setting T) (words : List (List ℕ)) (before after : ProgramScene T) (end : Status) where
   -- what the status of a help or version says
   help_status : SaysHelp before after end → HelpStatus before after end
   help_status run = go run.says
     where
-      go : Ends (out_saying run.text status.Done) before.streams after.streams end ⊎ WantsMemory before.streams after.streams end
+      go : EndsSaying (out_saying run.text status.Done) before.streams after.streams end ⊎ SaysMemory before.streams after.streams end
           → HelpStatus before after end
       go (inl ends) = by_ends (HelpStatus before after) (out_saying run.text status.Done) tt (λ rose. rose) ends
       go (inr wants) = subst (HelpStatus before after) (sym wants.ends) tt
@@ -37,7 +37,7 @@ module _ {T : Type 0} (s : Setting T) (words : List (List ℕ)) (before after : 
       go : SaysTrial seed files before.streams after.streams end → TrialStatus seed files before after end
       go (inl told) = said told.says
         where
-          said : Ends (out_saying (trial_line files told.rows) status.Done) before.streams after.streams end
+          said : EndsSaying (out_saying (trial_end_line files told.rows) status.Done) before.streams after.streams end
               → TrialStatus seed files before after end
           said (inl whole) =
               subst (TrialStatus seed files before after) (sym whole.ends)
@@ -137,7 +137,7 @@ module _ {T : Type 0} (s : Setting T) (words : List (List ℕ)) (before after : 
     }
 
 -- a run of words
-pub runs_words : {T : Type 0} (s : Setting T) (words : List (List ℕ)) (before after : Scene T) (end : Status) (code : ℕ)
+pub runs_words : {T : Type 0} (s : Setting T) (words : List (List ℕ)) (before after : ProgramScene T) (end : Status) (code : ℕ)
     → code ≡ code_of end → 0 < length before.hands → DoesWords s words before after end → IsRun s words before after code
 runs_words s words before after end code number some (inl run) = is_run s words before after end code number run
 runs_words s words before after end code number some (inr lacks) = lacks_room s words before after end some lacks code number

@@ -25,14 +25,14 @@ use Rattle.pass_runner.specs.Settled.{IsBacked}
 use Rattle.pass_runner.specs.declared.pass_end.PassEnd.{PassEnd}
 use Rattle.pass_runner.specs.declared.pass_end.PassEnd.TheVariants as ended
 use Rattle.pass_runner.specs.declared.summary.Summary.{Summary}
-use Rattle.dbgd_run.specs.Causes.{HeardGone, HeardMany, HeardOther, IsComplete, IsFreeHand}
+use Rattle.dbgd_run.specs.Causes.{HeardGone, HeardMany, HeardOtherFile, IsComplete, IsFreeHand}
 use Rattle.dbgd_run.specs.Opened.{EndsOnlyWith, HasSomeBad}
 use Rattle.dbgd_run.specs.Causes.{IsUnhindered, ScanEnds, ScanStatus, of_changes, of_rows, of_walk}
 use Rattle.dbgd_run.specs.Endings.{Streams}
-use Rattle.dbgd_run.specs.Kept.{HoldsRows}
+use Rattle.dbgd_run.specs.Kept.{StoreHoldsRows}
 use Rattle.dbgd_run.specs.Scan.{EndsPassed, HelpsWith, MakesPass, RunsScan, Scans, WalksInto}
-use Rattle.dbgd_run.specs.ScanSaid.{SaysEnd, SaysMiss, is_hand_fault, miss_saying, scan_saying}
-use Rattle.dbgd_run.specs.Scene.{FirstRose, OfFirst, Scene, Setting}
+use Rattle.dbgd_run.specs.ScanSaid.{SaysEnd, SaysMiss, is_first_hand_fault, miss_saying, scan_saying}
+use Rattle.dbgd_run.specs.Scene.{FirstRose, OfFirst, ProgramScene, Setting}
 use Rattle.dbgd_run.specs.declared.scan_end.ScanEnd.{ScanEnd}
 use Rattle.dbgd_run.specs.declared.scan_end.ScanEnd.TheVariants.{Refused, Passed}
 use Rattle.dbgd_run.specs.declared.status.Status.{Status}
@@ -80,7 +80,7 @@ heard_other : {told : Bool} {version : Versions} {roots : List (List ℕ)} {name
     {before after : ShownTree} (Failed : Type 0) (name : NameFacts) (why : Cause)
     → HearsPass told version roots names walk walked more before after → IsChange why → IsCanonPath name.path
     → IsBacked walk.listing names more Failed name why → (why ≡ cause.Appeared → stamp_at walk.listing name.path ≡ None)
-    → HeardOther told roots before after
+    → HeardOtherFile told roots before after
 heard_other {walk = walk} {walked = walked} {more = more} Failed name cause.ReadFault hears change path backed apart = absurd change
 heard_other {walk = walk} {walked = walked} {more = more} Failed name (cause.Altered met) hears change path backed apart = record {
   walk = walk;
@@ -105,15 +105,15 @@ heard_other {walk = walk} {walked = walked} {more = more} Failed name cause.Appe
   still = never_changed Failed name cause.Appeared hears tt path backed;
 }
 
-module _ {T : Type 0} (s : Setting T) (path : List ℕ) (roots : List (List ℕ)) (before after : Scene T) where
+module _ {T : Type 0} (s : Setting T) (path : List ℕ) (roots : List (List ℕ)) (before after : ProgramScene T) where
   abbrev ScansTo : ScanEnd → Type 0
   ScansTo end = Scans s path roots before.hands after.hands before.store after.store end
 
   -- the first hand's call failed
-  hand_rose : (end : ScanEnd) → ScansTo end → IsTrue (is_hand_fault end) → FirstRose s before.hands after.hands
+  hand_rose : (end : ScanEnd) → ScansTo end → IsTrue (is_first_hand_fault end) → FirstRose s before.hands after.hands
   hand_rose end scans fails =
       of_first s
-      (λ hand later. HandsOn s.tells_files s.world.version (s.sees hand) (s.sees later) ⊥ (IsTrue (is_hand_fault end)))
+      (λ hand later. HandsOn s.tells_files s.world.version (s.sees hand) (s.sees later) ⊥ (IsTrue (is_first_hand_fault end)))
       (λ hand later. HandsOn s.tells_files s.world.version (s.sees hand) (s.sees later) ⊥ ⊥)
       (λ b a. Rose b.faults a.faults) before.hands after.hands (λ hand later on. on.cause.rose fails) scans.hands
 
@@ -132,12 +132,12 @@ module _ {T : Type 0} (s : Setting T) (path : List ℕ) (roots : List (List ℕ)
       → (pass : MakesPass s roots before.hands after.hands before.store after.store Ends) → IsCanonPath name.path
       → IsBacked pass.walk.listing (row_names pass.met) pass.more (FirstRose s before.hands after.hands) name why
       → (why ≡ cause.Appeared → stamp_at pass.walk.listing name.path ≡ None)
-      → OfFirst s (HeardOther s.tells_files roots) before.hands after.hands
+      → OfFirst s (HeardOtherFile s.tells_files roots) before.hands after.hands
   other_heard name why change pass path backed apart =
       of_first s
       (λ hand later. HearsPass s.tells_files s.world.version roots (row_names pass.met) pass.walk pass.walked pass.more (s.sees hand) (s.sees later))
       (HelpsWith s pass.walk.listing (current pass.found))
-      (HeardOther s.tells_files roots) before.hands after.hands
+      (HeardOtherFile s.tells_files roots) before.hands after.hands
       (λ hand later hears. heard_other (FirstRose s before.hands after.hands) name why hears change path backed apart) pass.hands
 
   -- what the status of a missed name says
@@ -206,7 +206,7 @@ module _ {T : Type 0} (s : Setting T) (path : List ℕ) (roots : List (List ℕ)
 
   -- the rows that were found
   found_rows : (end : PassEnd) → EndsPassed s roots before.hands after.hands before.store after.store end
-      → (rows : List RowFacts) × HoldsRows s.tells_tables before.store rows
+      → (rows : List RowFacts) × StoreHoldsRows s.tells_tables before.store rows
   found_rows (ended.Whole summary) ends = (ends.found, ends.held)
   found_rows (ended.Missed miss) ends = (ends.found, ends.held)
   found_rows (ended.Walk fault) ends = (ends.found, ends.held)
@@ -255,11 +255,11 @@ module _ {T : Type 0} (s : Setting T) (path : List ℕ) (roots : List (List ℕ)
       both_first s (IsFreeHand s.tells_files roots) (λ b a. Rose b.faults a.faults) before.hands after.hands free.hand scans.ends.ends.why
       (λ b a hand rose. hand.faultless rose)
   never_missed name (cause.Altered met) free scans =
-      both_first s (IsFreeHand s.tells_files roots) (HeardOther s.tells_files roots) before.hands after.hands free.hand
+      both_first s (IsFreeHand s.tells_files roots) (HeardOtherFile s.tells_files roots) before.hands after.hands free.hand
       (other_heard name (cause.Altered met) tt scans.ends scans.ends.ends.path scans.ends.ends.why scans.ends.ends.apart)
       (λ b a hand heard. heard.still hand.still)
   never_missed name cause.Appeared free scans =
-      both_first s (IsFreeHand s.tells_files roots) (HeardOther s.tells_files roots) before.hands after.hands free.hand
+      both_first s (IsFreeHand s.tells_files roots) (HeardOtherFile s.tells_files roots) before.hands after.hands free.hand
       (other_heard name cause.Appeared tt scans.ends scans.ends.ends.path scans.ends.ends.why scans.ends.ends.apart)
       (λ b a hand heard. heard.still hand.still)
 

@@ -5,13 +5,13 @@ use Rattle.std.proofs.lemmas.List.{append-nil}
 use Rattle.row_types.specs.Faults.{Rose, summed}
 use Rattle.row_types.specs.Row.{RowFacts}
 use Rattle.index_keeper.specs.Answers.{for_rows}
-use Rattle.index_keeper.specs.Keeper.{Asks, IsUntouched, ShownKeeper}
-use Rattle.index_keeper.specs.Store.{HasAll, IsClosed, IsOpened, ShownStore, TakesBack, with_path}
+use Rattle.index_keeper.specs.Keeper.{AsksKeeper, AreTablesUntouched, ShownKeeper}
+use Rattle.index_keeper.specs.Store.{HasAll, FailsToOpen, IsOpened, ShownStore, TakesKeeperBack, with_opened_path}
 use Rattle.index_keeper.specs.Tables.{EditFacts, KeptFacts}
 use Rattle.index_keeper.specs.declared.answer.KeepAnswer.{KeepAnswer}
 use Rattle.index_keeper.specs.declared.answer.KeptAnswer.{KeptAnswer}
 use Rattle.index_keeper.specs.declared.answer.KeptAnswer.TheVariants as kept
-use Rattle.index_state.specs.Opening.{AreRows, Gives, LacksStrays, LeavesRows, Refuses, RefusesOn, StopsSweeping, made_swept}
+use Rattle.index_state.specs.Opening.{AreRows, GivesRows, LacksStrays, LeavesRows, RefusesOpening, RefusesOn, StopsSweeping, made_swept}
 use Rattle.index_state.specs.declared.open_fault.OpenFault.{OpenFault}
 use Rattle.index_state.specs.declared.open_fault.OpenFault.TheVariants as refusal
 use Rattle.tree_trait.specs.Shown.{HandsOn}
@@ -19,8 +19,8 @@ use Rattle.pass_runner.specs.Owned.{HandsGo}
 use Rattle.pass_runner.specs.declared.pass_end.PassEnd.{PassEnd}
 use Rattle.pass_runner.specs.declared.pass_end.PassEnd.TheVariants as ended
 use Rattle.dbgd_run.specs.Kept.{AreFirstGiven, GivesValues, LacksFirst}
-use Rattle.dbgd_run.specs.Scan.{EndsBy, LoadsBy, OpensBy, RefusesBy, RefusesValues, Scans}
-use Rattle.dbgd_run.specs.ScanSaid.{is_hand_fault, is_store_fault}
+use Rattle.dbgd_run.specs.Scan.{EndsScan, LoadsBy, OpensBy, RefusesBy, RefusesValues, Scans}
+use Rattle.dbgd_run.specs.ScanSaid.{is_first_hand_fault, is_store_fault}
 use Rattle.dbgd_run.specs.Scene.{Setting}
 use Rattle.dbgd_run.specs.declared.scan_end.ScanEnd.{ScanEnd}
 use Rattle.dbgd_run.specs.declared.scan_end.ScanEnd.TheVariants.{Refused, Passed}
@@ -33,22 +33,22 @@ none_swept None = refl
 none_swept (Some edits) = ap Some (sym (append-nil edits))
 
 -- a keeper that gave its rows is as it was
-untouched : {tells : Bool} (before after : ShownKeeper) (answer : KeptAnswer) → Asks tells before after (for_rows answer)
-    → IsTrue tells → IsUntouched before after
+untouched : {tells : Bool} (before after : ShownKeeper) (answer : KeptAnswer) → AsksKeeper tells before after (for_rows answer)
+    → IsTrue tells → AreTablesUntouched before after
 untouched before after (kept.All rows) asks told = (asks.tells told).stays
 untouched before after kept.Failed asks told = asks.tells told
 untouched before after kept.OutOfMemory asks told = asks.tells told
 
-module _ {K : Type 0} (tells : Bool) (shows : K → ShownKeeper) {from mid into : ShownStore} {keeper given : K} (has : HasAll tells from (shows keeper)) (back : TakesBack tells (shows given) mid into) where
+module _ {K : Type 0} (tells : Bool) (shows : K → ShownKeeper) {from mid into : ShownStore} {keeper given : K} (has : HasAll tells from (shows keeper)) (back : TakesKeeperBack tells (shows given) mid into) where
   -- the values that the keeper gave are those of the store
-  given_by : {asked : K} {values : List KeptFacts} → Gives tells shows keeper asked values → GivesValues tells from values
+  given_by : {asked : K} {values : List KeptFacts} → GivesRows tells shows keeper asked values → GivesValues tells from values
   given_by {asked = asked} {values = values} gave = record {
     by_path = gave.by_path;
     tells = λ t. gave_all (shows keeper) (shows asked) gave.answer values gave.heard gave.gave t ∙ has.tables t;
   }
 
   -- the rows that were swept are the first of those that it gave
-  first_given : {asked : K} {values : List KeptFacts} {answer : KeepAnswer} → Gives tells shows keeper asked values
+  first_given : {asked : K} {values : List KeptFacts} {answer : KeepAnswer} → GivesRows tells shows keeper asked values
       → (stopped : StopsSweeping tells shows values asked given answer) → AreFirstGiven tells from stopped.stops.front
   first_given {values = values} gave stopped = record {
     values = values;
@@ -69,7 +69,7 @@ module _ {K : Type 0} (tells : Bool) (shows : K → ShownKeeper) {from mid into 
   }
 
   -- the values that the keeper gave are no reason to change anything
-  keeps : {Why : List KeptFacts → Type 0} {asked : K} {values : List KeptFacts} → Gives tells shows keeper asked values
+  keeps : {Why : List KeptFacts → Type 0} {asked : K} {values : List KeptFacts} → GivesRows tells shows keeper asked values
       → Why values → given ≡ asked → RefusesValues tells from into Why
   keeps {asked = asked} {values = values} gave why same = record {
     values = values;
@@ -86,7 +86,7 @@ module _ {K : Type 0} (tells : Bool) (shows : K → ShownKeeper) {from mid into 
   }
 
   -- why no index was opened
-  pub refused_by : (fault : OpenFault) → Refuses tells shows keeper fault given
+  pub refused_by : (fault : OpenFault) → RefusesOpening tells shows keeper fault given
       → LeavesRows tells (shows keeper) (shows given) → RefusesBy tells from into fault
   refused_by refusal.KeeperFault (inl none) left = lacks [] (inl refl) left (none.heard.grows ∙ none_swept (shows keeper).made)
   refused_by refusal.KeeperFault (inr rows) left =
@@ -136,7 +136,7 @@ refused_fault refusal.LogFull h = absurd (true≢false (sym h))
 refused_fault refusal.OutOfMemory h = absurd (true≢false (sym h))
 
 -- the store was opened by the path
-pub opens_once : (path : List ℕ) (old new : ShownStore) (end : ScanEnd) → new.paths ≡ with_path path old.paths
+pub opens_once : (path : List ℕ) (old new : ShownStore) (end : ScanEnd) → new.paths ≡ with_opened_path path old.paths
     → OpensBy path old new end
 opens_once path old new (Refused refusal.OutOfMemory) h = inr h
 opens_once path old new (Refused refusal.KeeperFault) h = h
@@ -167,7 +167,7 @@ module _ {T : Type 0} (s : Setting T) (path : List ℕ) {roots : List (List ℕ)
   }
 
   -- the store failed to be opened
-  pub scans_closed : {hands : List T} {old new : ShownStore} → 0 < length hands → IsClosed s.tells_tables path old new
+  pub scans_closed : {hands : List T} {old new : ShownStore} → 0 < length hands → FailsToOpen s.tells_tables path old new
       → Scans s path roots hands hands old new (Refused refusal.KeeperFault)
   scans_closed {hands} {old} some closed = record {
     ends = record {
@@ -184,9 +184,9 @@ module _ {T : Type 0} (s : Setting T) (path : List ℕ) {roots : List (List ℕ)
 
   -- the store was opened, and had its keeper back in the end
   pub scans_opened : {before after : List T} {old mid new : ShownStore} {keeper given : ShownKeeper} (end : ScanEnd)
-      → IsOpened s.tells_tables path old mid keeper → TakesBack s.tells_tables given mid new
-      → EndsBy s roots before after old new end
-      → HandsGo (λ hand later. HandsOn s.tells_files s.world.version (s.sees hand) (s.sees later) ⊥ (IsTrue (is_hand_fault end)))
+      → IsOpened s.tells_tables path old mid keeper → TakesKeeperBack s.tells_tables given mid new
+      → EndsScan s roots before after old new end
+      → HandsGo (λ hand later. HandsOn s.tells_files s.world.version (s.sees hand) (s.sees later) ⊥ (IsTrue (is_first_hand_fault end)))
       (λ hand later. HandsOn s.tells_files s.world.version (s.sees hand) (s.sees later) ⊥ ⊥) before after
       → LoadsBy s.sees before after end → (IsTrue (is_store_fault end) → 0 < given.faults)
       → Scans s path roots before after old new end

@@ -10,7 +10,7 @@ use Rattle.row_types.specs.Rules.{Rules, rules}
 use Rattle.row_types.specs.declared.limits.TheConstants.{EDITION}
 use Rattle.index_rows.specs.Rows.{row_names}
 use Rattle.index_rows.specs.declared.rows.TheConstants.{LOG_LIMIT}
-use Rattle.index_keeper.specs.MemKeeper.{KeeperFacts}
+use Rattle.index_keeper.specs.MemKeeper.{MemKeeperFacts}
 use Rattle.index_state.specs.Bound.{voids}
 use Rattle.index_state.specs.Invariant.{IndexInvariant}
 use Rattle.index_state.specs.Plan.{is_other, plan_of}
@@ -21,14 +21,14 @@ use Rattle.scan_queue.specs.declared.miss.Miss.{Miss}
 use Rattle.tree_trait.specs.Shown.{HandsOn}
 use Rattle.tree_walk.specs.Files.{AreFilesUnder}
 use Rattle.tree_walk.specs.declared.fault.WalkFault.{WalkFault}
-use Rattle.elf_forge.specs.Place.{names_of}
-use Rattle.elf_forge.specs.Tree.{ForgeFacts, fresh_tree, shown_by}
+use Rattle.elf_forge.specs.Place.{forged_names}
+use Rattle.elf_forge.specs.Tree.{ForgeFacts, fresh_forge, forge_shows}
 use Rattle.pass_runner.specs.Owned.{EndsPass, HandsGo, Helps, is_hand_fault}
 use Rattle.pass_runner.specs.Settled.{IsBacked}
 use Rattle.pass_runner.specs.declared.pass_end.PassEnd.{PassEnd}
 use Rattle.pass_runner.specs.declared.pass_end.PassEnd.TheVariants as ended
 use Rattle.pass_runner.specs.declared.summary.Summary.{Summary}
-use Rattle.dbgd_run.specs.Passing.{HasPath}
+use Rattle.dbgd_run.specs.Passing.{HasMissedPath}
 use Rattle.dbgd_run.specs.Trial.{HasScanned, forged_root}
 use Rattle.dbgd_run.specs.TrialKeeper.{shown_sure}
 use Rattle.dbgd_run.specs.TrialPass.{EndsWell, IsNewIndex}
@@ -45,52 +45,52 @@ not_rose : Rose 0 0 → ⊥
 not_rose rose = absurd (omega (arith, rose))
 
 -- how a pass of a hand over these folders ended
-abbrev Passes : ℕ → List (List ℕ) → List NameFacts → StateFacts KeeperFacts → StateFacts KeeperFacts → PassEnd
+abbrev Passes : ℕ → List (List ℕ) → List NameFacts → StateFacts MemKeeperFacts → StateFacts MemKeeperFacts → PassEnd
     → ForgeFacts → ForgeFacts → Type 0
 Passes count roots listing old new end hand later =
-    EndsPass open_rules true true shown_sure count roots listing (shown_by hand) (shown_by later) old new end
+    EndsPass open_rules true true shown_sure count roots listing (forge_shows hand) (forge_shows later) old new end
 
 -- how the hand goes on
 abbrev Goes : List (List ℕ) → PassEnd → ForgeFacts → ForgeFacts → Type 0
 Goes roots end hand later =
-    HandsOn true open_rules.version (shown_by hand) (shown_by later) (0 < length roots) (IsTrue (is_hand_fault end))
+    HandsOn true open_rules.version (forge_shows hand) (forge_shows later) (0 < length roots) (IsTrue (is_hand_fault end))
 
 -- and the others
-abbrev Aids : List NameFacts → StateFacts KeeperFacts → ForgeFacts → ForgeFacts → Type 0
+abbrev Aids : List NameFacts → StateFacts MemKeeperFacts → ForgeFacts → ForgeFacts → Type 0
 Aids listing old hand later =
-    Helps true open_rules.version listing (row_names old.rows) (shown_by hand) (shown_by later)
+    Helps true open_rules.version listing (row_names old.rows) (forge_shows hand) (forge_shows later)
 
 abbrev Stays : ForgeFacts → ForgeFacts → Type 0
-Stays hand later = HandsOn true open_rules.version (shown_by hand) (shown_by later) ⊥ ⊥
+Stays hand later = HandsOn true open_rules.version (forge_shows hand) (forge_shows later) ⊥ ⊥
 
 -- how a pass over the generated files ended, and that the count of its hand stands
-pub record PassesForged (seed files count : ℕ) (old new : StateFacts KeeperFacts) (end : PassEnd) : Type 0 where
+pub record PassesForged (seed files count : ℕ) (old new : StateFacts MemKeeperFacts) (end : PassEnd) : Type 0 where
   pub later : ForgeFacts
   pub listing : List NameFacts
-  pub ends : Passes count (forged_root ∷ []) listing old new end (fresh_tree seed files) later
-  pub goes : Goes (forged_root ∷ []) end (fresh_tree seed files) later
+  pub ends : Passes count (forged_root ∷ []) listing old new end (fresh_forge seed files) later
+  pub goes : Goes (forged_root ∷ []) end (fresh_forge seed files) later
 
 -- the first of some hands that all began alike
-pub first_hand : (seed files many : ℕ) {count : ℕ} {roots : List (List ℕ)} {old new : StateFacts KeeperFacts}
-    {end : PassEnd} (hands left : List ForgeFacts) → hands ≡ replicate many (fresh_tree seed files) → 1 ≤ many
+pub first_hand : (seed files many : ℕ) {count : ℕ} {roots : List (List ℕ)} {old new : StateFacts MemKeeperFacts}
+    {end : PassEnd} (hands left : List ForgeFacts) → hands ≡ replicate many (fresh_forge seed files) → 1 ≤ many
     → roots ≡ forged_root ∷ []
     → ((listing : List NameFacts) × HandsGo (Passes count roots listing old new end) (Aids listing old) hands left)
     → HandsGo (Goes roots end) Stays hands left → PassesForged seed files count old new end
 first_hand seed files many {count} {roots} {old} {new} {end} hands left alike some at pass goes =
     let one = first_of_alike (Passes count roots pass.0 old new end) (Aids pass.0 old) (Goes roots end) Stays
-    (fresh_tree seed files) many left some
+    (fresh_forge seed files) many left some
     (subst (λ hs. HandsGo (Passes count roots pass.0 old new end) (Aids pass.0 old) hs left) alike pass.1)
     (subst (λ hs. HandsGo (Goes roots end) Stays hs left) alike goes) in
     record {
       later = one.0;
       listing = pass.0;
-      ends = subst (λ rs. Passes count rs pass.0 old new end (fresh_tree seed files) one.0) at one.1;
-      goes = subst (λ rs. Goes rs end (fresh_tree seed files) one.0) at one.2;
+      ends = subst (λ rs. Passes count rs pass.0 old new end (fresh_forge seed files) one.0) at one.1;
+      goes = subst (λ rs. Goes rs end (fresh_forge seed files) one.0) at one.2;
     }
 
-module _ (seed files count : ℕ) (old new : StateFacts KeeperFacts) where
+module _ (seed files count : ℕ) (old new : StateFacts MemKeeperFacts) where
   abbrev EndsForged : ForgeFacts → List NameFacts → PassEnd → Type 0
-  EndsForged later listing end = Passes count (forged_root ∷ []) listing old new end (fresh_tree seed files) later
+  EndsForged later listing end = Passes count (forged_root ∷ []) listing old new end (fresh_forge seed files) later
 
   -- no name is missed
   none_missed : (later : ForgeFacts) (listing : List NameFacts) (miss : Miss) → IsCanonPath miss.name.path
@@ -110,21 +110,21 @@ module _ (seed files count : ℕ) (old new : StateFacts KeeperFacts) where
   -- the log has room for each file three times
   log_short : (later : ForgeFacts) (listing : List NameFacts) → files ≤ 100000 → IsNewIndex old → EndsForged later listing ended.LogFull → ⊥
   log_short later listing few opened run =
-      let none : length old.log ≡ 0 = ap (λ (st : StateFacts KeeperFacts). length st.log) opened.value in
+      let none : length old.log ≡ 0 = ap (λ (st : StateFacts MemKeeperFacts). length st.log) opened.value in
       let gone : (plan_of listing (row_names old.rows)).drop ≡ 0 =
-      ap (λ (st : StateFacts KeeperFacts). (plan_of listing (row_names st.rows)).drop) opened.value in
+      ap (λ (st : StateFacts MemKeeperFacts). (plan_of listing (row_names st.rows)).drop) opened.value in
       let added = count_by-le-length (λ (name : NameFacts). is_none (stamp_at (row_names old.rows) name.path)) listing in
       let replaced = count_by-le-length (λ (name : NameFacts). is_other (stamp_at (row_names old.rows) name.path) name.stamp) listing in
       let many : length listing ≤ 100000 =
       few_listed seed files (forged_root ∷ []) few
-      (subst (AreFilesUnder (names_of seed files) (forged_root ∷ [])) run.over (run.hears.under (refl, tt))) in
+      (subst (AreFilesUnder (forged_names seed files) (forged_root ∷ [])) run.over (run.hears.under (refl, tt))) in
       let void : voids new.broken ≡ 0 = ap (λ (b : Bool). voids b) run.ends.sound in
       let bounded = run.bounded in
       let full = run.ends.full in
       let limit : LOG_LIMIT ≡ 4194304 = refl in
       absurd (omega (arith, none, gone, added, replaced, many, void, bounded, full, limit))
 
-  pub ends_well : (end : PassEnd) → 1 ≤ files → files ≤ 100000 → PassesForged seed files count old new end → HasPath end
+  pub ends_well : (end : PassEnd) → 1 ≤ files → files ≤ 100000 → PassesForged seed files count old new end → HasMissedPath end
       → (end ≡ ended.KeeperFault → 0 < (shown_sure new.keeper).faults) → IsNewIndex old → EndsWell end
   ends_well (ended.Whole summary) some few passes path keeper opened = tt
   ends_well (ended.Missed miss) some few passes path keeper opened =
@@ -147,7 +147,7 @@ module _ (seed files count : ℕ) (old new : StateFacts KeeperFacts) where
   whole later listing summary holds run = record {
     rows_are = record {
       names =
-          subst (AreFilesUnder (names_of seed files) (forged_root ∷ [])) (run.over ∙ sym run.ends.complete.names)
+          subst (AreFilesUnder (forged_names seed files) (forged_root ∷ [])) (run.over ∙ sym run.ends.complete.names)
           (run.hears.under (refl, tt));
       sound = holds.rows_sorted_and_true;
     };

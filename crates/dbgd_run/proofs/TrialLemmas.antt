@@ -5,21 +5,21 @@ use Rattle.std.specs.Prelude.{replicate}
 use Rattle.row_types.specs.Row.{RowFacts}
 use Rattle.sha2.specs.Hashers.{Holds256}
 use Rattle.sha2.specs.declared.Sha256.{Sha256}
-use Rattle.index_keeper.specs.Answers.{for_rows, rows_in}
-use Rattle.index_keeper.specs.Keeper.{Asks}
-use Rattle.index_keeper.specs.MemKeeper.{KeeperFacts}
+use Rattle.index_keeper.specs.Answers.{for_rows, rows_given}
+use Rattle.index_keeper.specs.Keeper.{AsksKeeper}
+use Rattle.index_keeper.specs.MemKeeper.{MemKeeperFacts}
 use Rattle.index_keeper.specs.Tables.{KeptFacts}
 use Rattle.index_keeper.specs.declared.answer.KeptAnswer.{KeptAnswer}
 use Rattle.index_keeper.specs.declared.answer.KeptAnswer.TheVariants.{All as AllRows, Failed as RowsFailed}
 use Rattle.index_keeper.specs.declared.answer.KeptAnswer.TheVariants.{OutOfMemory as RowsNoMemory}
 use Rattle.index_rows.specs.declared.rows.TheConstants.{LOG_LIMIT}
-use Rattle.index_state.specs.Kept.{tables_of}
-use Rattle.index_state.specs.Opening.{CountsFault, Refuses, current}
+use Rattle.index_state.specs.Kept.{tables_of_rows}
+use Rattle.index_state.specs.Opening.{CountsFault, RefusesOpening, current}
 use Rattle.index_state.specs.declared.open_fault.OpenFault.{OpenFault}
 use Rattle.index_state.specs.declared.open_fault.OpenFault.TheVariants as refusal
 use Rattle.pass_runner.specs.Owned.{HandsGo}
 use Rattle.dbgd_run.specs.TrialKeeper.{IsNewKeeper, shown_sure}
-use Rattle.dbgd_run.specs.Trial.{joined}
+use Rattle.dbgd_run.specs.Trial.{joined_rows}
 
 -- ---- the sum
 
@@ -27,7 +27,7 @@ use Rattle.dbgd_run.specs.Trial.{joined}
 pub record Completes (digest : Sha256) (rest all : List RowFacts) : Type 0 where
   pub so_far : List ℕ
   pub holds : Holds256 digest so_far
-  pub parts : so_far ++ joined rest ≡ joined all
+  pub parts : so_far ++ joined_rows rest ≡ joined_rows all
 
 -- ---- the hands
 
@@ -42,8 +42,8 @@ first_of_alike First Other Goes Stays hand (suc n) (later ∷ left) some first g
 
 -- ---- the opening
 
-nothing_in : (values : List KeptFacts) (answer : KeptAnswer) (keeper asked : KeeperFacts) → keeper.shelf.tables ≡ []
-    → Asks true (shown_sure keeper) (shown_sure asked) (for_rows answer) → rows_in answer ≡ Some values → values ≡ []
+nothing_in : (values : List KeptFacts) (answer : KeptAnswer) (keeper asked : MemKeeperFacts) → keeper.shelf.tables ≡ []
+    → AsksKeeper true (shown_sure keeper) (shown_sure asked) (for_rows answer) → rows_given answer ≡ Some values → values ≡ []
 nothing_in values (AllRows rows) keeper asked none heard gave =
     let tells = heard.tells refl in
     some_values gave ∙ tells.whole ∙ tells.stays.same ∙ none
@@ -57,13 +57,13 @@ no_parts : (before behind : List KeptFacts) (value : KeptFacts) → [] ≡ befor
 no_parts [] behind value e = absurd (cc)
 no_parts (first ∷ before) behind value e = absurd (cc)
 
-no_rows : (rows : List RowFacts) → [] ≡ tables_of rows → rows ≡ []
+no_rows : (rows : List RowFacts) → [] ≡ tables_of_rows rows → rows ≡ []
 no_rows [] e = refl
 no_rows (row ∷ rows) e = absurd (cc)
 
 -- an index on a new store can't be opened for want of memory alone
-pub only_memory : (keeper given : KeeperFacts) (fault : OpenFault) → IsNewKeeper keeper
-    → Refuses true shown_sure keeper fault given → CountsFault (shown_sure keeper) (shown_sure given) fault
+pub only_memory : (keeper given : MemKeeperFacts) (fault : OpenFault) → IsNewKeeper keeper
+    → RefusesOpening true shown_sure keeper fault given → CountsFault (shown_sure keeper) (shown_sure given) fault
     → fault ≡ refusal.OutOfMemory
 only_memory keeper given refusal.OutOfMemory new why counts = refl
 only_memory keeper given refusal.KeeperFault new why counts =

@@ -13,7 +13,7 @@ use Rattle.tree_trait.specs.Heard.{Heard, stat, with_answers}
 use Rattle.tree_trait.specs.Shown.{ShownTree}
 use Rattle.tree_trait.specs.Stat.{IsNothingAt}
 use Rattle.tree_trait.specs.declared.stat.StatAnswer.TheVariants.{File}
-use Rattle.tree_walk.specs.Ends.{IsRootGone, IsTooMany, IsTooManyEntries, IsWholeWalk}
+use Rattle.tree_walk.specs.Ends.{IsRootGone, AreFilesTooMany, IsTooManyEntries, IsWholeWalk}
 use Rattle.tree_walk.specs.Files.{AreFilesUnder, HasManyEntries, HasManyFiles}
 use Rattle.tree_walk.specs.declared.walked.Walk.{Walk}
 use Rattle.http_wire.specs.Sink.{GetsAll}
@@ -21,26 +21,26 @@ use Rattle.pass_runner.specs.Owned.{LoadsBeside, TellsStill}
 use Rattle.pass_runner.specs.Settled.{IsHeardAltered}
 use Rattle.pass_runner.specs.declared.pass_end.PassEnd.TheVariants as pass
 use Rattle.pass_runner.specs.declared.summary.Summary.{Summary}
-use Rattle.dbgd_run.specs.Opened.{EndsOnlyWith, HasBad, HasSomeBad, OpensOn}
+use Rattle.dbgd_run.specs.Opened.{EndsOnlyWith, HasBad, HasSomeBad, StoreOpensOn}
 use Rattle.dbgd_run.specs.QueryCauses.{QueryStatus}
 use Rattle.dbgd_run.specs.Scan.{EndsPassed}
-use Rattle.dbgd_run.specs.Scene.{FirstRose, OfFirst, Scene, Setting}
+use Rattle.dbgd_run.specs.Scene.{FirstRose, OfFirst, ProgramScene, Setting}
 use Rattle.dbgd_run.specs.Texts.{summary_line}
 use Rattle.dbgd_words.specs.Words.{Line, asks_help, asks_ident, asks_query, asks_scan, asks_section}
-use Rattle.dbgd_run.specs.Trial.{AreForgedRows, trial_line}
+use Rattle.dbgd_run.specs.Trial.{AreForgedRows, trial_end_line}
 use Rattle.dbgd_words.specs.Words.{asks_sources, asks_trial, has_options, unbuilt, unreadable}
 use Rattle.dbgd_run.specs.declared.status.Status.{Status}
 use Rattle.dbgd_run.specs.declared.status.Status.TheVariants.{Done, Fault, Usage, Absent, Altered}
 use Rattle.dbgd_run.specs.declared.status.Status.TheVariants.{Limit, OutOfMemory, BadRow, NotBuilt}
 
 -- the first hand's count of faults rose, or that of the standard output
-abbrev pub HandOrOutRose : {T : Type 0} → Setting T → Scene T → Scene T → Type 0
+abbrev pub HandOrOutRose : {T : Type 0} → Setting T → ProgramScene T → ProgramScene T → Type 0
 HandOrOutRose s before after =
     FirstRose s before.hands after.hands
     ⊎ Rose before.streams.out.write_faults after.streams.out.write_faults
 
 -- of a command on one file: no file is altered or meets a limit, no value is no row, and nothing isn't built
-abbrev pub FileStatus : {T : Type 0} → Setting T → Scene T → Scene T → Status → Type 0
+abbrev pub FileStatus : {T : Type 0} → Setting T → ProgramScene T → ProgramScene T → Status → Type 0
 FileStatus s before after Done = Unit {0}
 FileStatus s before after Fault = HandOrOutRose s before after
 FileStatus s before after Absent = Unit {0}
@@ -49,7 +49,7 @@ FileStatus s before after _ = ⊥
 
 -- the scan was whole, and the standard output got exactly its line
 pub record IsScanned {T : Type 0} (s : Setting T) (roots : List (List ℕ))
-    (before after : Scene T) : Type 0 where
+    (before after : ProgramScene T) : Type 0 where
   pub summary : Summary
   pub ends :
       EndsPassed s roots before.hands after.hands before.store after.store (pass.Whole summary)
@@ -83,7 +83,7 @@ IsHeardOther listing answers name Appeared = IsPathThere listing answers name
 
 -- the hand heard a whole walk, and behind it that a listed file is another by now, or that a file stands whose path isn't
 -- listed; files that never change are neither
-pub record HeardOther (told : Bool) (roots : List (List ℕ)) (before after : ShownTree) : Type 0 where
+pub record HeardOtherFile (told : Bool) (roots : List (List ℕ)) (before after : ShownTree) : Type 0 where
   pub walk : Walk
   pub walked : List Heard
   pub more : List Heard
@@ -99,43 +99,43 @@ pub record HeardOther (told : Bool) (roots : List (List ℕ)) (before after : Sh
 pub record HeardMany (told : Bool) (roots : List (List ℕ)) (before after : ShownTree) : Type 0 where
   pub answers : List Heard
   pub heard : after.heard ≡ with_answers before.heard answers
-  pub many : IsTooMany answers roots ⊎ IsTooManyEntries answers roots
+  pub many : AreFilesTooMany answers roots ⊎ IsTooManyEntries answers roots
   pub still :
       TellsStill told before
       → HasManyFiles before.present roots ⊎ HasManyEntries before.present roots
 
 -- a limit was met: of what was heard, of the rows that the store held, or of the changes of the log
 pub data MeetsLimit {T : Type 0} (s : Setting T) (roots : List (List ℕ))
-    (before after : Scene T) : Type 0 where
+    (before after : ProgramScene T) : Type 0 where
   of_walk : OfFirst s (HeardMany s.tells_files roots) before.hands after.hands
       → MeetsLimit s roots before after
-  of_rows : OpensOn s.tells_tables before.store after.store IsOverfull
+  of_rows : StoreOpensOn s.tells_tables before.store after.store IsOverfull
       → MeetsLimit s roots before after
   of_changes : EndsPassed s roots before.hands after.hands before.store after.store pass.LogFull
       → MeetsLimit s roots before after
 
 -- of a scan: the words were read, and it is built
-abbrev pub ScanStatus : {T : Type 0} → Setting T → List (List ℕ) → Scene T → Scene T → Status → Type 0
+abbrev pub ScanStatus : {T : Type 0} → Setting T → List (List ℕ) → ProgramScene T → ProgramScene T → Status → Type 0
 ScanStatus s roots before after Done = IsScanned s roots before after
 ScanStatus s roots before after Fault =
     Rose before.store.faults after.store.faults ⊎ HandOrOutRose s before after
 ScanStatus s roots before after Absent =
     OfFirst s (HeardGone s.tells_files roots) before.hands after.hands
 ScanStatus s roots before after Altered =
-    OfFirst s (HeardOther s.tells_files roots) before.hands after.hands
+    OfFirst s (HeardOtherFile s.tells_files roots) before.hands after.hands
 ScanStatus s roots before after Limit = MeetsLimit s roots before after
 ScanStatus s roots before after OutOfMemory = Unit {0}
-ScanStatus s roots before after BadRow = OpensOn s.tells_tables before.store after.store HasBad
+ScanStatus s roots before after BadRow = StoreOpensOn s.tells_tables before.store after.store HasBad
 ScanStatus s roots before after _ = ⊥
 
 -- the standard output got the line of rows of exactly the generated files
-pub record HasTold {T : Type 0} (seed files : ℕ) (before after : Scene T) : Type 0 where
+pub record HasTold {T : Type 0} (seed files : ℕ) (before after : ProgramScene T) : Type 0 where
   pub rows : List RowFacts
   pub rows_are : AreForgedRows seed files rows
-  pub line : GetsAll (trial_line files rows) before.streams.out after.streams.out
+  pub line : GetsAll (trial_end_line files rows) before.streams.out after.streams.out
 
 -- of a trial: only the standard output can fail
-abbrev pub TrialStatus : {T : Type 0} → ℕ → ℕ → Scene T → Scene T → Status → Type 0
+abbrev pub TrialStatus : {T : Type 0} → ℕ → ℕ → ProgramScene T → ProgramScene T → Status → Type 0
 TrialStatus seed files before after Done = HasTold seed files before after
 TrialStatus seed files before after Fault =
     Rose before.streams.out.write_faults after.streams.out.write_faults
@@ -143,7 +143,7 @@ TrialStatus seed files before after OutOfMemory = Unit {0}
 TrialStatus seed files before after _ = ⊥
 
 -- of a help or version: only the standard output can fail
-abbrev pub HelpStatus : {T : Type 0} → Scene T → Scene T → Status → Type 0
+abbrev pub HelpStatus : {T : Type 0} → ProgramScene T → ProgramScene T → Status → Type 0
 HelpStatus before after Done = Unit {0}
 HelpStatus before after Fault = Rose before.streams.out.write_faults after.streams.out.write_faults
 HelpStatus before after OutOfMemory = Unit {0}
@@ -157,7 +157,7 @@ UsageStatus words _ = ⊥
 
 -- what the status says, by the line; words that can't be read alone end with the usage, a command that isn't built
 -- always so
-abbrev pub HasStatus : {T : Type 0} → Setting T → List (List ℕ) → Line → Scene T → Scene T → Status → Type 0
+abbrev pub HasStatus : {T : Type 0} → Setting T → List (List ℕ) → Line → ProgramScene T → ProgramScene T → Status → Type 0
 HasStatus s words (asks_ident path) before after status = FileStatus s before after status
 HasStatus s words (asks_sources path) before after status = FileStatus s before after status
 HasStatus s words (asks_section path name) before after status = FileStatus s before after status
@@ -183,7 +183,7 @@ pub record IsFreeHand (told : Bool) (roots : List (List ℕ)) (before after : Sh
 -- many of them of the edition, the rows of the edition and the changes that the plan of the files under the folders allows
 -- against them are fewer than a log may have, and neither the store's count nor that of the standard output rose
 pub record IsUnhindered {T : Type 0} (s : Setting T) (roots : List (List ℕ))
-    (before after : Scene T) : Type 0 where
+    (before after : ProgramScene T) : Type 0 where
   pub hand : OfFirst s (IsFreeHand s.tells_files roots) before.hands after.hands
   pub tells : IsTrue s.tells_tables
   pub rows : List RowFacts
@@ -203,7 +203,7 @@ IsComplete _ = ⊥
 
 -- how a scan ends when: a store that tells a value which isn't a row ends it with the status for that, one that tells
 -- too many rows of the edition with that of a limit, and one that nothing stands against is done
-pub record ScanEnds {T : Type 0} (s : Setting T) (roots : List (List ℕ)) (before after : Scene T)
+pub record ScanEnds {T : Type 0} (s : Setting T) (roots : List (List ℕ)) (before after : ProgramScene T)
     (status : Status) : Type 0 where
   pub bad :
       IsTrue s.tells_tables → HasSomeBad before.store.tables

@@ -2,7 +2,7 @@
 use Rattle.std.specs.Prelude.{◌≡◌, ◌⊎◌, ℕ, List, [], ◌++◌, codes}
 use Rattle.http_wire.specs.Sink.{GetsAll, GetsPart}
 use Rattle.http_wire.specs.Stream.{ShownStream}
-use Rattle.dbgd_run.specs.Texts.{line}
+use Rattle.dbgd_run.specs.Texts.{fed_line}
 use Rattle.dbgd_run.specs.declared.status.Status.{Status}
 use Rattle.dbgd_run.specs.declared.status.Status.TheVariants.{Fault, Absent, Limit, OutOfMemory}
 use Rattle.dbgd_run.specs.declared.status.Status.TheVariants.{NotBuilt}
@@ -19,7 +19,7 @@ out_saying bytes status = record { out = bytes; err = []; status = status }
 
 -- a line on the standard error alone
 abbrev pub error_saying : List ℕ → Status → Saying
-error_saying text status = record { out = []; err = line text; status = status }
+error_saying text status = record { out = []; err = fed_line text; status = status }
 
 -- of a failed call of an object of the outside
 abbrev pub fault_saying : List ℕ → Saying
@@ -67,9 +67,9 @@ pub record EndsCut (saying : Saying) (old new : Streams) (status : Status) : Typ
   pub err : Gets (fault_saying (codes "output")).err old.err new.err
 
 -- what is to be said was said, or as much of it as the standard output took
-abbrev pub Ends : Saying → Streams → Streams → Status → Type 0
-Ends saying old new status = EndsWhole saying old new status ⊎ EndsCut saying old new status
+abbrev pub EndsSaying : Saying → Streams → Streams → Status → Type 0
+EndsSaying saying old new status = EndsWhole saying old new status ⊎ EndsCut saying old new status
 
 -- memory was refused before anything was written, and that is said
-abbrev pub WantsMemory : Streams → Streams → Status → Type 0
-WantsMemory old new status = EndsWhole no_memory_saying old new status
+abbrev pub SaysMemory : Streams → Streams → Status → Type 0
+SaysMemory old new status = EndsWhole no_memory_saying old new status

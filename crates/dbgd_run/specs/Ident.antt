@@ -4,7 +4,7 @@ use Rattle.file_formats.specs.Identity.{Identity, IsIdentity}
 use Rattle.file_formats.specs.declared.fault.Why.{Why}
 use Rattle.file_formats.specs.declared.fault.Why.TheVariants.{TooLarge}
 use Rattle.tree_trait.specs.Load.{LoadFacts, loaded, too_large, gone, failed, no_memory}
-use Rattle.dbgd_run.specs.Endings.{Ends, EndsWhole, Saying, Streams, WantsMemory, fault_saying}
+use Rattle.dbgd_run.specs.Endings.{EndsSaying, EndsWhole, Saying, Streams, SaysMemory, fault_saying}
 use Rattle.dbgd_run.specs.Endings.{gone_saying, out_saying}
 use Rattle.dbgd_run.specs.Texts.{identity_line, plain_line}
 use Rattle.dbgd_run.specs.declared.status.Status.{Status}
@@ -20,15 +20,15 @@ plain_saying why = out_saying (plain_line why) status.Absent
 
 -- what is said of a file that was read: the line of an identity takes memory, that of a plain file none
 abbrev pub SaysFile : Result Identity Why → Streams → Streams → Status → Type 0
-SaysFile (Ok i) old new end = Ends (identity_saying i) old new end ⊎ WantsMemory old new end
-SaysFile (Err why) old new end = Ends (plain_saying why) old new end
+SaysFile (Ok i) old new end = EndsSaying (identity_saying i) old new end ⊎ SaysMemory old new end
+SaysFile (Err why) old new end = EndsSaying (plain_saying why) old new end
 
 -- what is said of the file at a path, by what its load answered
 abbrev pub SaysIdent : List ℕ → LoadFacts → Streams → Streams → Status → Type 0
 SaysIdent path (loaded found) old new end =
     (identity : Result Identity Why) × IsIdentity found.bytes identity
     × SaysFile identity old new end
-SaysIdent path (too_large stamp) old new end = Ends (plain_saying TooLarge) old new end
+SaysIdent path (too_large stamp) old new end = EndsSaying (plain_saying TooLarge) old new end
 SaysIdent path gone old new end = EndsWhole (gone_saying path) old new end
 SaysIdent path failed old new end = EndsWhole (fault_saying (codes "file")) old new end
-SaysIdent path no_memory old new end = WantsMemory old new end
+SaysIdent path no_memory old new end = SaysMemory old new end

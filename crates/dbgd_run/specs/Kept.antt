@@ -6,7 +6,7 @@ use Rattle.index_keeper.specs.Tables.{AscendsByPath, EditFacts, KeptFacts}
 use Rattle.index_rows.specs.declared.change.Change.{Change}
 use Rattle.index_rows.specs.declared.rows.TheConstants.{LOG_LIMIT}
 use Rattle.index_state.specs.Changes.{TellsSince}
-use Rattle.index_state.specs.Kept.{IsNext, tables_of}
+use Rattle.index_state.specs.Kept.{IsNext, tables_of_rows}
 use Rattle.index_state.specs.Opening.{AreRows, LacksStrays, current, made_swept}
 
 -- the values that the store gave as it was opened, by path; where it tells they are its tables
@@ -15,14 +15,14 @@ pub record GivesValues (told : Bool) (before : ShownStore) (values : List KeptFa
   pub tells : IsTrue told → values ≡ before.tables
 
 -- the store held these rows, of whatever edition, and nothing else; not too many are of the edition
-pub record HoldsRows (told : Bool) (before : ShownStore) (rows : List RowFacts) : Type 0 where
+pub record StoreHoldsRows (told : Bool) (before : ShownStore) (rows : List RowFacts) : Type 0 where
   pub values : List KeptFacts
   pub gave : GivesValues told before values
   pub sound : AreRows rows values
   pub few : length (current rows) ≤ LOG_LIMIT
 
 -- the store has what it had
-pub record KeepsAll (told : Bool) (before after : ShownStore) : Type 0 where
+pub record KeepsStore (told : Bool) (before after : ShownStore) : Type 0 where
   pub tables : IsTrue told → after.tables ≡ before.tables
   pub made : after.made ≡ before.made
 
@@ -43,7 +43,7 @@ pub record LacksFirst (told : Bool) (before after : ShownStore) : Type 0 where
 
 -- the store has these rows, and nothing else
 abbrev pub HasRows : Bool → ShownStore → List RowFacts → Type 0
-HasRows told after rows = IsTrue told → after.tables ≡ tables_of rows
+HasRows told after rows = IsTrue told → after.tables ≡ tables_of_rows rows
 
 -- the tables are those of the rows with one change: a put of a true row, or a removal
 pub record HasOneChange (true_row : RowFacts → Type 0) (tables : List KeptFacts)
@@ -54,7 +54,7 @@ pub record HasOneChange (true_row : RowFacts → Type 0) (tables : List KeptFact
 -- the store has these rows, with or without the one change that a failed call was to make
 abbrev pub MayHaveRows : (RowFacts → Type 0) → Bool → ShownStore → List RowFacts → Type 0
 MayHaveRows true_row told after rows =
-    IsTrue told → (after.tables ≡ tables_of rows) ⊎ HasOneChange true_row after.tables rows
+    IsTrue told → (after.tables ≡ tables_of_rows rows) ⊎ HasOneChange true_row after.tables rows
 
 -- the store made these changes: the removals of the rows of other editions that were found, by path, and then puts of
 -- true rows and removals, one for each of these

@@ -10,7 +10,7 @@ use Rattle.dbgd_run.specs.declared.status.Status.{Status}
 use Rattle.dbgd_run.specs.declared.status.Status.TheVariants.{Fault, OutOfMemory}
 
 -- the store was opened and gave values, of which this is so
-pub record OpensOn (told : Bool) (old new : ShownStore) (Of : List KeptFacts → Type 0) : Type 0 where
+pub record StoreOpensOn (told : Bool) (old new : ShownStore) (Of : List KeptFacts → Type 0) : Type 0 where
   pub opened : Rose old.epoch new.epoch
   pub values : List KeptFacts
   pub gave : GivesValues told old values

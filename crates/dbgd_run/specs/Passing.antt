@@ -3,7 +3,7 @@ use Rattle.std.specs.Prelude.{◌≡◌, ℕ, Bool, List, drop, length, IsTrue}
 use Rattle.row_types.specs.Canon.{IsCanonPath}
 use Rattle.row_types.specs.Name.{NameFacts}
 use Rattle.index_keeper.specs.Keeper.{ShownKeeper}
-use Rattle.index_keeper.specs.Store.{HasAll, ShownStore, TakesBack}
+use Rattle.index_keeper.specs.Store.{HasAll, ShownStore, TakesKeeperBack}
 use Rattle.index_rows.specs.Rows.{row_names}
 use Rattle.index_state.specs.Invariant.{IndexInvariant}
 use Rattle.index_state.specs.Opening.{Opens}
@@ -14,9 +14,9 @@ use Rattle.pass_runner.specs.declared.pass_end.PassEnd.TheVariants.{Missed}
 use Rattle.dbgd_run.specs.Scene.{Setting}
 
 -- the path of a name that was missed is one that is kept
-abbrev pub HasPath : PassEnd → Type 0
-HasPath (Missed miss) = IsCanonPath miss.name.path
-HasPath _ = Unit {0}
+abbrev pub HasMissedPath : PassEnd → Type 0
+HasMissedPath (Missed miss) = IsCanonPath miss.name.path
+HasMissedPath _ = Unit {0}
 
 -- the index made its pass with these hands, and then handed its keeper out
 pub record ScansIndex {K T : Type 0} (s : Setting T) (shows : K → ShownKeeper)
@@ -24,7 +24,7 @@ pub record ScansIndex {K T : Type 0} (s : Setting T) (shows : K → ShownKeeper)
     (end : PassEnd) : Type 0 where
   pub new : StateFacts K
   pub value : keeper ≡ new.keeper
-  pub path : HasPath end
+  pub path : HasMissedPath end
   pub holds : IndexInvariant s.world.true_row s.tells_tables shows new
   pub pass :
       (listing : List NameFacts) × HandsGo
@@ -41,4 +41,4 @@ pub record IsLent {K : Type 0} (told : Bool) (shows : K → ShownKeeper) (from i
   pub opens : Opens told shows keeper old
   pub has : HasAll told from (shows keeper)
   pub mid : ShownStore
-  pub back : TakesBack told (shows new.keeper) mid into
+  pub back : TakesKeeperBack told (shows new.keeper) mid into

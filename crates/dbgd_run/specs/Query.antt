@@ -5,16 +5,16 @@ use Rattle.row_types.specs.Faults.{HasCause, Rose}
 use Rattle.row_types.specs.declared.reading.Reading.{Reading}
 use Rattle.row_types.specs.declared.reading.Reading.TheVariants.{Plain, Elf}
 use Rattle.row_types.specs.Row.{RowFacts}
-use Rattle.index_keeper.specs.Store.{ShownStore, with_path}
+use Rattle.index_keeper.specs.Store.{ShownStore, with_opened_path}
 use Rattle.index_rows.specs.Classes.{has_id}
 use Rattle.index_state.specs.Opening.{current, made_swept}
-use Rattle.dbgd_run.specs.Endings.{Ends, EndsWhole, Saying, Streams, error_saying, no_memory_saying}
+use Rattle.dbgd_run.specs.Endings.{EndsSaying, EndsWhole, Saying, Streams, error_saying, no_memory_saying}
 use Rattle.dbgd_run.specs.Endings.{out_saying}
-use Rattle.dbgd_run.specs.Kept.{HasRows, HoldsRows}
+use Rattle.dbgd_run.specs.Kept.{HasRows, StoreHoldsRows}
 use Rattle.dbgd_run.specs.Scan.{OpensBy, RefusesBy}
 use Rattle.dbgd_run.specs.ScanSaid.{is_open, is_store_fault, refusal_saying}
-use Rattle.dbgd_run.specs.Scene.{Scene, Setting}
-use Rattle.dbgd_run.specs.Texts.{class_word, line}
+use Rattle.dbgd_run.specs.Scene.{ProgramScene, Setting}
+use Rattle.dbgd_run.specs.Texts.{class_word, fed_line}
 use Rattle.dbgd_run.specs.declared.query_end.QueryEnd.{QueryEnd}
 use Rattle.dbgd_run.specs.declared.query_end.QueryEnd.TheVariants.{Refused, Read, OutOfMemory}
 use Rattle.dbgd_run.specs.declared.scan_end.ScanEnd.TheVariants.{Refused as ScanRefused}
@@ -28,7 +28,7 @@ reading_word (Elf ident sources) = class_word ident.exec ident.debug
 
 -- the line of a row
 abbrev pub row_line : RowFacts → List ℕ
-row_line row = line (reading_word row.reading ++ codes " " ++ row.name.path)
+row_line row = fed_line (reading_word row.reading ++ codes " " ++ row.name.path)
 
 -- the rows of the edition that have the id
 abbrev pub id_rows : List ℕ → List RowFacts → List RowFacts
@@ -45,7 +45,7 @@ nothing_saying = error_saying (codes "dbgd: nothing found") Absent
 -- of the lines of the rows: that there is nothing where there is none
 abbrev pub SaysLines : List ℕ → Streams → Streams → Status → Type 0
 SaysLines [] old new end = EndsWhole nothing_saying old new end
-SaysLines (byte ∷ bytes) old new end = Ends (out_saying (byte ∷ bytes) Done) old new end
+SaysLines (byte ∷ bytes) old new end = EndsSaying (out_saying (byte ∷ bytes) Done) old new end
 
 -- the end of a query was said
 abbrev pub SaysFound : QueryEnd → Streams → Streams → Status → Type 0
@@ -54,9 +54,9 @@ SaysFound (Read lines) old new end = SaysLines lines.items old new end
 SaysFound OutOfMemory old new end = EndsWhole no_memory_saying old new end
 
 -- the store held these rows, and has those of the edition
-pub record Looks (told : Bool) (old new : ShownStore) (Of : List RowFacts → Type 0) : Type 0 where
+pub record LooksInStore (told : Bool) (old new : ShownStore) (Of : List RowFacts → Type 0) : Type 0 where
   pub found : List RowFacts
-  pub held : HoldsRows told old found
+  pub held : StoreHoldsRows told old found
   pub has : HasRows told new (current found)
   pub made : new.made ≡ made_swept found old.made
   pub so : Of found
@@ -65,8 +65,8 @@ pub record Looks (told : Bool) (old new : ShownStore) (Of : List RowFacts → Ty
 abbrev pub LooksBy : Bool → List ℕ → ShownStore → ShownStore → QueryEnd → Type 0
 LooksBy told id old new (Refused fault) = RefusesBy told old new fault
 LooksBy told id old new (Read lines) =
-    Looks told old new (λ found. lines.items ≡ row_lines (id_rows id found))
-LooksBy told id old new OutOfMemory = Looks told old new (λ found. Unit {0})
+    LooksInStore told old new (λ found. lines.items ≡ row_lines (id_rows id found))
+LooksBy told id old new OutOfMemory = LooksInStore told old new (λ found. Unit {0})
 
 -- the lines are those of the rows that have the id, among rows of the edition (no public clause cites it)
 abbrev pub ReadsLines : List ℕ → List RowFacts → QueryEnd → Type 0
@@ -75,9 +75,9 @@ ReadsLines id rows (Read lines) = lines.items ≡ row_lines (filter (λ row. has
 ReadsLines id rows OutOfMemory = Unit {0}
 
 -- whether the end comes of an open store alone
-abbrev pub is_looked : QueryEnd → Bool
-is_looked (Refused fault) = is_open (ScanRefused fault)
-is_looked _ = true
+abbrev pub is_store_looked : QueryEnd → Bool
+is_store_looked (Refused fault) = is_open (ScanRefused fault)
+is_store_looked _ = true
 
 -- whether a call of the store failed
 abbrev pub is_look_fault : QueryEnd → Bool
@@ -85,28 +85,28 @@ is_look_fault (Refused fault) = is_store_fault (ScanRefused fault)
 is_look_fault _ = false
 
 -- the store was opened once, by this path; where memory was refused, once or not at all
-abbrev pub LooksAt : List ℕ → ShownStore → ShownStore → QueryEnd → Type 0
-LooksAt path old new (Refused fault) = OpensBy path old new (ScanRefused fault)
-LooksAt path old new _ = new.paths ≡ with_path path old.paths
+abbrev pub OpensOnce : List ℕ → ShownStore → ShownStore → QueryEnd → Type 0
+OpensOnce path old new (Refused fault) = OpensBy path old new (ScanRefused fault)
+OpensOnce path old new _ = new.paths ≡ with_opened_path path old.paths
 
 -- the query came to this end, by then the store was opened, and a call failed only where its count rose
 pub record Queries (told : Bool) (path id : List ℕ) (old new : ShownStore) (end : QueryEnd) : Type 0 where
   pub ends : LooksBy told id old new end
   pub store : HasCause old.faults new.faults (IsTrue (is_look_fault end))
   pub later : old.epoch ≤ new.epoch
-  pub opened : IsTrue (is_looked end) → Rose old.epoch new.epoch
-  pub opens : LooksAt path old new end
+  pub opened : IsTrue (is_store_looked end) → Rose old.epoch new.epoch
+  pub opens : OpensOnce path old new end
 
 -- the query came to an end, and it was said
-pub record Answers (told : Bool) (path id : List ℕ) (old new : ShownStore) (before after : Streams)
+pub record AnswersQuery (told : Bool) (path id : List ℕ) (old new : ShownStore) (before after : Streams)
     (status : Status) : Type 0 where
   pub end : QueryEnd
   pub queries : Queries told path id old new end
   pub said : SaysFound end before after status
 
 -- so it is of the store and the two sinks; the hands are as they were
-pub record RunsQuery {T : Type 0} (s : Setting T) (path id : List ℕ) (before after : Scene T)
+pub record RunsQuery {T : Type 0} (s : Setting T) (path id : List ℕ) (before after : ProgramScene T)
     (status : Status) : Type 0 where
   pub answers :
-      Answers s.tells_tables path id before.store after.store before.streams after.streams status
+      AnswersQuery s.tells_tables path id before.store after.store before.streams after.streams status
   pub hands : after.hands ≡ before.hands

@@ -3,14 +3,14 @@ use Rattle.std.specs.Prelude.{◌≡◌, ◌⊎◌, ℕ, Bool, true, false, List
 use Rattle.dbgd_words.specs.Words.{Line, asks_help, asks_ident, asks_query, asks_scan, asks_section}
 use Rattle.dbgd_words.specs.Words.{asks_sources, asks_trial, has_options, line_of, unbuilt, unreadable}
 use Rattle.dbgd_run.specs.Causes.{HasStatus, ScanEnds}
-use Rattle.dbgd_run.specs.Endings.{Ends, EndsWhole, Saying, WantsMemory, error_saying}
+use Rattle.dbgd_run.specs.Endings.{EndsSaying, EndsWhole, Saying, SaysMemory, error_saying}
 use Rattle.dbgd_run.specs.Endings.{no_memory_saying, not_built_saying, out_saying}
 use Rattle.dbgd_run.specs.File.{RunsFile}
 use Rattle.dbgd_run.specs.Ident.{SaysIdent}
 use Rattle.dbgd_run.specs.Query.{RunsQuery}
 use Rattle.dbgd_run.specs.QueryCauses.{QueryEnds}
 use Rattle.dbgd_run.specs.Scan.{RunsScan}
-use Rattle.dbgd_run.specs.Scene.{Scene, Setting}
+use Rattle.dbgd_run.specs.Scene.{ProgramScene, Setting}
 use Rattle.dbgd_run.specs.Section.{SaysSection}
 use Rattle.dbgd_run.specs.Sources.{SaysSources}
 use Rattle.dbgd_run.specs.Statuses.{code_of}
@@ -24,30 +24,30 @@ abbrev pub usage_saying : Saying
 usage_saying = error_saying usage_text Usage
 
 -- what is said without a look at the hands or the store
-pub record SaysAlone {T : Type 0} (saying : Saying) (before after : Scene T)
+pub record SaysAlone {T : Type 0} (saying : Saying) (before after : ProgramScene T)
     (status : Status) : Type 0 where
   pub says : EndsWhole saying before.streams after.streams status
   pub hands : after.hands ≡ before.hands
   pub store : after.store ≡ before.store
 
 -- a help or version: its text was said on the standard output, or memory was refused; hands and store weren't looked at
-pub record SaysHelp {T : Type 0} (before after : Scene T) (status : Status) : Type 0 where
+pub record SaysHelp {T : Type 0} (before after : ProgramScene T) (status : Status) : Type 0 where
   pub text : List ℕ
   pub says :
-      Ends (out_saying text Done) before.streams after.streams status
-      ⊎ WantsMemory before.streams after.streams status
+      EndsSaying (out_saying text Done) before.streams after.streams status
+      ⊎ SaysMemory before.streams after.streams status
   pub hands : after.hands ≡ before.hands
   pub store : after.store ≡ before.store
 
 -- a query: what it does, and how it ends when
 pub record IsQueryRun {T : Type 0} (s : Setting T) (path id : List ℕ)
-    (before after : Scene T) (status : Status) : Type 0 where
+    (before after : ProgramScene T) (status : Status) : Type 0 where
   pub does : RunsQuery s path id before after status
   pub ends : QueryEnds s before after status
 
 -- a scan: what it does, and how it ends when
 pub record IsScanRun {T : Type 0} (s : Setting T) (path : List ℕ) (workers : ℕ) (roots : List (List ℕ))
-    (before after : Scene T) (status : Status) : Type 0 where
+    (before after : ProgramScene T) (status : Status) : Type 0 where
   pub does : RunsScan s path workers roots before after status
   pub ends : ScanEnds s roots before after status
 
@@ -58,7 +58,7 @@ is_scan (asks_trial seed files workers) = true
 is_scan _ = false
 
 -- what a line of words does, by what it asks
-abbrev pub Runs : {T : Type 0} → Setting T → Line → Scene T → Scene T → Status → Type 0
+abbrev pub Runs : {T : Type 0} → Setting T → Line → ProgramScene T → ProgramScene T → Status → Type 0
 Runs s (asks_ident path) before after status =
     RunsFile s path (SaysIdent path) before after status
 Runs s (asks_sources path) before after status =
@@ -74,19 +74,19 @@ Runs s unbuilt before after status = SaysAlone not_built_saying before after sta
 Runs s unreadable before after status = SaysAlone usage_saying before after status
 
 -- the words are read as options, and memory was refused for that
-pub record LacksRoom {T : Type 0} (words : List (List ℕ)) (before after : Scene T)
+pub record LacksRoom {T : Type 0} (words : List (List ℕ)) (before after : ProgramScene T)
     (status : Status) : Type 0 where
   pub options : IsTrue (has_options words)
   pub alone : SaysAlone no_memory_saying before after status
 
 -- what words do: as their line says, or there was no room for their options
-abbrev pub DoesWords : {T : Type 0} → Setting T → List (List ℕ) → Scene T → Scene T → Status → Type 0
+abbrev pub DoesWords : {T : Type 0} → Setting T → List (List ℕ) → ProgramScene T → ProgramScene T → Status → Type 0
 DoesWords s words before after status =
     Runs s (line_of words) before after status ⊎ LacksRoom words before after status
 
 -- all that is promised of a run: the status and its number, what it does, a part for each command, and what its status
 -- says
-pub record IsRun {T : Type 0} (s : Setting T) (words : List (List ℕ)) (before after : Scene T)
+pub record IsRun {T : Type 0} (s : Setting T) (words : List (List ℕ)) (before after : ProgramScene T)
     (code : ℕ) : Type 0 where
   pub status : Status
   pub number : code ≡ code_of status

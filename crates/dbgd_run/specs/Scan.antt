@@ -10,7 +10,7 @@ use Rattle.row_types.specs.Rules.{Rules}
 use Rattle.scan_queue.specs.Names.{is_in}
 use Rattle.scan_queue.specs.declared.miss.Cause.TheVariants.{Appeared}
 use Rattle.scan_queue.specs.declared.miss.Miss.{Miss}
-use Rattle.index_keeper.specs.Store.{ShownStore, with_path}
+use Rattle.index_keeper.specs.Store.{ShownStore, with_opened_path}
 use Rattle.index_keeper.specs.Tables.{KeptFacts}
 use Rattle.index_rows.specs.Log.{replay}
 use Rattle.index_rows.specs.Rows.{row_names}
@@ -24,7 +24,7 @@ use Rattle.index_state.specs.declared.open_fault.OpenFault.{OpenFault}
 use Rattle.index_state.specs.declared.open_fault.OpenFault.TheVariants as refusal
 use Rattle.tree_trait.specs.Heard.{Heard}
 use Rattle.tree_trait.specs.Shown.{HandsOn, ShownTree}
-use Rattle.tree_walk.specs.Ends.{Walks}
+use Rattle.tree_walk.specs.Ends.{WalksTree}
 use Rattle.tree_walk.specs.Files.{FitsFault}
 use Rattle.tree_walk.specs.declared.fault.WalkFault.{WalkFault}
 use Rattle.tree_walk.specs.declared.walked.Walk.{Walk}
@@ -34,10 +34,10 @@ use Rattle.pass_runner.specs.Settled.{IsBacked, IsReadOf, MayGo}
 use Rattle.pass_runner.specs.declared.pass_end.PassEnd.{PassEnd}
 use Rattle.pass_runner.specs.declared.pass_end.PassEnd.TheVariants as pass
 use Rattle.pass_runner.specs.declared.summary.Summary.{Summary}
-use Rattle.dbgd_run.specs.Kept.{GivesValues, HasRows, HoldsRows, KeepsAll, LacksFirst, MakesChanges}
+use Rattle.dbgd_run.specs.Kept.{GivesValues, HasRows, StoreHoldsRows, KeepsStore, LacksFirst, MakesChanges}
 use Rattle.dbgd_run.specs.Kept.{MayHaveRows}
-use Rattle.dbgd_run.specs.ScanSaid.{SaysEnd, is_hand_fault, is_open, is_store_fault}
-use Rattle.dbgd_run.specs.Scene.{FirstGoes, FirstRose, Scene, Setting}
+use Rattle.dbgd_run.specs.ScanSaid.{SaysEnd, is_first_hand_fault, is_open, is_store_fault}
+use Rattle.dbgd_run.specs.Scene.{FirstGoes, FirstRose, ProgramScene, Setting}
 use Rattle.dbgd_run.specs.declared.scan_end.ScanEnd.{ScanEnd}
 use Rattle.dbgd_run.specs.declared.scan_end.ScanEnd.TheVariants.{Refused, Passed}
 use Rattle.dbgd_run.specs.declared.status.Status.{Status}
@@ -48,7 +48,7 @@ pub record RefusesValues (told : Bool) (old new : ShownStore)
   pub values : List KeptFacts
   pub gave : GivesValues told old values
   pub why : Why values
-  pub keeps : KeepsAll told old new
+  pub keeps : KeepsStore told old new
 
 -- why no index was opened, and what the store has then
 abbrev pub RefusesBy : Bool → ShownStore → ShownStore → OpenFault → Type 0
@@ -59,7 +59,7 @@ RefusesBy told old new refusal.LogFull = RefusesValues told old new IsOverfull
 RefusesBy told old new refusal.OutOfMemory = LacksFirst told old new
 
 -- the scan ended before a folder was looked at
-pub record EndsEarly {T : Type 0} (s : Setting T) (before after : List T) (old new : ShownStore)
+pub record EndsScanEarly {T : Type 0} (s : Setting T) (before after : List T) (old new : ShownStore)
     (fault : OpenFault) : Type 0 where
   pub hands : after ≡ before
   pub store : RefusesBy s.tells_tables old new fault
@@ -68,7 +68,7 @@ pub record EndsEarly {T : Type 0} (s : Setting T) (before after : List T) (old n
 pub record EndsInWalk {T : Type 0} (s : Setting T) (before after : List T) (old new : ShownStore)
     (Walked : ShownTree → ShownTree → Type 0) : Type 0 where
   pub found : List RowFacts
-  pub held : HoldsRows s.tells_tables old found
+  pub held : StoreHoldsRows s.tells_tables old found
   pub hands : FirstGoes (λ hand later. Walked (s.sees hand) (s.sees later)) before after
   pub has : HasRows s.tells_tables new (current found)
   pub made : new.made ≡ made_swept found old.made
@@ -76,7 +76,7 @@ pub record EndsInWalk {T : Type 0} (s : Setting T) (before after : List T) (old 
 -- the walk ended with a fault, which files that never change explain; nothing was loaded
 pub record WalksInto (told : Bool) (roots : List (List ℕ)) (fault : WalkFault)
     (before after : ShownTree) : Type 0 where
-  pub walks : Walks told before after roots (Err fault)
+  pub walks : WalksTree told before after roots (Err fault)
   pub fits : TellsStill told before → FitsFault before.present roots fault
 
 -- another hand heard nothing but loads and looks, and no load of a path of a listed name that had a row of the edition
@@ -88,26 +88,26 @@ HelpsWith s listing rows hand later =
 pub record EndsUnbegun {T : Type 0} (s : Setting T) (roots : List (List ℕ)) (before after : List T)
     (old new : ShownStore) : Type 0 where
   pub found : List RowFacts
-  pub held : HoldsRows s.tells_tables old found
+  pub held : StoreHoldsRows s.tells_tables old found
   pub walk : Walk
   pub hands :
-      HandsGo (λ hand later. Walks s.tells_files (s.sees hand) (s.sees later) roots (Ok walk))
+      HandsGo (λ hand later. WalksTree s.tells_files (s.sees hand) (s.sees later) roots (Ok walk))
       (HelpsWith s walk.listing (current found)) before after
   pub has : HasRows s.tells_tables new (current found)
   pub made : new.made ≡ made_swept found old.made
 
 -- the other hands helped with a pass, and the first one heard a whole walk and no more. The rows that are left are true,
 -- and no row of a listed name went
-pub record EndsHelped {T : Type 0} (s : Setting T) (roots : List (List ℕ)) (before after : List T)
+pub record EndsScanHelped {T : Type 0} (s : Setting T) (roots : List (List ℕ)) (before after : List T)
     (old new : ShownStore) (Ends : List RowFacts → Type 0) : Type 0 where
   pub found : List RowFacts
-  pub held : HoldsRows s.tells_tables old found
+  pub held : StoreHoldsRows s.tells_tables old found
   pub left : List RowFacts
   pub sound : AreTrueRows s.world.true_row left
   pub made : MakesChanges s.world.true_row found old.made new.made
   pub walk : Walk
   pub hands :
-      HandsGo (λ hand later. Walks s.tells_files (s.sees hand) (s.sees later) roots (Ok walk))
+      HandsGo (λ hand later. WalksTree s.tells_files (s.sees hand) (s.sees later) roots (Ok walk))
       (HelpsWith s walk.listing (current found)) before after
   pub stays : (name : NameFacts) → is_in walk.listing name ≡ true
       → is_in (row_names (current found)) name ≡ true → is_in (row_names left) name ≡ true
@@ -125,7 +125,7 @@ pub record MakesPass {T : Type 0} (s : Setting T) (roots : List (List ℕ)) (bef
     (Ends : List NameFacts → List Heard → List RowFacts → List RowFacts → List RowFacts → Type 0)
     : Type 0 where
   pub found : List RowFacts
-  pub held : HoldsRows s.tells_tables old found
+  pub held : StoreHoldsRows s.tells_tables old found
   pub met : List RowFacts
   pub alone : length before ≤ 1 → met ≡ current found
   pub left : List RowFacts
@@ -161,7 +161,7 @@ pub record IsWholeScan (world : Rules) (told : Bool) (new : ShownStore) (summary
 
 -- a name was missed for a reason, no listed file that the first hand heard to be another stands before it by path, where it
 -- appeared its path isn't listed, and the store has the rows that are left
-pub record MissesName (told : Bool) (new : ShownStore) (Failed : Type 0) (miss : Miss)
+pub record ScanMissesName (told : Bool) (new : ShownStore) (Failed : Type 0) (miss : Miss)
     (listing : List NameFacts) (more : List Heard) (met left : List RowFacts) : Type 0 where
   pub path : IsCanonPath miss.name.path
   pub why : IsBacked listing (row_names met) more Failed miss.name miss.cause
@@ -189,7 +189,7 @@ EndsPassed s roots before after old new (pass.Whole summary) =
     IsWholeScan s.world s.tells_tables new summary listing found left)
 EndsPassed s roots before after old new (pass.Missed miss) =
     MakesPass s roots before after old new
-    (λ listing more found met left. MissesName s.tells_tables new (FirstRose s before after) miss
+    (λ listing more found met left. ScanMissesName s.tells_tables new (FirstRose s before after) miss
     listing more met left)
 EndsPassed s roots before after old new (pass.Walk fault) =
     EndsInWalk s before after old new (WalksInto s.tells_files roots fault)
@@ -197,7 +197,7 @@ EndsPassed s roots before after old new pass.Broken = ⊥
 EndsPassed s roots before after old new pass.KeeperFault =
     MakesPass s roots before after old new
     (λ listing more found met left. MayHaveRows s.world.true_row s.tells_tables new left)
-    ⊎ EndsHelped s roots before after old new (MayHaveRows s.world.true_row s.tells_tables new)
+    ⊎ EndsScanHelped s roots before after old new (MayHaveRows s.world.true_row s.tells_tables new)
 EndsPassed s roots before after old new pass.LogFull =
     MakesPass s roots before after old new
     (λ listing more found met left. IsOutOfChanges s.tells_tables new listing found left)
@@ -205,19 +205,19 @@ EndsPassed s roots before after old new pass.OutOfMemory =
     EndsUnbegun s roots before after old new
     ⊎ (MakesPass s roots before after old new
     (λ listing more found met left. HasRows s.tells_tables new left)
-    ⊎ EndsHelped s roots before after old new (HasRows s.tells_tables new))
+    ⊎ EndsScanHelped s roots before after old new (HasRows s.tells_tables new))
 
 -- how the scan came to its end, and what it left
-abbrev pub EndsBy : {T : Type 0} → Setting T → List (List ℕ) → List T → List T → ShownStore
+abbrev pub EndsScan : {T : Type 0} → Setting T → List (List ℕ) → List T → List T → ShownStore
     → ShownStore → ScanEnd → Type 0
-EndsBy s roots before after old new (Refused fault) = EndsEarly s before after old new fault
-EndsBy s roots before after old new (Passed end) = EndsPassed s roots before after old new end
+EndsScan s roots before after old new (Refused fault) = EndsScanEarly s before after old new fault
+EndsScan s roots before after old new (Passed end) = EndsPassed s roots before after old new end
 
 -- the store was opened once, by this path; where memory was refused, once or not at all
 abbrev pub OpensBy : List ℕ → ShownStore → ShownStore → ScanEnd → Type 0
 OpensBy path old new (Refused refusal.OutOfMemory) =
-    (new.paths ≡ old.paths) ⊎ (new.paths ≡ with_path path old.paths)
-OpensBy path old new _ = new.paths ≡ with_path path old.paths
+    (new.paths ≡ old.paths) ⊎ (new.paths ≡ with_opened_path path old.paths)
+OpensBy path old new _ = new.paths ≡ with_opened_path path old.paths
 
 -- where the pass was whole the hands from the third on, if there are any, heard as many loads as files were read
 abbrev pub LoadsBy : {T : Type 0} → (T → ShownTree) → List T → List T → ScanEnd → Type 0
@@ -227,12 +227,12 @@ LoadsBy sees before after (Passed end) = LoadsBeside sees before after end
 -- the scan came to this end, by then the store was opened, and a call failed only where a count rose
 pub record Scans {T : Type 0} (s : Setting T) (path : List ℕ) (roots : List (List ℕ))
     (before after : List T) (old new : ShownStore) (end : ScanEnd) : Type 0 where
-  pub ends : EndsBy s roots before after old new end
+  pub ends : EndsScan s roots before after old new end
   pub loads : LoadsBy s.sees before after end
   pub hands :
       HandsGo
       (λ hand later. HandsOn s.tells_files s.world.version (s.sees hand) (s.sees later) ⊥
-      (IsTrue (is_hand_fault end)))
+      (IsTrue (is_first_hand_fault end)))
       (λ hand later. HandsOn s.tells_files s.world.version (s.sees hand) (s.sees later) ⊥ ⊥)
       before after
   pub store : HasCause old.faults new.faults (IsTrue (is_store_fault end))
@@ -243,7 +243,7 @@ pub record Scans {T : Type 0} (s : Setting T) (path : List ℕ) (roots : List (L
 -- the scan came to an end, and it was said. The hands behind those that it is made with, two and one for each worker, are
 -- as they were
 pub record RunsScan {T : Type 0} (s : Setting T) (path : List ℕ) (workers : ℕ) (roots : List (List ℕ))
-    (before after : Scene T) (status : Status) : Type 0 where
+    (before after : ProgramScene T) (status : Status) : Type 0 where
   pub end : ScanEnd
   pub scans : Scans s path roots before.hands after.hands before.store after.store end
   pub others : drop (workers + 2) after.hands ≡ drop (workers + 2) before.hands

@@ -11,7 +11,7 @@ use Rattle.index_state.specs.declared.open_fault.OpenFault.TheVariants as refusa
 use Rattle.pass_runner.specs.Owned.{is_hand_fault as is_hand_fault_of}
 use Rattle.pass_runner.specs.declared.pass_end.PassEnd.{PassEnd}
 use Rattle.pass_runner.specs.declared.pass_end.PassEnd.TheVariants as pass
-use Rattle.dbgd_run.specs.Endings.{Ends, EndsWhole, Saying, Streams, WantsMemory, error_saying}
+use Rattle.dbgd_run.specs.Endings.{EndsSaying, EndsWhole, Saying, Streams, SaysMemory, error_saying}
 use Rattle.dbgd_run.specs.Endings.{fault_saying, gone_saying, limit_saying, no_memory_saying}
 use Rattle.dbgd_run.specs.Endings.{out_saying}
 use Rattle.dbgd_run.specs.Texts.{altered_text, appeared_text, summary_line}
@@ -28,9 +28,9 @@ is_open (Refused _) = false
 is_open (Passed end) = true
 
 -- whether a call of the first hand failed
-abbrev pub is_hand_fault : ScanEnd → Bool
-is_hand_fault (Refused fault) = false
-is_hand_fault (Passed end) = is_hand_fault_of end
+abbrev pub is_first_hand_fault : ScanEnd → Bool
+is_first_hand_fault (Refused fault) = false
+is_first_hand_fault (Passed end) = is_hand_fault_of end
 
 -- whether a call of the store failed
 abbrev pub is_store_fault : ScanEnd → Bool
@@ -81,12 +81,12 @@ scan_saying (Passed end) = pass_saying end
 -- it was said; or, where its line is made, want of memory
 abbrev pub SaysMiss : NameFacts → Cause → Streams → Streams → Status → Type 0
 SaysMiss name ReadFault old new end = EndsWhole (miss_saying name ReadFault) old new end
-SaysMiss name cause old new end = EndsWhole (miss_saying name cause) old new end ⊎ WantsMemory old new end
+SaysMiss name cause old new end = EndsWhole (miss_saying name cause) old new end ⊎ SaysMemory old new end
 
 -- the end of a pass was said; or, where its line is made, want of memory
 abbrev pub SaysPass : PassEnd → Streams → Streams → Status → Type 0
 SaysPass (pass.Whole summary) old new end =
-    Ends (pass_saying (pass.Whole summary)) old new end ⊎ WantsMemory old new end
+    EndsSaying (pass_saying (pass.Whole summary)) old new end ⊎ SaysMemory old new end
 SaysPass (pass.Missed miss) old new end = SaysMiss miss.name miss.cause old new end
 SaysPass how old new end = EndsWhole (pass_saying how) old new end
 

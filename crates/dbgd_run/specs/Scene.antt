@@ -22,13 +22,13 @@ setting world tells_files sees tells_tables =
     record { world = world; tells_files = tells_files; sees = sees; tells_tables = tells_tables }
 
 -- all that the program is handed, at a moment: the hands in order, the store and the two sinks
-pub record Scene (T : Type 0) : Type 0 where
+pub record ProgramScene (T : Type 0) : Type 0 where
   pub hands : List T
   pub store : ShownStore
   pub streams : Streams
 
 -- the scene of these
-abbrev pub scene : {T : Type 0} → List T → ShownStore → Streams → Scene T
+abbrev pub scene : {T : Type 0} → List T → ShownStore → Streams → ProgramScene T
 scene hands store streams = record { hands = hands; store = store; streams = streams }
 
 -- the first hand went so, and the others are as they were

@@ -5,7 +5,7 @@ use Rattle.file_formats.specs.Table.{IsSectionAnswer}
 use Rattle.file_formats.specs.declared.fault.Why.{Why}
 use Rattle.file_formats.specs.declared.fault.Why.TheVariants.{TooLarge}
 use Rattle.tree_trait.specs.Load.{LoadFacts, loaded, too_large, gone, failed, no_memory}
-use Rattle.dbgd_run.specs.Endings.{Ends, EndsWhole, Saying, Streams, WantsMemory, error_saying}
+use Rattle.dbgd_run.specs.Endings.{EndsSaying, EndsWhole, Saying, Streams, SaysMemory, error_saying}
 use Rattle.dbgd_run.specs.Endings.{fault_saying, gone_saying, out_saying}
 use Rattle.dbgd_run.specs.Texts.{why_word}
 use Rattle.dbgd_run.specs.declared.status.Status.{Status}
@@ -17,7 +17,7 @@ plain_fault_saying why = error_saying (codes "dbgd: plain " ++ why_word why) sta
 
 -- of a file with an identity: exactly the section's bytes, or that no section has the name
 abbrev pub SaysBytes : Option (List ℕ) → Streams → Streams → Status → Type 0
-SaysBytes (Some bytes) old new end = Ends (out_saying bytes status.Done) old new end
+SaysBytes (Some bytes) old new end = EndsSaying (out_saying bytes status.Done) old new end
 SaysBytes None old new end =
     EndsWhole (error_saying (codes "dbgd: no section") status.Absent) old new end
 
@@ -36,4 +36,4 @@ SaysSection path name (too_large stamp) old new end =
     EndsWhole (plain_fault_saying TooLarge) old new end
 SaysSection path name gone old new end = EndsWhole (gone_saying path) old new end
 SaysSection path name failed old new end = EndsWhole (fault_saying (codes "file")) old new end
-SaysSection path name no_memory old new end = WantsMemory old new end
+SaysSection path name no_memory old new end = SaysMemory old new end

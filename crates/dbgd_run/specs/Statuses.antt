@@ -17,5 +17,5 @@ code_of BadRow = 7
 code_of NotBuilt = 8
 
 -- no two statuses have one number
-abbrev pub AreApart : Type 0
-AreApart = (status other : Status) → code_of status ≡ code_of other → status ≡ other
+abbrev pub AreNumbersApart : Type 0
+AreNumbersApart = (status other : Status) → code_of status ≡ code_of other → status ≡ other

@@ -14,8 +14,8 @@ use Rattle.scan_queue.specs.declared.miss.Seen.TheVariants.{Gone, File, Other}
 use Rattle.pass_runner.specs.declared.summary.Summary.{Summary}
 
 -- a text with its line feed
-abbrev pub line : List ℕ → List ℕ
-line text = text ++ 10 ∷ []
+abbrev pub fed_line : List ℕ → List ℕ
+fed_line text = text ++ 10 ∷ []
 
 -- the word for what a file holds: code, debug information, both or none of them
 abbrev pub class_word : Bool → Bool → List ℕ
@@ -26,7 +26,7 @@ class_word false false = codes "none"
 
 -- the line of a file's identity
 abbrev pub identity_line : Identity → List ℕ
-identity_line i = line (encode_lower i.id ++ codes " " ++ class_word i.exec i.debug)
+identity_line i = fed_line (encode_lower i.id ++ codes " " ++ class_word i.exec i.debug)
 
 -- the word for a reason
 abbrev pub why_word : Why → List ℕ
@@ -39,7 +39,7 @@ why_word TooLarge = codes "too-large"
 
 -- the line of a file without an identity
 abbrev pub plain_line : Why → List ℕ
-plain_line why = line (codes "plain " ++ why_word why)
+plain_line why = fed_line (codes "plain " ++ why_word why)
 
 -- how the words of each command read
 abbrev pub usage_text : List ℕ
@@ -77,7 +77,7 @@ appeared_text name =
 -- the line of a scan
 abbrev pub summary_line : Summary → List ℕ
 summary_line s =
-    line (codes "scan: " ++ decimal s.files ++ codes " files, " ++ decimal s.added ++ codes " added, "
+    fed_line (codes "scan: " ++ decimal s.files ++ codes " files, " ++ decimal s.added ++ codes " added, "
     ++ decimal s.replaced ++ codes " replaced, " ++ decimal s.dropped ++ codes " dropped, "
     ++ decimal s.kept ++ codes " kept, " ++ decimal s.executables ++ codes " executables, "
     ++ decimal s.debuginfo ++ codes " debuginfo")

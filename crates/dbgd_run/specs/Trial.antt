@@ -13,12 +13,12 @@ use Rattle.row_codec.specs.RowBytes.{row_bytes}
 use Rattle.index_rows.specs.Rows.{row_names}
 use Rattle.index_state.specs.Invariant.{AreTrueRows}
 use Rattle.tree_walk.specs.Files.{AreFilesUnder}
-use Rattle.elf_forge.specs.Place.{names_of}
+use Rattle.elf_forge.specs.Place.{forged_names}
 use Rattle.pass_runner.specs.Numbers.{is_of}
 use Rattle.pass_runner.specs.declared.summary.Summary.{Summary}
-use Rattle.dbgd_run.specs.Endings.{Ends, Streams, WantsMemory, out_saying}
-use Rattle.dbgd_run.specs.Scene.{Scene}
-use Rattle.dbgd_run.specs.Texts.{line}
+use Rattle.dbgd_run.specs.Endings.{EndsSaying, Streams, SaysMemory, out_saying}
+use Rattle.dbgd_run.specs.Scene.{ProgramScene}
+use Rattle.dbgd_run.specs.Texts.{fed_line}
 use Rattle.dbgd_run.specs.declared.status.Status.{Status}
 use Rattle.dbgd_run.specs.declared.status.Status.TheVariants.{Done}
 use Rattle.dbgd_run.specs.declared.trial_sum.Totals.{Totals}
@@ -37,12 +37,12 @@ abbrev pub sources_in : List RowFacts → ℕ
 sources_in rows = sum_by (λ row. sources_of row.reading) rows
 
 -- the bytes of the rows, joined in order
-abbrev pub joined : List RowFacts → List ℕ
-joined rows = flat_map row_bytes rows
+abbrev pub joined_rows : List RowFacts → List ℕ
+joined_rows rows = flat_map row_bytes rows
 
 -- the sum of the rows
 abbrev pub rows_sum : List RowFacts → List ℕ
-rows_sum rows = sha256 (joined rows)
+rows_sum rows = sha256 (joined_rows rows)
 
 -- the totals of the rows
 abbrev pub totals_of : List RowFacts → Totals
@@ -51,19 +51,19 @@ totals_of rows = record { sources = sources_in rows; sum = rows_sum rows }
 -- the line of these numbers
 abbrev pub totals_line : ℕ → ℕ → ℕ → Totals → List ℕ
 totals_line files executables debuginfo totals =
-    line (codes "trial: " ++ decimal files ++ codes " files, " ++ decimal executables
+    fed_line (codes "trial: " ++ decimal files ++ codes " files, " ++ decimal executables
     ++ codes " executables, " ++ decimal debuginfo ++ codes " debuginfo, " ++ decimal totals.sources
     ++ codes " sources, index " ++ encode_lower totals.sum)
 
 -- the line of a trial of so many files that left these rows
-abbrev pub trial_line : ℕ → List RowFacts → List ℕ
-trial_line files rows =
+abbrev pub trial_end_line : ℕ → List RowFacts → List ℕ
+trial_end_line files rows =
     totals_line files (count_by (λ row. is_of Executable row.reading) rows)
     (count_by (λ row. is_of Debuginfo row.reading) rows) (totals_of rows)
 
 -- the rows are those of one scan of the generated files: one for each file, by path, of the edition
 pub record AreForgedRows (seed files : ℕ) (rows : List RowFacts) : Type 0 where
-  pub names : AreFilesUnder (names_of seed files) (forged_root ∷ []) (row_names rows)
+  pub names : AreFilesUnder (forged_names seed files) (forged_root ∷ []) (row_names rows)
   pub sound : AreTrueRows (λ row. row.edition ≡ EDITION) rows
 
 -- a whole pass left these rows, and these are its numbers of them
@@ -76,21 +76,21 @@ pub record HasScanned (seed files : ℕ) (rows : List RowFacts) (summary : Summa
 pub record IsLineOf (seed files : ℕ) (text : List ℕ) : Type 0 where
   pub rows : List RowFacts
   pub rows_are : AreForgedRows seed files rows
-  pub says : text ≡ trial_line files rows
+  pub says : text ≡ trial_end_line files rows
 
 -- the line of rows of the generated files was said, or memory was refused
 pub record SaysLine (seed files : ℕ) (old new : Streams) (status : Status) : Type 0 where
   pub rows : List RowFacts
   pub rows_are : AreForgedRows seed files rows
-  pub says : Ends (out_saying (trial_line files rows) Done) old new status
+  pub says : EndsSaying (out_saying (trial_end_line files rows) Done) old new status
 
 -- what a trial says: the line, or that memory was refused
 abbrev pub SaysTrial : ℕ → ℕ → Streams → Streams → Status → Type 0
 SaysTrial seed files old new status =
-    SaysLine seed files old new status ⊎ WantsMemory old new status
+    SaysLine seed files old new status ⊎ SaysMemory old new status
 
 -- a trial: what it says. It has hands and a store of its own, and those that were handed in weren't looked at
-pub record RunsTrial {T : Type 0} (seed files : ℕ) (before after : Scene T) (status : Status) : Type 0 where
+pub record RunsTrial {T : Type 0} (seed files : ℕ) (before after : ProgramScene T) (status : Status) : Type 0 where
   pub says : SaysTrial seed files before.streams after.streams status
   pub hands : after.hands ≡ before.hands
   pub store : after.store ≡ before.store

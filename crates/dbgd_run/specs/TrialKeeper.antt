@@ -1,7 +1,7 @@
 -- The store of a trial (this project's rule): one in memory that never fails.
 use Rattle.std.specs.Prelude.{◌≡◌, false, [], None}
 use Rattle.index_keeper.specs.Keeper.{ShownKeeper}
-use Rattle.index_keeper.specs.MemKeeper.{KeeperFacts, shown_of}
+use Rattle.index_keeper.specs.MemKeeper.{MemKeeperFacts, shown_of}
 use Rattle.index_keeper.specs.Plan.{PlanFacts}
 
 -- no call fails, now or later
@@ -11,11 +11,11 @@ pub record NeverFails (plan : PlanFacts) : Type 0 where
   pub stopped : plan.stopped ≡ false
 
 -- what the keeper shows: all of it; no call ever fails
-abbrev pub shown_sure : KeeperFacts → ShownKeeper
+abbrev pub shown_sure : MemKeeperFacts → ShownKeeper
 shown_sure keeper = record (shown_of keeper) { faults = 0 }
 
 -- it keeps nothing, and has made no change
-pub record IsNewKeeper (keeper : KeeperFacts) : Type 0 where
+pub record IsNewKeeper (keeper : MemKeeperFacts) : Type 0 where
   pub tables : keeper.shelf.tables ≡ []
   pub made : keeper.shelf.made ≡ []
   pub sound : keeper.doubt ≡ None

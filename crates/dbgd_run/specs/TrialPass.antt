@@ -1,6 +1,6 @@
 -- The index of a trial as it is opened, and how its pass ends (this crate's bookkeeping, which no public clause cites).
 use Rattle.std.specs.Prelude.{◌≡◌, []}
-use Rattle.index_keeper.specs.MemKeeper.{KeeperFacts}
+use Rattle.index_keeper.specs.MemKeeper.{MemKeeperFacts}
 use Rattle.index_state.specs.Opening.{opened_on}
 use Rattle.index_state.specs.State.{StateFacts}
 use Rattle.tree_walk.specs.declared.fault.WalkFault.TheVariants as stop
@@ -9,7 +9,7 @@ use Rattle.pass_runner.specs.declared.pass_end.PassEnd.TheVariants.{Whole, Walk 
 use Rattle.dbgd_run.specs.TrialKeeper.{shown_sure}
 
 -- an index without rows and changes, on a store that has made none
-pub record IsNewIndex (state : StateFacts KeeperFacts) : Type 0 where
+pub record IsNewIndex (state : StateFacts MemKeeperFacts) : Type 0 where
   pub value : state ≡ opened_on shown_sure [] state.keeper
   pub made : state.keeper.shelf.made ≡ []
 

@@ -4,7 +4,7 @@ ghost use Rattle.std.specs.Prelude.{◌⊎◌, Result};
 ghost use Rattle.file_formats.specs.Identity.{Identity, IsIdentity};
 ghost use Rattle.file_formats.specs.declared.fault.Why.{Why};
 ghost use Rattle.tree_trait.specs.Load.{load_facts};
-ghost use Rattle.dbgd_run.specs.Endings.{Ends, WantsMemory, streams};
+ghost use Rattle.dbgd_run.specs.Endings.{EndsSaying, SaysMemory, streams};
 ghost use Rattle.dbgd_run.specs.File.{RunsOn};
 ghost use Rattle.dbgd_run.specs.Ident.{SaysFile, SaysIdent, identity_saying, plain_saying};
 
@@ -19,7 +19,7 @@ use tree_trait::{LoadAnswer, Tree};
 
 /// Says why a file has no identity.
 fn say_plain<O: Sink>(why: Why, out: &mut O, err: &mut O) -> Status
-    ensures { Ends (plain_saying why)
+    ensures { EndsSaying (plain_saying why)
         (streams O.shows out.old err.old) (streams O.shows out.new err.new) result }
 {
     say(plain_line(why).as_bytes(), Status::Absent, out, err)
@@ -27,9 +27,9 @@ fn say_plain<O: Sink>(why: Why, out: &mut O, err: &mut O) -> Status
 
 /// Says what the identity of a file is.
 fn say_identity<O: Sink>(alloc: Global, ident: &Ident, out: &mut O, err: &mut O) -> Status
-    ensures { Ends (identity_saying ident.now)
+    ensures { EndsSaying (identity_saying ident.now)
         (streams O.shows out.old err.old) (streams O.shows out.new err.new) result
-        ⊎ WantsMemory
+        ⊎ SaysMemory
         (streams O.shows out.old err.old) (streams O.shows out.new err.new) result }
 {
     match identity_line(alloc, ident) {

@@ -2,11 +2,11 @@
 
 ghost use Rattle.std.specs.Prelude.{◌≡◌, ◌++◌, false, filter, IfOk, IsTrue, OnOk};
 ghost use Rattle.row_types.specs.Faults.{HasCause};
-ghost use Rattle.index_keeper.specs.Store.{HasAll, ShownStore, TakesBack};
+ghost use Rattle.index_keeper.specs.Store.{HasAll, ShownStore, TakesKeeperBack};
 ghost use Rattle.index_rows.specs.Classes.{has_id};
 ghost use Rattle.index_state.specs.Opening.{CanOpen};
 ghost use Rattle.dbgd_run.specs.Endings.{streams};
-ghost use Rattle.dbgd_run.specs.Query.{Answers, LooksBy, Queries, ReadsLines, SaysFound};
+ghost use Rattle.dbgd_run.specs.Query.{AnswersQuery, LooksBy, Queries, ReadsLines, SaysFound};
 ghost use Rattle.dbgd_run.specs.Query.{SaysLines, is_look_fault, reading_word, row_line, row_lines};
 
 use crate::query_end::QueryEnd;
@@ -72,7 +72,7 @@ fn look_index<W: Truth, K: Keeper<W>>(alloc: Global, state: &State<W, K>, id: &B
 fn look_keeper<W: Truth, K: Keeper<W>>(alloc: Global, keeper: K, id: &BuildId) -> (QueryEnd, K)
     requires { CanOpen K.told (K.shows keeper) }
     ensures ends { (from mid into : ShownStore) → HasAll K.told from (K.shows keeper)
-        → TakesBack K.told (K.shows result.1) mid into
+        → TakesKeeperBack K.told (K.shows result.1) mid into
         → LooksBy K.told id.now from into result.0 }
     ensures keeper { HasCause (K.shows keeper).faults (K.shows result.1).faults
         (IsTrue (is_look_fault result.0)) }
@@ -133,7 +133,7 @@ pub fn run_query<W: Truth, S: Store<W>, O: Sink>(
     out: &mut O,
     err: &mut O,
 ) -> Status
-    ensures { Answers S.K.told path.now id.now (S.shows store.old) (S.shows store.new)
+    ensures { AnswersQuery S.K.told path.now id.now (S.shows store.old) (S.shows store.new)
         (streams O.shows out.old err.old) (streams O.shows out.new err.new) result }
 {
     let end = look(alloc, path, id, store);

@@ -3,15 +3,15 @@
 ghost use Rattle.std.specs.Prelude.{◌≡◌, ◌+◌, ◌<◌, drop, false, vec_len, IsTrue};
 ghost use Rattle.row_types.specs.Canon.{IsCanonPath};
 ghost use Rattle.row_types.specs.Rules.{rules};
-ghost use Rattle.index_keeper.specs.Store.{HasAll, ShownStore, TakesBack};
+ghost use Rattle.index_keeper.specs.Store.{HasAll, ShownStore, TakesKeeperBack};
 ghost use Rattle.index_state.specs.Opening.{CanOpen};
 ghost use Rattle.tree_trait.specs.Shown.{HandsOn};
 ghost use Rattle.pass_runner.specs.Owned.{HandsGo, is_hand_fault as is_hand_fault_of};
 ghost use Rattle.dbgd_words.specs.Limits.{IsScanFit};
 ghost use Rattle.dbgd_run.specs.Endings.{streams};
-ghost use Rattle.dbgd_run.specs.Passing.{HasPath, ScansIndex};
-ghost use Rattle.dbgd_run.specs.Scan.{EndsBy, LoadsBy, RunsScan, Scans};
-ghost use Rattle.dbgd_run.specs.ScanSaid.{is_hand_fault, is_store_fault};
+ghost use Rattle.dbgd_run.specs.Passing.{HasMissedPath, ScansIndex};
+ghost use Rattle.dbgd_run.specs.Scan.{EndsScan, LoadsBy, RunsScan, Scans};
+ghost use Rattle.dbgd_run.specs.ScanSaid.{is_first_hand_fault, is_store_fault};
 ghost use Rattle.dbgd_run.specs.Scene.{scene, setting};
 
 use crate::handed::Outside;
@@ -40,7 +40,7 @@ fn show_path(path: &CanonPath)
 
 /// Shows the same of the path of a name that was missed.
 pub fn show_end(end: &PassEnd)
-    ensures { HasPath end.now }
+    ensures { HasMissedPath end.now }
 {
     if let PassEnd::Missed(miss) = end {
         show_path(&miss.name.path);
@@ -99,12 +99,12 @@ fn scan_keeper<
     requires hand { 0 < vec_len hands.old }
     requires opens { CanOpen K.told (K.shows keeper) }
     ensures ends { (from mid into : ShownStore) → HasAll K.told from (K.shows keeper)
-        → TakesBack K.told (K.shows result.1) mid into
-        → EndsBy (setting (rules W.version W.true_row W.told) T.told T.shows K.told) roots.now
+        → TakesKeeperBack K.told (K.shows result.1) mid into
+        → EndsScan (setting (rules W.version W.true_row W.told) T.told T.shows K.told) roots.now
         hands.old.items hands.new.items from into result.0 }
     ensures hands { HandsGo
         (λ hand later. HandsOn T.told W.version (T.shows hand) (T.shows later) ⊥
-        (IsTrue (is_hand_fault result.0)))
+        (IsTrue (is_first_hand_fault result.0)))
         (λ hand later. HandsOn T.told W.version (T.shows hand) (T.shows later) ⊥ ⊥)
         hands.old.items hands.new.items }
     ensures loads { LoadsBy T.shows hands.old.items hands.new.items result.0 }

@@ -5,7 +5,7 @@ ghost use Rattle.file_formats.specs.Identity.{Identity, IsIdentity};
 ghost use Rattle.file_formats.specs.declared.fault.Why.{Why};
 ghost use Rattle.row_types.specs.Sources.{AreSourcesOf};
 ghost use Rattle.tree_trait.specs.Load.{load_facts};
-ghost use Rattle.dbgd_run.specs.Endings.{WantsMemory, streams};
+ghost use Rattle.dbgd_run.specs.Endings.{SaysMemory, streams};
 ghost use Rattle.dbgd_run.specs.File.{RunsOn};
 ghost use Rattle.dbgd_run.specs.Sources.{SaysListed, SaysPaths, SaysSources, path_lines};
 
@@ -43,7 +43,7 @@ fn source_lines(alloc: Global, bytes: &[u8]) -> Result<Vec<u8>, AllocError>
 fn say_paths<O: Sink>(alloc: Global, bytes: &[u8], out: &mut O, err: &mut O) -> Status
     ensures { SaysPaths bytes.now
         (streams O.shows out.old err.old) (streams O.shows out.new err.new) result
-        ⊎ WantsMemory
+        ⊎ SaysMemory
         (streams O.shows out.old err.old) (streams O.shows out.new err.new) result }
 {
     match source_lines(alloc, bytes) {

@@ -2,11 +2,11 @@
 
 ghost use Rattle.std.specs.Prelude.{◌++◌, MatchResult};
 ghost use Rattle.http_wire.specs.Sink.{GetsAll, GetsPart};
-ghost use Rattle.dbgd_run.specs.Endings.{Ends, EndsWhole, Gets, WantsMemory};
+ghost use Rattle.dbgd_run.specs.Endings.{EndsSaying, EndsWhole, Gets, SaysMemory};
 ghost use Rattle.dbgd_run.specs.Endings.{error_saying, fault_saying, gone_saying, limit_saying};
 ghost use Rattle.dbgd_run.specs.Endings.{not_built_saying, out_saying, streams};
 ghost use Rattle.dbgd_run.specs.Section.{plain_fault_saying};
-ghost use Rattle.dbgd_run.specs.Texts.{line};
+ghost use Rattle.dbgd_run.specs.Texts.{fed_line};
 
 use crate::status::Status;
 use crate::texts::why_word;
@@ -28,8 +28,8 @@ fn write_both<S: Sink>(sink: &mut S, first: &[u8], second: &[u8]) -> Result<(), 
 #[tactic(auto, using(http_wire::proofs::Pieces::in_a_row))]
 fn write_line<S: Sink>(sink: &mut S, text: &str, object: &str) -> Result<(), WriteFault>
     ensures { MatchResult result
-        (λ _. GetsAll (line (text.now ++ object.now)) (S.shows sink.old) (S.shows sink.new))
-        (λ _. GetsPart (line (text.now ++ object.now)) (S.shows sink.old) (S.shows sink.new)) }
+        (λ _. GetsAll (fed_line (text.now ++ object.now)) (S.shows sink.old) (S.shows sink.new))
+        (λ _. GetsPart (fed_line (text.now ++ object.now)) (S.shows sink.old) (S.shows sink.new)) }
 {
     write_both(sink, text.as_bytes(), object.as_bytes())?;
     write_all(sink, b"\n")
@@ -37,7 +37,7 @@ fn write_line<S: Sink>(sink: &mut S, text: &str, object: &str) -> Result<(), Wri
 
 /// Says a line of two pieces. A write that fails changes nothing else.
 fn tell<S: Sink>(sink: &mut S, text: &str, object: &str)
-    ensures { Gets (line (text.now ++ object.now)) (S.shows sink.old) (S.shows sink.new) }
+    ensures { Gets (fed_line (text.now ++ object.now)) (S.shows sink.old) (S.shows sink.new) }
 {
     let _ = write_line(sink, text, object);
 }
@@ -45,7 +45,7 @@ fn tell<S: Sink>(sink: &mut S, text: &str, object: &str)
 /// Says bytes on the standard output; where it fails, that is said on the standard error.
 #[tactic(auto, using(http_wire::proofs::Pieces::in_a_row))]
 pub fn say<O: Sink>(bytes: &[u8], status: Status, out: &mut O, err: &mut O) -> Status
-    ensures { Ends (out_saying bytes.now status)
+    ensures { EndsSaying (out_saying bytes.now status)
         (streams O.shows out.old err.old) (streams O.shows out.new err.new) result }
 {
     match write_all(out, bytes) {
@@ -99,7 +99,7 @@ pub fn say_gone<O: Sink>(path: &str, out: &mut O, err: &mut O) -> Status
 
 /// Says that memory was refused.
 pub fn say_no_memory<O: Sink>(out: &mut O, err: &mut O) -> Status
-    ensures { WantsMemory
+    ensures { SaysMemory
         (streams O.shows out.old err.old) (streams O.shows out.new err.new) result }
 {
     say_error("dbgd: out of memory", "", Status::OutOfMemory, out, err)

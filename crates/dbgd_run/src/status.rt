@@ -1,7 +1,7 @@
 //! How the program ends.
 
 ghost use Rattle.std.specs.Prelude.{◌≡◌};
-ghost use Rattle.dbgd_run.specs.Statuses.{AreApart, code_of};
+ghost use Rattle.dbgd_run.specs.Statuses.{AreNumbersApart, code_of};
 
 /// How a command ends.
 #[derive(Clone, Copy, PartialEq, Eq)]
@@ -31,7 +31,7 @@ impl Status {
     #[tactic(auto, using(crate::proofs::Codes::are_apart))]
     pub fn code(self) -> u8
         ensures code { result ≡ code_of self }
-        ensures apart { AreApart }
+        ensures apart { AreNumbersApart }
     {
         match self {
             Status::Done => 0,

@@ -2,7 +2,7 @@
 
 ghost use Rattle.std.specs.Prelude.{◌≡◌, ◌≤◌, replicate, vec_len, IfOk};
 ghost use Rattle.std.specs.String.{string_bytes};
-ghost use Rattle.elf_forge.specs.Tree.{fresh_tree};
+ghost use Rattle.elf_forge.specs.Tree.{fresh_forge};
 ghost use Rattle.elf_forge.specs.declared.digits.TheConstants.{FILES_LIMIT};
 ghost use Rattle.dbgd_run.specs.Endings.{streams};
 ghost use Rattle.pass_runner.specs.declared.pass_end.PassEnd.TheVariants.{Whole};
@@ -46,7 +46,7 @@ fn root(alloc: Global) -> Result<CanonPath, AllocError>
 /// So many hands, each with all the generated files.
 fn hands_of(alloc: Global, seed: u64, files: u64, count: u64) -> Result<Vec<ForgeTree>, AllocError>
     requires { files ≤ FILES_LIMIT }
-    ensures { IfOk result (λ hands. hands.items ≡ replicate count (fresh_tree seed files)) }
+    ensures { IfOk result (λ hands. hands.items ≡ replicate count (fresh_forge seed files)) }
 {
     let mut hands = Vec::new(alloc);
     for _ in 0..count {

@@ -3,8 +3,8 @@
 ghost use Rattle.std.specs.Prelude.{◌≡◌, true, IfOk};
 ghost use Rattle.row_types.specs.declared.limits.TheConstants.{EDITION};
 ghost use Rattle.index_keeper.specs.Answers.{for_change};
-ghost use Rattle.index_keeper.specs.Keeper.{Asks};
-ghost use Rattle.index_keeper.specs.Tables.{put_of};
+ghost use Rattle.index_keeper.specs.Keeper.{AsksKeeper};
+ghost use Rattle.index_keeper.specs.Tables.{put_bytes};
 ghost use Rattle.index_keeper.specs.TrueRows.{SpellsTrueRow};
 ghost use Rattle.dbgd_run.specs.TrialKeeper.{IsNewKeeper, shown_sure};
 
@@ -20,10 +20,10 @@ pub struct TrialKeeper {
 }
 
 impl Model for TrialKeeper {
-    ghost use Rattle.index_keeper.specs.MemKeeper.{KeeperFacts};
+    ghost use Rattle.index_keeper.specs.MemKeeper.{MemKeeperFacts};
     ghost use Rattle.dbgd_run.specs.TrialKeeper.{NeverFails};
 
-    ghost Value = { KeeperFacts };
+    ghost Value = { MemKeeperFacts };
 
     ghost view = { λ k. k.inner };
 
@@ -58,8 +58,8 @@ impl Keeper<OpenWorld> for TrialKeeper {
 
     fn put(&mut self, alloc: Global, path: &str, bytes: &[u8]) -> KeepAnswer
         requires { SpellsTrueRow (λ row. row.edition ≡ EDITION) path.now bytes.now }
-        ensures { Asks true (shown_sure self.old) (shown_sure self.new)
-            (for_change (put_of path.now bytes.now) result) }
+        ensures { AsksKeeper true (shown_sure self.old) (shown_sure self.new)
+            (for_change (put_bytes path.now bytes.now) result) }
     {
         self.inner.put(alloc, path, bytes)
     }

@@ -10,11 +10,11 @@ use Rattle.clap.specs.Kinds.{Kinds}
 use Rattle.clap.specs.Walk.{Row, all_of, first_of}
 use Rattle.row_types.specs.Canon.{canon}
 use Rattle.dbgd_words.specs.Limits.{FitsLimits, IsScanFit}
-use Rattle.dbgd_words.specs.Numbers.{is_number, is_within, number_in}
+use Rattle.dbgd_words.specs.Numbers.{is_number, is_between, spelled_number}
 use Rattle.dbgd_words.specs.Options.{query_faults, query_rows, scan_faults, scan_rows}
-use Rattle.dbgd_words.specs.Words.{Line, asks_help, asks_query, asks_scan, asks_trial, id_of, ident_line, is_help, is_root, line_of}
+use Rattle.dbgd_words.specs.Words.{Line, asks_help, asks_query, asks_scan, asks_trial, spelled_id, ident_line, is_help, is_root, line_of}
 use Rattle.dbgd_words.specs.Words.{query_said, scan_said, section_line, sources_line}
-use Rattle.dbgd_words.specs.Words.{program_line, program_words, trial_line, unbuilt, unbuilt_commands, unreadable}
+use Rattle.dbgd_words.specs.Words.{program_line, program_words, trial_words, unbuilt, unbuilt_commands, unreadable}
 use Rattle.dbgd_words.specs.declared.scan.TheConstants.{MOST_WORKERS}
 use Rattle.dbgd_words.specs.declared.trial.TheConstants.{MOST_FILES}
 
@@ -22,13 +22,13 @@ some_is : {a b : ℕ} → Some a ≡ Some b → a ≡ b
 some_is e = cc
 
 -- a number that is read is one of those that may stand there
-number_fits : (least most : ℕ) (text : List ℕ) (n : ℕ) → number_in least most text ≡ Some n → (least ≤ n) × (n ≤ most)
-number_fits least most text n e = go (is_number text && is_within least most (digits_value 10 text)) refl e
+number_fits : (least most : ℕ) (text : List ℕ) (n : ℕ) → spelled_number least most text ≡ Some n → (least ≤ n) × (n ≤ most)
+number_fits least most text n e = go (is_number text && is_between least most (digits_value 10 text)) refl e
   where
-    go : (b : Bool) → (is_number text && is_within least most (digits_value 10 text)) ≡ b
+    go : (b : Bool) → (is_number text && is_between least most (digits_value 10 text)) ≡ b
         → cond b (Some (digits_value 10 text)) None ≡ Some n → (least ≤ n) × (n ≤ most)
     go true is found =
-        let within = (and_parts (is_number text) (is_within least most (digits_value 10 text)) is).1 in
+        let within = (and_parts (is_number text) (is_between least most (digits_value 10 text)) is).1 in
         let ends = and_parts (nat_le least (digits_value 10 text)) (nat_le (digits_value 10 text) most) within in
         subst (λ m. (least ≤ m) × (m ≤ most)) (some_is found)
         (leb-true least (digits_value 10 text) ends.0, leb-true (digits_value 10 text) most ends.1)
@@ -42,11 +42,11 @@ by_option : {X : Type 0} (f : X → Line) (o : Option X) → ((x : X) → o ≡ 
 by_option f None each = tt
 by_option f (Some x) each = each x refl
 
-trial_fits : (words : List (List ℕ)) → FitsLimits (trial_line words)
+trial_fits : (words : List (List ℕ)) → FitsLimits (trial_words words)
 trial_fits (seed ∷ files ∷ workers ∷ []) =
-    by_option _ (number_in 0 (2 ^ 64 - 1) seed) (λ s _.
-    by_option _ (number_in 1 MOST_FILES files) (λ f is.
-    by_option (asks_trial s f) (number_in 1 MOST_WORKERS workers) (λ w at.
+    by_option _ (spelled_number 0 (2 ^ 64 - 1) seed) (λ s _.
+    by_option _ (spelled_number 1 MOST_FILES files) (λ f is.
+    by_option (asks_trial s f) (spelled_number 1 MOST_WORKERS workers) (λ w at.
     let a = number_fits 1 MOST_FILES files f is in
     let b = number_fits 1 MOST_WORKERS workers w at in
     record { some = a.0; few = a.1; one = b.0; most = b.1 })))
@@ -78,11 +78,11 @@ program_fits (a ∷ more) = tt
 query_fits : (kinds : Kinds) (rows : List Row) → FitsLimits (query_said kinds rows)
 query_fits [] rows =
     by_option _ (first_of (codes "database") rows) (λ store _.
-    by_option (asks_query store) (option_and_then id_of (first_of (codes "ID") rows)) (λ id _. tt))
+    by_option (asks_query store) (option_and_then spelled_id (first_of (codes "ID") rows)) (λ id _. tt))
 query_fits (kind ∷ more) rows = by_test (is_help kind) asks_help unreadable tt tt
 
 -- a number of workers that is read is one that a scan may have
-workers_fit : (text : Option (List ℕ)) (workers : ℕ) → option_and_then (number_in 1 MOST_WORKERS) text ≡ Some workers
+workers_fit : (text : Option (List ℕ)) (workers : ℕ) → option_and_then (spelled_number 1 MOST_WORKERS) text ≡ Some workers
     → IsScanFit workers
 workers_fit None workers at = absurd (cc)
 workers_fit (Some text) workers at =
@@ -92,7 +92,7 @@ workers_fit (Some text) workers at =
 scan_fits : (kinds : Kinds) (rows : List Row) → FitsLimits (scan_said kinds rows)
 scan_fits [] rows =
     by_option _ (first_of (codes "database") rows) (λ store _.
-    by_option _ (option_and_then (number_in 1 MOST_WORKERS) (first_of (codes "concurrency") rows)) (λ workers at.
+    by_option _ (option_and_then (spelled_number 1 MOST_WORKERS) (first_of (codes "concurrency") rows)) (λ workers at.
     by_option _ (all_of (codes "DIR") rows) (λ folders _.
     let fit = workers_fit (first_of (codes "concurrency") rows) workers at in
     by_test (list_all is_root folders) (asks_scan store workers (map canon folders)) unreadable fit tt)))

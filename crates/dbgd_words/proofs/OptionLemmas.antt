@@ -9,9 +9,9 @@ use Rattle.clap.specs.Kinds.{Kinds}
 use Rattle.clap.specs.Walk.{Row, all_of, first_of}
 use Rattle.clap.specs.declared.error.kind.ErrorKind.{ErrorKind}
 use Rattle.row_types.specs.Canon.{canon}
-use Rattle.dbgd_words.specs.Numbers.{number_in}
+use Rattle.dbgd_words.specs.Numbers.{spelled_number}
 use Rattle.dbgd_words.specs.Options.{query_faults, query_rows, scan_faults, scan_rows}
-use Rattle.dbgd_words.specs.Words.{Line, asks_help, asks_query, asks_scan, has_options, id_of, is_help, is_root, line_of}
+use Rattle.dbgd_words.specs.Words.{Line, asks_help, asks_query, asks_scan, has_options, spelled_id, is_help, is_root, line_of}
 use Rattle.dbgd_words.specs.Words.{query_said, refused_line, scan_said, unreadable}
 use Rattle.dbgd_words.specs.declared.scan.TheConstants.{MOST_WORKERS}
 
@@ -36,13 +36,13 @@ refused_asks kind = by_test (is_help kind) asks_help unreadable tt tt
 
 query_asks : (kinds : Kinds) (rows : List Row) → AsksByOptions (query_said kinds rows)
 query_asks [] rows =
-    by_option _ (first_of (codes "database") rows) (λ store. by_option (asks_query store) (option_and_then id_of (first_of (codes "ID") rows)) (λ id. tt))
+    by_option _ (first_of (codes "database") rows) (λ store. by_option (asks_query store) (option_and_then spelled_id (first_of (codes "ID") rows)) (λ id. tt))
 query_asks (kind ∷ more) rows = refused_asks kind
 
 scan_asks : (kinds : Kinds) (rows : List Row) → AsksByOptions (scan_said kinds rows)
 scan_asks [] rows =
     by_option _ (first_of (codes "database") rows) (λ store.
-    by_option _ (option_and_then (number_in 1 MOST_WORKERS) (first_of (codes "concurrency") rows)) (λ workers.
+    by_option _ (option_and_then (spelled_number 1 MOST_WORKERS) (first_of (codes "concurrency") rows)) (λ workers.
     by_option _ (all_of (codes "DIR") rows) (λ folders.
     by_test (list_all is_root folders) (asks_scan store workers (map canon folders)) unreadable tt tt)))
 scan_asks (kind ∷ more) rows = refused_asks kind

@@ -19,7 +19,7 @@ use Rattle.hex.proofs.HexLemmas.{decode_of-ok}
 use Rattle.row_types.specs.Canon.{canon}
 use Rattle.row_types.specs.BuildId.{IsIdLength, IsIdText}
 use Rattle.row_types.specs.declared.build_id.TheConstants.{SHORTEST_ID, LONGEST_ID}
-use Rattle.dbgd_words.specs.Numbers.{is_number, is_within, number_in}
+use Rattle.dbgd_words.specs.Numbers.{is_number, is_between, spelled_number}
 use Rattle.dbgd_words.specs.Words.{Line, asks_scan, is_root, of_id_length, scan_asked, unreadable}
 use Rattle.dbgd_words.specs.declared.number.TheConstants.{MOST_DIGITS}
 use Rattle.dbgd_words.specs.declared.scan.TheConstants.{MOST_WORKERS}
@@ -40,10 +40,10 @@ and_false false b e = refl
 
 -- a number that no `u64` has is above any that one has
 pub too_large : {E : Type 0} (least most : ℕ) (text : List ℕ) (why : E) → most < 2 ^ 64 → is_number text ≡ true
-    → ParsesUnsigned 64 10 text (Err why) → None ≡ number_in least most text
-too_large {E} least most text why fits number parses = go (is_within least most (digits_value 10 text)) refl
+    → ParsesUnsigned 64 10 text (Err why) → None ≡ spelled_number least most text
+too_large {E} least most text why fits number parses = go (is_between least most (digits_value 10 text)) refl
   where
-    go : (within : Bool) → is_within least most (digits_value 10 text) ≡ within → None ≡ number_in least most text
+    go : (within : Bool) → is_between least most (digits_value 10 text) ≡ within → None ≡ spelled_number least most text
     go true e =
         let some = and_parts (nat_le 1 (length text)) (nat_le (length text) MOST_DIGITS && list_all is_ascii_digit text) number in
         let digits = (and_parts (nat_le (length text) MOST_DIGITS) (list_all is_ascii_digit text) some.1).1 in
@@ -52,15 +52,15 @@ too_large {E} least most text why fits number parses = go (is_within least most 
         = leb-true (digits_value 10 text) most (and_parts (nat_le least (digits_value 10 text)) (nat_le (digits_value 10 text) most) e).1 in
         absurd (parse_digits own 64 text (Err why) parses digits (omega (arith, low), omega (arith, high, fits)))
     go false e =
-        sym (ap (λ b. cond b (Some (digits_value 10 text)) None) (and_false (is_number text) (is_within least most (digits_value 10 text)) e))
+        sym (ap (λ b. cond b (Some (digits_value 10 text)) None) (and_false (is_number text) (is_between least most (digits_value 10 text)) e))
 
 -- a text that is no id's spells none
 pub no_id : (text : List ℕ) → (IsIdText text → ⊥) → (answer : Result (List ℕ) FromHexError) → decode_of text ≡ answer
     → None ≡ of_id_length answer
 no_id text never (Err why) is = refl
-no_id text never (Ok bytes) is = go (is_within SHORTEST_ID LONGEST_ID (length bytes)) refl
+no_id text never (Ok bytes) is = go (is_between SHORTEST_ID LONGEST_ID (length bytes)) refl
   where
-    go : (within : Bool) → is_within SHORTEST_ID LONGEST_ID (length bytes) ≡ within → None ≡ of_id_length (Ok bytes)
+    go : (within : Bool) → is_between SHORTEST_ID LONGEST_ID (length bytes) ≡ within → None ≡ of_id_length (Ok bytes)
     go true e =
         let ok = decode_of-ok text bytes is in
         let long : length text ≡ 2 * length bytes = ok.2 in
@@ -84,7 +84,7 @@ each_path [] = refl
 each_path (folder ∷ folders) = ap (λ rest. canon folder.now ∷ rest) (each_path folders)
 
 module _ {store number : Option (List ℕ)} {folders : Option (List (List ℕ))} {file digits : List ℕ} {workers : ℕ} (roots : List (Bor (List ℕ)))
-    (has_store : store ≡ Some file) (has_number : number ≡ Some digits) (has_workers : number_in 1 MOST_WORKERS digits ≡ Some workers)
+    (has_store : store ≡ Some file) (has_number : number ≡ Some digits) (has_workers : spelled_number 1 MOST_WORKERS digits ≡ Some workers)
     (has_folders : folders ≡ Some (map (λ root. root.now) roots)) where
   abbrev Texts : List (List ℕ)
   Texts = map (λ root. root.now) roots

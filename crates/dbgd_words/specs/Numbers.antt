@@ -10,11 +10,11 @@ abbrev pub is_number : List ℕ → Bool
 is_number text = nat_le 1 (length text) && (nat_le (length text) MOST_DIGITS && list_all is_ascii_digit text)
 
 -- whether a number is one of these, the ends among them
-abbrev pub is_within : ℕ → ℕ → ℕ → Bool
-is_within least most number = nat_le least number && nat_le number most
+abbrev pub is_between : ℕ → ℕ → ℕ → Bool
+is_between least most number = nat_le least number && nat_le number most
 
 -- the number that a text spells, where it is one of these
-abbrev pub number_in : ℕ → ℕ → List ℕ → Option ℕ
-number_in least most text =
-    if is_number text && is_within least most (digits_value 10 text)
+abbrev pub spelled_number : ℕ → ℕ → List ℕ → Option ℕ
+spelled_number least most text =
+    if is_number text && is_between least most (digits_value 10 text)
     then Some (digits_value 10 text) else None

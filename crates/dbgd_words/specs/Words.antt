@@ -14,7 +14,7 @@ use Rattle.row_types.specs.Absolute.{is_absolute}
 use Rattle.row_types.specs.Canon.{canon}
 use Rattle.row_types.specs.declared.build_id.TheConstants.{SHORTEST_ID, LONGEST_ID}
 use Rattle.row_types.specs.declared.limits.TheConstants.{PATH_LIMIT}
-use Rattle.dbgd_words.specs.Numbers.{is_within, number_in}
+use Rattle.dbgd_words.specs.Numbers.{is_between, spelled_number}
 use Rattle.dbgd_words.specs.Options.{query_faults, query_rows, scan_faults, scan_rows}
 use Rattle.dbgd_words.specs.declared.scan.TheConstants.{MOST_WORKERS}
 use Rattle.dbgd_words.specs.declared.trial.TheConstants.{MOST_FILES}
@@ -54,12 +54,12 @@ is_root word = is_absolute word && nat_le (length word) PATH_LIMIT
 
 -- the bytes, where they are as many as an id has
 abbrev pub of_id_length : Result (List ℕ) FromHexError → Option (List ℕ)
-of_id_length (Ok bytes) = if is_within SHORTEST_ID LONGEST_ID (length bytes) then Some bytes else None
+of_id_length (Ok bytes) = if is_between SHORTEST_ID LONGEST_ID (length bytes) then Some bytes else None
 of_id_length (Err why) = None
 
 -- the id that a text spells: two hexadecimal digits, of either case, for each of its bytes
-abbrev pub id_of : List ℕ → Option (List ℕ)
-id_of text = of_id_length (decode_of text)
+abbrev pub spelled_id : List ℕ → Option (List ℕ)
+spelled_id text = of_id_length (decode_of text)
 
 -- whether it is with its help or its version that a command answers
 abbrev pub is_help : ErrorKind → Bool
@@ -74,7 +74,7 @@ refused_line kind = if is_help kind then asks_help else unreadable
 -- a store and the text of an id
 abbrev pub query_asked : Option (List ℕ) → Option (List ℕ) → Line
 query_asked store id =
-    option_map_or (λ store. option_map_or (asks_query store) (option_and_then id_of id) unreadable) store unreadable
+    option_map_or (λ store. option_map_or (asks_query store) (option_and_then spelled_id id) unreadable) store unreadable
 
 -- a store, the text of a number of workers, 1 to 64, and folders
 abbrev pub scan_asked : Option (List ℕ) → Option (List ℕ) → Option (List (List ℕ)) → Line
@@ -82,7 +82,7 @@ scan_asked store number folders = option_map_or (λ store.
     option_map_or (λ workers.
     option_map_or (λ folders.
     if list_all is_root folders then asks_scan store workers (map canon folders) else unreadable)
-    folders unreadable) (option_and_then (number_in 1 MOST_WORKERS) number) unreadable) store unreadable
+    folders unreadable) (option_and_then (spelled_number 1 MOST_WORKERS) number) unreadable) store unreadable
 
 -- a line of `query`, by why it is refused and by the texts of its arguments
 abbrev pub query_said : Kinds → List Row → Line
@@ -107,13 +107,13 @@ scan_line words = scan_said (scan_faults words) (scan_rows words)
 -- a seed below 2^64, a number of files, 1 to 100,000, and one of workers, 1 to 64
 abbrev pub trial_asked : List ℕ → List ℕ → List ℕ → Line
 trial_asked seed files workers = option_map_or (λ seed.
-    option_map_or (λ files. option_map_or (asks_trial seed files) (number_in 1 MOST_WORKERS workers) unreadable)
-    (number_in 1 MOST_FILES files) unreadable) (number_in 0 (2 ^ 64 - 1) seed) unreadable
+    option_map_or (λ files. option_map_or (asks_trial seed files) (spelled_number 1 MOST_WORKERS workers) unreadable)
+    (spelled_number 1 MOST_FILES files) unreadable) (spelled_number 0 (2 ^ 64 - 1) seed) unreadable
 
 -- the words of `trial`: three numbers
-abbrev pub trial_line : List (List ℕ) → Line
-trial_line (seed ∷ files ∷ workers ∷ []) = trial_asked seed files workers
-trial_line _ = unreadable
+abbrev pub trial_words : List (List ℕ) → Line
+trial_words (seed ∷ files ∷ workers ∷ []) = trial_asked seed files workers
+trial_words _ = unreadable
 
 -- the words that ask for the help or the version of the program
 abbrev pub program_words : List (List ℕ)
@@ -137,7 +137,7 @@ line_of (command ∷ rest) =
     else (if bytes_eq command (codes "section") then section_line rest
     else (if bytes_eq command (codes "query") then query_line (command ∷ rest)
     else (if bytes_eq command (codes "scan") then scan_line (command ∷ rest)
-    else (if bytes_eq command (codes "trial") then trial_line rest
+    else (if bytes_eq command (codes "trial") then trial_words rest
     else (if list_any (bytes_eq command) program_words then program_line rest
     else (if list_any (bytes_eq command) unbuilt_commands then unbuilt else unreadable)))))))
 

@@ -3,14 +3,14 @@
 ghost use Rattle.std.specs.Prelude.{◌≡◌, ◌&&◌};
 ghost use Rattle.std.specs.Char.{is_ascii_digit};
 ghost use Rattle.std.specs.List.{list_all};
-ghost use Rattle.dbgd_words.specs.Numbers.{is_number, number_in};
+ghost use Rattle.dbgd_words.specs.Numbers.{is_number, spelled_number};
 
 /// The most digits that a number may have.
 pub const MOST_DIGITS: usize = 20;
 
 /// The number that a text of 1 to 20 digits spells, where it is one of these.
 pub fn number_in(text: &str, least: u64, most: u64) -> Option<u64>
-    ensures { result ≡ number_in least most text.now }
+    ensures { result ≡ spelled_number least most text.now }
 {
     if !is_number(text) {
         return None;

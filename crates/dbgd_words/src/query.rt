@@ -8,7 +8,7 @@ ghost use Rattle.clap.specs.Simple.{app_of};
 ghost use Rattle.clap.specs.Walk.{first_of, rows_of};
 ghost use Rattle.dbgd_words.specs.Lines.{asked_by};
 ghost use Rattle.dbgd_words.specs.Options.{query_app, query_faults, query_rows};
-ghost use Rattle.dbgd_words.specs.Words.{id_of, query_asked, query_line};
+ghost use Rattle.dbgd_words.specs.Words.{spelled_id, query_asked, query_line};
 
 use crate::arguments::{command, database, id, text_of};
 use crate::line::Line;
@@ -73,7 +73,7 @@ fn query_of<'a>(matches: &ArgMatches<'a>) -> Line<'a>
 
 /// The id that a text spells.
 fn id_of(text: &str) -> Option<BuildId>
-    ensures { result ≡ id_of text.now }
+    ensures { result ≡ spelled_id text.now }
 {
     let id = BuildId::parse(text.as_bytes())?;
     let _bytes = id.bytes();

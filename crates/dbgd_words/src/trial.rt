@@ -3,7 +3,7 @@
 ghost use Rattle.std.specs.Prelude.{◌≡◌, map};
 ghost use Rattle.std.specs.String.{string_bytes};
 ghost use Rattle.dbgd_words.specs.Lines.{asked_by};
-ghost use Rattle.dbgd_words.specs.Words.{trial_asked, trial_line};
+ghost use Rattle.dbgd_words.specs.Words.{trial_asked, trial_words};
 
 use crate::line::Line;
 use crate::number::number_in;
@@ -34,7 +34,7 @@ fn trial_of<'a>(seed: &str, files: &str, workers: &str) -> Line<'a>
 
 /// Reads the words of `trial`.
 pub fn trial(words: &[String]) -> Line<'_>
-    ensures { asked_by result ≡ trial_line (map string_bytes words.now) }
+    ensures { asked_by result ≡ trial_words (map string_bytes words.now) }
 {
     match words {
         [seed, files, workers] => trial_of(seed.as_str(), files.as_str(), workers.as_str()),

@@ -6,7 +6,7 @@ use Rattle.file_formats.specs.DwarfForms.{Raw, numbered, inline, passed_by}
 use Rattle.dwarf_forms.specs.declared.fault.FormFault.{FormFault}
 use Rattle.dwarf_forms.specs.Faults.{fault_facts}
 use Rattle.dwarf_forms.specs.declared.numbers.Format.{Format}
-use Rattle.dwarf_forms.specs.TextBytes.{text_bytes}
+use Rattle.dwarf_forms.specs.TextBytes.{bytes_of_text}
 use Rattle.dwarf_forms.specs.declared.raw.RawValue.{RawValue}
 use Rattle.dwarf_forms.specs.declared.raw.RawValue.TheVariants.{Numbered, Inline, PassedBy}
 
@@ -25,14 +25,14 @@ pub record Failed {A : Type 0} (expected : Read A) (old new : View) (fault : For
   pub moved : new ≡ record old { place = new.place }
 
 -- a read answers what is expected
-abbrev pub Answers : {A R : Type 0} → (R → A) → Read A → View → View → Result R FormFault → Type 0
-Answers facts expected old new result =
+abbrev pub AnswersAs : {A R : Type 0} → (R → A) → Read A → View → View → Result R FormFault → Type 0
+AnswersAs facts expected old new result =
     MatchResult result (λ r. Got expected old new (facts r)) (λ e. Failed expected old new e)
 
 -- a read in a format answers what stands at the cursor's place
 abbrev pub ReadsAs : {A R : Type 0} → (R → A) → (Input → ℕ → Read A) → Format → View → View
     → Result R FormFault → Type 0
-ReadsAs facts expected f old new result = Answers facts (expected (input_of old f) old.place) old new result
+ReadsAs facts expected f old new result = AnswersAs facts (expected (input_of old f) old.place) old new result
 
 -- the answer is what a relation has at the place, and the cursor is where what follows begins
 pub record StandsBy {A : Type 0} (Here : Read A → Type 0) (old new : View) (answer : A) : Type 0 where
@@ -65,5 +65,5 @@ nothing bytes = passed_by
 -- a value as it stands
 abbrev pub raw_facts : RawValue → Raw
 raw_facts (Numbered sense n) = numbered sense n
-raw_facts (Inline text) = inline (text_bytes text)
+raw_facts (Inline text) = inline (bytes_of_text text)
 raw_facts PassedBy = passed_by

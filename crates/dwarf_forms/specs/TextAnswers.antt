@@ -10,8 +10,8 @@ use Rattle.dwarf_forms.specs.declared.value.Value.{Value}
 use Rattle.dwarf_forms.specs.declared.value.Value.TheVariants.{Number, Text, Other}
 
 -- what the texts are taken from
-abbrev pub texts_of : Strings → Texts
-texts_of s = record {
+abbrev pub strings_texts : Strings → Texts
+strings_texts s = record {
   str = s.str.now;
   line_str = s.line_str.now;
   offsets = s.offsets.now;

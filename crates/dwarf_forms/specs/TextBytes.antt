@@ -14,12 +14,12 @@ abbrev pub before_zero : List ℕ → List ℕ
 before_zero bytes = take_while (λ x. not (x == 0)) bytes
 
 -- a text's bytes
-abbrev pub text_bytes : Text → List ℕ
-text_bytes text = before_zero text.from.now
+abbrev pub bytes_of_text : Text → List ℕ
+bytes_of_text text = before_zero text.from.now
 
 -- the bytes of a text that may not be there
 abbrev pub text_said : Option Text → Option (List ℕ)
-text_said text = option_map text_bytes text
+text_said text = option_map bytes_of_text text
 
 -- a text, where it has so many bytes at most
 abbrev pub where_within : ℕ → List ℕ → Option (List ℕ)

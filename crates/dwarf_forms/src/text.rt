@@ -5,7 +5,7 @@ ghost use Rattle.std.specs.Option.{option_copied};
 ghost use Rattle.file_formats.specs.DwarfReads.{string_at};
 ghost use Rattle.file_formats.specs.Sections as sections;
 ghost use Rattle.dwarf_forms.specs.FormAnswers.{ReadsAs};
-ghost use Rattle.dwarf_forms.specs.TextBytes.{IsTextsPart, has_zero, text_bytes, text_said, where_within};
+ghost use Rattle.dwarf_forms.specs.TextBytes.{IsTextsPart, has_zero, bytes_of_text, text_said, where_within};
 
 use crate::fault::FormFault;
 use crate::numbers::Format;
@@ -23,7 +23,7 @@ impl<'a> Text<'a> {
     /// Gives the text, None where it has more than `limit` bytes. One byte more is read at most.
     #[tactic(auto, using(crate::proofs::TextLemmas::is_near, crate::proofs::TextLemmas::not_near))]
     pub fn within(&self, limit: usize) -> Option<&'a [u8]>
-        ensures { option_copied result ≡ where_within limit (text_bytes self.now) }
+        ensures { option_copied result ≡ where_within limit (bytes_of_text self.now) }
     {
         let near = first_bytes(self.from, limit);
         match text_at(near, 0) {
@@ -85,7 +85,7 @@ pub fn texts_in(bytes: &[u8]) -> &[u8]
 /// Reads a text, and passes the 0 that ends it.
 #[inline(always)]
 pub(crate) fn read_text<'a>(cursor: &mut Cursor<'a>, format: Format) -> Result<Text<'a>, FormFault>
-    ensures { ReadsAs text_bytes string_at format cursor.old cursor.new result }
+    ensures { ReadsAs bytes_of_text string_at format cursor.old cursor.new result }
 {
     let from = cursor.rest();
     cursor.cstr()?;

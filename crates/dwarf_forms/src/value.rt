@@ -4,7 +4,7 @@ ghost use Rattle.std.specs.Prelude.{◌≤◌, length};
 ghost use Rattle.file_formats.specs.DwarfCodes.{FormCodes};
 ghost use Rattle.dwarf_forms.specs.Chains.{AreChains};
 ghost use Rattle.dwarf_forms.specs.FormAnswers.{ReadsWhere};
-ghost use Rattle.dwarf_forms.specs.TextAnswers.{value_facts, IsValue, texts_of, format_with};
+ghost use Rattle.dwarf_forms.specs.TextAnswers.{value_facts, IsValue, strings_texts, format_with};
 
 use crate::fault::FormFault;
 use crate::numbers::Format;
@@ -34,7 +34,7 @@ pub fn read_form<'a>(
     address_size: u8,
     strings: &Strings<'a>,
 ) -> Result<Value<'a>, FormFault>
-    ensures value { ReadsWhere value_facts (λ s. IsValue (texts_of strings.now) s constant form)
+    ensures value { ReadsWhere value_facts (λ s. IsValue (strings_texts strings.now) s constant form)
         (format_with strings.now address_size) cursor.old cursor.new result }
     ensures within { cursor.new.place ≤ length cursor.old.bytes }
     ensures chains { AreChains }

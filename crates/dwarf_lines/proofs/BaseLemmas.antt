@@ -16,7 +16,7 @@ use Rattle.file_formats.specs.DwarfTexts.{Texts, value_of}
 use Rattle.file_formats.specs.DwarfUnits.{where_named}
 use Rattle.dwarf_forms.specs.Indexes.{is_index, is_index_layout, has_index, is_index_form}
 use Rattle.dwarf_lines.specs.Bases.{based, has_indexes, IsSameForBases}
-use Rattle.dwarf_lines.specs.Lists.{at_map, row_at, EntryFields, one_field, with_first, fields_at, entry_with, entry_at, formats_at, entries_at, list_at, table_of, lists_at}
+use Rattle.dwarf_lines.specs.Lists.{at_map, row_of_values, EntryFields, one_field, with_first_fields, fields_at, line_entry, entry_at, formats_at, entries_at, list_or_none, line_table, lists_at}
 
 -- an index is what a read gives
 abbrev gives_index : Read Raw → Bool
@@ -88,12 +88,12 @@ path_index (Some fields) = value_index fields.value.path
 
 more-index : (content_type : ℕ) (x : Option (At Raw)) (rest : ℕ → Option (At EntryFields)) → stands_index x ≡ false
     → ((q : ℕ) → path_index (rest q) ≡ false)
-    → path_index (option_and_then (λ raw. option_map (at_map (with_first (one_field content_type raw.value))) (rest raw.next)) x) ≡ false
+    → path_index (option_and_then (λ raw. option_map (at_map (with_first_fields (one_field content_type raw.value))) (rest raw.next)) x) ≡ false
 more-index content_type None rest h k = refl
 more-index content_type (Some raw) rest h k = behind (rest raw.next) (k raw.next)
   where
     behind : (o : Option (At EntryFields)) → path_index o ≡ false
-        → path_index (option_map (at_map (with_first (one_field content_type raw.value))) o) ≡ false
+        → path_index (option_map (at_map (with_first_fields (one_field content_type raw.value))) o) ≡ false
     behind None e = refl
     behind (Some v) e = or-index (where_named DW_LNCT_PATH content_type raw.value) v.value.path (where-index DW_LNCT_PATH content_type raw.value h) e
 
@@ -142,7 +142,7 @@ module _ (t : Texts) (base : Option ℕ) where
 
   -- the entry of fields, with the place behind it
   abbrev entry_by : Texts → At EntryFields → Option (At LineEntry)
-  entry_by x values = option_map (λ (entry : LineEntry). record { value = entry; next = values.next }) (entry_with x values.value)
+  entry_by x values = option_map (λ (entry : LineEntry). record { value = entry; next = values.next }) (line_entry x values.value)
 
   -- what is made of fields without an index
   said-same : (o : Option (At EntryFields)) → path_index o ≡ false → option_and_then (entry_by (based t base)) o ≡ option_and_then (entry_by t) o
@@ -163,40 +163,40 @@ row-behind f g same None = refl
 row-behind {A} f g same (Some x) = ap (option_map (at_map (λ (xs : List A). x.value ∷ xs))) (same x.next)
 
 -- rows of what is the same at each place are the same
-row-same : {A : Type 0} (at other : ℕ → Option (At A)) → ((p : ℕ) → at p ≡ other p) → (n p : ℕ) → row_at at n p ≡ row_at other n p
-unfolding row_at
+row-same : {A : Type 0} (at other : ℕ → Option (At A)) → ((p : ℕ) → at p ≡ other p) → (n p : ℕ) → row_of_values at n p ≡ row_of_values other n p
+unfolding row_of_values
 row-same at other same zero p = refl
 row-same {A} at other same (suc n) p =
-    ap (option_and_then (λ (x : At A). option_map (at_map (λ (xs : List A). x.value ∷ xs)) (row_at at n x.next))) (same p)
-    ∙ row-behind (row_at at n) (row_at other n) (λ q. row-same at other same n q) (other p)
+    ap (option_and_then (λ (x : At A). option_map (at_map (λ (xs : List A). x.value ∷ xs)) (row_of_values at n x.next))) (same p)
+    ∙ row-behind (row_of_values at n) (row_of_values other n) (λ q. row-same at other same n q) (other p)
 
 module _ (s : Input) where
   counted-same : (fields : List FieldFormat) (t : Texts) (base : Option ℕ) → has_indexes fields ≡ false → (count : Option (At ℕ))
-      → option_and_then (λ (n : At ℕ). row_at (entry_at s (based t base) fields) n.value n.next) count
-      ≡ option_and_then (λ (n : At ℕ). row_at (entry_at s t fields) n.value n.next) count
+      → option_and_then (λ (n : At ℕ). row_of_values (entry_at s (based t base) fields) n.value n.next) count
+      ≡ option_and_then (λ (n : At ℕ). row_of_values (entry_at s t fields) n.value n.next) count
   counted-same fields t base e None = refl
   counted-same fields t base e (Some n) =
       row-same (entry_at s (based t base) fields) (entry_at s t fields) (λ p. entry_at-same t base s fields p e) n.value n.next
 
   -- a list whose forms are read, and name no texts by indexes
   pub list-same : (p : ℕ) {fields : At (List FieldFormat)} (t : Texts) → formats_at s p ≡ Some fields → has_indexes fields.value ≡ false
-      → IsSameForBases (λ x. list_at s x p) t
-  unfolding list_at entries_at
+      → IsSameForBases (λ x. list_or_none s x p) t
+  unfolding list_or_none entries_at
   list-same p {fields} t e none = λ base. rw e (counted-same fields.value t base none (result_ok (unsigned_at s fields.next)))
 
   -- a list whose forms can't be read
-  pub list-unread : (p : ℕ) (t : Texts) → formats_at s p ≡ None → IsSameForBases (λ x. list_at s x p) t
-  unfolding list_at
+  pub list-unread : (p : ℕ) (t : Texts) → formats_at s p ≡ None → IsSameForBases (λ x. list_or_none s x p) t
+  unfolding list_or_none
   list-unread p t e = λ base. rw e
 
   -- both lists, where neither names texts by indexes
-  pub lists-same : (p : ℕ) {directories : At (List LineEntry)} (t : Texts) → list_at s t p ≡ Some directories
-      → IsSameForBases (λ x. list_at s x p) t → IsSameForBases (λ x. list_at s x directories.next) t → IsSameForBases (λ x. lists_at s x p) t
+  pub lists-same : (p : ℕ) {directories : At (List LineEntry)} (t : Texts) → list_or_none s t p ≡ Some directories
+      → IsSameForBases (λ x. list_or_none s x p) t → IsSameForBases (λ x. list_or_none s x directories.next) t → IsSameForBases (λ x. lists_at s x p) t
   unfolding lists_at
   lists-same p {directories} t e first second = λ base.
-      rw (first base, e) (ap (option_map (at_map (table_of directories.value))) (second base))
+      rw (first base, e) (ap (option_map (at_map (line_table directories.value))) (second base))
 
   -- both lists, where the first one can't be read
-  pub lists-unread : (p : ℕ) (t : Texts) → list_at s t p ≡ None → IsSameForBases (λ x. list_at s x p) t → IsSameForBases (λ x. lists_at s x p) t
+  pub lists-unread : (p : ℕ) (t : Texts) → list_or_none s t p ≡ None → IsSameForBases (λ x. list_or_none s x p) t → IsSameForBases (λ x. lists_at s x p) t
   unfolding lists_at
   lists-unread p t e first = λ base. rw (first base, e)

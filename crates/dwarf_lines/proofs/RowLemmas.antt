@@ -8,8 +8,8 @@ use Rattle.file_formats.specs.DwarfLines.{field_at}
 use Rattle.dwarf_forms.proofs.ChoiceLemmas.{or_assoc, or-none}
 use Rattle.dwarf_forms.specs.declared.numbers.Format.{Format}
 use Rattle.dwarf_forms.specs.FormAnswers.{input_of}
-use Rattle.dwarf_lines.specs.Finds.{Found}
-use Rattle.dwarf_lines.specs.Lists.{EntryFields, at_map, row_at, no_fields, one_field, with_first, fields_at}
+use Rattle.dwarf_lines.specs.Finds.{IsFoundPart}
+use Rattle.dwarf_lines.specs.Lists.{EntryFields, at_map, row_of_values, no_fields, one_field, with_first_fields, fields_at}
 
 -- only the place has changed
 pub record HasMoved (old now : View) : Type 0 where
@@ -42,73 +42,73 @@ in_front-more done x (Some y) =
     ap (λ xs. Some (record { value = xs; next = y.next })) (sym (append_assoc done (x ∷ []) y.value))
 
 module _ {A : Type 0} (at : ℕ → Option (At A)) where
-  pub row-zero : (p : ℕ) → row_at at 0 p ≡ Some (record { value = []; next = p })
-  unfolding row_at
+  pub row-zero : (p : ℕ) → row_of_values at 0 p ≡ Some (record { value = []; next = p })
+  unfolding row_of_values
   row-zero p = refl
 
-  pub row-more : (n p : ℕ) {x : At A} → at p ≡ Some x → row_at at (suc n) p ≡ option_map (at_map (λ xs. x.value ∷ xs)) (row_at at n x.next)
-  unfolding row_at
+  pub row-more : (n p : ℕ) {x : At A} → at p ≡ Some x → row_of_values at (suc n) p ≡ option_map (at_map (λ xs. x.value ∷ xs)) (row_of_values at n x.next)
+  unfolding row_of_values
   row-more n p e = rw e
 
-  pub row-none : (n p : ℕ) → at p ≡ None → row_at at (suc n) p ≡ None
-  unfolding row_at
+  pub row-none : (n p : ℕ) → at p ≡ None → row_of_values at (suc n) p ≡ None
+  unfolding row_of_values
   row-none n p e = rw e
 
 -- a loop that reads n values has moved the cursor only, and has read those in front of what is left
 pub record IsInRow {A : Type 0} (at : Input → ℕ → Option (At A)) (f : Format) (n left : ℕ) (old now : View) (done : List A) : Type 0 where
   pub moves : HasMoved old now
-  pub same : row_at (at (input_of old f)) n old.place ≡ in_front done (row_at (at (input_of old f)) left now.place)
+  pub same : row_of_values (at (input_of old f)) n old.place ≡ in_front done (row_of_values (at (input_of old f)) left now.place)
 
 pub in_row-start : {A : Type 0} (at : Input → ℕ → Option (At A)) (f : Format) (n : ℕ) (v : View) {left : ℕ} {done : List A} → left ≡ n → done ≡ []
     → IsInRow at f n left v v done
 in_row-start at f n v {left} {done} is none = record {
   moves = record { moved = refl };
-  same = sym (ap₂ (λ m xs. in_front xs (row_at (at (input_of v f)) m v.place)) is none ∙ in_front-nil (row_at (at (input_of v f)) n v.place));
+  same = sym (ap₂ (λ m xs. in_front xs (row_of_values (at (input_of v f)) m v.place)) is none ∙ in_front-nil (row_of_values (at (input_of v f)) n v.place));
 }
 
 module _ {A : Type 0} {at : Input → ℕ → Option (At A)} {f : Format} {n left : ℕ} {old now : View} {done : List A}
     (w : IsInRow at f n left old now done) where
-  pub in_row-next : {rest : ℕ} → left ≡ suc rest → {new : View} {x : A} → Found (at (input_of now f) now.place) now new x
+  pub in_row-next : {rest : ℕ} → left ≡ suc rest → {new : View} {x : A} → IsFoundPart (at (input_of now f) now.place) now new x
       → {more : List A} → more ≡ done ++ x ∷ [] → IsInRow at f n rest old new more
   in_row-next {rest} is {new} {x} got {more} pushed =
       let s = input_of old f in
       record {
         moves = moved_on w.moves got.moved;
-        same = w.same ∙ ap (λ k. in_front done (row_at (at s) k now.place)) is
+        same = w.same ∙ ap (λ k. in_front done (row_of_values (at s) k now.place)) is
             ∙ ap (in_front done) (row-more (at s) rest now.place (read_on w.moves f at got.value))
-            ∙ in_front-more done x (row_at (at s) rest new.place)
-            ∙ ap (λ xs. in_front xs (row_at (at s) rest new.place)) (sym pushed);
+            ∙ in_front-more done x (row_of_values (at s) rest new.place)
+            ∙ ap (λ xs. in_front xs (row_of_values (at s) rest new.place)) (sym pushed);
       }
 
-  pub in_row-none : {rest : ℕ} → left ≡ suc rest → at (input_of now f) now.place ≡ None → row_at (at (input_of old f)) n old.place ≡ None
+  pub in_row-none : {rest : ℕ} → left ≡ suc rest → at (input_of now f) now.place ≡ None → row_of_values (at (input_of old f)) n old.place ≡ None
   in_row-none {rest} is none =
-      w.same ∙ ap (λ k. in_front done (row_at (at (input_of old f)) k now.place)) is
+      w.same ∙ ap (λ k. in_front done (row_of_values (at (input_of old f)) k now.place)) is
       ∙ ap (in_front done) (row-none (at (input_of old f)) rest now.place (read_on w.moves f at none))
 
-  pub in_row-end : left ≡ 0 → Found (row_at (at (input_of old f)) n old.place) old now done
+  pub in_row-end : left ≡ 0 → IsFoundPart (row_of_values (at (input_of old f)) n old.place) old now done
   in_row-end is = record {
-    value = w.same ∙ ap (λ k. in_front done (row_at (at (input_of old f)) k now.place)) is
+    value = w.same ∙ ap (λ k. in_front done (row_of_values (at (input_of old f)) k now.place)) is
         ∙ ap (in_front done) (row-zero (at (input_of old f)) now.place)
         ∙ ap (λ xs. Some (record { value = xs; next = now.place })) (append-nil done);
     moved = w.moves.moved;
   }
 
-with_first_assoc : (e f g : EntryFields) → with_first (with_first e f) g ≡ with_first e (with_first f g)
+with_first_assoc : (e f g : EntryFields) → with_first_fields (with_first_fields e f) g ≡ with_first_fields e (with_first_fields f g)
 with_first_assoc e f g = simp or_assoc
 
-with_first-none : (e : EntryFields) → with_first e no_fields ≡ e
+with_first-none : (e : EntryFields) → with_first_fields e no_fields ≡ e
 with_first-none e = simp or-none
 
 -- fields in front of what is read
 abbrev pub noted_first : EntryFields → Option (At EntryFields) → Option (At EntryFields)
-noted_first noted = option_map (at_map (with_first noted))
+noted_first noted = option_map (at_map (with_first_fields noted))
 
 noted-none : (o : Option (At EntryFields)) → noted_first no_fields o ≡ o
 noted-none None = refl
 noted-none (Some x) = refl
 
 noted-more : (noted one : EntryFields) (o : Option (At EntryFields))
-    → noted_first noted (noted_first one o) ≡ noted_first (with_first noted one) o
+    → noted_first noted (noted_first one o) ≡ noted_first (with_first_fields noted one) o
 noted-more noted one None = refl
 noted-more noted one (Some x) =
     ap (λ fields. Some (record { value = fields; next = x.next })) (sym (with_first_assoc noted one x.value))
@@ -141,7 +141,7 @@ in_entry-start f fields v e = record {
 
 module _ {f : Format} {fields left : List FieldFormat} {old now : View} {noted : EntryFields} (w : IsInEntry f fields left old now noted) where
   pub in_entry-next : {field : FieldFormat} {rest : List FieldFormat} → left ≡ field ∷ rest → {new : View} {raw : Raw} {next : EntryFields}
-      → Found (field_at (input_of now f) field now.place) now new raw → next ≡ with_first noted (one_field field.content_type raw)
+      → IsFoundPart (field_at (input_of now f) field now.place) now new raw → next ≡ with_first_fields noted (one_field field.content_type raw)
       → IsInEntry f fields rest old new next
   in_entry-next {field} {rest} is {new} {raw} {next} got notes =
       let s = input_of old f in
@@ -160,7 +160,7 @@ module _ {f : Format} {fields left : List FieldFormat} {old now : View} {noted :
       w.same ∙ ap (λ fs. noted_first noted (fields_at (input_of old f) fs now.place)) is
       ∙ ap (noted_first noted) (fields-none (input_of old f) field rest now.place (read_on w.moves f (λ s. field_at s field) none))
 
-  pub in_entry-end : left ≡ [] → Found (fields_at (input_of old f) fields old.place) old now noted
+  pub in_entry-end : left ≡ [] → IsFoundPart (fields_at (input_of old f) fields old.place) old now noted
   in_entry-end is = record {
     value = w.same ∙ ap (λ fs. noted_first noted (fields_at (input_of old f) fs now.place)) is
         ∙ ap (noted_first noted) (fields-nil (input_of old f) now.place)

@@ -19,9 +19,9 @@ abbrev pub at_map : {A B : Type 0} → (A → B) → At A → At B
 at_map f x = record { value = f x.value; next = x.next }
 
 -- so many values, each behind the one before, none where one of them is none
-unfoldable pub row_at : {A : Type 0} → (ℕ → Option (At A)) → ℕ → ℕ → Option (At (List A))
-row_at at zero p = Some (record { value = []; next = p })
-row_at at (suc n) p = option_and_then (λ x. option_map (at_map (λ xs. x.value ∷ xs)) (row_at at n x.next)) (at p)
+unfoldable pub row_of_values : {A : Type 0} → (ℕ → Option (At A)) → ℕ → ℕ → Option (At (List A))
+row_of_values at zero p = Some (record { value = []; next = p })
+row_of_values at (suc n) p = option_and_then (λ x. option_map (at_map (λ xs. x.value ∷ xs)) (row_of_values at n x.next)) (at p)
 
 -- the values of an entry's fields that are read, none where no field has the content type
 pub record EntryFields : Type 0 where
@@ -40,54 +40,54 @@ one_field content_type raw = record {
 }
 
 -- both entries' fields; of one that both have the first one's
-abbrev pub with_first : EntryFields → EntryFields → EntryFields
-with_first e f = record { path = option_or e.path f.path; directory = option_or e.directory f.directory }
+abbrev pub with_first_fields : EntryFields → EntryFields → EntryFields
+with_first_fields e f = record { path = option_or e.path f.path; directory = option_or e.directory f.directory }
 
 -- the fields of these formats at the place
 unfoldable pub fields_at : Input → List FieldFormat → ℕ → Option (At EntryFields)
 fields_at s [] p = Some (record { value = no_fields; next = p })
 fields_at s (field ∷ fields) p =
     option_and_then (λ raw.
-    option_map (at_map (with_first (one_field field.content_type raw.value))) (fields_at s fields raw.next))
+    option_map (at_map (with_first_fields (one_field field.content_type raw.value))) (fields_at s fields raw.next))
     (field_at s field p)
 
 -- the entry of these fields
-abbrev pub entry_with : Texts → EntryFields → Option LineEntry
-entry_with texts values = entry_of texts values.path values.directory
+abbrev pub line_entry : Texts → EntryFields → Option LineEntry
+line_entry texts values = entry_of texts values.path values.directory
 
 -- the entry of these formats at the place
 unfoldable pub entry_at : Input → Texts → List FieldFormat → ℕ → Option (At LineEntry)
 entry_at s texts fields p =
-    option_and_then (λ values. option_map (λ entry. record { value = entry; next = values.next }) (entry_with texts values.value))
+    option_and_then (λ values. option_map (λ entry. record { value = entry; next = values.next }) (line_entry texts values.value))
     (fields_at s fields p)
 
 -- the formats at the place, behind their number
 unfoldable pub formats_at : Input → ℕ → Option (At (List FieldFormat))
-formats_at s p = option_and_then (λ count. row_at (format_at s) count.value count.next) (result_ok (number_at s One p))
+formats_at s p = option_and_then (λ count. row_of_values (format_at s) count.value count.next) (result_ok (number_at s One p))
 
 -- the entries of these formats at the place, behind their number
 unfoldable pub entries_at : Input → Texts → List FieldFormat → ℕ → Option (At (List LineEntry))
 entries_at s texts fields p =
-    option_and_then (λ count. row_at (entry_at s texts fields) count.value count.next) (result_ok (unsigned_at s p))
+    option_and_then (λ count. row_of_values (entry_at s texts fields) count.value count.next) (result_ok (unsigned_at s p))
 
 -- the list at the place
-unfoldable pub list_at : Input → Texts → ℕ → Option (At (List LineEntry))
-list_at s texts p = option_and_then (λ fields. entries_at s texts fields.value fields.next) (formats_at s p)
+unfoldable pub list_or_none : Input → Texts → ℕ → Option (At (List LineEntry))
+list_or_none s texts p = option_and_then (λ fields. entries_at s texts fields.value fields.next) (formats_at s p)
 
 -- a directory's path
-abbrev pub path_of : LineEntry → Option (List ℕ)
-path_of entry = entry.path
+abbrev pub directory_path : LineEntry → Option (List ℕ)
+directory_path entry = entry.path
 
 -- the table of these directories and files
-abbrev pub table_of : List LineEntry → List LineEntry → LineTable
-table_of directories files = record { directories = map path_of directories; files = files }
+abbrev pub line_table : List LineEntry → List LineEntry → LineTable
+line_table directories files = record { directories = map directory_path directories; files = files }
 
 -- the two lists at the place
 unfoldable pub lists_at : Input → Texts → ℕ → Option (At LineTable)
 lists_at s texts p =
     option_and_then (λ directories.
-    option_map (at_map (table_of directories.value)) (list_at s texts directories.next))
-    (list_at s texts p)
+    option_map (at_map (line_table directories.value)) (list_or_none s texts directories.next))
+    (list_or_none s texts p)
 
 -- what ends by a place, none where it ends later
 abbrev pub ending_by : {A : Type 0} → ℕ → At A → Option A

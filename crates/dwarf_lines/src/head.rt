@@ -2,7 +2,7 @@
 
 ghost use Rattle.std.specs.Prelude.{◌≡◌, ◌≤◌, length, IfSome};
 ghost use Rattle.file_formats.specs.DwarfLines.{behind_header_length, line_head};
-ghost use Rattle.dwarf_forms.specs.Pieces.{piece_facts};
+ghost use Rattle.dwarf_forms.specs.Pieces.{piece_here};
 
 use byte_read::{Order, u16_at};
 use dwarf_forms::{Piece, number_from};
@@ -21,7 +21,7 @@ fn behind_header_length(wide: bool) -> usize
 /// Reads a table's header, None where it is cut, not of version 5, or its opcode_base is 0.
 #[tactic(auto, unfolding(file_formats::specs::DwarfLines::line_head))]
 pub(crate) fn read_head(table: &Piece<'_>, order: Order) -> Option<LineHead>
-    ensures value { result ≡ line_head order (piece_facts table.now).value }
+    ensures value { result ≡ line_head order (piece_here table.now).value }
     ensures within { IfSome result (λ head. head.lists ≤ length table.now.bytes.now) }
 {
     let bytes = table.bytes;

@@ -3,14 +3,14 @@
 ghost use Rattle.std.specs.Prelude.{◌≡◌, ◌≤◌, ℕ, Option, false, length, IfOk, map};
 ghost use Rattle.file_formats.specs.DwarfLines.{IsLineTable, LineCodes};
 ghost use Rattle.dwarf_forms.specs.FormAnswers.{input_of};
-ghost use Rattle.dwarf_forms.specs.Pieces.{piece_facts};
-ghost use Rattle.dwarf_forms.specs.TextAnswers.{texts_of};
+ghost use Rattle.dwarf_forms.specs.Pieces.{piece_here};
+ghost use Rattle.dwarf_forms.specs.TextAnswers.{strings_texts};
 ghost use Rattle.dwarf_forms.specs.TextBytes.{text_said};
-ghost use Rattle.dwarf_forms.specs.Tells.{Tells};
+ghost use Rattle.dwarf_forms.specs.Tells.{TellsOnly};
 ghost use Rattle.dwarf_lines.specs.Bases.{IsSameForBases, based};
 ghost use Rattle.dwarf_lines.specs.Entries.{file_facts};
-ghost use Rattle.dwarf_lines.specs.Finds.{Finds, as_it_is};
-ghost use Rattle.dwarf_lines.specs.Lists.{lists_at, lists_of, path_of, table_at};
+ghost use Rattle.dwarf_lines.specs.Finds.{FindsPart, as_it_is};
+ghost use Rattle.dwarf_lines.specs.Lists.{lists_at, lists_of, directory_path, table_at};
 
 use crate::entry::LineFile;
 use crate::head::read_head;
@@ -59,7 +59,7 @@ fn paths_of<'a>(
     directories: &[LineFile<'a>],
 ) -> Result<Vec<Option<Text<'a>>>, AllocError>
     ensures { IfOk result (λ paths. map text_said paths.items
-        ≡ map path_of (map file_facts directories.now)) }
+        ≡ map directory_path (map file_facts directories.now)) }
 {
     let mut paths = Vec::with_capacity(alloc, directories.len())?;
     for directory in directories {
@@ -76,10 +76,10 @@ fn read_lists<'a>(
     format: Format,
     strings: &Strings<'a>,
 ) -> Result<ReadTable<'a>, AllocError>
-    ensures lists { IfOk result (λ read. Finds as_it_is (λ s. lists_at s (texts_of strings.now))
+    ensures lists { IfOk result (λ read. FindsPart as_it_is (λ s. lists_at s (strings_texts strings.now))
         format cursor.old cursor.new read.table) }
     ensures fixed { IfOk result (λ read. read.indexed ≡ false → IsSameForBases
-        (λ texts. lists_at (input_of cursor.old format) texts cursor.old.place) (texts_of strings.now)) }
+        (λ texts. lists_at (input_of cursor.old format) texts cursor.old.place) (strings_texts strings.now)) }
 {
     let ReadList { entries, indexed } = read_list(alloc, cursor, format, strings)?;
     let Some(directories) = entries else {
@@ -116,9 +116,9 @@ fn read_within<'a>(
 ) -> Result<ReadTable<'a>, AllocError>
     requires { head.lists ≤ length piece.now.bytes.now }
     ensures lists { IfOk result (λ read. read.table
-        ≡ lists_of (texts_of strings.now) (piece_facts piece.now).value head) }
+        ≡ lists_of (strings_texts strings.now) (piece_here piece.now).value head) }
     ensures fixed { IfOk result (λ read. read.indexed ≡ false → IsSameForBases
-        (λ texts. lists_of texts (piece_facts piece.now).value head) (texts_of strings.now)) }
+        (λ texts. lists_of texts (piece_here piece.now).value head) (strings_texts strings.now)) }
 {
     let strings = Strings {
         wide: piece.wide,
@@ -162,9 +162,9 @@ fn read_whole<'a>(
     offset: u64,
     strings: &Strings<'a>,
 ) -> Result<ReadTable<'a>, AllocError>
-    ensures table { IfOk result (λ read. read.table ≡ table_at line.now offset (texts_of strings.now)) }
+    ensures table { IfOk result (λ read. read.table ≡ table_at line.now offset (strings_texts strings.now)) }
     ensures fixed { IfOk result (λ read. read.indexed ≡ false → IsSameForBases
-        (λ texts. table_at line.now offset texts) (texts_of strings.now)) }
+        (λ texts. table_at line.now offset texts) (strings_texts strings.now)) }
 {
     let Some(piece) = piece_at(line, offset, strings.order) else {
         return Ok(ReadTable {
@@ -191,10 +191,10 @@ pub fn read_table<'a>(
     offset: u64,
     strings: &Strings<'a>,
 ) -> Result<ReadTable<'a>, AllocError>
-    ensures table { IfOk result (λ read. Tells as_it_is
-        (IsLineTable line.now offset (texts_of strings.now)) read.table) }
+    ensures table { IfOk result (λ read. TellsOnly as_it_is
+        (IsLineTable line.now offset (strings_texts strings.now)) read.table) }
     ensures fixed { IfOk result (λ read. read.indexed ≡ false → (base : Option ℕ)
-        → Tells as_it_is (IsLineTable line.now offset (based (texts_of strings.now) base)) read.table) }
+        → TellsOnly as_it_is (IsLineTable line.now offset (based (strings_texts strings.now) base)) read.table) }
     ensures codes { LineCodes }
 {
     read_whole(alloc, line, offset, strings)
@@ -209,8 +209,8 @@ pub fn line_table<'a>(
     offset: u64,
     strings: &Strings<'a>,
 ) -> Result<Option<LineTable<'a>>, AllocError>
-    ensures table { IfOk result (Tells as_it_is
-        (IsLineTable line.now offset (texts_of strings.now))) }
+    ensures table { IfOk result (TellsOnly as_it_is
+        (IsLineTable line.now offset (strings_texts strings.now))) }
     ensures codes { LineCodes }
 {
     let ReadTable { table, indexed: _ } = read_table(alloc, line, offset, strings)?;

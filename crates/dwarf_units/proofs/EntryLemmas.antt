@@ -10,15 +10,15 @@ use Rattle.file_formats.specs.DwarfAbbreviations.{IsFirst}
 use Rattle.file_formats.specs.DwarfUnits.{DebugSections, RawEntry, RootEntry, IsRaw, IsEntryFrom, IsEntryWith, IsRootEntry, abbreviations_input, entries_input, root_of, unit_head}
 use Rattle.dwarf_forms.specs.declared.numbers.Format.{Format}
 use Rattle.dwarf_forms.specs.FormAnswers.{input_of, Got}
-use Rattle.dwarf_units.specs.Finds.{LeadsTo, LeadsNowhere, Comes}
-use Rattle.dwarf_forms.specs.Tells.{IsOnly, Tells}
+use Rattle.dwarf_units.specs.Finds.{LeadsAloneTo, LeadsNowhere, ComesTo}
+use Rattle.dwarf_forms.specs.Tells.{IsOnly, TellsOnly}
 use Rattle.dwarf_units.specs.Entries.{RawAt, EntryAt}
 use Rattle.dwarf_units.proofs.CaseLemmas.{ok_same, some_same}
 use Rattle.dwarf_units.proofs.TableLemmas.{HasMoved, input_on}
 
 -- an answer on one fact is one on a fact that holds of the same values
 pub tells_on : {A R : Type 0} (facts : R → A) (P Q : A → Type 0) → ((value : A) → P value → Q value) → ((value : A) → Q value → P value)
-    → (r : Option R) → Tells facts P r → Tells facts Q r
+    → (r : Option R) → TellsOnly facts P r → TellsOnly facts Q r
 tells_on facts P Q to from None none = λ value h. none value (from value h)
 tells_on facts P Q to from (Some x) only = record { here = to (facts x) only.here; only = λ other h. only.only other (from other h) }
 
@@ -30,7 +30,7 @@ module _ {table info : Input} {p at : ℕ} {code : At ℕ} (begins : unsigned_at
   pub entry-nowhere : LeadsNowhere (IsFirst table code.value) p → (raw : RawEntry) → IsEntryFrom table info p at raw → ⊥
   entry-nowhere none raw e = none e.pairs (subst (λ (x : At ℕ). IsFirst table x.value p e.pairs) (code_only e) e.first)
 
-  module _ (not_null : (code.value == 0) ≡ false) {q : ℕ} (l : LeadsTo (IsFirst table code.value) p q) where
+  module _ (not_null : (code.value == 0) ≡ false) {q : ℕ} (l : LeadsAloneTo (IsFirst table code.value) p q) where
     pub entry-from_values : (raw : RawEntry) → IsRaw table info q code.next raw → IsEntryFrom table info p at raw
     entry-from_values raw values = record {
       code = code;
@@ -50,7 +50,7 @@ module _ {table info : Input} {p at : ℕ} {code : At ℕ} (begins : unsigned_at
 -- the values that are read behind the code and by the pairs are the entry's
 module _ {f : Format} {table values new_table new_values : View} {code : ℕ}
     (read : Got (unsigned_at (input_of values f) values.place) values new_values code) (differs : code ≡ 0 → ⊥)
-    (walk : Comes (IsFirst (input_of table f) code) table new_table) where
+    (walk : ComesTo (IsFirst (input_of table f) code) table new_table) where
   table_on : input_of new_table f ≡ input_of table f
   table_on = let m : HasMoved table new_table = record { moved = walk.moved } in input_on m f
 
@@ -109,7 +109,7 @@ module _ (s : DebugSections) (unit : Piece) (head : UnitHead) where
 
   -- the entry of the unit's one header is the unit's
   pub root_with : unit_head s.order unit ≡ Some head → {R : Type 0} (facts : R → RootEntry) (r : Option R)
-      → Tells facts (IsEntryWith s unit head) r → Tells facts (IsRootEntry s unit) r
+      → TellsOnly facts (IsEntryWith s unit head) r → TellsOnly facts (IsRootEntry s unit) r
   root_with header facts r = tells_on facts (IsEntryWith s unit head) (IsRootEntry s unit)
       (λ entry h. record { head = head; header = header; within = h })
       (λ entry h. subst (λ x. IsEntryWith s unit x entry) (some_same (sym h.header ∙ header)) h.within)
@@ -117,6 +117,6 @@ module _ (s : DebugSections) (unit : Piece) (head : UnitHead) where
 
   -- the same of an answer that may be want of memory
   pub if_root_with : unit_head s.order unit ≡ Some head → {R E : Type 0} (facts : R → RootEntry) (r : Result (Option R) E)
-      → IfOk r (Tells facts (IsEntryWith s unit head)) → IfOk r (Tells facts (IsRootEntry s unit))
+      → IfOk r (TellsOnly facts (IsEntryWith s unit head)) → IfOk r (TellsOnly facts (IsRootEntry s unit))
   if_root_with header facts (Ok r) h = root_with header facts r h
   if_root_with header facts (Err e) h = tt

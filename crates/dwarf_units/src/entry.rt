@@ -4,14 +4,14 @@ ghost use Rattle.std.specs.Prelude.{◌≡◌, drop, List, ℕ};
 ghost use Rattle.file_formats.specs.DwarfCodes.{UnitCodes};
 ghost use Rattle.std.specs.Option.{option_map, option_and_then};
 ghost use Rattle.file_formats.specs.DwarfTexts.{value_of};
-ghost use Rattle.file_formats.specs.DwarfUnits.{IsEntryWith, IsRootEntry, place_of};
-ghost use Rattle.file_formats.specs.DwarfUnits.{root_of, text_of};
+ghost use Rattle.file_formats.specs.DwarfUnits.{IsEntryWith, IsRootEntry, section_place};
+ghost use Rattle.file_formats.specs.DwarfUnits.{root_of, text_or_none};
 ghost use Rattle.dwarf_forms.specs.FormAnswers.{raw_facts};
-ghost use Rattle.dwarf_forms.specs.TextAnswers.{texts_of};
+ghost use Rattle.dwarf_forms.specs.TextAnswers.{strings_texts};
 ghost use Rattle.dwarf_forms.specs.TextBytes.{text_said};
 ghost use Rattle.dwarf_units.specs.UnitList.{unit_facts};
 ghost use Rattle.dwarf_forms.specs.Parts.{sections_of};
-ghost use Rattle.dwarf_forms.specs.Tells.{Tells};
+ghost use Rattle.dwarf_forms.specs.Tells.{TellsOnly};
 ghost use Rattle.dwarf_units.specs.Entries.{die_facts, raw_entry, EntryAt};
 
 use crate::abbreviations::find_pairs;
@@ -45,7 +45,7 @@ pub(crate) fn rest_from(bytes: &[u8], at: u64) -> &[u8]
 
 /// A number that may be a place in a section.
 fn place_in(raw: Option<RawValue<'_>>) -> Option<u64>
-    ensures { result ≡ option_and_then place_of (option_map raw_facts raw.entry) }
+    ensures { result ≡ option_and_then section_place (option_map raw_facts raw.entry) }
 {
     match raw {
         Some(RawValue::Numbered(Sense::Place, place)) => Some(place),
@@ -56,7 +56,7 @@ fn place_in(raw: Option<RawValue<'_>>) -> Option<u64>
 /// The text that a value names.
 fn text_in<'a>(raw: Option<RawValue<'a>>, strings: &Strings<'a>) -> Option<Text<'a>>
     ensures { text_said result
-        ≡ option_and_then (λ value. text_of (value_of (texts_of strings.now) value))
+        ≡ option_and_then (λ value. text_or_none (value_of (strings_texts strings.now) value))
         (option_map raw_facts raw.entry) }
 {
     match strings.value(raw?) {
@@ -95,7 +95,7 @@ pub(crate) fn read_values_at<'a>(
     values: &mut Cursor<'a>,
     format: Format,
 ) -> Option<RawAttributes<'a>>
-    ensures { Tells raw_entry (EntryAt format table.old values.old) result }
+    ensures { TellsOnly raw_entry (EntryAt format table.old values.old) result }
 {
     let code = read_number(values, Width::Leb, format).ok()?;
     if code == 0 {
@@ -107,7 +107,7 @@ pub(crate) fn read_values_at<'a>(
 
 /// Reads the first entry of a unit with this header.
 fn read_entry<'a>(unit: &Unit<'a>, head: UnitHead, parts: &DebugParts<'a>) -> Option<UnitDie<'a>>
-    ensures { Tells die_facts
+    ensures { TellsOnly die_facts
         (IsEntryWith (sections_of parts.now) (unit_facts unit.now) head) result }
 {
     let format = Format {
@@ -125,7 +125,7 @@ fn read_entry<'a>(unit: &Unit<'a>, head: UnitHead, parts: &DebugParts<'a>) -> Op
 
 /// Reads what a unit's first entry says of its sources, None where the unit can't be read.
 pub fn unit_die<'a>(unit: &Unit<'a>, parts: &DebugParts<'a>) -> Option<UnitDie<'a>>
-    ensures entry { Tells die_facts
+    ensures entry { TellsOnly die_facts
         (IsRootEntry (sections_of parts.now) (unit_facts unit.now)) result }
     ensures codes { UnitCodes }
 {

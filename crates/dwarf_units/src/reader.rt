@@ -4,9 +4,9 @@ ghost use Rattle.std.specs.Prelude.{◌≡◌, IfOk};
 ghost use Rattle.file_formats.specs.DwarfCodes.{UnitCodes};
 ghost use Rattle.file_formats.specs.DwarfUnits.{IsEntryWith, IsRootEntry};
 ghost use Rattle.dwarf_forms.specs.Parts.{sections_of};
-ghost use Rattle.dwarf_forms.specs.Tells.{Tells};
+ghost use Rattle.dwarf_forms.specs.Tells.{TellsOnly};
 ghost use Rattle.dwarf_units.specs.Entries.{die_facts};
-ghost use Rattle.dwarf_units.specs.Known.{IsKnown};
+ghost use Rattle.dwarf_units.specs.Known.{IsTableKnown};
 ghost use Rattle.dwarf_units.specs.UnitList.{unit_facts};
 
 use crate::entry::{UnitDie, entry_said, rest_from};
@@ -30,14 +30,14 @@ pub struct UnitReader<'a> {
 
 impl<'a> Model for UnitReader<'a> {
     ghost use Rattle.dwarf_forms.specs.Parts.{sections_of};
-    ghost use Rattle.dwarf_units.specs.Known.{IsKnown};
+    ghost use Rattle.dwarf_units.specs.Known.{IsTableKnown};
     ghost use Rattle.file_formats.specs.DwarfUnits.{DebugSections};
 
     ghost Value = { DebugSections };
 
     ghost view = { λ r. sections_of r.parts };
 
-    ghost invariant = { λ r. IsKnown (sections_of r.parts) r.known };
+    ghost invariant = { λ r. IsTableKnown (sections_of r.parts) r.known };
 }
 
 impl<'a> UnitReader<'a> {
@@ -63,7 +63,7 @@ impl<'a> UnitReader<'a> {
         alloc: Global,
         unit: &Unit<'a>,
     ) -> Result<Option<UnitDie<'a>>, AllocError>
-        ensures entry { IfOk result (Tells die_facts (IsRootEntry self.old (unit_facts unit.now))) }
+        ensures entry { IfOk result (TellsOnly die_facts (IsRootEntry self.old (unit_facts unit.now))) }
         ensures same { self.new ≡ self.old }
         ensures codes { UnitCodes }
     {
@@ -82,9 +82,9 @@ fn read_entry<'a>(
     unit: &Unit<'a>,
     head: UnitHead,
 ) -> Result<Option<UnitDie<'a>>, AllocError>
-    requires { IsKnown (sections_of parts.now) known.old }
-    ensures known { IsKnown (sections_of parts.now) known.new }
-    ensures entry { IfOk result (Tells die_facts
+    requires { IsTableKnown (sections_of parts.now) known.old }
+    ensures known { IsTableKnown (sections_of parts.now) known.new }
+    ensures entry { IfOk result (TellsOnly die_facts
         (IsEntryWith (sections_of parts.now) (unit_facts unit.now) head)) }
 {
     let format = Format {

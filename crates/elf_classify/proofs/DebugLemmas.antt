@@ -7,20 +7,20 @@ use Rattle.std.proofs.lemmas.Slice.Eq.{bytes_eq-Decides}
 use Rattle.file_formats.specs.declared.codes.TheConstants.{ET_REL}
 use Rattle.file_formats.specs.declared.fault.ElfFault.{ElfFault}
 use Rattle.file_formats.specs.declared.header.SectionTable.{SectionTable}
-use Rattle.file_formats.specs.DwarfSections.{IsPart, AreDebugSections, IsDebugAnswer, debug, relocatable, no_sections}
+use Rattle.file_formats.specs.DwarfSections.{IsSectionPart, AreDebugSections, IsDebugAnswer, debug, relocatable, no_sections}
 use Rattle.file_formats.specs.DwarfUnits.{DebugSections}
 use Rattle.file_formats.specs.Parts.{IsDebugRange, IsSectionRange, IsSomePart, is_debug_name}
-use Rattle.file_formats.specs.Table.{table_of}
+use Rattle.file_formats.specs.Table.{section_table}
 use Rattle.file_formats.specs.Windows.{Range, range, bytes_in, IsSomeWindow}
 use Rattle.file_formats.proofs.PartLaws.{debug_range_moves, debug-of_parts}
 use Rattle.file_formats.proofs.WindowLemmas.{agree-symmetric}
-use Rattle.file_picture.specs.Agrees.{Agrees, filled}
+use Rattle.file_picture.specs.Agrees.{AgreesWithPicture, filled_with_zeros}
 use Rattle.file_picture.specs.Picture.{PictureFacts, IsPicture, IsCovered}
 use Rattle.file_picture.specs.Whole.{whole}
 use Rattle.file_picture.specs.declared.view.Need.{Need}
 use Rattle.file_picture.proofs.AgreeLaws.{agree-covered, filled-agrees}
 use Rattle.file_picture.proofs.WholeLaws.{filled-whole}
-use Rattle.elf_file.specs.Parsed.{IsWhole}
+use Rattle.elf_file.specs.Parsed.{IsPictureWhole}
 use Rattle.elf_file.specs.Opened.{Opened, OpensAs, Knows}
 use Rattle.elf_file.specs.Steps.{AllHere, Needs, FailsTests}
 use Rattle.elf_file.proofs.StartLemmas.{same_ok}
@@ -111,12 +111,12 @@ debug_fault v fault f = record {
 
 -- ---- of a whole file
 
-pub never_needs_debug : (v : PictureFacts) (need : Need) → IsWhole v → NeedsDebug v need → ⊥
+pub never_needs_debug : (v : PictureFacts) (need : Need) → IsPictureWhole v → NeedsDebug v need → ⊥
 never_needs_debug v need is n = never_needs_section v n.part.name need is n.part.section
 
 pub debug_whole : (b : List ℕ) (v : PictureFacts) (parts : Option DebugSections) → v ≡ whole b → IsDebugSeen v parts
     → IsDebugAnswer b parts
-debug_whole b v parts e s = subst (λ f. IsDebugAnswer f parts) (ap filled e ∙ filled-whole b) s.is
+debug_whole b v parts e s = subst (λ f. IsDebugAnswer f parts) (ap filled_with_zeros e ∙ filled-whole b) s.is
 
 -- ---- what a reading of a view finds
 
@@ -140,7 +140,7 @@ debug_answer v file parts same s = subst (λ w. IsDebugSeen w parts) same s
 -- all windows are there where the identity is known
 all_known : (p : PictureFacts) → IsPicture p → KnowsIdentity p → (n : ℕ) → AllHere p n
 all_known p is k n = record {
-  here = λ w r below h. k.known.there (filled p) (filled-agrees p is) r (record { window = w; is = h });
+  here = λ w r below h. k.known.there (filled_with_zeros p) (filled-agrees p is) r (record { window = w; is = h });
 }
 
 -- what is found of a picture is said of each file
@@ -154,7 +154,7 @@ says_debug p is k (view.Need at len) (inr n) = record {
       (record {
         has = record {
           identity = k.identity;
-          is_identity = k.known.is (filled p) (filled-agrees p is);
+          is_identity = k.known.is (filled_with_zeros p) (filled-agrees p is);
           of = n.of;
           is_table = n.is_table;
           linked = n.linked;
@@ -167,14 +167,14 @@ says_debug p is k (view.Need at len) (inr n) = record {
 says_debug p is k (view.Parts parts) s = record {
   is = λ b f.
       debug-of_parts (record { sized = (agree_there is f (all_known p is k)).sized; same = same b f })
-      (k.known.is (filled p) (filled-agrees p is)) s.is;
+      (k.known.is (filled_with_zeros p) (filled-agrees p is)) s.is;
   there = of;
 }
   where
-    same : (b : List ℕ) → Agrees b p → (r : Range) → IsSomePart (filled p) r → bytes_in (filled p) r ≡ bytes_in b r
+    same : (b : List ℕ) → AgreesWithPicture b p → (r : Range) → IsSomePart (filled_with_zeros p) r → bytes_in (filled_with_zeros p) r ≡ bytes_in b r
     same b f r (inl h) = (agree_there is f (all_known p is k)).same r h
-    same b f r (inr h) = agree-covered p (filled p) b r.at r.len (filled-agrees p is) f (s.there r h)
+    same b f r (inr h) = agree-covered p (filled_with_zeros p) b r.at r.len (filled-agrees p is) f (s.there r h)
 
-    of : (b : List ℕ) → Agrees b p → (r : Range) → IsSomePart b r → IsCovered p r.at r.len
+    of : (b : List ℕ) → AgreesWithPicture b p → (r : Range) → IsSomePart b r → IsCovered p r.at r.len
     of b f r (inl h) = windows-of_each is (all_known p is k) b f r h
     of b f r (inr h) = s.there r (debug_range_moves (agree-symmetric (agree_there is f (all_known p is k))) h)

@@ -6,28 +6,28 @@ use Rattle.file_formats.specs.declared.fault.ElfFault.{ElfFault}
 use Rattle.file_formats.specs.declared.header.SectionTable.{SectionTable}
 use Rattle.file_formats.specs.Numbers.{bytes_at}
 use Rattle.file_formats.specs.Parts.{IsSectionRange, IsSomeSection}
-use Rattle.file_formats.specs.Table.{table_of, section_at, HasSection, IsSectionOf, IsSectionAnswer, present, absent, no_table}
+use Rattle.file_formats.specs.Table.{section_table, section_at, HasSection, IsSectionOf, IsSectionAnswer, present, absent, no_table}
 use Rattle.file_formats.specs.Windows.{Range, range, extent, IsSomeWindow}
 use Rattle.file_formats.proofs.IdentityLemmas.{section-unique}
 use Rattle.file_formats.proofs.PartLaws.{answer_moves, section_range_moves, section-inside}
 use Rattle.file_formats.proofs.WindowLemmas.{agree-symmetric}
-use Rattle.file_picture.specs.Agrees.{Agrees, filled}
+use Rattle.file_picture.specs.Agrees.{AgreesWithPicture, filled_with_zeros}
 use Rattle.file_picture.specs.Picture.{PictureFacts, IsPicture, IsCovered}
 use Rattle.file_picture.specs.Whole.{whole}
 use Rattle.file_picture.specs.declared.view.Need.{Need}
 use Rattle.file_picture.proofs.AgreeLaws.{agree-covered, filled-agrees}
 use Rattle.file_picture.proofs.WholeLaws.{filled-whole}
-use Rattle.elf_file.specs.Parsed.{IsWhole}
+use Rattle.elf_file.specs.Parsed.{IsPictureWhole}
 use Rattle.elf_file.specs.Opened.{Opened, OpensAs, Knows}
 use Rattle.elf_file.specs.Steps.{AllHere, Needs, FailsTests}
 use Rattle.elf_file.proofs.StartLemmas.{same_ok}
 use Rattle.elf_file.proofs.ViewLaws.{agree_there, need-of_each, windows-of_each}
-use Rattle.elf_classify.specs.Placed.{IsPlaced, HasSectionThere, SeesSection, NeedsSection, IsSectionSeen, NeedsNamed, SeesNamed, SaysSection}
+use Rattle.elf_classify.specs.Placed.{IsSectionPlaced, HasSectionThere, SeesSection, NeedsSection, IsSectionSeen, NeedsNamed, SeesNamed, SaysSectionSeen}
 use Rattle.elf_classify.specs.declared.named.SectionView.{SectionView}
 use Rattle.elf_classify.specs.declared.named.SectionView.TheVariants as view
 
 -- the range of the section of a name that was found
-one_range : {b : List ℕ} {t : SectionTable} {name : List ℕ} {r : Range} (at : Need) → table_of b ≡ Ok t → IsPlaced b t name at
+one_range : {b : List ℕ} {t : SectionTable} {name : List ℕ} {r : Range} (at : Need) → section_table b ≡ Ok t → IsSectionPlaced b t name at
     → IsSectionRange b name r → range at.at at.len ≡ r
 one_range {b} {t} {name} {r} at is_table p w =
     let same : w.of ≡ t = same_ok (sym w.is_table ∙ is_table) in
@@ -42,28 +42,28 @@ one_range {b} {t} {name} {r} at is_table p w =
 
 -- no section of the name is handed out
 pub sees_absent : (f : Opened) (name : List ℕ) → Knows f
-    → ((i : ℕ) (bytes : List ℕ) → HasSection (filled f.file) f.table name i bytes → ⊥) → SeesSection f name None
+    → ((i : ℕ) (bytes : List ℕ) → HasSection (filled_with_zeros f.file) f.table name i bytes → ⊥) → SeesSection f name None
 sees_absent f name knows none = record {
   is = absent f.table knows.is_table none;
   there = λ r w.
       let same : w.of ≡ f.table = same_ok (sym w.is_table ∙ knows.is_table) in
       absurd
       (none w.found.index w.bytes
-      (subst (λ u. HasSection (filled f.file) u name w.found.index w.bytes) same w.found.here));
+      (subst (λ u. HasSection (filled_with_zeros f.file) u name w.found.index w.bytes) same w.found.here));
 }
 
 -- one is, and its bytes are there
-pub sees_present : (f : Opened) (name bytes : List ℕ) (at : Need) → Knows f → IsPlaced (filled f.file) f.table name at
-    → IsCovered f.file at.at at.len → bytes ≡ bytes_at (filled f.file) at.at at.len → SeesSection f name (Some bytes)
+pub sees_present : (f : Opened) (name bytes : List ℕ) (at : Need) → Knows f → IsSectionPlaced (filled_with_zeros f.file) f.table name at
+    → IsCovered f.file at.at at.len → bytes ≡ bytes_at (filled_with_zeros f.file) at.at at.len → SeesSection f name (Some bytes)
 sees_present f name bytes at knows p there are = record {
   is =
       present f.table bytes knows.is_table
-      (subst (IsSectionOf (filled f.file) f.table name) (sym are) p.found);
+      (subst (IsSectionOf (filled_with_zeros f.file) f.table name) (sym are) p.found);
   there = λ r w. subst (λ (s : Range). IsCovered f.file s.at s.len) (one_range at knows.is_table p w) there;
 }
 
 -- they aren't
-pub needs_present : (f : Opened) (name : List ℕ) (at need : Need) → Knows f → IsPlaced (filled f.file) f.table name at
+pub needs_present : (f : Opened) (name : List ℕ) (at need : Need) → Knows f → IsSectionPlaced (filled_with_zeros f.file) f.table name at
     → (IsCovered f.file at.at at.len → ⊥) → need ≡ at → NeedsSection f.file name need
 needs_present f name at need knows p gone same =
     subst (NeedsSection f.file name) (sym same)
@@ -71,7 +71,7 @@ needs_present f name at need knows p gone same =
       is = record {
         of = f.table;
         is_table = knows.is_table;
-        bytes = bytes_at (filled f.file) at.at at.len;
+        bytes = bytes_at (filled_with_zeros f.file) at.at at.len;
         found = p.found;
         is = p.is;
       };
@@ -81,14 +81,14 @@ needs_present f name at need knows p gone same =
 -- ---- of a whole file
 
 -- the section's bytes are there
-pub never_needs_section : (v : PictureFacts) (name : List ℕ) (need : Need) → IsWhole v → NeedsSection v name need → ⊥
+pub never_needs_section : (v : PictureFacts) (name : List ℕ) (need : Need) → IsPictureWhole v → NeedsSection v name need → ⊥
 never_needs_section v name need is n =
-    n.gone (is need.at need.len (section-inside (filled v) name (range need.at need.len) n.is))
+    n.gone (is need.at need.len (section-inside (filled_with_zeros v) name (range need.at need.len) n.is))
 
 -- the answer is the file's
 pub section_whole : (b : List ℕ) (v : PictureFacts) (name : List ℕ) (found : Option (List ℕ)) → v ≡ whole b
-    → IsSectionAnswer (filled v) name found → IsSectionAnswer b name found
-section_whole b v name found e is = subst (λ f. IsSectionAnswer f name found) (ap filled e ∙ filled-whole b) is
+    → IsSectionAnswer (filled_with_zeros v) name found → IsSectionAnswer b name found
+section_whole b v name found e is = subst (λ f. IsSectionAnswer f name found) (ap filled_with_zeros e ∙ filled-whole b) is
 
 -- so it is where there is no table
 pub section_fault : (b : List ℕ) (name : List ℕ) (fault : ElfFault) → FailsTests (whole b) fault → IsSectionAnswer b name None
@@ -125,7 +125,7 @@ named_found v file name found same all s =
 -- ---- of each file that agrees
 
 -- what is found of a picture is said of each file
-pub says_named : (p : PictureFacts) (name : List ℕ) → IsPicture p → (r : SectionView) → SeesNamed p name r → SaysSection p name r
+pub says_named : (p : PictureFacts) (name : List ℕ) → IsPicture p → (r : SectionView) → SeesNamed p name r → SaysSectionSeen p name r
 says_named p name is (view.Need at len) (inl n) = record { gone = n.gone; among = λ b f. inl (need-of_each is n b f) }
 says_named p name is (view.Need at len) (inr n) = record {
   gone = n.section.gone;
@@ -134,10 +134,10 @@ says_named p name is (view.Need at len) (inr n) = record {
 says_named p name is (view.Section found) s = record {
   is = λ b f.
       answer_moves (agree_there is f s.all)
-      (λ r w. agree-covered p (filled p) b r.at r.len (filled-agrees p is) f (s.there r w)) s.is;
+      (λ r w. agree-covered p (filled_with_zeros p) b r.at r.len (filled-agrees p is) f (s.there r w)) s.is;
   there = of;
 }
   where
-    of : (b : List ℕ) → Agrees b p → (r : Range) → IsSomeSection name b r → IsCovered p r.at r.len
+    of : (b : List ℕ) → AgreesWithPicture b p → (r : Range) → IsSomeSection name b r → IsCovered p r.at r.len
     of b f r (inl h) = windows-of_each is s.all b f r h
     of b f r (inr h) = s.there r (section_range_moves (agree-symmetric (agree_there is f s.all)) h)

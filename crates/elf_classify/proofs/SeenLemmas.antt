@@ -6,10 +6,10 @@ use Rattle.file_formats.specs.declared.fault.ElfFault.{ElfFault}
 use Rattle.file_formats.specs.declared.fault.Why.{Why}
 use Rattle.file_formats.specs.declared.fault.Why.TheVariants.{Core, NoBuildId}
 use Rattle.file_formats.specs.declared.header.SectionTable.{SectionTable}
-use Rattle.file_formats.specs.Table.{table_of}
-use Rattle.file_formats.specs.Identity.{Identity, IsIdentity, HasCode, HasDebug, refused, core, no_id, found, why_of}
+use Rattle.file_formats.specs.Table.{section_table}
+use Rattle.file_formats.specs.Identity.{Identity, IsIdentity, HasCode, HasDebug, refused, core, no_id, found, why_of_fault}
 use Rattle.file_formats.specs.Windows.{Range, Window, beginning, zero_header, table, names, notes, IsWindow, rank}
-use Rattle.file_picture.specs.Agrees.{filled}
+use Rattle.file_picture.specs.Agrees.{filled_with_zeros}
 use Rattle.file_picture.specs.Picture.{PictureFacts, IsPicture, IsCovered}
 use Rattle.file_picture.specs.Whole.{whole}
 use Rattle.file_picture.specs.declared.view.Need.{Need}
@@ -24,11 +24,11 @@ use Rattle.elf_classify.specs.declared.identity.IdentView.{IdentView}
 use Rattle.elf_classify.specs.declared.identity.IdentView.TheVariants as view
 
 -- the notes of a core image are no window
-pub core_all : (v : PictureFacts) (t : SectionTable) → table_of (filled v) ≡ Ok t → t.e_type ≡ ET_CORE → AllHere v 4
+pub core_all : (v : PictureFacts) (t : SectionTable) → section_table (filled_with_zeros v) ≡ Ok t → t.e_type ≡ ET_CORE → AllHere v 4
     → (n : ℕ) → AllHere v n
 core_all v t is kind all n = record { here = of }
   where
-    of : (w : Window) (r : Range) → rank w < n → IsWindow (filled v) w r → IsCovered v r.at r.len
+    of : (w : Window) (r : Range) → rank w < n → IsWindow (filled_with_zeros v) w r → IsCovered v r.at r.len
     of beginning r below h = all.here beginning r (omega arith) h
     of zero_header r below h = all.here zero_header r (omega arith) h
     of table r below h = all.here table r (omega arith) h
@@ -44,7 +44,7 @@ pub sees_need : (v : PictureFacts) (need : Need) (r : IdentView) → r ≡ view.
 sees_need v need r e n = subst (SeesIdentity v) (sym e) n
 
 -- why its table isn't read
-pub sees_fault : (v : PictureFacts) (fault : ElfFault) (why : Why) → why ≡ why_of fault → FailsTests v fault
+pub sees_fault : (v : PictureFacts) (fault : ElfFault) (why : Why) → why ≡ why_of_fault fault → FailsTests v fault
     → IsIdentitySeen v (Err why)
 sees_fault v fault why e f =
     subst (λ w. IsIdentitySeen v (Err w)) (sym e) (record { is = refused fault f.is; all = f.all })
@@ -54,8 +54,8 @@ pub sees_core : (v : PictureFacts) (file : Opened) → OpensAs v file → file.t
 sees_core v file o is = record { is = core file.table o.is_table is; all = core_all v file.table o.is_table is o.all }
 
 -- the table is that of the file that was opened
-opened_table : (v : PictureFacts) (file : Opened) → OpensAs v file → table_of (filled file.file) ≡ Ok file.table
-opened_table v file o = subst (λ w. table_of (filled w) ≡ Ok file.table) (sym o.same) o.is_table
+opened_table : (v : PictureFacts) (file : Opened) → OpensAs v file → section_table (filled_with_zeros file.file) ≡ Ok file.table
+opened_table v file o = subst (λ w. section_table (filled_with_zeros w) ≡ Ok file.table) (sym o.same) o.is_table
 
 -- it has no build-id
 pub sees_none : (v : PictureFacts) (file : Opened) → OpensAs v file → file.table.e_type ≢ ET_CORE → Finds file None
@@ -67,7 +67,7 @@ sees_none v file o other f =
 -- it has one
 pub sees_id : (v : PictureFacts) (file : Opened) (id : List ℕ) (exec debug : Bool) → OpensAs v file
     → file.table.e_type ≢ ET_CORE → Finds file (Some id)
-    → (IsTrue exec ↔ HasCode (filled file.file) file.table) → (IsTrue debug ↔ HasDebug (filled file.file) file.table)
+    → (IsTrue exec ↔ HasCode (filled_with_zeros file.file) file.table) → (IsTrue debug ↔ HasDebug (filled_with_zeros file.file) file.table)
     → IsIdentitySeen v (Ok (record { id = id; exec = exec; debug = debug }))
 sees_id v file id exec debug o other f code info =
     subst (λ w. IsIdentitySeen w (Ok (record { id = id; exec = exec; debug = debug }))) o.same
@@ -83,7 +83,7 @@ sees_id v file id exec debug o other f code info =
 -- a whole file's answer is the file's
 pub seen_whole : (b : List ℕ) (v : PictureFacts) (answer : Result Identity Why) → v ≡ whole b → IsIdentitySeen v answer
     → IsIdentity b answer
-seen_whole b v answer e s = subst (λ f. IsIdentity f answer) (ap filled e ∙ filled-whole b) s.is
+seen_whole b v answer e s = subst (λ f. IsIdentity f answer) (ap filled_with_zeros e ∙ filled-whole b) s.is
 
 -- what is found of a picture is said of each file
 pub says_seen : (p : PictureFacts) → IsPicture p → (r : IdentView) → SeesIdentity p r → SaysIdentity p r

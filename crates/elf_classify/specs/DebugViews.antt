@@ -2,13 +2,13 @@
 use Rattle.std.specs.Prelude.{◌≡◌, ◌⊎◌, ℕ, List, Option, option_map, true, false, ◌==◌, Ok}
 use Rattle.file_formats.specs.declared.codes.TheConstants.{ET_REL}
 use Rattle.file_formats.specs.declared.header.SectionTable.{SectionTable}
-use Rattle.file_formats.specs.DwarfSections.{IsPart, AreDebugSections, IsDebugAnswer}
+use Rattle.file_formats.specs.DwarfSections.{IsSectionPart, AreDebugSections, IsDebugAnswer}
 use Rattle.file_formats.specs.DwarfUnits.{DebugSections}
 use Rattle.file_formats.specs.Identity.{Identity}
 use Rattle.file_formats.specs.Parts.{IsDebugRange, IsSomePart, is_debug_name}
-use Rattle.file_formats.specs.Table.{table_of}
+use Rattle.file_formats.specs.Table.{section_table}
 use Rattle.file_formats.specs.Windows.{Range}
-use Rattle.file_picture.specs.Agrees.{filled}
+use Rattle.file_picture.specs.Agrees.{filled_with_zeros}
 use Rattle.file_picture.specs.Picture.{PictureFacts, IsCovered}
 use Rattle.file_picture.specs.declared.view.Need.{Need}
 use Rattle.dwarf_forms.specs.Parts.{sections_of}
@@ -21,12 +21,12 @@ use Rattle.elf_classify.specs.declared.parts.PartsView.TheVariants as view
 
 -- the part of a name, whose bytes are there
 pub record SeesPart (f : Opened) (name part : List ℕ) : Type 0 where
-  pub is : IsPart (filled f.file) name part
+  pub is : IsSectionPart (filled_with_zeros f.file) name part
   pub there : HasSectionThere f.file name
 
 -- all parts, whose bytes are there
 pub record SeesParts (f : Opened) (parts : DebugSections) : Type 0 where
-  pub are : AreDebugSections (filled f.file) f.table parts
+  pub are : AreDebugSections (filled_with_zeros f.file) f.table parts
   pub there : (name : List ℕ) → is_debug_name name ≡ true → HasSectionThere f.file name
 
 -- the bytes of a part are asked for, and aren't there
@@ -38,14 +38,14 @@ pub record NeedsPart (v : PictureFacts) (need : Need) : Type 0 where
 -- so are they of a file whose parts are read
 pub record NeedsDebug (v : PictureFacts) (need : Need) : Type 0 where
   pub of : SectionTable
-  pub is_table : table_of (filled v) ≡ Ok of
+  pub is_table : section_table (filled_with_zeros v) ≡ Ok of
   pub linked : (of.e_type == ET_REL) ≡ false
   pub part : NeedsPart v need
 
 -- the debug sections of the filled picture, whose bytes are there
 pub record IsDebugSeen (v : PictureFacts) (parts : Option DebugSections) : Type 0 where
-  pub is : IsDebugAnswer (filled v) parts
-  pub there : (r : Range) → IsDebugRange (filled v) r → IsCovered v r.at r.len
+  pub is : IsDebugAnswer (filled_with_zeros v) parts
+  pub there : (r : Range) → IsDebugRange (filled_with_zeros v) r → IsCovered v r.at r.len
 
 -- what a reading of a view finds for the debug sections
 abbrev pub SeesDebug : PictureFacts → PartsView → Type 0

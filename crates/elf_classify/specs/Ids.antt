@@ -1,7 +1,7 @@
 -- What a reading knows of a file's build-id, section by section (this project's rule).
-use Rattle.file_picture.specs.Agrees.{filled}
+use Rattle.file_picture.specs.Agrees.{filled_with_zeros}
 use Rattle.std.specs.Prelude.{◌≡◌, ◌≢◌, ℕ, ◌+◌, ◌<◌, List, Option, Ok, MatchOption}
-use Rattle.file_formats.specs.Table.{table_of}
+use Rattle.file_formats.specs.Table.{section_table}
 use Rattle.file_formats.specs.Identity.{HasIdAt, IsBuildId}
 use Rattle.file_formats.specs.declared.codes.TheConstants.{ET_CORE}
 use Rattle.elf_file.specs.Steps.{AllHere}
@@ -9,17 +9,17 @@ use Rattle.elf_file.specs.Opened.{Opened}
 
 -- the section of this index is looked at next: none before it has a build-id, and the windows before it are there
 pub record LooksAt (f : Opened) (i : ℕ) : Type 0 where
-  pub is_table : table_of (filled f.file) ≡ Ok f.table
+  pub is_table : section_table (filled_with_zeros f.file) ≡ Ok f.table
   pub other : f.table.e_type ≢ ET_CORE
-  pub none : (j : ℕ) (id : List ℕ) → j < i → HasIdAt (filled f.file) f.table j id → ⊥
+  pub none : (j : ℕ) (id : List ℕ) → j < i → HasIdAt (filled_with_zeros f.file) f.table j id → ⊥
   pub all : AllHere f.file (4 + i)
 
 -- what is found in the section of this index, which is there
 pub record FindsAt (f : Opened) (i : ℕ) (found : Option (List ℕ)) : Type 0 where
-  pub id : MatchOption found ((other : List ℕ) → HasIdAt (filled f.file) f.table i other → ⊥) (HasIdAt (filled f.file) f.table i)
+  pub id : MatchOption found ((other : List ℕ) → HasIdAt (filled_with_zeros f.file) f.table i other → ⊥) (HasIdAt (filled_with_zeros f.file) f.table i)
   pub all : AllHere f.file (5 + i)
 
 -- what is found in the file, all of whose windows are there
 pub record Finds (f : Opened) (found : Option (List ℕ)) : Type 0 where
-  pub id : MatchOption found ((i : ℕ) (other : List ℕ) → HasIdAt (filled f.file) f.table i other → ⊥) (IsBuildId (filled f.file) f.table)
+  pub id : MatchOption found ((i : ℕ) (other : List ℕ) → HasIdAt (filled_with_zeros f.file) f.table i other → ⊥) (IsBuildId (filled_with_zeros f.file) f.table)
   pub all : (n : ℕ) → AllHere f.file n

@@ -3,13 +3,13 @@ use Rattle.std.specs.Prelude.{◌≡◌, ◌⊎◌, ℕ, List, Option, true, fal
 use Rattle.std.specs.Option.{option_copied}
 use Rattle.file_formats.specs.declared.codes.TheConstants.{ET_REL}
 use Rattle.file_formats.specs.declared.header.SectionTable.{SectionTable}
-use Rattle.file_formats.specs.DwarfSections.{IsPart, IsDebugAnswer}
+use Rattle.file_formats.specs.DwarfSections.{IsSectionPart, IsDebugAnswer}
 use Rattle.file_formats.specs.DwarfUnits.{DebugSections}
 use Rattle.file_formats.specs.Numbers.{bytes_at}
 use Rattle.file_formats.specs.Parts.{IsSectionRange, IsSomeSection, is_debug_name}
 use Rattle.file_formats.specs.Table.{section_at, IsSectionOf, IsSectionAnswer}
 use Rattle.file_formats.specs.Windows.{Range, range, extent}
-use Rattle.file_picture.specs.Agrees.{filled}
+use Rattle.file_picture.specs.Agrees.{filled_with_zeros}
 use Rattle.file_picture.specs.Picture.{PictureFacts, IsCovered}
 use Rattle.file_picture.specs.declared.view.Need.{Need}
 use Rattle.elf_file.specs.Opened.{Opened}
@@ -19,27 +19,27 @@ use Rattle.elf_classify.specs.declared.named.SectionView.{SectionView}
 use Rattle.elf_classify.specs.declared.named.SectionView.TheVariants as view
 
 -- the bytes of the section of the name stand in this range
-pub record IsPlaced (b : List ℕ) (t : SectionTable) (name : List ℕ) (at : Need) : Type 0 where
+pub record IsSectionPlaced (b : List ℕ) (t : SectionTable) (name : List ℕ) (at : Need) : Type 0 where
   pub found : IsSectionOf b t name (bytes_at b at.at at.len)
   pub is : range at.at at.len ≡ extent (section_at b t found.index)
 
 -- the ranges of the section of the name are there
 abbrev pub HasSectionThere : PictureFacts → List ℕ → Type 0
-HasSectionThere v name = (r : Range) → IsSectionRange (filled v) name r → IsCovered v r.at r.len
+HasSectionThere v name = (r : Range) → IsSectionRange (filled_with_zeros v) name r → IsCovered v r.at r.len
 
 -- what is answered for the section of the name, whose bytes are there
 pub record SeesSection (f : Opened) (name : List ℕ) (found : Option (List ℕ)) : Type 0 where
-  pub is : IsSectionAnswer (filled f.file) name found
+  pub is : IsSectionAnswer (filled_with_zeros f.file) name found
   pub there : HasSectionThere f.file name
 
 -- its bytes are asked for, and aren't there
 pub record NeedsSection (v : PictureFacts) (name : List ℕ) (need : Need) : Type 0 where
-  pub is : IsSectionRange (filled v) name (range need.at need.len)
+  pub is : IsSectionRange (filled_with_zeros v) name (range need.at need.len)
   pub gone : IsCovered v need.at need.len → ⊥
 
 -- the section of the name in the filled picture, whose bytes and windows are there
 pub record IsSectionSeen (v : PictureFacts) (name : List ℕ) (found : Option (List ℕ)) : Type 0 where
-  pub is : IsSectionAnswer (filled v) name found
+  pub is : IsSectionAnswer (filled_with_zeros v) name found
   pub there : HasSectionThere v name
   pub all : (n : ℕ) → AllHere v n
 
@@ -55,7 +55,7 @@ SeesNamed v name (view.Need at len) =
 SeesNamed v name (view.Section found) = IsSectionSeen v name (option_copied found)
 
 -- what is answered for the section of a name of a picture
-abbrev pub SaysSection : PictureFacts → List ℕ → SectionView → Type 0
-SaysSection p name (view.Need at len) = AsksOf (IsSomeSection name) p at len
-SaysSection p name (view.Section found) =
+abbrev pub SaysSectionSeen : PictureFacts → List ℕ → SectionView → Type 0
+SaysSectionSeen p name (view.Need at len) = AsksOf (IsSomeSection name) p at len
+SaysSectionSeen p name (view.Section found) =
     IsOfEach (IsSomeSection name) (λ b. IsSectionAnswer b name (option_copied found)) p

@@ -3,7 +3,7 @@ use Rattle.std.specs.Prelude.{ℕ, List, Result, Ok, Err}
 use Rattle.file_formats.specs.Identity.{Identity, IsIdentity}
 use Rattle.file_formats.specs.Windows.{Range, range, IsSomeWindow}
 use Rattle.file_formats.specs.declared.fault.Why.{Why}
-use Rattle.file_picture.specs.Agrees.{Agrees, filled}
+use Rattle.file_picture.specs.Agrees.{AgreesWithPicture, filled_with_zeros}
 use Rattle.file_picture.specs.Picture.{PictureFacts, IsCovered}
 use Rattle.elf_file.specs.Steps.{AllHere, Needs}
 use Rattle.elf_classify.specs.declared.identity.IdentView.{IdentView}
@@ -12,12 +12,12 @@ use Rattle.elf_classify.specs.declared.identity.IdentView.TheVariants as view
 -- a range isn't there, and each file that agrees has it among these
 pub record AsksOf (Of : List ℕ → Range → Type 0) (p : PictureFacts) (at len : ℕ) : Type 0 where
   pub gone : IsCovered p at len → ⊥
-  pub among : (b : List ℕ) → Agrees b p → Of b (range at len)
+  pub among : (b : List ℕ) → AgreesWithPicture b p → Of b (range at len)
 
 -- this is so of each file that agrees, all of whose such ranges are there
 pub record IsOfEach (Of : List ℕ → Range → Type 0) (Is : List ℕ → Type 0) (p : PictureFacts) : Type 0 where
-  pub is : (b : List ℕ) → Agrees b p → Is b
-  pub there : (b : List ℕ) → Agrees b p → (r : Range) → Of b r → IsCovered p r.at r.len
+  pub is : (b : List ℕ) → AgreesWithPicture b p → Is b
+  pub there : (b : List ℕ) → AgreesWithPicture b p → (r : Range) → Of b r → IsCovered p r.at r.len
 
 -- the answer for the identity of each file that agrees, all of whose windows are there
 abbrev pub IsIdentityOfEach : PictureFacts → Result Identity Why → Type 0
@@ -31,7 +31,7 @@ SaysIdentity p (view.Plain why) = IsIdentityOfEach p (Err why)
 
 -- the answer is that of the filled picture, all of whose windows are there
 pub record IsIdentitySeen (v : PictureFacts) (answer : Result Identity Why) : Type 0 where
-  pub is : IsIdentity (filled v) answer
+  pub is : IsIdentity (filled_with_zeros v) answer
   pub all : (n : ℕ) → AllHere v n
 
 -- what a reading of a view finds

@@ -1,9 +1,9 @@
 //! A file's identity: its build-id, and whether it holds code and debug information.
 
 ghost use Rattle.std.specs.Prelude.{◌≡◌, ◌≢◌, ◌↔◌, ◌<◌, ℕ, List, Result, Err, IsTrue, IfNone, IfSome};
-ghost use Rattle.file_formats.specs.Identity.{HasCode, HasDebug, Identity, IsIdentity, is_code, is_debug, why_of};
+ghost use Rattle.file_formats.specs.Identity.{HasCode, HasDebug, Identity, IsIdentity, is_code, is_debug, why_of_fault};
 ghost use Rattle.file_formats.specs.Table.{given_name};
-ghost use Rattle.file_picture.specs.Agrees.{filled};
+ghost use Rattle.file_picture.specs.Agrees.{filled_with_zeros};
 ghost use Rattle.elf_classify.specs.Views.{SaysIdentity, SeesIdentity};
 ghost use Rattle.elf_classify.specs.declared.identity.IdentView.TheVariants as view;
 
@@ -15,7 +15,7 @@ use row_types::{Ident, Why};
 
 /// What a fault of the table is called of a file.
 fn reason(fault: ElfFault) -> Why
-    ensures { result ≡ why_of fault }
+    ensures { result ≡ why_of_fault fault }
 {
     match fault {
         ElfFault::NotElf => Why::NotElf,
@@ -34,14 +34,14 @@ fn holds_code(header: &SectionHeader) -> bool
 /// Whether a section is one of debug information.
 fn holds_debug(file: &ElfView<'_>, header: &SectionHeader) -> bool
     ensures { result ≡ is_debug
-        header.now (given_name (filled file.now.file) file.now.table header.now) }
+        header.now (given_name (filled_with_zeros file.now.file) file.now.table header.now) }
 {
     !header.takes_no_bytes() && file.has_name_with(header, b".debug_")
 }
 
 /// Whether some section is code.
 fn has_code(file: &ElfView<'_>) -> bool
-    ensures { IsTrue result ↔ HasCode (filled file.now.file) file.now.table }
+    ensures { IsTrue result ↔ HasCode (filled_with_zeros file.now.file) file.now.table }
 {
     for index in 1..file.count() {
         if holds_code(&file.header(index)) {
@@ -53,7 +53,7 @@ fn has_code(file: &ElfView<'_>) -> bool
 
 /// Whether some section is one of debug information.
 fn has_debug(file: &ElfView<'_>) -> bool
-    ensures { IsTrue result ↔ HasDebug (filled file.now.file) file.now.table }
+    ensures { IsTrue result ↔ HasDebug (filled_with_zeros file.now.file) file.now.table }
 {
     for index in 1..file.count() {
         if holds_debug(file, &file.header(index)) {

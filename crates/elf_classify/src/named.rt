@@ -5,9 +5,9 @@ ghost use Rattle.std.specs.Option.{option_copied};
 ghost use Rattle.file_formats.specs.Numbers.{bytes_at};
 ghost use Rattle.file_formats.specs.Table.{HasSection, IsSectionIndex, IsSectionAnswer, section_at};
 ghost use Rattle.file_formats.specs.Windows.{extent, range};
-ghost use Rattle.file_picture.specs.Agrees.{filled};
+ghost use Rattle.file_picture.specs.Agrees.{filled_with_zeros};
 ghost use Rattle.elf_file.specs.Steps.{AllHere, Needs};
-ghost use Rattle.elf_classify.specs.Placed.{IsPlaced, NeedsSection, SaysSection, SeesNamed, SeesSection};
+ghost use Rattle.elf_classify.specs.Placed.{IsSectionPlaced, NeedsSection, SaysSectionSeen, SeesNamed, SeesSection};
 ghost use Rattle.elf_classify.specs.declared.named.SectionView.TheVariants as view;
 
 use crate::ids::build_id;
@@ -18,12 +18,12 @@ use file_picture::{Need, Picture, View};
 /// Where the section of an index stands, where it has this name and is one that is handed out.
 fn place_at(file: &ElfView<'_>, index: u64, name: &[u8]) -> Option<Need>
     requires { IsSectionIndex file.now.table index }
-    ensures found { IfSome result (λ at. HasSection (filled file.now.file) file.now.table name.now
-        index (bytes_at (filled file.now.file) at.at at.len)) }
+    ensures found { IfSome result (λ at. HasSection (filled_with_zeros file.now.file) file.now.table name.now
+        index (bytes_at (filled_with_zeros file.now.file) at.at at.len)) }
     ensures placed { IfSome result (λ at. range at.at at.len
-        ≡ extent (section_at (filled file.now.file) file.now.table index)) }
+        ≡ extent (section_at (filled_with_zeros file.now.file) file.now.table index)) }
     ensures none { IfNone result ((bytes : List ℕ)
-        → HasSection (filled file.now.file) file.now.table name.now index bytes → ⊥) }
+        → HasSection (filled_with_zeros file.now.file) file.now.table name.now index bytes → ⊥) }
 {
     let header = file.header(index);
     if header.is_flagged(SHF_COMPRESSED) {
@@ -37,9 +37,9 @@ fn place_at(file: &ElfView<'_>, index: u64, name: &[u8]) -> Option<Need>
 
 /// Where the first section of a name that is handed out stands.
 fn first_named(file: &ElfView<'_>, name: &[u8]) -> Option<Need>
-    ensures found { IfSome result (IsPlaced (filled file.now.file) file.now.table name.now) }
+    ensures found { IfSome result (IsSectionPlaced (filled_with_zeros file.now.file) file.now.table name.now) }
     ensures none { IfNone result ((i : ℕ) (bytes : List ℕ)
-        → HasSection (filled file.now.file) file.now.table name.now i bytes → ⊥) }
+        → HasSection (filled_with_zeros file.now.file) file.now.table name.now i bytes → ⊥) }
 {
     for index in 1..file.count() {
         if let Some(at) = place_at(file, index, name) {
@@ -141,7 +141,7 @@ fn section_seen<'a>(seen: View<'a>, name: &[u8]) -> SectionView<'a>
 /// The section of a name in each file that agrees with a picture, where all its windows and that
 /// section are there; else one of these that isn't. It takes no memory.
 pub fn section_view<'a>(picture: &'a Picture, name: &[u8]) -> SectionView<'a>
-    ensures { SaysSection picture.now name.now result }
+    ensures { SaysSectionSeen picture.now name.now result }
 {
     section_seen(View::part(picture), name)
 }

@@ -9,7 +9,7 @@ use Rattle.file_formats.specs.declared.header.SectionTable.{SectionTable}
 use Rattle.file_formats.specs.Windows.{Range, range, extent, Window, beginning, zero_header, table, names, notes, IsWindow, rank}
 use Rattle.file_formats.proofs.TableLemmas.{is_made}
 use Rattle.file_formats.proofs.NamesLemmas.{names_below}
-use Rattle.file_picture.specs.Agrees.{filled}
+use Rattle.file_picture.specs.Agrees.{filled_with_zeros}
 use Rattle.file_picture.specs.Picture.{PictureFacts, IsCovered}
 use Rattle.file_picture.specs.declared.view.Need.{Need}
 use Rattle.elf_file.specs.Steps.{AllHere, Needs, HasTable, HasNames}
@@ -17,16 +17,16 @@ use Rattle.elf_file.proofs.StartLemmas.{all_more, same_ok}
 
 names_more : (v : PictureFacts) (t : SectionTable) (entries : List ℕ) → HasTable v t entries
     → ((t.names == SHN_UNDEF) ≡ false
-    → IsCovered v (section_at (filled v) t t.names).sh_offset (section_at (filled v) t t.names).sh_size) → AllHere v 4
+    → IsCovered v (section_at (filled_with_zeros v) t t.names).sh_offset (section_at (filled_with_zeros v) t t.names).sh_size) → AllHere v 4
 names_more v t entries is there = all_more v 3 is.all of
   where
-    of : (w : Window) (r : Range) → rank w ≡ 3 → IsWindow (filled v) w r → IsCovered v r.at r.len
+    of : (w : Window) (r : Range) → rank w ≡ 3 → IsWindow (filled_with_zeros v) w r → IsCovered v r.at r.len
     of beginning r e w = absurd (omega (arith, e))
     of zero_header r e w = absurd (omega (arith, e))
     of table r e w = absurd (omega (arith, e))
     of names r e w =
         let same : w.of ≡ t = same_ok (sym w.is_table ∙ is.is) in
-        let placed : r ≡ extent (section_at (filled v) t t.names) = w.is ∙ ap (λ s. extent (section_at (filled v) s s.names)) same in
+        let placed : r ≡ extent (section_at (filled_with_zeros v) t t.names) = w.is ∙ ap (λ s. extent (section_at (filled_with_zeros v) s s.names)) same in
         subst (λ (s : Range). IsCovered v s.at s.len) (sym placed)
         (there (subst (λ s. (s.names == SHN_UNDEF) ≡ false) same w.some))
     of (notes i) r e w = absurd (omega (arith, e))
@@ -43,19 +43,19 @@ no_names v t entries is none =
 pub names_under : (v : PictureFacts) (t : SectionTable) (entries : List ℕ) → HasTable v t entries → t.names ≢ SHN_UNDEF
     → t.names < t.count
 names_under v t entries is some =
-    (names_below (filled v) t (is_made (filled v) t is.is).names (ne_eqb t.names SHN_UNDEF some)).0
+    (names_below (filled_with_zeros v) t (is_made (filled_with_zeros v) t is.is).names (ne_eqb t.names SHN_UNDEF some)).0
 
 -- the names' section has contents
 pub names_there : (v : PictureFacts) (t : SectionTable) (entries : List ℕ) → HasTable v t entries → t.names ≢ SHN_UNDEF
-    → contents_at (filled v) t t.names ≡ None → ⊥
+    → contents_at (filled_with_zeros v) t t.names ≡ None → ⊥
 names_there v t entries is some none =
-    let has_some = (names_below (filled v) t (is_made (filled v) t is.is).names (ne_eqb t.names SHN_UNDEF some)).1 in
+    let has_some = (names_below (filled_with_zeros v) t (is_made (filled_with_zeros v) t is.is).names (ne_eqb t.names SHN_UNDEF some)).1 in
     let both : false ≡ true = sym (ap is_some none) ∙ has_some in cc
 
 pub names_found : (v : PictureFacts) (t : SectionTable) (entries bytes : List ℕ) (need : Need) → HasTable v t entries
-    → t.names ≢ SHN_UNDEF → contents_at (filled v) t t.names ≡ Some (bytes_at (filled v) need.at need.len)
-    → range need.at need.len ≡ extent (section_at (filled v) t t.names)
-    → IsCovered v need.at need.len → bytes ≡ bytes_at (filled v) need.at need.len → HasNames v t (Some bytes)
+    → t.names ≢ SHN_UNDEF → contents_at (filled_with_zeros v) t t.names ≡ Some (bytes_at (filled_with_zeros v) need.at need.len)
+    → range need.at need.len ≡ extent (section_at (filled_with_zeros v) t t.names)
+    → IsCovered v need.at need.len → bytes ≡ bytes_at (filled_with_zeros v) need.at need.len → HasNames v t (Some bytes)
 names_found v t entries bytes need is some holds placed there are =
     let test : (t.names == SHN_UNDEF) ≡ false = ne_eqb t.names SHN_UNDEF some in
     record {
@@ -64,7 +64,7 @@ names_found v t entries bytes need is some holds placed there are =
     }
 
 pub needs_names : (v : PictureFacts) (t : SectionTable) (entries : List ℕ) (need : Need) → HasTable v t entries
-    → t.names ≢ SHN_UNDEF → range need.at need.len ≡ extent (section_at (filled v) t t.names)
+    → t.names ≢ SHN_UNDEF → range need.at need.len ≡ extent (section_at (filled_with_zeros v) t t.names)
     → (IsCovered v need.at need.len → ⊥) → Needs v need
 needs_names v t entries need is some placed gone = record {
   window = names;

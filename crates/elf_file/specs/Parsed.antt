@@ -1,7 +1,7 @@
 -- A file whose section table can be read.
 use Rattle.std.specs.Prelude.{ℕ, ◌+◌, ◌≤◌, List, length}
 use Rattle.file_formats.specs.declared.header.SectionTable.{SectionTable}
-use Rattle.file_picture.specs.Agrees.{filled}
+use Rattle.file_picture.specs.Agrees.{filled_with_zeros}
 use Rattle.file_picture.specs.Picture.{PictureFacts, IsCovered}
 
 -- the file's bytes, and its section table
@@ -10,5 +10,5 @@ pub record Parsed : Type 0 where
   pub table : SectionTable
 
 -- each range of the file is there
-abbrev pub IsWhole : PictureFacts → Type 0
-IsWhole v = (at len : ℕ) → at + len ≤ length (filled v) → IsCovered v at len
+abbrev pub IsPictureWhole : PictureFacts → Type 0
+IsPictureWhole v = (at len : ℕ) → at + len ≤ length (filled_with_zeros v) → IsCovered v at len

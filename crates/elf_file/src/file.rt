@@ -4,7 +4,7 @@ ghost use Rattle.std.specs.Prelude.{◌≡◌, ◌≢◌, ◌↔◌, ◌<◌, �
 ghost use Rattle.std.specs.Option.{option_copied, option_map_or};
 ghost use Rattle.std.specs.List.{starts_with};
 ghost use Rattle.file_formats.specs.Sections.{contents_of};
-ghost use Rattle.file_formats.specs.Table.{IsFirstNamed, IsSectionIndex, name_at, given_name, section_at, table_of};
+ghost use Rattle.file_formats.specs.Table.{IsFirstNamed, IsSectionIndex, name_at, given_name, section_at, section_table};
 ghost use Rattle.elf_file.specs.Section.{IsSection};
 ghost use Rattle.elf_file.specs.Texts.{has_no_zero};
 
@@ -20,22 +20,22 @@ pub struct ElfFile<'a> {
 }
 
 impl<'a> Model for ElfFile<'a> {
-    ghost use Rattle.file_picture.specs.Agrees.{filled};
-    ghost use Rattle.elf_file.specs.Parsed.{IsWhole, Parsed};
+    ghost use Rattle.file_picture.specs.Agrees.{filled_with_zeros};
+    ghost use Rattle.elf_file.specs.Parsed.{IsPictureWhole, Parsed};
 
     ghost Value = { Parsed };
 
-    ghost view = { λ f. record { bytes = filled f.file.file; table = f.file.table } };
+    ghost view = { λ f. record { bytes = filled_with_zeros f.file.file; table = f.file.table } };
 
-    ghost invariant = { λ f. IsWhole f.file.file };
+    ghost invariant = { λ f. IsPictureWhole f.file.file };
 }
 
 impl<'a> ElfFile<'a> {
     /// Reads the header and finds the section table and the names.
     pub fn parse(bytes: &'a [u8]) -> Result<ElfFile<'a>, ElfFault>
         ensures ok { IfOk result (λ file.
-            (file.bytes ≡ bytes.now) × (table_of bytes.now ≡ Ok file.table)) }
-        ensures err { IfErr result (λ fault. table_of bytes.now ≡ Err fault) }
+            (file.bytes ≡ bytes.now) × (section_table bytes.now ≡ Ok file.table)) }
+        ensures err { IfErr result (λ fault. section_table bytes.now ≡ Err fault) }
     {
         match ElfView::of_bytes(bytes) {
             Ok(file) => Ok(ElfFile { file }),

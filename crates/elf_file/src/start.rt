@@ -1,11 +1,11 @@
 //! The header, and section 0's.
 
-ghost use Rattle.file_picture.specs.Agrees.{filled};
+ghost use Rattle.file_picture.specs.Agrees.{filled_with_zeros};
 ghost use Rattle.std.specs.Prelude.{◌≡◌, ◌+◌, ◌≤◌, ◌==◌, ◌&&◌, true, nat_le, length, MatchResult};
 ghost use Rattle.file_formats.specs.Sections.{shdr_size};
-ghost use Rattle.file_formats.specs.Table.{has_section_zero, count_of, described};
+ghost use Rattle.file_formats.specs.Table.{has_section_zero, section_count, described};
 ghost use Rattle.file_formats.specs.Windows.{reaches_zero, reaches_table, asks_zero};
-ghost use Rattle.elf_file.specs.Steps.{HasBeginning, HasHead, HasZero, Needs, Stops, from_zero};
+ghost use Rattle.elf_file.specs.Steps.{HasBeginning, HasElfHeader, HasZero, Needs, StopsBefore, from_zero};
 ghost use Rattle.file_formats.specs.declared.codes.TheConstants.{SHN_XINDEX};
 
 use crate::head::head;
@@ -23,7 +23,7 @@ fn beginning<'a>(view: &View<'a>) -> Result<&'a [u8], Need>
 
 /// The header, where the first two tests pass.
 pub fn head_in(view: &View<'_>) -> Result<Head, Stop>
-    ensures { MatchResult result (HasHead view.now) (Stops view.now) }
+    ensures { MatchResult result (HasElfHeader view.now) (StopsBefore view.now) }
 {
     let front = beginning(view)?;
     match head(front) {
@@ -34,15 +34,15 @@ pub fn head_in(view: &View<'_>) -> Result<Head, Stop>
 
 /// Whether section 0's header is wholly in the file.
 pub fn holds_section_zero(view: &View<'_>, head: &Head) -> bool
-    ensures { result ≡ has_section_zero (filled view.now) head.now }
+    ensures { result ≡ has_section_zero (filled_with_zeros view.now) head.now }
 {
     head.e_shoff as u128 + head.encoding.class.shdr_size() as u128 <= view.size() as u128
 }
 
 /// Section 0's header, where it is asked and there.
 pub fn zero_in(view: &View<'_>, head: &Head) -> Result<Option<SectionHeader>, Need>
-    requires head { HasHead view.now head.now }
-    requires reached { reaches_zero (filled view.now) head.now ≡ true }
+    requires head { HasElfHeader view.now head.now }
+    requires reached { reaches_zero (filled_with_zeros view.now) head.now ≡ true }
     ensures { MatchResult result (HasZero view.now head.now) (Needs view.now) }
 {
     if !wants_zero(view, head) {
@@ -54,7 +54,7 @@ pub fn zero_in(view: &View<'_>, head: &Head) -> Result<Option<SectionHeader>, Ne
 
 /// Whether section 0's header is asked and there.
 fn wants_zero(view: &View<'_>, head: &Head) -> bool
-    ensures { result ≡ (asks_zero head.now && has_section_zero (filled view.now) head.now) }
+    ensures { result ≡ (asks_zero head.now && has_section_zero (filled_with_zeros view.now) head.now) }
 {
     asks_zero(head) && holds_section_zero(view, head)
 }
@@ -69,8 +69,8 @@ fn asks_zero(head: &Head) -> bool
 /// The number of sections.
 pub fn count(view: &View<'_>, head: &Head, zero: &Option<SectionHeader>) -> u64
     requires zero { HasZero view.now head.now zero.now }
-    requires reached { reaches_zero (filled view.now) head.now ≡ true }
-    ensures { result ≡ count_of (filled view.now) head.now }
+    requires reached { reaches_zero (filled_with_zeros view.now) head.now ≡ true }
+    ensures { result ≡ section_count (filled_with_zeros view.now) head.now }
 {
     count_by(head, zero)
 }
@@ -105,9 +105,9 @@ pub fn describe(
     count: u64,
 ) -> SectionTable
     requires zero { HasZero view.now head.now zero.now }
-    requires count { count ≡ count_of (filled view.now) head.now }
-    requires reached { reaches_table (filled view.now) head.now ≡ true }
-    ensures { result ≡ described (filled view.now) head.now }
+    requires count { count ≡ section_count (filled_with_zeros view.now) head.now }
+    requires reached { reaches_table (filled_with_zeros view.now) head.now ≡ true }
+    ensures { result ≡ described (filled_with_zeros view.now) head.now }
 {
     SectionTable {
         encoding: head.encoding,

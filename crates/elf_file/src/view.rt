@@ -1,6 +1,6 @@
 //! A file whose section table can be read, of which parts are there.
 
-ghost use Rattle.file_picture.specs.Agrees.{filled};
+ghost use Rattle.file_picture.specs.Agrees.{filled_with_zeros};
 ghost use Rattle.std.specs.Prelude.{◌≡◌, ◌↔◌, ◌<◌, ◌≤◌, true, false, Some, nat_eq, IsTrue, MatchResult};
 ghost use Rattle.file_formats.specs.Numbers.{bytes_at};
 ghost use Rattle.file_picture.specs.Picture.{IsCovered};
@@ -9,7 +9,7 @@ ghost use Rattle.std.specs.List.{starts_with};
 ghost use Rattle.std.specs.Option.{option_copied, option_map_or};
 ghost use Rattle.file_formats.specs.Table.{given_name, section_at};
 ghost use Rattle.elf_file.specs.Texts.{has_no_zero};
-ghost use Rattle.elf_file.specs.Steps.{FailsTests, IsExtent, Stops};
+ghost use Rattle.elf_file.specs.Steps.{FailsTests, IsExtent, StopsBefore};
 ghost use Rattle.elf_file.specs.Opened.{OpensAs, Knows};
 
 use crate::names::Names;
@@ -30,19 +30,19 @@ pub struct ElfView<'a> {
 }
 
 impl<'a> Model for ElfView<'a> {
-    ghost use Rattle.elf_file.specs.Opened.{Opened, IsOpened};
+    ghost use Rattle.elf_file.specs.Opened.{Opened, IsTableOpened};
 
     ghost Value = { Opened };
 
     ghost view = { λ f. record { file = f.view; table = f.table } };
 
-    ghost invariant = { λ f. IsOpened f.view f.table f.entries.now f.names };
+    ghost invariant = { λ f. IsTableOpened f.view f.table f.entries.now f.names };
 }
 
 impl<'a> ElfView<'a> {
     /// Reads the header, the section table and the names.
     pub fn open(view: View<'a>) -> Result<ElfView<'a>, Stop>
-        ensures { MatchResult result (OpensAs view.entry) (Stops view.entry) }
+        ensures { MatchResult result (OpensAs view.entry) (StopsBefore view.entry) }
     {
         let (table, entries) = table_in(&view)?;
         let names = names_in(&view, &table, entries)?;
@@ -76,7 +76,7 @@ impl<'a> ElfView<'a> {
     pub fn slice(&self, at: &Need) -> Result<&'a [u8], Need>
         ensures { MatchResult result
             (λ bytes. IsCovered self.now.file at.now.at at.now.len
-            × (bytes.now ≡ bytes_at (filled self.now.file) at.now.at at.now.len))
+            × (bytes.now ≡ bytes_at (filled_with_zeros self.now.file) at.now.at at.now.len))
             (λ need. (IsCovered self.now.file at.now.at at.now.len → ⊥) × (need ≡ at.now)) }
     {
         self.view.slice(at.at, at.len)
@@ -106,14 +106,14 @@ impl<'a> ElfView<'a> {
     /// The section header of an index.
     pub fn header(&self, index: u64) -> SectionHeader
         requires { index < self.now.table.count }
-        ensures { result ≡ section_at (filled self.now.file) self.now.table index }
+        ensures { result ≡ section_at (filled_with_zeros self.now.file) self.now.table index }
     {
         entry(&self.view, &self.table, self.entries, index)
     }
 
     /// Where a section's bytes stand, where it has some and its extent lies in the file.
     pub fn extent(&self, header: &SectionHeader) -> Option<Need>
-        ensures { IsExtent (filled self.now.file) header.now result }
+        ensures { IsExtent (filled_with_zeros self.now.file) header.now result }
     {
         extent(&self.view, header)
     }
@@ -121,7 +121,7 @@ impl<'a> ElfView<'a> {
     /// The name that a section header gives.
     pub fn name(&self, header: &SectionHeader) -> Option<&'a [u8]>
         ensures { option_copied result
-            ≡ given_name (filled self.now.file) self.now.table header.now }
+            ≡ given_name (filled_with_zeros self.now.file) self.now.table header.now }
     {
         match &self.names {
             Some(names) => names.text(header.sh_name),
@@ -131,7 +131,7 @@ impl<'a> ElfView<'a> {
 
     /// Whether a section header gives this name.
     pub fn has_name(&self, header: &SectionHeader, name: &[u8]) -> bool
-        ensures { IsTrue result ↔ (given_name (filled self.now.file) self.now.table header.now
+        ensures { IsTrue result ↔ (given_name (filled_with_zeros self.now.file) self.now.table header.now
             ≡ Some name.now) }
     {
         match &self.names {
@@ -146,7 +146,7 @@ impl<'a> ElfView<'a> {
         requires { has_no_zero prefix.now ≡ true }
         ensures { result ≡ option_map_or
             (λ name. starts_with nat_eq name prefix.now)
-            (given_name (filled self.now.file) self.now.table header.now) false }
+            (given_name (filled_with_zeros self.now.file) self.now.table header.now) false }
     {
         match &self.names {
             Some(names) => names.begins(header.sh_name, prefix),

@@ -11,7 +11,7 @@ use Rattle.row_types.specs.Canon.{stays}
 use Rattle.row_types.proofs.CanonLemmas.{right_true}
 use Rattle.tree_trait.specs.Entry.{has_no_slash, is_entry_name}
 use Rattle.elf_forge.specs.Forge.{last_digit, six_digits}
-use Rattle.elf_forge.specs.Place.{file_path, number_in}
+use Rattle.elf_forge.specs.Place.{forged_path, forged_number_in}
 
 -- a number divided once more, with the digit between
 tens : (k m : ℕ) → k / (m * 10) * 10 + k / m % 10 ≡ k / m
@@ -24,15 +24,15 @@ summed : (a b c d e f k q1 q2 q3 q4 q5 : ℕ) → q1 * 10 + f ≡ k → q2 * 10 
 summed a b c d e f k q1 q2 q3 q4 q5 e1 e2 e3 e4 e5 e6 = omega arith
 
 -- a file's path tells its number
-pub number_of_path : (k : ℕ) → k < 1000000 → number_in (file_path k) ≡ k
+pub number_of_path : (k : ℕ) → k < 1000000 → forged_number_in (forged_path k) ≡ k
 number_of_path k small =
     summed (k / 100000 % 10) (k / 10000 % 10) (k / 1000 % 10) (k / 100 % 10) (k / 10 % 10) (k % 10) k (k / 10) (k / 100)
     (k / 1000) (k / 10000) (k / 100000) (div-add-mod' k 10) (tens k 10) (tens k 100) (tens k 1000) (tens k 10000)
     (subst (λ q. q * 10 + k / 100000 % 10 ≡ k / 100000) (div-eq_of_lt small) (tens k 100000))
 
 -- two files of the same path are one
-pub same_path : (k j : ℕ) → k < 1000000 → j < 1000000 → file_path k ≡ file_path j → k ≡ j
-same_path k j small also e = sym (number_of_path k small) ∙ ap number_in e ∙ number_of_path j also
+pub same_path : (k j : ℕ) → k < 1000000 → j < 1000000 → forged_path k ≡ forged_path j → k ≡ j
+same_path k j small also e = sym (number_of_path k small) ∙ ap forged_number_in e ∙ number_of_path j also
 
 pub same_number : (k j : ℕ) → k < 1000000 → j < 1000000 → six_digits k ≡ six_digits j → k ≡ j
 same_number k j small also e = same_path k j small also (ap (λ digits. codes "/t/f/" ++ digits) e)

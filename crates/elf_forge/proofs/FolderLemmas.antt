@@ -20,7 +20,7 @@ use Rattle.tree_trait.specs.declared.entry.EntryKind.TheVariants as kind
 use Rattle.tree_trait.proofs.EntryLemmas.{entries_same, entry_itself}
 use Rattle.tree_trait.proofs.FolderLemmas.{made_is_piece, starts_rest}
 use Rattle.elf_forge.specs.Forge.{six_digits}
-use Rattle.elf_forge.specs.Place.{entries_of, file_entry, file_path, folder_among, folder_at, name_of, names_of, numbers_below}
+use Rattle.elf_forge.specs.Place.{forged_entries, file_entry, forged_path, folder_among, folder_at, forged_name, forged_names, numbers_below}
 use Rattle.elf_forge.specs.declared.folder.Folder.{Folder}
 use Rattle.elf_forge.specs.declared.folder.Folder.TheVariants.{Root, Top, Files}
 use Rattle.elf_forge.proofs.DigitLemmas.{digits_name, no_slash_in, same_number}
@@ -45,7 +45,7 @@ by_folder p P a b c d e =
     e (other p [] none.0) (other p (codes "/") none.1) (other p (codes "/t") g) (other p (codes "/t/f") h))))
 
 -- what stands before a slash in a file's path
-front_is : (p rest : List ℕ) (k : ℕ) → file_path k ≡ p ++ 47 ∷ rest → (p ≡ []) ⊎ ((p ≡ codes "/t") ⊎ (p ≡ codes "/t/f"))
+front_is : (p rest : List ℕ) (k : ℕ) → forged_path k ≡ p ++ 47 ∷ rest → (p ≡ []) ⊎ ((p ≡ codes "/t") ⊎ (p ≡ codes "/t/f"))
 front_is [] rest k e = inl refl
 front_is (a ∷ []) rest k e = absurd (eqb-false 116 47 refl (ap (λ t. slice_index_or t 1 0) e))
 front_is (a ∷ b ∷ []) rest k e = inr (inl (sym (ap (take 2) e)))
@@ -60,19 +60,19 @@ front_of p root =
     subst (λ b. (if b then p else p ++ 47 ∷ []) ≡ p ++ 47 ∷ []) (sym no) refl
 
 -- each file lies under the folders, and under nothing else
-pub lies_in : (p : List ℕ) (k : ℕ) → lies_under p (file_path k) ≡ is_some (folder_at p)
+pub lies_in : (p : List ℕ) (k : ℕ) → lies_under p (forged_path k) ≡ is_some (folder_at p)
 lies_in p k =
-    by_folder p (λ o. lies_under p (file_path k) ≡ is_some o) (λ e. moved [] e refl) (λ e. moved (codes "/") e refl)
+    by_folder p (λ o. lies_under p (forged_path k) ≡ is_some o) (λ e. moved [] e refl) (λ e. moved (codes "/") e refl)
     (λ e. moved (codes "/t") e refl) (λ e. moved (codes "/t/f") e refl)
-    (λ a b c d. false_from_ne_true (lies_under p (file_path k)) (λ t.
+    (λ a b c d. false_from_ne_true (lies_under p (forged_path k)) (λ t.
     let front : List ℕ = front_under p in
-    let rest : List ℕ = drop (length front) (file_path k) in
-    let begins = starts_rest front (file_path k) (left_true _ (not (bytes_eq (file_path k) p)) t) in
+    let rest : List ℕ = drop (length front) (forged_path k) in
+    let begins = starts_rest front (forged_path k) (left_true _ (not (bytes_eq (forged_path k) p)) t) in
     let split = begins ∙ ap (λ f. f ++ rest) (front_of p b) ∙ append_assoc p (47 ∷ []) rest in
     elim (front_is p rest k split) [ inl x ↦ a x | inr (inl y) ↦ c y | inr (inr z) ↦ d z ]))
   where
-    moved : (q : List ℕ) → p ≡ q → lies_under q (file_path k) ≡ true → lies_under p (file_path k) ≡ true
-    moved q e h = subst (λ r. lies_under r (file_path k) ≡ true) (sym e) h
+    moved : (q : List ℕ) → p ≡ q → lies_under q (forged_path k) ≡ true → lies_under p (forged_path k) ≡ true
+    moved q e h = subst (λ r. lies_under r (forged_path k) ≡ true) (sym e) h
 
 or_same : (a b c : Bool) → a ≡ c → b ≡ c → (a || b) ≡ c
 or_same true b c e f = e
@@ -80,8 +80,8 @@ or_same false b c e f = f
 
 -- some file lies under a path exactly where a folder stands there
 any_same : (seed : ℕ) (p : List ℕ) (ks : List ℕ) (k : ℕ)
-    → list_any (λ (name : NameFacts). lies_under p name.path) (map (name_of seed) (ks ++ k ∷ [])) ≡ is_some (folder_at p)
-any_same seed p [] k = or_from_false (lies_under p (file_path k)) (lies_in p k)
+    → list_any (λ (name : NameFacts). lies_under p name.path) (map (forged_name seed) (ks ++ k ∷ [])) ≡ is_some (folder_at p)
+any_same seed p [] k = or_from_false (lies_under p (forged_path k)) (lies_in p k)
   where
     or_from_false : (a : Bool) {c : Bool} → a ≡ c → (a || false) ≡ c
     or_from_false true e = e
@@ -92,7 +92,7 @@ pub some_files : (n : ℕ) (p : List ℕ) → folder_among (suc n) p ≡ folder_
 some_files n p =
     subst (λ b. (if b then None else folder_at p) ≡ folder_at p) (sym (ne_eqb (suc n) 0 (λ e. omega (arith, e)))) refl
 
-pub folder_there : (seed files : ℕ) (p : List ℕ) → is_folder (names_of seed files) p ≡ is_some (folder_among files p)
+pub folder_there : (seed files : ℕ) (p : List ℕ) → is_folder (forged_names seed files) p ≡ is_some (folder_among files p)
 folder_there seed zero p = refl
 folder_there seed (suc n) p = any_same seed p (numbers_below n) n ∙ sym (ap is_some (some_files n p))
 
@@ -111,18 +111,18 @@ again e =
 begin : (e : EntryFacts) → is_entry_name e.name ≡ true → with_piece [] (Some e) ≡ e ∷ []
 begin e valid = subst (λ b. (if b && true then [] ++ e ∷ [] else []) ≡ e ∷ []) (sym valid) refl
 
-lone_more : (seed : ℕ) (p : List ℕ) (e : EntryFacts) → ((k : ℕ) → piece_under p (file_path k) ≡ Some e) → (ks : List ℕ)
-    → with_pieces p (e ∷ []) (map (name_of seed) ks) ≡ e ∷ []
+lone_more : (seed : ℕ) (p : List ℕ) (e : EntryFacts) → ((k : ℕ) → piece_under p (forged_path k) ≡ Some e) → (ks : List ℕ)
+    → with_pieces p (e ∷ []) (map (forged_name seed) ks) ≡ e ∷ []
 lone_more seed p e gives [] = refl
 lone_more seed p e gives (k ∷ ks) =
-    ap (λ known. with_pieces p known (map (name_of seed) ks)) (ap (with_piece (e ∷ [])) (gives k) ∙ again e)
+    ap (λ known. with_pieces p known (map (forged_name seed) ks)) (ap (with_piece (e ∷ [])) (gives k) ∙ again e)
     ∙ lone_more seed p e gives ks
 
-lone : (seed : ℕ) (p : List ℕ) (e : EntryFacts) → ((k : ℕ) → piece_under p (file_path k) ≡ Some e)
-    → is_entry_name e.name ≡ true → (ks : List ℕ) (k : ℕ) → with_pieces p [] (map (name_of seed) (ks ++ k ∷ [])) ≡ e ∷ []
+lone : (seed : ℕ) (p : List ℕ) (e : EntryFacts) → ((k : ℕ) → piece_under p (forged_path k) ≡ Some e)
+    → is_entry_name e.name ≡ true → (ks : List ℕ) (k : ℕ) → with_pieces p [] (map (forged_name seed) (ks ++ k ∷ [])) ≡ e ∷ []
 lone seed p e gives valid [] k = ap (with_piece []) (gives k) ∙ begin e valid
 lone seed p e gives valid (j ∷ ks) k =
-    ap (λ known. with_pieces p known (map (name_of seed) (ks ++ k ∷ []))) (ap (with_piece []) (gives j) ∙ begin e valid)
+    ap (λ known. with_pieces p known (map (forged_name seed) (ks ++ k ∷ []))) (ap (with_piece []) (gives j) ∙ begin e valid)
     ∙ lone_more seed p e gives (ks ++ k ∷ [])
 
 -- a further file's entry isn't listed yet
@@ -146,40 +146,40 @@ added known e valid new =
     (subst (λ b. (if not b then known ++ e ∷ [] else known) ≡ known ++ e ∷ []) (sym new) refl)
 
 -- the pieces of the files in their folder
-file_piece : (k : ℕ) → piece_under (codes "/t/f") (file_path k) ≡ Some (file_entry k)
+file_piece : (k : ℕ) → piece_under (codes "/t/f") (forged_path k) ≡ Some (file_entry k)
 file_piece k =
-    made_is_piece (codes "/t/f") (file_path k) (six_digits k) kind.File (digits_name k)
-    ((bytes_eq-Decides (file_path k) (file_path k)).1 refl)
+    made_is_piece (codes "/t/f") (forged_path k) (six_digits k) kind.File (digits_name k)
+    ((bytes_eq-Decides (forged_path k) (forged_path k)).1 refl)
 
 all_files : (seed n : ℕ) → n ≤ 1000000
-    → with_pieces (codes "/t/f") [] (map (name_of seed) (numbers_below n)) ≡ map file_entry (numbers_below n)
+    → with_pieces (codes "/t/f") [] (map (forged_name seed) (numbers_below n)) ≡ map file_entry (numbers_below n)
 all_files seed zero few = refl
 all_files seed (suc n) few =
-    let before : List NameFacts = map (name_of seed) (numbers_below n) in
+    let before : List NameFacts = map (forged_name seed) (numbers_below n) in
     let step : List EntryFacts → NameFacts → List EntryFacts =
     λ known file. with_piece known (piece_under (codes "/t/f") file.path) in
-    ap (fold step []) (map-append (name_of seed) (numbers_below n) (n ∷ []))
-    ∙ fold-append step [] before (name_of seed n ∷ [])
-    ∙ ap (λ known. with_piece known (piece_under (codes "/t/f") (file_path n))) (all_files seed n (omega (arith, few)))
+    ap (fold step []) (map-append (forged_name seed) (numbers_below n) (n ∷ []))
+    ∙ fold-append step [] before (forged_name seed n ∷ [])
+    ∙ ap (λ known. with_piece known (piece_under (codes "/t/f") (forged_path n))) (all_files seed n (omega (arith, few)))
     ∙ ap (with_piece (map file_entry (numbers_below n))) (file_piece n)
     ∙ added (map file_entry (numbers_below n)) (file_entry n) (digits_name n)
     (fresh n n (omega arith) (omega (arith, few)))
     ∙ sym (map-append file_entry (numbers_below n) (n ∷ []))
 
 -- the entry of a folder of a folder
-top_piece : (k : ℕ) → piece_under (codes "/t") (file_path k) ≡ Some (record { name = codes "f"; kind = kind.Folder })
-top_piece k = made_is_piece (codes "/t") (file_path k) (codes "f") kind.Folder refl refl
+top_piece : (k : ℕ) → piece_under (codes "/t") (forged_path k) ≡ Some (record { name = codes "f"; kind = kind.Folder })
+top_piece k = made_is_piece (codes "/t") (forged_path k) (codes "f") kind.Folder refl refl
 
-root_piece : (k : ℕ) → piece_under (codes "/") (file_path k) ≡ Some (record { name = codes "t"; kind = kind.Folder })
-root_piece k = made_is_piece (codes "/") (file_path k) (codes "t") kind.Folder refl refl
+root_piece : (k : ℕ) → piece_under (codes "/") (forged_path k) ≡ Some (record { name = codes "t"; kind = kind.Folder })
+root_piece k = made_is_piece (codes "/") (forged_path k) (codes "t") kind.Folder refl refl
 
-empty_piece : (k : ℕ) → piece_under [] (file_path k) ≡ Some (record { name = codes "t"; kind = kind.Folder })
-empty_piece k = made_is_piece [] (file_path k) (codes "t") kind.Folder refl refl
+empty_piece : (k : ℕ) → piece_under [] (forged_path k) ≡ Some (record { name = codes "t"; kind = kind.Folder })
+empty_piece k = made_is_piece [] (forged_path k) (codes "t") kind.Folder refl refl
 
 -- the files' pieces are the folder's entries
 abbrev pub Pieces : ℕ → ℕ → List ℕ → Option Folder → Type 0
 Pieces seed n p None = Unit {0}
-Pieces seed n p (Some folder) = with_pieces p [] (names_of seed (suc n)) ≡ entries_of (suc n) folder
+Pieces seed n p (Some folder) = with_pieces p [] (forged_names seed (suc n)) ≡ forged_entries (suc n) folder
 
 pub pieces_there : (seed n : ℕ) (p : List ℕ) → suc n ≤ 1000000 → Pieces seed n p (folder_at p)
 pieces_there seed n p few =

@@ -5,7 +5,7 @@ use Rattle.sha2.proofs.Facts256.{length-sha256}
 use Rattle.sample_files.specs.Fields.{spelled}
 use Rattle.sample_files.specs.Layout.{plain_layout}
 use Rattle.sample_files.specs.Samples.{debug_companion_of, dwarf_five_of, executable_of}
-use Rattle.elf_forge.specs.Forge.{file_of, folder_of, forged, id_of, kind_of}
+use Rattle.elf_forge.specs.Forge.{forged_file, folder_of, forged, forged_id, kind_of}
 use Rattle.elf_forge.specs.declared.kind.Kind.{Kind}
 use Rattle.elf_forge.specs.declared.kind.Kind.TheVariants.{Whole, Executable, Companion, Text}
 
@@ -20,8 +20,8 @@ twenty_of (a ∷ b ∷ c ∷ d ∷ e ∷ f ∷ g ∷ h ∷ i ∷ j ∷ k ∷ l �
 twenty_of _ size = absurd (omega (arith, size))
 
 -- an id has 20 bytes
-id_long : (seed k : ℕ) → Twenty (id_of seed k)
-unfolding id_of
+id_long : (seed k : ℕ) → Twenty (forged_id seed k)
+unfolding forged_id
 id_long seed k = twenty_of _ (length-take 20 _ ∙ ap (λ n. min 20 n) (length-sha256 _))
 
 executable_long : (id : List ℕ) → Twenty id → length (executable_of id) ≡ 408
@@ -43,10 +43,10 @@ size_by Executable = 408
 size_by Companion = 584
 size_by Text = 12
 
-file_long : (kind : Kind) (seed k : ℕ) → length (file_of kind seed k) ≡ size_by kind
-file_long Whole seed k = whole_long (id_of seed k) (id_long seed k) k
-file_long Executable seed k = executable_long (id_of seed k) (id_long seed k)
-file_long Companion seed k = companion_long (id_of seed (k - 1)) (id_long seed (k - 1))
+file_long : (kind : Kind) (seed k : ℕ) → length (forged_file kind seed k) ≡ size_by kind
+file_long Whole seed k = whole_long (forged_id seed k) (id_long seed k) k
+file_long Executable seed k = executable_long (forged_id seed k) (id_long seed k)
+file_long Companion seed k = companion_long (forged_id seed (k - 1)) (id_long seed (k - 1))
 file_long Text seed k = refl
 
 pub forged_long : (seed k : ℕ) → length (forged seed k) ≡ size_by (kind_of k)
@@ -54,6 +54,6 @@ unfolding forged
 forged_long seed k = file_long (kind_of k) seed k
 
 -- the file of a number, by what it is
-pub forged_as : (kind : Kind) (seed k : ℕ) → kind ≡ kind_of k → forged seed k ≡ file_of kind seed k
+pub forged_as : (kind : Kind) (seed k : ℕ) → kind ≡ kind_of k → forged seed k ≡ forged_file kind seed k
 unfolding forged
-forged_as kind seed k e = ap (λ x. file_of x seed k) (sym e)
+forged_as kind seed k e = ap (λ x. forged_file x seed k) (sym e)

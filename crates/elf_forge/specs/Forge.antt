@@ -23,16 +23,16 @@ six_digits k =
     ∷ last_digit (k / 100) ∷ last_digit (k / 10) ∷ last_digit k ∷ []
 
 -- the build-id of a number: the first 20 bytes of the digest of the seed and the number, each in eight bytes
-unfoldable pub id_of : ℕ → ℕ → List ℕ
-id_of seed k = take 20 (sha256 (to_le_bytes w64 seed ++ to_le_bytes w64 k))
+unfoldable pub forged_id : ℕ → ℕ → List ℕ
+forged_id seed k = take 20 (sha256 (to_le_bytes w64 seed ++ to_le_bytes w64 k))
 
 -- the folder in which the unit of a number was compiled
 abbrev pub folder_of : ℕ → List ℕ
 folder_of k = codes "/t/" ++ six_digits k
 
 -- the text of a number, with a line feed
-abbrev pub text_of : ℕ → List ℕ
-text_of k = codes "text " ++ six_digits k ++ 10 ∷ []
+abbrev pub text_of_number : ℕ → List ℕ
+text_of_number k = codes "text " ++ six_digits k ++ 10 ∷ []
 
 -- what the file of a number is, by the number's rest when it is divided by 4
 abbrev pub kind_of : ℕ → Kind
@@ -43,12 +43,12 @@ kind_of k =
     else Text
 
 -- the file of a number, if it is this
-abbrev pub file_of : Kind → ℕ → ℕ → List ℕ
-file_of Whole seed k = dwarf_five_of (id_of seed k) (folder_of k)
-file_of Executable seed k = executable_of (id_of seed k)
-file_of Companion seed k = debug_companion_of (id_of seed (k - 1))
-file_of Text seed k = text_of k
+abbrev pub forged_file : Kind → ℕ → ℕ → List ℕ
+forged_file Whole seed k = dwarf_five_of (forged_id seed k) (folder_of k)
+forged_file Executable seed k = executable_of (forged_id seed k)
+forged_file Companion seed k = debug_companion_of (forged_id seed (k - 1))
+forged_file Text seed k = text_of_number k
 
 -- the file of a seed and a number
 unfoldable pub forged : ℕ → ℕ → List ℕ
-forged seed k = file_of (kind_of k) seed k
+forged seed k = forged_file (kind_of k) seed k

@@ -9,7 +9,7 @@ use Rattle.tree_trait.specs.Shown.{ShownTree}
 use Rattle.tree_trait.specs.declared.stat.StatAnswer.{StatAnswer}
 use Rattle.tree_trait.specs.declared.stat.StatAnswer.TheVariants as found
 use Rattle.elf_forge.specs.Forge.{forged}
-use Rattle.elf_forge.specs.Place.{entries_of, folder_among, names_of, number_at, stamp_of}
+use Rattle.elf_forge.specs.Place.{forged_entries, folder_among, forged_names, forged_number_at, forged_stamp}
 use Rattle.elf_forge.specs.declared.folder.Folder.{Folder}
 use Rattle.elf_forge.specs.declared.question.Question.{Question}
 use Rattle.elf_forge.specs.declared.question.Question.TheVariants.{Load, Stat, ReadDir}
@@ -21,44 +21,44 @@ pub record ForgeFacts : Type 0 where
   pub heard : List Heard
 
 -- a tree that was asked nothing yet
-abbrev pub fresh_tree : ℕ → ℕ → ForgeFacts
-fresh_tree seed files = record { seed = seed; files = files; heard = [] }
+abbrev pub fresh_forge : ℕ → ℕ → ForgeFacts
+fresh_forge seed files = record { seed = seed; files = files; heard = [] }
 
 -- what the load of the file of a number answers, if there is one
-abbrev pub load_of : ℕ → List ℕ → ℕ → Option ℕ → LoadFacts
-load_of seed path limit None = gone
-load_of seed path limit (Some k) =
-    if nat_lt limit (stamp_of seed k).size then too_large (stamp_of seed k)
-    else loaded (found_facts path (stamp_of seed k) (forged seed k))
+abbrev pub load_answered : ℕ → List ℕ → ℕ → Option ℕ → LoadFacts
+load_answered seed path limit None = gone
+load_answered seed path limit (Some k) =
+    if nat_lt limit (forged_stamp seed k).size then too_large (forged_stamp seed k)
+    else loaded (found_facts path (forged_stamp seed k) (forged seed k))
 
 -- what a load answers
 abbrev pub load_answer : ℕ → ℕ → List ℕ → ℕ → LoadFacts
-load_answer seed files path limit = load_of seed path limit (number_at files path)
+load_answer seed files path limit = load_answered seed path limit (forged_number_at files path)
 
 -- what a look answers, by the folder and the number of the file there
-abbrev pub stat_of : ℕ → Option Folder → Option ℕ → StatAnswer
-stat_of seed folder (Some k) = found.File (stamp_of seed k)
-stat_of seed (Some folder) None = found.Folder
-stat_of seed None None = found.Gone
+abbrev pub stat_answered : ℕ → Option Folder → Option ℕ → StatAnswer
+stat_answered seed folder (Some k) = found.File (forged_stamp seed k)
+stat_answered seed (Some folder) None = found.Folder
+stat_answered seed None None = found.Gone
 
 -- what a look answers
 abbrev pub stat_answer : ℕ → ℕ → List ℕ → StatAnswer
-stat_answer seed files path = stat_of seed (folder_among files path) (number_at files path)
+stat_answer seed files path = stat_answered seed (folder_among files path) (forged_number_at files path)
 
 -- what the reading of a folder answers, if there is one
-abbrev pub dir_of : ℕ → Option Folder → DirFacts
-dir_of files None = no_dir
-dir_of files (Some folder) = listed (entries_of files folder) 0
+abbrev pub dir_answered : ℕ → Option Folder → DirFacts
+dir_answered files None = no_dir
+dir_answered files (Some folder) = listed (forged_entries files folder) 0
 
 -- what the reading of a folder answers
 abbrev pub dir_answer : ℕ → List ℕ → DirFacts
-dir_answer files path = dir_of files (folder_among files path)
+dir_answer files path = dir_answered files (folder_among files path)
 
 -- a question that was kept, with its answer
-abbrev pub heard_of : ℕ → ℕ → Question → Heard
-heard_of seed files (Load path limit) = load (string_bytes path) limit (load_answer seed files (string_bytes path) limit)
-heard_of seed files (Stat path) = stat (string_bytes path) (stat_answer seed files (string_bytes path))
-heard_of seed files (ReadDir path) = read_dir (string_bytes path) (dir_answer files (string_bytes path))
+abbrev pub heard_question : ℕ → ℕ → Question → Heard
+heard_question seed files (Load path limit) = load (string_bytes path) limit (load_answer seed files (string_bytes path) limit)
+heard_question seed files (Stat path) = stat (string_bytes path) (stat_answer seed files (string_bytes path))
+heard_question seed files (ReadDir path) = read_dir (string_bytes path) (dir_answer files (string_bytes path))
 
 -- the answer is that of the generated files
 abbrev pub IsForgedAnswer : ℕ → ℕ → Heard → Type 0
@@ -67,18 +67,18 @@ IsForgedAnswer seed files (stat path answer) = answer ≡ stat_answer seed files
 IsForgedAnswer seed files (read_dir path answer) = answer ≡ dir_answer files path
 
 -- the tree after a call; after want of memory it is as it was
-abbrev pub tree_after : ForgeFacts → Heard → ForgeFacts
-tree_after tree asked = if wants_memory asked then tree else record tree { heard = tree.heard ++ asked ∷ [] }
+abbrev pub forge_after : ForgeFacts → Heard → ForgeFacts
+forge_after tree asked = if wants_memory asked then tree else record tree { heard = tree.heard ++ asked ∷ [] }
 
 -- the call is answered by the generated files, want of memory apart
 pub record RunsForged (before after : ForgeFacts) (asked : Heard) : Type 0 where
   pub answers : wants_memory asked ≡ false → IsForgedAnswer before.seed before.files asked
-  pub ends : after ≡ tree_after before asked
+  pub ends : after ≡ forge_after before asked
 
 -- what the tree shows: its names never change, it tells its questions, and it has never failed
-abbrev pub shown_by : ForgeFacts → ShownTree
-shown_by tree = record {
-  present = names_of tree.seed tree.files;
+abbrev pub forge_shows : ForgeFacts → ShownTree
+forge_shows tree = record {
+  present = forged_names tree.seed tree.files;
   Still = Unit {0};
   heard = Some tree.heard;
   faults = 0;

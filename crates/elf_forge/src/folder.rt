@@ -3,7 +3,7 @@
 ghost use Rattle.std.specs.Prelude.{◌≡◌, ◌∷◌, [], true, map, IfOk};
 ghost use Rattle.tree_trait.specs.Entry.{is_entry_name};
 ghost use Rattle.tree_trait.specs.declared.entry.EntryKind.TheVariants as kind;
-ghost use Rattle.elf_forge.specs.Place.{entries_of, file_entry, folder_among, folder_at};
+ghost use Rattle.elf_forge.specs.Place.{forged_entries, file_entry, folder_among, folder_at};
 ghost use Rattle.elf_forge.specs.Place.{numbers_below};
 
 use crate::digits::digits_text;
@@ -81,7 +81,7 @@ fn file_entry(alloc: Global, k: u64) -> Result<Entry, AllocError>
 
 /// The entries of a folder, among so many files.
 pub fn entries_of(alloc: Global, files: u64, folder: Folder) -> Result<Vec<Entry>, AllocError>
-    ensures { IfOk result (λ entries. entries.items ≡ entries_of files folder) }
+    ensures { IfOk result (λ entries. entries.items ≡ forged_entries files folder) }
 {
     match folder {
         Folder::Root => lone_entry(alloc, "t"),

@@ -3,7 +3,7 @@
 ghost use Rattle.std.specs.Prelude.{◌≡◌, ◌<◌, ◌++◌, take, IfOk};
 ghost use Rattle.sha2.specs.Sha256.{sha256};
 ghost use Rattle.std.specs.String.{string_bytes};
-ghost use Rattle.elf_forge.specs.Forge.{folder_of, forged, id_of, six_digits, text_of};
+ghost use Rattle.elf_forge.specs.Forge.{folder_of, forged, forged_id, six_digits, text_of_number};
 
 use crate::digits::{FILES_LIMIT, digits_text, six_digits};
 use crate::kind::{Kind, kind_of};
@@ -23,7 +23,7 @@ fn digest_of(first: &[u8], second: &[u8]) -> [u8; 32]
 
 /// The build-id of a number.
 fn id_of(seed: u64, k: u64) -> [u8; 20]
-    ensures { result ≡ id_of seed k }
+    ensures { result ≡ forged_id seed k }
 {
     front(&digest_of(&seed.to_le_bytes(), &k.to_le_bytes()))
 }
@@ -49,7 +49,7 @@ fn folder_of(alloc: Global, k: u64) -> Result<String, AllocError>
 
 /// The text of a number.
 fn text_of(alloc: Global, k: u64) -> Result<Vec<u8>, AllocError>
-    ensures { IfOk result (λ v. v.items ≡ text_of k) }
+    ensures { IfOk result (λ v. v.items ≡ text_of_number k) }
 {
     let mut text = Vec::from_slice(alloc, b"text ")?;
     text.extend_from_slice(&six_digits(k))?;

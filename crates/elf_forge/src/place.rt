@@ -3,7 +3,7 @@
 ghost use Rattle.std.specs.Prelude.{◌≡◌, ℕ, ◌-◌, ◌≤◌, ◌<◌, length, IfSome};
 ghost use Rattle.std.specs.Str.{bytes_eq};
 ghost use Rattle.elf_forge.specs.Forge.{forged};
-ghost use Rattle.elf_forge.specs.Place.{file_path, number_at, number_in, stamp_of};
+ghost use Rattle.elf_forge.specs.Place.{forged_path, forged_number_at, forged_number_in, forged_stamp};
 
 use crate::digits::{FILES_LIMIT, six_digits};
 use crate::kind::{Kind, kind_of};
@@ -11,7 +11,7 @@ use row_types::Stamp;
 
 /// The path of the file of a number.
 fn file_path(k: u64) -> [u8; 11]
-    ensures { result ≡ file_path k }
+    ensures { result ≡ forged_path k }
 {
     let [a, b, c, d, e, f] = six_digits(k);
     [b'/', b't', b'/', b'f', b'/', a, b, c, d, e, f]
@@ -20,7 +20,7 @@ fn file_path(k: u64) -> [u8; 11]
 /// The number of the last six bytes of a path of a file's length, if they are digits.
 fn number_in(path: &[u8]) -> u64
     requires { length path.now ≡ 11 }
-    ensures { result ≡ number_in path.now }
+    ensures { result ≡ forged_number_in path.now }
 {
     digit(path[5]) * 100_000
         + digit(path[6]) * 10_000
@@ -42,7 +42,7 @@ fn digit(byte: u8) -> u64
 #[tactic(auto, using(crate::proofs::NumberLemmas::none_short, crate::proofs::NumberLemmas::none_other, crate::proofs::NumberLemmas::some_path))]
 pub fn number_at(files: u64, path: &str) -> Option<u64>
     requires { files ≤ FILES_LIMIT }
-    ensures value { result ≡ number_at files path.now }
+    ensures value { result ≡ forged_number_at files path.now }
     ensures bound { IfSome result (λ k. k < files) }
 {
     let bytes = path.as_bytes();
@@ -59,7 +59,7 @@ pub fn number_at(files: u64, path: &str) -> Option<u64>
 
 /// Whether a path is that of the file of a number.
 fn is_path_of(path: &[u8], k: u64) -> bool
-    ensures { result ≡ bytes_eq (file_path k) path.now }
+    ensures { result ≡ bytes_eq (forged_path k) path.now }
 {
     file_path(k).as_slice() == path
 }
@@ -79,7 +79,7 @@ fn size_of(k: u64) -> u64
 
 /// The stamp of the file of a seed and a number.
 pub fn stamp_of(seed: u64, k: u64) -> Stamp
-    ensures { result ≡ stamp_of seed k }
+    ensures { result ≡ forged_stamp seed k }
 {
     Stamp {
         size: size_of(k),

@@ -2,7 +2,7 @@
 
 ghost use Rattle.std.specs.Prelude.{◌≡◌, ℕ, IfOk};
 ghost use Rattle.tree_trait.specs.Heard.{load, stat, read_dir};
-ghost use Rattle.elf_forge.specs.Tree.{dir_answer, heard_of, load_answer, stat_answer};
+ghost use Rattle.elf_forge.specs.Tree.{dir_answer, heard_question, load_answer, stat_answer};
 
 use std::alloc::{AllocError, Global};
 
@@ -31,7 +31,7 @@ pub enum Question {
 impl Question {
     /// The question of a load.
     pub fn load(alloc: Global, path: &str, limit: u64) -> Result<Question, AllocError>
-        ensures { IfOk result (λ asked. (seed : ℕ) (files : ℕ) → heard_of seed files asked
+        ensures { IfOk result (λ asked. (seed : ℕ) (files : ℕ) → heard_question seed files asked
             ≡ load path.now limit (load_answer seed files path.now limit)) }
     {
         let path = String::from_str(alloc, path)?;
@@ -40,7 +40,7 @@ impl Question {
 
     /// The question of a look.
     pub fn stat(alloc: Global, path: &str) -> Result<Question, AllocError>
-        ensures { IfOk result (λ asked. (seed : ℕ) (files : ℕ) → heard_of seed files asked
+        ensures { IfOk result (λ asked. (seed : ℕ) (files : ℕ) → heard_question seed files asked
             ≡ stat path.now (stat_answer seed files path.now)) }
     {
         let path = String::from_str(alloc, path)?;
@@ -49,7 +49,7 @@ impl Question {
 
     /// The question of a folder's reading.
     pub fn read_dir(alloc: Global, path: &str) -> Result<Question, AllocError>
-        ensures { IfOk result (λ asked. (seed : ℕ) (files : ℕ) → heard_of seed files asked
+        ensures { IfOk result (λ asked. (seed : ℕ) (files : ℕ) → heard_question seed files asked
             ≡ read_dir path.now (dir_answer files path.now)) }
     {
         let path = String::from_str(alloc, path)?;

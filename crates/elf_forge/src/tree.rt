@@ -3,14 +3,14 @@
 ghost use Rattle.std.specs.Prelude.{◌≡◌, ◌≤◌, ◌<◌, ◌++◌, ◌∷◌, [], true, IfOk, IsTrue, IsOkAnd};
 ghost use Rattle.tree_trait.specs.Found.{found_facts};
 ghost use Rattle.std.specs.Bool.{OnTrue, OnFalse};
-ghost use Rattle.tree_trait.specs.Asks.{Asks};
+ghost use Rattle.tree_trait.specs.Asks.{AsksTree};
 ghost use Rattle.tree_trait.specs.Dir.{dir_facts};
 ghost use Rattle.tree_trait.specs.Heard.{load, stat, read_dir, wants_memory};
 ghost use Rattle.tree_trait.specs.Load.{load_facts};
 ghost use Rattle.elf_forge.specs.Forge.{IsPinnedFilesLimit, forged};
-ghost use Rattle.elf_forge.specs.Place.{stamp_of};
-ghost use Rattle.elf_forge.specs.Tree.{RunsForged, dir_answer, fresh_tree, heard_of, load_answer};
-ghost use Rattle.elf_forge.specs.Tree.{shown_by, stat_answer};
+ghost use Rattle.elf_forge.specs.Place.{forged_stamp};
+ghost use Rattle.elf_forge.specs.Tree.{RunsForged, dir_answer, fresh_forge, heard_question, load_answer};
+ghost use Rattle.elf_forge.specs.Tree.{forge_shows, stat_answer};
 
 use crate::digits::FILES_LIMIT;
 use crate::folder::{entries_of, folder_among};
@@ -34,7 +34,7 @@ pub struct ForgeTree {
 
 impl Model for ForgeTree {
     ghost use Rattle.std.specs.Prelude.{◌≤◌, map};
-    ghost use Rattle.elf_forge.specs.Tree.{ForgeFacts, heard_of};
+    ghost use Rattle.elf_forge.specs.Tree.{ForgeFacts, heard_question};
     ghost use Rattle.elf_forge.specs.declared.digits.TheConstants.{FILES_LIMIT};
 
     ghost Value = { ForgeFacts };
@@ -42,7 +42,7 @@ impl Model for ForgeTree {
     ghost view = { λ t. record {
       seed = t.seed;
       files = t.files;
-      heard = map (heard_of t.seed t.files) t.asked.items;
+      heard = map (heard_question t.seed t.files) t.asked.items;
     } };
 
     ghost invariant = { λ t. t.files ≤ FILES_LIMIT };
@@ -52,7 +52,7 @@ impl ForgeTree {
     /// The tree of the files of the numbers below `files`.
     pub fn new(alloc: Global, seed: u64, files: u64) -> ForgeTree
         requires { files ≤ FILES_LIMIT }
-        ensures value { result ≡ fresh_tree seed files }
+        ensures value { result ≡ fresh_forge seed files }
         ensures limit { IsPinnedFilesLimit }
     {
         ForgeTree {
@@ -65,7 +65,7 @@ impl ForgeTree {
     /// Keeps a question, if there is memory for it. Says whether.
     fn keep(&mut self, question: Result<Question, AllocError>) -> bool
         ensures kept { OnTrue result (IsOkAnd question (λ asked. self.new ≡ record self.old {
-          heard = self.old.heard ++ heard_of self.old.seed self.old.files asked ∷ [];
+          heard = self.old.heard ++ heard_question self.old.seed self.old.files asked ∷ [];
         })) }
         ensures same { OnFalse result (self.new ≡ self.old) }
     {
@@ -80,7 +80,7 @@ impl ForgeTree {
 fn found(alloc: Global, seed: u64, k: u64, path: &str) -> Result<Found<OpenWorld>, AllocError>
     requires { k < FILES_LIMIT }
     ensures { IfOk result (λ found.
-        found ≡ found_facts path.now (stamp_of seed k) (forged seed k)) }
+        found ≡ found_facts path.now (forged_stamp seed k) (forged seed k)) }
 {
     let bytes = forge(alloc, seed, k)?;
     let path = String::from_str(alloc, path)?;
@@ -181,14 +181,14 @@ impl ForgeTree {
 
 impl Tree<OpenWorld> for ForgeTree {
     ghost use Rattle.std.specs.Prelude.{true};
-    ghost use Rattle.elf_forge.specs.Tree.{shown_by};
+    ghost use Rattle.elf_forge.specs.Tree.{forge_shows};
 
     ghost told = { true };
 
-    ghost shows = { shown_by };
+    ghost shows = { forge_shows };
 
     fn load(&mut self, alloc: Global, path: &str, limit: u64) -> LoadAnswer<OpenWorld>
-        ensures asks { Asks true (λ _ _ _. Unit {0}) (shown_by self.old) (shown_by self.new)
+        ensures asks { AsksTree true (λ _ _ _. Unit {0}) (forge_shows self.old) (forge_shows self.new)
             (load path.now limit (load_facts result)) }
         ensures memory { IsTrue (wants_memory (load path.now limit (load_facts result)))
             → self.new ≡ self.old }
@@ -198,7 +198,7 @@ impl Tree<OpenWorld> for ForgeTree {
     }
 
     fn stat(&mut self, alloc: Global, path: &str) -> StatAnswer
-        ensures asks { Asks true (λ _ _ _. Unit {0}) (shown_by self.old) (shown_by self.new)
+        ensures asks { AsksTree true (λ _ _ _. Unit {0}) (forge_shows self.old) (forge_shows self.new)
             (stat path.now result) }
         ensures memory { IsTrue (wants_memory (stat path.now result)) → self.new ≡ self.old }
         ensures forged { RunsForged self.old self.new (stat path.now result) }
@@ -207,7 +207,7 @@ impl Tree<OpenWorld> for ForgeTree {
     }
 
     fn read_dir(&mut self, alloc: Global, path: &str) -> DirAnswer
-        ensures asks { Asks true (λ _ _ _. Unit {0}) (shown_by self.old) (shown_by self.new)
+        ensures asks { AsksTree true (λ _ _ _. Unit {0}) (forge_shows self.old) (forge_shows self.new)
             (read_dir path.now (dir_facts result)) }
         ensures memory { IsTrue (wants_memory (read_dir path.now (dir_facts result)))
             → self.new ≡ self.old }

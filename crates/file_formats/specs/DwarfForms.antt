@@ -17,53 +17,53 @@ pub record FormRow : Type 0 where
   pub layout : Layout
 
 -- the row of a code
-abbrev pub has : ℕ → Layout → FormRow
-has code layout = record { code = code; layout = layout }
+abbrev pub form_row : ℕ → Layout → FormRow
+form_row code layout = record { code = code; layout = layout }
 
 -- the forms in the order of their codes, but for indirect and implicit_const
 abbrev pub form_table : List FormRow
 form_table =
-    has DW_FORM_ADDR Address ∷
-    has DW_FORM_BLOCK2 (Block Two) ∷
-    has DW_FORM_BLOCK4 (Block Four) ∷
-    has DW_FORM_DATA2 (Numbered Two Number) ∷
-    has DW_FORM_DATA4 (Numbered Four Place) ∷
-    has DW_FORM_DATA8 (Numbered Eight Place) ∷
-    has DW_FORM_STRING Text ∷
-    has DW_FORM_BLOCK (Block Leb) ∷
-    has DW_FORM_BLOCK1 (Block One) ∷
-    has DW_FORM_DATA1 (Numbered One Number) ∷
-    has DW_FORM_FLAG (Passed 1) ∷
-    has DW_FORM_SDATA Signed ∷
-    has DW_FORM_STRP (Numbered Offset Str) ∷
-    has DW_FORM_UDATA (Numbered Leb Number) ∷
-    has DW_FORM_REF_ADDR (Numbered Offset Other) ∷
-    has DW_FORM_REF1 (Passed 1) ∷
-    has DW_FORM_REF2 (Passed 2) ∷
-    has DW_FORM_REF4 (Passed 4) ∷
-    has DW_FORM_REF8 (Passed 8) ∷
-    has DW_FORM_REF_UDATA (Numbered Leb Other) ∷
-    has DW_FORM_SEC_OFFSET (Numbered Offset Place) ∷
-    has DW_FORM_EXPRLOC (Block Leb) ∷
-    has DW_FORM_FLAG_PRESENT (Passed 0) ∷
-    has DW_FORM_STRX (Numbered Leb StrIndex) ∷
-    has DW_FORM_ADDRX (Numbered Leb Other) ∷
-    has DW_FORM_REF_SUP4 (Passed 4) ∷
-    has DW_FORM_STRP_SUP (Numbered Offset SupStr) ∷
-    has DW_FORM_DATA16 (Passed 16) ∷
-    has DW_FORM_LINE_STRP (Numbered Offset LineStr) ∷
-    has DW_FORM_REF_SIG8 (Passed 8) ∷
-    has DW_FORM_LOCLISTX (Numbered Leb Other) ∷
-    has DW_FORM_RNGLISTX (Numbered Leb Other) ∷
-    has DW_FORM_REF_SUP8 (Passed 8) ∷
-    has DW_FORM_STRX1 (Numbered One StrIndex) ∷
-    has DW_FORM_STRX2 (Numbered Two StrIndex) ∷
-    has DW_FORM_STRX3 (Numbered Three StrIndex) ∷
-    has DW_FORM_STRX4 (Numbered Four StrIndex) ∷
-    has DW_FORM_ADDRX1 (Passed 1) ∷
-    has DW_FORM_ADDRX2 (Passed 2) ∷
-    has DW_FORM_ADDRX3 (Passed 3) ∷
-    has DW_FORM_ADDRX4 (Passed 4) ∷ []
+    form_row DW_FORM_ADDR Address ∷
+    form_row DW_FORM_BLOCK2 (Block Two) ∷
+    form_row DW_FORM_BLOCK4 (Block Four) ∷
+    form_row DW_FORM_DATA2 (Numbered Two Number) ∷
+    form_row DW_FORM_DATA4 (Numbered Four Place) ∷
+    form_row DW_FORM_DATA8 (Numbered Eight Place) ∷
+    form_row DW_FORM_STRING Text ∷
+    form_row DW_FORM_BLOCK (Block Leb) ∷
+    form_row DW_FORM_BLOCK1 (Block One) ∷
+    form_row DW_FORM_DATA1 (Numbered One Number) ∷
+    form_row DW_FORM_FLAG (Passed 1) ∷
+    form_row DW_FORM_SDATA Signed ∷
+    form_row DW_FORM_STRP (Numbered Offset Str) ∷
+    form_row DW_FORM_UDATA (Numbered Leb Number) ∷
+    form_row DW_FORM_REF_ADDR (Numbered Offset Other) ∷
+    form_row DW_FORM_REF1 (Passed 1) ∷
+    form_row DW_FORM_REF2 (Passed 2) ∷
+    form_row DW_FORM_REF4 (Passed 4) ∷
+    form_row DW_FORM_REF8 (Passed 8) ∷
+    form_row DW_FORM_REF_UDATA (Numbered Leb Other) ∷
+    form_row DW_FORM_SEC_OFFSET (Numbered Offset Place) ∷
+    form_row DW_FORM_EXPRLOC (Block Leb) ∷
+    form_row DW_FORM_FLAG_PRESENT (Passed 0) ∷
+    form_row DW_FORM_STRX (Numbered Leb StrIndex) ∷
+    form_row DW_FORM_ADDRX (Numbered Leb Other) ∷
+    form_row DW_FORM_REF_SUP4 (Passed 4) ∷
+    form_row DW_FORM_STRP_SUP (Numbered Offset SupStr) ∷
+    form_row DW_FORM_DATA16 (Passed 16) ∷
+    form_row DW_FORM_LINE_STRP (Numbered Offset LineStr) ∷
+    form_row DW_FORM_REF_SIG8 (Passed 8) ∷
+    form_row DW_FORM_LOCLISTX (Numbered Leb Other) ∷
+    form_row DW_FORM_RNGLISTX (Numbered Leb Other) ∷
+    form_row DW_FORM_REF_SUP8 (Passed 8) ∷
+    form_row DW_FORM_STRX1 (Numbered One StrIndex) ∷
+    form_row DW_FORM_STRX2 (Numbered Two StrIndex) ∷
+    form_row DW_FORM_STRX3 (Numbered Three StrIndex) ∷
+    form_row DW_FORM_STRX4 (Numbered Four StrIndex) ∷
+    form_row DW_FORM_ADDRX1 (Passed 1) ∷
+    form_row DW_FORM_ADDRX2 (Passed 2) ∷
+    form_row DW_FORM_ADDRX3 (Passed 3) ∷
+    form_row DW_FORM_ADDRX4 (Passed 4) ∷ []
 
 -- how values of a form stand in the bytes, none for a form that isn't in the table
 unfoldable pub layout_of : ℕ → Option Layout

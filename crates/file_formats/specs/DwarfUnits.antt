@@ -75,18 +75,18 @@ one_attribute attribute raw = record {
 }
 
 -- both entries' attributes; of one that both have the first one's
-abbrev pub with_first : RawEntry → RawEntry → RawEntry
-with_first e f = record {
+abbrev pub with_first_entry : RawEntry → RawEntry → RawEntry
+with_first_entry e f = record {
   stmt_list = option_or e.stmt_list f.stmt_list;
   comp_dir = option_or e.comp_dir f.comp_dir;
   str_offsets_base = option_or e.str_offsets_base f.str_offsets_base;
 }
 
 -- the entry of these attributes and values, one value a pair; of a repeated attribute the first counts
-unfoldable pub entry_with : List Pair → List Raw → RawEntry
-entry_with (pair ∷ pairs) (raw ∷ raws) = with_first (one_attribute pair.attribute raw) (entry_with pairs raws)
-entry_with (pair ∷ pairs) [] = no_attributes
-entry_with [] raws = no_attributes
+unfoldable pub root_entry : List Pair → List Raw → RawEntry
+root_entry (pair ∷ pairs) (raw ∷ raws) = with_first_entry (one_attribute pair.attribute raw) (root_entry pairs raws)
+root_entry (pair ∷ pairs) [] = no_attributes
+root_entry [] raws = no_attributes
 
 -- the value of a pair's form stands at the place
 abbrev pub AttributeAt : Input → Pair → ℕ → At Raw → Type 0
@@ -100,17 +100,17 @@ pub record IsRaw (table info : Input) (p at : ℕ) (entry : RawEntry) : Type 0 w
   pub raws : List Raw
   pub raws_end : ℕ
   pub stand : Along (AttributeAt info) at pairs raws raws_end
-  pub says : entry ≡ entry_with pairs raws
+  pub says : entry ≡ root_entry pairs raws
 
 -- a place in a section, none where the value is no number that may be one
-abbrev pub place_of : Raw → Option ℕ
-place_of (numbered Place n) = Some n
-place_of raw = None
+abbrev pub section_place : Raw → Option ℕ
+section_place (numbered Place n) = Some n
+section_place raw = None
 
 -- a text, none where the value is none
-abbrev pub text_of : FormValue → Option (List ℕ)
-text_of (text_is text) = text
-text_of value = None
+abbrev pub text_or_none : FormValue → Option (List ℕ)
+text_or_none (text_is text) = text
+text_or_none value = None
 
 -- what a unit's first entry says: the place of its line table, its folder, its place in .debug_str_offsets
 pub record RootEntry : Type 0 where
@@ -126,10 +126,10 @@ unit_texts s wide base =
 -- the values with their texts, which are sought when all are read
 abbrev pub root_of : DebugSections → Bool → RawEntry → RootEntry
 root_of s wide entry =
-    let base = option_and_then place_of entry.str_offsets_base in
+    let base = option_and_then section_place entry.str_offsets_base in
     record {
-      stmt_list = option_and_then place_of entry.stmt_list;
-      comp_dir = option_and_then (λ raw. text_of (value_of (unit_texts s wide base) raw)) entry.comp_dir;
+      stmt_list = option_and_then section_place entry.stmt_list;
+      comp_dir = option_and_then (λ raw. text_or_none (value_of (unit_texts s wide base) raw)) entry.comp_dir;
       str_offsets_base = base;
     }
 

@@ -6,8 +6,8 @@ use Rattle.std.proofs.lemmas.Bool.{cases_lt}
 use Rattle.std.proofs.lemmas.List.{get_or_default, get_or-drop, get_or-take, length-drop, length-take-le, same_lists}
 use Rattle.std.proofs.lemmas.List.FromFn.{get_or-map-range_with_len, length-map-range_with_len}
 use Rattle.file_formats.specs.Numbers.{bytes_at}
-use Rattle.file_picture.specs.Agrees.{Agrees, filled}
-use Rattle.file_picture.specs.Picture.{PictureFacts, IsPicture, IsCovered, IsAdded, Gives, byte_at}
+use Rattle.file_picture.specs.Agrees.{AgreesWithPicture, filled_with_zeros}
+use Rattle.file_picture.specs.Picture.{PictureFacts, IsPicture, IsCovered, IsAdded, GivesRange, known_byte}
 use Rattle.file_picture.proofs.PieceLemmas.{byte_none}
 
 -- what is there is something
@@ -16,27 +16,27 @@ some_of (Some x) h = (x, refl)
 some_of None h = absurd (cc)
 
 -- no byte is known behind the file's end
-pub known-inside : (p : PictureFacts) → IsPicture p → (place x : ℕ) → byte_at p place ≡ Some x → place < p.size
+pub known-inside : (p : PictureFacts) → IsPicture p → (place x : ℕ) → known_byte p place ≡ Some x → place < p.size
 known-inside p is place x known = of (cases_lt place p.size)
   where
     of : (place < p.size) ⊎ (p.size ≤ place) → place < p.size
     of (inl under) = under
     of (inr past) =
-        let none : byte_at p place ≡ None =
+        let none : known_byte p place ≡ None =
         byte_none p.pieces place (λ i d below. let ends = is.within i d below in inr (omega (arith, ends, past))) in
         let both = sym none ∙ known in absurd (cc)
 
 -- the filled picture has the picture's size
-pub filled-sized : (p : PictureFacts) → length (filled p) ≡ p.size
-filled-sized p = length-map-range_with_len (λ place. unwrap_or (byte_at p place) 0) 0 p.size
+pub filled-sized : (p : PictureFacts) → length (filled_with_zeros p) ≡ p.size
+filled-sized p = length-map-range_with_len (λ place. unwrap_or (known_byte p place) 0) 0 p.size
 
 -- and its bytes, with 0 where none is known
-pub filled-byte : (p : PictureFacts) (place : ℕ) → place < p.size → get_or (filled p) place 0 ≡ unwrap_or (byte_at p place) 0
+pub filled-byte : (p : PictureFacts) (place : ℕ) → place < p.size → get_or (filled_with_zeros p) place 0 ≡ unwrap_or (known_byte p place) 0
 filled-byte p place below =
-    get_or-map-range_with_len (λ k. unwrap_or (byte_at p k) 0) 0 p.size place place 0 below (omega arith)
+    get_or-map-range_with_len (λ k. unwrap_or (known_byte p k) 0) 0 p.size place place 0 below (omega arith)
 
 -- so it is one of the files that the picture may be of
-pub filled-agrees : (p : PictureFacts) → IsPicture p → Agrees (filled p) p
+pub filled-agrees : (p : PictureFacts) → IsPicture p → AgreesWithPicture (filled_with_zeros p) p
 filled-agrees p is = record {
   sized = filled-sized p;
   same = λ place x known.
@@ -44,7 +44,7 @@ filled-agrees p is = record {
 }
 
 -- two files that agree with a picture have the same bytes in each range that is covered
-pub agree-covered : (p : PictureFacts) (b c : List ℕ) (at len : ℕ) → Agrees b p → Agrees c p → IsCovered p at len
+pub agree-covered : (p : PictureFacts) (b c : List ℕ) (at len : ℕ) → AgreesWithPicture b p → AgreesWithPicture c p → IsCovered p at len
     → bytes_at b at len ≡ bytes_at c at len
 agree-covered p b c at len fb fc covered =
     let inside = covered.inside in
@@ -53,7 +53,7 @@ agree-covered p b c at len fb fc covered =
     same_lists (bytes_at b at len) (bytes_at c at len) (long_b ∙ sym long_c)
     (λ k d below.
     let under : k < len = omega (arith, below, long_b) in
-    let known = some_of (byte_at p (at + k)) (covered.known (at + k) (omega arith) (omega (arith, under))) in
+    let known = some_of (known_byte p (at + k)) (covered.known (at + k) (omega arith) (omega (arith, under))) in
     at_place b d k under fb.sized ∙ fb.same (at + k) known.0 known.1
     ∙ sym (at_place c d k under fc.sized ∙ fc.same (at + k) known.0 known.1))
   where
@@ -70,7 +70,7 @@ agree-covered p b c at len fb fc covered =
         ∙ get_or_default f (at + k) d 0 (omega (arith, sized, inside, under))
 
 -- the bytes that a picture gives are those of each file that agrees with it
-pub given-bytes : (p : PictureFacts) (b : List ℕ) (at len : ℕ) (bytes : List ℕ) → Agrees b p → Gives p at len bytes
+pub given-bytes : (p : PictureFacts) (b : List ℕ) (at len : ℕ) (bytes : List ℕ) → AgreesWithPicture b p → GivesRange p at len bytes
     → bytes ≡ bytes_at b at len
 given-bytes p b at len bytes f g =
     let inside = g.inside in
@@ -86,13 +86,13 @@ given-bytes p b at len bytes f g =
     ∙ get_or_default b (at + k) d 0 (omega (arith, sized, inside, under))))
 
 -- where a picture gives bytes, the range is covered
-pub given-covered : (p : PictureFacts) (at len : ℕ) (bytes : List ℕ) → Gives p at len bytes → IsCovered p at len
+pub given-covered : (p : PictureFacts) (at len : ℕ) (bytes : List ℕ) → GivesRange p at len bytes → IsCovered p at len
 given-covered p at len bytes g = record { inside = g.inside; known = of }
   where
-    of : (place : ℕ) → at ≤ place → place < at + len → is_some (byte_at p place) ≡ true
+    of : (place : ℕ) → at ≤ place → place < at + len → is_some (known_byte p place) ≡ true
     of place low high =
         let index : at + (place - at) ≡ place = omega (arith, low) in
-        ap (λ k. is_some (byte_at p k)) (sym index) ∙ ap is_some (g.each (place - at) (omega (arith, low, high)))
+        ap (λ k. is_some (known_byte p k)) (sym index) ∙ ap is_some (g.each (place - at) (omega (arith, low, high)))
 
 -- two ranges one behind the other that are covered are covered as one
 pub covered-joined : (p : PictureFacts) (at m n : ℕ) → IsCovered p at m → IsCovered p (at + m) n → IsCovered p at (m + n)
@@ -101,7 +101,7 @@ covered-joined p at m n first second = record {
   known = λ place low high. of place low high (cases_lt place (at + m));
 }
   where
-    of : (place : ℕ) → at ≤ place → place < at + (m + n) → (place < at + m) ⊎ (at + m ≤ place) → is_some (byte_at p place) ≡ true
+    of : (place : ℕ) → at ≤ place → place < at + (m + n) → (place < at + m) ⊎ (at + m ≤ place) → is_some (known_byte p place) ≡ true
     of place low high (inl under) = first.known place low under
     of place low high (inr above) = second.known place above (omega (arith, high))
 
@@ -119,10 +119,10 @@ places at len place = of (cases_lt place at) (cases_lt place (at + len))
 
 -- the byte of a place of the range is the one that was added
 added_byte : {old new : PictureFacts} {at : ℕ} {bytes : List ℕ} → IsAdded old at bytes new → (place : ℕ) → at ≤ place
-    → place < at + length bytes → byte_at new place ≡ Some (get_or bytes (place - at) 0)
+    → place < at + length bytes → known_byte new place ≡ Some (get_or bytes (place - at) 0)
 added_byte {old} {new} {at} {bytes} a place low high =
     let index : at + (place - at) ≡ place = omega (arith, low) in
-    ap (byte_at new) (sym index) ∙ a.there (place - at) (omega (arith, low, high))
+    ap (known_byte new) (sym index) ∙ a.there (place - at) (omega (arith, low, high))
 
 -- the range is covered then
 pub added-covered : {old new : PictureFacts} {at : ℕ} {bytes : List ℕ} → IsAdded old at bytes new → at + length bytes ≤ old.size
@@ -140,21 +140,21 @@ added-keeps {old} {new} {at} {bytes} a from len covered = record {
   known = λ place low high. of place (covered.known place low high) (places at (length bytes) place);
 }
   where
-    of : (place : ℕ) → is_some (byte_at old place) ≡ true
+    of : (place : ℕ) → is_some (known_byte old place) ≡ true
         → ((place < at) ⊎ (at + length bytes ≤ place)) ⊎ ((at ≤ place) × (place < at + length bytes))
-        → is_some (byte_at new place) ≡ true
+        → is_some (known_byte new place) ≡ true
     of place was (inl out) = ap is_some (a.others place out) ∙ was
     of place was (inr within) = ap is_some (added_byte a place within.0 within.1)
 
 -- a file agrees with the new picture where it agrees with the old one and has these bytes at their place
 pub added-agrees : {old new : PictureFacts} {at : ℕ} {bytes : List ℕ} → IsAdded old at bytes new → (b : List ℕ)
-    → Agrees b old → at + length bytes ≤ old.size → bytes_at b at (length bytes) ≡ bytes → Agrees b new
+    → AgreesWithPicture b old → at + length bytes ≤ old.size → bytes_at b at (length bytes) ≡ bytes → AgreesWithPicture b new
 added-agrees {old} {new} {at} {bytes} a b f fits has = record {
   sized = f.sized ∙ sym a.size;
   same = λ place x known. of place x known (places at (length bytes) place);
 }
   where
-    of : (place x : ℕ) → byte_at new place ≡ Some x
+    of : (place x : ℕ) → known_byte new place ≡ Some x
         → ((place < at) ⊎ (at + length bytes ≤ place)) ⊎ ((at ≤ place) × (place < at + length bytes)) → get_or b place 0 ≡ x
     of place x known (inl out) = f.same place x (sym (a.others place out) ∙ known)
     of place x known (inr within) =

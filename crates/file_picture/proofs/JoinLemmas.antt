@@ -5,7 +5,7 @@ use Rattle.std.specs.Option.{option_or}
 use Rattle.std.proofs.lemmas.Bool.{cases_lt}
 use Rattle.std.proofs.lemmas.List.{append-nil, get_or_append_left, get_or-append_right, length-append}
 use Rattle.std.proofs.lemmas.List.Elements.{All-head, All-tail}
-use Rattle.file_picture.specs.Picture.{PieceFacts, end_of, piece_byte, byte_among, sum_of}
+use Rattle.file_picture.specs.Picture.{PieceFacts, piece_end, piece_byte, byte_among, sum_of}
 use Rattle.file_picture.specs.Pieces.{piece_of}
 use Rattle.file_picture.proofs.PieceLemmas.{piece_none, piece_some}
 
@@ -15,7 +15,7 @@ pub record IsJoin (mid : List PieceFacts) (at : ℕ) (bytes : List ℕ) (j : Pie
   pub there : (i : ℕ) → i < length bytes → piece_byte j (at + i) ≡ Some (get_or bytes i 0)
   pub others : (place : ℕ) → (place < at) ⊎ (at + length bytes ≤ place) → piece_byte j place ≡ byte_among mid place
   pub sum : length j.bytes ≡ sum_of mid + length bytes
-  pub ends : (size : ℕ) → All (λ q. end_of q ≤ size) mid → at + length bytes ≤ size → end_of j ≤ size
+  pub ends : (size : ℕ) → All (λ q. piece_end q ≤ size) mid → at + length bytes ≤ size → piece_end j ≤ size
 
 -- bytes, bytes behind them, and bytes behind these
 abbrev three : ℕ → List ℕ → List ℕ → List ℕ → PieceFacts
@@ -121,7 +121,7 @@ join_none at bytes some = record {
 }
 
 -- with a piece before them
-pub join_left : (p : PieceFacts) (at : ℕ) (bytes : List ℕ) → 0 < length bytes → end_of p ≡ at
+pub join_left : (p : PieceFacts) (at : ℕ) (bytes : List ℕ) → 0 < length bytes → piece_end p ≡ at
     → IsJoin (p ∷ []) at bytes (piece_of p.at (p.bytes ++ bytes))
 join_left p at bytes some touch =
     let long : length (p.bytes ++ bytes) ≡ length p.bytes + length bytes = length-append p.bytes bytes in
@@ -152,7 +152,7 @@ join_right p at bytes some touch =
           three_others at at p.at [] bytes p.bytes empty touch place (move place out)
           ∙ ap (λ o. option_or o (piece_byte p place)) (empty_none at place) ∙ sym (or_none (piece_byte p place));
       sum = omega (arith, long);
-      ends = λ size each fits. let last = All-head (λ (q : PieceFacts). end_of q ≤ size) p [] each in omega (arith, long, touch, last);
+      ends = λ size each fits. let last = All-head (λ (q : PieceFacts). piece_end q ≤ size) p [] each in omega (arith, long, touch, last);
     }
   where
     move : (place : ℕ) → (place < at) ⊎ (at + length bytes ≤ place) → (place < at) ⊎ (p.at ≤ place)
@@ -160,7 +160,7 @@ join_right p at bytes some touch =
     move place (inr after) = inr (omega (arith, after, touch))
 
 -- with one on either side
-pub join_both : (p q : PieceFacts) (at : ℕ) (bytes : List ℕ) → 0 < length bytes → end_of p ≡ at → at + length bytes ≡ q.at
+pub join_both : (p q : PieceFacts) (at : ℕ) (bytes : List ℕ) → 0 < length bytes → piece_end p ≡ at → at + length bytes ≡ q.at
     → IsJoin (p ∷ q ∷ []) at bytes (piece_of p.at (p.bytes ++ (bytes ++ q.bytes)))
 join_both p q at bytes some touch follow =
     let long = three_long p.bytes bytes q.bytes in
@@ -172,8 +172,8 @@ join_both p q at bytes some touch follow =
           ∙ ap (option_or (piece_byte p place)) (sym (or_none (piece_byte q place)));
       sum = omega (arith, long);
       ends = λ size each fits.
-          let last = All-head (λ (r : PieceFacts). end_of r ≤ size) q []
-          (All-tail (λ (r : PieceFacts). end_of r ≤ size) p (q ∷ []) each) in
+          let last = All-head (λ (r : PieceFacts). piece_end r ≤ size) q []
+          (All-tail (λ (r : PieceFacts). piece_end r ≤ size) p (q ∷ []) each) in
           omega (arith, long, touch, follow, last);
     }
   where

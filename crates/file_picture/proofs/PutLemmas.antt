@@ -5,8 +5,8 @@ use Rattle.std.specs.Option.{option_or}
 use Rattle.std.proofs.lemmas.Bool.{cases_lt}
 use Rattle.std.proofs.lemmas.List.{drop_more, get_or_append_left, get_or-append-add, get_or_default, get_or-take, get_or-drop, length-append, length-drop, length-take-le, set_split, take-append-drop}
 use Rattle.std.proofs.lemmas.List.Elements.{All-append, All-cons}
-use Rattle.file_picture.specs.Picture.{PieceFacts, AreApart, AreFree, end_of, byte_among}
-use Rattle.file_picture.specs.Pieces.{Begins, CanPut, Ends, IsPut, Replaces, Spans, TouchesNone, piece_of, put_before, put_behind, spanned}
+use Rattle.file_picture.specs.Picture.{PieceFacts, ArePiecesApart, AreFree, piece_end, byte_among}
+use Rattle.file_picture.specs.Pieces.{BeginsPiece, CanPut, EndsPiece, ArePiecesPut, ReplacesPiece, Spans, TouchesNone, piece_of, put_before, put_behind, spanned}
 use Rattle.file_picture.proofs.ApartLemmas.{behind, apart_front, apart_back, apart_both, apart_after, behind_by}
 use Rattle.file_picture.proofs.JoinLemmas.{IsJoin, join_none, join_left, join_right, join_both}
 use Rattle.file_picture.proofs.PieceLemmas.{apart_later, apart_some, byte_some, byte-append, sum-append}
@@ -30,13 +30,13 @@ first_none (Some a) y h = absurd (cc)
 
 -- some pieces are replaced by one that has their bytes and those of the range
 replaced : (front mid back : List PieceFacts) (j : PieceFacts) (at : ℕ) (bytes : List ℕ)
-    → AreApart 0 (front ++ (mid ++ back)) → AreFree (front ++ (mid ++ back)) at (length bytes) → IsJoin mid at bytes j
-    → behind 0 front ≤ j.at → AreApart (end_of j + 1) back
-    → IsPut (front ++ (mid ++ back)) at bytes (front ++ (j ∷ back))
+    → ArePiecesApart 0 (front ++ (mid ++ back)) → AreFree (front ++ (mid ++ back)) at (length bytes) → IsJoin mid at bytes j
+    → behind 0 front ≤ j.at → ArePiecesApart (piece_end j + 1) back
+    → ArePiecesPut (front ++ (mid ++ back)) at bytes (front ++ (j ∷ back))
 replaced front mid back j at bytes apart free is low high = record {
   apart = apart_both 0 front (j ∷ back) (apart_front 0 front (mid ++ back) apart) (low, is.some, high);
   within = λ size each fits.
-      let P : PieceFacts → Type 0 = λ q. end_of q ≤ size in
+      let P : PieceFacts → Type 0 = λ q. piece_end q ≤ size in
       let rest : All P (mid ++ back) = all_back P front (mid ++ back) each in
       All-append P front (j ∷ back) (all_front P front (mid ++ back) each)
       (All-cons P j back (is.ends size (all_front P mid back rest) fits) (all_back P mid back rest));
@@ -63,10 +63,10 @@ replaced front mid back j at bytes apart free is low high = record {
 
 -- the pieces in front end by the place
 ends_by : (ps : List PieceFacts) (at : ℕ) (bytes : List ℕ) (count : ℕ) → CanPut ps at bytes count → (i : ℕ) (d : PieceFacts)
-    → i < count → end_of (get_or ps i d) ≤ at
-ends_by ps at bytes count can i d under = of (cases_lt at (end_of (get_or ps i d)))
+    → i < count → piece_end (get_or ps i d) ≤ at
+ends_by ps at bytes count can i d under = of (cases_lt at (piece_end (get_or ps i d)))
   where
-    of : (at < end_of (get_or ps i d)) ⊎ (end_of (get_or ps i d) ≤ at) → end_of (get_or ps i d) ≤ at
+    of : (at < piece_end (get_or ps i d)) ⊎ (piece_end (get_or ps i d) ≤ at) → piece_end (get_or ps i d) ≤ at
     of (inr past) = past
     of (inl over) =
         let within = can.begun.within in
@@ -90,14 +90,14 @@ begins_after ps at bytes count can i d above below = of (cases_lt (get_or ps i d
 
 -- where the last of those in front doesn't touch the bytes, none does
 pub all_before : (ps : List PieceFacts) (at : ℕ) (bytes : List ℕ) (count : ℕ) → CanPut ps at bytes count
-    → (0 < count → (d : PieceFacts) → end_of (get_or ps (count - 1) d) ≢ at)
-    → (i : ℕ) (d : PieceFacts) → i < count → end_of (get_or ps i d) < at
+    → (0 < count → (d : PieceFacts) → piece_end (get_or ps (count - 1) d) ≢ at)
+    → (i : ℕ) (d : PieceFacts) → i < count → piece_end (get_or ps i d) < at
 all_before ps at bytes count can apart i d under = of (cases_lt i (count - 1))
   where
     within : count ≤ length ps
     within = can.begun.within
 
-    of : (i < count - 1) ⊎ (count - 1 ≤ i) → end_of (get_or ps i d) < at
+    of : (i < count - 1) ⊎ (count - 1 ≤ i) → piece_end (get_or ps i d) < at
     of (inl earlier) =
         let next = apart_later 0 ps can.apart i (count - 1) d earlier (omega (arith, under, within)) in
         let begins = can.begun.before (count - 1) d (omega (arith, under)) in
@@ -105,8 +105,8 @@ all_before ps at bytes count can apart i d under = of (cases_lt i (count - 1))
     of (inr last) =
         let same : i ≡ count - 1 = omega (arith, last, under) in
         let ends = ends_by ps at bytes count can i d under in
-        let other : end_of (get_or ps i d) ≢ at =
-        subst (λ k. end_of (get_or ps k d) ≢ at) (sym same) (apart (omega (arith, under)) d) in
+        let other : piece_end (get_or ps i d) ≢ at =
+        subst (λ k. piece_end (get_or ps k d) ≢ at) (sym same) (apart (omega (arith, under)) d) in
         omega (arith, ends, other)
 
 -- where the first of those behind doesn't touch the bytes, none does
@@ -131,19 +131,19 @@ all_after ps at bytes count can apart i d above below = of (cases_lt count i)
 
 -- none of the first pieces reaches a place
 front_low : (ps : List PieceFacts) (count to : ℕ) → count ≤ length ps
-    → ((i : ℕ) (d : PieceFacts) → i < count → end_of (get_or ps i d) < to) → behind 0 (take count ps) ≤ to
+    → ((i : ℕ) (d : PieceFacts) → i < count → piece_end (get_or ps i d) < to) → behind 0 (take count ps) ≤ to
 front_low ps count to within ends =
     let long = length-take-le count ps within in
     behind_by 0 to (take count ps) (omega arith)
     (λ i d below.
     let under : i < count = omega (arith, below, long) in
-    subst (λ (q : PieceFacts). end_of q < to) (sym (get_or-take count ps i d under)) (ends i d under))
+    subst (λ (q : PieceFacts). piece_end q < to) (sym (get_or-take count ps i d under)) (ends i d under))
 
 -- the pieces from an index on are apart behind a place
-back_high : (ps : List PieceFacts) (count to : ℕ) → AreApart 0 ps → count ≤ length ps
-    → ((i : ℕ) (d : PieceFacts) → count ≤ i → i < length ps → to < (get_or ps i d).at) → AreApart (to + 1) (drop count ps)
+back_high : (ps : List PieceFacts) (count to : ℕ) → ArePiecesApart 0 ps → count ≤ length ps
+    → ((i : ℕ) (d : PieceFacts) → count ≤ i → i < length ps → to < (get_or ps i d).at) → ArePiecesApart (to + 1) (drop count ps)
 back_high ps count to apart within begins =
-    let split : AreApart 0 (take count ps ++ drop count ps) = subst (AreApart 0) (sym (take-append-drop count ps)) apart in
+    let split : ArePiecesApart 0 (take count ps ++ drop count ps) = subst (ArePiecesApart 0) (sym (take-append-drop count ps)) apart in
     let long = length-drop count ps in
     apart_after (behind 0 (take count ps)) (to + 1) (drop count ps) (apart_back 0 (take count ps) (drop count ps) split)
     (λ i d below.
@@ -169,24 +169,24 @@ set_at_split ps i q below =
 
 -- the bytes touch no piece
 pub put_alone : (ps : List PieceFacts) (at : ℕ) (bytes : List ℕ) (count : ℕ) (new : List PieceFacts) → CanPut ps at bytes count
-    → TouchesNone ps at (length bytes) count → new ≡ insert ps count (piece_of at bytes) → IsPut ps at bytes new
+    → TouchesNone ps at (length bytes) count → new ≡ insert ps count (piece_of at bytes) → ArePiecesPut ps at bytes new
 put_alone ps at bytes count new can none is =
     let front : List PieceFacts = take count ps in
     let back : List PieceFacts = drop count ps in
     let whole : ps ≡ front ++ back = sym (take-append-drop count ps) in
-    let put : IsPut (front ++ back) at bytes (front ++ (piece_of at bytes ∷ back)) =
-    replaced front [] back (piece_of at bytes) at bytes (subst (AreApart 0) whole can.apart)
+    let put : ArePiecesPut (front ++ back) at bytes (front ++ (piece_of at bytes ∷ back)) =
+    replaced front [] back (piece_of at bytes) at bytes (subst (ArePiecesApart 0) whole can.apart)
     (subst (λ xs. AreFree xs at (length bytes)) whole can.free) (join_none at bytes can.some)
     (front_low ps count at can.begun.within none.before)
     (back_high ps count (at + length bytes) can.apart can.begun.within none.after) in
-    subst (λ xs. IsPut ps at bytes xs) (sym is)
-    (subst (λ xs. IsPut xs at bytes (front ++ (piece_of at bytes ∷ back))) (sym whole) put)
+    subst (λ xs. ArePiecesPut ps at bytes xs) (sym is)
+    (subst (λ xs. ArePiecesPut xs at bytes (front ++ (piece_of at bytes ∷ back))) (sym whole) put)
 
 -- they touch the one in front
 pub put_after : (ps : List PieceFacts) (at : ℕ) (bytes : List ℕ) (count : ℕ) (new : List PieceFacts) → CanPut ps at bytes count
-    → 0 < count → ((d : PieceFacts) → end_of (get_or ps (count - 1) d) ≡ at)
+    → 0 < count → ((d : PieceFacts) → piece_end (get_or ps (count - 1) d) ≡ at)
     → ((i : ℕ) (d : PieceFacts) → count ≤ i → i < length ps → at + length bytes < (get_or ps i d).at)
-    → Replaces (λ p. put_behind p bytes) (count - 1) ps new → IsPut ps at bytes new
+    → ReplacesPiece (λ p. put_behind p bytes) (count - 1) ps new → ArePiecesPut ps at bytes new
 put_after ps at bytes count new can some touch none is =
     let i : ℕ = count - 1 in
     let d : PieceFacts = piece_of at bytes in
@@ -198,23 +198,23 @@ put_after ps at bytes count new can some touch none is =
     let whole : ps ≡ front ++ (p ∷ back) = split_at ps i d below ∙ ap (λ n. front ++ (p ∷ drop n ps)) next in
     let made : new ≡ front ++ (put_behind p bytes ∷ back) =
     is d ∙ set_at_split ps i (put_behind p bytes) below ∙ ap (λ n. front ++ (put_behind p bytes ∷ drop n ps)) next in
-    let apart : AreApart 0 (front ++ (p ∷ back)) = subst (AreApart 0) whole can.apart in
+    let apart : ArePiecesApart 0 (front ++ (p ∷ back)) = subst (ArePiecesApart 0) whole can.apart in
     let long : length (p.bytes ++ bytes) ≡ length p.bytes + length bytes = length-append p.bytes bytes in
-    let touches : end_of p ≡ at = touch d in
-    let end : (at + length bytes) + 1 ≡ end_of (put_behind p bytes) + 1 = omega (arith, touches, long) in
-    let put : IsPut (front ++ (p ∷ back)) at bytes (front ++ (put_behind p bytes ∷ back)) =
+    let touches : piece_end p ≡ at = touch d in
+    let end : (at + length bytes) + 1 ≡ piece_end (put_behind p bytes) + 1 = omega (arith, touches, long) in
+    let put : ArePiecesPut (front ++ (p ∷ back)) at bytes (front ++ (put_behind p bytes ∷ back)) =
     replaced front (p ∷ []) back (put_behind p bytes) at bytes apart
     (subst (λ xs. AreFree xs at (length bytes)) whole can.free) (join_left p at bytes can.some touches)
     (apart_back 0 front (p ∷ back) apart).0
-    (subst (λ n. AreApart n back) end (back_high ps count (at + length bytes) can.apart can.begun.within none)) in
-    subst (λ xs. IsPut ps at bytes xs) (sym made)
-    (subst (λ xs. IsPut xs at bytes (front ++ (put_behind p bytes ∷ back))) (sym whole) put)
+    (subst (λ n. ArePiecesApart n back) end (back_high ps count (at + length bytes) can.apart can.begun.within none)) in
+    subst (λ xs. ArePiecesPut ps at bytes xs) (sym made)
+    (subst (λ xs. ArePiecesPut xs at bytes (front ++ (put_behind p bytes ∷ back))) (sym whole) put)
 
 -- they touch the one behind
 pub put_ahead : (ps : List PieceFacts) (at : ℕ) (bytes : List ℕ) (count : ℕ) (new : List PieceFacts) → CanPut ps at bytes count
-    → ((i : ℕ) (d : PieceFacts) → i < count → end_of (get_or ps i d) < at)
+    → ((i : ℕ) (d : PieceFacts) → i < count → piece_end (get_or ps i d) < at)
     → count < length ps → ((d : PieceFacts) → (get_or ps count d).at ≡ at + length bytes)
-    → Replaces (put_before bytes) count ps new → IsPut ps at bytes new
+    → ReplacesPiece (put_before bytes) count ps new → ArePiecesPut ps at bytes new
 put_ahead ps at bytes count new can none below touch is =
     let d : PieceFacts = piece_of at bytes in
     let p : PieceFacts = get_or ps count d in
@@ -226,22 +226,22 @@ put_ahead ps at bytes count new can none below touch is =
     let made : new ≡ front ++ (piece_of at (bytes ++ p.bytes) ∷ back) =
     is d ∙ set_at_split ps count (put_before bytes p) below
     ∙ ap (λ n. front ++ (piece_of n (bytes ++ p.bytes) ∷ back)) moved in
-    let apart : AreApart 0 (front ++ (p ∷ back)) = subst (AreApart 0) whole can.apart in
+    let apart : ArePiecesApart 0 (front ++ (p ∷ back)) = subst (ArePiecesApart 0) whole can.apart in
     let long : length (bytes ++ p.bytes) ≡ length bytes + length p.bytes = length-append bytes p.bytes in
-    let end : end_of p + 1 ≡ end_of (piece_of at (bytes ++ p.bytes)) + 1 = omega (arith, touches, long) in
-    let put : IsPut (front ++ (p ∷ back)) at bytes (front ++ (piece_of at (bytes ++ p.bytes) ∷ back)) =
+    let end : piece_end p + 1 ≡ piece_end (piece_of at (bytes ++ p.bytes)) + 1 = omega (arith, touches, long) in
+    let put : ArePiecesPut (front ++ (p ∷ back)) at bytes (front ++ (piece_of at (bytes ++ p.bytes) ∷ back)) =
     replaced front (p ∷ []) back (piece_of at (bytes ++ p.bytes)) at bytes apart
     (subst (λ xs. AreFree xs at (length bytes)) whole can.free) (join_right p at bytes can.some touches)
     (front_low ps count at can.begun.within none)
-    (subst (λ n. AreApart n back) end (apart_back 0 front (p ∷ back) apart).2) in
-    subst (λ xs. IsPut ps at bytes xs) (sym made)
-    (subst (λ xs. IsPut xs at bytes (front ++ (piece_of at (bytes ++ p.bytes) ∷ back))) (sym whole) put)
+    (subst (λ n. ArePiecesApart n back) end (apart_back 0 front (p ∷ back) apart).2) in
+    subst (λ xs. ArePiecesPut ps at bytes xs) (sym made)
+    (subst (λ xs. ArePiecesPut xs at bytes (front ++ (piece_of at (bytes ++ p.bytes) ∷ back))) (sym whole) put)
 
 -- they touch both
 pub put_between : (ps : List PieceFacts) (at : ℕ) (bytes : List ℕ) (count : ℕ) (new : List PieceFacts) → CanPut ps at bytes count
-    → 0 < count → ((d : PieceFacts) → end_of (get_or ps (count - 1) d) ≡ at)
+    → 0 < count → ((d : PieceFacts) → piece_end (get_or ps (count - 1) d) ≡ at)
     → count < length ps → ((d : PieceFacts) → (get_or ps count d).at ≡ at + length bytes)
-    → Spans bytes count ps new → IsPut ps at bytes new
+    → Spans bytes count ps new → ArePiecesPut ps at bytes new
 put_between ps at bytes count new can some touch below follow is =
     let i : ℕ = count - 1 in
     let d : PieceFacts = piece_of at bytes in
@@ -253,55 +253,55 @@ put_between ps at bytes count new can some touch below follow is =
     let whole : ps ≡ front ++ (p ∷ (q ∷ back)) =
     split_at ps i d (omega (arith, below)) ∙ ap (λ n. front ++ (p ∷ drop n ps)) next
     ∙ ap (λ xs. front ++ (p ∷ xs)) (drop_more ps count d below) in
-    let apart : AreApart 0 (front ++ (p ∷ (q ∷ back))) = subst (AreApart 0) whole can.apart in
-    let touches : end_of p ≡ at = touch d in
+    let apart : ArePiecesApart 0 (front ++ (p ∷ (q ∷ back))) = subst (ArePiecesApart 0) whole can.apart in
+    let touches : piece_end p ≡ at = touch d in
     let follows : at + length bytes ≡ q.at = sym (follow d) in
     let one : length (p.bytes ++ (bytes ++ q.bytes)) ≡ length p.bytes + length (bytes ++ q.bytes) =
     length-append p.bytes (bytes ++ q.bytes) in
     let two : length (bytes ++ q.bytes) ≡ length bytes + length q.bytes = length-append bytes q.bytes in
-    let end : end_of q + 1 ≡ end_of (spanned p bytes q) + 1 = omega (arith, touches, follows, one, two) in
-    let put : IsPut (front ++ (p ∷ (q ∷ back))) at bytes (front ++ (spanned p bytes q ∷ back)) =
+    let end : piece_end q + 1 ≡ piece_end (spanned p bytes q) + 1 = omega (arith, touches, follows, one, two) in
+    let put : ArePiecesPut (front ++ (p ∷ (q ∷ back))) at bytes (front ++ (spanned p bytes q ∷ back)) =
     replaced front (p ∷ q ∷ []) back (spanned p bytes q) at bytes apart
     (subst (λ xs. AreFree xs at (length bytes)) whole can.free) (join_both p q at bytes can.some touches follows)
     (apart_back 0 front (p ∷ (q ∷ back)) apart).0
-    (subst (λ n. AreApart n back) end (apart_back 0 front (p ∷ (q ∷ back)) apart).2.2) in
-    subst (λ xs. IsPut ps at bytes xs) (sym (is d))
-    (subst (λ xs. IsPut xs at bytes (front ++ (spanned p bytes q ∷ back))) (sym whole) put)
+    (subst (λ n. ArePiecesApart n back) end (apart_back 0 front (p ∷ (q ∷ back)) apart).2.2) in
+    subst (λ xs. ArePiecesPut ps at bytes xs) (sym (is d))
+    (subst (λ xs. ArePiecesPut xs at bytes (front ++ (spanned p bytes q ∷ back))) (sym whole) put)
 
 -- ---- what the tests say
 
 -- the last of the pieces in front ends at the place
-pub ends_true : {ps qs : List PieceFacts} {count at : ℕ} {test : Bool} → ps ≡ qs → test ≡ true → Ends ps count at test
-    → (0 < count) × ((d : PieceFacts) → end_of (get_or qs (count - 1) d) ≡ at)
+pub ends_true : {ps qs : List PieceFacts} {count at : ℕ} {test : Bool} → ps ≡ qs → test ≡ true → EndsPiece ps count at test
+    → (0 < count) × ((d : PieceFacts) → piece_end (get_or qs (count - 1) d) ≡ at)
 ends_true {ps} {qs} {count} {at} {test} same is ends =
-    subst (λ xs. Ends xs count at true) same (subst (λ t. Ends ps count at t) is ends)
+    subst (λ xs. EndsPiece xs count at true) same (subst (λ t. EndsPiece ps count at t) is ends)
 
 -- it doesn't
-pub ends_false : {ps qs : List PieceFacts} {count at : ℕ} {test : Bool} → ps ≡ qs → test ≡ false → Ends ps count at test
-    → 0 < count → (d : PieceFacts) → end_of (get_or qs (count - 1) d) ≢ at
+pub ends_false : {ps qs : List PieceFacts} {count at : ℕ} {test : Bool} → ps ≡ qs → test ≡ false → EndsPiece ps count at test
+    → 0 < count → (d : PieceFacts) → piece_end (get_or qs (count - 1) d) ≢ at
 ends_false {ps} {qs} {count} {at} {test} same is ends =
-    subst (λ xs. Ends xs count at false) same (subst (λ t. Ends ps count at t) is ends)
+    subst (λ xs. EndsPiece xs count at false) same (subst (λ t. EndsPiece ps count at t) is ends)
 
 -- the first of those behind begins there
-pub begins_true : {ps qs : List PieceFacts} {count at : ℕ} {test : Bool} → ps ≡ qs → test ≡ true → Begins ps count at test
+pub begins_true : {ps qs : List PieceFacts} {count at : ℕ} {test : Bool} → ps ≡ qs → test ≡ true → BeginsPiece ps count at test
     → (count < length qs) × ((d : PieceFacts) → (get_or qs count d).at ≡ at)
 begins_true {ps} {qs} {count} {at} {test} same is begins =
-    subst (λ xs. Begins xs count at true) same (subst (λ t. Begins ps count at t) is begins)
+    subst (λ xs. BeginsPiece xs count at true) same (subst (λ t. BeginsPiece ps count at t) is begins)
 
 -- it doesn't
-pub begins_false : {ps qs : List PieceFacts} {count at : ℕ} {test : Bool} → ps ≡ qs → test ≡ false → Begins ps count at test
+pub begins_false : {ps qs : List PieceFacts} {count at : ℕ} {test : Bool} → ps ≡ qs → test ≡ false → BeginsPiece ps count at test
     → count < length qs → (d : PieceFacts) → (get_or qs count d).at ≢ at
 begins_false {ps} {qs} {count} {at} {test} same is begins =
-    subst (λ xs. Begins xs count at false) same (subst (λ t. Begins ps count at t) is begins)
+    subst (λ xs. BeginsPiece xs count at false) same (subst (λ t. BeginsPiece ps count at t) is begins)
 
 -- bytes between two pieces, with those of the one behind, end with it
 pub span_fits : (ps : List PieceFacts) (index : ℕ) (d q : PieceFacts) (bytes own both : List ℕ)
-    → end_of (get_or ps (index - 1) d) + length bytes ≡ (get_or ps index d).at → q ≡ get_or ps index q → index < length ps
-    → own ≡ q.bytes → length both ≡ length (bytes ++ own) → end_of q < 2 ^ 64
-    → end_of (get_or ps (index - 1) d) + length both < 2 ^ 64
+    → piece_end (get_or ps (index - 1) d) + length bytes ≡ (get_or ps index d).at → q ≡ get_or ps index q → index < length ps
+    → own ≡ q.bytes → length both ≡ length (bytes ++ own) → piece_end q < 2 ^ 64
+    → piece_end (get_or ps (index - 1) d) + length both < 2 ^ 64
 span_fits ps index d q bytes own both touch is below all long fits =
     let place : (get_or ps index d).at ≡ q.at = ap (λ (r : PieceFacts). r.at) (get_or_default ps index d q below ∙ sym is) in
     let sum : length (bytes ++ own) ≡ length bytes + length own = length-append bytes own in
     let same : length own ≡ length q.bytes = ap length all in
-    let end : end_of (get_or ps (index - 1) d) + length both ≡ end_of q = omega (arith, touch, place, long, sum, same) in
+    let end : piece_end (get_or ps (index - 1) d) + length both ≡ piece_end q = omega (arith, touch, place, long, sum, same) in
     subst (λ n. n < 2 ^ 64) (sym end) fits

@@ -6,7 +6,7 @@ use Rattle.std.specs.List.Sorted.{IsPartitionedBy, IsPartitionPoint}
 use Rattle.std.proofs.lemmas.Bool.{cases_lt, leb-true, leb-false, le-leb}
 use Rattle.std.proofs.lemmas.List.{get_or_default, get_or-take, get_or-drop, length-drop, length-take-le}
 use Rattle.file_formats.specs.Numbers.{bytes_at}
-use Rattle.file_picture.specs.Picture.{PieceFacts, PictureFacts, AreApart, IsPicture, IsCovered, IsFirstGap, Gives, byte_at, byte_among, end_of, sum_of}
+use Rattle.file_picture.specs.Picture.{PieceFacts, PictureFacts, ArePiecesApart, IsPicture, IsCovered, IsFirstGap, GivesRange, known_byte, byte_among, piece_end, sum_of}
 use Rattle.file_picture.specs.Pieces.{IsBegun, IsKnownTo, IsNextBegin}
 use Rattle.file_picture.proofs.PieceLemmas.{apart_later, apart_some, byte_known, byte_none, byte_some, sum_within}
 
@@ -17,7 +17,7 @@ sum_small p is = let small = sum_within 0 p.size p.pieces is.apart (omega arith)
 -- ---- how many pieces begin
 
 -- those that begin by a place stand in front
-pub begun_parted : (ps : List PieceFacts) (at : ℕ) → AreApart 0 ps → IsPartitionedBy (λ q. nat_le q.at at) ps
+pub begun_parted : (ps : List PieceFacts) (at : ℕ) → ArePiecesApart 0 ps → IsPartitionedBy (λ q. nat_le q.at at) ps
 begun_parted ps at apart i j d within below begins = of (cases_lt i j)
   where
     of : (i < j) ⊎ (j ≤ i) → nat_le (get_or ps i d).at at ≡ true
@@ -39,8 +39,8 @@ begun_from ps at count within parted = record {
 }
 
 -- the bytes are known up to the end of the last one that begins
-pub known_by : (ps : List PieceFacts) (count at to : ℕ) (q : PieceFacts) → AreApart 0 ps → IsBegun ps at count → 0 < count
-    → q ≡ get_or ps (count - 1) q → to ≡ max (end_of q) at → IsKnownTo ps count at to
+pub known_by : (ps : List PieceFacts) (count at to : ℕ) (q : PieceFacts) → ArePiecesApart 0 ps → IsBegun ps at count → 0 < count
+    → q ≡ get_or ps (count - 1) q → to ≡ max (piece_end q) at → IsKnownTo ps count at to
 known_by ps count at to q apart begun some is top = record {
   above = omega (arith, top);
   known = λ place above below.
@@ -57,20 +57,20 @@ known_by ps count at to q apart begun some is top = record {
     inside : count - 1 < length ps
     inside = let within = begun.within in omega (arith, within, some)
 
-    ends : end_of q ≡ end_of (get_or ps (count - 1) q)
-    ends = ap end_of is
+    ends : piece_end q ≡ piece_end (get_or ps (count - 1) q)
+    ends = ap piece_end is
 
-    last_end : (d : PieceFacts) → end_of (get_or ps (count - 1) d) ≡ end_of q
-    last_end d = ap end_of (get_or_default ps (count - 1) d q inside ∙ sym is)
+    last_end : (d : PieceFacts) → piece_end (get_or ps (count - 1) d) ≡ piece_end q
+    last_end d = ap piece_end (get_or_default ps (count - 1) d q inside ∙ sym is)
 
-    of : (i : ℕ) (d : PieceFacts) → i < count → (i < count - 1) ⊎ (count - 1 ≤ i) → end_of (get_or ps i d) ≤ to
+    of : (i : ℕ) (d : PieceFacts) → i < count → (i < count - 1) ⊎ (count - 1 ≤ i) → piece_end (get_or ps i d) ≤ to
     of i d under (inl earlier) =
         let next = apart_later 0 ps apart i (count - 1) d earlier inside in
         let begins = begun.before (count - 1) d (omega (arith, under)) in
         omega (arith, top, next, begins)
     of i d under (inr last) =
         let same : i ≡ count - 1 = omega (arith, last, under) in
-        let end : end_of (get_or ps i d) ≡ end_of q = ap (λ k. end_of (get_or ps k d)) same ∙ last_end d in
+        let end : piece_end (get_or ps i d) ≡ piece_end q = ap (λ k. piece_end (get_or ps k d)) same ∙ last_end d in
         omega (arith, end, top)
 
 -- and none is where that is
@@ -78,14 +78,14 @@ pub none_there : (ps : List PieceFacts) (count at to : ℕ) → IsKnownTo ps cou
 none_there ps count at to known = byte_none ps to (λ i d below. of i d below (cases_lt i count))
   where
     of : (i : ℕ) (d : PieceFacts) → i < length ps → (i < count) ⊎ (count ≤ i)
-        → (to < (get_or ps i d).at) ⊎ (end_of (get_or ps i d) ≤ to)
+        → (to < (get_or ps i d).at) ⊎ (piece_end (get_or ps i d) ≤ to)
     of i d below (inl under) = inr (known.before i d under)
     of i d below (inr above) = inl (known.after i d above below)
 
 -- ---- bytes of a range
 
 -- a range with a place whose byte isn't known isn't covered
-pub not_covered : (p : PictureFacts) (at len place : ℕ) → at ≤ place → place < at + len → byte_at p place ≡ None
+pub not_covered : (p : PictureFacts) (at len place : ℕ) → at ≤ place → place < at + len → known_byte p place ≡ None
     → IsCovered p at len → ⊥
 not_covered p at len place above below none covered =
     let known = covered.known place above below in
@@ -101,17 +101,17 @@ none_begun p at len count some none begun =
 -- what the last piece that begins has of it
 pub slice_is : (p : PictureFacts) → IsPicture p → (at len count : ℕ) (q : PieceFacts) → (len ≡ 0 → ⊥) → 0 < count
     → IsBegun p.pieces at count → q ≡ get_or p.pieces (count - 1) q → (r : Option (Bor (List ℕ)))
-    → MatchOption r (end_of q < at + len) (λ bytes. (at + len ≤ end_of q) × (bytes.now ≡ bytes_at q.bytes (at - q.at) len))
-    → MatchOption r (IsCovered p at len → ⊥) (λ bytes. Gives p at len bytes.now)
+    → MatchOption r (piece_end q < at + len) (λ bytes. (at + len ≤ piece_end q) × (bytes.now ≡ bytes_at q.bytes (at - q.at) len))
+    → MatchOption r (IsCovered p at len → ⊥) (λ bytes. GivesRange p at len bytes.now)
 slice_is p is at len count q some begins begun which None short =
-    let to : ℕ = max (end_of q) at in
+    let to : ℕ = max (piece_end q) at in
     not_covered p at len to (omega arith) (omega (arith, short, some))
     (none_there p.pieces count at to (known_by p.pieces count at to q is.apart begun begins which refl))
 slice_is p is at len count q some begins begun which (Some bytes) part =
     let inside : count - 1 < length p.pieces = (let within = begun.within in omega (arith, within, begins)) in
     let start : (get_or p.pieces (count - 1) q).at ≤ at = begun.before (count - 1) q (omega (arith, begins)) in
     let low : q.at ≤ at = subst (λ (s : PieceFacts). s.at ≤ at) (sym which) start in
-    let top : end_of q ≤ p.size = subst (λ (s : PieceFacts). end_of s ≤ p.size) (sym which) (is.within (count - 1) q inside) in
+    let top : piece_end q ≤ p.size = subst (λ (s : PieceFacts). piece_end s ≤ p.size) (sym which) (is.within (count - 1) q inside) in
     let rest : length (drop (at - q.at) q.bytes) ≡ length q.bytes - (at - q.at) = length-drop (at - q.at) q.bytes in
     let fits : len ≤ length (drop (at - q.at) q.bytes) = omega (arith, rest, low, part.0) in
     record {
@@ -119,7 +119,7 @@ slice_is p is at len count q some begins begun which (Some bytes) part =
       long = ap length part.1 ∙ length-take-le len (drop (at - q.at) q.bytes) fits;
       each = λ i under.
           let place : (get_or p.pieces (count - 1) q).at ≤ at + i = omega (arith, start) in
-          let ends : end_of q ≡ end_of (get_or p.pieces (count - 1) q) = ap end_of which in
+          let ends : piece_end q ≡ piece_end (get_or p.pieces (count - 1) q) = ap piece_end which in
           let index : (at + i) - q.at ≡ (at - q.at) + i = omega (arith, low) in
           byte_some 0 p.pieces is.apart (count - 1) q inside (at + i) place (omega (arith, ends, part.0, under))
           ∙ ap (λ (s : PieceFacts). Some (get_or s.bytes ((at + i) - s.at) 0)) (sym which)
@@ -165,7 +165,7 @@ gap_is p is at len count from to inside known ahead next =
     }
   where
     free : from < to → (place : ℕ) → from ≤ place → place < from + (to - from) → (i : ℕ) (d : PieceFacts) → i < length p.pieces
-        → (i < count) ⊎ (count ≤ i) → (place < (get_or p.pieces i d).at) ⊎ (end_of (get_or p.pieces i d) ≤ place)
+        → (i < count) ⊎ (count ≤ i) → (place < (get_or p.pieces i d).at) ⊎ (piece_end (get_or p.pieces i d) ≤ place)
     free some place low high i d below (inl under) = let ends = known.before i d under in inr (omega (arith, ends, low))
     free some place low high i d below (inr above) =
         let first = next.first d (omega (arith, above, below)) in
@@ -181,11 +181,11 @@ gap_is p is at len count from to inside known ahead next =
 
     ends : from < to
         → (to ≡ at + len) ⊎ ((count < length p.pieces) × ((d : PieceFacts) → to ≡ (get_or p.pieces count d).at))
-        → (from + (to - from) ≡ at + len) ⊎ (is_some (byte_at p (from + (to - from))) ≡ true)
+        → (from + (to - from) ≡ at + len) ⊎ (is_some (known_byte p (from + (to - from))) ≡ true)
     ends some (inl end) = inl (omega (arith, some, end))
     ends some (inr begins) =
         let d : PieceFacts = record { at = 0; bytes = [] } in
         let place : from + (to - from) ≡ (get_or p.pieces count d).at = (let first = begins.1 d in omega (arith, some, first)) in
         let has = apart_some 0 p.pieces is.apart count d begins.0 in
-        inr (subst (λ k. is_some (byte_at p k) ≡ true) (sym place)
+        inr (subst (λ k. is_some (known_byte p k) ≡ true) (sym place)
         (byte_known 0 p.pieces is.apart count d begins.0 (get_or p.pieces count d).at (omega arith) (omega (arith, has))))

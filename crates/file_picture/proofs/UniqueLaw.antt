@@ -4,34 +4,34 @@ use Rattle.std.specs.Option.{option_or}
 use Rattle.std.proofs.lemmas.Bool.{cases_lt}
 use Rattle.std.proofs.lemmas.List.{get_or_default, same_lists}
 use Rattle.std.proofs.lemmas.Option.{same_Some}
-use Rattle.file_picture.specs.Picture.{PieceFacts, PictureFacts, AreApart, IsPicture, byte_at, byte_among, end_of}
+use Rattle.file_picture.specs.Picture.{PieceFacts, PictureFacts, ArePiecesApart, IsPicture, known_byte, byte_among, piece_end}
 use Rattle.file_picture.specs.Pieces.{piece_of}
 use Rattle.file_picture.proofs.PieceLemmas.{apart_from, byte_none, byte_some, piece_none}
 
 -- pieces have no byte before they begin
-none_before : (from : ℕ) (ps : List PieceFacts) → AreApart from ps → (place : ℕ) → place < from → byte_among ps place ≡ None
+none_before : (from : ℕ) (ps : List PieceFacts) → ArePiecesApart from ps → (place : ℕ) → place < from → byte_among ps place ≡ None
 none_before from ps a place before =
     byte_none ps place (λ i d below. let low = apart_from from ps a i d below in inl (omega (arith, low, before)))
 
 -- the first piece has its bytes
-first_some : (from : ℕ) (p : PieceFacts) (ps : List PieceFacts) → AreApart from (p ∷ ps) → (place : ℕ) → p.at ≤ place
-    → place < end_of p → byte_among (p ∷ ps) place ≡ Some (get_or p.bytes (place - p.at) 0)
+first_some : (from : ℕ) (p : PieceFacts) (ps : List PieceFacts) → ArePiecesApart from (p ∷ ps) → (place : ℕ) → p.at ≤ place
+    → place < piece_end p → byte_among (p ∷ ps) place ≡ Some (get_or p.bytes (place - p.at) 0)
 first_some from p ps a place above below = byte_some from (p ∷ ps) a zero p (omega arith) place above below
 
 -- none stands right behind it
-none_behind : (from : ℕ) (p : PieceFacts) (ps : List PieceFacts) → AreApart from (p ∷ ps) → byte_among (p ∷ ps) (end_of p) ≡ None
+none_behind : (from : ℕ) (p : PieceFacts) (ps : List PieceFacts) → ArePiecesApart from (p ∷ ps) → byte_among (p ∷ ps) (piece_end p) ≡ None
 none_behind from p ps a =
-    ap (λ (o : Option ℕ). option_or o (byte_among ps (end_of p))) (piece_none p (end_of p) (inr (omega arith)))
-    ∙ none_before (end_of p + 1) ps a.2 (end_of p) (omega arith)
+    ap (λ (o : Option ℕ). option_or o (byte_among ps (piece_end p))) (piece_none p (piece_end p) (inr (omega arith)))
+    ∙ none_before (piece_end p + 1) ps a.2 (piece_end p) (omega arith)
 
 -- behind it the bytes are those of the others
-rest_of : (from : ℕ) (p : PieceFacts) (ps : List PieceFacts) → AreApart from (p ∷ ps) → (place : ℕ) → end_of p < place
+rest_of : (from : ℕ) (p : PieceFacts) (ps : List PieceFacts) → ArePiecesApart from (p ∷ ps) → (place : ℕ) → piece_end p < place
     → byte_among (p ∷ ps) place ≡ byte_among ps place
 rest_of from p ps a place past =
     ap (λ (o : Option ℕ). option_or o (byte_among ps place)) (piece_none p place (inr (omega (arith, past))))
 
 -- pieces with the same bytes begin at one place
-begins_low : (from : ℕ) (p q : PieceFacts) (ps qs : List PieceFacts) → AreApart from (p ∷ ps) → AreApart from (q ∷ qs)
+begins_low : (from : ℕ) (p q : PieceFacts) (ps qs : List PieceFacts) → ArePiecesApart from (p ∷ ps) → ArePiecesApart from (q ∷ qs)
     → ((place : ℕ) → byte_among (p ∷ ps) place ≡ byte_among (q ∷ qs) place) → p.at ≤ q.at
 begins_low from p q ps qs a b same = of (cases_lt q.at p.at)
   where
@@ -43,22 +43,22 @@ begins_low from p q ps qs a b same = of (cases_lt q.at p.at)
         let both = sym none ∙ same q.at ∙ some in absurd (cc)
 
 -- and end at one
-ends_low : (from : ℕ) (p q : PieceFacts) (ps qs : List PieceFacts) → AreApart from (p ∷ ps) → AreApart from (q ∷ qs)
-    → ((place : ℕ) → byte_among (p ∷ ps) place ≡ byte_among (q ∷ qs) place) → p.at ≡ q.at → end_of q ≤ end_of p
-ends_low from p q ps qs a b same begin = of (cases_lt (end_of p) (end_of q))
+ends_low : (from : ℕ) (p q : PieceFacts) (ps qs : List PieceFacts) → ArePiecesApart from (p ∷ ps) → ArePiecesApart from (q ∷ qs)
+    → ((place : ℕ) → byte_among (p ∷ ps) place ≡ byte_among (q ∷ qs) place) → p.at ≡ q.at → piece_end q ≤ piece_end p
+ends_low from p q ps qs a b same begin = of (cases_lt (piece_end p) (piece_end q))
   where
-    of : (end_of p < end_of q) ⊎ (end_of q ≤ end_of p) → end_of q ≤ end_of p
+    of : (piece_end p < piece_end q) ⊎ (piece_end q ≤ piece_end p) → piece_end q ≤ piece_end p
     of (inr low) = low
     of (inl before) =
-        let some = first_some from q qs b (end_of p) (omega (arith, begin)) before in
-        let both = sym (none_behind from p ps a) ∙ same (end_of p) ∙ some in absurd (cc)
+        let some = first_some from q qs b (piece_end p) (omega (arith, begin)) before in
+        let both = sym (none_behind from p ps a) ∙ same (piece_end p) ∙ some in absurd (cc)
 
 -- pieces of the same place and bytes are the same
 piece_same : (p q : PieceFacts) → p.at ≡ q.at → p.bytes ≡ q.bytes → p ≡ q
 piece_same p q at bytes = let whole : piece_of p.at p.bytes ≡ piece_of q.at q.bytes = cc in whole
 
 -- the first pieces are
-first_same : (from : ℕ) (p q : PieceFacts) (ps qs : List PieceFacts) → AreApart from (p ∷ ps) → AreApart from (q ∷ qs)
+first_same : (from : ℕ) (p q : PieceFacts) (ps qs : List PieceFacts) → ArePiecesApart from (p ∷ ps) → ArePiecesApart from (q ∷ qs)
     → ((place : ℕ) → byte_among (p ∷ ps) place ≡ byte_among (q ∷ qs) place) → p ≡ q
 first_same from p q ps qs a b same =
     let low = begins_low from p q ps qs a b same in
@@ -79,7 +79,7 @@ first_same from p q ps qs a b same =
     ∙ ap (λ i. get_or q.bytes i 0) right ∙ get_or_default q.bytes k 0 d (omega (arith, below, long))))
 
 -- pieces with the same bytes are the same
-pieces_same : (from : ℕ) (ps qs : List PieceFacts) → AreApart from ps → AreApart from qs
+pieces_same : (from : ℕ) (ps qs : List PieceFacts) → ArePiecesApart from ps → ArePiecesApart from qs
     → ((place : ℕ) → byte_among ps place ≡ byte_among qs place) → ps ≡ qs
 pieces_same from [] [] a b same = refl
 pieces_same from (p ∷ ps) [] a b same =
@@ -88,21 +88,21 @@ pieces_same from [] (q ∷ qs) a b same =
     let both = sym (first_some from q qs b q.at (omega arith) (omega (arith, b.1))) ∙ sym (same q.at) in absurd (cc)
 pieces_same from (p ∷ ps) (q ∷ qs) a b same =
     let first : p ≡ q = first_same from p q ps qs a b same in
-    let end : end_of q ≡ end_of p = ap end_of (sym first) in
-    let other : AreApart (end_of p + 1) qs = subst (λ n. AreApart (n + 1) qs) end b.2 in
+    let end : piece_end q ≡ piece_end p = ap piece_end (sym first) in
+    let other : ArePiecesApart (piece_end p + 1) qs = subst (λ n. ArePiecesApart (n + 1) qs) end b.2 in
     let rest : ps ≡ qs =
-    pieces_same (end_of p + 1) ps qs a.2 other (λ place. of end other place (cases_lt (end_of p) place)) in
+    pieces_same (piece_end p + 1) ps qs a.2 other (λ place. of end other place (cases_lt (piece_end p) place)) in
     ap (λ r. r ∷ ps) first ∙ ap (λ rs. q ∷ rs) rest
   where
-    of : end_of q ≡ end_of p → AreApart (end_of p + 1) qs → (place : ℕ) → (end_of p < place) ⊎ (place ≤ end_of p)
+    of : piece_end q ≡ piece_end p → ArePiecesApart (piece_end p + 1) qs → (place : ℕ) → (piece_end p < place) ⊎ (place ≤ piece_end p)
         → byte_among ps place ≡ byte_among qs place
     of end other place (inl past) =
         sym (rest_of from p ps a place past) ∙ same place ∙ rest_of from q qs b place (omega (arith, past, end))
     of end other place (inr before) =
-        none_before (end_of p + 1) ps a.2 place (omega (arith, before))
-        ∙ sym (none_before (end_of p + 1) qs other place (omega (arith, before)))
+        none_before (piece_end p + 1) ps a.2 place (omega (arith, before))
+        ∙ sym (none_before (piece_end p + 1) qs other place (omega (arith, before)))
 
 -- two pictures of one size with the same bytes are one
 pub picture-unique : (p q : PictureFacts) → IsPicture p → IsPicture q → p.size ≡ q.size
-    → ((place : ℕ) → byte_at p place ≡ byte_at q place) → p.pieces ≡ q.pieces
+    → ((place : ℕ) → known_byte p place ≡ known_byte q place) → p.pieces ≡ q.pieces
 picture-unique p q a b size same = pieces_same 0 p.pieces q.pieces a.apart b.apart same

@@ -2,13 +2,13 @@
 use Rattle.std.specs.Prelude.{◌≡◌, ℕ, List, Some, length, slice_index, map}
 use Rattle.std.specs.List.{range_with_len}
 use Rattle.std.specs.Option.{unwrap_or}
-use Rattle.file_picture.specs.Picture.{PictureFacts, byte_at}
+use Rattle.file_picture.specs.Picture.{PictureFacts, known_byte}
 
 -- the file has the picture's size, and each of its bytes at its place
-pub record Agrees (b : List ℕ) (p : PictureFacts) : Type 0 where
+pub record AgreesWithPicture (b : List ℕ) (p : PictureFacts) : Type 0 where
   pub sized : length b ≡ p.size
-  pub same : (place x : ℕ) → byte_at p place ≡ Some x → slice_index b place ≡ x
+  pub same : (place x : ℕ) → known_byte p place ≡ Some x → slice_index b place ≡ x
 
 -- the picture with 0 at each place whose byte isn't known: one of these files
-abbrev pub filled : PictureFacts → List ℕ
-filled p = map (λ place. unwrap_or (byte_at p place) 0) (range_with_len 0 p.size)
+abbrev pub filled_with_zeros : PictureFacts → List ℕ
+filled_with_zeros p = map (λ place. unwrap_or (known_byte p place) 0) (range_with_len 0 p.size)

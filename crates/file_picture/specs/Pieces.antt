@@ -1,6 +1,6 @@
 -- Pieces of a picture, one by one.
 use Rattle.std.specs.Prelude.{◌≡◌, ◌≢◌, ◌⊎◌, MatchBool, Bool, Some, All, ℕ, ◌+◌, ◌-◌, ◌<◌, ◌≤◌, ◌^◌, List, ◌∷◌, ◌++◌, true, is_some, length, take, drop, slice_index, slice_index_or, slice_set}
-use Rattle.file_picture.specs.Picture.{PieceFacts, AreApart, AreFree, IsPicture, byte_among, end_of, sum_of}
+use Rattle.file_picture.specs.Picture.{PieceFacts, ArePiecesApart, AreFree, IsPicture, byte_among, piece_end, sum_of}
 
 -- what a piece keeps: room before its bytes, which end below 2^64
 pub record IsPiece (at room : ℕ) (kept : List ℕ) : Type 0 where
@@ -8,7 +8,7 @@ pub record IsPiece (at room : ℕ) (kept : List ℕ) : Type 0 where
   pub fits : at + (length kept - room) < 2 ^ 64
 
 -- what a picture keeps: pieces, how many bytes they have, and a size below 2^64
-pub record IsKept (size sum : ℕ) (ps : List PieceFacts) : Type 0 where
+pub record ArePiecesKept (size sum : ℕ) (ps : List PieceFacts) : Type 0 where
   pub is : IsPicture (record { size = size; pieces = ps })
   pub sum_is : sum ≡ sum_of ps
   pub fits : size < 2 ^ 64
@@ -30,8 +30,8 @@ abbrev pub spanned : PieceFacts → List ℕ → PieceFacts → PieceFacts
 spanned p bytes q = record { at = p.at; bytes = p.bytes ++ (bytes ++ q.bytes) }
 
 -- the piece of an index is replaced by what is made of it
-abbrev pub Replaces : (PieceFacts → PieceFacts) → ℕ → List PieceFacts → List PieceFacts → Type 0
-Replaces f i old new = (d : PieceFacts) → new ≡ slice_set old i (f (slice_index_or old i d))
+abbrev pub ReplacesPiece : (PieceFacts → PieceFacts) → ℕ → List PieceFacts → List PieceFacts → Type 0
+ReplacesPiece f i old new = (d : PieceFacts) → new ≡ slice_set old i (f (slice_index_or old i d))
 
 -- the pieces of an index and of the one before it are replaced by one, which spans them
 abbrev pub Spans : List ℕ → ℕ → List PieceFacts → List PieceFacts → Type 0
@@ -49,7 +49,7 @@ pub record IsBegun (ps : List PieceFacts) (at count : ℕ) : Type 0 where
 pub record IsKnownTo (ps : List PieceFacts) (count at to : ℕ) : Type 0 where
   pub above : at ≤ to
   pub known : (place : ℕ) → at ≤ place → place < to → is_some (byte_among ps place) ≡ true
-  pub before : (i : ℕ) (d : PieceFacts) → i < count → end_of (slice_index_or ps i d) ≤ to
+  pub before : (i : ℕ) (d : PieceFacts) → i < count → piece_end (slice_index_or ps i d) ≤ to
   pub after : (i : ℕ) (d : PieceFacts) → count ≤ i → i < length ps → to < (slice_index_or ps i d).at
 
 -- the place that the next piece or a range ends at, whichever comes first
@@ -59,33 +59,33 @@ pub record IsNextBegin (ps : List PieceFacts) (count end to : ℕ) : Type 0 wher
   pub is : (to ≡ end) ⊎ ((count < length ps) × ((d : PieceFacts) → to ≡ (slice_index_or ps count d).at))
 
 -- whether the last of so many pieces ends at a place
-abbrev pub Ends : List PieceFacts → ℕ → ℕ → Bool → Type 0
-Ends ps count at test =
-    MatchBool test ((0 < count) × ((d : PieceFacts) → end_of (slice_index_or ps (count - 1) d) ≡ at))
-    (0 < count → (d : PieceFacts) → end_of (slice_index_or ps (count - 1) d) ≢ at)
+abbrev pub EndsPiece : List PieceFacts → ℕ → ℕ → Bool → Type 0
+EndsPiece ps count at test =
+    MatchBool test ((0 < count) × ((d : PieceFacts) → piece_end (slice_index_or ps (count - 1) d) ≡ at))
+    (0 < count → (d : PieceFacts) → piece_end (slice_index_or ps (count - 1) d) ≢ at)
 
 -- whether the piece behind so many begins at a place
-abbrev pub Begins : List PieceFacts → ℕ → ℕ → Bool → Type 0
-Begins ps count at test =
+abbrev pub BeginsPiece : List PieceFacts → ℕ → ℕ → Bool → Type 0
+BeginsPiece ps count at test =
     MatchBool test ((count < length ps) × ((d : PieceFacts) → (slice_index_or ps count d).at ≡ at))
     (count < length ps → (d : PieceFacts) → (slice_index_or ps count d).at ≢ at)
 
 -- bytes may be put among the pieces, behind so many of them
 pub record CanPut (ps : List PieceFacts) (at : ℕ) (bytes : List ℕ) (count : ℕ) : Type 0 where
-  pub apart : AreApart 0 ps
+  pub apart : ArePiecesApart 0 ps
   pub some : 0 < length bytes
   pub begun : IsBegun ps at count
   pub free : AreFree ps at (length bytes)
 
 -- they touch none
 pub record TouchesNone (ps : List PieceFacts) (at len count : ℕ) : Type 0 where
-  pub before : (i : ℕ) (d : PieceFacts) → i < count → end_of (slice_index_or ps i d) < at
+  pub before : (i : ℕ) (d : PieceFacts) → i < count → piece_end (slice_index_or ps i d) < at
   pub after : (i : ℕ) (d : PieceFacts) → count ≤ i → i < length ps → at + len < (slice_index_or ps i d).at
 
 -- they are put there, and nothing else
-pub record IsPut (old : List PieceFacts) (at : ℕ) (bytes : List ℕ) (new : List PieceFacts) : Type 0 where
-  pub apart : AreApart 0 new
-  pub within : (size : ℕ) → All (λ q. end_of q ≤ size) old → at + length bytes ≤ size → All (λ q. end_of q ≤ size) new
+pub record ArePiecesPut (old : List PieceFacts) (at : ℕ) (bytes : List ℕ) (new : List PieceFacts) : Type 0 where
+  pub apart : ArePiecesApart 0 new
+  pub within : (size : ℕ) → All (λ q. piece_end q ≤ size) old → at + length bytes ≤ size → All (λ q. piece_end q ≤ size) new
   pub there : (i : ℕ) → i < length bytes → byte_among new (at + i) ≡ Some (slice_index bytes i)
   pub others : (place : ℕ) → (place < at) ⊎ (at + length bytes ≤ place) → byte_among new place ≡ byte_among old place
   pub sum : sum_of new ≡ sum_of old + length bytes

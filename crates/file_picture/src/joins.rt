@@ -2,8 +2,8 @@
 
 ghost use Rattle.std.specs.Prelude.{◌≡◌, ◌+◌, ◌-◌, ◌<◌, ◌≤◌, ◌^◌, ◌++◌, length, slice_index_or, IfOk, IfErr, MatchBool, OnOk, OnErr};
 ghost use Rattle.std.specs.List.{insert};
-ghost use Rattle.file_picture.specs.Picture.{AreApart, AreFree, PieceFacts, end_of};
-ghost use Rattle.file_picture.specs.Pieces.{CanPut, IsPut, Replaces, Spans, TouchesNone, piece_of, put_before, put_behind};
+ghost use Rattle.file_picture.specs.Picture.{ArePiecesApart, AreFree, PieceFacts, piece_end};
+ghost use Rattle.file_picture.specs.Pieces.{CanPut, ArePiecesPut, ReplacesPiece, Spans, TouchesNone, piece_of, put_before, put_behind};
 
 use crate::piece::Piece;
 use crate::places::{begins_at, begun, ends_at};
@@ -12,10 +12,10 @@ use std::alloc::{AllocError, Global};
 /// Puts bytes among pieces that have none of theirs, as one piece with those that they touch, or
 /// gives them back.
 pub fn put(pieces: &mut Vec<Piece>, at: u64, bytes: Vec<u8>) -> Result<(), Vec<u8>>
-    requires apart { AreApart 0 pieces.old.items }
+    requires apart { ArePiecesApart 0 pieces.old.items }
     requires fits { at + length bytes.items < 2 ^ 64 }
     requires free { AreFree pieces.old.items at (length bytes.items) }
-    ensures ok { OnOk result (IsPut pieces.old.items at bytes.items pieces.new.items) }
+    ensures ok { OnOk result (ArePiecesPut pieces.old.items at bytes.items pieces.new.items) }
     ensures back { IfErr result (λ given. given ≡ bytes) }
     ensures same { OnErr result (pieces.new.items ≡ pieces.old.items) }
 {
@@ -35,7 +35,7 @@ fn join(pieces: &mut Vec<Piece>, count: usize, at: u64, bytes: &[u8]) -> Result<
     requires place { CanPut pieces.old.items at bytes.now count }
     requires fits { at + length bytes.now < 2 ^ 64 }
     ensures ok { IfOk result (λ touches. MatchBool touches
-        (IsPut pieces.old.items at bytes.now pieces.new.items)
+        (ArePiecesPut pieces.old.items at bytes.now pieces.new.items)
         ((pieces.new.items ≡ pieces.old.items)
         × TouchesNone pieces.old.items at (length bytes.now) count)) }
     ensures err { OnErr result (pieces.new.items ≡ pieces.old.items) }
@@ -78,9 +78,9 @@ fn insert(pieces: &mut Vec<Piece>, index: usize, at: u64, bytes: Vec<u8>) -> Res
 /// Puts bytes behind those of the piece of an index.
 fn append(pieces: &mut Vec<Piece>, index: usize, bytes: &[u8]) -> Result<(), AllocError>
     requires index { index < length pieces.old.items }
-    requires fits { (d : PieceFacts) → end_of (slice_index_or pieces.old.items index d)
+    requires fits { (d : PieceFacts) → piece_end (slice_index_or pieces.old.items index d)
         + length bytes.now < 2 ^ 64 }
-    ensures ok { OnOk result (Replaces (λ p. put_behind p bytes.now) index pieces.old.items
+    ensures ok { OnOk result (ReplacesPiece (λ p. put_behind p bytes.now) index pieces.old.items
         pieces.new.items) }
     ensures err { OnErr result (pieces.new.items ≡ pieces.old.items) }
 {
@@ -93,7 +93,7 @@ fn prepend(pieces: &mut Vec<Piece>, index: usize, bytes: &[u8]) -> Result<(), Al
     requires index { index < length pieces.old.items }
     requires room { (d : PieceFacts) → length bytes.now
         ≤ (slice_index_or pieces.old.items index d).at }
-    ensures ok { OnOk result (Replaces (put_before bytes.now) index pieces.old.items
+    ensures ok { OnOk result (ReplacesPiece (put_before bytes.now) index pieces.old.items
         pieces.new.items) }
     ensures err { OnErr result (pieces.new.items ≡ pieces.old.items) }
 {
@@ -106,7 +106,7 @@ fn prepend(pieces: &mut Vec<Piece>, index: usize, bytes: &[u8]) -> Result<(), Al
 fn span(pieces: &mut Vec<Piece>, index: usize, bytes: &[u8]) -> Result<(), AllocError>
     requires above { 0 < index }
     requires below { index < length pieces.old.items }
-    requires touch { (d : PieceFacts) → end_of (slice_index_or pieces.old.items (index - 1) d)
+    requires touch { (d : PieceFacts) → piece_end (slice_index_or pieces.old.items (index - 1) d)
         + length bytes.now ≡ (slice_index_or pieces.old.items index d).at }
     ensures ok { OnOk result (Spans bytes.now index pieces.old.items pieces.new.items) }
     ensures err { OnErr result (pieces.new.items ≡ pieces.old.items) }

@@ -1,7 +1,7 @@
 //! A picture.
 
 ghost use Rattle.std.specs.Prelude.{◌≡◌, ◌+◌, ◌≤◌, [], length, IfErr, OnErr, OnOk, MatchOption};
-ghost use Rattle.file_picture.specs.Picture.{Gives, IsAdded, IsCovered, IsFirstGap, IsFree, IsPicture, sum_of};
+ghost use Rattle.file_picture.specs.Picture.{GivesRange, IsAdded, IsCovered, IsFirstGap, IsRangeFree, IsPicture, sum_of};
 
 use crate::joins::put;
 use crate::piece::Piece;
@@ -21,13 +21,13 @@ pub struct Picture {
 
 impl Model for Picture {
     ghost use Rattle.file_picture.specs.Picture.{PictureFacts};
-    ghost use Rattle.file_picture.specs.Pieces.{IsKept};
+    ghost use Rattle.file_picture.specs.Pieces.{ArePiecesKept};
 
     ghost Value = { PictureFacts };
 
     ghost view = { λ p. record { size = p.size; pieces = p.pieces.items } };
 
-    ghost invariant = { λ p. IsKept p.size p.sum p.pieces.items };
+    ghost invariant = { λ p. ArePiecesKept p.size p.sum p.pieces.items };
 }
 
 impl Picture {
@@ -61,7 +61,7 @@ impl Picture {
     /// The bytes of a range, where all of them are known. A range of none is, up to the file's size.
     pub fn slice(&self, at: u64, len: u64) -> Option<&[u8]>
         ensures { MatchOption result (IsCovered self.now at len → ⊥)
-            (λ bytes. Gives self.now at len bytes.now) }
+            (λ bytes. GivesRange self.now at len bytes.now) }
     {
         if len == 0 {
             return if at <= self.size { Some(&[]) } else { None };
@@ -93,7 +93,7 @@ impl Picture {
     /// refused. They become one piece with those that they touch.
     pub fn add(&mut self, at: u64, bytes: Vec<u8>) -> Result<(), Vec<u8>>
         requires inside { at + length bytes.items ≤ self.old.size }
-        requires free { IsFree self.old at (length bytes.items) }
+        requires free { IsRangeFree self.old at (length bytes.items) }
         ensures ok { OnOk result (IsAdded self.old at bytes.items self.new) }
         ensures back { IfErr result (λ given. given ≡ bytes) }
         ensures same { OnErr result (self.new ≡ self.old) }

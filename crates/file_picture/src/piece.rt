@@ -2,7 +2,7 @@
 
 ghost use Rattle.std.specs.Prelude.{◌≡◌, ◌+◌, ◌-◌, ◌<◌, ◌≤◌, ◌^◌, ◌++◌, length, drop, nat_le, IfOk, OnOk, OnErr, MatchOption};
 ghost use Rattle.file_formats.specs.Numbers.{bytes_at};
-ghost use Rattle.file_picture.specs.Picture.{PieceFacts, end_of};
+ghost use Rattle.file_picture.specs.Picture.{PieceFacts, piece_end};
 ghost use Rattle.file_picture.specs.Pieces.{piece_of, put_before, put_behind};
 
 use std::alloc::{AllocError, Global};
@@ -68,15 +68,15 @@ impl Piece {
     /// How many bytes the piece has.
     pub fn len(&self) -> u64
         ensures value { result ≡ length self.now.bytes }
-        ensures fits { end_of self.now < 2 ^ 64 }
+        ensures fits { piece_end self.now < 2 ^ 64 }
     {
         (self.kept.len() - self.room) as u64
     }
 
     /// Where the piece ends, in bytes from the file's start.
     pub fn end(&self) -> u64
-        ensures value { result ≡ end_of self.now }
-        ensures fits { end_of self.now < 2 ^ 64 }
+        ensures value { result ≡ piece_end self.now }
+        ensures fits { piece_end self.now < 2 ^ 64 }
     {
         self.at + self.len()
     }
@@ -84,8 +84,8 @@ impl Piece {
     /// The bytes of a range that doesn't begin before the piece, where it has them all.
     pub fn slice(&self, at: u64, len: u64) -> Option<&[u8]>
         requires { self.now.at ≤ at }
-        ensures { MatchOption result (end_of self.now < at + len) (λ bytes.
-            (at + len ≤ end_of self.now)
+        ensures { MatchOption result (piece_end self.now < at + len) (λ bytes.
+            (at + len ≤ piece_end self.now)
             × (bytes.now ≡ bytes_at self.now.bytes (at - self.now.at) len)) }
     {
         part(self.bytes(), at - self.at, len)
@@ -93,7 +93,7 @@ impl Piece {
 
     /// Puts bytes behind those of the piece.
     pub fn append(&mut self, bytes: &[u8]) -> Result<(), AllocError>
-        requires { end_of self.old + length bytes.now < 2 ^ 64 }
+        requires { piece_end self.old + length bytes.now < 2 ^ 64 }
         ensures ok { OnOk result (self.new ≡ put_behind self.old bytes.now) }
         ensures err { OnErr result (self.new ≡ self.old) }
     {

@@ -1,14 +1,14 @@
 //! Where pieces stand.
 
 ghost use Rattle.std.specs.Prelude.{◌≡◌, ◌+◌, ◌-◌, ◌<◌, ◌≤◌, ◌&&◌, length};
-ghost use Rattle.file_picture.specs.Picture.{AreApart, end_of};
-ghost use Rattle.file_picture.specs.Pieces.{Begins, Ends, IsBegun, IsKnownTo, IsNextBegin};
+ghost use Rattle.file_picture.specs.Picture.{ArePiecesApart, piece_end};
+ghost use Rattle.file_picture.specs.Pieces.{BeginsPiece, EndsPiece, IsBegun, IsKnownTo, IsNextBegin};
 
 use crate::piece::Piece;
 
 /// How many pieces begin at a place or before it.
 pub fn begun(pieces: &[Piece], at: u64) -> usize
-    requires { AreApart 0 pieces.now }
+    requires { ArePiecesApart 0 pieces.now }
     ensures { IsBegun pieces.now at result }
 {
     pieces.partition_point(|piece| piece.begins_by(at))
@@ -17,7 +17,7 @@ pub fn begun(pieces: &[Piece], at: u64) -> usize
 /// The first place from one on at which no byte is known, where so many pieces begin at that one or
 /// before it.
 pub fn known_to(pieces: &[Piece], count: usize, at: u64) -> u64
-    requires apart { AreApart 0 pieces.now }
+    requires apart { ArePiecesApart 0 pieces.now }
     requires begun { IsBegun pieces.now at count }
     ensures { IsKnownTo pieces.now count at result }
 {
@@ -41,14 +41,14 @@ pub fn next_begin(pieces: &[Piece], count: usize, end: u64) -> u64
 /// Whether the last of so many pieces ends at a place.
 pub fn ends_at(pieces: &[Piece], count: usize, at: u64) -> bool
     requires { count ≤ length pieces.now }
-    ensures { Ends pieces.now count at result }
+    ensures { EndsPiece pieces.now count at result }
 {
     count > 0 && pieces[count - 1].end() == at
 }
 
 /// Whether the piece behind so many begins at a place.
 pub fn begins_at(pieces: &[Piece], count: usize, at: u64) -> bool
-    ensures { Begins pieces.now count at result }
+    ensures { BeginsPiece pieces.now count at result }
 {
     count < pieces.len() && pieces[count].at() == at
 }

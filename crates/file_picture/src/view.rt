@@ -2,7 +2,7 @@
 
 ghost use Rattle.std.specs.Prelude.{◌≡◌, length, MatchOption, MatchResult};
 ghost use Rattle.file_formats.specs.Numbers.{bytes_at};
-ghost use Rattle.file_picture.specs.Agrees.{filled};
+ghost use Rattle.file_picture.specs.Agrees.{filled_with_zeros};
 ghost use Rattle.file_picture.specs.Picture.{IsCovered, IsPicture};
 ghost use Rattle.file_picture.specs.Whole.{whole};
 
@@ -69,7 +69,7 @@ impl<'a> View<'a> {
 
     /// The file's size, in bytes.
     pub fn size(&self) -> u64
-        ensures value { result ≡ length (filled self.now) }
+        ensures value { result ≡ length (filled_with_zeros self.now) }
         ensures holds { IsPicture self.now }
     {
         match &self.lent {
@@ -81,7 +81,7 @@ impl<'a> View<'a> {
     /// The bytes of a range, where all of them are there.
     pub fn slice(&self, at: u64, len: u64) -> Result<&'a [u8], Need>
         ensures { MatchResult result
-            (λ bytes. IsCovered self.now at len × (bytes.now ≡ bytes_at (filled self.now) at len))
+            (λ bytes. IsCovered self.now at len × (bytes.now ≡ bytes_at (filled_with_zeros self.now) at len))
             (λ need. (IsCovered self.now at len → ⊥) × (need ≡ record { at = at; len = len })) }
     {
         match self.lent.slice(at, len) {
@@ -99,7 +99,7 @@ impl<'a> Lent<'a> {
         requires { IsPicture (seen_of self.now) }
         ensures { MatchOption result (IsCovered (seen_of self.now) at len → ⊥) (λ bytes.
             IsCovered (seen_of self.now) at len
-            × (bytes.now ≡ bytes_at (filled (seen_of self.now)) at len)) }
+            × (bytes.now ≡ bytes_at (filled_with_zeros (seen_of self.now)) at len)) }
     {
         match self {
             Lent::Whole(bytes) => part(bytes, at, len),

@@ -4,9 +4,9 @@ use Rattle.std.specs.List.{count_by}
 use Rattle.row_types.specs.Faults.{summed}
 use Rattle.row_types.specs.Name.{NameFacts}
 use Rattle.scan_queue.specs.declared.miss.Seen.TheVariants as seen
-use Rattle.tree_trait.specs.Asks.{Asks}
+use Rattle.tree_trait.specs.Asks.{AsksTree}
 use Rattle.tree_trait.specs.Found.{Versions}
-use Rattle.tree_trait.specs.Heard.{Heard, stat, has_failed}
+use Rattle.tree_trait.specs.Heard.{Heard, stat, call_failed}
 use Rattle.tree_trait.specs.Shown.{ShownTree}
 use Rattle.tree_trait.specs.declared.stat.StatAnswer.{StatAnswer}
 use Rattle.tree_trait.specs.declared.stat.StatAnswer.TheVariants as said
@@ -24,10 +24,10 @@ looked_of said.Failed = looked.Failed
 looked_of said.OutOfMemory = looked.OutOfMemory
 
 -- the path of a name was looked at, and this was seen
-pub record LooksAt (told : Bool) (version : Versions) (name : NameFacts) (before after : ShownTree) (end : Looked)
+pub record LooksAtName (told : Bool) (version : Versions) (name : NameFacts) (before after : ShownTree) (end : Looked)
     : Type 0 where
   pub answer : StatAnswer
-  pub asks : Asks told version before after (stat name.path answer)
+  pub asks : AsksTree told version before after (stat name.path answer)
   pub saw : end ≡ looked_of answer
 
 -- the question was a look at a path
@@ -47,5 +47,5 @@ pub record HandLooks (told : Bool) (version : Versions) (before after : ShownTre
   pub more : List Heard
   pub listens : Listens told version before after more
   pub looks : All IsLook more
-  pub failed : summed missed (count_by has_failed more) ≤ more_missed
+  pub failed : summed missed (count_by call_failed more) ≤ more_missed
   pub counted : more_missed ≤ missed + count_by may_miss more

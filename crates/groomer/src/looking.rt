@@ -2,7 +2,7 @@
 
 ghost use Rattle.std.specs.Prelude.{◌≡◌};
 ghost use Rattle.std.specs.Bool.{OnTrue, OnFalse};
-ghost use Rattle.groomer.specs.Looks.{LooksAt, looked_of};
+ghost use Rattle.groomer.specs.Looks.{LooksAtName, looked_of};
 ghost use Rattle.scan_queue.specs.declared.miss.Seen.{Seen};
 
 use index_state::GroomTask;
@@ -25,7 +25,7 @@ pub enum Looked {
 /// Looks for the file of a row, if its path is under a root. Elsewhere no look is made, and nothing
 /// is said to stand there.
 pub fn look<W: Truth, T: Tree<W>>(alloc: Global, hand: &mut T, task: &GroomTask) -> Looked
-    ensures under { OnTrue task.now.under (LooksAt T.told W.version task.now.name
+    ensures under { OnTrue task.now.under (LooksAtName T.told W.version task.now.name
         (T.shows hand.old) (T.shows hand.new) result) }
     ensures apart { OnFalse task.now.under (result ≡ Looked.Saw Seen.Gone) }
     ensures unasked { OnFalse task.now.under (hand.new ≡ hand.old) }

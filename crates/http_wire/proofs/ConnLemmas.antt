@@ -5,7 +5,7 @@ use Rattle.std.proofs.lemmas.List.Elements.{All-head, All-tail}
 use Rattle.std.proofs.lemmas.Bool.Decides.{nat_tests}
 use Rattle.std.specs.Prelude.{◌==◌, if◌then◌else◌}
 use Rattle.http_wire.specs.MemConn.{ConnFacts, after_read, is_bad_read, next_count, next_read, shown_conn, taken}
-use Rattle.http_wire.specs.Source.{Reads}
+use Rattle.http_wire.specs.Source.{ReadsStream}
 use Rattle.http_wire.specs.Stream.{ShownStream}
 use Rattle.http_wire.specs.declared.source.ReadAnswer.TheVariants.{Bytes, End, Failed}
 use Rattle.row_types.specs.Faults.{raised}
@@ -50,7 +50,7 @@ read_gives : (side : ShownStream) (left room : List ℕ) (faults n : ℕ) (bad n
     → (none ≡ true → n ≡ 0) → (none ≡ true → left ≡ []) → (none ≡ false → 0 < n) → n ≤ length room
     → take (if bad then 0 else n) room ≡ take (if bad then 0 else n) left
     → faults ≤ (if bad then raised faults else faults)
-    → Reads room (record side { left = Some left; read_faults = faults })
+    → ReadsStream room (record side { left = Some left; read_faults = faults })
     (record side {
       left = Some (drop (if bad then 0 else n) left);
       read_faults = if bad then raised faults else faults;
@@ -75,7 +75,7 @@ read_gives side left room faults n false false zero_count ended some fits came l
 pub reads_is : (old : ConnFacts) (was room : List ℕ) → 0 < length was → All (λ n. 0 < n) old.cuts
     → take (taken old (length was)) room ≡ take (taken old (length was)) old.left
     → length room ≡ length was → old.read_faults ≤ (after_read old (length was)).read_faults
-    → Reads room (shown_conn old) (shown_conn (after_read old (length was))) (next_read old (length was))
+    → ReadsStream room (shown_conn old) (shown_conn (after_read old (length was))) (next_read old (length was))
 reads_is old was room some each came same later =
     let fits : next_count old (length was) ≤ length room = omega arith in
     read_gives (shown_conn old) old.left room old.read_faults (next_count old (length was))

@@ -5,20 +5,20 @@ use Rattle.std.specs.Option.{option_map}
 use Rattle.std.proofs.lemmas.List.{append-nil}
 use Rattle.httparse.specs.Grammar.{HasNoRequest}
 use Rattle.http_wire.specs.Find.{EndsInRead, Gathers, ReadsForHead}
-use Rattle.http_wire.specs.Source.{Comes, Reads}
+use Rattle.http_wire.specs.Source.{ComesFrom, ReadsStream}
 use Rattle.http_wire.specs.Stream.{LeavesWriting, ShownStream}
 use Rattle.http_wire.specs.declared.source.ReadAnswer.{ReadAnswer}
 use Rattle.http_wire.specs.declared.source.ReadAnswer.TheVariants.{Bytes, End, Failed}
 
 -- bytes and then more
-pub comes-comes : (old mid new : Option (List ℕ)) (a b : List ℕ) → Comes old a mid → Comes mid b new
-    → Comes old (a ++ b) new
+pub comes-comes : (old mid new : Option (List ℕ)) (a b : List ℕ) → ComesFrom old a mid → ComesFrom mid b new
+    → ComesFrom old (a ++ b) new
 comes-comes old mid None a b first then = first ∙ ap (option_map (λ left. a ++ left)) then
 comes-comes old mid (Some left) a b first then =
     first ∙ ap (option_map (λ left'. a ++ left')) then ∙ ap Some (sym (append_assoc a b left))
 
 -- no bytes
-pub comes_none : (left : Option (List ℕ)) → Comes left [] left
+pub comes_none : (left : Option (List ℕ)) → ComesFrom left [] left
 comes_none None = refl
 comes_none (Some left) = refl
 
@@ -44,7 +44,7 @@ gathers_none held shown = record {
 
 -- a read gave so many bytes more, where no head was held
 pub gathers_more : {held bytes more room : List ℕ} {before between after : ShownStream} (n : ℕ)
-    → Gathers held before bytes between → HasNoRequest bytes → Reads room between after (Bytes n) → more ≡ bytes ++ take n room
+    → Gathers held before bytes between → HasNoRequest bytes → ReadsStream room between after (Bytes n) → more ≡ bytes ++ take n room
     → Gathers held before more after
 gathers_more {held} {bytes} {more} {room} {before} {between} {after} n had none reads grown = record {
   came = had.came ++ take n room;
@@ -66,7 +66,7 @@ gathers_more {held} {bytes} {more} {room} {before} {between} {after} n had none 
 
 -- a read gave none
 pub gathers_same : {held bytes room : List ℕ} {before between after : ShownStream} {answer : ReadAnswer}
-    → Gathers held before bytes between → Reads room between after answer → after.left ≡ between.left
+    → Gathers held before bytes between → ReadsStream room between after answer → after.left ≡ between.left
     → Gathers held before bytes after
 gathers_same {held} {bytes} {room} {before} {between} {after} had reads same = record {
   came = had.came;

@@ -6,7 +6,7 @@ use Rattle.std.specs.Option.{option_map}
 use Rattle.std.proofs.Common.{append_assoc, length-append, length-drop}
 use Rattle.std.proofs.Math.Seq.{take-add, take-append-add}
 use Rattle.std.proofs.lemmas.List.{append-nil}
-use Rattle.http_wire.specs.Sink.{Appends, GetsAll, GetsPart, Writes}
+use Rattle.http_wire.specs.Sink.{Appends, GetsAll, GetsPart, WritesStream}
 use Rattle.http_wire.specs.Stream.{LeavesReading, ShownStream}
 use Rattle.http_wire.specs.declared.sink.WriteAnswer.TheVariants.{Took}
 
@@ -53,7 +53,7 @@ gets_then_part {before} {between} {after} {a} {b} first then = record {
 -- the bytes in front were written, and then so many of the rest
 pub gets_more : {before between after : ShownStream} (bytes : List ℕ) (at n : ℕ)
     → (at ≤ length bytes) × GetsAll (take at bytes) before between
-    → Writes (drop at bytes) between after (Took n)
+    → WritesStream (drop at bytes) between after (Took n)
     → (at + n ≤ length bytes) × GetsAll (take (at + n) bytes) before after
 gets_more {before} {between} {after} bytes at n had writes = (
   let taken = writes.takes.1 in let was = had.0 in omega (arith, length-drop at bytes),

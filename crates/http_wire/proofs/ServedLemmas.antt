@@ -7,10 +7,10 @@ use Rattle.std.proofs.lemmas.List.{append-nil}
 use Rattle.std.proofs.lemmas.Option.{same_Some}
 use Rattle.httparse.specs.Grammar.{HasNoRequest, ReadsRequest, RequestHead, print_request}
 use Rattle.httparse.proofs.GrammarLemmas.{request_prefix_free}
-use Rattle.http_wire.specs.Heads.{IsServed, Refuses, Tells}
-use Rattle.http_wire.specs.Reader.{Answers, Says, has_failed}
+use Rattle.http_wire.specs.Heads.{IsServed, RefusesAsHead, TellsHead}
+use Rattle.http_wire.specs.Reader.{AnswersNext, Says, head_failed}
 use Rattle.http_wire.specs.ReaderFacts.{ReaderFacts}
-use Rattle.http_wire.specs.Source.{Comes, HasEnded}
+use Rattle.http_wire.specs.Source.{ComesFrom, HasEnded}
 use Rattle.http_wire.specs.Stream.{ShownStream}
 use Rattle.http_wire.specs.declared.head.HeadAnswer.{HeadAnswer}
 use Rattle.http_wire.specs.declared.head.HeadAnswer.TheVariants as answer
@@ -20,11 +20,11 @@ use Rattle.http_wire.proofs.LineLemmas.{ends_in_feed, within_front}
 
 -- the answer tells this head, and these bytes are behind it
 abbrev pub Gives : RequestHead → List ℕ → List ℕ → List ℕ → HeadAnswer → Type 0
-Gives h rest held now (answer.Head head) = Tells head h × (held ++ now ≡ rest)
+Gives h rest held now (answer.Head head) = TellsHead head h × (held ++ now ≡ rest)
 Gives h rest held now _ = ⊥
 
 -- what came and what is left are what was left
-told : (left came : List ℕ) (after : Option (List ℕ)) → Comes (Some left) came after
+told : (left came : List ℕ) (after : Option (List ℕ)) → ComesFrom (Some left) came after
     → (now : List ℕ) × (after ≡ Some now) × (left ≡ came ++ now)
 told left came None comes = absurd (cc)
 told left came (Some now) comes = (now, refl, same_Some left (came ++ now) comes)
@@ -44,7 +44,7 @@ not_empty h rest none =
 
 -- bytes that go on to a served head aren't refused
 not_refused : (bytes now : List ℕ) (left : Option (List ℕ)) (h : RequestHead) (rest : List ℕ) (fault : HeadFault)
-    → IsServed h → left ≡ Some now → ReadsRequest (bytes ++ now) h rest → Refuses fault bytes left → ⊥
+    → IsServed h → left ≡ Some now → ReadsRequest (bytes ++ now) h rest → RefusesAsHead fault bytes left → ⊥
 not_refused bytes now left h rest (Bad len) served is reads refuses = refuses.1 now h rest reads
 not_refused bytes now left h rest TooLong served is reads refuses =
     let short = served.short in
@@ -61,12 +61,12 @@ not_refused bytes now left h rest (Cut len) served is reads refuses =
 -- by the answer
 by_answer : (old new : ReaderFacts) (came now : List ℕ) (left : Option (List ℕ)) (h : RequestHead) (rest : List ℕ)
     (answer : HeadAnswer) → old.over ≡ false → IsServed h → left ≡ Some now
-    → ReadsRequest ((old.held ++ came) ++ now) h rest → has_failed answer ≡ false → Says old came new left answer
+    → ReadsRequest ((old.held ++ came) ++ now) h rest → head_failed answer ≡ false → Says old came new left answer
     → Gives h rest new.held now answer
 by_answer old new came now left h rest (answer.Head head) open_ served is reads sound says =
     let valid = says.3.valid in
     let one = request_prefix_free (old.held ++ came) now says.2 h new.held rest (valid, says.4) reads in
-    (subst (λ k. Tells head k) one.0 says.5, one.1)
+    (subst (λ k. TellsHead head k) one.0 says.5, one.1)
 by_answer old new came now left h rest answer.Closed open_ served is reads sound says =
     let closed = rw open_ at says in
     let none : [] ≡ (old.held ++ came) ++ now =
@@ -79,7 +79,7 @@ by_answer old new came now left h rest answer.ReadFault open_ served is reads so
 -- of a told source, where no read failed
 pub gives_served : (old new : ReaderFacts) (before after : ShownStream) (answer : HeadAnswer) (h : RequestHead)
     (left rest : List ℕ) → old.over ≡ false → before.left ≡ Some left → IsServed h
-    → old.held ++ left ≡ print_request h ++ rest → has_failed answer ≡ false → Answers old before new after answer
+    → old.held ++ left ≡ print_request h ++ rest → head_failed answer ≡ false → AnswersNext old before new after answer
     → (now : List ℕ) × (after.left ≡ Some now) × Gives h rest new.held now answer
 gives_served old new before after answer h left rest open_ tells served front sound answers =
     let after_is = told left answers.came after.left (sym tells ∙ answers.comes) in

@@ -36,7 +36,7 @@ pub record Accepts {C : Type 0} (shows : C → ShownStream) (before : ShownDoor)
   pub cause : HasCause before.faults after.faults (said_of answer ≡ said.Failed)
 
 -- a connection was taken back
-pub record TakesBack (conn : ShownStream) (before after : ShownDoor) : Type 0 where
+pub record TakesConnectionBack (conn : ShownStream) (before after : ShownDoor) : Type 0 where
   pub last : after.last ≡ before.last
   pub came : after.came ≡ before.came
   pub ended : Gains before.ended (conn ∷ []) after.ended

@@ -2,28 +2,28 @@
 use Rattle.std.specs.Prelude.{◌≡◌, ℕ, ◌<◌, ◌≤◌, ◌==◌, Bool, true, false, List, [], ◌∷◌, ◌++◌, Option, IsTrue, length, if◌then◌else◌}
 use Rattle.httparse.specs.Grammar.{HasNoRequest}
 use Rattle.row_types.specs.Faults.{Rose}
-use Rattle.http_wire.specs.Heads.{Refuses}
+use Rattle.http_wire.specs.Heads.{RefusesAsHead}
 use Rattle.http_wire.specs.Look.{HasHead}
-use Rattle.http_wire.specs.Source.{Comes, HasEnded}
+use Rattle.http_wire.specs.Source.{ComesFrom, HasEnded}
 use Rattle.http_wire.specs.Stream.{LeavesWriting, ShownStream}
 use Rattle.http_wire.specs.declared.find.Find.{Find}
 use Rattle.http_wire.specs.declared.find.Find.TheVariants.{Closed, Failed, Refused, Whole}
 use Rattle.http_wire.specs.declared.head.HeadFault.TheVariants.{Cut}
 
 -- whether a read failed
-abbrev pub has_failed : Find → Bool
-has_failed Failed = true
-has_failed _ = false
+abbrev pub find_failed : Find → Bool
+find_failed Failed = true
+find_failed _ = false
 
 -- what the end is behind so many bytes that hold no whole head
-abbrev pub at_end : ℕ → Find
-at_end held = if held == 0 then Closed else Refused (Cut held)
+abbrev pub found_at_end : ℕ → Find
+found_at_end held = if held == 0 then Closed else Refused (Cut held)
 
 -- what these bytes are, of a source with so much left
 abbrev pub IsFind : List ℕ → Option (List ℕ) → Find → Type 0
 IsFind bytes left (Whole found) = HasHead bytes found
 IsFind bytes left Closed = (bytes ≡ []) × HasEnded left
-IsFind bytes left (Refused fault) = Refuses fault bytes left
+IsFind bytes left (Refused fault) = RefusesAsHead fault bytes left
 IsFind bytes left Failed = Unit {0}
 
 -- what came ends in a last read, which gave some bytes: with those before it, no head stood in what was held
@@ -43,13 +43,13 @@ ReadsForHead held (byte ∷ came) = EndsInRead held (byte ∷ came)
 pub record Gathers (held : List ℕ) (before : ShownStream) (bytes : List ℕ) (after : ShownStream) : Type 0 where
   pub came : List ℕ
   pub all : bytes ≡ held ++ came
-  pub comes : Comes before.left came after.left
+  pub comes : ComesFrom before.left came after.left
   pub wanted : ReadsForHead held came
   pub later : before.read_faults ≤ after.read_faults
   pub writing : LeavesWriting before after
 
 -- and what they are; a read failed only where the count rose
-pub record Finds (held : List ℕ) (before : ShownStream) (bytes : List ℕ) (after : ShownStream) (find : Find) : Type 0 where
+pub record FindsHead (held : List ℕ) (before : ShownStream) (bytes : List ℕ) (after : ShownStream) (find : Find) : Type 0 where
   pub gathers : Gathers held before bytes after
   pub is : IsFind bytes after.left find
-  pub rose : IsTrue (has_failed find) → Rose before.read_faults after.read_faults
+  pub rose : IsTrue (find_failed find) → Rose before.read_faults after.read_faults

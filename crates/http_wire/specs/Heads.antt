@@ -22,7 +22,7 @@ pub record IsServed (h : RequestHead) : Type 0 where
   pub short : length (print_request h) ≤ HEAD_LIMIT
 
 -- what is told of a head is what it says
-pub record Tells (head : Head) (h : RequestHead) : Type 0 where
+pub record TellsHead (head : Head) (h : RequestHead) : Type 0 where
   pub method : head.method.now ≡ h.method
   pub target : head.target.now ≡ h.target
   pub minor : head.minor ≡ h.minor
@@ -37,9 +37,9 @@ pub record HasTooMany (bytes : List ℕ) : Type 0 where
   pub lines : FIELD_LIMIT < count_by (λ b. b == 10) bytes
 
 -- why these bytes, of a source with so much left, are no head
-abbrev pub Refuses : HeadFault → List ℕ → Option (List ℕ) → Type 0
-Refuses (Bad len) bytes left = (len ≡ length bytes) × NeverHasRequest bytes
-Refuses TooLong bytes left = (length bytes ≡ HEAD_LIMIT) × HasNoRequest bytes
-Refuses TooMany bytes left = HasTooMany bytes
-Refuses (Cut len) bytes left =
+abbrev pub RefusesAsHead : HeadFault → List ℕ → Option (List ℕ) → Type 0
+RefusesAsHead (Bad len) bytes left = (len ≡ length bytes) × NeverHasRequest bytes
+RefusesAsHead TooLong bytes left = (length bytes ≡ HEAD_LIMIT) × HasNoRequest bytes
+RefusesAsHead TooMany bytes left = HasTooMany bytes
+RefusesAsHead (Cut len) bytes left =
     (len ≡ length bytes) × (0 < len) × (len < HEAD_LIMIT) × HasNoRequest bytes × HasEnded left

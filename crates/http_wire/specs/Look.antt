@@ -26,8 +26,8 @@ abbrev pub HasHead : List ℕ → Found → Type 0
 HasHead bytes found = (h : RequestHead) × IsServed h × Covers bytes found h
 
 -- what is found in the bytes
-abbrev pub IsLook : List ℕ → Look → Type 0
-IsLook bytes (Whole found) = HasHead bytes found
-IsLook bytes Partial = HasNoRequest bytes
-IsLook bytes Bad = NeverHasRequest bytes
-IsLook bytes TooMany = HasTooMany bytes
+abbrev pub IsFoundIn : List ℕ → Look → Type 0
+IsFoundIn bytes (Whole found) = HasHead bytes found
+IsFoundIn bytes Partial = HasNoRequest bytes
+IsFoundIn bytes Bad = NeverHasRequest bytes
+IsFoundIn bytes TooMany = HasTooMany bytes

@@ -7,8 +7,8 @@ use Rattle.percent_encoding.specs.Percent.{percent_encode_byte, percent_sign}
 use Rattle.http_wire.specs.declared.reply.ReplyHead.{ReplyHead}
 
 -- a field or a status line, from its two parts
-unfoldable pub line : List ℕ → List ℕ → List ℕ
-line name value = name ++ value ++ codes "\r\n"
+unfoldable pub head_line : List ℕ → List ℕ → List ℕ
+head_line name value = name ++ value ++ codes "\r\n"
 
 -- the statuses of replies, with their phrases
 abbrev pub phrases : List (ℕ × List ℕ)
@@ -38,7 +38,7 @@ IsStatus status = IsTrue (list_any (λ entry. status == entry.0) phrases)
 
 -- the status line
 unfoldable pub status_line : ℕ → List ℕ
-status_line status = line (codes "HTTP/1.1 " ++ decimal status ++ codes " ") (phrase_of status)
+status_line status = head_line (codes "HTTP/1.1 " ++ decimal status ++ codes " ") (phrase_of status)
 
 -- the media type of a text, or of a file's bytes
 abbrev pub media_type : Bool → List ℕ
@@ -47,11 +47,11 @@ media_type false = codes "application/octet-stream"
 
 -- the line of the media type
 unfoldable pub type_line : Bool → List ℕ
-type_line is_text = line (codes "Content-Type: ") (media_type is_text)
+type_line is_text = head_line (codes "Content-Type: ") (media_type is_text)
 
 -- the line of the body's length
 unfoldable pub length_line : ℕ → List ℕ
-length_line len = line (codes "Content-Length: ") (decimal len)
+length_line len = head_line (codes "Content-Length: ") (decimal len)
 
 -- the lines in front: the status, the media type, the body's length
 unfoldable pub front_lines : ReplyHead → List ℕ
@@ -60,7 +60,7 @@ front_lines head = status_line head.status ++ type_line head.text ++ length_line
 -- the line of a file's size
 unfoldable pub size_line : Bool → ℕ → List ℕ
 size_line true len = []
-size_line false len = line (codes "X-DEBUGINFOD-SIZE: ") (decimal len)
+size_line false len = head_line (codes "X-DEBUGINFOD-SIZE: ") (decimal len)
 
 -- a byte that stands for itself in a field: a visible one of ASCII, but the percent sign
 abbrev pub is_plain : ℕ → Bool
@@ -72,12 +72,12 @@ escaped bytes = flat_map (λ b. if is_plain b then b ∷ [] else percent_encode_
 
 -- the line of the file that the body comes from
 unfoldable pub file_line : Option (List ℕ) → List ℕ
-file_line (Some path) = line (codes "X-DEBUGINFOD-FILE: ") (escaped path)
+file_line (Some path) = head_line (codes "X-DEBUGINFOD-FILE: ") (escaped path)
 file_line None = []
 
 -- the line of the methods that are taken, where another one was refused
 unfoldable pub allow_line : ℕ → List ℕ
-allow_line status = if status == 405 then line (codes "Allow: ") (codes "GET, HEAD") else []
+allow_line status = if status == 405 then head_line (codes "Allow: ") (codes "GET, HEAD") else []
 
 -- what the last field says
 abbrev pub connection : Bool → List ℕ
@@ -86,7 +86,7 @@ connection false = codes "keep-alive"
 
 -- the line on whether the connection goes on
 unfoldable pub connection_line : Bool → List ℕ
-connection_line close = line (codes "Connection: ") (connection close)
+connection_line close = head_line (codes "Connection: ") (connection close)
 
 -- the lines that depend on the reply: size, file, methods, and whether the connection goes on
 unfoldable pub back_lines : ReplyHead → List ℕ

@@ -5,8 +5,8 @@ use Rattle.http_wire.specs.Fields.{Pair, announces, asks_close, hops_in}
 use Rattle.http_wire.specs.declared.fields.Said.{Said}
 
 -- what is said once a field is added
-abbrev pub joined : Said → Pair → Said
-joined said field = record {
+abbrev pub said_with : Said → Pair → Said
+said_with said field = record {
   close = said.close || asks_close field;
   has_body = said.has_body || announces field;
   hops = said.hops + hops_in field;

@@ -8,9 +8,9 @@ use Rattle.http_wire.specs.declared.sink.WriteAnswer.{WriteAnswer}
 use Rattle.http_wire.specs.declared.sink.WriteAnswer.TheVariants.{Took, Failed}
 
 -- a write takes at least one of the bytes, or fails
-abbrev pub Takes : List ℕ → WriteAnswer → Type 0
-Takes bytes (Took n) = (0 < n) × (n ≤ length bytes)
-Takes bytes Failed = Unit {0}
+abbrev pub TakesSome : List ℕ → WriteAnswer → Type 0
+TakesSome bytes (Took n) = (0 < n) × (n ≤ length bytes)
+TakesSome bytes Failed = Unit {0}
 
 -- the bytes that a write took
 abbrev pub front : List ℕ → WriteAnswer → List ℕ
@@ -18,19 +18,19 @@ front bytes (Took n) = take n bytes
 front bytes Failed = []
 
 -- whether the write failed
-abbrev pub has_failed : WriteAnswer → Bool
-has_failed Failed = true
-has_failed _ = false
+abbrev pub write_failed : WriteAnswer → Bool
+write_failed Failed = true
+write_failed _ = false
 
 -- where it is still told what was written, the bytes were added to it
 abbrev pub Appends : Option (List ℕ) → List ℕ → Option (List ℕ) → Type 0
 Appends old bytes new = IsSome new → new ≡ option_map (λ written. written ++ bytes) old
 
 -- a write of these bytes: what it took was written, it failed only where the count rose, and the other side stays
-pub record Writes (bytes : List ℕ) (before after : ShownStream) (answer : WriteAnswer) : Type 0 where
-  pub takes : Takes bytes answer
+pub record WritesStream (bytes : List ℕ) (before after : ShownStream) (answer : WriteAnswer) : Type 0 where
+  pub takes : TakesSome bytes answer
   pub appends : Appends before.written (front bytes answer) after.written
-  pub cause : HasCause before.write_faults after.write_faults (IsTrue (has_failed answer))
+  pub cause : HasCause before.write_faults after.write_faults (IsTrue (write_failed answer))
   pub reading : LeavesReading before after
 
 -- all the bytes were written

@@ -8,26 +8,26 @@ use Rattle.http_wire.specs.declared.source.ReadAnswer.{ReadAnswer}
 use Rattle.http_wire.specs.declared.source.ReadAnswer.TheVariants.{Bytes, End, Failed}
 
 -- where it is told what was left to read, it was these bytes and what is left now
-abbrev pub Comes : Option (List ℕ) → List ℕ → Option (List ℕ) → Type 0
-Comes old came new = old ≡ option_map (λ left. came ++ left) new
+abbrev pub ComesFrom : Option (List ℕ) → List ℕ → Option (List ℕ) → Type 0
+ComesFrom old came new = old ≡ option_map (λ left. came ++ left) new
 
 -- where it is told what is left to read, it is nothing
 abbrev pub HasEnded : Option (List ℕ) → Type 0
 HasEnded left = IsSome left → left ≡ Some []
 
 -- whether the read failed
-abbrev pub has_failed : ReadAnswer → Bool
-has_failed Failed = true
-has_failed _ = false
+abbrev pub read_failed : ReadAnswer → Bool
+read_failed Failed = true
+read_failed _ = false
 
 -- a read gives at least one of the bytes left; or it gives none, at the end and where it failed
-abbrev pub Gives : List ℕ → Option (List ℕ) → Option (List ℕ) → ReadAnswer → Type 0
-Gives room old new (Bytes n) = (0 < n) × (n ≤ length room) × Comes old (take n room) new
-Gives room old new End = (new ≡ old) × HasEnded new
-Gives room old new Failed = new ≡ old
+abbrev pub GivesBytes : List ℕ → Option (List ℕ) → Option (List ℕ) → ReadAnswer → Type 0
+GivesBytes room old new (Bytes n) = (0 < n) × (n ≤ length room) × ComesFrom old (take n room) new
+GivesBytes room old new End = (new ≡ old) × HasEnded new
+GivesBytes room old new Failed = new ≡ old
 
 -- a read into this room: what came, it failed only where the count rose, and the other side stays
-pub record Reads (room : List ℕ) (before after : ShownStream) (answer : ReadAnswer) : Type 0 where
-  pub gives : Gives room before.left after.left answer
-  pub cause : HasCause before.read_faults after.read_faults (IsTrue (has_failed answer))
+pub record ReadsStream (room : List ℕ) (before after : ShownStream) (answer : ReadAnswer) : Type 0 where
+  pub gives : GivesBytes room before.left after.left answer
+  pub cause : HasCause before.read_faults after.read_faults (IsTrue (read_failed answer))
   pub writing : LeavesWriting before after

@@ -1,7 +1,7 @@
 //! The trait that stands for where connections come from.
 
 ghost use Rattle.std.specs.Prelude.{◌≡◌};
-ghost use Rattle.http_wire.specs.Door.{Accepts, ShownDoor, TakesBack, said_of};
+ghost use Rattle.http_wire.specs.Door.{Accepts, ShownDoor, TakesConnectionBack, said_of};
 
 use crate::sink::Sink;
 use crate::source::Source;
@@ -58,5 +58,5 @@ pub trait Door: Send + Drop {
 
     /// Takes back a connection that came and was served.
     fn ended(&mut self, conn: Self::Conn)
-        ensures takes_back { TakesBack (Self.Conn.shows conn) (shows self.old) (shows self.new) };
+        ensures takes_back { TakesConnectionBack (Self.Conn.shows conn) (shows self.old) (shows self.new) };
 }

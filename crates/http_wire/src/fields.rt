@@ -5,8 +5,8 @@ ghost use Rattle.std.specs.List.{list_all, list_any};
 ghost use Rattle.std.specs.Str.{str_eq_ignore_ascii_case};
 ghost use Rattle.httparse.specs.Grammar.{is_ows, skip_ows, trim_ows};
 ghost use Rattle.httparse.specs.Spans.{IsHeaderWithin, header_bytes};
-ghost use Rattle.http_wire.specs.Fields.{announces, asks_close, hops_in, is_close, is_filled, pieces};
-ghost use Rattle.http_wire.specs.Said.{Says, joined};
+ghost use Rattle.http_wire.specs.Fields.{announces, asks_close, hops_in, is_close, is_filled, listed_values};
+ghost use Rattle.http_wire.specs.Said.{Says, said_with};
 
 use crate::limits::{FIELD_LIMIT, HEAD_LIMIT};
 use httparse::is_space_or_tab;
@@ -48,7 +48,7 @@ pub(crate) fn read_fields(bytes: &[u8], headers: &[HeaderSpan]) -> Said
 fn with_field(said: Said, name: &[u8], value: &[u8]) -> Said
     requires short { length value.now ≤ HEAD_LIMIT }
     requires few { said.hops ≤ FIELD_LIMIT * (HEAD_LIMIT + 1) }
-    ensures value { result ≡ joined said (name.now, value.now) }
+    ensures value { result ≡ said_with said (name.now, value.now) }
     ensures few { result.hops ≤ said.hops + (HEAD_LIMIT + 1) }
 {
     Said {
@@ -67,7 +67,7 @@ fn asks_close(name: &[u8], value: &[u8]) -> bool
 
 /// Whether a piece of a value is the token `close`.
 fn has_close(value: &[u8]) -> bool
-    ensures { result ≡ list_any is_close (pieces value.now) }
+    ensures { result ≡ list_any is_close (listed_values value.now) }
 {
     value.split(|b| *b == b',').any(|piece| is_close(piece))
 }
@@ -102,7 +102,7 @@ fn hops_in(name: &[u8], value: &[u8]) -> u64
 
 /// How many pieces of a value hold more than white space.
 fn count_filled(value: &[u8]) -> usize
-    ensures value { result ≡ length (filter is_filled (pieces value.now)) }
+    ensures value { result ≡ length (filter is_filled (listed_values value.now)) }
     ensures few { result ≤ length value.now + 1 }
 {
     value

@@ -1,8 +1,8 @@
 //! Reading until a head is whole, or can't be.
 
 ghost use Rattle.std.specs.Prelude.{◌≡◌, ◌<◌, ◌≤◌, ◌-◌, length, take, drop};
-ghost use Rattle.http_wire.specs.Find.{Finds, at_end};
-ghost use Rattle.http_wire.specs.Source.{Reads};
+ghost use Rattle.http_wire.specs.Find.{FindsHead, found_at_end};
+ghost use Rattle.http_wire.specs.Source.{ReadsStream};
 
 use crate::head::HeadFault;
 use crate::limits::HEAD_LIMIT;
@@ -32,7 +32,7 @@ pub(crate) fn find_next<S: Source>(
     requires room { length room.old ≡ HEAD_LIMIT }
     requires held { (start ≤ end) × (end ≤ HEAD_LIMIT) }
     ensures end { result.1 ≤ HEAD_LIMIT }
-    ensures finds { Finds (drop start (take end room.old)) (S.shows source.old)
+    ensures finds { FindsHead (drop start (take end room.old)) (S.shows source.old)
         (take result.1 room.new) (S.shows source.new) result.0 }
 {
     let held = move_to_front(room, start, end);
@@ -56,7 +56,7 @@ fn find_head<S: Source>(room: &mut [u8], held: usize, source: &mut S) -> (Find, 
     requires room { length room.old ≡ HEAD_LIMIT }
     requires held { held ≤ HEAD_LIMIT }
     ensures end { result.1 ≤ HEAD_LIMIT }
-    ensures finds { Finds (take held room.old) (S.shows source.old)
+    ensures finds { FindsHead (take held room.old) (S.shows source.old)
         (take result.1 room.new) (S.shows source.new) result.0 }
 {
     let mut end = held;
@@ -86,7 +86,7 @@ fn find_head<S: Source>(room: &mut [u8], held: usize, source: &mut S) -> (Find, 
 
 /// What the end is behind so many bytes that hold no whole head.
 fn at_end(held: usize) -> Find
-    ensures { result ≡ at_end held }
+    ensures { result ≡ found_at_end held }
 {
     if held == 0 {
         Find::Closed
@@ -99,7 +99,7 @@ fn at_end(held: usize) -> Find
 fn read_more<S: Source>(room: &mut [u8], held: usize, source: &mut S) -> ReadAnswer
     requires { held < length room.old }
     ensures front { take held room.new ≡ take held room.old }
-    ensures reads { Reads (drop held room.new) (S.shows source.old) (S.shows source.new) result }
+    ensures reads { ReadsStream (drop held room.new) (S.shows source.old) (S.shows source.new) result }
 {
     let (_, free) = room.split_at_mut(held);
     source.read(free)

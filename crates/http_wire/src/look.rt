@@ -2,7 +2,7 @@
 
 ghost use Rattle.std.specs.Prelude.{◌≤◌, length};
 ghost use Rattle.httparse.specs.Spans.{IsRequestOf, IsRequestWithin};
-ghost use Rattle.http_wire.specs.Look.{HasHead, IsLook};
+ghost use Rattle.http_wire.specs.Look.{HasHead, IsFoundIn};
 
 use crate::fields::{Said, read_fields};
 use crate::limits::{FIELD_LIMIT, HEAD_LIMIT};
@@ -38,7 +38,7 @@ pub(crate) enum Look {
 #[tactic(auto, using(crate::proofs::LineLemmas::has_too_many))]
 pub(crate) fn look_at(bytes: &[u8]) -> Look
     requires { length bytes.now ≤ HEAD_LIMIT }
-    ensures { IsLook bytes.now result }
+    ensures { IsFoundIn bytes.now result }
 {
     let mut headers = [EMPTY_HEADER_SPAN; FIELD_LIMIT];
     match parse_request(bytes, &mut headers) {

@@ -5,8 +5,8 @@ ghost use Rattle.std.specs.Option.{option_copied};
 ghost use Rattle.row_types.specs.Faults.{raised};
 ghost use Rattle.http_wire.specs.MemConn.{after_read, next_count, next_read, shown_conn, taken};
 ghost use Rattle.http_wire.specs.MemSink.{next_answer, next_faults};
-ghost use Rattle.http_wire.specs.Sink.{Writes};
-ghost use Rattle.http_wire.specs.Source.{Reads};
+ghost use Rattle.http_wire.specs.Sink.{WritesStream};
+ghost use Rattle.http_wire.specs.Source.{ReadsStream};
 
 use crate::mem_sink::MemSink;
 use crate::sink::{Sink, WriteAnswer};
@@ -136,7 +136,7 @@ impl Stream for MemConn {
 impl Source for MemConn {
     fn read(&mut self, room: &mut [u8]) -> ReadAnswer
         requires { 0 < length room.old }
-        ensures reads { Reads room.new (shown_conn self.old) (shown_conn self.new) result }
+        ensures reads { ReadsStream room.new (shown_conn self.old) (shown_conn self.new) result }
         ensures exact { result ≡ next_read self.old (length room.old) }
         ensures state { self.new ≡ after_read self.old (length room.old) }
     {
@@ -147,7 +147,7 @@ impl Source for MemConn {
 impl Sink for MemConn {
     fn write(&mut self, bytes: &[u8]) -> WriteAnswer
         requires { 0 < length bytes.now }
-        ensures writes { Writes bytes.now (shown_conn self.old) (shown_conn self.new) result }
+        ensures writes { WritesStream bytes.now (shown_conn self.old) (shown_conn self.new) result }
         ensures exact { result ≡ next_answer self.old.sink bytes.now }
         ensures count { self.new.sink.faults ≡ next_faults self.old.sink }
         ensures number { self.new.sink.writes ≡ raised self.old.sink.writes }

@@ -2,7 +2,7 @@
 
 ghost use Rattle.std.specs.Prelude.{◌≡◌, ◌∷◌, None, Some, []};
 ghost use Rattle.std.specs.Option.{option_copied};
-ghost use Rattle.http_wire.specs.Door.{Accepts, TakesBack};
+ghost use Rattle.http_wire.specs.Door.{Accepts, TakesConnectionBack};
 ghost use Rattle.http_wire.specs.MemConn.{shown_conn};
 ghost use Rattle.http_wire.specs.MemDoor.{after_conn, next_conn, shown_door};
 ghost use Rattle.http_wire.specs.Told.{Gains};
@@ -105,7 +105,7 @@ impl Door for MemDoor {
     }
 
     fn ended(&mut self, conn: MemConn)
-        ensures takes_back { TakesBack (shown_conn conn) (shown_door self.old) (shown_door self.new) }
+        ensures takes_back { TakesConnectionBack (shown_conn conn) (shown_door self.old) (shown_door self.new) }
         ensures gains { Gains self.old.ended (conn ∷ []) self.new.ended }
         ensures same { self.new ≡ record self.old { ended = self.new.ended } }
     {

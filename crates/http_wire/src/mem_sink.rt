@@ -4,7 +4,7 @@ ghost use Rattle.std.specs.Prelude.{◌≡◌, ◌<◌, [], Some, length};
 ghost use Rattle.std.specs.Option.{option_copied};
 ghost use Rattle.row_types.specs.Faults.{raised};
 ghost use Rattle.http_wire.specs.MemSink.{next_answer, next_faults, shown_sink};
-ghost use Rattle.http_wire.specs.Sink.{Writes};
+ghost use Rattle.http_wire.specs.Sink.{WritesStream};
 
 use crate::sink::{Sink, WriteAnswer};
 use crate::stream::Stream;
@@ -71,7 +71,7 @@ impl Stream for MemSink {
 impl Sink for MemSink {
     fn write(&mut self, bytes: &[u8]) -> WriteAnswer
         requires { 0 < length bytes.now }
-        ensures writes { Writes bytes.now (shown_sink self.old) (shown_sink self.new) result }
+        ensures writes { WritesStream bytes.now (shown_sink self.old) (shown_sink self.new) result }
         ensures exact { result ≡ next_answer self.old bytes.now }
         ensures count { self.new.faults ≡ next_faults self.old }
         ensures number { self.new.writes ≡ raised self.old.writes }

@@ -6,7 +6,7 @@ ghost use Rattle.std.specs.Io.BufRead.{Rests};
 ghost use Rattle.httparse.specs.Spans.{IsWithin};
 ghost use Rattle.row_types.specs.Faults.{HasCause};
 ghost use Rattle.http_wire.specs.Heads.{ArePinnedHeadLimits};
-ghost use Rattle.http_wire.specs.Reader.{Advances, Answers, IsHeadAt, has_failed};
+ghost use Rattle.http_wire.specs.Reader.{StepsReader, AnswersNext, IsHeadAt, head_failed};
 ghost use Rattle.http_wire.specs.Stream.{LeavesWriting};
 ghost use Rattle.http_wire.specs.contracts.reader.HeadReader.{the_row};
 
@@ -63,9 +63,9 @@ impl HeadReader {
     /// The next head of the source. What comes behind a head is held for the next call.
     pub fn next<S: Source>(&mut self, source: &mut S) -> HeadAnswer<'_>
         ensures* after_borrow { sem 𝓛 (Rests the_row self.entry (λ new.
-            Answers self.old (S.shows source.old) new (S.shows source.new) result)) }
+            AnswersNext self.old (S.shows source.old) new (S.shows source.new) result)) }
         ensures cause { HasCause (S.shows source.old).read_faults (S.shows source.new).read_faults
-            (IsTrue (has_failed result)) }
+            (IsTrue (head_failed result)) }
         ensures apart { LeavesWriting (S.shows source.old) (S.shows source.new) }
     {
         match self.advance(source) {
@@ -78,7 +78,7 @@ impl HeadReader {
 
     // Finds the next head.
     fn advance<S: Source>(&mut self, source: &mut S) -> Find
-        ensures { Advances self.old (S.shows source.old) self.new (S.shows source.new) result }
+        ensures { StepsReader self.old (S.shows source.old) self.new (S.shows source.new) result }
     {
         if self.over {
             return Find::Closed;

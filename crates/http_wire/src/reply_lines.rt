@@ -2,7 +2,7 @@
 
 ghost use Rattle.std.specs.Prelude.{◌≡◌, ◌==◌, ◌++◌, if◌then◌else◌, codes, decimal, IfOk, OnOk, map};
 ghost use Rattle.std.specs.String.{string_bytes};
-ghost use Rattle.http_wire.specs.Reply.{IsStatus, allow_line, back_lines, connection, connection_line, escaped, file_line, front_lines, head_bytes, length_line, line, media_type, phrase_of, size_line, status_line, type_line};
+ghost use Rattle.http_wire.specs.Reply.{IsStatus, allow_line, back_lines, connection, connection_line, escaped, file_line, front_lines, head_bytes, length_line, head_line, media_type, phrase_of, size_line, status_line, type_line};
 
 use crate::reply::ReplyHead;
 use itoa::Buffer;
@@ -49,7 +49,7 @@ fn push_back(text: &mut String, head: &ReplyHead) -> Result<(), AllocError>
 }
 
 /// Adds the status line.
-#[tactic(auto, unfolding(crate::specs::Reply::status_line, crate::specs::Reply::line))]
+#[tactic(auto, unfolding(crate::specs::Reply::status_line, crate::specs::Reply::head_line))]
 fn push_status(text: &mut String, status: u16) -> Result<(), AllocError>
     requires { IsStatus status }
     ensures { OnOk result (string_bytes text.new ≡ string_bytes text.old ++ status_line status) }
@@ -99,10 +99,10 @@ fn push_file(text: &mut String, file: &Option<CanonPath>) -> Result<(), AllocErr
 }
 
 /// Adds a line with a path.
-#[tactic(auto, unfolding(crate::specs::Reply::line))]
+#[tactic(auto, unfolding(crate::specs::Reply::head_line))]
 fn push_path(text: &mut String, name: &str, path: &str) -> Result<(), AllocError>
     ensures { OnOk result
-        (string_bytes text.new ≡ string_bytes text.old ++ line name.now (escaped path.now)) }
+        (string_bytes text.new ≡ string_bytes text.old ++ head_line name.now (escaped path.now)) }
 {
     text.push_str(name)?;
     push_escaped(text, path.as_bytes())?;
@@ -139,16 +139,16 @@ fn push_connection(text: &mut String, close: bool) -> Result<(), AllocError>
 /// Adds a line with a number.
 fn push_number(text: &mut String, name: &str, number: u64) -> Result<(), AllocError>
     ensures { OnOk result
-        (string_bytes text.new ≡ string_bytes text.old ++ line name.now (decimal number)) }
+        (string_bytes text.new ≡ string_bytes text.old ++ head_line name.now (decimal number)) }
 {
     push_line(text, name, Buffer::new().format(number))
 }
 
 /// Adds a line.
-#[tactic(auto, unfolding(crate::specs::Reply::line))]
+#[tactic(auto, unfolding(crate::specs::Reply::head_line))]
 fn push_line(text: &mut String, name: &str, value: &str) -> Result<(), AllocError>
     ensures { OnOk result
-        (string_bytes text.new ≡ string_bytes text.old ++ line name.now value.now) }
+        (string_bytes text.new ≡ string_bytes text.old ++ head_line name.now value.now) }
 {
     text.push_str(name)?;
     text.push_str(value)?;

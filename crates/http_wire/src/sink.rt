@@ -1,7 +1,7 @@
 //! Where bytes go.
 
 ghost use Rattle.std.specs.Prelude.{◌<◌, ◌++◌, MatchResult, length};
-ghost use Rattle.http_wire.specs.Sink.{GetsAll, GetsPart, Writes};
+ghost use Rattle.http_wire.specs.Sink.{GetsAll, GetsPart, WritesStream};
 
 use crate::stream::Stream;
 
@@ -23,7 +23,7 @@ pub trait Sink: Stream {
     /// Writes some bytes from the front.
     fn write(&mut self, bytes: &[u8]) -> WriteAnswer
         requires { 0 < length bytes.now }
-        ensures writes { Writes bytes.now (Self.shows self.old) (Self.shows self.new) result };
+        ensures writes { WritesStream bytes.now (Self.shows self.old) (Self.shows self.new) result };
 }
 
 /// Writes all the bytes. After a fault a proper prefix of them was written.

@@ -1,7 +1,7 @@
 //! Where bytes come from.
 
 ghost use Rattle.std.specs.Prelude.{◌<◌, length};
-ghost use Rattle.http_wire.specs.Source.{Reads};
+ghost use Rattle.http_wire.specs.Source.{ReadsStream};
 
 use crate::stream::Stream;
 
@@ -22,5 +22,5 @@ pub trait Source: Stream {
     /// is left open.
     fn read(&mut self, room: &mut [u8]) -> ReadAnswer
         requires { 0 < length room.old }
-        ensures reads { Reads room.new (Self.shows self.old) (Self.shows self.new) result };
+        ensures reads { ReadsStream room.new (Self.shows self.old) (Self.shows self.new) result };
 }

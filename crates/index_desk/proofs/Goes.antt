@@ -13,7 +13,7 @@ use Rattle.index_state.specs.Away.{GroomsNext, MissesOut}
 use Rattle.index_state.specs.Invariant.{IndexInvariant}
 use Rattle.index_state.specs.Spared.{Sparing}
 use Rattle.index_state.specs.State.{Origin, StateFacts, unspared}
-use Rattle.index_state.specs.Step.{Begins, Judges, Publishes, TakesNext}
+use Rattle.index_state.specs.Step.{BeginsOrNot, Judges, Publishes, TakesNextName}
 use Rattle.index_state.specs.declared.answer.Begun.{Begun}
 use Rattle.index_state.specs.declared.answer.Begun.TheVariants as begun
 use Rattle.index_state.specs.declared.answer.GroomTask.{GroomTask}
@@ -48,12 +48,12 @@ module _ {K : Type 0} {old new : StateFacts K} where
   }
 
   pub begin_goes : (listing : List NameFacts) (roots : List (List ℕ)) → old.origin.sparing ≡ None → old.origin.spared ≡ []
-      → (answer : Begun) → Begins listing roots old answer new → LogGoesOn old new
+      → (answer : Begun) → BeginsOrNot listing roots old answer new → LogGoesOn old new
   begin_goes listing roots never none (begun.Begun plan) h = stays_as h.after refl (same_origin old.origin never none)
   begin_goes listing roots never none begun.Broken h = stays_as h.same refl refl
   begin_goes listing roots never none begun.OutOfMemory h = stays_as h.same refl refl
 
-  pub take_goes : (answer : Option NameFacts) → TakesNext old answer new → LogGoesOn old new
+  pub take_goes : (answer : Option NameFacts) → TakesNextName old answer new → LogGoesOn old new
   take_goes answer h = stays_as h.same refl refl
 
   pub groom_goes : (answer : Option GroomTask) → GroomsNext old answer new → LogGoesOn old new

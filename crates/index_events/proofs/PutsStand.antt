@@ -16,20 +16,20 @@ use Rattle.index_rows.specs.Rows.{row_at, row_path}
 use Rattle.index_rows.specs.declared.change.Change.{Change}
 use Rattle.index_rows.proofs.Lists.{IsFound, found_there}
 use Rattle.scan_queue.specs.declared.miss.Seen.{Seen}
-use Rattle.index_keeper.specs.Answers.{for_rows, rows_in}
+use Rattle.index_keeper.specs.Answers.{for_rows, rows_given}
 use Rattle.index_keeper.specs.Keeper.{ShownKeeper, TellsTables}
-use Rattle.index_keeper.specs.Tables.{AscendsByPath, KeptFacts, bytes_at, edited, put_of as put_under, removal_of}
+use Rattle.index_keeper.specs.Tables.{AscendsByPath, KeptFacts, bytes_under, edited, put_bytes as put_under, removal_of}
 use Rattle.index_keeper.specs.declared.answer.KeptAnswer.{KeptAnswer}
 use Rattle.index_keeper.specs.declared.answer.KeptAnswer.TheVariants.{All as AllRows, Failed as RowsFailed, OutOfMemory as RowsNoMemory}
 use Rattle.index_keeper.proofs.CutLemmas.{IsCut, after_here, cut_of, edited_cut, other_bytes, row_bytes_at}
-use Rattle.index_events.specs.Events.{Calls, EventStep, Happens, IsReopening, Reopens, RunsFirst, RunsTo, StopsAfter, StoredIndex, WantsMemory}
+use Rattle.index_events.specs.Events.{Calls, EventStep, Happens, IsReopening, Reopens, RunsFirst, RunsTo, StopsAfter, StoredIndex, EventWantsMemory}
 use Rattle.index_state.specs.Invariant.{IndexInvariant}
 use Rattle.index_state.specs.Keeping.{put_row}
-use Rattle.index_state.specs.Kept.{IsDoubted, tables_of}
+use Rattle.index_state.specs.Kept.{IsDoubted, tables_of_rows}
 use Rattle.index_state.specs.Opening.{current, is_current}
 use Rattle.index_events.specs.Puts.{HasPut, LeavePath, MayChange, PutsLast}
 use Rattle.index_state.specs.State.{StateFacts}
-use Rattle.index_state.specs.Step.{Begins, Judges, Publishes, Stores}
+use Rattle.index_state.specs.Step.{BeginsOrNot, Judges, Publishes, Stores}
 use Rattle.index_state.specs.declared.answer.Begun.{Begun}
 use Rattle.index_state.specs.declared.answer.Begun.TheVariants.{Begun as BegunBy, Broken as BegunBroken, OutOfMemory as BegunNoMemory}
 use Rattle.index_state.specs.declared.answer.Judged.{Judged}
@@ -72,7 +72,7 @@ find_kept p q (y ∷ ys) x e kept =
     ] refl e
 
 -- the bytes that a put keeps
-pub own_bytes : (path bytes : List ℕ) (rows : List KeptFacts) → AscendsByPath rows → bytes_at path (edited rows (put_under path bytes)) ≡ Some bytes
+pub own_bytes : (path bytes : List ℕ) (rows : List KeptFacts) → AscendsByPath rows → bytes_under path (edited rows (put_under path bytes)) ≡ Some bytes
 own_bytes path bytes rows ascends =
     let has = cut_of path rows ascends in
     let cut : IsCut path (edited rows (put_under path bytes)) has.front (record { path = path; bytes = bytes } ∷ []) has.back =
@@ -80,7 +80,7 @@ own_bytes path bytes rows ascends =
     row_bytes_at cut
 
 -- the row whose bytes stand under its path is the path's
-pub row_here : (row : RowFacts) (rows : List RowFacts) → All IsSpelled rows → IsSpelled row → bytes_at row.name.path (tables_of rows) ≡ Some (row_bytes row) → row_at row.name.path rows ≡ Some row
+pub row_here : (row : RowFacts) (rows : List RowFacts) → All IsSpelled rows → IsSpelled row → bytes_under row.name.path (tables_of_rows rows) ≡ Some (row_bytes row) → row_at row.name.path rows ≡ Some row
 row_here row rows each spelled here = of_found (row_at row.name.path rows) refl (sym (table_bytes row.name.path rows) ∙ here)
   where
     of_found : (found : Option RowFacts) → row_at row.name.path rows ≡ found → option_map row_bytes found ≡ Some (row_bytes row) → row_at row.name.path rows ≡ Some row
@@ -93,7 +93,7 @@ row_here row rows each spelled here = of_found (row_at row.name.path rows) refl 
         is ∙ ap (λ (r : RowFacts). Some r) one
 
 -- what a keeper that tells gave is its tables
-pub told_values : (answer : KeptAnswer) (values : List KeptFacts) (before after : ShownKeeper) → TellsTables before after (for_rows answer) → rows_in answer ≡ Some values → values ≡ before.tables
+pub told_values : (answer : KeptAnswer) (values : List KeptFacts) (before after : ShownKeeper) → TellsTables before after (for_rows answer) → rows_given answer ≡ Some values → values ≡ before.tables
 told_values (AllRows rows) values before after tells gave =
     let same : rows.items ≡ values = cc in sym same ∙ tells.whole ∙ tells.stays.same
 told_values RowsFailed values before after tells gave = cc
@@ -102,12 +102,12 @@ told_values RowsNoMemory values before after tells gave = cc
 module _ {K : Type 0} (path : List ℕ) (old new : StateFacts K) where
   -- what the rows have under the path is as it was, and it isn't newly in doubt
   pub record LeavesAt : Type 0 where
-    pub bytes : bytes_at path (tables_of new.rows) ≡ bytes_at path (tables_of old.rows)
+    pub bytes : bytes_under path (tables_of_rows new.rows) ≡ bytes_under path (tables_of_rows old.rows)
     pub doubt : IsDoubted new path → IsDoubted old path
 
   leaves_same : new.rows ≡ old.rows → new.log ≡ old.log → new.broken ≡ old.broken → LeavesAt
   leaves_same rows log broken = record {
-    bytes = ap (λ (l : List RowFacts). bytes_at path (tables_of l)) rows;
+    bytes = ap (λ (l : List RowFacts). bytes_under path (tables_of_rows l)) rows;
     doubt = λ h. record { broken = sym broken ∙ h.broken; front = h.front; void = h.void; last = sym log ∙ h.last; here = h.here };
   }
 
@@ -119,18 +119,18 @@ module _ {K : Type 0} (path : List ℕ) (old new : StateFacts K) where
   -- a void change of another path was listed
   leaves_void : (void : Change) → new.rows ≡ old.rows → new.log ≡ old.log ++ void ∷ [] → (void.name.path ≡ path → ⊥) → LeavesAt
   leaves_void void rows log apart = record {
-    bytes = ap (λ (l : List RowFacts). bytes_at path (tables_of l)) rows;
+    bytes = ap (λ (l : List RowFacts). bytes_under path (tables_of_rows l)) rows;
     doubt = λ h.
         let same : void ≡ h.void = last_same old.log h.front void h.void (sym log ∙ h.last) in
         absurd (apart (ap (λ (c : Change). c.name.path) same ∙ h.here));
   }
 
   -- an index that isn't broken has no path in doubt
-  leaves_sound : bytes_at path (tables_of new.rows) ≡ bytes_at path (tables_of old.rows) → new.broken ≡ false → LeavesAt
+  leaves_sound : bytes_under path (tables_of_rows new.rows) ≡ bytes_under path (tables_of_rows old.rows) → new.broken ≡ false → LeavesAt
   leaves_sound bytes sound = record { bytes = bytes; doubt = λ h. absurd (true≢false (sym h.broken ∙ sound)) }
 
 module _ (W : Type 0) {K : Type 0} {true_row : RowFacts → Type 0} {told : Bool} {shows : K → ShownKeeper} (path : List ℕ) {old new : StateFacts K} (h : IndexInvariant true_row told shows old) where
-  begin_leaves : (listing : List NameFacts) (roots : List (List ℕ)) (begun : Begun) → Begins listing roots old begun new → LeavesAt path old new
+  begin_leaves : (listing : List NameFacts) (roots : List (List ℕ)) (begun : Begun) → BeginsOrNot listing roots old begun new → LeavesAt path old new
   begin_leaves listing roots (BegunBy plan) step = leaves_by path old new _ step.after refl refl refl
   begin_leaves listing roots BegunBroken step = leaves_by path old new old step.same refl refl refl
   begin_leaves listing roots BegunNoMemory step = leaves_by path old new old step.same refl refl refl
@@ -138,9 +138,9 @@ module _ (W : Type 0) {K : Type 0} {true_row : RowFacts → Type 0} {told : Bool
   stored_leaves : {row : RowFacts} → Stores told shows row old new → (row.name.path ≡ path → ⊥) → LeavesAt path old new
   stored_leaves {row} stored apart =
       leaves_sound path old new
-      (ap (λ (s : StateFacts K). bytes_at path (tables_of s.rows)) stored.after
-      ∙ ap (bytes_at path) (sym (tables_put row old.rows))
-      ∙ other_bytes path (tables_of old.rows) (put_row row) (tables_by_path old.rows h.rows_sorted_and_true.ascend) apart)
+      (ap (λ (s : StateFacts K). bytes_under path (tables_of_rows s.rows)) stored.after
+      ∙ ap (bytes_under path) (sym (tables_put row old.rows))
+      ∙ other_bytes path (tables_of_rows old.rows) (put_row row) (tables_by_path old.rows h.rows_sorted_and_true.ascend) apart)
       (ap (λ (s : StateFacts K). s.broken) stored.after ∙ stored.can.sound)
 
   publish_leaves : (row : RowFacts) (said : Published) → Publishes told shows row old said new → (MayChange {W = W} path (Publish row) (PublishSaid said) → ⊥) → LeavesAt path old new
@@ -165,9 +165,9 @@ module _ (W : Type 0) {K : Type 0} {true_row : RowFacts → Type 0} {told : Bool
       leaves_void path old new (put_of name) (ap (λ (s : StateFacts K). s.rows) step.drops.after) (ap (λ (s : StateFacts K). s.log) step.drops.after) apart
   judge_leaves name seen Dropped step apart =
       leaves_sound path old new
-      (ap (λ (s : StateFacts K). bytes_at path (tables_of s.rows)) step.drops.after
-      ∙ ap (bytes_at path) (sym (tables_without name.path old.rows h.rows_sorted_and_true.ascend))
-      ∙ other_bytes path (tables_of old.rows) (removal_of name.path) (tables_by_path old.rows h.rows_sorted_and_true.ascend) apart)
+      (ap (λ (s : StateFacts K). bytes_under path (tables_of_rows s.rows)) step.drops.after
+      ∙ ap (bytes_under path) (sym (tables_without name.path old.rows h.rows_sorted_and_true.ascend))
+      ∙ other_bytes path (tables_of_rows old.rows) (removal_of name.path) (tables_by_path old.rows h.rows_sorted_and_true.ascend) apart)
       (ap (λ (s : StateFacts K). s.broken) step.drops.after ∙ step.drops.can.left_over.sound)
 
   -- an event that changes another path leaves this one
@@ -185,7 +185,7 @@ module _ (W : Type 0) {K : Type 0} {true_row : RowFacts → Type 0} {told : Bool
 -- the row has row bytes, which stand under its path, and that isn't in doubt
 pub record Rests {K : Type 0} (row : RowFacts) (state : StateFacts K) : Type 0 where
   pub spelled : IsSpelled row
-  pub here : bytes_at row.name.path (tables_of state.rows) ≡ Some (row_bytes row)
+  pub here : bytes_under row.name.path (tables_of_rows state.rows) ≡ Some (row_bytes row)
   pub free : ¬ IsDoubted state row.name.path
 
 module _ (W : Type 0) {K : Type 0} (true_row : RowFacts → Type 0) (told : Bool) (shows : K → ShownKeeper) (path : List ℕ) (tells : IsTrue told) (row : RowFacts) where
@@ -195,11 +195,11 @@ module _ (W : Type 0) {K : Type 0} (true_row : RowFacts → Type 0) (told : Bool
       let gave = again.index.gave in
       let opened = again.index.opened in
       let place : List ℕ = row.name.path in
-      let kept : bytes_at place again.held.tables ≡ Some (row_bytes row) =
+      let kept : bytes_under place again.held.tables ≡ Some (row_bytes row) =
       image_bytes h old.index.broken refl (h.store_agrees_with_rows.tables tells) place rests.free again.held.tables (again.back.image tells) ∙ rests.here in
       let values : again.index.values ≡ again.held.tables =
       told_values gave.answer again.index.values _ _ (gave.heard.tells tells) gave.gave ∙ again.opened.holds.tables tells in
-      let read : bytes_at place (tables_of opened.rows) ≡ Some (row_bytes row) = ap (bytes_at place) (sym opened.sound.kept ∙ values) ∙ kept in
+      let read : bytes_under place (tables_of_rows opened.rows) ≡ Some (row_bytes row) = ap (bytes_under place) (sym opened.sound.kept ∙ values) ∙ kept in
       let found : row_at place opened.rows ≡ Some row = row_here row opened.rows opened.sound.spelled rests.spelled read in
       let stood = row_here row old.index.rows h.rows_sorted_and_true.spelled rests.spelled rests.here in
       let is_found : IsFound (λ r. bytes_eq (row_path r) place) old.index.rows row = found_there (λ r. bytes_eq (row_path r) place) old.index.rows row stood in
@@ -207,7 +207,7 @@ module _ (W : Type 0) {K : Type 0} (true_row : RowFacts → Type 0) (told : Bool
       let own : is_current row ≡ true = eq-eqb row.edition EDITION edition in
       let left : row_at place (current opened.rows) ≡ Some row = find_kept (λ r. bytes_eq (row_path r) place) is_current opened.rows row found own in record {
         spelled = rests.spelled;
-        here = ap (λ (s : StateFacts K). bytes_at place (tables_of s.rows)) opened.value ∙ table_bytes place (current opened.rows) ∙ ap (option_map row_bytes) left;
+        here = ap (λ (s : StateFacts K). bytes_under place (tables_of_rows s.rows)) opened.value ∙ table_bytes place (current opened.rows) ∙ ap (option_map row_bytes) left;
         free = λ doubt. absurd (true≢false (sym doubt.broken ∙ ap (λ (s : StateFacts K). s.broken) opened.value));
       }
 
@@ -233,9 +233,9 @@ module _ (W : Type 0) {K : Type 0} (true_row : RowFacts → Type 0) (told : Bool
   stored_rests {old} {new} h stored = record {
     spelled = stored.keeper.spelled;
     here =
-        ap (λ (s : StateFacts K). bytes_at row.name.path (tables_of s.rows)) stored.after
-        ∙ ap (bytes_at row.name.path) (sym (tables_put row old.rows))
-        ∙ own_bytes row.name.path (row_bytes row) (tables_of old.rows) (tables_by_path old.rows h.rows_sorted_and_true.ascend);
+        ap (λ (s : StateFacts K). bytes_under row.name.path (tables_of_rows s.rows)) stored.after
+        ∙ ap (bytes_under row.name.path) (sym (tables_put row old.rows))
+        ∙ own_bytes row.name.path (row_bytes row) (tables_of_rows old.rows) (tables_by_path old.rows h.rows_sorted_and_true.ascend);
     free = λ doubt. absurd (true≢false (sym doubt.broken ∙ ap (λ (s : StateFacts K). s.broken) stored.after ∙ stored.can.sound));
   }
 
@@ -274,7 +274,7 @@ module _ {W K : Type 0} (true_row : RowFacts → Type 0) (told : Bool) (shows : 
       image_bytes now new.index.broken refl (now.store_agrees_with_rows.tables tells) row.name.path rests.free image left ∙ rests.here
 
   -- the same, where memory was wanting after the first events
-  pub first_lasts : (old : StoredIndex K) (events : List (Event W)) (answers : List EventAnswer) (rest : List (Event W)) (middle : StoredIndex K) (new : StateFacts K) → IndexInvariant true_row told shows old.index → (h : RunsFirst true_row told shows path old events answers rest middle) → WantsMemory told shows middle.index new → IsTrue told → PutsLast shows h.first answers new
+  pub first_lasts : (old : StoredIndex K) (events : List (Event W)) (answers : List EventAnswer) (rest : List (Event W)) (middle : StoredIndex K) (new : StateFacts K) → IndexInvariant true_row told shows old.index → (h : RunsFirst true_row told shows path old events answers rest middle) → EventWantsMemory told shows middle.index new → IsTrue told → PutsLast shows h.first answers new
   first_lasts old events answers rest middle new holds h wants tells = λ row is image left.
       puts_last old h.first answers middle holds h.run tells row is image (((wants.keeper.tells tells).left image).0 left)
 

@@ -8,8 +8,8 @@ use Rattle.index_keeper.specs.Keeper.{IsLeftAlone, ShownKeeper}
 use Rattle.index_keeper.specs.Store.{OpensStore, ShownStore}
 use Rattle.index_keeper.specs.declared.answer.StoreAnswer.{StoreAnswer}
 use Rattle.index_keeper.specs.declared.answer.StoreAnswer.TheVariants.{Failed as StoreFailed, OutOfMemory as StoreNoMemory}
-use Rattle.index_events.specs.EventParts.{Closes, Waits}
-use Rattle.index_events.specs.Events.{Calls, ClosesAfter, EventStep, IsRefused, IsReopening, IsStoreFault, MeetsFault, RunsFirst, RunsTo, StaysClosed, StaysShut, StopsAfter, StoredIndex, WantsMemory}
+use Rattle.index_events.specs.EventParts.{ClosesIndex, Waits}
+use Rattle.index_events.specs.Events.{Calls, ClosesAfter, EventStep, IsIndexRefused, IsReopening, IsStoreFault, MeetsFault, RunsFirst, RunsTo, StaysClosed, StaysShut, StopsAfter, StoredIndex, EventWantsMemory}
 use Rattle.index_events.specs.Puts.{PutsLast}
 use Rattle.index_state.specs.State.{StateFacts}
 use Rattle.index_events.specs.declared.events.Event.{Event}
@@ -74,7 +74,7 @@ alone_self told shown = record {
   number = refl;
 }
 
-pub wants_self : {K : Type 0} (told : Bool) (shows : K → ShownKeeper) (state : StateFacts K) → WantsMemory told shows state state
+pub wants_self : {K : Type 0} (told : Bool) (shows : K → ShownKeeper) (state : StateFacts K) → EventWantsMemory told shows state state
 wants_self told shows state = record { keeper = alone_self told (shows state.keeper); same = refl }
 
 -- a count that a call raised from nothing is added to an other
@@ -93,7 +93,7 @@ module _ {K : Type 0} (told : Bool) (shows : K → ShownKeeper) (path : List ℕ
       no_fault e = cc
   shut_counts before after _ _ opened why = absurd why
 
-  refused_counts : (before after : ShownStore) (fault : OpenFault) → IsRefused told shows path before after fault → HasCause before.faults after.faults (fault ≡ KeeperFault)
+  refused_counts : (before after : ShownStore) (fault : OpenFault) → IsIndexRefused told shows path before after fault → HasCause before.faults after.faults (fault ≡ KeeperFault)
   refused_counts before after fault h =
       let same = h.opened.faults in
       let back = h.goes.back.later in record {
@@ -111,7 +111,7 @@ module _ {K : Type 0} (told : Bool) (shows : K → ShownKeeper) (path : List ℕ
       let later = rest.later in
       record { later = omega arith; rose = λ e. let risen = rest.rose e in omega arith }
     where
-      of_why : StaysShut told shows path h.held after fault ⊎ IsRefused told shows path h.held after fault → HasCause h.held.faults after.faults (fault ≡ KeeperFault)
+      of_why : StaysShut told shows path h.held after fault ⊎ IsIndexRefused told shows path h.held after fault → HasCause h.held.faults after.faults (fault ≡ KeeperFault)
       of_why (inl shut) = shut_counts h.held after fault shut.answer shut.opened shut.why
       of_why (inr refused) = refused_counts h.held after fault refused
 
@@ -168,7 +168,7 @@ module _ {W K : Type 0} (true_row : RowFacts → Type 0) (told : Bool) (shows : 
       record { later = omega arith; rose = λ e. absurd e }
 
   -- the next one is a reopening that was refused
-  pub closes_after : {event : Event W} {rest : List (Event W)} {after : ShownStore} {done : ℕ} {fault : OpenFault} → RunsFirst true_row told shows path old events answers (event ∷ rest) middle → done ≡ length answers → Closes told shows path middle event after fault → ClosesAfter true_row told shows path old events done fault after
+  pub closes_after : {event : Event W} {rest : List (Event W)} {after : ShownStore} {done : ℕ} {fault : OpenFault} → RunsFirst true_row told shows path old events answers (event ∷ rest) middle → done ≡ length answers → ClosesIndex told shows path middle event after fault → ClosesAfter true_row told shows path old events done fault after
   closes_after {event} {rest} h count closes = record {
     answers = answers;
     rest = rest;
@@ -178,7 +178,7 @@ module _ {W K : Type 0} (true_row : RowFacts → Type 0) (told : Bool) (shows : 
     refused = closes.closed;
   }
 
-  pub closes_later : {event : Event W} {rest : List (Event W)} {after : ShownStore} (done : ℕ) (fault : OpenFault) → RunsFirst true_row told shows path old events answers (event ∷ rest) middle → Closes told shows path middle event after fault → HasCause old.store.faults after.faults (MeetsFault {W = W} {K = K} (Unopened done fault))
+  pub closes_later : {event : Event W} {rest : List (Event W)} {after : ShownStore} (done : ℕ) (fault : OpenFault) → RunsFirst true_row told shows path old events answers (event ∷ rest) middle → ClosesIndex told shows path middle event after fault → HasCause old.store.faults after.faults (MeetsFault {W = W} {K = K} (Unopened done fault))
   closes_later {after = after} done fault h closes =
       let first = first_later h in
       let rest = closed_counts told shows path middle after fault closes.closed in

@@ -3,11 +3,11 @@
 use Rattle.std.specs.Prelude.{◌≡◌, ◌≢◌, ◌⊎◌, ℕ, Bool, List, [], ◌∷◌, ◌++◌, length, IsTrue}
 use Rattle.row_types.specs.Row.{RowFacts}
 use Rattle.index_keeper.specs.Keeper.{IsLeftAlone, ShownKeeper}
-use Rattle.index_keeper.specs.Store.{OpensStore, ShownStore, TakesBack}
+use Rattle.index_keeper.specs.Store.{OpensStore, ShownStore, TakesKeeperBack}
 use Rattle.index_keeper.specs.declared.answer.StoreAnswer.{StoreAnswer}
 use Rattle.index_keeper.specs.declared.answer.StoreAnswer.TheVariants.{Opened as StoreOpened, Failed as StoreFailed, OutOfMemory as StoreNoMemory}
 use Rattle.index_state.specs.Invariant.{IndexInvariant}
-use Rattle.index_state.specs.Opening.{CountsFault, Opens, Refuses}
+use Rattle.index_state.specs.Opening.{CountsFault, Opens, RefusesOpening}
 use Rattle.index_events.specs.Puts.{PutsLast}
 use Rattle.index_state.specs.State.{StateFacts}
 use Rattle.index_state.specs.Step.{IndexStep, begins, grooms, judges, looks, misses, publishes, retries, takes, to_begin, to_groom, to_judge, to_look, to_miss, to_publish, to_retry, to_take}
@@ -48,12 +48,12 @@ HasMemory (JudgeSaid said) = said ≢ JudgedNoMemory
 HasMemory _ = Unit {0}
 
 -- the event happened to the index, which answered this
-pub record Answers {W K : Type 0} (told : Bool) (shows : K → ShownKeeper) (old : StateFacts K) (event : Event W) (answer : EventAnswer) (new : StateFacts K) : Type 0 where
+pub record AnswersEvent {W K : Type 0} (told : Bool) (shows : K → ShownKeeper) (old : StateFacts K) (event : Event W) (answer : EventAnswer) (new : StateFacts K) : Type 0 where
   pub step : Happens told shows old event answer new
   pub said : HasMemory answer
 
 -- memory was wanting: the index is as it was, and so is all that contracts know of its keeper
-pub record WantsMemory {K : Type 0} (told : Bool) (shows : K → ShownKeeper) (old new : StateFacts K) : Type 0 where
+pub record EventWantsMemory {K : Type 0} (told : Bool) (shows : K → ShownKeeper) (old new : StateFacts K) : Type 0 where
   pub keeper : IsLeftAlone told (shows old.keeper) (shows new.keeper)
   pub same : new ≡ record old { keeper = new.keeper }
 
@@ -69,19 +69,19 @@ MeetsWant told shows old _ new = ⊥
 
 -- memory was wanting for the event, and the index is as it was
 pub record WantsFor {W K : Type 0} (told : Bool) (shows : K → ShownKeeper) (old : StateFacts K) (event : Event W) (new : StateFacts K) : Type 0 where
-  pub wants : WantsMemory told shows old new
+  pub wants : EventWantsMemory told shows old new
   pub meets : MeetsWant told shows old event new
 
 -- an event of the index alone, at which its store shows what it showed
 pub record Calls {W K : Type 0} (told : Bool) (shows : K → ShownKeeper) (old : StoredIndex K) (event : Event W) (answer : EventAnswer) (new : StoredIndex K) : Type 0 where
-  pub answered : Answers told shows old.index event answer new.index
+  pub answered : AnswersEvent told shows old.index event answer new.index
   pub store : new.store ≡ old.store
 
 -- the keeper was given back, the store was opened again, and so was the index on it
 pub record Reopens {K : Type 0} (told : Bool) (shows : K → ShownKeeper) (path : List ℕ) (old new : StoredIndex K) : Type 0 where
   pub held : ShownStore
   pub keeper : K
-  pub back : TakesBack told (shows old.index.keeper) old.store held
+  pub back : TakesKeeperBack told (shows old.index.keeper) old.store held
   pub opened : OpensStore told shows path held new.store (StoreOpened keeper)
   pub index : Opens told shows keeper new.index
 
@@ -123,7 +123,7 @@ pub record StopsAfter {W K : Type 0} (true_row : RowFacts → Type 0) (told : Bo
   pub count : done ≡ length answers
   pub last : StateFacts K
   pub runs : RunsFirst true_row told shows path old events answers (next ∷ rest) (record { index = last; store = new.store })
-  pub wants : WantsMemory told shows last new.index
+  pub wants : EventWantsMemory told shows last new.index
   pub why : IsUnbegun answers last new.index ⊎ MeetsWant told shows last next new.index
   pub lasts : IsTrue told → PutsLast shows runs.first answers new.index
 
@@ -142,12 +142,12 @@ pub record StaysShut {K : Type 0} (told : Bool) (shows : K → ShownKeeper) (pat
 -- the index wasn't opened on the keeper, which went back to its store
 pub record GoesBack {K : Type 0} (told : Bool) (shows : K → ShownKeeper) (keeper : K) (before after : ShownStore) (fault : OpenFault) : Type 0 where
   pub given : K
-  pub why : Refuses told shows keeper fault given
+  pub why : RefusesOpening told shows keeper fault given
   pub counts : CountsFault (shows keeper) (shows given) fault
-  pub back : TakesBack told (shows given) before after
+  pub back : TakesKeeperBack told (shows given) before after
 
 -- the store was opened, but the index on it wasn't
-pub record IsRefused {K : Type 0} (told : Bool) (shows : K → ShownKeeper) (path : List ℕ) (before after : ShownStore) (fault : OpenFault) : Type 0 where
+pub record IsIndexRefused {K : Type 0} (told : Bool) (shows : K → ShownKeeper) (path : List ℕ) (before after : ShownStore) (fault : OpenFault) : Type 0 where
   pub keeper : K
   pub lent : ShownStore
   pub opened : OpensStore told shows path before lent (StoreOpened keeper)
@@ -156,8 +156,8 @@ pub record IsRefused {K : Type 0} (told : Bool) (shows : K → ShownKeeper) (pat
 -- the keeper was given back, and store or index weren't opened again
 pub record StaysClosed {K : Type 0} (told : Bool) (shows : K → ShownKeeper) (path : List ℕ) (old : StoredIndex K) (after : ShownStore) (fault : OpenFault) : Type 0 where
   pub held : ShownStore
-  pub back : TakesBack told (shows old.index.keeper) old.store held
-  pub why : StaysShut told shows path held after fault ⊎ IsRefused told shows path held after fault
+  pub back : TakesKeeperBack told (shows old.index.keeper) old.store held
+  pub why : StaysShut told shows path held after fault ⊎ IsIndexRefused told shows path held after fault
 
 -- the first events happened, so many; the next one is a reopening that was refused
 pub record ClosesAfter {W K : Type 0} (true_row : RowFacts → Type 0) (told : Bool) (shows : K → ShownKeeper) (path : List ℕ) (old : StoredIndex K) (events : List (Event W)) (done : ℕ) (fault : OpenFault) (after : ShownStore) : Type 0 where
@@ -169,10 +169,10 @@ pub record ClosesAfter {W K : Type 0} (true_row : RowFacts → Type 0) (told : B
   pub refused : StaysClosed told shows path last after fault
 
 -- what comes of the events
-abbrev pub EndsBy : {W K : Type 0} → (RowFacts → Type 0) → Bool → (K → ShownKeeper) → List ℕ → StoredIndex K → List (Event W) → EventsEnd W K → ShownStore → Type 0
-EndsBy true_row told shows path old events (AllDone index answers) store = RunsTo true_row told shows path old events answers.items (record { index = index; store = store })
-EndsBy true_row told shows path old events (Stopped index done) store = StopsAfter true_row told shows path old events done (record { index = index; store = store })
-EndsBy true_row told shows path old events (Unopened done fault) store = ClosesAfter true_row told shows path old events done fault store
+abbrev pub EndsEvents : {W K : Type 0} → (RowFacts → Type 0) → Bool → (K → ShownKeeper) → List ℕ → StoredIndex K → List (Event W) → EventsEnd W K → ShownStore → Type 0
+EndsEvents true_row told shows path old events (AllDone index answers) store = RunsTo true_row told shows path old events answers.items (record { index = index; store = store })
+EndsEvents true_row told shows path old events (Stopped index done) store = StopsAfter true_row told shows path old events done (record { index = index; store = store })
+EndsEvents true_row told shows path old events (Unopened done fault) store = ClosesAfter true_row told shows path old events done fault store
 
 -- a reopening met a keeper's or a store's fault
 abbrev pub MeetsFault : {W K : Type 0} → EventsEnd W K → Type 0

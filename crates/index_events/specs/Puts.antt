@@ -4,7 +4,7 @@ use Rattle.std.specs.Prelude.{◌≡◌, ℕ, List, ◌∷◌, ◌++◌, length,
 use Rattle.row_types.specs.Row.{RowFacts}
 use Rattle.row_codec.specs.RowBytes.{row_bytes}
 use Rattle.index_keeper.specs.Keeper.{ShownKeeper}
-use Rattle.index_keeper.specs.Tables.{KeptFacts, bytes_at}
+use Rattle.index_keeper.specs.Tables.{KeptFacts, bytes_under}
 use Rattle.index_state.specs.State.{StateFacts}
 use Rattle.index_state.specs.declared.answer.Judged.TheVariants.{Dropped, KeeperFault as JudgedFault}
 use Rattle.index_state.specs.declared.answer.Published.TheVariants.{Added, Replaced, KeeperFault as PublishedFault}
@@ -52,7 +52,7 @@ pub record IsLastPut {W : Type 0} (row : RowFacts) (events : List (Event W)) (an
 -- each row that an event put, and whose path no later one changed, stands in whatever a crash now leaves
 abbrev pub PutsLast : {W K : Type 0} → (K → ShownKeeper) → List (Event W) → List EventAnswer → StateFacts K → Type 0
 PutsLast shows events answers state = (row : RowFacts) → IsLastPut row events answers →
-    (image : List KeptFacts) → (shows state.keeper).images image → bytes_at row.name.path image ≡ Some (row_bytes row)
+    (image : List KeptFacts) → (shows state.keeper).images image → bytes_under row.name.path image ≡ Some (row_bytes row)
 
 -- the same of the end of the events, if all happened
 abbrev pub EndLasts : {W K : Type 0} → Bool → (K → ShownKeeper) → List (Event W) → EventsEnd W K → Type 0

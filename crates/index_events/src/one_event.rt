@@ -1,7 +1,7 @@
 //! One event of an index, other than its reopening.
 
 ghost use Rattle.std.specs.Prelude.{◌≢◌, IfOk, MatchResult};
-ghost use Rattle.index_events.specs.Events.{Answers, WantsFor};
+ghost use Rattle.index_events.specs.Events.{AnswersEvent, WantsFor};
 ghost use Rattle.index_events.specs.declared.events.Event.{Event};
 
 use crate::events::{Event, EventAnswer};
@@ -19,7 +19,7 @@ pub(crate) fn call_event<W: Truth, K: Keeper<W>>(
 ) -> Result<EventAnswer, AllocError>
     requires { event ≢ Event.Reopen }
     ensures { MatchResult result
-        (λ answer. Answers K.told K.shows state.old event answer state.new)
+        (λ answer. AnswersEvent K.told K.shows state.old event answer state.new)
         (λ _. WantsFor K.told K.shows state.old event state.new) }
 {
     match event {
@@ -43,7 +43,7 @@ fn begin<W: Truth, K: Keeper<W>>(
     roots: Vec<CanonPath>,
 ) -> Result<EventAnswer, AllocError>
     ensures { MatchResult result
-        (λ answer. Answers {W = W} K.told K.shows state.old (Event.Begin listing roots) answer
+        (λ answer. AnswersEvent {W = W} K.told K.shows state.old (Event.Begin listing roots) answer
         state.new)
         (λ _. WantsFor {W = W} K.told K.shows state.old (Event.Begin listing roots) state.new) }
 {
@@ -60,7 +60,7 @@ fn publish<W: Truth, K: Keeper<W>>(
     row: TrueRow<W>,
 ) -> Result<EventAnswer, AllocError>
     ensures { MatchResult result
-        (λ answer. Answers {W = W} K.told K.shows state.old (Event.Publish row) answer state.new)
+        (λ answer. AnswersEvent {W = W} K.told K.shows state.old (Event.Publish row) answer state.new)
         (λ _. WantsFor {W = W} K.told K.shows state.old (Event.Publish row) state.new) }
 {
     match state.publish(alloc, row) {
@@ -77,7 +77,7 @@ fn judge<W: Truth, K: Keeper<W>>(
     seen: Seen,
 ) -> Result<EventAnswer, AllocError>
     ensures { MatchResult result
-        (λ answer. Answers {W = W} K.told K.shows state.old (Event.Judge name.now seen) answer
+        (λ answer. AnswersEvent {W = W} K.told K.shows state.old (Event.Judge name.now seen) answer
         state.new)
         (λ _. WantsFor {W = W} K.told K.shows state.old (Event.Judge name.now seen) state.new) }
 {
@@ -90,7 +90,7 @@ fn judge<W: Truth, K: Keeper<W>>(
 /// The names that are out or missed get their copies, and are tried again.
 fn retry<W: Truth, K: Keeper<W>>(state: &mut State<W, K>) -> Result<EventAnswer, AllocError>
     ensures { MatchResult result
-        (λ answer. Answers {W = W} K.told K.shows state.old Event.Retry answer state.new)
+        (λ answer. AnswersEvent {W = W} K.told K.shows state.old Event.Retry answer state.new)
         (λ _. WantsFor {W = W} K.told K.shows state.old Event.Retry state.new) }
 {
     state.refill()?;
@@ -104,7 +104,7 @@ fn look<W: Truth, K: Keeper<W>>(
     id: &BuildId,
     kind: Kind,
 ) -> Result<EventAnswer, AllocError>
-    ensures { IfOk result (λ answer. Answers {W = W} K.told K.shows state.now
+    ensures { IfOk result (λ answer. AnswersEvent {W = W} K.told K.shows state.now
         (Event.Look id.now kind) answer state.now) }
 {
     let mut paths = Vec::new(alloc);

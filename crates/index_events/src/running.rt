@@ -2,8 +2,8 @@
 
 ghost use Rattle.std.specs.Prelude.{◌≢◌};
 ghost use Rattle.row_types.specs.Faults.{HasCause};
-ghost use Rattle.index_events.specs.EventParts.{Called, Comes};
-ghost use Rattle.index_events.specs.Events.{EndsBy, MeetsFault};
+ghost use Rattle.index_events.specs.EventParts.{Called, ComesOfEvent};
+ghost use Rattle.index_events.specs.Events.{EndsEvents, MeetsFault};
 ghost use Rattle.index_events.specs.Puts.{EndLasts};
 ghost use Rattle.index_events.specs.declared.events.Event.{Event};
 
@@ -35,7 +35,7 @@ pub fn run_events<W: Truth, S: Store<W>>(
     path: &str,
     events: Vec<Event<W>>,
 ) -> EventsEnd<W, S::K>
-    ensures ends { EndsBy W.true_row S.K.told S.K.shows path.now
+    ensures ends { EndsEvents W.true_row S.K.told S.K.shows path.now
         (record { index = state; store = S.shows store.old }) events.items result
         (S.shows store.new) }
     ensures cause { HasCause (S.shows store.old).faults (S.shows store.new).faults
@@ -71,7 +71,7 @@ fn run_event<W: Truth, S: Store<W>>(
     path: &str,
     event: Event<W>,
 ) -> Came<W, S::K>
-    ensures { Comes W.true_row S.K.told S.K.shows path.now
+    ensures { ComesOfEvent W.true_row S.K.told S.K.shows path.now
         (record { index = state; store = S.shows store.old }) event result (S.shows store.new) }
 {
     match event {

@@ -19,7 +19,7 @@ use Rattle.std.proofs.lemmas.Map.Text.{is_eq-slice_cmp}
 use Rattle.std.proofs.lemmas.Slice.Eq.{bytes_eq-Decides}
 use Rattle.row_types.specs.Ascends.{IsBefore}
 use Rattle.index_keeper.specs.Places.{StandApart}
-use Rattle.index_keeper.specs.Tables.{KeptFacts, EditFacts, AscendsByPath, stands_before, stands_after, row_after, edited, bytes_at, undo_of}
+use Rattle.index_keeper.specs.Tables.{KeptFacts, EditFacts, AscendsByPath, stands_before, stands_after, row_after, edited, bytes_under, undo_of}
 
 -- the rows are those before the path, those of the path, and those after it
 pub record IsCut (path : List ℕ) (rows front own back : List KeptFacts) : Type 0 where
@@ -123,11 +123,11 @@ found_cut {path} {rows} {front} {own} {back} cut =
     (λ k d w. sym (is_eq-slice_cmp (slice_index_or back k d).path path) ∙ ap is_eq (flipped path (slice_index_or back k d).path (cut.apart.after k d w)))
 
 -- nothing is kept under a path without a row
-pub no_bytes : {path : List ℕ} {rows front back : List KeptFacts} → IsCut path rows front [] back → bytes_at path rows ≡ None
+pub no_bytes : {path : List ℕ} {rows front back : List KeptFacts} → IsCut path rows front [] back → bytes_under path rows ≡ None
 no_bytes cut = ap (option_map (λ row. row.bytes)) (found_cut cut)
 
 -- the bytes of a path's row are kept under it
-pub row_bytes_at : {path : List ℕ} {rows front back : List KeptFacts} {row : KeptFacts} → IsCut path rows front (row ∷ []) back → bytes_at path rows ≡ Some row.bytes
+pub row_bytes_at : {path : List ℕ} {rows front back : List KeptFacts} {row : KeptFacts} → IsCut path rows front (row ∷ []) back → bytes_under path rows ≡ Some row.bytes
 row_bytes_at {path} {rows} {front} {back} {row} cut =
     let same : bytes_eq row.path path ≡ true = (bytes_eq-Decides row.path path).1 (cut.here 0 row (omega arith)) in
     let found : find (λ row. bytes_eq row.path path) (row ∷ []) ≡ Some row = rw same refl in
@@ -232,7 +232,7 @@ pub undone : (rows : List KeptFacts) (edit : EditFacts) → AscendsByPath rows �
 undone rows edit h =
     let found : HasCut edit.path rows = cut_of edit.path rows h in
     let own : EditFacts = record { path = edit.path; bytes = found.own } in
-    let taken : bytes_at edit.path rows ≡ found.own =
+    let taken : bytes_under edit.path rows ≡ found.own =
     ap (option_map (λ row. row.bytes)) (found_cut found.cut) ∙ own_after edit.path found.own in
     let changed : IsCut edit.path (edited rows edit) found.front (row_after edit) found.back = record {
       whole = edited_cut edit found.cut;
@@ -259,7 +259,7 @@ finds_around p a b c h =
     ∙ ap (λ o. option_or o (find p c)) (or_none (find p a))
 
 -- the bytes under a path stay where another path changes
-pub other_bytes : (path : List ℕ) (rows : List KeptFacts) (edit : EditFacts) → AscendsByPath rows → (edit.path ≡ path → ⊥) → bytes_at path (edited rows edit) ≡ bytes_at path rows
+pub other_bytes : (path : List ℕ) (rows : List KeptFacts) (edit : EditFacts) → AscendsByPath rows → (edit.path ≡ path → ⊥) → bytes_under path (edited rows edit) ≡ bytes_under path rows
 other_bytes path rows edit ascends apart =
     let found : HasCut edit.path rows = cut_of edit.path rows ascends in
     let p : KeptFacts → Bool = λ row. bytes_eq row.path path in

@@ -5,7 +5,7 @@ use Rattle.row_types.specs.Row.{RowFacts}
 use Rattle.row_codec.proofs.OneSpelling.{one_row}
 use Rattle.index_keeper.specs.Plan.{is_made_next}
 use Rattle.index_keeper.specs.Shelf.{ShelfFacts, after_tearing}
-use Rattle.index_keeper.specs.Tables.{KeptFacts, EditFacts, edited, put_of}
+use Rattle.index_keeper.specs.Tables.{KeptFacts, EditFacts, edited, put_bytes}
 use Rattle.index_keeper.specs.TrueRows.{IsTrueKept, IsTrueValue, SpellsTrueRow}
 use Rattle.index_keeper.proofs.CutLemmas.{edited_all}
 
@@ -16,7 +16,7 @@ true_value true_row path bytes spells = record {
 }
 
 -- the same, of the change that keeps them
-pub true_put : (true_row : RowFacts → Type 0) (path bytes : List ℕ) (edit : EditFacts) → SpellsTrueRow true_row path bytes → edit ≡ put_of path bytes → IfSome edit.bytes (IsTrueValue true_row)
+pub true_put : (true_row : RowFacts → Type 0) (path bytes : List ℕ) (edit : EditFacts) → SpellsTrueRow true_row path bytes → edit ≡ put_bytes path bytes → IfSome edit.bytes (IsTrueValue true_row)
 true_put true_row path bytes edit spells e =
     subst (λ (change : EditFacts). IfSome change.bytes (IsTrueValue true_row)) (sym e) (true_value true_row path bytes spells)
 

@@ -18,8 +18,8 @@ use Rattle.std.proofs.lemmas.Option.{get_or_from_slice_get, slice_get_within}
 use Rattle.std.proofs.lemmas.Map.Text.{is_eq-slice_cmp}
 use Rattle.row_types.specs.Ascends.{IsBefore}
 use Rattle.row_types.proofs.AscendsLemmas.{first_related, rest_related}
-use Rattle.index_keeper.specs.Tables.{KeptFacts, EditFacts, AscendsByPath, bytes_at, edited, put_of, removal_of}
-use Rattle.index_keeper.specs.Tree.{kept_in, kept_of}
+use Rattle.index_keeper.specs.Tables.{KeptFacts, EditFacts, AscendsByPath, bytes_under, edited, put_bytes, removal_of}
+use Rattle.index_keeper.specs.Tree.{kept_in, kept_entry}
 use Rattle.index_keeper.proofs.CutLemmas.{IsCut, edited_ascends, edited_cut, flipped_back}
 
 -- what a tree has under a path
@@ -35,12 +35,12 @@ abbrev Before : KeptFacts → KeptFacts → Type 0
 Before x y = IsBefore x.path y.path
 
 -- the bytes under a path are those of its entry
-pub bytes_found : (path : List ℕ) (entries : List Entry) → option_map (λ bytes. bytes.items) (lookup (is_its path) entries) ≡ bytes_at path (kept_in entries)
+pub bytes_found : (path : List ℕ) (entries : List Entry) → option_map (λ bytes. bytes.items) (lookup (is_its path) entries) ≡ bytes_under path (kept_in entries)
 bytes_found path [] = refl
 bytes_found path (e ∷ entries) =
     let same : is_its path e.0 ≡ bytes_eq (string_bytes e.0) path = is_eq-slice_cmp path (string_bytes e.0) ∙ nat_list_eq_equiv.symm path (string_bytes e.0) in
     ap (λ (b : Bool). option_map (λ bytes. bytes.items) (cond b (Some e.1) (lookup (is_its path) entries))) same
-    ∙ (elim (bytes_eq (string_bytes e.0) path) as (λ b. option_map (λ bytes. bytes.items) (cond b (Some e.1) (lookup (is_its path) entries)) ≡ option_map (λ row. row.bytes) (cond b (Some (kept_of e)) (find (λ row. bytes_eq row.path path) (kept_in entries))))
+    ∙ (elim (bytes_eq (string_bytes e.0) path) as (λ b. option_map (λ bytes. bytes.items) (cond b (Some e.1) (lookup (is_its path) entries)) ≡ option_map (λ row. row.bytes) (cond b (Some (kept_entry e)) (find (λ row. bytes_eq row.path path) (kept_in entries))))
     [ true ↦ refl | false ↦ bytes_found path entries ])
 
 -- rows cut at a path, and the rows once these are its own
@@ -100,7 +100,7 @@ edit_behind {path} {row} {rows} {its} {new} before rest = record {
 }
 
 -- an entry is put
-inserts : (key : String Global) (value : Vec ℕ Global) (entries : List Entry) → AscendsByPath (kept_in entries) → IsEdit (string_bytes key) (kept_in entries) (kept_of (key, value) ∷ []) (kept_in (insert_entry string_cmp entries key value))
+inserts : (key : String Global) (value : Vec ℕ Global) (entries : List Entry) → AscendsByPath (kept_in entries) → IsEdit (string_bytes key) (kept_in entries) (kept_entry (key, value) ∷ []) (kept_in (insert_entry string_cmp entries key value))
 inserts key value [] h = record {
   front = [];
   own = [];
@@ -113,11 +113,11 @@ inserts key value [] h = record {
   after = refl;
 }
 inserts key value (e ∷ entries) h =
-    let all : All (Before (kept_of e)) (kept_in entries) = first_related Before (kept_of e) (kept_in entries) h in
-    (elim (string_cmp key e.0) as (λ o. string_cmp key e.0 ≡ o → IsEdit (string_bytes key) (kept_of e ∷ kept_in entries) (kept_of (key, value) ∷ []) (kept_in (match_ordering o ((key, value) ∷ e ∷ entries) ((e.0, value) ∷ entries) (e ∷ insert_entry string_cmp entries key value)))) [
+    let all : All (Before (kept_entry e)) (kept_in entries) = first_related Before (kept_entry e) (kept_in entries) h in
+    (elim (string_cmp key e.0) as (λ o. string_cmp key e.0 ≡ o → IsEdit (string_bytes key) (kept_entry e ∷ kept_in entries) (kept_entry (key, value) ∷ []) (kept_in (match_ordering o ((key, value) ∷ e ∷ entries) ((e.0, value) ∷ entries) (e ∷ insert_entry string_cmp entries key value)))) [
       | Less ↦ λ less. edit_before less all refl
       | Equal ↦ λ equal. edit_here (sym (exact_bytes (string_bytes key) (string_bytes e.0) equal)) all (ap with_path (sym (exact_bytes (string_bytes key) (string_bytes e.0) equal)))
-      | Greater ↦ λ greater. edit_behind (flipped_back (string_bytes key) (string_bytes e.0) greater) (inserts key value entries (rest_related Before (kept_of e) (kept_in entries) h))
+      | Greater ↦ λ greater. edit_behind (flipped_back (string_bytes key) (string_bytes e.0) greater) (inserts key value entries (rest_related Before (kept_entry e) (kept_in entries) h))
     ]) refl
   where
     with_path : List ℕ → List KeptFacts
@@ -127,8 +127,8 @@ inserts key value (e ∷ entries) h =
 removes_none : (path : List ℕ) (entries : List Entry) → All (λ row. IsBefore path row.path) (kept_in entries) → remove_entry (is_its path) entries ≡ entries
 removes_none path [] h = refl
 removes_none path (e ∷ entries) h =
-    let less : slice_cmp nat_cmp path (string_bytes e.0) ≡ Less = All-head (λ (r : KeptFacts). IsBefore path r.path) (kept_of e) (kept_in entries) h in
-    rw less (ap (λ l. e ∷ l) (removes_none path entries (All-tail (λ (r : KeptFacts). IsBefore path r.path) (kept_of e) (kept_in entries) h)))
+    let less : slice_cmp nat_cmp path (string_bytes e.0) ≡ Less = All-head (λ (r : KeptFacts). IsBefore path r.path) (kept_entry e) (kept_in entries) h in
+    rw less (ap (λ l. e ∷ l) (removes_none path entries (All-tail (λ (r : KeptFacts). IsBefore path r.path) (kept_entry e) (kept_in entries) h)))
 
 -- an entry is removed
 removes : (path : List ℕ) (entries : List Entry) → AscendsByPath (kept_in entries) → IsEdit path (kept_in entries) [] (kept_in (remove_entry (is_its path) entries))
@@ -144,23 +144,23 @@ removes path [] h = record {
   after = refl;
 }
 removes path (e ∷ entries) h =
-    let all : All (Before (kept_of e)) (kept_in entries) = first_related Before (kept_of e) (kept_in entries) h in
-    (elim (slice_cmp nat_cmp path (string_bytes e.0)) as (λ o. slice_cmp nat_cmp path (string_bytes e.0) ≡ o → IsEdit path (kept_of e ∷ kept_in entries) [] (kept_in (cond (is_eq o) entries (e ∷ remove_entry (is_its path) entries)))) [
+    let all : All (Before (kept_entry e)) (kept_in entries) = first_related Before (kept_entry e) (kept_in entries) h in
+    (elim (slice_cmp nat_cmp path (string_bytes e.0)) as (λ o. slice_cmp nat_cmp path (string_bytes e.0) ≡ o → IsEdit path (kept_entry e ∷ kept_in entries) [] (kept_in (cond (is_eq o) entries (e ∷ remove_entry (is_its path) entries)))) [
       | Less ↦ λ less. edit_before less all
-          (ap (λ (l : List Entry). kept_of e ∷ kept_in l) (removes_none path entries (All-weaker (Before (kept_of e)) (λ r. IsBefore path r.path) (λ r. nat_list_cmp_total.trans path (string_bytes e.0) r.path less) (kept_in entries) all)))
+          (ap (λ (l : List Entry). kept_entry e ∷ kept_in l) (removes_none path entries (All-weaker (Before (kept_entry e)) (λ r. IsBefore path r.path) (λ r. nat_list_cmp_total.trans path (string_bytes e.0) r.path less) (kept_in entries) all)))
       | Equal ↦ λ equal. edit_here (sym (exact_bytes path (string_bytes e.0) equal)) all refl
-      | Greater ↦ λ greater. edit_behind (flipped_back path (string_bytes e.0) greater) (removes path entries (rest_related Before (kept_of e) (kept_in entries) h))
+      | Greater ↦ λ greater. edit_behind (flipped_back path (string_bytes e.0) greater) (removes path entries (rest_related Before (kept_entry e) (kept_in entries) h))
     ]) refl
 
 -- the rows after a put
-pub put_edits : {path bytes : List ℕ} (key : String Global) (value : Vec ℕ Global) (entries new : List Entry) → AscendsByPath (kept_in entries) → string_bytes key ≡ path → value.items ≡ bytes → new ≡ insert_entry string_cmp entries key value → kept_in new ≡ edited (kept_in entries) (put_of path bytes)
+pub put_edits : {path bytes : List ℕ} (key : String Global) (value : Vec ℕ Global) (entries new : List Entry) → AscendsByPath (kept_in entries) → string_bytes key ≡ path → value.items ≡ bytes → new ≡ insert_entry string_cmp entries key value → kept_in new ≡ edited (kept_in entries) (put_bytes path bytes)
 put_edits {path} {bytes} key value entries new h at of is =
-    let edit : IsEdit (string_bytes key) (kept_in entries) (kept_of (key, value) ∷ []) (kept_in (insert_entry string_cmp entries key value)) = inserts key value entries h in
+    let edit : IsEdit (string_bytes key) (kept_in entries) (kept_entry (key, value) ∷ []) (kept_in (insert_entry string_cmp entries key value)) = inserts key value entries h in
     ap kept_in is
     ∙ edit.after
-    ∙ sym (edited_cut (put_of (string_bytes key) value.items) edit.cut)
-    ∙ ap (λ (p : List ℕ). edited (kept_in entries) (put_of p value.items)) at
-    ∙ ap (λ (b : List ℕ). edited (kept_in entries) (put_of path b)) of
+    ∙ sym (edited_cut (put_bytes (string_bytes key) value.items) edit.cut)
+    ∙ ap (λ (p : List ℕ). edited (kept_in entries) (put_bytes p value.items)) at
+    ∙ ap (λ (b : List ℕ). edited (kept_in entries) (put_bytes path b)) of
 
 -- the rows after a removal
 pub removal_edits : (path : List ℕ) (entries new : List Entry) → AscendsByPath (kept_in entries) → new ≡ remove_entry (is_its path) entries → kept_in new ≡ edited (kept_in entries) (removal_of path)
@@ -182,8 +182,8 @@ cut_first {path} {rows} after = record {
 }
 
 -- a row before the others is put before them
-put_first : (front : List KeptFacts) (row : KeptFacts) (back : List KeptFacts) → AscendsByPath ((front ++ row ∷ []) ++ back) → edited back (put_of row.path row.bytes) ≡ row ∷ back
-put_first [] row back h = edited_cut (put_of row.path row.bytes) (cut_first (first_related Before row back h))
+put_first : (front : List KeptFacts) (row : KeptFacts) (back : List KeptFacts) → AscendsByPath ((front ++ row ∷ []) ++ back) → edited back (put_bytes row.path row.bytes) ≡ row ∷ back
+put_first [] row back h = edited_cut (put_bytes row.path row.bytes) (cut_first (first_related Before row back h))
 put_first (other ∷ front) row back h = put_first front row back (rest_related Before other ((front ++ row ∷ []) ++ back) h)
 
 -- the last of a list, found and taken
@@ -196,12 +196,12 @@ last_taken rest {rows} {popped} {row} {n} same whole value found =
     ∙ ap (λ (o : Option KeptFacts). rest ++ option_to_list o) (popped_is ∙ ap (λ (m : ℕ). Some (get_or rows (m - 1) row)) same ∙ ap Some row_is)
 
 -- the last of the list goes before all of the tree
-pub moved : (rest kept : List KeptFacts) {rows new slice : List KeptFacts} {popped : Option KeptFacts} {n : ℕ} {path bytes : List ℕ} (row : KeptFacts) → AscendsByPath (rows ++ kept) → n ≡ length rows → rows ≡ rest ++ option_to_list popped → ((d : KeptFacts) → 0 < n → popped ≡ Some (get_or rows (n - 1) d)) → slice ≡ rows → Some row ≡ slice_get slice (length slice - 1) → new ≡ edited kept (put_of path bytes) → path ≡ row.path → bytes ≡ row.bytes → rest ++ new ≡ rows ++ kept
+pub moved : (rest kept : List KeptFacts) {rows new slice : List KeptFacts} {popped : Option KeptFacts} {n : ℕ} {path bytes : List ℕ} (row : KeptFacts) → AscendsByPath (rows ++ kept) → n ≡ length rows → rows ≡ rest ++ option_to_list popped → ((d : KeptFacts) → 0 < n → popped ≡ Some (get_or rows (n - 1) d)) → slice ≡ rows → Some row ≡ slice_get slice (length slice - 1) → new ≡ edited kept (put_bytes path bytes) → path ≡ row.path → bytes ≡ row.bytes → rest ++ new ≡ rows ++ kept
 moved rest kept {rows} {new} {slice} {popped} {n} {path} {bytes} row h same whole value slice_is found new_is path_is bytes_is =
     let last : rows ≡ rest ++ row ∷ [] = last_taken rest same whole value (subst (λ (s : List KeptFacts). Some row ≡ slice_get s (length s - 1)) slice_is found) in
     let at : AscendsByPath ((rest ++ row ∷ []) ++ kept) = subst (λ (g : List KeptFacts). AscendsByPath (g ++ kept)) last h in
     ap (λ (l : List KeptFacts). rest ++ l)
-    (new_is ∙ ap (λ (p : List ℕ). edited kept (put_of p bytes)) path_is ∙ ap (λ (b : List ℕ). edited kept (put_of row.path b)) bytes_is ∙ put_first rest row kept at)
+    (new_is ∙ ap (λ (p : List ℕ). edited kept (put_bytes p bytes)) path_is ∙ ap (λ (b : List ℕ). edited kept (put_bytes row.path b)) bytes_is ∙ put_first rest row kept at)
     ∙ around rest
     ∙ ap (λ (g : List KeptFacts). g ++ kept) (sym last)
   where

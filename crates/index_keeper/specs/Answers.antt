@@ -12,18 +12,18 @@ pub data Asked : Type 0 where
   for_change : (edit : EditFacts) (answer : KeepAnswer) → Asked
 
 -- whether the keeper failed
-abbrev pub has_failed : Asked → Bool
-has_failed (for_rows RowsFailed) = true
-has_failed (for_change edit Failed) = true
-has_failed _ = false
+abbrev pub keeper_failed : Asked → Bool
+keeper_failed (for_rows RowsFailed) = true
+keeper_failed (for_change edit Failed) = true
+keeper_failed _ = false
 
 -- whether the keeper wanted memory
-abbrev pub wants_memory : Asked → Bool
-wants_memory (for_rows RowsNoMemory) = true
-wants_memory (for_change edit OutOfMemory) = true
-wants_memory _ = false
+abbrev pub keeper_wants_memory : Asked → Bool
+keeper_wants_memory (for_rows RowsNoMemory) = true
+keeper_wants_memory (for_change edit OutOfMemory) = true
+keeper_wants_memory _ = false
 
 -- the rows that were given, if they were
-abbrev pub rows_in : KeptAnswer → Option (List KeptFacts)
-rows_in (AllRows rows) = Some rows.items
-rows_in _ = None
+abbrev pub rows_given : KeptAnswer → Option (List KeptFacts)
+rows_given (AllRows rows) = Some rows.items
+rows_given _ = None

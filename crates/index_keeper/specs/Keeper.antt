@@ -3,7 +3,7 @@
 use Rattle.std.specs.Prelude.{◌≡◌, ◌⊎◌, ◌↔◌, ℕ, Bool, false, List, [], ◌∷◌, ◌++◌, Option, option_map, All, IsTrue}
 use Rattle.row_types.specs.Faults.{HasCause}
 use Rattle.row_types.specs.Row.{RowFacts}
-use Rattle.index_keeper.specs.Answers.{Asked, for_rows, for_change, has_failed}
+use Rattle.index_keeper.specs.Answers.{Asked, for_rows, for_change, keeper_failed}
 use Rattle.index_keeper.specs.Tables.{AscendsByPath, KeptFacts, EditFacts, edited}
 use Rattle.index_keeper.specs.TrueRows.{IsTrueKept}
 use Rattle.index_keeper.specs.declared.answer.KeepAnswer.TheVariants.{Done, Failed}
@@ -19,14 +19,14 @@ pub record ShownKeeper : Type 1 where
   pub epoch : ℕ
 
 -- a crash now leaves the tables as they are
-pub record IsSettled (shown : ShownKeeper) : Type 0 where
+pub record AreTablesSettled (shown : ShownKeeper) : Type 0 where
   pub left : shown.images shown.tables
   pub only : (image : List KeptFacts) → shown.images image → image ≡ shown.tables
 
 -- the tables have the change, and a crash now leaves them as they are
 pub record IsMade (edit : EditFacts) (before after : ShownKeeper) : Type 0 where
   pub changed : after.tables ≡ edited before.tables edit
-  pub settled : IsSettled after
+  pub settled : AreTablesSettled after
 
 -- the tables are those before the change or those after it, and so is what a crash now may leave
 pub record IsTorn (edit : EditFacts) (before after : ShownKeeper) : Type 0 where
@@ -35,21 +35,21 @@ pub record IsTorn (edit : EditFacts) (before after : ShownKeeper) : Type 0 where
   pub each : (image : List KeptFacts) → after.images image → (image ≡ before.tables) ⊎ (image ≡ edited before.tables edit)
 
 -- the tables are as they were, and so is what a crash may leave
-pub record IsUntouched (before after : ShownKeeper) : Type 0 where
+pub record AreTablesUntouched (before after : ShownKeeper) : Type 0 where
   pub same : after.tables ≡ before.tables
   pub left : (image : List KeptFacts) → after.images image ↔ before.images image
 
 -- the rows are the tables, which are as they were
 pub record AreTables (rows : List KeptFacts) (before after : ShownKeeper) : Type 0 where
   pub whole : rows ≡ after.tables
-  pub stays : IsUntouched before after
+  pub stays : AreTablesUntouched before after
 
 -- what the answer says of the tables, where they are told
 abbrev pub TellsTables : ShownKeeper → ShownKeeper → Asked → Type 0
 TellsTables before after (for_rows (AllRows rows)) = AreTables rows.items before after
 TellsTables before after (for_change edit Done) = IsMade edit before after
 TellsTables before after (for_change edit Failed) = IsTorn edit before after
-TellsTables before after _ = IsUntouched before after
+TellsTables before after _ = AreTablesUntouched before after
 
 -- the changes that were answered Done, after one more answer
 abbrev pub made_after : Option (List EditFacts) → Asked → Option (List EditFacts)
@@ -57,21 +57,21 @@ made_after made (for_change edit Done) = option_map (λ edits. edits ++ edit ∷
 made_after made _ = made
 
 -- a keeper was asked, and answered: its count rises where it failed, and nowhere else
-pub record Asks (told : Bool) (before after : ShownKeeper) (asked : Asked) : Type 0 where
+pub record AsksKeeper (told : Bool) (before after : ShownKeeper) (asked : Asked) : Type 0 where
   pub tells : IsTrue told → TellsTables before after asked
   pub grows : after.made ≡ made_after before.made asked
-  pub cause : HasCause before.faults after.faults (IsTrue (has_failed asked))
-  pub faultless : has_failed asked ≡ false → after.faults ≡ before.faults
+  pub cause : HasCause before.faults after.faults (IsTrue (keeper_failed asked))
+  pub faultless : keeper_failed asked ≡ false → after.faults ≡ before.faults
   pub number : after.epoch ≡ before.epoch
 
 -- nothing came of it, whether the keeper was asked or not
 pub record IsLeftAlone (told : Bool) (before after : ShownKeeper) : Type 0 where
-  pub tells : IsTrue told → IsUntouched before after
+  pub tells : IsTrue told → AreTablesUntouched before after
   pub stays : after.made ≡ before.made
   pub faultless : after.faults ≡ before.faults
   pub number : after.epoch ≡ before.epoch
 
 -- rows that a keeper may give, told or not: strictly by path, and those that spell a row of the edition a true one
-pub record AreKept (true_row : RowFacts → Type 0) (rows : List KeptFacts) : Type 0 where
+pub record AreRowsKept (true_row : RowFacts → Type 0) (rows : List KeptFacts) : Type 0 where
   pub ascend : AscendsByPath rows
   pub holds : All (IsTrueKept true_row) rows

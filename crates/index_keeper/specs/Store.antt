@@ -1,7 +1,7 @@
 -- Stores (this project's rule): what a store holds while no keeper is out, and what its openings do to it.
 use Rattle.std.specs.Prelude.{◌≡◌, ℕ, ◌≤◌, Bool, List, [], ◌∷◌, ◌++◌, Option, option_map, IsTrue}
 use Rattle.row_types.specs.Faults.{Rose, summed}
-use Rattle.index_keeper.specs.Keeper.{IsSettled, ShownKeeper}
+use Rattle.index_keeper.specs.Keeper.{AreTablesSettled, ShownKeeper}
 use Rattle.index_keeper.specs.Tables.{KeptFacts, EditFacts}
 use Rattle.index_keeper.specs.declared.answer.StoreAnswer.{StoreAnswer}
 use Rattle.index_keeper.specs.declared.answer.StoreAnswer.TheVariants.{Opened, Failed, OutOfMemory}
@@ -17,13 +17,13 @@ pub record ShownStore : Type 0 where
   pub paths : Option (List (List ℕ))
 
 -- the paths by which a store was opened, with one more
-abbrev pub with_path : List ℕ → Option (List (List ℕ)) → Option (List (List ℕ))
-with_path path paths = option_map (λ earlier. earlier ++ path ∷ []) paths
+abbrev pub with_opened_path : List ℕ → Option (List (List ℕ)) → Option (List (List ℕ))
+with_opened_path path paths = option_map (λ earlier. earlier ++ path ∷ []) paths
 
 -- the keeper has what the store held, and has not failed
 pub record HasAll (told : Bool) (before : ShownStore) (keeper : ShownKeeper) : Type 0 where
   pub tables : IsTrue told → keeper.tables ≡ before.tables
-  pub settled : IsTrue told → IsSettled keeper
+  pub settled : IsTrue told → AreTablesSettled keeper
   pub made : keeper.made ≡ before.made
   pub faultless : keeper.faults ≡ 0
 
@@ -34,25 +34,25 @@ pub record IsOpened (told : Bool) (path : List ℕ) (before after : ShownStore) 
   pub rises : Rose before.epoch after.epoch
   pub later : before.epoch ≤ after.epoch
   pub faults : after.faults ≡ before.faults
-  pub paths : after.paths ≡ with_path path before.paths
+  pub paths : after.paths ≡ with_opened_path path before.paths
 
 -- the store failed to be opened by the path: its count rose, and it holds what it held
-pub record IsClosed (told : Bool) (path : List ℕ) (before after : ShownStore) : Type 0 where
+pub record FailsToOpen (told : Bool) (path : List ℕ) (before after : ShownStore) : Type 0 where
   pub tables : IsTrue told → after.tables ≡ before.tables
   pub made : after.made ≡ before.made
   pub later : before.epoch ≤ after.epoch
   pub faults : before.faults ≤ after.faults
   pub cause : Rose before.faults after.faults
-  pub paths : after.paths ≡ with_path path before.paths
+  pub paths : after.paths ≡ with_opened_path path before.paths
 
 -- what came of opening a store by the path
 abbrev pub OpensStore : {K : Type 0} → Bool → (K → ShownKeeper) → List ℕ → ShownStore → ShownStore → StoreAnswer K → Type 0
 OpensStore told shows path before after (Opened keeper) = IsOpened told path before after (shows keeper)
-OpensStore told shows path before after Failed = IsClosed told path before after
+OpensStore told shows path before after Failed = FailsToOpen told path before after
 OpensStore told shows path before after OutOfMemory = after ≡ before
 
 -- the keeper was given back: the store holds what a crash of it now may leave, and has counted its faults
-pub record TakesBack (told : Bool) (keeper : ShownKeeper) (before after : ShownStore) : Type 0 where
+pub record TakesKeeperBack (told : Bool) (keeper : ShownKeeper) (before after : ShownStore) : Type 0 where
   pub image : IsTrue told → keeper.images after.tables
   pub made : after.made ≡ keeper.made
   pub counted : after.faults ≡ summed before.faults keeper.faults

@@ -1,7 +1,7 @@
 //! A change of the tables.
 
 ghost use Rattle.std.specs.Prelude.{◌≡◌, IfOk};
-ghost use Rattle.index_keeper.specs.Tables.{put_of, removal_of};
+ghost use Rattle.index_keeper.specs.Tables.{put_bytes, removal_of};
 
 use std::alloc::{AllocError, Global};
 use std::marker::Model;
@@ -33,7 +33,7 @@ impl Model for Edit {
 impl Edit {
     /// The change that keeps copies of the bytes under a copy of the path.
     pub fn put(alloc: Global, path: &str, bytes: &[u8]) -> Result<Edit, AllocError>
-        ensures { IfOk result (λ edit. edit ≡ put_of path.now bytes.now) }
+        ensures { IfOk result (λ edit. edit ≡ put_bytes path.now bytes.now) }
     {
         Ok(Edit {
             path: String::from_str(alloc, path)?,

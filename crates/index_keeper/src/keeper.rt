@@ -1,9 +1,9 @@
 //! The trait that stands for an open store.
 
 ghost use Rattle.std.specs.Prelude.{◌≡◌, Bool, IfSome};
-ghost use Rattle.index_keeper.specs.Answers.{for_change, for_rows, rows_in};
-ghost use Rattle.index_keeper.specs.Keeper.{AreKept, Asks, ShownKeeper};
-ghost use Rattle.index_keeper.specs.Tables.{put_of, removal_of};
+ghost use Rattle.index_keeper.specs.Answers.{for_change, for_rows, rows_given};
+ghost use Rattle.index_keeper.specs.Keeper.{AreRowsKept, AsksKeeper, ShownKeeper};
+ghost use Rattle.index_keeper.specs.Tables.{put_bytes, removal_of};
 ghost use Rattle.index_keeper.specs.TrueRows.{SpellsTrueRow};
 
 use crate::answer::{KeepAnswer, KeptAnswer};
@@ -22,18 +22,18 @@ pub trait Keeper<W: Truth>: Send + Drop {
 
     /// All rows of the tables, by path.
     fn rows(&mut self, alloc: Global) -> KeptAnswer
-        ensures asks { Asks told (shows self.old) (shows self.new) (for_rows result) }
-        ensures rows { IfSome (rows_in result) (AreKept W.true_row) };
+        ensures asks { AsksKeeper told (shows self.old) (shows self.new) (for_rows result) }
+        ensures rows { IfSome (rows_given result) (AreRowsKept W.true_row) };
 
     /// Keeps the bytes under the path, in place of those that were kept there.
     fn put(&mut self, alloc: Global, path: &str, bytes: &[u8]) -> KeepAnswer
         requires { SpellsTrueRow W.true_row path.now bytes.now }
-        ensures { Asks told (shows self.old) (shows self.new)
-            (for_change (put_of path.now bytes.now) result) };
+        ensures { AsksKeeper told (shows self.old) (shows self.new)
+            (for_change (put_bytes path.now bytes.now) result) };
 
     /// Keeps nothing under the path. It is done too where nothing was kept there.
     fn remove(&mut self, alloc: Global, path: &str) -> KeepAnswer
-        ensures { Asks told (shows self.old) (shows self.new)
+        ensures { AsksKeeper told (shows self.old) (shows self.new)
             (for_change (removal_of path.now) result) };
 
     /// The number of the opening, which is greater than that of each earlier opening of the store.

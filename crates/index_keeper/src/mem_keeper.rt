@@ -1,10 +1,10 @@
 //! A keeper in memory.
 
 ghost use Rattle.std.specs.Prelude.{◌≡◌, ◌≤◌, true, false, All, IfSome};
-ghost use Rattle.index_keeper.specs.Answers.{for_change, for_rows, rows_in};
-ghost use Rattle.index_keeper.specs.Keeper.{AreKept, Asks};
-ghost use Rattle.index_keeper.specs.MemKeeper.{Does, GoesByPlan, opened, shown_of};
-ghost use Rattle.index_keeper.specs.Tables.{put_of, removal_of};
+ghost use Rattle.index_keeper.specs.Answers.{for_change, for_rows, rows_given};
+ghost use Rattle.index_keeper.specs.Keeper.{AreRowsKept, AsksKeeper};
+ghost use Rattle.index_keeper.specs.MemKeeper.{Does, GoesByPlan, opened_keeper, shown_of};
+ghost use Rattle.index_keeper.specs.Tables.{put_bytes, removal_of};
 ghost use Rattle.index_keeper.specs.TrueRows.{IsTrueKept, IsTrueValue, SpellsTrueRow};
 
 use crate::answer::{KeepAnswer, KeptAnswer};
@@ -28,10 +28,10 @@ pub struct MemKeeper<W: Truth> {
 
 impl<W: Truth> Model for MemKeeper<W> {
     ghost use Rattle.std.specs.Prelude.{All};
-    ghost use Rattle.index_keeper.specs.MemKeeper.{KeeperFacts};
+    ghost use Rattle.index_keeper.specs.MemKeeper.{MemKeeperFacts};
     ghost use Rattle.index_keeper.specs.TrueRows.{IsTrueKept};
 
-    ghost Value = { KeeperFacts };
+    ghost Value = { MemKeeperFacts };
 
     ghost view = { λ k. record {
       shelf = k.shelf;
@@ -48,7 +48,7 @@ impl<W: Truth> MemKeeper<W> {
     /// The keeper of what a store kept, by the number of the opening.
     pub(crate) fn open(shelf: Shelf, epoch: u64) -> MemKeeper<W>
         requires { All (IsTrueKept W.true_row) shelf.tables }
-        ensures { result ≡ opened shelf epoch }
+        ensures { result ≡ opened_keeper shelf epoch }
     {
         MemKeeper {
             shelf,
@@ -135,8 +135,8 @@ impl<W: Truth + Send> Keeper<W> for MemKeeper<W> {
     ghost shows = { shown_of };
 
     fn rows(&mut self, alloc: Global) -> KeptAnswer
-        ensures asks { Asks true (shown_of self.old) (shown_of self.new) (for_rows result) }
-        ensures rows { IfSome (rows_in result) (AreKept W.true_row) }
+        ensures asks { AsksKeeper true (shown_of self.old) (shown_of self.new) (for_rows result) }
+        ensures rows { IfSome (rows_given result) (AreRowsKept W.true_row) }
         ensures plan { GoesByPlan self.old self.new (for_rows result) }
     {
         if self.shelf.plan.call_fails() {
@@ -155,10 +155,10 @@ impl<W: Truth + Send> Keeper<W> for MemKeeper<W> {
 
     fn put(&mut self, alloc: Global, path: &str, bytes: &[u8]) -> KeepAnswer
         requires { SpellsTrueRow W.true_row path.now bytes.now }
-        ensures asks { Asks true (shown_of self.old) (shown_of self.new)
-            (for_change (put_of path.now bytes.now) result) }
+        ensures asks { AsksKeeper true (shown_of self.old) (shown_of self.new)
+            (for_change (put_bytes path.now bytes.now) result) }
         ensures plan { GoesByPlan self.old self.new
-            (for_change (put_of path.now bytes.now) result) }
+            (for_change (put_bytes path.now bytes.now) result) }
     {
         match Edit::put(alloc, path, bytes) {
             Ok(edit) => self.change(alloc, edit),
@@ -167,7 +167,7 @@ impl<W: Truth + Send> Keeper<W> for MemKeeper<W> {
     }
 
     fn remove(&mut self, alloc: Global, path: &str) -> KeepAnswer
-        ensures asks { Asks true (shown_of self.old) (shown_of self.new)
+        ensures asks { AsksKeeper true (shown_of self.old) (shown_of self.new)
             (for_change (removal_of path.now) result) }
         ensures plan { GoesByPlan self.old self.new (for_change (removal_of path.now) result) }
     {

@@ -2,8 +2,8 @@
 
 ghost use Rattle.std.specs.Prelude.{◌≡◌, true, All, OnErr, OnOk};
 ghost use Rattle.index_keeper.specs.MemKeeper.{shown_of};
-ghost use Rattle.index_keeper.specs.MemStore.{OpensByPlan, after_giving, fresh, noted, store_shown};
-ghost use Rattle.index_keeper.specs.Store.{OpensStore, TakesBack};
+ghost use Rattle.index_keeper.specs.MemStore.{OpensByPlan, store_after_giving, fresh_store, store_opened_by, store_shown};
+ghost use Rattle.index_keeper.specs.Store.{OpensStore, TakesKeeperBack};
 ghost use Rattle.index_keeper.specs.Tables.{AscendsByPath};
 ghost use Rattle.index_keeper.specs.TrueRows.{IsTrueKept};
 
@@ -61,7 +61,7 @@ impl<W: Truth> MemStore<W> {
     ) -> MemStore<W>
         requires ascend { AscendsByPath kept.items }
         requires holds { All (IsTrueKept W.true_row) kept.items }
-        ensures { result ≡ fresh kept.items stop_at bad_calls.items }
+        ensures { result ≡ fresh_store kept.items stop_at bad_calls.items }
     {
         MemStore {
             shelf: Shelf::of(alloc, Tables::of(alloc, kept), stop_at, bad_calls),
@@ -74,7 +74,7 @@ impl<W: Truth> MemStore<W> {
 
     /// Notes a path by which the store is opened, or leaves all as it is.
     fn note_path(&mut self, alloc: Global, path: &str) -> Result<(), AllocError>
-        ensures ok { OnOk result (self.new ≡ noted path.now self.old) }
+        ensures ok { OnOk result (self.new ≡ store_opened_by path.now self.old) }
         ensures err { OnErr result (self.new ≡ self.old) }
     {
         let text = String::from_str(alloc, path)?;
@@ -110,9 +110,9 @@ impl<W: Truth + Send> Store<W> for MemStore<W> {
     }
 
     fn give_back(&mut self, keeper: MemKeeper<W>)
-        ensures takes { TakesBack true (shown_of keeper) (store_shown self.old)
+        ensures takes { TakesKeeperBack true (shown_of keeper) (store_shown self.old)
             (store_shown self.new) }
-        ensures after { self.new ≡ after_giving self.old keeper }
+        ensures after { self.new ≡ store_after_giving self.old keeper }
     {
         self.faults.add(keeper.faults());
         self.shelf = keeper.into_shelf();

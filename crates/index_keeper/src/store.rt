@@ -1,6 +1,6 @@
 //! The trait that stands for a store.
 
-ghost use Rattle.index_keeper.specs.Store.{OpensStore, ShownStore, TakesBack};
+ghost use Rattle.index_keeper.specs.Store.{OpensStore, ShownStore, TakesKeeperBack};
 
 use crate::answer::StoreAnswer;
 use crate::keeper::Keeper;
@@ -26,5 +26,5 @@ pub trait Store<W: Truth>: Drop {
 
     /// Ends a keeper: the store holds what a crash of the keeper now may leave. No memory is taken.
     fn give_back(&mut self, keeper: Self::K)
-        ensures { TakesBack Self.K.told (Self.K.shows keeper) (shows self.old) (shows self.new) };
+        ensures { TakesKeeperBack Self.K.told (Self.K.shows keeper) (shows self.old) (shows self.new) };
 }

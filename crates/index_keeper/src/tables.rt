@@ -1,7 +1,7 @@
 //! The tables of a store in memory.
 
 ghost use Rattle.std.specs.Prelude.{◌≡◌, ◌++◌, [], IfOk, OnOk, OnErr, option_map};
-ghost use Rattle.index_keeper.specs.Tables.{AscendsByPath, bytes_at, edited, put_of, removal_of};
+ghost use Rattle.index_keeper.specs.Tables.{AscendsByPath, bytes_under, edited, put_bytes, removal_of};
 ghost use Rattle.index_keeper.specs.Tables.{undo_of};
 ghost use Rattle.index_keeper.specs.Tree.{kept_in};
 
@@ -137,7 +137,7 @@ fn copy_at(
     tree: &BTreeMap<String, Vec<u8>>,
     path: &str,
 ) -> Result<Option<Vec<u8>>, AllocError>
-    ensures { IfOk result (λ copy. option_map (λ bytes. bytes.items) copy ≡ bytes_at path.now
+    ensures { IfOk result (λ copy. option_map (λ bytes. bytes.items) copy ≡ bytes_under path.now
         (kept_in tree.now.entries)) }
 {
     match tree.get(path) {
@@ -155,7 +155,7 @@ fn put_row(
 ) -> Result<(), AllocError>
     requires { AscendsByPath (kept_in tree.old.entries) }
     ensures ok { OnOk result (kept_in tree.new.entries
-        ≡ edited (kept_in tree.old.entries) (put_of path.now bytes.now)) }
+        ≡ edited (kept_in tree.old.entries) (put_bytes path.now bytes.now)) }
     ensures err { OnErr result (kept_in tree.new.entries ≡ kept_in tree.old.entries) }
 {
     let path = String::from_str(alloc, path)?;

@@ -11,7 +11,7 @@ use Rattle.atomic_table.proofs.Lists.{at_set, set_else, set_again, at_longer, at
 use Rattle.index_lock.specs.declared.view.Known.{Known}
 use Rattle.index_lock.specs.declared.view.View.{View}
 use Rattle.index_lock.specs.declared.view.View.TheVariants.{Spent, Rests, Joined, Holds, Ends}
-use Rattle.index_lock.specs.Rule.{Continues, known_of, HasSeen, taken_at, slot_under, IsFree, IsHeld, KeepsLock, joined_known, joined_view, acquired, released, settled, ended}
+use Rattle.index_lock.specs.Rule.{Continues, known_of, HasSeenAll, taken_at, slot_under, IsLockFree, IsLockHeld, KeepsLock, joined_known, joined_view, acquired, released, settled, ended}
 use Rattle.index_lock.proofs.Prefixes.{prefix_self, prefix_trans, longer_begins}
 
 module _ {E O : Type 0} where
@@ -23,8 +23,8 @@ module _ {E O : Type 0} where
       record { log = prefix_trans a.log b.log c.log p.log q.log; origin = q.origin ∙ p.origin }
 
   -- what was seen of a beginning was seen of the whole
-  seen_on : (all more : Known E O) → Continues all more → (view : View E O) → HasSeen all view
-      → HasSeen more view
+  seen_on : (all more : Known E O) → Continues all more → (view : View E O) → HasSeenAll all view
+      → HasSeenAll more view
   seen_on all more on Spent h = tt
   seen_on all more on (Rests known) h = goes_on_trans known all more h on
   seen_on all more on (Joined known mine theirs) h = (goes_on_trans known all more h.0 on, h.1, h.2)
@@ -33,7 +33,7 @@ module _ {E O : Type 0} where
 
   -- both of two tokens had seen beginnings of what a join keeps
   joined_seen : (all mine theirs : Known E O) → Continues mine all → Continues theirs all
-      → HasSeen all (joined_view (Rests mine) (Rests theirs))
+      → HasSeenAll all (joined_view (Rests mine) (Rests theirs))
   joined_seen all mine theirs p q =
       let both = longer_begins mine.log theirs.log all.log p.log q.log in (
         record { log = both.0; origin = p.origin },
@@ -43,20 +43,20 @@ module _ {E O : Type 0} where
 
   -- each of the views fits to all that there is
   abbrev AllSeen : Known E O → List (View E O) → Type 0
-  AllSeen all views = (j : ℕ) (view : View E O) → get_elem? views j ≡ some view → HasSeen all view
+  AllSeen all views = (j : ℕ) (view : View E O) → get_elem? views j ≡ some view → HasSeenAll all view
 
   all_seen_set : (all : Known E O) (views : List (View E O)) (id : ℕ) (new : View E O)
-      → AllSeen all views → HasSeen all new → AllSeen all (set views id new)
+      → AllSeen all views → HasSeenAll all new → AllSeen all (set views id new)
   all_seen_set all views id new seen here j view at =
-      ⊎_elim (λ (t : (j ≡ id) × (new ≡ view)). subst (HasSeen all) t.1 here)
+      ⊎_elim (λ (t : (j ≡ id) × (new ≡ view)). subst (HasSeenAll all) t.1 here)
       (λ (t : (j ≢ id) × (get_elem? views j ≡ some view)). seen j view t.1)
       (at_set views id j new view at)
 
   all_seen_snoc : (all : Known E O) (views : List (View E O)) (new : View E O) → AllSeen all views
-      → HasSeen all new → AllSeen all (views ++ new ∷ [])
+      → HasSeenAll all new → AllSeen all (views ++ new ∷ [])
   all_seen_snoc all views new seen here j view at =
       ⊎_elim
-      (seen j view) (λ (e : new ≡ view). subst (HasSeen all) e here) (at_snoc views new view j at)
+      (seen j view) (λ (e : new ≡ view). subst (HasSeenAll all) e here) (at_snoc views new view j at)
 
   -- one view takes the lock: no other has it
   none_else : (views : List (View E O)) (id : ℕ) (new : View E O)
@@ -105,7 +105,7 @@ module _ {S E O : Type 0} (log : S → List E) (origin : S → O) where
   -- a view that hasn't the lock becomes another that hasn't it
   quiet : (s : St) (id : ℕ) (old new : View E O) → Rule s → get_elem? s.views id ≡ some old
       → taken_at old ≡ none → taken_at new ≡ none
-      → ((all : Known E O) → AllSeen all s.views → HasSeen all new)
+      → ((all : Known E O) → AllSeen all s.views → HasSeenAll all new)
       → Rule record { words = s.words; homes = s.homes; views = set s.views id new }
   quiet s id old new (inl free) at off off' sees = inl record {
     value = free.value;
@@ -145,7 +145,7 @@ module _ {S E O : Type 0} (log : S → List E) (origin : S → O) where
 
   -- a new view that hasn't the lock
   comes : (s : St) (new : View E O) → Rule s → taken_at new ≡ none
-      → ((all : Known E O) → AllSeen all s.views → HasSeen all new)
+      → ((all : Known E O) → AllSeen all s.views → HasSeenAll all new)
       → Rule record { words = s.words; homes = s.homes; views = s.views ++ new ∷ [] }
   comes s new (inl free) off sees = inl record {
     value = free.value;
@@ -232,9 +232,9 @@ module _ {S E O : Type 0} (log : S → List E) (origin : S → O) where
       sym (set_else s.views id other both apart) ∙ at' in
       let off : taken_at both ≡ none = ap taken_at (λ k. joined_view (is k) (is' k)) in
       let first = quiet s id v both rule at (ap taken_at is) off (λ all seen.
-      subst (HasSeen all) (λ k. joined_view (sym is k) (sym is' k))
-      (joined_seen all mine theirs (subst (HasSeen all) is (seen id v at))
-      (subst (HasSeen all) is' (seen other w there)))) in
+      subst (HasSeenAll all) (λ k. joined_view (sym is k) (sym is' k))
+      (joined_seen all mine theirs (subst (HasSeenAll all) is (seen id v at))
+      (subst (HasSeenAll all) is' (seen other w there)))) in
       quiet record { words = s.words; homes = s.homes; views = set s.views id both }
       other w Spent first at' (ap taken_at is') refl (λ all seen. tt)
 
@@ -254,11 +254,11 @@ module _ {S E O : Type 0} (log : S → List E) (origin : S → O) where
         tt,
         same_word s s.homes (set s.views id (Rests known))
             (quiet s id me.0 (Rests known) rule at (ap taken_at is) refl
-            (λ all seen. (subst (HasSeen all) is (seen id me.0 at)).0)),
+            (λ all seen. (subst (HasSeenAll all) is (seen id me.0 at)).0)),
         λ known' mine' theirs' e.
             let same : known ≡ known' = joined_kept (sym is ∙ e) in
-            let had : HasSeen there.0 (Joined known' mine' theirs') =
-            subst (HasSeen there.0) e (there.1 id me.0 at) in
+            let had : HasSeenAll there.0 (Joined known' mine' theirs') =
+            subst (HasSeenAll there.0) e (there.1 id me.0 at) in
             (ap (λ (k : Known E O). (Rests k, me.1)) same, had.1, had.2),
       )
 
@@ -284,7 +284,7 @@ module _ {S E O : Type 0} (log : S → List E) (origin : S → O) where
       )
 
   -- a free lock is taken, with its value
-  takes_it : (s : St) (free : IsFree log origin s) (slots id word new : ℕ) (known : Known E O)
+  takes_it : (s : St) (free : IsLockFree log origin s) (slots id word new : ℕ) (known : Known E O)
       → get_elem? s.views id ≡ some (Rests known) → new ≡ word + 1 → get_or s.words 0 0 ≡ word
       → (w : View E O) × (a : Act (Option S)) × Valid s.homes [] a
       × Rule (stepped s 0 new id [] w a)
@@ -312,7 +312,7 @@ module _ {S E O : Type 0} (log : S → List E) (origin : S → O) where
           λ _. (
             free.value,
             refl,
-            λ known' e. subst (HasSeen all) e (free.seen id (Rests known) at),
+            λ known' e. subst (HasSeenAll all) e (free.seen id (Rests known) at),
           ),
           λ other. absurd (other here),
         ),
@@ -329,8 +329,8 @@ module _ {S E O : Type 0} (log : S → List E) (origin : S → O) where
       × acquired log origin
       (step slots 0 word new none) (Rests known, []) (get_or s.words 0 0) (w, carried_after [] a))
       (λ here. ⊎_elim
-      (λ (free : IsFree log origin s). takes_it s free slots id word new known at next here)
-      (λ (held : IsHeld s). absurd (odd s.words held.all.log word here held.word even)) rule)
+      (λ (free : IsLockFree log origin s). takes_it s free slots id word new known at next here)
+      (λ (held : IsLockHeld s). absurd (odd s.words held.all.log word here held.word even)) rule)
       (λ other. (
         Rests known,
         keeps,
@@ -350,7 +350,7 @@ module _ {S E O : Type 0} (log : S → List E) (origin : S → O) where
       (acquires_resting slots id word new known even next)
 
   -- who holds is the holder, and took the lock at what is known
-  holder_is : (s : St) (held : IsHeld s) (id : ℕ) (known : Known E O)
+  holder_is : (s : St) (held : IsLockHeld s) (id : ℕ) (known : Known E O)
       → get_elem? s.views id ≡ some (Holds known) → (id ≡ held.holder) × (held.all ≡ known)
   holder_is s held id known at =
       let mine : id ≡ held.holder = held.alone id (Holds known) at (λ e. some-ne-none known e) in
@@ -360,15 +360,15 @@ module _ {S E O : Type 0} (log : S → List E) (origin : S → O) where
       (mine, some-injective held.all known (sym held.took ∙ ap taken_at same))
 
   -- no other has the lock
-  others_off : (s : St) (held : IsHeld s) (id : ℕ) → id ≡ held.holder → (j : ℕ) (view : View E O)
+  others_off : (s : St) (held : IsLockHeld s) (id : ℕ) → id ≡ held.holder → (j : ℕ) (view : View E O)
       → j ≢ id → get_elem? s.views j ≡ some view → taken_at view ≡ none
   others_off s held id mine j view apart at =
       none_or (taken_at view) (λ has. apart (held.alone j view at has ∙ sym mine))
 
-  releases_held : (s : St) (held : IsHeld s) (id new : ℕ) (known : Known E O) (value : S)
+  releases_held : (s : St) (held : IsLockHeld s) (id new : ℕ) (known : Known E O) (value : S)
       → get_elem? s.views id ≡ some (Holds known) → Continues known (known_of log origin value)
       → new ≡ 2 * length (log value)
-      → IsFree log origin
+      → IsLockFree log origin
       (stepped s 0 new id ((0, Some value) ∷ []) (Rests (known_of log origin value)) gives)
   releases_held s held id new known value at on number =
       let all : Known E O = known_of log origin value in
@@ -399,9 +399,9 @@ module _ {S E O : Type 0} (log : S → List E) (origin : S → O) where
     gives,
     tt,
     inl (⊎_elim
-        (λ (free : IsFree log origin s).
+        (λ (free : IsLockFree log origin s).
         absurd (some-ne-none known (free.nobody id (Holds known) at)))
-        (λ (held : IsHeld s). releases_held s held id new known value at on number) rule),
+        (λ (held : IsLockHeld s). releases_held s held id new known value at on number) rule),
     λ value' e. let in_slot : Some value ≡ Some value' = ap slot_of e in let same : value
         ≡ value' = cc in ap (λ (v : S). (Rests (known_of log origin v), [])) same,
   )
@@ -418,9 +418,9 @@ module _ {S E O : Type 0} (log : S → List E) (origin : S → O) where
       (λ _. released log origin (step slots 0 new 0 none) m new)) (sym is)
       (releases_holding slots id new known value on number)
 
-  ends_held : (s : St) (held : IsHeld s) (id : ℕ) (known : Known E O)
+  ends_held : (s : St) (held : IsLockHeld s) (id : ℕ) (known : Known E O)
       → get_elem? s.views id ≡ some (Holds known)
-      → IsHeld {S = S} record {
+      → IsLockHeld {S = S} record {
         words = s.words;
         homes = set s.homes 0
             (some None);
@@ -452,9 +452,9 @@ module _ {S E O : Type 0} (log : S → List E) (origin : S → O) where
     gives,
     tt,
     ⊎_elim
-        (λ (free : IsFree log origin s).
+        (λ (free : IsLockFree log origin s).
         absurd (some-ne-none known (free.nobody id (Holds known) at)))
-        (λ (held : IsHeld s). same_word s (set s.homes 0 (some None)) (set s.views id (Ends known))
+        (λ (held : IsLockHeld s). same_word s (set s.homes 0 (some None)) (set s.views id (Ends known))
         (inr (ends_held s held id known at))) rule,
     λ known' e. let same : known ≡ known' = cc in ap (λ (k : Known E O). (Ends k, [])) same,
   )

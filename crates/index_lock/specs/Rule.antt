@@ -7,7 +7,7 @@ use mathlib.Core.Option as maybe
 use lib.ListN.{get_elem?}
 use Rattle.atomic_table.specs.Table.{State, Me, Step}
 use Rattle.atomic_table.specs.declared.shared.Seat.{Seat}
-use Rattle.index_lock.specs.Tokens.{SeatFacts, HeldFacts, longer}
+use Rattle.index_lock.specs.Tokens.{SeatFacts, HeldLockFacts, longer}
 use Rattle.index_lock.specs.declared.view.Known.{Known}
 use Rattle.index_lock.specs.declared.view.View.{View}
 use Rattle.index_lock.specs.declared.view.View.TheVariants.{Spent, Rests, Joined, Holds, Ends}
@@ -23,13 +23,13 @@ known_of log origin value = record { log = log value; origin = origin value }
 
 module _ {E O : Type 0} where
   -- all that there is goes on from what a view knows; a spent view knows nothing
-  abbrev pub HasSeen : Known E O → View E O → Type 0
-  HasSeen all Spent = Unit {0}
-  HasSeen all (Rests known) = Continues known all
-  HasSeen all (Joined known mine theirs) =
+  abbrev pub HasSeenAll : Known E O → View E O → Type 0
+  HasSeenAll all Spent = Unit {0}
+  HasSeenAll all (Rests known) = Continues known all
+  HasSeenAll all (Joined known mine theirs) =
       Continues known all × Continues mine known × Continues theirs known
-  HasSeen all (Holds known) = Continues known all
-  HasSeen all (Ends known) = Continues known all
+  HasSeenAll all (Holds known) = Continues known all
+  HasSeenAll all (Ends known) = Continues known all
 
   -- what a view took the lock at, if it has it
   abbrev pub taken_at : View E O → maybe.Option (Known E O)
@@ -51,7 +51,7 @@ module _ {E O : Type 0} where
   slot_under S _ = none
 
 -- the lock is free
-pub record IsFree {S E O : Type 0} (log : S → List E) (origin : S → O)
+pub record IsLockFree {S E O : Type 0} (log : S → List E) (origin : S → O)
     (state : State (Option S) (View E O)) : Type 0 where
   pub value : S
   -- it is twice the number of changes
@@ -63,10 +63,10 @@ pub record IsFree {S E O : Type 0} (log : S → List E) (origin : S → O)
       → taken_at view ≡ none
   -- each has seen a beginning of the value's log
   pub seen : (id : ℕ) (view : View E O) → get_elem? state.views id ≡ some view
-      → HasSeen (known_of log origin value) view
+      → HasSeenAll (known_of log origin value) view
 
 -- the lock is held: the value isn't at home, and no token but the holder has the lock
-pub record IsHeld {S E O : Type 0} (state : State (Option S) (View E O)) : Type 0 where
+pub record IsLockHeld {S E O : Type 0} (state : State (Option S) (View E O)) : Type 0 where
   pub holder : ℕ
   pub holding : View E O
   pub all : Known E O
@@ -79,12 +79,12 @@ pub record IsHeld {S E O : Type 0} (state : State (Option S) (View E O)) : Type 
   pub alone : (id : ℕ) (view : View E O) → get_elem? state.views id ≡ some view
       → taken_at view ≢ none → id ≡ holder
   -- each has seen a beginning of that log
-  pub seen : (id : ℕ) (view : View E O) → get_elem? state.views id ≡ some view → HasSeen all view
+  pub seen : (id : ℕ) (view : View E O) → get_elem? state.views id ≡ some view → HasSeenAll all view
 
 -- at every moment the lock is free or held
 abbrev pub KeepsLock : {S E O : Type 0} → (S → List E) → (S → O) → State (Option S) (View E O)
     → Type 0
-KeepsLock log origin state = IsFree log origin state ⊎ IsHeld state
+KeepsLock log origin state = IsLockFree log origin state ⊎ IsLockHeld state
 
 module _ {E O : Type 0} where
   -- what a join keeps: the longer log
@@ -137,7 +137,7 @@ abbrev pub known_to : {E O : Type 0} → SeatFacts E O → Known E O
 known_to seat = record { log = seat.seen; origin = seat.origin }
 
 -- what the lock was taken at
-abbrev pub known_under : {S E O : Type 0} → HeldFacts S E O → Known E O
+abbrev pub known_under : {S E O : Type 0} → HeldLockFacts S E O → Known E O
 known_under held = record { log = held.seen; origin = held.origin }
 
 -- the token of a seat: it is of that lock, knows what the seat has seen, and has no slot
@@ -147,7 +147,7 @@ pub record IsTokenOf {S E O : Type 0} (seat : SeatFacts E O) (token : Token S E 
 
 -- the token has the lock, with this in its slot, and took it where the value had this log and this
 -- origin
-pub record IsTokenUnder {S E O : Type 0} (held : HeldFacts S E O) (slot : Option S)
+pub record IsTokenUnder {S E O : Type 0} (held : HeldLockFacts S E O) (slot : Option S)
     (token : Token S E O) : Type 0 where
   pub lock : token.table_id ≡ held.lock
   pub me : token.me ≡ (Holds (known_under held), (0, slot) ∷ [])

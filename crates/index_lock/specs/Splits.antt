@@ -6,6 +6,6 @@ use Rattle.index_lock.specs.declared.seat.Split.TheVariants.{Two, OutOfMemory}
 
 -- two tokens come of one, and each knows what the one knew; it takes no memory, so the other answer
 -- never comes
-abbrev pub Splits : {S E O : Type 0} → SeatFacts E O → Split S E O → Type 0
-Splits seat (Two first second) = (first ≡ seat) × (second ≡ seat)
-Splits seat (OutOfMemory back) = ⊥
+abbrev pub SplitsToken : {S E O : Type 0} → SeatFacts E O → Split S E O → Type 0
+SplitsToken seat (Two first second) = (first ≡ seat) × (second ≡ seat)
+SplitsToken seat (OutOfMemory back) = ⊥

@@ -10,7 +10,7 @@ pub record SeatFacts (E O : Type 0) : Type 0 where
   pub origin : O
 
 -- which lock is held, the value, and the log and the origin that the value had at enter
-pub record HeldFacts (S E O : Type 0) : Type 0 where
+pub record HeldLockFacts (S E O : Type 0) : Type 0 where
   pub lock : TableId
   pub value : S
   pub seen : List E

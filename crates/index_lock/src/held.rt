@@ -12,9 +12,9 @@ pub struct Held<S: Logged> {
 
 impl<S: Logged> Model for Held<S> {
     ghost use Rattle.std.specs.Prelude.{◌≡◌, [], ◌∷◌, None};
-    ghost use Rattle.index_lock.specs.Tokens.{HeldFacts};
+    ghost use Rattle.index_lock.specs.Tokens.{HeldLockFacts};
 
-    ghost Value = { HeldFacts S S.Entry S.Origin };
+    ghost Value = { HeldLockFacts S S.Entry S.Origin };
 
     ghost use Rattle.index_lock.specs.Rule.{known_by};
     ghost use Rattle.index_lock.specs.declared.view.View.TheVariants.{Holds};

@@ -4,7 +4,7 @@ ghost use mathlib.Core.List.{IsPrefix};
 ghost use Rattle.index_lock.specs.declared.view.Known.{Known};
 ghost use Rattle.index_lock.specs.declared.view.View.TheVariants.{Rests};
 ghost use Rattle.index_lock.specs.Rule.{TakesLock};
-ghost use Rattle.index_lock.specs.Splits.{Splits};
+ghost use Rattle.index_lock.specs.Splits.{SplitsToken};
 ghost use Rattle.index_lock.specs.Tokens.{longer};
 
 use crate::held::Held;
@@ -142,7 +142,7 @@ impl<S: Logged> TurnLock<S> {
     /// Makes a second token, for another thread, that has seen as much.
     pub fn split(&self, seat: Seat<S>) -> Split<S>
         requires { seat.lock ≡ self.now }
-        ensures { Splits seat result }
+        ensures { SplitsToken seat result }
     {
         let mut token = seat.into_token();
         let other = self.table.shared.split_seat::<Copies>(&mut token);

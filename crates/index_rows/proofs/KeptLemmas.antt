@@ -8,9 +8,9 @@ use Rattle.std.proofs.lemmas.Slice.Eq.{bytes_eq-Decides}
 use Rattle.row_types.specs.Name.{NameFacts}
 use Rattle.row_types.specs.Row.{RowFacts}
 use Rattle.row_types.specs.Ascends.{AscendsBy}
-use Rattle.index_rows.specs.Kept.{RoomFor, IsKept}
+use Rattle.index_rows.specs.Kept.{RoomFor, IsIndexKept}
 use Rattle.index_rows.specs.Log.{put_of, drop_of, replay}
-use Rattle.index_rows.specs.Rows.{RowsFacts, row_path, row_names, row_at, IsReady, IsDropOf, IsIndex, with_row, without_row, after_put, after_drop, after_void, CanBeVoid, void_of}
+use Rattle.index_rows.specs.Rows.{RowsFacts, row_path, row_names, row_at, IsLogReady, IsDropOf, IsIndex, with_row, without_row, after_put, after_drop, after_void, CanBeVoid, void_of}
 use Rattle.index_rows.specs.declared.change.Change.{Change}
 use Rattle.index_rows.specs.declared.prepared.Prepared.{Prepared}
 use Rattle.index_rows.specs.declared.prepared.Prepared.TheVariants.{Nothing, Put, Drop}
@@ -27,7 +27,7 @@ facts_from rows log prepared = record { rows = rows; log = log; prepared = prepa
 -- an index's rows after a put
 pub index_after_put : (is_true : RowFacts → Type 0) (old : RowsFacts) (row : RowFacts) → IsIndex is_true old → old.prepared ≡ Put row → is_true row → IsIndex is_true (after_put row old)
 index_after_put is_true old row h e one =
-    let room : length old.log < LOG_LIMIT = subst (λ (p : Prepared). IsReady p old.rows old.log) e h.ready in
+    let room : length old.log < LOG_LIMIT = subst (λ (p : Prepared). IsLogReady p old.rows old.log) e h.ready in
     record {
       ascends = put_ascends row_path row old.rows h.ascends;
       holds = put_holds is_true row_path row old.rows h.holds one;
@@ -39,7 +39,7 @@ index_after_put is_true old row h e one =
 -- an index's rows after a drop
 pub index_after_drop : (is_true : RowFacts → Type 0) (old : RowsFacts) (name : NameFacts) → IsIndex is_true old → old.prepared ≡ Drop name → IsIndex is_true (after_drop name old)
 index_after_drop is_true old name h e =
-    let ready : IsReady (Drop name) old.rows old.log = subst (λ (p : Prepared). IsReady p old.rows old.log) e h.ready in
+    let ready : IsLogReady (Drop name) old.rows old.log = subst (λ (p : Prepared). IsLogReady p old.rows old.log) e h.ready in
     let room : length old.log < LOG_LIMIT = ready.0 in
     record {
       ascends = without_ascends row_path name.path old.rows h.ascends;
@@ -50,13 +50,13 @@ index_after_drop is_true old name h e =
     }
 
 -- the void change stands for the prepared one
-void_replays : (p : Prepared) (rows : List RowFacts) (log : List Change) → AscendsBy row_path rows → row_names rows ≡ replay log → IsReady p rows log → CanBeVoid p rows → replay (log ++ void_of p) ≡ replay log
+void_replays : (p : Prepared) (rows : List RowFacts) (log : List Change) → AscendsBy row_path rows → row_names rows ≡ replay log → IsLogReady p rows log → CanBeVoid p rows → replay (log ++ void_of p) ≡ replay log
 void_replays Nothing rows log ascends same ready can = absurd can
 void_replays (Put row) rows log ascends same ready can = void_drop rows log row.name ascends can same
 void_replays (Drop name) rows log ascends same ready can = void_put rows log name ascends ready.1 same
 
 -- the log has room for it
-void_bounded : (p : Prepared) (rows : List RowFacts) (log : List Change) → IsReady p rows log → CanBeVoid p rows → length (log ++ void_of p) ≤ LOG_LIMIT
+void_bounded : (p : Prepared) (rows : List RowFacts) (log : List Change) → IsLogReady p rows log → CanBeVoid p rows → length (log ++ void_of p) ≤ LOG_LIMIT
 void_bounded Nothing rows log ready can = absurd can
 void_bounded (Put row) rows log ready can = omega (arith, length_push log (drop_of row.name), ready)
 void_bounded (Drop name) rows log ready can = let room : length log < LOG_LIMIT = ready.0 in omega (arith, length_push log (put_of name), room)
@@ -103,7 +103,7 @@ index_same is_true now rows log prepared p q r h =
     subst (IsIndex is_true) (sym same) h
 
 -- with nothing prepared no room is asked
-pub at_rest : (is_true : RowFacts → Type 0) (facts : RowsFacts) (RowsRoom : RowFacts → Type 0) (LogRoom : Type 0) → facts.prepared ≡ Nothing → IsIndex is_true facts → IsKept is_true facts RowsRoom LogRoom
+pub at_rest : (is_true : RowFacts → Type 0) (facts : RowsFacts) (RowsRoom : RowFacts → Type 0) (LogRoom : Type 0) → facts.prepared ≡ Nothing → IsIndex is_true facts → IsIndexKept is_true facts RowsRoom LogRoom
 at_rest is_true facts RowsRoom LogRoom none h = record {
   index = h;
   room = subst (λ (p : Prepared). RoomFor p RowsRoom LogRoom) (sym none) tt;
@@ -124,7 +124,7 @@ put_index {is_true} {self} {inside} {row} {given} {copy} {name} {rows} {log} {pr
 pub put_fits : {is_true : RowFacts → Type 0} {self inside : RowsFacts} {row : RowFacts} → inside ≡ self → IsIndex is_true inside → self.prepared ≡ Put row → length inside.rows < LOG_LIMIT
 put_fits {is_true} {self} {inside} {row} same h asked =
     let e : inside.prepared ≡ Put row = ap (λ (f : RowsFacts). f.prepared) same ∙ asked in
-    let room : length inside.log < LOG_LIMIT = subst (λ (p : Prepared). IsReady p inside.rows inside.log) e h.ready in
+    let room : length inside.log < LOG_LIMIT = subst (λ (p : Prepared). IsLogReady p inside.rows inside.log) e h.ready in
     omega (arith, room, rows_few is_true inside h)
 
 -- a name to be dropped has the path

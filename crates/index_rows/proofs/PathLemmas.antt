@@ -17,7 +17,7 @@ use Rattle.std.proofs.lemmas.List.Sorted.{searchable_from_sorted}
 use Rattle.row_types.specs.Ascends.{IsBefore, is_before, AscendsBy}
 use Rattle.row_types.proofs.AscendsLemmas.{before_differs, before_from_test}
 use Rattle.index_rows.specs.ByPath.{put_at, find_at, without_at}
-use Rattle.index_rows.specs.Places.{StandsAt, BelongsAt, IsPlace}
+use Rattle.index_rows.specs.Places.{StandsAt, BelongsAt, IsPathPlace}
 use Rattle.index_rows.proofs.Lists.{filter_all, filter_none, filter_front, filter_back, filter_skips, filter_but, around, split_place, find_none, find_first, map_filter, all_pairs_append, IsFound, found_there}
 
 -- the order the other way round
@@ -86,7 +86,7 @@ pub searchable : {X : Type 0} (path : X → List ℕ) (xs : List X) → AscendsB
 searchable path xs ascends = λ k d low high. fails_after (path (get_or xs k d)) (path (get_or xs (k + 1) d)) (ascends k (k + 1) d (omega arith) high)
 
 -- a search by path gives the path's place
-pub place_found : {X : Type 0} (path : X → List ℕ) (key : List ℕ) (xs : List X) (r : Result ℕ ℕ) → AscendsBy path xs → IsSearchInRange r (length xs) → IsBinarySearchResult (λ x. slice_cmp nat_cmp (path x) key) xs r → IsPlace path key xs r
+pub place_found : {X : Type 0} (path : X → List ℕ) (key : List ℕ) (xs : List X) (r : Result ℕ ℕ) → AscendsBy path xs → IsSearchInRange r (length xs) → IsBinarySearchResult (λ x. slice_cmp nat_cmp (path x) key) xs r → IsPathPlace path key xs r
 place_found path key xs (Ok place) ascends range found =
     stands_here path key xs place ascends range (λ d. exact_bytes (path (get_or xs place d)) key (found d))
 place_found path key xs (Err place) ascends range found =

@@ -16,7 +16,7 @@ use Rattle.std.proofs.lemmas.Map.Text.{is_eq-slice_cmp}
 use Rattle.std.proofs.lemmas.Slice.Eq.{bytes_eq-Decides}
 use Rattle.row_types.specs.Ascends.{IsBefore}
 use Rattle.row_types.specs.Row.{RowFacts}
-use Rattle.index_rows.specs.Slots.{Slot, slot_at}
+use Rattle.index_rows.specs.Slots.{Slot, path_slot}
 use Rattle.index_rows.proofs.PathLemmas.{after_before, before_after}
 
 -- the path's slot with this in it, if it has one
@@ -150,7 +150,7 @@ insert_first path (s ∷ back) w h =
     rw less refl
 
 -- what is in the path's slot
-pub slot_cut : {path : List ℕ} {slots front back : List Slot} {own : Option (Option RowFacts)} → IsCut path slots front own back → slot_at path slots ≡ own
+pub slot_cut : {path : List ℕ} {slots front back : List Slot} {own : Option (Option RowFacts)} → IsCut path slots front own back → path_slot path slots ≡ own
 slot_cut {path} {slots} {front} {back} {own} cut =
     ap (lookup (is_at (slice_cmp nat_cmp path))) cut.whole
     ∙ lookup_skips (is_at (slice_cmp nat_cmp path)) front (own_slot path own ++ back) (not_below path front cut.below)
@@ -185,18 +185,18 @@ insert_cut {path} {slots} {front} {back} w cut =
 
 -- ---- slots in which the same is found
 
-none_at : (path : List ℕ) (slots : List Slot) → All (λ slot. IsBefore path slot.0) slots → slot_at path slots ≡ None
+none_at : (path : List ℕ) (slots : List Slot) → All (λ slot. IsBefore path slot.0) slots → path_slot path slots ≡ None
 none_at path slots h = lookup_none (is_at (slice_cmp nat_cmp path)) slots (not_above path slots h)
 
-own_at : (slot : Slot) (slots : List Slot) → slot_at slot.0 (slot ∷ slots) ≡ Some slot.1
-own_at slot slots = ap (λ b. cond b (Some slot.1) (slot_at slot.0 slots)) (is_own slot.0)
+own_at : (slot : Slot) (slots : List Slot) → path_slot slot.0 (slot ∷ slots) ≡ Some slot.1
+own_at slot slots = ap (λ b. cond b (Some slot.1) (path_slot slot.0 slots)) (is_own slot.0)
 
 -- what stands behind another path stands behind one before it
 further : (path other : List ℕ) (slots : List Slot) → IsBefore path other → All (λ slot. IsBefore other slot.0) slots → All (λ slot. IsBefore path slot.0) slots
 further path other slots before h = All-weaker (λ (s : Slot). IsBefore other s.0) (λ s. IsBefore path s.0) (λ s. nat_list_cmp_total.trans path other s.0 before) slots h
 
 -- slots in path order in which the same is found are the same
-pub same_slots : (xs ys : List Slot) → IsStrictlySortedBy (slice_cmp nat_cmp) (keys_of xs) → IsStrictlySortedBy (slice_cmp nat_cmp) (keys_of ys) → ((path : List ℕ) → slot_at path xs ≡ slot_at path ys) → xs ≡ ys
+pub same_slots : (xs ys : List Slot) → IsStrictlySortedBy (slice_cmp nat_cmp) (keys_of xs) → IsStrictlySortedBy (slice_cmp nat_cmp) (keys_of ys) → ((path : List ℕ) → path_slot path xs ≡ path_slot path ys) → xs ≡ ys
 same_slots [] [] s t h = refl
 same_slots [] (y ∷ ys) s t h = absurd (let k = h y.0 ∙ own_at y ys in cc)
 same_slots (x ∷ xs) [] s t h = absurd (let k = sym (h x.0) ∙ own_at x xs in cc)
@@ -205,7 +205,7 @@ same_slots (x ∷ xs) (y ∷ ys) s t h =
       | Less ↦ λ e. absurd (let k = sym (own_at x xs) ∙ h x.0 ∙ none_at x.0 (y ∷ ys) (All-cons (λ (z : Slot). IsBefore x.0 z.0) y ys e (further x.0 y.0 ys e past_y)) in cc)
       | Equal ↦ λ e.
           let same : x.0 ≡ y.0 = exact_bytes x.0 y.0 e in
-          let found : Some x.1 ≡ Some y.1 = sym (own_at x xs) ∙ h x.0 ∙ ap (λ (p : List ℕ). slot_at p (y ∷ ys)) same ∙ own_at y ys in
+          let found : Some x.1 ≡ Some y.1 = sym (own_at x xs) ∙ h x.0 ∙ ap (λ (p : List ℕ). path_slot p (y ∷ ys)) same ∙ own_at y ys in
           let value : x.1 ≡ y.1 = cc in
           let rest : xs ≡ ys =
           same_slots xs ys (sorted_tail (slice_cmp nat_cmp) x.0 (keys_of xs) s) (sorted_tail (slice_cmp nat_cmp) y.0 (keys_of ys) t) (λ path. later same path) in
@@ -224,15 +224,15 @@ same_slots (x ∷ xs) (y ∷ ys) s t h =
     past_y : All (λ slot. IsBefore y.0 slot.0) ys
     past_y = behind y.0 ys (sorted_head (slice_cmp nat_cmp) y.0 (keys_of ys) t)
 
-    later : x.0 ≡ y.0 → (path : List ℕ) → slot_at path xs ≡ slot_at path ys
+    later : x.0 ≡ y.0 → (path : List ℕ) → path_slot path xs ≡ path_slot path ys
     later same path =
-        (elim (is_at (slice_cmp nat_cmp path) x.0) as (λ b. is_at (slice_cmp nat_cmp path) x.0 ≡ b → slot_at path xs ≡ slot_at path ys) [
+        (elim (is_at (slice_cmp nat_cmp path) x.0) as (λ b. is_at (slice_cmp nat_cmp path) x.0 ≡ b → path_slot path xs ≡ path_slot path ys) [
           | true ↦ λ e.
               let its : path ≡ x.0 = its_path path x.0 e in
               none_at path xs (subst (λ (p : List ℕ). All (λ slot. IsBefore p slot.0) xs) (sym its) past_x)
               ∙ sym (none_at path ys (subst (λ (p : List ℕ). All (λ slot. IsBefore p slot.0) ys) (sym (its ∙ same)) past_y))
           | false ↦ λ e.
-              sym (ap (λ b. cond b (Some x.1) (slot_at path xs)) e)
+              sym (ap (λ b. cond b (Some x.1) (path_slot path xs)) e)
               ∙ h path
-              ∙ ap (λ b. cond b (Some y.1) (slot_at path ys)) (ap (is_at (slice_cmp nat_cmp path)) (sym same) ∙ e)
+              ∙ ap (λ b. cond b (Some y.1) (path_slot path ys)) (ap (is_at (slice_cmp nat_cmp path)) (sym same) ∙ e)
         ]) refl

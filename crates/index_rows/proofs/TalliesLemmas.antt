@@ -13,7 +13,7 @@ use Rattle.std.proofs.lemmas.Map.Text.{is_eq-slice_cmp}
 use Rattle.std.proofs.lemmas.Slice.Eq.{bytes_eq-Decides}
 use Rattle.row_types.specs.Ascends.{Ascends, IsBefore}
 use Rattle.index_rows.specs.Tally.{HasPlace, KeepsPlaces, count_at, one}
-use Rattle.index_rows.specs.Tallies.{CountsSame, HasKey, Ids, KeepsKeys, count_of, entries_of, one_of, times, times_of}
+use Rattle.index_rows.specs.Tallies.{CountsSame, HasKey, Ids, KeepsKeys, tally_of, tallies_of, one_of, times, times_of}
 use Rattle.index_rows.specs.declared.tally.Tallied.{Tallied}
 use Rattle.index_rows.proofs.Lists.{first_related, rest_related}
 use Rattle.index_rows.proofs.PathLemmas.{differs_after}
@@ -24,83 +24,83 @@ Changes id given old new =
     (other : List ℕ) → lookup (is_at (slice_cmp nat_cmp other)) new ≡ cond (is_at (slice_cmp nat_cmp id) other) given (lookup (is_at (slice_cmp nat_cmp other)) old)
 
 -- the list that was found is the id's
-pub entries_are : (id : List ℕ) (tallies : Ids) (entries : List Tallied) → Some entries ≡ lookup (is_at (slice_cmp nat_cmp id)) tallies → entries ≡ entries_of id tallies
+pub entries_are : (id : List ℕ) (tallies : Ids) (entries : List Tallied) → Some entries ≡ lookup (is_at (slice_cmp nat_cmp id)) tallies → entries ≡ tallies_of id tallies
 entries_are id tallies entries e = ap (λ (o : Option (List Tallied)). unwrap_or o []) e
 
-pub no_entries : (id : List ℕ) (tallies : Ids) → ◌≡◌ {A = Option (List Tallied)} None (lookup (is_at (slice_cmp nat_cmp id)) tallies) → entries_of id tallies ≡ []
+pub no_entries : (id : List ℕ) (tallies : Ids) → ◌≡◌ {A = Option (List Tallied)} None (lookup (is_at (slice_cmp nat_cmp id)) tallies) → tallies_of id tallies ≡ []
 no_entries id tallies e = ap (λ (o : Option (List Tallied)). unwrap_or o []) (sym e)
 
 absent : {X : Type 0} (o : Option X) → is_some o ≡ false → o ≡ None
 absent None e = refl
 absent (Some x) e = absurd (false≢true (sym e))
 
-pub not_listed : (id : List ℕ) (tallies : Ids) → is_some (lookup (is_at (slice_cmp nat_cmp id)) tallies) ≡ false → entries_of id tallies ≡ []
+pub not_listed : (id : List ℕ) (tallies : Ids) → is_some (lookup (is_at (slice_cmp nat_cmp id)) tallies) ≡ false → tallies_of id tallies ≡ []
 not_listed id tallies e = no_entries id tallies (sym (absent (lookup (is_at (slice_cmp nat_cmp id)) tallies) e))
 
 -- without paths none has a number
-pub no_key : (id path : List ℕ) (tallies : Ids) → entries_of id tallies ≡ [] → HasKey id path tallies → ⊥
+pub no_key : (id path : List ℕ) (tallies : Ids) → tallies_of id tallies ≡ [] → HasKey id path tallies → ⊥
 no_key id path tallies e has = absurd (false≢true (subst (HasPlace path) e has))
 
-pub counts_nothing : (id path : List ℕ) (tallies : Ids) → entries_of id tallies ≡ [] → 0 < count_of id path tallies → ⊥
+pub counts_nothing : (id path : List ℕ) (tallies : Ids) → tallies_of id tallies ≡ [] → 0 < tally_of id path tallies → ⊥
 counts_nothing id path tallies e more =
-    let none : count_of id path tallies ≡ 0 = ap (count_at path) e in
+    let none : tally_of id path tallies ≡ 0 = ap (count_at path) e in
     absurd (omega (arith, none, more))
 
 module _ (id : List ℕ) (given : Option (List Tallied)) (old new : Ids) (changes : Changes id given old new) where
-  changed : (other : List ℕ) → entries_of other new ≡ cond (bytes_eq id other) (unwrap_or given []) (entries_of other old)
+  changed : (other : List ℕ) → tallies_of other new ≡ cond (bytes_eq id other) (unwrap_or given []) (tallies_of other old)
   changed other =
       ap (λ (o : Option (List Tallied)). unwrap_or o []) (changes other)
       ∙ ap (λ b. unwrap_or (cond b given (lookup (is_at (slice_cmp nat_cmp other)) old)) []) (is_eq-slice_cmp id other)
-      ∙ (elim (bytes_eq id other) as (λ b. unwrap_or (cond b given (lookup (is_at (slice_cmp nat_cmp other)) old)) [] ≡ cond b (unwrap_or given []) (entries_of other old)) [ true ↦ refl | false ↦ refl ])
+      ∙ (elim (bytes_eq id other) as (λ b. unwrap_or (cond b given (lookup (is_at (slice_cmp nat_cmp other)) old)) [] ≡ cond b (unwrap_or given []) (tallies_of other old)) [ true ↦ refl | false ↦ refl ])
 
   -- what is said of an id's paths, where the given ones say as much
-  says : {Y : Type 0} (P : List Tallied → Y) → P (unwrap_or given []) ≡ P (entries_of id old) → (other : List ℕ) → P (entries_of other new) ≡ P (entries_of other old)
+  says : {Y : Type 0} (P : List Tallied → Y) → P (unwrap_or given []) ≡ P (tallies_of id old) → (other : List ℕ) → P (tallies_of other new) ≡ P (tallies_of other old)
   says P same other =
       ap P (changed other)
-      ∙ (elim (bytes_eq id other) as (λ b. bytes_eq id other ≡ b → P (cond b (unwrap_or given []) (entries_of other old)) ≡ P (entries_of other old))
-      [ true ↦ λ e. same ∙ ap (λ (i : List ℕ). P (entries_of i old)) ((bytes_eq-Decides id other).0 e) | false ↦ λ e. refl ]) refl
+      ∙ (elim (bytes_eq id other) as (λ b. bytes_eq id other ≡ b → P (cond b (unwrap_or given []) (tallies_of other old)) ≡ P (tallies_of other old))
+      [ true ↦ λ e. same ∙ ap (λ (i : List ℕ). P (tallies_of i old)) ((bytes_eq-Decides id other).0 e) | false ↦ λ e. refl ]) refl
 
   -- the numbers stay
-  pub stays_same : ((path : List ℕ) → count_at path (unwrap_or given []) ≡ count_at path (entries_of id old)) → CountsSame old new
+  pub stays_same : ((path : List ℕ) → count_at path (unwrap_or given []) ≡ count_at path (tallies_of id old)) → CountsSame old new
   stays_same same other path = says (count_at path) (same path) other
 
   -- the room stays
-  pub stays_room : KeepsPlaces (entries_of id old) (unwrap_or given []) → KeepsKeys old new
+  pub stays_room : KeepsPlaces (tallies_of id old) (unwrap_or given []) → KeepsKeys old new
   stays_room keeps other path has =
       subst (HasPlace path) (sym (changed other))
-      ((elim (bytes_eq id other) as (λ b. bytes_eq id other ≡ b → HasPlace path (cond b (unwrap_or given []) (entries_of other old))) [
-        | true ↦ λ e. keeps path (subst (λ (i : List ℕ). HasPlace path (entries_of i old)) (sym ((bytes_eq-Decides id other).0 e)) has)
+      ((elim (bytes_eq id other) as (λ b. bytes_eq id other ≡ b → HasPlace path (cond b (unwrap_or given []) (tallies_of other old))) [
+        | true ↦ λ e. keeps path (subst (λ (i : List ℕ). HasPlace path (tallies_of i old)) (sym ((bytes_eq-Decides id other).0 e)) has)
         | false ↦ λ e. has
       ]) refl)
 
   -- a path of the id has room
   pub gets_room : (path : List ℕ) → HasPlace path (unwrap_or given []) → HasKey id path new
   gets_room path has =
-      subst (HasPlace path) (sym (changed id ∙ ap (λ b. cond b (unwrap_or given []) (entries_of id old)) ((bytes_eq-Decides id id).1 refl))) has
+      subst (HasPlace path) (sym (changed id ∙ ap (λ b. cond b (unwrap_or given []) (tallies_of id old)) ((bytes_eq-Decides id id).1 refl))) has
 
   -- a path of the id counts once more
-  pub counts_more : (path : List ℕ) → ((other : List ℕ) → count_at other (unwrap_or given []) ≡ count_at other (entries_of id old) + one path other)
-      → (other_id other : List ℕ) → count_of other_id other new ≡ count_of other_id other old + one_of id path other_id other
+  pub counts_more : (path : List ℕ) → ((other : List ℕ) → count_at other (unwrap_or given []) ≡ count_at other (tallies_of id old) + one path other)
+      → (other_id other : List ℕ) → tally_of other_id other new ≡ tally_of other_id other old + one_of id path other_id other
   counts_more path more other_id other =
       ap (count_at other) (changed other_id)
-      ∙ (elim (bytes_eq id other_id) as (λ b. bytes_eq id other_id ≡ b → count_at other (cond b (unwrap_or given []) (entries_of other_id old)) ≡ count_of other_id other old + cond b (one path other) 0) [
-        | true ↦ λ e. more other ∙ ap (λ (i : List ℕ). count_of i other old + one path other) ((bytes_eq-Decides id other_id).0 e)
+      ∙ (elim (bytes_eq id other_id) as (λ b. bytes_eq id other_id ≡ b → count_at other (cond b (unwrap_or given []) (tallies_of other_id old)) ≡ tally_of other_id other old + cond b (one path other) 0) [
+        | true ↦ λ e. more other ∙ ap (λ (i : List ℕ). tally_of i other old + one path other) ((bytes_eq-Decides id other_id).0 e)
         | false ↦ λ e. omega arith
       ]) refl
 
   -- a path of the id counts once less
-  pub counts_less : (path : List ℕ) → ((other : List ℕ) → count_at other (unwrap_or given []) + one path other ≡ count_at other (entries_of id old))
-      → (other_id other : List ℕ) → count_of other_id other new + one_of id path other_id other ≡ count_of other_id other old
+  pub counts_less : (path : List ℕ) → ((other : List ℕ) → count_at other (unwrap_or given []) + one path other ≡ count_at other (tallies_of id old))
+      → (other_id other : List ℕ) → tally_of other_id other new + one_of id path other_id other ≡ tally_of other_id other old
   counts_less path less other_id other =
       ap (λ l. count_at other l + one_of id path other_id other) (changed other_id)
-      ∙ (elim (bytes_eq id other_id) as (λ b. bytes_eq id other_id ≡ b → count_at other (cond b (unwrap_or given []) (entries_of other_id old)) + cond b (one path other) 0 ≡ count_of other_id other old) [
-        | true ↦ λ e. less other ∙ ap (λ (i : List ℕ). count_of i other old) ((bytes_eq-Decides id other_id).0 e)
+      ∙ (elim (bytes_eq id other_id) as (λ b. bytes_eq id other_id ≡ b → count_at other (cond b (unwrap_or given []) (tallies_of other_id old)) + cond b (one path other) 0 ≡ tally_of other_id other old) [
+        | true ↦ λ e. less other ∙ ap (λ (i : List ℕ). tally_of i other old) ((bytes_eq-Decides id other_id).0 e)
         | false ↦ λ e. omega arith
       ]) refl
 
   -- what the id has now
-  pub entries_now : entries_of id new ≡ unwrap_or given []
-  entries_now = changed id ∙ ap (λ b. cond b (unwrap_or given []) (entries_of id old)) ((bytes_eq-Decides id id).1 refl)
+  pub entries_now : tallies_of id new ≡ unwrap_or given []
+  entries_now = changed id ∙ ap (λ b. cond b (unwrap_or given []) (tallies_of id old)) ((bytes_eq-Decides id id).1 refl)
 
 -- ---- several paths
 

@@ -11,6 +11,6 @@ RoomFor (Put row) RowsRoom LogRoom = RowsRoom row × LogRoom
 RoomFor (Drop name) RowsRoom LogRoom = LogRoom
 
 -- the lists are an index's, and have room
-pub record IsKept (is_true : RowFacts → Type 0) (facts : RowsFacts) (RowsRoom : RowFacts → Type 0) (LogRoom : Type 0) : Type 0 where
+pub record IsIndexKept (is_true : RowFacts → Type 0) (facts : RowsFacts) (RowsRoom : RowFacts → Type 0) (LogRoom : Type 0) : Type 0 where
   pub index : IsIndex is_true facts
   pub room : RoomFor facts.prepared RowsRoom LogRoom

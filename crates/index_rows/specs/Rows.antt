@@ -41,10 +41,10 @@ abbrev pub Stands : NameFacts → List RowFacts → Type 0
 Stands name rows = IsSomeAnd (row_at name.path rows) (λ row. row.name ≡ name)
 
 -- the log has room for the change that is prepared, and a name that is to be dropped stands
-abbrev pub IsReady : Prepared → List RowFacts → List Change → Type 0
-IsReady Nothing rows log = Unit {0}
-IsReady (Put row) rows log = length log < LOG_LIMIT
-IsReady (Drop name) rows log = (length log < LOG_LIMIT) × Stands name rows
+abbrev pub IsLogReady : Prepared → List RowFacts → List Change → Type 0
+IsLogReady Nothing rows log = Unit {0}
+IsLogReady (Put row) rows log = length log < LOG_LIMIT
+IsLogReady (Drop name) rows log = (length log < LOG_LIMIT) × Stands name rows
 
 -- what always holds of an index's rows
 pub record IsIndex (is_true : RowFacts → Type 0) (index : RowsFacts) : Type 0 where
@@ -52,7 +52,7 @@ pub record IsIndex (is_true : RowFacts → Type 0) (index : RowsFacts) : Type 0 
   pub holds : All is_true index.rows
   pub replays : row_names index.rows ≡ replay index.log
   pub bounded : length index.log ≤ LOG_LIMIT
-  pub ready : IsReady index.prepared index.rows index.log
+  pub ready : IsLogReady index.prepared index.rows index.log
 
 -- no rows and no changes
 abbrev pub nothing_yet : RowsFacts

@@ -8,7 +8,7 @@ use Rattle.std.specs.Option.{option_flatten}
 use Rattle.std.specs.Ordering.{nat_cmp}
 use Rattle.slab.specs.Slab.{Slab, get}
 use Rattle.row_types.specs.Row.{RowFacts}
-use Rattle.index_rows.specs.Slots.{Slot, present, slot_at}
+use Rattle.index_rows.specs.Slots.{Slot, present, path_slot}
 
 -- paths, each with its number
 abbrev pub Numbers : Type 0
@@ -27,20 +27,20 @@ abbrev pub rows_under : Held → List ℕ → List RowFacts
 rows_under held numbers = present (map (held_in held) numbers)
 
 -- the path's number, if it has one
-abbrev pub number_at : List ℕ → Numbers → Option ℕ
-number_at path numbers = lookup (is_at (slice_cmp nat_cmp path)) numbers
+abbrev pub path_number : List ℕ → Numbers → Option ℕ
+path_number path numbers = lookup (is_at (slice_cmp nat_cmp path)) numbers
 
 -- the paths' slots
 abbrev pub shelved : Held → Numbers → List Slot
 shelved held numbers = map (λ e. (e.0, held_in held e.1)) numbers
 
 -- paths in order, each with a number of its own, under which something is kept, and nothing else is
-pub record IsNumbered (held : Held) (numbers : Numbers) : Type 0 where
+pub record ArePathsNumbered (held : Held) (numbers : Numbers) : Type 0 where
   pub ascend : IsStrictlySortedBy (slice_cmp nat_cmp) (keys_of numbers)
-  pub there : (path : List ℕ) (number : ℕ) → number_at path numbers ≡ Some number → IsSome (get held number)
-  pub apart : (path other : List ℕ) (number : ℕ) → number_at path numbers ≡ Some number → number_at other numbers ≡ Some number → path ≡ other
-  pub listed : (number : ℕ) → IsSome (get held number) → (path : List ℕ) × (number_at path numbers ≡ Some number)
+  pub there : (path : List ℕ) (number : ℕ) → path_number path numbers ≡ Some number → IsSome (get held number)
+  pub apart : (path other : List ℕ) (number : ℕ) → path_number path numbers ≡ Some number → path_number other numbers ≡ Some number → path ≡ other
+  pub listed : (number : ℕ) → IsSome (get held number) → (path : List ℕ) × (path_number path numbers ≡ Some number)
 
 -- some path's slot has this in it
 abbrev pub IsInSlot : Option RowFacts → List Slot → Type 0
-IsInSlot x slots = (path : List ℕ) × (slot_at path slots ≡ Some x)
+IsInSlot x slots = (path : List ℕ) × (path_slot path slots ≡ Some x)

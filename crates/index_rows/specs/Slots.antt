@@ -18,25 +18,25 @@ abbrev pub present : List (Option RowFacts) → List RowFacts
 present xs = flat_map option_to_list xs
 
 -- the rows in the slots
-abbrev pub rows_in : List Slot → List RowFacts
-rows_in slots = present (values_of slots)
+abbrev pub rows_in_slots : List Slot → List RowFacts
+rows_in_slots slots = present (values_of slots)
 
 -- what is in the slot has its path
 abbrev pub IsOwn : Slot → Type 0
 IsOwn slot = IfSome slot.1 (λ row. row.name.path ≡ slot.0)
 
 -- the slots stand strictly by path, and what is in one has its path
-pub record AreSlots (slots : List Slot) : Type 0 where
+pub record AreRowSlots (slots : List Slot) : Type 0 where
   pub ascend : IsStrictlySortedBy (slice_cmp nat_cmp) (keys_of slots)
   pub own : All IsOwn slots
 
 -- what is in the path's slot, if it has one
-abbrev pub slot_at : List ℕ → List Slot → Option (Option RowFacts)
-slot_at path slots = lookup (is_at (slice_cmp nat_cmp path)) slots
+abbrev pub path_slot : List ℕ → List Slot → Option (Option RowFacts)
+path_slot path slots = lookup (is_at (slice_cmp nat_cmp path)) slots
 
 -- the path has a slot
 abbrev pub HasSlot : List ℕ → List Slot → Type 0
-HasSlot path slots = IsSome (slot_at path slots)
+HasSlot path slots = IsSome (path_slot path slots)
 
 -- each path that had a slot has one
 abbrev pub KeepsSlots : List Slot → List Slot → Type 0

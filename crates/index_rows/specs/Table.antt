@@ -7,7 +7,7 @@ use Rattle.row_types.specs.declared.reading.Reading.{Reading}
 use Rattle.row_types.specs.declared.reading.Reading.TheVariants.{Plain, Elf}
 use Rattle.index_rows.specs.Rows.{row_at}
 use Rattle.index_rows.specs.Slots.{HasSlot, Slot}
-use Rattle.index_rows.specs.Tallies.{HasKey, Ids, count_of, one_of, times_of}
+use Rattle.index_rows.specs.Tallies.{HasKey, Ids, tally_of, one_of, times_of}
 use Rattle.index_rows.specs.declared.tally.Tallied.{Tallied}
 
 -- the slots by path, the paths of the rows of an id, and the sources that rows of an id list
@@ -44,9 +44,9 @@ abbrev pub ListsOnce : RowFacts → Type 0
 ListsOnce row = (id path : List ℕ) → source_counts row.reading id path ≤ 1
 
 -- the numbers are those of the rows
-pub record IsCounted (rows : List RowFacts) (ids sources : Ids) : Type 0 where
-  pub by_id : (id path : List ℕ) → count_of id path ids ≡ rows_at id path rows
-  pub by_source : (id path : List ℕ) → count_of id path sources ≡ rows_listing id path rows
+pub record AreNumbersOf (rows : List RowFacts) (ids sources : Ids) : Type 0 where
+  pub by_id : (id path : List ℕ) → tally_of id path ids ≡ rows_at id path rows
+  pub by_source : (id path : List ℕ) → tally_of id path sources ≡ rows_listing id path rows
   pub once : All ListsOnce rows
 
 -- a row of this reading at this path has its numbers

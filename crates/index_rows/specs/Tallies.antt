@@ -13,20 +13,20 @@ abbrev pub Ids : Type 0
 Ids = List (List ℕ × List Tallied)
 
 -- the paths of an id
-abbrev pub entries_of : List ℕ → Ids → List Tallied
-entries_of id ids = unwrap_or (lookup (is_at (slice_cmp nat_cmp id)) ids) []
+abbrev pub tallies_of : List ℕ → Ids → List Tallied
+tallies_of id ids = unwrap_or (lookup (is_at (slice_cmp nat_cmp id)) ids) []
 
 -- the id has paths, or room for one
 abbrev pub HasId : List ℕ → Ids → Type 0
 HasId id ids = IsSome (lookup (is_at (slice_cmp nat_cmp id)) ids)
 
 -- how often the path counts under the id
-abbrev pub count_of : List ℕ → List ℕ → Ids → ℕ
-count_of id path ids = count_at path (entries_of id ids)
+abbrev pub tally_of : List ℕ → List ℕ → Ids → ℕ
+tally_of id path ids = count_at path (tallies_of id ids)
 
 -- the path has a number under the id
 abbrev pub HasKey : List ℕ → List ℕ → Ids → Type 0
-HasKey id path ids = HasPlace path (entries_of id ids)
+HasKey id path ids = HasPlace path (tallies_of id ids)
 
 -- each path that had a number under an id has one
 abbrev pub KeepsKeys : Ids → Ids → Type 0
@@ -34,7 +34,7 @@ KeepsKeys old new = (id path : List ℕ) → HasKey id path old → HasKey id pa
 
 -- each path counts as often as it did
 abbrev pub CountsSame : Ids → Ids → Type 0
-CountsSame old new = (id path : List ℕ) → count_of id path new ≡ count_of id path old
+CountsSame old new = (id path : List ℕ) → tally_of id path new ≡ tally_of id path old
 
 -- 1 for the path itself under the id itself
 abbrev pub one_of : (id path other_id other : List ℕ) → ℕ
@@ -50,5 +50,5 @@ abbrev pub times_of : (id : List ℕ) (paths : List (List ℕ)) (other_id other 
 times_of id paths other_id other = if bytes_eq id other_id then times paths other else 0
 
 -- no number is a `u32`'s last
-abbrev pub CanCount : Ids → Type 0
-CanCount ids = (id path : List ℕ) → count_of id path ids + 1 < 2 ^ 32
+abbrev pub AreBelowLast : Ids → Type 0
+AreBelowLast ids = (id path : List ℕ) → tally_of id path ids + 1 < 2 ^ 32

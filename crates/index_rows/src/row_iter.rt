@@ -5,7 +5,7 @@ ghost use Rattle.std.specs.Iterator.{YieldsFirstRef, item_count};
 ghost use Rattle.index_rows.specs.Classes.{is_of_kind};
 ghost use Rattle.index_rows.specs.Left.{is_wanted, left_in};
 ghost use Rattle.index_rows.specs.Shelf.{rows_under};
-ghost use Rattle.index_rows.specs.Slots.{rows_in};
+ghost use Rattle.index_rows.specs.Slots.{rows_in_slots};
 ghost use Rattle.index_rows.specs.Table.{walked};
 ghost use Rattle.index_rows.specs.declared.row_iter.Rest.{Rest};
 
@@ -69,7 +69,7 @@ impl<'a> RowIter<'a> {
     /// The rows at the paths that count, of the kind if one is given.
     pub(crate) fn found(entries: &'a [Tallied], rows: &'a RowMap, kind: Option<Kind>) -> RowIter<'a>
         ensures { result ≡ filter (λ row. is_wanted kind row.reading)
-            (walked entries.now (rows_in rows.now)) }
+            (walked entries.now (rows_in_slots rows.now)) }
     {
         RowIter {
             rest: Rest::Found(AtPaths {
@@ -130,11 +130,11 @@ fn first_found<'a>(
     kind: Option<Kind>,
 ) -> Option<(&'a Row, &'a [Tallied])>
     ensures some { IfSome result (λ found.
-        filter (λ row. is_wanted kind row.reading) (walked entries.now (rows_in rows.now))
+        filter (λ row. is_wanted kind row.reading) (walked entries.now (rows_in_slots rows.now))
         ≡ found.0.now
-        ∷ filter (λ row. is_wanted kind row.reading) (walked found.1.now (rows_in rows.now))) }
+        ∷ filter (λ row. is_wanted kind row.reading) (walked found.1.now (rows_in_slots rows.now))) }
     ensures none { IfNone result
-        (filter (λ row. is_wanted kind row.reading) (walked entries.now (rows_in rows.now))
+        (filter (λ row. is_wanted kind row.reading) (walked entries.now (rows_in_slots rows.now))
         ≡ []) }
 {
     let mut left = entries;

@@ -6,7 +6,7 @@ ghost use Rattle.row_types.specs.Row.{RowFacts};
 ghost use Rattle.index_rows.specs.Table.{total};
 ghost use Rattle.index_rows.specs.declared.rows.TheConstants.{LOG_LIMIT};
 ghost use Rattle.index_rows.specs.Rows.{row_at, with_row, without_row};
-ghost use Rattle.index_rows.specs.Slots.{HasSlot, KeepsOthers, KeepsSlots, rows_in, slot_at};
+ghost use Rattle.index_rows.specs.Slots.{HasSlot, KeepsOthers, KeepsSlots, rows_in_slots, path_slot};
 
 use crate::row_iter::RowIter;
 use crate::shelf::Shelf;
@@ -24,13 +24,13 @@ pub(crate) struct RowMap {
 
 impl Model for RowMap {
     ghost use Rattle.std.specs.Prelude.{◌≡◌, List, length};
-    ghost use Rattle.index_rows.specs.Slots.{AreSlots, Slot, rows_in};
+    ghost use Rattle.index_rows.specs.Slots.{AreRowSlots, Slot, rows_in_slots};
 
     ghost Value = { List Slot };
 
     ghost view = { λ m. m.slots };
 
-    ghost invariant = { λ m. AreSlots m.slots × (m.len ≡ length (rows_in m.slots)) };
+    ghost invariant = { λ m. AreRowSlots m.slots × (m.len ≡ length (rows_in_slots m.slots)) };
 }
 
 impl RowMap {
@@ -46,14 +46,14 @@ impl RowMap {
 
     /// The number of rows.
     pub fn len(&self) -> usize
-        ensures { result ≡ length (rows_in self.now) }
+        ensures { result ≡ length (rows_in_slots self.now) }
     {
         self.len
     }
 
     /// The path's row.
     pub fn get(&self, path: &CanonPath) -> Option<&Row>
-        ensures value { option_copied result ≡ row_at path.now (rows_in self.now) }
+        ensures value { option_copied result ≡ row_at path.now (rows_in_slots self.now) }
         ensures path { IfSome result (λ row. row.now.name.path ≡ path.now) }
     {
         match self.slots.get(path) {
@@ -64,7 +64,7 @@ impl RowMap {
 
     /// The path's row. It is found without a search where its slot has the number.
     pub fn get_near(&self, number: u32, path: &CanonPath) -> Option<&Row>
-        ensures { option_copied result ≡ row_at path.now (rows_in self.now) }
+        ensures { option_copied result ≡ row_at path.now (rows_in_slots self.now) }
     {
         if let Some(Some(row)) = self.slots.under(number as usize)
             && row.name.path == *path
@@ -76,7 +76,7 @@ impl RowMap {
 
     /// All rows, in path order.
     pub fn rows(&self) -> RowIter<'_>
-        ensures { result ≡ rows_in self.now }
+        ensures { result ≡ rows_in_slots self.now }
     {
         self.slots.rows()
     }
@@ -85,7 +85,7 @@ impl RowMap {
     pub fn make_room(&mut self, alloc: Global, path: &CanonPath) -> Result<u32, AllocError>
         ensures ok { OnOk result (HasSlot path.now self.new) }
         ensures keeps { KeepsSlots self.old self.new }
-        ensures rows { rows_in self.new ≡ rows_in self.old }
+        ensures rows { rows_in_slots self.new ≡ rows_in_slots self.old }
     {
         if let Some(number) = self.slots.number(path) {
             return Ok(as_near(number));
@@ -96,9 +96,9 @@ impl RowMap {
 
     /// Gives the path's slot up, if no row is in it.
     pub fn give_up(&mut self, path: &CanonPath)
-        ensures gone { slot_at path.now self.new ≢ Some None }
+        ensures gone { path_slot path.now self.new ≢ Some None }
         ensures others { KeepsOthers path.now self.old self.new }
-        ensures rows { rows_in self.new ≡ rows_in self.old }
+        ensures rows { rows_in_slots self.new ≡ rows_in_slots self.old }
     {
         if let Some(None) = self.slots.get(path) {
             self.slots.take(path);
@@ -108,10 +108,10 @@ impl RowMap {
     /// Puts the row into the slot of its path, and gives the row that was in it.
     pub fn put(&mut self, row: Row) -> Option<Row>
         requires slot { HasSlot row.name.path self.old }
-        requires fits { length (rows_in self.old) < LOG_LIMIT }
-        ensures rows { rows_in self.new ≡ with_row row (rows_in self.old) }
-        ensures total { (f : RowFacts → ℕ) → total f (rows_in self.new)
-            + total f (option_to_list result) ≡ total f (rows_in self.old) + f row }
+        requires fits { length (rows_in_slots self.old) < LOG_LIMIT }
+        ensures rows { rows_in_slots self.new ≡ with_row row (rows_in_slots self.old) }
+        ensures total { (f : RowFacts → ℕ) → total f (rows_in_slots self.new)
+            + total f (option_to_list result) ≡ total f (rows_in_slots self.old) + f row }
     {
         let old = self.slots.put(row);
         if old.is_none() {
@@ -122,10 +122,10 @@ impl RowMap {
 
     /// Drops the path's slot, and gives its row.
     pub fn remove(&mut self, path: &CanonPath) -> Row
-        requires { IsSome (row_at path.now (rows_in self.old)) }
-        ensures rows { rows_in self.new ≡ without_row path.now (rows_in self.old) }
-        ensures total { (f : RowFacts → ℕ) → total f (rows_in self.new) + f result
-            ≡ total f (rows_in self.old) }
+        requires { IsSome (row_at path.now (rows_in_slots self.old)) }
+        ensures rows { rows_in_slots self.new ≡ without_row path.now (rows_in_slots self.old) }
+        ensures total { (f : RowFacts → ℕ) → total f (rows_in_slots self.new) + f result
+            ≡ total f (rows_in_slots self.old) }
     {
         match self.slots.take(path) {
             Some(Some(row)) => {

@@ -8,7 +8,7 @@ ghost use Rattle.index_rows.specs.Classes.{has_class, has_id, lists_source};
 ghost use Rattle.index_rows.specs.Log.{replay};
 ghost use Rattle.index_rows.specs.Rows.{after_drop, after_put, after_void, CanBeVoid, IsDropOf};
 ghost use Rattle.index_rows.specs.Rows.{IsIndex, row_names, nothing_yet, row_at};
-ghost use Rattle.index_rows.specs.Slots.{rows_in};
+ghost use Rattle.index_rows.specs.Slots.{rows_in_slots};
 ghost use Rattle.index_rows.specs.Table.{KeepsRoomAt};
 ghost use Rattle.index_rows.specs.declared.prepared.Prepared.{Prepared};
 ghost use Rattle.index_rows.specs.declared.fault.RowsFault.{RowsFault};
@@ -42,16 +42,16 @@ impl<W: Truth> Model for Rows<W> {
     ghost use Rattle.std.specs.Prelude.{◌<◌, vec_len};
     ghost use Rattle.std.specs.Vec.{vec_capacity};
     ghost use Rattle.index_rows.specs.Rows.{RowsFacts};
-    ghost use Rattle.index_rows.specs.Kept.{IsKept};
-    ghost use Rattle.index_rows.specs.Slots.{rows_in};
+    ghost use Rattle.index_rows.specs.Kept.{IsIndexKept};
+    ghost use Rattle.index_rows.specs.Slots.{rows_in_slots};
     ghost use Rattle.index_rows.specs.Table.{HasRoom};
 
     ghost Value = { RowsFacts };
 
-    ghost view = { λ r. record { rows = rows_in r.rows.slots; log = r.log.items; prepared = r.prepared } };
+    ghost view = { λ r. record { rows = rows_in_slots r.rows.slots; log = r.log.items; prepared = r.prepared } };
 
-    ghost invariant = { λ r. IsKept W.true_row
-        (record { rows = rows_in r.rows.slots; log = r.log.items; prepared = r.prepared })
+    ghost invariant = { λ r. IsIndexKept W.true_row
+        (record { rows = rows_in_slots r.rows.slots; log = r.log.items; prepared = r.prepared })
         (λ row. HasRoom row r.rows) (vec_len r.log < vec_capacity r.log) };
 }
 
@@ -226,7 +226,7 @@ impl<W: Truth> Rows<W> {
 
 /// Gives up the slot that was made for a put.
 fn give_up(rows: &mut Table, prepared: &Prepared)
-    ensures { rows_in rows.new.slots ≡ rows_in rows.old.slots }
+    ensures { rows_in_slots rows.new.slots ≡ rows_in_slots rows.old.slots }
 {
     if let Prepared::Put(row) = prepared {
         rows.give_up(&row.name.path);
@@ -236,7 +236,7 @@ fn give_up(rows: &mut Table, prepared: &Prepared)
 /// Gives up the slot that was made for a put of another path.
 fn give_up_other(rows: &mut Table, prepared: &Prepared, path: &CanonPath)
     ensures room { KeepsRoomAt path.now rows.old rows.new }
-    ensures rows { rows_in rows.new.slots ≡ rows_in rows.old.slots }
+    ensures rows { rows_in_slots rows.new.slots ≡ rows_in_slots rows.old.slots }
 {
     if let Prepared::Put(row) = prepared
         && row.name.path != *path

@@ -9,7 +9,7 @@ ghost use Rattle.std.specs.Option.{option_copied};
 ghost use Rattle.std.specs.Ordering.{nat_cmp};
 ghost use Rattle.slab.specs.Slab.{ContainsKey, Updates, get};
 ghost use Rattle.index_rows.specs.Shelf.{IsInSlot};
-ghost use Rattle.index_rows.specs.Slots.{HasSlot, KeepsSlots, rows_in, slot_at};
+ghost use Rattle.index_rows.specs.Slots.{HasSlot, KeepsSlots, rows_in_slots, path_slot};
 
 use crate::row_iter::RowIter;
 use row_types::{CanonPath, Row};
@@ -31,14 +31,14 @@ pub(crate) struct Shelf {
 
 impl Model for Shelf {
     ghost use Rattle.std.specs.Prelude.{List};
-    ghost use Rattle.index_rows.specs.Shelf.{IsNumbered, shelved};
+    ghost use Rattle.index_rows.specs.Shelf.{ArePathsNumbered, shelved};
     ghost use Rattle.index_rows.specs.Slots.{Slot};
 
     ghost Value = { List Slot };
 
     ghost view = { λ s. shelved s.held s.numbers.entries };
 
-    ghost invariant = { λ s. IsNumbered s.held s.numbers.entries };
+    ghost invariant = { λ s. ArePathsNumbered s.held s.numbers.entries };
 }
 
 impl Shelf {
@@ -54,7 +54,7 @@ impl Shelf {
 
     /// What is in the path's slot.
     pub fn get(&self, path: &CanonPath) -> Option<&Option<Row>>
-        ensures { option_copied result ≡ slot_at path.now self.now }
+        ensures { option_copied result ≡ path_slot path.now self.now }
     {
         match self.numbers.get(path) {
             Some(number) => self.held.get(*number),
@@ -71,8 +71,8 @@ impl Shelf {
 
     /// The number of the path's slot.
     pub fn number(&self, path: &CanonPath) -> Option<usize>
-        ensures some { IfSome result (λ _. IsSome (slot_at path.now self.now)) }
-        ensures none { IfNone result (slot_at path.now self.now ≡ None) }
+        ensures some { IfSome result (λ _. IsSome (path_slot path.now self.now)) }
+        ensures none { IfNone result (path_slot path.now self.now ≡ None) }
     {
         match self.numbers.get(path) {
             Some(number) => Some(*number),
@@ -82,14 +82,14 @@ impl Shelf {
 
     /// The rows in the slots, in path order.
     pub fn rows(&self) -> RowIter<'_>
-        ensures { result ≡ rows_in self.now }
+        ensures { result ≡ rows_in_slots self.now }
     {
         RowIter::all(self.numbers.values(), &self.held)
     }
 
     /// Makes the path's slot, which has none, and gives its number.
     pub fn make(&mut self, alloc: Global, path: &CanonPath) -> Result<usize, AllocError>
-        requires { slot_at path.now self.old ≡ None }
+        requires { path_slot path.now self.old ≡ None }
         ensures ok { OnOk result
             (self.new ≡ insert_entry (slice_cmp nat_cmp) self.old path.now None) }
         ensures has { OnOk result (HasSlot path.now self.new) }
@@ -106,8 +106,8 @@ impl Shelf {
 
     /// Puts the row into the slot of its path, and gives what was in it.
     pub fn put(&mut self, row: Row) -> Option<Row>
-        requires { IsSome (slot_at row.name.path self.old) }
-        ensures old { slot_at row.name.path self.old ≡ Some result }
+        requires { IsSome (path_slot row.name.path self.old) }
+        ensures old { path_slot row.name.path self.old ≡ Some result }
         ensures new { self.new
             ≡ set_value (is_at (slice_cmp nat_cmp row.name.path)) self.old (Some row) }
         ensures ascend { IsStrictlySortedBy (slice_cmp nat_cmp) (keys_of self.new) }
@@ -120,7 +120,7 @@ impl Shelf {
 
     /// Takes the path's slot away, if it has one, and gives what was in it.
     pub fn take(&mut self, path: &CanonPath) -> Option<Option<Row>>
-        ensures old { result ≡ slot_at path.now self.old }
+        ensures old { result ≡ path_slot path.now self.old }
         ensures new { self.new ≡ remove_entry (is_at (slice_cmp nat_cmp path.now)) self.old }
         ensures ascend { IsStrictlySortedBy (slice_cmp nat_cmp) (keys_of self.new) }
     {

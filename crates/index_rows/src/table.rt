@@ -7,10 +7,10 @@ ghost use Rattle.row_types.specs.Ascends.{AscendsBy};
 ghost use Rattle.index_rows.specs.Classes.{has_id, lists_source};
 ghost use Rattle.index_rows.specs.Left.{is_wanted};
 ghost use Rattle.index_rows.specs.Rows.{row_at, row_path, with_row, without_row};
-ghost use Rattle.index_rows.specs.Slots.{rows_in};
+ghost use Rattle.index_rows.specs.Slots.{rows_in_slots};
 ghost use Rattle.index_rows.specs.Table.{HasKeys, HasRoom, KeepsOtherRoom, KeepsRoom, ListsOnce};
 ghost use Rattle.index_rows.specs.Table.{id_counts, source_counts};
-ghost use Rattle.index_rows.specs.Tallies.{CanCount, CountsSame, KeepsKeys, count_of};
+ghost use Rattle.index_rows.specs.Tallies.{AreBelowLast, CountsSame, KeepsKeys, tally_of};
 ghost use Rattle.index_rows.specs.declared.rows.TheConstants.{LOG_LIMIT};
 
 use crate::row_iter::RowIter;
@@ -31,15 +31,15 @@ pub(crate) struct Table {
 }
 
 impl Model for Table {
-    ghost use Rattle.index_rows.specs.Slots.{rows_in};
-    ghost use Rattle.index_rows.specs.Table.{IsCounted, TableFacts};
+    ghost use Rattle.index_rows.specs.Slots.{rows_in_slots};
+    ghost use Rattle.index_rows.specs.Table.{AreNumbersOf, TableFacts};
 
     ghost Value = { TableFacts };
 
     ghost view = { λ t. record
         { slots = t.rows; ids = t.ids.ids.entries; sources = t.sources.ids.entries } };
 
-    ghost invariant = { λ t. IsCounted (rows_in t.rows)
+    ghost invariant = { λ t. AreNumbersOf (rows_in_slots t.rows)
         t.ids.ids.entries t.sources.ids.entries };
 }
 
@@ -57,14 +57,14 @@ impl Table {
 
     /// The number of rows.
     pub fn len(&self) -> usize
-        ensures { result ≡ length (rows_in self.now.slots) }
+        ensures { result ≡ length (rows_in_slots self.now.slots) }
     {
         self.rows.len()
     }
 
     /// The path's row.
     pub fn get(&self, path: &CanonPath) -> Option<&Row>
-        ensures value { option_copied result ≡ row_at path.now (rows_in self.now.slots) }
+        ensures value { option_copied result ≡ row_at path.now (rows_in_slots self.now.slots) }
         ensures path { IfSome result (λ row. row.now.name.path ≡ path.now) }
     {
         self.rows.get(path)
@@ -72,16 +72,16 @@ impl Table {
 
     /// All rows.
     pub fn rows(&self) -> RowIter<'_>
-        ensures { result ≡ rows_in self.now.slots }
+        ensures { result ≡ rows_in_slots self.now.slots }
     {
         self.rows.rows()
     }
 
     /// The rows with the id whose files are of the kind, if one is given.
     pub fn found(&self, id: &BuildId, kind: Option<Kind>) -> RowIter<'_>
-        requires { AscendsBy row_path (rows_in self.now.slots) }
+        requires { AscendsBy row_path (rows_in_slots self.now.slots) }
         ensures { result ≡ filter (λ row. is_wanted kind row.reading)
-            (filter (λ row. has_id id.now row.reading) (rows_in self.now.slots)) }
+            (filter (λ row. has_id id.now row.reading) (rows_in_slots self.now.slots)) }
     {
         RowIter::found(self.ids.entries(id), &self.rows, kind)
     }
@@ -89,7 +89,7 @@ impl Table {
     /// Whether some row with the id lists the source.
     pub fn lists_source(&self, id: &BuildId, path: &CanonPath) -> bool
         ensures { result ≡ list_any (λ row. lists_source id.now path.now row.reading)
-            (rows_in self.now.slots) }
+            (rows_in_slots self.now.slots) }
     {
         self.sources.count(id, path) > 0
     }
@@ -98,7 +98,7 @@ impl Table {
     pub fn make_room(&mut self, alloc: Global, row: &Row) -> Result<(), AllocError>
         ensures ok { OnOk result (HasRoom row.now self.new) }
         ensures keeps { KeepsRoom self.old self.new }
-        ensures rows { rows_in self.new.slots ≡ rows_in self.old.slots }
+        ensures rows { rows_in_slots self.new.slots ≡ rows_in_slots self.old.slots }
     {
         let number = self.rows.make_room(alloc, &row.name.path)?;
         make_keys(&mut self.ids, &mut self.sources, alloc, number, row)
@@ -107,7 +107,7 @@ impl Table {
     /// Gives the path's slot up, if no row is in it.
     pub fn give_up(&mut self, path: &CanonPath)
         ensures others { KeepsOtherRoom path.now self.old self.new }
-        ensures rows { rows_in self.new.slots ≡ rows_in self.old.slots }
+        ensures rows { rows_in_slots self.new.slots ≡ rows_in_slots self.old.slots }
     {
         self.rows.give_up(path);
     }
@@ -115,8 +115,8 @@ impl Table {
     /// Puts the row in place of its path's.
     pub fn put(&mut self, row: Row)
         requires room { HasRoom row self.old }
-        requires fits { length (rows_in self.old.slots) < LOG_LIMIT }
-        ensures { rows_in self.new.slots ≡ with_row row (rows_in self.old.slots) }
+        requires fits { length (rows_in_slots self.old.slots) < LOG_LIMIT }
+        ensures { rows_in_slots self.new.slots ≡ with_row row (rows_in_slots self.old.slots) }
     {
         // The new row counts before the old one goes, so that no number that both have ends.
         count_in(&mut self.ids, &mut self.sources, &row);
@@ -128,8 +128,8 @@ impl Table {
 
     /// Drops the path's row.
     pub fn remove(&mut self, path: &CanonPath)
-        requires { IsSome (row_at path.now (rows_in self.old.slots)) }
-        ensures { rows_in self.new.slots ≡ without_row path.now (rows_in self.old.slots) }
+        requires { IsSome (row_at path.now (rows_in_slots self.old.slots)) }
+        ensures { rows_in_slots self.new.slots ≡ without_row path.now (rows_in_slots self.old.slots) }
     {
         let old = self.rows.remove(path);
         count_out(&mut self.ids, &mut self.sources, &old);
@@ -165,12 +165,12 @@ fn make_keys(
 /// Counts a row once more, for which room was made.
 fn count_in(ids: &mut Tallies, sources: &mut Tallies, row: &Row)
     requires room { HasKeys row.now.reading row.now.name.path ids.old.ids.entries sources.old.ids.entries }
-    requires ids_fit { CanCount ids.old.ids.entries }
-    requires sources_fit { CanCount sources.old.ids.entries }
-    ensures ids { (id path : List ℕ) → count_of id path ids.new.ids.entries
-        ≡ count_of id path ids.old.ids.entries + id_counts row.now.reading row.now.name.path id path }
-    ensures sources { (id path : List ℕ) → count_of id path sources.new.ids.entries
-        ≡ count_of id path sources.old.ids.entries + source_counts row.now.reading id path }
+    requires ids_fit { AreBelowLast ids.old.ids.entries }
+    requires sources_fit { AreBelowLast sources.old.ids.entries }
+    ensures ids { (id path : List ℕ) → tally_of id path ids.new.ids.entries
+        ≡ tally_of id path ids.old.ids.entries + id_counts row.now.reading row.now.name.path id path }
+    ensures sources { (id path : List ℕ) → tally_of id path sources.new.ids.entries
+        ≡ tally_of id path sources.old.ids.entries + source_counts row.now.reading id path }
     ensures once { ListsOnce row.now }
 {
     match &row.reading {
@@ -188,13 +188,13 @@ fn count_in(ids: &mut Tallies, sources: &mut Tallies, row: &Row)
 /// Counts a row once less.
 fn count_out(ids: &mut Tallies, sources: &mut Tallies, row: &Row)
     requires ids { (id path : List ℕ) → id_counts row.now.reading row.now.name.path id path
-        ≤ count_of id path ids.old.ids.entries }
+        ≤ tally_of id path ids.old.ids.entries }
     requires sources { (id path : List ℕ) → source_counts row.now.reading id path
-        ≤ count_of id path sources.old.ids.entries }
-    ensures ids { (id path : List ℕ) → count_of id path ids.new.ids.entries
-        + id_counts row.now.reading row.now.name.path id path ≡ count_of id path ids.old.ids.entries }
-    ensures sources { (id path : List ℕ) → count_of id path sources.new.ids.entries
-        + source_counts row.now.reading id path ≡ count_of id path sources.old.ids.entries }
+        ≤ tally_of id path sources.old.ids.entries }
+    ensures ids { (id path : List ℕ) → tally_of id path ids.new.ids.entries
+        + id_counts row.now.reading row.now.name.path id path ≡ tally_of id path ids.old.ids.entries }
+    ensures sources { (id path : List ℕ) → tally_of id path sources.new.ids.entries
+        + source_counts row.now.reading id path ≡ tally_of id path sources.old.ids.entries }
 {
     match &row.reading {
         Reading::Plain(_) => {}

@@ -2,9 +2,9 @@
 
 ghost use Rattle.std.specs.Prelude.{◌≡◌, ◌+◌, ◌<◌, ◌≤◌, ◌^◌, [], ℕ, List, All, IsTrue, IsSome, OnOk};
 ghost use Rattle.row_types.specs.Ascends.{Ascends, AscendsBy};
-ghost use Rattle.index_rows.specs.Tallies.{CanCount, CountsSame, HasId, HasKey, KeepsKeys};
+ghost use Rattle.index_rows.specs.Tallies.{AreBelowLast, CountsSame, HasId, HasKey, KeepsKeys};
 ghost use Rattle.index_rows.specs.Tally.{tallied_path};
-ghost use Rattle.index_rows.specs.Tallies.{count_of, entries_of, one_of};
+ghost use Rattle.index_rows.specs.Tallies.{tally_of, tallies_of, one_of};
 ghost use Rattle.index_rows.specs.Tallies.{times, times_of};
 
 use crate::tally::{Tallied, Tally};
@@ -22,7 +22,7 @@ pub(crate) struct Tallies {
 impl Tallies {
     /// No ids.
     pub fn new(alloc: Global) -> Tallies
-        ensures { (id path : List ℕ) → count_of id path result.ids.entries ≡ 0 }
+        ensures { (id path : List ℕ) → tally_of id path result.ids.entries ≡ 0 }
     {
         Tallies {
             ids: BTreeMap::new(alloc),
@@ -31,7 +31,7 @@ impl Tallies {
 
     /// The paths of the id, in order.
     pub fn entries(&self, id: &BuildId) -> &[Tallied]
-        ensures value { result.now ≡ entries_of id.now self.now.ids.entries }
+        ensures value { result.now ≡ tallies_of id.now self.now.ids.entries }
         ensures ascends { AscendsBy tallied_path result.now }
     {
         match self.ids.get(id) {
@@ -42,7 +42,7 @@ impl Tallies {
 
     /// How often the path counts under the id.
     pub fn count(&self, id: &BuildId, path: &CanonPath) -> u32
-        ensures { result ≡ count_of id.now path.now self.now.ids.entries }
+        ensures { result ≡ tally_of id.now path.now self.now.ids.entries }
     {
         match self.ids.get(id) {
             Some(tally) => tally.count(path),
@@ -138,9 +138,9 @@ impl Tallies {
     /// Counts the path under the id once more. It has room.
     pub fn add(&mut self, id: &BuildId, path: &CanonPath)
         requires room { HasKey id.now path.now self.old.ids.entries }
-        requires fits { count_of id.now path.now self.old.ids.entries + 1 < 2 ^ 32 }
-        ensures counts { (other_id other : List ℕ) → count_of other_id other self.new.ids.entries
-            ≡ count_of other_id other self.old.ids.entries + one_of id.now path.now other_id other }
+        requires fits { tally_of id.now path.now self.old.ids.entries + 1 < 2 ^ 32 }
+        ensures counts { (other_id other : List ℕ) → tally_of other_id other self.new.ids.entries
+            ≡ tally_of other_id other self.old.ids.entries + one_of id.now path.now other_id other }
         ensures keeps { KeepsKeys self.old.ids.entries self.new.ids.entries }
     {
         match self.ids.get_mut(id) {
@@ -152,10 +152,10 @@ impl Tallies {
     /// Counts each of the paths under the id once more. They have room.
     pub fn add_all(&mut self, id: &BuildId, paths: &[CanonPath])
         requires room { All (λ path. HasKey id.now path self.old.ids.entries) paths.now }
-        requires fits { CanCount self.old.ids.entries }
+        requires fits { AreBelowLast self.old.ids.entries }
         requires ascends { Ascends paths.now }
-        ensures { (other_id other : List ℕ) → count_of other_id other self.new.ids.entries
-            ≡ count_of other_id other self.old.ids.entries + times_of id.now paths.now other_id other }
+        ensures { (other_id other : List ℕ) → tally_of other_id other self.new.ids.entries
+            ≡ tally_of other_id other self.old.ids.entries + times_of id.now paths.now other_id other }
     {
         for path in paths {
             self.add(id, path);
@@ -164,10 +164,10 @@ impl Tallies {
 
     /// Counts the path under the id once less, and says whether the id has no path left.
     fn take_path(&mut self, id: &BuildId, path: &CanonPath) -> bool
-        requires { 0 < count_of id.now path.now self.old.ids.entries }
-        ensures counts { (other_id other : List ℕ) → count_of other_id other self.new.ids.entries
-            + one_of id.now path.now other_id other ≡ count_of other_id other self.old.ids.entries }
-        ensures empty { IsTrue result → entries_of id.now self.new.ids.entries ≡ [] }
+        requires { 0 < tally_of id.now path.now self.old.ids.entries }
+        ensures counts { (other_id other : List ℕ) → tally_of other_id other self.new.ids.entries
+            + one_of id.now path.now other_id other ≡ tally_of other_id other self.old.ids.entries }
+        ensures empty { IsTrue result → tallies_of id.now self.new.ids.entries ≡ [] }
     {
         match self.ids.get_mut(id) {
             Some(tally) => {
@@ -180,9 +180,9 @@ impl Tallies {
 
     /// Counts the path under the id once less. What counts no more has no room.
     pub fn take(&mut self, id: &BuildId, path: &CanonPath)
-        requires { 0 < count_of id.now path.now self.old.ids.entries }
-        ensures { (other_id other : List ℕ) → count_of other_id other self.new.ids.entries
-            + one_of id.now path.now other_id other ≡ count_of other_id other self.old.ids.entries }
+        requires { 0 < tally_of id.now path.now self.old.ids.entries }
+        ensures { (other_id other : List ℕ) → tally_of other_id other self.new.ids.entries
+            + one_of id.now path.now other_id other ≡ tally_of other_id other self.old.ids.entries }
     {
         if self.take_path(id, path) {
             self.ids.remove(id);
@@ -191,9 +191,9 @@ impl Tallies {
 
     /// Counts each of the paths under the id once less.
     pub fn take_all(&mut self, id: &BuildId, paths: &[CanonPath])
-        requires { (path : List ℕ) → times paths.now path ≤ count_of id.now path self.old.ids.entries }
-        ensures { (other_id other : List ℕ) → count_of other_id other self.new.ids.entries
-            + times_of id.now paths.now other_id other ≡ count_of other_id other self.old.ids.entries }
+        requires { (path : List ℕ) → times paths.now path ≤ tally_of id.now path self.old.ids.entries }
+        ensures { (other_id other : List ℕ) → tally_of other_id other self.new.ids.entries
+            + times_of id.now paths.now other_id other ≡ tally_of other_id other self.old.ids.entries }
     {
         for path in paths {
             self.take(id, path);

@@ -3,7 +3,7 @@
 ghost use Rattle.std.specs.Prelude.{◌≡◌, ◌+◌, ◌<◌, ◌^◌, [], ℕ, All, List, OnOk, length, slice_index_or, vec_len};
 ghost use Rattle.row_types.specs.Ascends.{Ascends, AscendsBy};
 ghost use Rattle.index_rows.specs.declared.tally.Tallied.{Tallied};
-ghost use Rattle.index_rows.specs.Places.{IsPlace};
+ghost use Rattle.index_rows.specs.Places.{IsPathPlace};
 ghost use Rattle.index_rows.specs.Tally.{HasPlace, KeepsPlaces, SetsCount, count_at, one, tallied_path};
 
 use crate::merge::{have_places, merged};
@@ -149,7 +149,7 @@ impl Tally {
 /// The path's place, or else the place at which it would stand. The search halves the list.
 pub(crate) fn place_of(entries: &[Tallied], path: &CanonPath) -> Result<usize, usize>
     requires { AscendsBy tallied_path entries.now }
-    ensures { IsPlace tallied_path path.now entries.now result }
+    ensures { IsPathPlace tallied_path path.now entries.now result }
 {
     entries.binary_search_by(|entry| entry.path.cmp(path))
 }

@@ -8,9 +8,9 @@ use Rattle.row_types.specs.Stamp.{StampFacts}
 use Rattle.scan_queue.specs.Pass.{IsPass, PassFacts, left}
 use Rattle.scan_queue.specs.declared.miss.Cause.{Cause}
 use Rattle.index_keeper.specs.Keeper.{ShownKeeper}
-use Rattle.index_state.specs.Away.{GroomsFrom, MissesFrom, TriesFrom, filled}
+use Rattle.index_state.specs.Away.{GroomsFrom, MissesFrom, TriesFrom, filled_copies}
 use Rattle.index_state.specs.Invariant.{IndexInvariant, ListedAccounted, RowsAccounted}
-use Rattle.index_state.specs.Judge.{IsMoved, is_kept}
+use Rattle.index_state.specs.Judge.{IsMoved, is_name_kept}
 use Rattle.index_state.specs.State.{StateFacts}
 use Rattle.index_state.specs.declared.answer.GroomTask.{GroomTask}
 use Rattle.index_state.proofs.AwaySteps.{LacksName, again_listed, again_rows, groomed_listed, groomed_rows, lacks_same, missed_listed, missed_rows, off_listed, off_rows}
@@ -18,7 +18,7 @@ use Rattle.index_state.proofs.Keeps.{there, with_pass}
 use Rattle.index_state.proofs.Listed.{fill_lists, groom_lists, left_lists, lists, miss_lists, try_lists}
 
 -- what is still to be done of a pass, after a name that isn't listed left and its row went
-pub off_pass_listed : {name : NameFacts} {old new : List RowFacts} (pass : Option PassFacts) → LacksName name old new → is_kept pass name ≡ false → IfSome pass (ListedAccounted old) → IfSome (option_map (left name) pass) (ListedAccounted new)
+pub off_pass_listed : {name : NameFacts} {old new : List RowFacts} (pass : Option PassFacts) → LacksName name old new → is_name_kept pass name ≡ false → IfSome pass (ListedAccounted old) → IfSome (option_map (left name) pass) (ListedAccounted new)
 off_pass_listed None lacks unlisted h = tt
 off_pass_listed (Some pass) lacks unlisted h = off_listed pass lacks unlisted h
 
@@ -62,14 +62,14 @@ module _ {K : Type 0} {true_row : RowFacts → Type 0} {told : Bool} {shows : K 
       each (Some from) None was is t = absurd t
 
   -- after they got their copies
-  pub fill_keeps : pass ≡ option_map filled old.pass → IfSome pass IsPass → IndexInvariant true_row told shows (record old { pass = pass })
+  pub fill_keeps : pass ≡ option_map filled_copies old.pass → IfSome pass IsPass → IndexInvariant true_row told shows (record old { pass = pass })
   fill_keeps e place = each old.pass refl
     where
       each : (before : Option PassFacts) → old.pass ≡ before → IndexInvariant true_row told shows (record old { pass = pass })
-      each None was = same_pass (e ∙ ap (option_map filled) was ∙ sym was)
-      each (Some from) was = next_pass was (e ∙ ap (option_map filled) was) (ap lists e ∙ fill_lists old.pass) place (λ _ listed. listed) (λ rows. rows)
+      each None was = same_pass (e ∙ ap (option_map filled_copies) was ∙ sym was)
+      each (Some from) was = next_pass was (e ∙ ap (option_map filled_copies) was) (ap lists e ∙ fill_lists old.pass) place (λ _ listed. listed) (λ rows. rows)
 
-  pub refill_keeps : {A E : Type 0} (result : Result A E) → OnOk result (pass ≡ option_map filled old.pass) → IfErr result (λ _. pass ≡ old.pass) → IfSome pass IsPass → IndexInvariant true_row told shows (record old { pass = pass })
+  pub refill_keeps : {A E : Type 0} (result : Result A E) → OnOk result (pass ≡ option_map filled_copies old.pass) → IfErr result (λ _. pass ≡ old.pass) → IfSome pass IsPass → IndexInvariant true_row told shows (record old { pass = pass })
   refill_keeps (Ok _) ok err place = fill_keeps ok place
   refill_keeps (Err _) ok err place = same_pass err
 

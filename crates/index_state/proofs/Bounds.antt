@@ -13,9 +13,9 @@ use Rattle.index_rows.proofs.RowLemmas.{drop_replays, replay_more}
 use Rattle.scan_queue.specs.Names.{IsByPath, is_in}
 use Rattle.scan_queue.specs.Pass.{PassFacts}
 use Rattle.index_state.specs.Bound.{IsBounded, still_open, voids}
-use Rattle.index_state.specs.Judge.{is_kept}
+use Rattle.index_state.specs.Judge.{is_name_kept}
 use Rattle.index_state.specs.Spared.{Sparing}
-use Rattle.index_state.specs.State.{pass_of}
+use Rattle.index_state.specs.State.{pass_or_none}
 use Rattle.index_state.proofs.ByName.{is_in_stands}
 use Rattle.index_state.proofs.Fewer.{drop_fewer, put_fewer}
 use Rattle.index_state.proofs.PassSteps.{names_with}
@@ -39,7 +39,7 @@ drop_open name rows log listing ascend stands same unlisted =
     (sym (dropped_names name rows log ascend stands same)) (drop_fewer name listing (row_names rows) unlisted stands)
 
 -- a name that a pass doesn't keep isn't listed
-pub not_listed : (pass : Option PassFacts) (name : NameFacts) → is_kept pass name ≡ false → is_in (pass_of pass).listing name ≡ false
+pub not_listed : (pass : Option PassFacts) (name : NameFacts) → is_name_kept pass name ≡ false → is_in (pass_or_none pass).listing name ≡ false
 not_listed None name e = absurd (true≢false e)
 not_listed (Some pass) name e = e
 

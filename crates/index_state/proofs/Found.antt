@@ -7,11 +7,11 @@ use Rattle.row_types.specs.Stamp.{StampFacts}
 use Rattle.index_rows.specs.Rows.{row_names}
 use Rattle.scan_queue.specs.Names.{IsByPath, is_in}
 use Rattle.scan_queue.specs.declared.miss.Seen.{Seen}
-use Rattle.index_state.specs.Judge.{IsLeftOver, IsListed, IsMoved, is_kept, is_strange}
+use Rattle.index_state.specs.Judge.{IsLeftOver, IsNameListed, IsMoved, is_name_kept, is_strange}
 use Rattle.index_state.specs.Plan.{has_stamp}
-use Rattle.index_state.specs.State.{StateFacts, pass_of}
-use Rattle.index_state.specs.Step.{IsAwaited, IsKnown, IsUnlisted}
-use Rattle.index_state.specs.Stored.{IsChanged, IsNew}
+use Rattle.index_state.specs.State.{StateFacts, pass_or_none}
+use Rattle.index_state.specs.Step.{IsAwaited, IsNameKnown, IsUnlisted}
+use Rattle.index_state.specs.Stored.{IsChanged, IsNewName}
 use Rattle.index_state.proofs.ByName.{has_stamp_is_in}
 
 -- names by path were looked at for the name's path, and the stamp that was found was compared with the name's
@@ -30,20 +30,20 @@ is_in_by {names} {name} look =
 
 module _ {K : Type 0} {state : StateFacts K} {name : NameFacts} {listed : Option StampFacts} {a : Bool} where
   -- it isn't listed
-  pub found_unlisted : state.broken ≡ false → IsLooked (pass_of state.pass).listing name listed a → a ≡ false → IsUnlisted name listed state
+  pub found_unlisted : state.broken ≡ false → IsLooked (pass_or_none state.pass).listing name listed a → a ≡ false → IsUnlisted name listed state
   found_unlisted sound look is = record { sound = sound; unlisted = is_in_by look ∙ is; stamp = look.there }
 
   -- it is listed, and has a row
-  pub found_known : {stood : Option StampFacts} {b : Bool} → state.broken ≡ false → IsLooked (pass_of state.pass).listing name listed a → a ≡ true → IsLooked (row_names state.rows) name stood b → b ≡ true → IsKnown name state
+  pub found_known : {stood : Option StampFacts} {b : Bool} → state.broken ≡ false → IsLooked (pass_or_none state.pass).listing name listed a → a ≡ true → IsLooked (row_names state.rows) name stood b → b ≡ true → IsNameKnown name state
   found_known sound look is row_look so = record { sound = sound; listed = is_in_by look ∙ is; stands = is_in_by row_look ∙ so }
 
   -- it is listed, and has no row
-  pub found_awaited : {stood : Option StampFacts} {b : Bool} → IsLooked (pass_of state.pass).listing name listed a → a ≡ true → IsLooked (row_names state.rows) name stood b → b ≡ false → IsAwaited name state
+  pub found_awaited : {stood : Option StampFacts} {b : Bool} → IsLooked (pass_or_none state.pass).listing name listed a → a ≡ true → IsLooked (row_names state.rows) name stood b → b ≡ false → IsAwaited name state
   found_awaited look is row_look so = record { listed = is_in_by look ∙ is; absent = is_in_by row_look ∙ so }
 
-module _ {K : Type 0} {state : StateFacts K} {name : NameFacts} {kept : Bool} (sound : state.broken ≡ false) (asked : kept ≡ is_kept state.pass name) where
+module _ {K : Type 0} {state : StateFacts K} {name : NameFacts} {kept : Bool} (sound : state.broken ≡ false) (asked : kept ≡ is_name_kept state.pass name) where
   -- it is listed, or no pass was begun
-  pub found_listed : kept ≡ true → IsListed name state
+  pub found_listed : kept ≡ true → IsNameListed name state
   found_listed is = record { sound = sound; kept = sym asked ∙ is }
 
   -- it isn't, and its row doesn't stand
@@ -68,7 +68,7 @@ some_of None e = absurd (true≢false (sym e))
 
 module _ {K : Type 0} {state : StateFacts K} {name : NameFacts} {stood : Option StampFacts} {b : Bool} where
   -- its path has no row
-  pub found_new : state.broken ≡ false → IsAwaited name state → stood ≡ stamp_at (row_names state.rows) name.path → is_some stood ≡ not b → b ≡ true → IsNew name state
+  pub found_new : state.broken ≡ false → IsAwaited name state → stood ≡ stamp_at (row_names state.rows) name.path → is_some stood ≡ not b → b ≡ true → IsNewName name state
   found_new sound awaited e says is = record {
     sound = sound;
     awaited = awaited;

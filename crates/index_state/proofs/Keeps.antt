@@ -17,18 +17,18 @@ use Rattle.index_rows.proofs.RowLemmas.{put_replays, void_drop}
 use Rattle.scan_queue.specs.Names.{is_in}
 use Rattle.scan_queue.specs.Pass.{IsPass, PassFacts, TakesName, begun, left}
 use Rattle.index_keeper.specs.Answers.{for_change}
-use Rattle.index_keeper.specs.Keeper.{Asks, ShownKeeper}
+use Rattle.index_keeper.specs.Keeper.{AsksKeeper, ShownKeeper}
 use Rattle.index_keeper.specs.Tables.{EditFacts, edited}
 use Rattle.index_keeper.specs.declared.answer.KeepAnswer.TheVariants.{Done, Failed}
 use Rattle.index_state.specs.Bound.{voids}
 use Rattle.index_state.specs.Changes.{HasOrigin, IsMadeBy}
 use Rattle.index_state.specs.Invariant.{AgreesWithStore, IndexInvariant, ListedAccounted, RowsAccounted}
-use Rattle.index_state.specs.Keeping.{IsPut, put_row}
-use Rattle.index_state.specs.Kept.{Agrees, StandsFor, tables_of}
+use Rattle.index_state.specs.Keeping.{IsRowPut, put_row}
+use Rattle.index_state.specs.Kept.{AgreesOrInDoubt, StandsFor, tables_of_rows}
 use Rattle.index_state.specs.Spare.{after_spare}
 use Rattle.index_state.specs.Spared.{Sparing}
-use Rattle.index_state.specs.State.{StateFacts, pass_of, unspared}
-use Rattle.index_state.specs.Step.{IsAwaited, IsKnown, IsOpen, TakesFrom, after_fault, after_stored}
+use Rattle.index_state.specs.State.{StateFacts, pass_or_none, unspared}
+use Rattle.index_state.specs.Step.{IsAwaited, IsNameKnown, IsOpen, TakesFrom, after_fault, after_stored}
 use Rattle.index_state.proofs.Bounds.{bounded_more, bounded_now, put_open}
 use Rattle.index_state.proofs.ByName.{stands_is_in}
 use Rattle.index_state.proofs.LogSteps.{ends_void, lasting_marked, lasting_sound, origin_more, put_changes, sound_more}
@@ -47,7 +47,7 @@ after_take P old new None step t h = subst (λ (o : Option PassFacts). IfSome o 
 after_take P old new (Some name) step t h = subst (λ (o : Option PassFacts). IfSome o P) (sym t.is) (step name t.from t.into t.step (there P t.was h))
 
 -- what a listed name that leaves makes true of the pass
-after_leave : (P Q : PassFacts → Type 0) (name : NameFacts) (p : Option PassFacts) → is_in (pass_of p).listing name ≡ true → IfSome p IsPass → ((pass : PassFacts) → is_in pass.listing name ≡ true → IsPass pass → P pass → Q (left name pass)) → IfSome p P → IfSome (option_map (left name) p) Q
+after_leave : (P Q : PassFacts → Type 0) (name : NameFacts) (p : Option PassFacts) → is_in (pass_or_none p).listing name ≡ true → IfSome p IsPass → ((pass : PassFacts) → is_in pass.listing name ≡ true → IsPass pass → P pass → Q (left name pass)) → IfSome p P → IfSome (option_map (left name) p) Q
 after_leave P Q name None listed place step h = tt
 after_leave P Q name (Some pass) listed place step h = step pass listed place h
 
@@ -118,7 +118,7 @@ module _ {K : Type 0} {true_row : RowFacts → Type 0} {told : Bool} {shows : K 
       let place : IsPass t.from = there IsPass t.was h.each_name_in_one_place in
       let listed : ListedAccounted old.rows t.into = taken_listed old.rows t.step (there (ListedAccounted old.rows) t.was h.listed_names_accounted_for) in
       record {
-        listed = ap (λ (o : Option PassFacts). is_in (pass_of o).listing name) t.is ∙ taken_is_listed t.step place;
+        listed = ap (λ (o : Option PassFacts). is_in (pass_or_none o).listing name) t.is ∙ taken_is_listed t.step place;
         absent = taken_is_absent old.rows t.step place listed;
       }
 
@@ -131,7 +131,7 @@ module _ {K : Type 0} {true_row : RowFacts → Type 0} {told : Bool} {shows : K 
       (ap (λ (l : List NameFacts). is_in l name) (sym (take_lists old.pass pass (Some name) t)) ∙ awaited.listed) awaited.absent
 
   -- after the name of a row that stands left
-  pub leave_keeps : {name : NameFacts} {pass : Option PassFacts} → IndexInvariant true_row told shows old → IsKnown name old → pass ≡ option_map (left name) old.pass → IfSome pass IsPass → IndexInvariant true_row told shows (record old { pass = pass })
+  pub leave_keeps : {name : NameFacts} {pass : Option PassFacts} → IndexInvariant true_row told shows old → IsNameKnown name old → pass ≡ option_map (left name) old.pass → IfSome pass IsPass → IndexInvariant true_row told shows (record old { pass = pass })
   leave_keeps {name} {pass} h known e place =
       let P : (PassFacts → Type 0) → Type 0 = λ Q. IfSome (option_map (left name) old.pass) Q in
       let listed : P (ListedAccounted old.rows) = after_leave (ListedAccounted old.rows) (ListedAccounted old.rows) name old.pass known.listed h.each_name_in_one_place (λ p _ _. known_listed old.rows name p known.stands) h.listed_names_accounted_for in
@@ -143,7 +143,7 @@ module _ {K : Type 0} {true_row : RowFacts → Type 0} {told : Bool} {shows : K 
   since_opening h sound = subst (HasOrigin true_row old.origin (shows old.keeper).made) (lasting_sound old.broken old.log sound) h.store_agrees_with_rows.since
 
   -- after a change of the store that failed, for which a void one is listed
-  pub void_keeps : {keeper : K} (void : Change) {edit : EditFacts} → IndexInvariant true_row told shows old → old.broken ≡ false → length old.log < LOG_LIMIT → replay (old.log ++ void ∷ []) ≡ replay old.log → StandsFor true_row void edit → Asks told (shows old.keeper) (shows keeper) (for_change edit Failed) → IndexInvariant true_row told shows (record old { log = old.log ++ void ∷ []; broken = true; keeper = keeper })
+  pub void_keeps : {keeper : K} (void : Change) {edit : EditFacts} → IndexInvariant true_row told shows old → old.broken ≡ false → length old.log < LOG_LIMIT → replay (old.log ++ void ∷ []) ≡ replay old.log → StandsFor true_row void edit → AsksKeeper told (shows old.keeper) (shows keeper) (for_change edit Failed) → IndexInvariant true_row told shows (record old { log = old.log ++ void ∷ []; broken = true; keeper = keeper })
   void_keeps {keeper} void {edit} h sound room same meant asked =
       let rose = asked.cause.rose refl in
       record {
@@ -168,7 +168,7 @@ module _ {K : Type 0} {true_row : RowFacts → Type 0} {told : Bool} {shows : K 
       }
 
   -- after a put that failed
-  pub fault_keeps : {keeper : K} (row : RowFacts) → IndexInvariant true_row told shows old → IsOpen row.name old → true_row row → IsPut told row (shows old.keeper) (shows keeper) Failed → IndexInvariant true_row told shows (after_fault row keeper old)
+  pub fault_keeps : {keeper : K} (row : RowFacts) → IndexInvariant true_row told shows old → IsOpen row.name old → true_row row → IsRowPut told row (shows old.keeper) (shows keeper) Failed → IndexInvariant true_row told shows (after_fault row keeper old)
   fault_keeps {keeper} row h can holds put =
       let free : Stands row.name old.rows → ⊥ = λ stands. true≢false (sym (stands_is_in row.name old.rows stands) ∙ can.awaited.absent) in
       void_keeps (drop_of row.name) {edit = put_row row} h can.sound can.room
@@ -176,12 +176,12 @@ module _ {K : Type 0} {true_row : RowFacts → Type 0} {told : Bool} {shows : K 
       (record { row = row; named = refl; holds = holds; spelled = put.spelled; kept = refl }) put.asked
 
   -- the store and the log after a change that the store made
-  pub made_agrees : {keeper : K} {pass : Option PassFacts} {rows : List RowFacts} (change : Change) {edit : EditFacts} → IndexInvariant true_row told shows old → old.broken ≡ false → IsMadeBy true_row change.put change.name edit → edited (tables_of old.rows) edit ≡ tables_of rows → Asks told (shows old.keeper) (shows keeper) (for_change edit Done) → AgreesWithStore true_row told (shows keeper) (record old { rows = rows; log = old.log ++ change ∷ []; pass = pass; keeper = keeper })
+  pub made_agrees : {keeper : K} {pass : Option PassFacts} {rows : List RowFacts} (change : Change) {edit : EditFacts} → IndexInvariant true_row told shows old → old.broken ≡ false → IsMadeBy true_row change.put change.name edit → edited (tables_of_rows old.rows) edit ≡ tables_of_rows rows → AsksKeeper told (shows old.keeper) (shows keeper) (for_change edit Done) → AgreesWithStore true_row told (shows keeper) (record old { rows = rows; log = old.log ++ change ∷ []; pass = pass; keeper = keeper })
   made_agrees {keeper} {pass} {rows} change {edit} h sound made same asked =
       let log : List Change = old.log ++ change ∷ [] in
       record {
         tables = λ tells.
-            subst (λ (b : Bool). Agrees true_row b log rows (shows keeper)) (sym sound)
+            subst (λ (b : Bool). AgreesOrInDoubt true_row b log rows (shows keeper)) (sym sound)
             (stored same (in_store h sound tells) (asked.tells tells));
         number = asked.number ∙ h.store_agrees_with_rows.number;
         since =
@@ -190,7 +190,7 @@ module _ {K : Type 0} {true_row : RowFacts → Type 0} {told : Bool} {shows : K 
       }
 
   -- after a put that was made
-  pub put_keeps : {keeper : K} (row : RowFacts) → ((r : RowFacts) → true_row r → r.edition ≡ EDITION) → IndexInvariant true_row told shows old → IsOpen row.name old → true_row row → IsPut told row (shows old.keeper) (shows keeper) Done → IfSome (option_map (left row.name) old.pass) IsPass → IndexInvariant true_row told shows (after_stored row keeper old)
+  pub put_keeps : {keeper : K} (row : RowFacts) → ((r : RowFacts) → true_row r → r.edition ≡ EDITION) → IndexInvariant true_row told shows old → IsOpen row.name old → true_row row → IsRowPut told row (shows old.keeper) (shows keeper) Done → IfSome (option_map (left row.name) old.pass) IsPass → IndexInvariant true_row told shows (after_stored row keeper old)
   put_keeps {keeper} row of_edition h can holds put place =
       let room : length old.log < LOG_LIMIT = can.room in
       let absent : is_in (replay old.log) row.name ≡ false = ap (λ (l : List NameFacts). is_in l row.name) (sym h.rows_replay_the_log.names) ∙ can.awaited.absent in

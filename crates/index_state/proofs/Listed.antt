@@ -5,14 +5,14 @@ use Rattle.std.specs.Prelude.{IfErr, OnOk, Result, Ok, Err}
 use Rattle.row_types.specs.Name.{NameFacts}
 use Rattle.scan_queue.specs.Pass.{PassFacts, left}
 use Rattle.scan_queue.specs.declared.miss.Cause.{Cause}
-use Rattle.index_state.specs.Away.{GroomsFrom, MissesFrom, TriesFrom, filled}
-use Rattle.index_state.specs.State.{pass_of}
+use Rattle.index_state.specs.Away.{GroomsFrom, MissesFrom, TriesFrom, filled_copies}
+use Rattle.index_state.specs.State.{pass_or_none}
 use Rattle.index_state.specs.Step.{TakesFrom}
 use Rattle.index_state.specs.declared.answer.GroomTask.{GroomTask}
 
 -- what a pass, if one was begun, lists
 abbrev pub lists : Option PassFacts → List NameFacts
-lists pass = (pass_of pass).listing
+lists pass = (pass_or_none pass).listing
 
 module _ (old new : Option PassFacts) where
   over : {from into : PassFacts} → old ≡ Some from → new ≡ Some into → into.listing ≡ from.listing → lists new ≡ lists old
@@ -41,11 +41,11 @@ try_lists None (Some into) t = absurd t
 try_lists (Some from) None t = absurd t
 
 -- after each name got its copy
-pub fill_lists : (old : Option PassFacts) → lists (option_map filled old) ≡ lists old
+pub fill_lists : (old : Option PassFacts) → lists (option_map filled_copies old) ≡ lists old
 fill_lists None = refl
 fill_lists (Some pass) = refl
 
-pub refill_lists : {A E : Type 0} (old new : Option PassFacts) (result : Result A E) → OnOk result (new ≡ option_map filled old) → IfErr result (λ _. new ≡ old) → lists new ≡ lists old
+pub refill_lists : {A E : Type 0} (old new : Option PassFacts) (result : Result A E) → OnOk result (new ≡ option_map filled_copies old) → IfErr result (λ _. new ≡ old) → lists new ≡ lists old
 refill_lists old new (Ok _) ok err = ap lists ok ∙ fill_lists old
 refill_lists old new (Err _) ok err = ap lists err
 

@@ -21,7 +21,7 @@ use Rattle.index_state.specs.Kept.{IsInStore}
 use Rattle.index_state.specs.OpenParts.{IsOfOpening}
 use Rattle.index_state.specs.Opening.{opened_on, puts_of}
 use Rattle.index_state.specs.Spared.{Sparing, spared_by, sparing_at}
-use Rattle.index_state.specs.State.{StateFacts, made_first, pass_of, state_of}
+use Rattle.index_state.specs.State.{StateFacts, made_first, pass_or_none, state_of}
 use Rattle.index_state.specs.declared.state.State.TheInside.{Inside}
 use Rattle.index_state.proofs.ByName.{map_ascends}
 use Rattle.index_state.proofs.Spares.{spares_none}
@@ -64,8 +64,8 @@ opened_state shows s log pass roots sound epoch puts spares =
     let same : s.first_puts ≡ length s.rows.rows = puts ∙ ap (λ (l : List Change). length l) log ∙ length-map s.rows.rows (λ (r : RowFacts). put_of r.name) in
     let none : length s.rows.log - s.first_puts ≡ 0 = omega arith in
     let made : made_first (length s.rows.log - s.first_puts) (shows s.keeper).made ≡ (shows s.keeper).made = made_all (length s.rows.log - s.first_puts) (shows s.keeper).made none in
-    let spared : spared_by s.rows.log (pass_of s.pass).listing s.spared_at ≡ [] = ap (spared_by s.rows.log (pass_of s.pass).listing) spares in
-    let moment : sparing_at (pass_of s.pass).listing s.spared_at ≡ None = ap (sparing_at (pass_of s.pass).listing) spares in
+    let spared : spared_by s.rows.log (pass_or_none s.pass).listing s.spared_at ≡ [] = ap (spared_by s.rows.log (pass_or_none s.pass).listing) spares in
+    let moment : sparing_at (pass_or_none s.pass).listing s.spared_at ≡ None = ap (sparing_at (pass_or_none s.pass).listing) spares in
     cc
 
 module _ {K : Type 0} {true_row : RowFacts → Type 0} {told : Bool} {shows : K → ShownKeeper} {keeper : K} where

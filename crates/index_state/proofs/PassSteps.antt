@@ -13,7 +13,7 @@ use Rattle.index_rows.proofs.Lists.{map_filter}
 use Rattle.index_rows.proofs.PathLemmas.{map_put}
 use Rattle.index_rows.proofs.RowLemmas.{path_in}
 use Rattle.scan_queue.specs.Names.{IsByPath, is_in, not_in, without}
-use Rattle.scan_queue.specs.Pass.{Adds, IsPass, PassFacts, TakesName, begun, left, misses_without, missed_names}
+use Rattle.scan_queue.specs.Pass.{AddsElement, IsPass, PassFacts, TakesName, begun, left, misses_without, missed_names}
 use Rattle.scan_queue.specs.declared.miss.Miss.{Miss}
 use Rattle.scan_queue.proofs.NameTests.{same_name-Decides}
 use Rattle.index_state.specs.Invariant.{ListedAccounted, RowsAccounted, to_look_for, to_read}
@@ -58,7 +58,7 @@ move_front true true b = refl
 move_front true false b = refl
 move_front false s b = refl
 
-pub in_added : (x n : NameFacts) (before after : List NameFacts) → Adds x before after → is_in after n ≡ (same_name n x || is_in before n)
+pub in_added : (x n : NameFacts) (before after : List NameFacts) → AddsElement x before after → is_in after n ≡ (same_name n x || is_in before n)
 in_added x n before after adds =
     ap (λ (l : List NameFacts). is_in l n) adds.new
     ∙ in_append adds.front (x ∷ adds.back) n
@@ -75,7 +75,7 @@ pub three_as : (a b c d e f : Bool) → a ≡ d → b ≡ e → c ≡ f → ((a 
 three_as a b c d e f p q r = cc
 
 -- the names of three lists, once the first of the first list stands in the second
-pub first_out : (n : NameFacts) {name : NameFacts} {first rest before after : List NameFacts} (missed : List NameFacts) → first ≡ name ∷ rest → Adds name before after → is_in (rest ++ after ++ missed) n ≡ is_in (first ++ before ++ missed) n
+pub first_out : (n : NameFacts) {name : NameFacts} {first rest before after : List NameFacts} (missed : List NameFacts) → first ≡ name ∷ rest → AddsElement name before after → is_in (rest ++ after ++ missed) n ≡ is_in (first ++ before ++ missed) n
 first_out n {name} {first} {rest} {before} {after} missed e adds =
     in_three rest after missed n
     ∙ ap (λ b. (is_in rest n || b) || is_in missed n) (in_added name n before after adds)
@@ -90,7 +90,7 @@ move_out false true b m = refl
 move_out false false b m = refl
 
 -- the names of three lists, once one more stands in the second
-pub one_more_out : (n : NameFacts) {name : NameFacts} {before after : List NameFacts} (first missed : List NameFacts) → Adds name before after → is_in (first ++ after ++ missed) n ≡ (same_name n name || is_in (first ++ before ++ missed) n)
+pub one_more_out : (n : NameFacts) {name : NameFacts} {before after : List NameFacts} (first missed : List NameFacts) → AddsElement name before after → is_in (first ++ after ++ missed) n ≡ (same_name n name || is_in (first ++ before ++ missed) n)
 one_more_out n {name} {before} {after} first missed adds =
     in_three first after missed n
     ∙ ap (λ b. (is_in first n || b) || is_in missed n) (in_added name n before after adds)

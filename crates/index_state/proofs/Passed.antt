@@ -8,12 +8,12 @@ use Rattle.index_rows.specs.Rows.{row_names}
 use Rattle.scan_queue.specs.Pass.{PassFacts, left}
 use Rattle.scan_queue.specs.declared.miss.Cause.{Cause}
 use Rattle.index_keeper.specs.Keeper.{ShownKeeper}
-use Rattle.index_state.specs.Away.{GroomsFrom, GroomsNext, MissesFrom, MissesOut, TriesAll, TriesFrom, filled}
+use Rattle.index_state.specs.Away.{GroomsFrom, GroomsNext, MissesFrom, MissesOut, TriesAwayAgain, TriesFrom, filled_copies}
 use Rattle.index_state.specs.Invariant.{IndexInvariant}
 use Rattle.index_state.specs.Spare.{after_spare}
 use Rattle.index_state.specs.Spared.{spared_by, sparing_at}
-use Rattle.index_state.specs.State.{StateFacts, pass_of, state_of}
-use Rattle.index_state.specs.Step.{IsAwaited, TakesFrom, TakesNext}
+use Rattle.index_state.specs.State.{StateFacts, pass_or_none, state_of}
+use Rattle.index_state.specs.Step.{IsAwaited, TakesFrom, TakesNextName}
 use Rattle.index_state.specs.declared.answer.GroomTask.{GroomTask}
 use Rattle.index_state.specs.declared.state.State.TheInside.{Inside}
 use Rattle.index_state.proofs.Keeps.{spare_keeps, take_awaits, take_spares}
@@ -37,9 +37,9 @@ module _ {W K : Type 0} (shows : K → ShownKeeper) (s : Inside W K) (pass : Opt
         let P : StateFacts K → Type 0 = λ x. R x (state_of shows (record s { pass = pass })) in
         subst P seen r
 
-    pub take_step : (answer : Option NameFacts) → TakesFrom s.pass answer pass → TakesNext state answer (state_of shows (record s { pass = pass }))
+    pub take_step : (answer : Option NameFacts) → TakesFrom s.pass answer pass → TakesNextName state answer (state_of shows (record s { pass = pass }))
     take_step answer t =
-        passed_then (λ (old new : StateFacts K). TakesNext old answer new) (record { taken = t; same = passed_is (take_lists s.pass pass answer t) })
+        passed_then (λ (old new : StateFacts K). TakesNextName old answer new) (record { taken = t; same = passed_is (take_lists s.pass pass answer t) })
 
     -- a name that is taken is awaited, and its path is that of no skipped name
     pub take_awaited : {true_row : RowFacts → Type 0} {told : Bool} (answer : Option NameFacts) → IndexInvariant true_row told shows (state_of shows s) → TakesFrom s.pass answer pass → IfSome answer (λ name. IsAwaited name (state_of shows (record s { pass = pass })))
@@ -60,14 +60,14 @@ module _ {W K : Type 0} (shows : K → ShownKeeper) (s : Inside W K) (pass : Opt
     miss_step name cause answer t =
         passed_then (λ (old new : StateFacts K). MissesOut name cause old answer new) (record { missed = t; same = passed_is (miss_lists name cause s.pass pass answer t) })
 
-    pub try_step : {count : ℕ} → count ≡ length (pass_of s.pass).out + length (pass_of s.pass).missed → TriesFrom s.pass pass → TriesAll state count (state_of shows (record s { pass = pass }))
+    pub try_step : {count : ℕ} → count ≡ length (pass_or_none s.pass).out + length (pass_or_none s.pass).missed → TriesFrom s.pass pass → TriesAwayAgain state count (state_of shows (record s { pass = pass }))
     try_step {count} number t =
-        passed_then (λ (old new : StateFacts K). TriesAll old count new) (record { number = number; tried = t; same = passed_is (try_lists s.pass pass t) })
+        passed_then (λ (old new : StateFacts K). TriesAwayAgain old count new) (record { number = number; tried = t; same = passed_is (try_lists s.pass pass t) })
 
     -- once each name that is out or missed has its copy, or memory was refused
-    pub fill_step : {A E : Type 0} (result : Result A E) → OnOk result (pass ≡ option_map filled s.pass) → OnOk result (state_of shows (record s { pass = pass }) ≡ record state { pass = option_map filled state.pass })
+    pub fill_step : {A E : Type 0} (result : Result A E) → OnOk result (pass ≡ option_map filled_copies s.pass) → OnOk result (state_of shows (record s { pass = pass }) ≡ record state { pass = option_map filled_copies state.pass })
     fill_step (Ok _) e =
-        passed_then (λ (old new : StateFacts K). new ≡ record old { pass = option_map filled old.pass })
+        passed_then (λ (old new : StateFacts K). new ≡ record old { pass = option_map filled_copies old.pass })
         (passed_is (ap lists e ∙ fill_lists s.pass) ∙ ap (λ (o : Option PassFacts). record (state_of shows s) { pass = o }) e)
     fill_step (Err _) e = tt
 

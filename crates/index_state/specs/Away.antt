@@ -6,12 +6,12 @@ use Rattle.scan_queue.specs.Names.{is_in}
 use Rattle.scan_queue.specs.Pass.{GroomsName, MissesName, PassFacts, TriesAgain}
 use Rattle.scan_queue.specs.declared.miss.Cause.{Cause}
 use Rattle.index_state.specs.Judge.{is_under}
-use Rattle.index_state.specs.State.{StateFacts, pass_of}
+use Rattle.index_state.specs.State.{StateFacts, pass_or_none}
 use Rattle.index_state.specs.declared.answer.GroomTask.{GroomTask}
 
 -- no name is to be looked for, or no pass was begun
 pub record FindsNoTask (old new : Option PassFacts) : Type 0 where
-  pub none : (pass_of old).groom ≡ []
+  pub none : (pass_or_none old).groom ≡ []
   pub same : new ≡ old
 
 -- the first name that is to be looked for goes out, with whether its path is under a root
@@ -44,7 +44,7 @@ pub record NotesMiss (name : NameFacts) (cause : Cause) (old new : Option PassFa
 
 -- the name isn't out, or no pass was begun
 pub record IsNotOut (name : NameFacts) (old new : Option PassFacts) : Type 0 where
-  pub absent : is_in (pass_of old).out name ≡ false
+  pub absent : is_in (pass_or_none old).out name ≡ false
   pub same : new ≡ old
 
 -- what becomes of a pass, if one was begun, as a name is missed; the answer is whether it was out
@@ -58,8 +58,8 @@ pub record MissesOut {K : Type 0} (name : NameFacts) (cause : Cause) (old : Stat
   pub same : new ≡ record old { pass = new.pass }
 
 -- the pass once each name that is out or missed has its copy
-abbrev pub filled : PassFacts → PassFacts
-filled pass = record pass { filled = true }
+abbrev pub filled_copies : PassFacts → PassFacts
+filled_copies pass = record pass { filled = true }
 
 -- each name that is out or missed has its copy
 abbrev pub IsFilled : Option PassFacts → Type 0
@@ -68,11 +68,11 @@ IsFilled pass = IfSome pass (λ p. p.filled ≡ true)
 -- what becomes of a pass, if one was begun, as the names that are out or missed get their copies and are tried again
 abbrev pub TriesFrom : Option PassFacts → Option PassFacts → Type 0
 TriesFrom None None = Unit {0}
-TriesFrom (Some from) (Some into) = TriesAgain (filled from) into
+TriesFrom (Some from) (Some into) = TriesAgain (filled_copies from) into
 TriesFrom _ _ = ⊥
 
 -- the names that are out or missed are tried again, so many: the pass alone changes
-pub record TriesAll {K : Type 0} (old : StateFacts K) (count : ℕ) (new : StateFacts K) : Type 0 where
-  pub number : count ≡ length (pass_of old.pass).out + length (pass_of old.pass).missed
+pub record TriesAwayAgain {K : Type 0} (old : StateFacts K) (count : ℕ) (new : StateFacts K) : Type 0 where
+  pub number : count ≡ length (pass_or_none old.pass).out + length (pass_or_none old.pass).missed
   pub tried : TriesFrom old.pass new.pass
   pub same : new ≡ record old { pass = new.pass }

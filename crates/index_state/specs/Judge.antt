@@ -17,9 +17,9 @@ use Rattle.index_state.specs.Keeping.{IsRemoval}
 use Rattle.index_state.specs.State.{StateFacts}
 
 -- whether the name stays as it is: it is listed, or no pass was begun
-abbrev pub is_kept : Option PassFacts → NameFacts → Bool
-is_kept None name = true
-is_kept (Some pass) name = is_in pass.listing name
+abbrev pub is_name_kept : Option PassFacts → NameFacts → Bool
+is_name_kept None name = true
+is_name_kept (Some pass) name = is_in pass.listing name
 
 -- whether the path is that of a root, or lies under one
 abbrev pub is_under : List (List ℕ) → List ℕ → Bool
@@ -35,21 +35,21 @@ abbrev pub is_strange : List (List ℕ) → NameFacts → Seen → Bool
 is_strange roots name seen = is_under roots name.path && is_file seen name.stamp
 
 -- the name is listed, or no pass was begun
-pub record IsListed {K : Type 0} (name : NameFacts) (old : StateFacts K) : Type 0 where
+pub record IsNameListed {K : Type 0} (name : NameFacts) (old : StateFacts K) : Type 0 where
   pub sound : old.broken ≡ false
-  pub kept : is_kept old.pass name ≡ true
+  pub kept : is_name_kept old.pass name ≡ true
 
 -- the name isn't listed, and its path has no row or one of another stamp, which is this
 pub record IsMoved {K : Type 0} (name : NameFacts) (now : Option StampFacts) (old : StateFacts K) : Type 0 where
   pub sound : old.broken ≡ false
-  pub unlisted : is_kept old.pass name ≡ false
+  pub unlisted : is_name_kept old.pass name ≡ false
   pub gone : is_in (row_names old.rows) name ≡ false
   pub stamp : now ≡ stamp_at (row_names old.rows) name.path
 
 -- the row of the name stands, though the name isn't listed
 pub record IsLeftOver {K : Type 0} (name : NameFacts) (old : StateFacts K) : Type 0 where
   pub sound : old.broken ≡ false
-  pub unlisted : is_kept old.pass name ≡ false
+  pub unlisted : is_name_kept old.pass name ≡ false
   pub stands : is_in (row_names old.rows) name ≡ true
 
 -- its file was seen under a root all the same

@@ -5,7 +5,7 @@ use Rattle.std.specs.Prelude.{◌≡◌, ◌≢◌, ◌⊎◌, ℕ, ◌≤◌, �
 use Rattle.row_types.specs.Faults.{HasCause}
 use Rattle.row_types.specs.Row.{RowFacts}
 use Rattle.row_types.specs.declared.limits.TheConstants.{EDITION}
-use Rattle.row_codec.specs.Read.{row_at}
+use Rattle.row_codec.specs.Read.{row_of_bytes}
 use Rattle.row_codec.specs.RowBytes.{IsRowBytes}
 use Rattle.row_codec.specs.Spelled.{IsSpelled}
 use Rattle.row_codec.specs.declared.fault.CodecFault.{CodecFault}
@@ -14,21 +14,21 @@ use Rattle.index_rows.specs.Log.{put_of}
 use Rattle.index_rows.specs.Rows.{row_path}
 use Rattle.index_rows.specs.declared.change.Change.{Change}
 use Rattle.index_rows.specs.declared.rows.TheConstants.{LOG_LIMIT}
-use Rattle.index_keeper.specs.Answers.{for_change, for_rows, rows_in}
-use Rattle.index_keeper.specs.Keeper.{Asks, IsSettled, ShownKeeper}
+use Rattle.index_keeper.specs.Answers.{for_change, for_rows, rows_given}
+use Rattle.index_keeper.specs.Keeper.{AsksKeeper, AreTablesSettled, ShownKeeper}
 use Rattle.index_keeper.specs.Tables.{AscendsByPath, EditFacts, KeptFacts, removal_of}
 use Rattle.index_keeper.specs.declared.answer.KeepAnswer.{KeepAnswer}
 use Rattle.index_keeper.specs.declared.answer.KeepAnswer.TheVariants.{Failed as RemoveFailed, OutOfMemory as RemoveNoMemory}
 use Rattle.index_keeper.specs.declared.answer.KeptAnswer.{KeptAnswer}
 use Rattle.index_keeper.specs.declared.answer.KeptAnswer.TheVariants.{Failed as RowsFailed, OutOfMemory as RowsNoMemory}
-use Rattle.index_state.specs.Kept.{IsInStore, tables_of}
+use Rattle.index_state.specs.Kept.{IsInStore, tables_of_rows}
 use Rattle.index_state.specs.State.{StateFacts}
 use Rattle.index_state.specs.declared.open_fault.OpenFault.{OpenFault}
 use Rattle.index_state.specs.declared.open_fault.OpenFault.TheVariants.{KeeperFault, BadRow, LogFull, OutOfMemory}
 
 -- an index can be opened on the keeper: where it tells, a crash now leaves its tables as they are
 abbrev pub CanOpen : Bool → ShownKeeper → Type 0
-CanOpen told shown = IsTrue told → IsSettled shown
+CanOpen told shown = IsTrue told → AreTablesSettled shown
 
 -- whether the row is of the edition
 abbrev pub is_current : RowFacts → Bool
@@ -48,7 +48,7 @@ puts_of rows = map (λ row. put_of row.name) rows
 
 -- each value is the row bytes of a row, under its path
 pub record AreRows (rows : List RowFacts) (values : List KeptFacts) : Type 0 where
-  pub kept : values ≡ tables_of rows
+  pub kept : values ≡ tables_of_rows rows
   pub spelled : All IsSpelled rows
 
 -- the bytes are those of a row of another path
@@ -59,7 +59,7 @@ pub record IsElsewhere (value : KeptFacts) : Type 0 where
 
 -- the bytes are those of no row, by their first fault, which isn't want of memory
 pub record IsNoRow (value : KeptFacts) (fault : CodecFault) : Type 0 where
-  pub first : row_at value.bytes ≡ Err fault
+  pub first : row_of_bytes value.bytes ≡ Err fault
   pub real : fault ≢ CodecNoMemory
 
 -- the value isn't a row under its path
@@ -102,7 +102,7 @@ pub record StopsAt {K : Type 0} (told : Bool) (shows : K → ShownKeeper) (rows 
   pub stray : is_current row ≡ false
   pub stopped : K
   pub swept : IsSwept told front (row ∷ back) (shows keeper) (shows stopped)
-  pub asked : Asks told (shows stopped) (shows given) (for_change (removal_of row.name.path) answer)
+  pub asked : AsksKeeper told (shows stopped) (shows given) (for_change (removal_of row.name.path) answer)
 
 -- each value is a row under its path, and not too many are of the edition, but a removal was answered so
 pub record StopsSweeping {K : Type 0} (told : Bool) (shows : K → ShownKeeper) (values : List KeptFacts) (keeper given : K) (answer : KeepAnswer) : Type 0 where
@@ -125,7 +125,7 @@ opened_on shows rows keeper = record {
 
 -- the index is opened on a keeper that gave these values: each is a row under its path, and those of the edition,
 -- which aren't too many, are the index's
-pub record OpensOn {K : Type 0} (told : Bool) (shows : K → ShownKeeper) (values : List KeptFacts) (keeper : K) (state : StateFacts K) : Type 0 where
+pub record IndexOpensOn {K : Type 0} (told : Bool) (shows : K → ShownKeeper) (values : List KeptFacts) (keeper : K) (state : StateFacts K) : Type 0 where
   pub rows : List RowFacts
   pub sound : AreRows rows values
   pub few : length (current rows) ≤ LOG_LIMIT
@@ -140,24 +140,24 @@ RefusesOn told shows values keeper KeeperFault given = StopsSweeping told shows 
 RefusesOn told shows values keeper OutOfMemory given = (given ≡ keeper) ⊎ StopsSweeping told shows values keeper given RemoveNoMemory
 
 -- the keeper was asked for its rows, and gave these values, by path
-pub record Gives {K : Type 0} (told : Bool) (shows : K → ShownKeeper) (keeper asked : K) (values : List KeptFacts) : Type 0 where
+pub record GivesRows {K : Type 0} (told : Bool) (shows : K → ShownKeeper) (keeper asked : K) (values : List KeptFacts) : Type 0 where
   pub answer : KeptAnswer
-  pub heard : Asks told (shows keeper) (shows asked) (for_rows answer)
-  pub gave : rows_in answer ≡ Some values
+  pub heard : AsksKeeper told (shows keeper) (shows asked) (for_rows answer)
+  pub gave : rows_given answer ≡ Some values
   pub by_path : AscendsByPath values
 
 -- the keeper gave its rows, and the index is opened on it
 pub record Opens {K : Type 0} (told : Bool) (shows : K → ShownKeeper) (keeper : K) (state : StateFacts K) : Type 0 where
   pub values : List KeptFacts
   pub asked : K
-  pub gave : Gives told shows keeper asked values
-  pub opened : OpensOn told shows values asked state
+  pub gave : GivesRows told shows keeper asked values
+  pub opened : IndexOpensOn told shows values asked state
 
 -- the keeper gave its rows, and the index isn't opened on it
 pub record RefusesRows {K : Type 0} (told : Bool) (shows : K → ShownKeeper) (keeper : K) (fault : OpenFault) (given : K) : Type 0 where
   pub values : List KeptFacts
   pub asked : K
-  pub gave : Gives told shows keeper asked values
+  pub gave : GivesRows told shows keeper asked values
   pub why : RefusesOn told shows values asked fault given
 
 -- the fault that stands for an answer without rows
@@ -169,12 +169,12 @@ IsFaultOf _ _ = ⊥
 -- the keeper was asked for its rows, and gave none
 pub record GivesNone {K : Type 0} (told : Bool) (shows : K → ShownKeeper) (keeper : K) (fault : OpenFault) (given : K) : Type 0 where
   pub answer : KeptAnswer
-  pub heard : Asks told (shows keeper) (shows given) (for_rows answer)
+  pub heard : AsksKeeper told (shows keeper) (shows given) (for_rows answer)
   pub why : IsFaultOf fault answer
 
 -- why an index isn't opened
-abbrev pub Refuses : {K : Type 0} → Bool → (K → ShownKeeper) → K → OpenFault → K → Type 0
-Refuses told shows keeper fault given = GivesNone told shows keeper fault given ⊎ RefusesRows told shows keeper fault given
+abbrev pub RefusesOpening : {K : Type 0} → Bool → (K → ShownKeeper) → K → OpenFault → K → Type 0
+RefusesOpening told shows keeper fault given = GivesNone told shows keeper fault given ⊎ RefusesRows told shows keeper fault given
 
 -- the count rises where the keeper failed, and only there
 abbrev pub CountsFault : ShownKeeper → ShownKeeper → OpenFault → Type 0
@@ -185,7 +185,7 @@ pub record LacksStrays (tables image : List KeptFacts) : Type 0 where
   pub first : List RowFacts
   pub last : List RowFacts
   pub sound : AreRows (first ++ last) tables
-  pub left : image ≡ tables_of (current first ++ last)
+  pub left : image ≡ tables_of_rows (current first ++ last)
 
 -- whatever a crash now leaves has all that the keeper had, but for rows of other editions
 abbrev pub LeavesRows : Bool → ShownKeeper → ShownKeeper → Type 0

@@ -41,9 +41,9 @@ abbrev pub no_pass : PassFacts
 no_pass = record { listing = []; todo = []; out = []; groom = []; missed = []; filled = true }
 
 -- the pass, if one was begun, else the one in which nothing is listed
-abbrev pub pass_of : Option PassFacts → PassFacts
-pass_of None = no_pass
-pass_of (Some pass) = pass
+abbrev pub pass_or_none : Option PassFacts → PassFacts
+pass_or_none None = no_pass
+pass_or_none (Some pass) = pass
 
 -- the changes that stand: all but the last one of a broken index, which is void
 abbrev pub lasting : Bool → List Change → List Change
@@ -67,7 +67,7 @@ state_of shows s = record {
     epoch = s.epoch;
     puts = s.first_puts;
     made = made_first (length (lasting s.broken s.rows.log) - s.first_puts) (shows s.keeper).made;
-    sparing = sparing_at (pass_of s.pass).listing s.spared_at;
-    spared = spared_by s.rows.log (pass_of s.pass).listing s.spared_at;
+    sparing = sparing_at (pass_or_none s.pass).listing s.spared_at;
+    spared = spared_by s.rows.log (pass_or_none s.pass).listing s.spared_at;
   };
 }

@@ -16,16 +16,16 @@ use Rattle.scan_queue.specs.Pass.{PassFacts, TakesName, begun, left}
 use Rattle.index_keeper.specs.Keeper.{IsLeftAlone, ShownKeeper}
 use Rattle.index_keeper.specs.declared.answer.KeepAnswer.TheVariants.{Done, Failed}
 use Rattle.index_state.specs.Bound.{still_open}
-use Rattle.index_state.specs.Keeping.{IsPut}
+use Rattle.index_state.specs.Keeping.{IsRowPut}
 use Rattle.index_state.specs.Plan.{most_changes, plan_of}
-use Rattle.index_state.specs.State.{StateFacts, pass_of, unspared}
+use Rattle.index_state.specs.State.{StateFacts, pass_or_none, unspared}
 use Rattle.index_state.specs.declared.answer.Plan.{Plan}
 use Rattle.index_state.specs.declared.answer.Begun.{Begun}
 use Rattle.scan_queue.specs.declared.miss.Cause.{Cause}
 use Rattle.scan_queue.specs.declared.miss.Cause.TheVariants.{Appeared}
 use Rattle.scan_queue.specs.declared.miss.Seen.{Seen}
-use Rattle.index_state.specs.Away.{GroomsNext, MissesOut, TriesAll}
-use Rattle.index_state.specs.Judge.{DropIsShut, DropWantsMemory, IsGone, IsListed, IsStrange, MovesOff, Removes, Tears}
+use Rattle.index_state.specs.Away.{GroomsNext, MissesOut, TriesAwayAgain}
+use Rattle.index_state.specs.Judge.{DropIsShut, DropWantsMemory, IsGone, IsNameListed, IsStrange, MovesOff, Removes, Tears}
 use Rattle.index_state.specs.declared.answer.GroomTask.{GroomTask}
 use Rattle.index_state.specs.declared.answer.Judged.{Judged}
 use Rattle.index_state.specs.declared.answer.Judged.TheVariants.{Kept, Dropped, Moved, Strange, Broken as JudgedBroken, LogFull as JudgedFull, KeeperFault as JudgedFault, OutOfMemory as JudgedNoMemory}
@@ -58,7 +58,7 @@ pub data Answer : Type 0 where
   to_look : List (List ℕ) → Answer
 
 -- the state stays, and this is why
-pub record Stays {K : Type 0} (Why : Type 0) (old new : StateFacts K) : Type 0 where
+pub record StateStays {K : Type 0} (Why : Type 0) (old new : StateFacts K) : Type 0 where
   pub why : Why
   pub same : new ≡ old
 
@@ -79,18 +79,18 @@ pub record BeginsPass {K : Type 0} (listing : List NameFacts) (roots : List (Lis
   pub after : new ≡ after_begin listing roots old
 
 -- a pass begins, or not
-abbrev pub Begins : {K : Type 0} → List NameFacts → List (List ℕ) → StateFacts K → Begun → StateFacts K → Type 0
-Begins listing roots old (BegunBy plan) new = BeginsPass listing roots plan old new
-Begins listing roots old BegunBroken new = Stays (old.broken ≡ true) old new
-Begins listing roots old BegunNoMemory new = Stays (old.broken ≡ false) old new
+abbrev pub BeginsOrNot : {K : Type 0} → List NameFacts → List (List ℕ) → StateFacts K → Begun → StateFacts K → Type 0
+BeginsOrNot listing roots old (BegunBy plan) new = BeginsPass listing roots plan old new
+BeginsOrNot listing roots old BegunBroken new = StateStays (old.broken ≡ true) old new
+BeginsOrNot listing roots old BegunNoMemory new = StateStays (old.broken ≡ false) old new
 
 -- no name is to be read, or no pass was begun
-pub record FindsNone (old new : Option PassFacts) : Type 0 where
-  pub none : (pass_of old).todo ≡ []
+pub record FindsNoName (old new : Option PassFacts) : Type 0 where
+  pub none : (pass_or_none old).todo ≡ []
   pub same : new ≡ old
 
 -- the first name that is to be read goes out
-pub record HandsOut (name : NameFacts) (old new : Option PassFacts) : Type 0 where
+pub record HandsNameOut (name : NameFacts) (old new : Option PassFacts) : Type 0 where
   pub from : PassFacts
   pub into : PassFacts
   pub was : old ≡ Some from
@@ -99,29 +99,29 @@ pub record HandsOut (name : NameFacts) (old new : Option PassFacts) : Type 0 whe
 
 -- what becomes of a pass, if one was begun, as the next name is asked for
 abbrev pub TakesFrom : Option PassFacts → Option NameFacts → Option PassFacts → Type 0
-TakesFrom old None new = FindsNone old new
-TakesFrom old (Some name) new = HandsOut name old new
+TakesFrom old None new = FindsNoName old new
+TakesFrom old (Some name) new = HandsNameOut name old new
 
 -- the next name is asked for: the pass alone changes
-pub record TakesNext {K : Type 0} (old : StateFacts K) (answer : Option NameFacts) (new : StateFacts K) : Type 0 where
+pub record TakesNextName {K : Type 0} (old : StateFacts K) (answer : Option NameFacts) (new : StateFacts K) : Type 0 where
   pub taken : TakesFrom old.pass answer new.pass
   pub same : new ≡ record old { pass = new.pass }
 
 -- the name isn't listed, but its path may be, with this stamp
 pub record IsUnlisted {K : Type 0} (name : NameFacts) (listed : Option StampFacts) (old : StateFacts K) : Type 0 where
   pub sound : old.broken ≡ false
-  pub unlisted : is_in (pass_of old.pass).listing name ≡ false
-  pub stamp : listed ≡ stamp_at (pass_of old.pass).listing name.path
+  pub unlisted : is_in (pass_or_none old.pass).listing name ≡ false
+  pub stamp : listed ≡ stamp_at (pass_or_none old.pass).listing name.path
 
 -- the name is listed, and has a row
-pub record IsKnown {K : Type 0} (name : NameFacts) (old : StateFacts K) : Type 0 where
+pub record IsNameKnown {K : Type 0} (name : NameFacts) (old : StateFacts K) : Type 0 where
   pub sound : old.broken ≡ false
-  pub listed : is_in (pass_of old.pass).listing name ≡ true
+  pub listed : is_in (pass_or_none old.pass).listing name ≡ true
   pub stands : is_in (row_names old.rows) name ≡ true
 
 -- the name is listed, and has no row yet, broken as the index may be
 pub record IsAwaited {K : Type 0} (name : NameFacts) (old : StateFacts K) : Type 0 where
-  pub listed : is_in (pass_of old.pass).listing name ≡ true
+  pub listed : is_in (pass_or_none old.pass).listing name ≡ true
   pub absent : is_in (row_names old.rows) name ≡ false
 
 -- the name is awaited, but the log has no room
@@ -137,8 +137,8 @@ pub record IsOpen {K : Type 0} (name : NameFacts) (old : StateFacts K) : Type 0 
   pub room : length old.log < LOG_LIMIT
 
 -- the name of a row that stands leaves the pass
-pub record Leaves {K : Type 0} (name : NameFacts) (old new : StateFacts K) : Type 0 where
-  pub known : IsKnown name old
+pub record LeavesPass {K : Type 0} (name : NameFacts) (old new : StateFacts K) : Type 0 where
+  pub known : IsNameKnown name old
   pub after : new ≡ record old { pass = option_map (left name) old.pass }
 
 -- memory was refused; what contracts know of the keeper stays too
@@ -154,7 +154,7 @@ after_fault row keeper old = record old { log = old.log ++ drop_of row.name ∷ 
 -- the keeper failed to put the row
 pub record Breaks {K : Type 0} (told : Bool) (shows : K → ShownKeeper) (row : RowFacts) (old new : StateFacts K) : Type 0 where
   pub can : IsOpen row.name old
-  pub keeper : IsPut told row (shows old.keeper) (shows new.keeper) Failed
+  pub keeper : IsRowPut told row (shows old.keeper) (shows new.keeper) Failed
   pub after : new ≡ after_fault row new.keeper old
 
 -- once the keeper has the row: the row stands, its put is listed, and its name leaves the pass
@@ -169,29 +169,29 @@ after_stored row keeper old = record old {
 -- the keeper has the row
 pub record Stores {K : Type 0} (told : Bool) (shows : K → ShownKeeper) (row : RowFacts) (old new : StateFacts K) : Type 0 where
   pub can : IsOpen row.name old
-  pub keeper : IsPut told row (shows old.keeper) (shows new.keeper) Done
+  pub keeper : IsRowPut told row (shows old.keeper) (shows new.keeper) Done
   pub after : new ≡ after_stored row new.keeper old
 
 -- the row stands, and its path had none
-pub record Adds {K : Type 0} (told : Bool) (shows : K → ShownKeeper) (row : RowFacts) (old new : StateFacts K) : Type 0 where
+pub record AddsNewRow {K : Type 0} (told : Bool) (shows : K → ShownKeeper) (row : RowFacts) (old new : StateFacts K) : Type 0 where
   pub stored : Stores told shows row old new
   pub fresh : stamp_at (row_names old.rows) row.name.path ≡ None
 
 -- the row stands in place of its path's
-pub record Replaces {K : Type 0} (told : Bool) (shows : K → ShownKeeper) (row : RowFacts) (old new : StateFacts K) : Type 0 where
+pub record ReplacesRow {K : Type 0} (told : Bool) (shows : K → ShownKeeper) (row : RowFacts) (old new : StateFacts K) : Type 0 where
   pub stored : Stores told shows row old new
   pub stood : IsSome (stamp_at (row_names old.rows) row.name.path)
 
 -- a row is published, or not
 abbrev pub Publishes : {K : Type 0} → Bool → (K → ShownKeeper) → RowFacts → StateFacts K → Published → StateFacts K → Type 0
-Publishes told shows row old Broken new = Stays (old.broken ≡ true) old new
-Publishes told shows row old (NotListed listed) new = Stays (IsUnlisted row.name listed old) old new
-Publishes told shows row old Already new = Leaves row.name old new
-Publishes told shows row old LogFull new = Stays (IsShut row.name old) old new
+Publishes told shows row old Broken new = StateStays (old.broken ≡ true) old new
+Publishes told shows row old (NotListed listed) new = StateStays (IsUnlisted row.name listed old) old new
+Publishes told shows row old Already new = LeavesPass row.name old new
+Publishes told shows row old LogFull new = StateStays (IsShut row.name old) old new
 Publishes told shows row old OutOfMemory new = FindsNoMemory told shows row old new
 Publishes told shows row old KeeperFault new = Breaks told shows row old new
-Publishes told shows row old Added new = Adds told shows row old new
-Publishes told shows row old Replaced new = Replaces told shows row old new
+Publishes told shows row old Added new = AddsNewRow told shows row old new
+Publishes told shows row old Replaced new = ReplacesRow told shows row old new
 
 -- the file of a row that is left over was seen under a root: its name is missed by that, if it is out
 pub record Appears {K : Type 0} (name : NameFacts) (seen : Seen) (old new : StateFacts K) : Type 0 where
@@ -201,7 +201,7 @@ pub record Appears {K : Type 0} (name : NameFacts) (seen : Seen) (old new : Stat
 
 -- the row of the name is dropped, or not
 abbrev pub Drops : {K : Type 0} → Bool → (K → ShownKeeper) → NameFacts → StateFacts K → Judged → StateFacts K → Type 0
-Drops told shows name old JudgedFull new = Stays (DropIsShut name old) old new
+Drops told shows name old JudgedFull new = StateStays (DropIsShut name old) old new
 Drops told shows name old JudgedNoMemory new = DropWantsMemory told shows name old new
 Drops told shows name old JudgedFault new = Tears told shows name old new
 Drops told shows name old Dropped new = Removes told shows name old new
@@ -214,8 +214,8 @@ pub record Condemns {K : Type 0} (told : Bool) (shows : K → ShownKeeper) (name
 
 -- a name is judged by what was seen at its path
 abbrev pub Judges : {K : Type 0} → Bool → (K → ShownKeeper) → NameFacts → Seen → StateFacts K → Judged → StateFacts K → Type 0
-Judges told shows name seen old JudgedBroken new = Stays (old.broken ≡ true) old new
-Judges told shows name seen old Kept new = Stays (IsListed name old) old new
+Judges told shows name seen old JudgedBroken new = StateStays (old.broken ≡ true) old new
+Judges told shows name seen old Kept new = StateStays (IsNameListed name old) old new
 Judges told shows name seen old (Moved now) new = MovesOff name now old new
 Judges told shows name seen old Strange new = Appears name seen old new
 Judges told shows name seen old answer new = Condemns told shows name seen old answer new
@@ -227,12 +227,12 @@ pub record LooksUp {K : Type 0} (id : List ℕ) (kind : Kind) (old : StateFacts 
 
 -- the event happened, this was answered, and the first state became the second
 abbrev pub IndexStep : {K : Type 0} → Bool → (K → ShownKeeper) → StateFacts K → Event → Answer → StateFacts K → Type 0
-IndexStep told shows old (begins listing roots) (to_begin answer) new = Begins listing roots old answer new
-IndexStep told shows old takes (to_take answer) new = TakesNext old answer new
+IndexStep told shows old (begins listing roots) (to_begin answer) new = BeginsOrNot listing roots old answer new
+IndexStep told shows old takes (to_take answer) new = TakesNextName old answer new
 IndexStep told shows old (publishes row) (to_publish answer) new = Publishes told shows row old answer new
 IndexStep told shows old grooms (to_groom answer) new = GroomsNext old answer new
 IndexStep told shows old (judges name seen) (to_judge answer) new = Judges told shows name seen old answer new
 IndexStep told shows old (misses name cause) (to_miss answer) new = MissesOut name cause old answer new
-IndexStep told shows old retries (to_retry count) new = TriesAll old count new
+IndexStep told shows old retries (to_retry count) new = TriesAwayAgain old count new
 IndexStep told shows old (looks id kind) (to_look paths) new = LooksUp id kind old paths new
 IndexStep told shows old _ _ new = ⊥

@@ -3,8 +3,8 @@
 ghost use Rattle.std.specs.Prelude.{◌≡◌, IfErr, IfSome, OnOk};
 ghost use Rattle.std.specs.Option.{option_copied, option_map};
 ghost use Rattle.scan_queue.specs.Pass.{IsPass, first_missed};
-ghost use Rattle.index_state.specs.Away.{IsFilled, filled};
-ghost use Rattle.index_state.specs.State.{pass_of};
+ghost use Rattle.index_state.specs.Away.{IsFilled, filled_copies};
+ghost use Rattle.index_state.specs.State.{pass_or_none};
 ghost use Rattle.index_state.specs.Step.{IndexStep, grooms, misses, retries, to_groom, to_miss};
 ghost use Rattle.index_state.specs.Step.{to_retry};
 
@@ -37,7 +37,7 @@ impl<W: Truth, K: Keeper<W>> State<W, K> {
     /// again.
     pub fn refill(&mut self) -> Result<(), AllocError>
         ensures ok { OnOk result
-            (self.new ≡ record self.old { pass = option_map filled self.old.pass }) }
+            (self.new ≡ record self.old { pass = option_map filled_copies self.old.pass }) }
         ensures ready { OnOk result (IsFilled self.new.pass) }
         ensures err { IfErr result (λ _. self.new ≡ self.old) }
     {
@@ -55,7 +55,7 @@ impl<W: Truth, K: Keeper<W>> State<W, K> {
 
     /// The first name that was missed, by path; of two with one path the listed one comes first.
     pub fn first_miss(&self) -> Option<&Miss>
-        ensures first { option_copied result ≡ first_missed (pass_of self.now.pass).missed }
+        ensures first { option_copied result ≡ first_missed (pass_or_none self.now.pass).missed }
         ensures order { IfSome self.now.pass IsPass }
     {
         first_miss(&self.pass)

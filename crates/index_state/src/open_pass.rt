@@ -5,9 +5,9 @@ ghost use Rattle.std.specs.Option.{option_copied, option_map};
 ghost use Rattle.row_types.specs.Name.{stamp_at};
 ghost use Rattle.scan_queue.specs.Names.{IsByPath};
 ghost use Rattle.scan_queue.specs.Pass.{IsPass, counts_of, first_missed, left};
-ghost use Rattle.index_state.specs.Away.{GroomsFrom, IsFilled, MissesFrom, TriesFrom, filled};
-ghost use Rattle.index_state.specs.Judge.{is_kept};
-ghost use Rattle.index_state.specs.State.{pass_of};
+ghost use Rattle.index_state.specs.Away.{GroomsFrom, IsFilled, MissesFrom, TriesFrom, filled_copies};
+ghost use Rattle.index_state.specs.Judge.{is_name_kept};
+ghost use Rattle.index_state.specs.State.{pass_or_none};
 ghost use Rattle.index_state.specs.Step.{TakesFrom};
 
 use crate::answer::GroomTask;
@@ -58,7 +58,7 @@ pub(crate) fn miss_name(pass: &mut Option<Pass>, name: &Name, cause: Cause) -> b
 
 /// Makes the missing copies of the names that are out or missed.
 pub(crate) fn refill_pass(pass: &mut Option<Pass>) -> Result<(), AllocError>
-    ensures ok { OnOk result (pass.new ≡ option_map filled pass.old) }
+    ensures ok { OnOk result (pass.new ≡ option_map filled_copies pass.old) }
     ensures ready { OnOk result (IsFilled pass.new) }
     ensures err { IfErr result (λ _. pass.new ≡ pass.old) }
     ensures keeps { IfSome pass.new IsPass }
@@ -72,7 +72,7 @@ pub(crate) fn refill_pass(pass: &mut Option<Pass>) -> Result<(), AllocError>
 /// Lets the names that are out or missed be tried again, and gives their number.
 pub(crate) fn retry_pass(pass: &mut Option<Pass>) -> u64
     requires { IsFilled pass.old }
-    ensures number { result ≡ length (pass_of pass.old).out + length (pass_of pass.old).missed }
+    ensures number { result ≡ length (pass_or_none pass.old).out + length (pass_or_none pass.old).missed }
     ensures tried { TriesFrom pass.old pass.new }
     ensures keeps { IfSome pass.new IsPass }
 {
@@ -84,7 +84,7 @@ pub(crate) fn retry_pass(pass: &mut Option<Pass>) -> u64
 
 /// The first name that was missed.
 pub(crate) fn first_miss(pass: &Option<Pass>) -> Option<&Miss>
-    ensures first { option_copied result ≡ first_missed (pass_of pass.now).missed }
+    ensures first { option_copied result ≡ first_missed (pass_or_none pass.now).missed }
     ensures holds { IfSome pass.now IsPass }
 {
     match pass {
@@ -108,8 +108,8 @@ pub(crate) fn leave(pass: &mut Option<Pass>, name: &Name)
 
 /// The stamp under which the path is listed.
 pub(crate) fn listed_stamp(pass: &Option<Pass>, path: &CanonPath) -> Option<Stamp>
-    ensures value { result ≡ stamp_at (pass_of pass.now).listing path.now }
-    ensures by_path { IsByPath (pass_of pass.now).listing }
+    ensures value { result ≡ stamp_at (pass_or_none pass.now).listing path.now }
+    ensures by_path { IsByPath (pass_or_none pass.now).listing }
 {
     match pass {
         Some(pass) => pass.listing().stamp_of(path),
@@ -119,7 +119,7 @@ pub(crate) fn listed_stamp(pass: &Option<Pass>, path: &CanonPath) -> Option<Stam
 
 /// Whether the name is listed, or no pass was begun.
 pub(crate) fn is_kept(pass: &Option<Pass>, name: &Name) -> bool
-    ensures { result ≡ is_kept pass.now name.now }
+    ensures { result ≡ is_name_kept pass.now name.now }
 {
     match pass {
         Some(pass) => has_stamp(&pass.listing().stamp_of(&name.path), name.stamp),
@@ -129,7 +129,7 @@ pub(crate) fn is_kept(pass: &Option<Pass>, name: &Name) -> bool
 
 /// How many names stand in each list.
 pub(crate) fn counts(pass: &Option<Pass>) -> Counts
-    ensures { result ≡ counts_of (pass_of pass.now) }
+    ensures { result ≡ counts_of (pass_or_none pass.now) }
 {
     match pass {
         Some(pass) => pass.counts(),

@@ -1,12 +1,12 @@
 //! Opening an index on the keeper of a store.
 
 ghost use Rattle.std.specs.Prelude.{◌≡◌, ◌^◌, IfOk, IfErr, IsTrue};
-ghost use Rattle.index_keeper.specs.Keeper.{AreKept};
+ghost use Rattle.index_keeper.specs.Keeper.{AreRowsKept};
 ghost use Rattle.index_rows.specs.declared.rows.TheConstants.{LOG_LIMIT};
 ghost use Rattle.index_state.specs.Kept.{IsInStore};
-ghost use Rattle.index_state.specs.OpenParts.{IsHeld, IsOfOpening};
-ghost use Rattle.index_state.specs.Opening.{CanOpen, CountsFault, LeavesRows, Opens, OpensOn};
-ghost use Rattle.index_state.specs.Opening.{Refuses, RefusesOn, opened_on};
+ghost use Rattle.index_state.specs.OpenParts.{AreTablesHeld, IsOfOpening};
+ghost use Rattle.index_state.specs.Opening.{CanOpen, CountsFault, LeavesRows, Opens, IndexOpensOn};
+ghost use Rattle.index_state.specs.Opening.{RefusesOpening, RefusesOn, opened_on};
 
 use crate::open_fault::OpenFault;
 use crate::read::read_values;
@@ -25,7 +25,7 @@ pub fn open_state<W: Truth, K: Keeper<W>>(
 ) -> Result<State<W, K>, (OpenFault, K)>
     requires { CanOpen K.told (K.shows keeper) }
     ensures ok { IfOk result (λ state. Opens K.told K.shows keeper state) }
-    ensures err { IfErr result (λ refusal. Refuses K.told K.shows keeper refusal.0 refusal.1) }
+    ensures err { IfErr result (λ refusal. RefusesOpening K.told K.shows keeper refusal.0 refusal.1) }
     ensures cause { IfErr result (λ refusal. CountsFault (K.shows keeper) (K.shows refusal.1)
         refusal.0) }
     ensures left { IfErr result (λ refusal. LeavesRows K.told (K.shows keeper)
@@ -46,9 +46,9 @@ fn open_on<W: Truth, K: Keeper<W>>(
     keeper: K,
     values: &[Kept],
 ) -> Result<State<W, K>, (OpenFault, K)>
-    requires kept { AreKept W.true_row values.now }
-    requires held { IsTrue K.told → IsHeld values.now (K.shows keeper) }
-    ensures ok { IfOk result (OpensOn K.told K.shows values.now keeper) }
+    requires kept { AreRowsKept W.true_row values.now }
+    requires held { IsTrue K.told → AreTablesHeld values.now (K.shows keeper) }
+    ensures ok { IfOk result (IndexOpensOn K.told K.shows values.now keeper) }
     ensures err { IfErr result (λ refusal. RefusesOn K.told K.shows values.now keeper refusal.0
         refusal.1) }
 {

@@ -1,8 +1,8 @@
 -- The true rows of the told world of two versions.
 use Rattle.std.proofs.Common.{◌≡◌, inl, inr, Err, refl, sym, subst}
-use Rattle.file_formats.specs.Header.{head_of}
+use Rattle.file_formats.specs.Header.{header_of}
 use Rattle.file_formats.specs.Identity.{IsIdentity, refused}
-use Rattle.file_formats.specs.Table.{table_of}
+use Rattle.file_formats.specs.Table.{section_table}
 use Rattle.file_formats.specs.declared.fault.ElfFault.TheVariants.{NotElf}
 use Rattle.file_formats.specs.declared.fault.Why.TheVariants.{NotElf as WhyNotElf}
 use Rattle.row_types.specs.Reading.{IsTrueRow}
@@ -15,11 +15,11 @@ use Rattle.tree_trait.specs.TwoWorld.{IsEither, first_stamp, path, second_stamp}
 
 -- the bytes of neither version begin as an ELF file does
 first_is_refused : IsIdentity (codes "x") (Err WhyNotElf)
-unfolding table_of head_of
+unfolding section_table header_of
 first_is_refused = refused NotElf refl
 
 second_is_refused : IsIdentity (codes "yy") (Err WhyNotElf)
-unfolding table_of head_of
+unfolding section_table header_of
 second_is_refused = refused NotElf refl
 
 -- the row that says of the version with the stamp that it is no ELF file

@@ -5,19 +5,19 @@ use mathlib.Core.List.{IsPrefix}
 use Rattle.atomic_table.specs.Seated.{TableId}
 use Rattle.index_lock.specs.Tokens.{IsLater, SeatFacts}
 use Rattle.index_lock.proofs.Prefixes.{prefix_trans}
-use Rattle.lock_crew.specs.Runs.{BringsBack, IsReady, RunsBy, SlotHas, SlotRan}
+use Rattle.lock_crew.specs.Runs.{BringsBack, IsSlotReady, RunsBy, SlotHas, SlotRan}
 use Rattle.std.proofs.lemmas.List.Elements.{All-cons, All-head, All-tail}
 use Rattle.lock_crew.proofs.Zips.{zip_right}
 
 module _ {C E O P : Type 0} (seat_of : C → SeatFacts E O) (place_of : C → P) where
   -- a slot that is ready has a token of the one token's lock
-  ready_lock : (start : SeatFacts E O) (place : P) (slot : Option C) → IsReady seat_of place_of start place slot
+  ready_lock : (start : SeatFacts E O) (place : P) (slot : Option C) → IsSlotReady seat_of place_of start place slot
       → SlotHas (λ slot. (seat_of slot).lock ≡ start.lock) slot
   ready_lock start place None ready = ready
   ready_lock start place (Some slot) ready = ap (λ s. s.lock) ready.0
 
   pub ready_locks : (start : SeatFacts E O) (places : List P) (slots : List (Option C))
-      → AllZip (IsReady seat_of place_of start) places slots
+      → AllZip (IsSlotReady seat_of place_of start) places slots
       → All (SlotHas (λ slot. (seat_of slot).lock ≡ start.lock)) slots
   ready_locks start places slots ready = zip_right (ready_lock start) places slots ready
 
@@ -53,7 +53,7 @@ module _ {C E O P : Type 0} (seat_of : C → SeatFacts E O) (place_of : C → P)
 
   -- what one run made of a place, out and back
   run_one : (start end : SeatFacts E O) (place : P) (before after : Option C) (back : P)
-      → IsReady seat_of place_of start place before → SlotRan RanSlot before after
+      → IsSlotReady seat_of place_of start place before → SlotRan RanSlot before after
       → BringsBack seat_of place_of end after back → RunsBy ran start end place back
   run_one start end place None after back ready made brings = absurd ready
   run_one start end place (Some before) None back ready made brings = absurd made
@@ -67,7 +67,7 @@ module _ {C E O P : Type 0} (seat_of : C → SeatFacts E O) (place_of : C → P)
 
   -- what the runs made of the places
   pub run_places : (start end : SeatFacts E O) (places : List P) (before after : List (Option C)) (back : List P)
-      → AllZip (IsReady seat_of place_of start) places before → AllZip (SlotRan RanSlot) before after
+      → AllZip (IsSlotReady seat_of place_of start) places before → AllZip (SlotRan RanSlot) before after
       → AllZip (BringsBack seat_of place_of end) after back → AllZip (RunsBy ran start end) places back
   run_places start end [] [] [] [] ready made brings = tt
   run_places start end [] [] [] (q ∷ qs) ready made brings = absurd brings

@@ -9,9 +9,9 @@ SlotHas Has None = ⊥
 SlotHas Has (Some slot) = Has slot
 
 -- the slot holds the place, with a token that has seen what the one token has
-abbrev pub IsReady : {C E O P : Type 0} → (C → SeatFacts E O) → (C → P) → SeatFacts E O → P → Option C → Type 0
-IsReady seat_of place_of start place None = ⊥
-IsReady seat_of place_of start place (Some slot) = (seat_of slot ≡ start) × (place_of slot ≡ place)
+abbrev pub IsSlotReady : {C E O P : Type 0} → (C → SeatFacts E O) → (C → P) → SeatFacts E O → P → Option C → Type 0
+IsSlotReady seat_of place_of start place None = ⊥
+IsSlotReady seat_of place_of start place (Some slot) = (seat_of slot ≡ start) × (place_of slot ≡ place)
 
 -- what was in the slot and what is in it now stand so
 abbrev pub SlotRan : {C : Type 0} → (C → C → Type 0) → Option C → Option C → Type 0

@@ -3,7 +3,7 @@
 ghost use Rattle.std.specs.Prelude.{◌≡◌, ◌≤◌, [], All, vec_capacity, vec_len, IfOk};
 ghost use Rattle.std.specs.List.{AllZip};
 ghost use Rattle.index_lock.specs.Tokens.{IsLater};
-ghost use Rattle.lock_crew.specs.Runs.{BringsBack, IsReady, SlotHas};
+ghost use Rattle.lock_crew.specs.Runs.{BringsBack, IsSlotReady, SlotHas};
 
 use index_lock::{Logged, Seat, Split, TurnLock};
 use std::alloc::{AllocError, Global};
@@ -43,7 +43,7 @@ pub fn seats_out<S: Logged, P: Drop>(
     requires none { slots.items ≡ [] }
     requires room { vec_len places ≤ vec_capacity slots }
     ensures same { result.0 ≡ seat }
-    ensures slots { AllZip (IsReady (λ slot. slot.seat) (λ slot. slot.place) seat)
+    ensures slots { AllZip (IsSlotReady (λ slot. slot.seat) (λ slot. slot.place) seat)
         places.items result.1.items }
     ensures locks { All (SlotHas (λ slot. slot.seat.lock ≡ lock.now)) result.1.items }
     ensures count { vec_len result.1 ≡ vec_len places }

@@ -14,7 +14,7 @@ use Rattle.row_types.specs.Ascends.{IsBefore}
 use Rattle.row_types.specs.Name.{NameFacts, same_name}
 use Rattle.row_types.specs.Row.{RowFacts}
 use Rattle.scan_queue.specs.Names.{IsByPath, is_in}
-use Rattle.scan_queue.specs.Pass.{Adds, InOrder, IsPass, PassFacts, Precedes, first_missed, left, missed_names}
+use Rattle.scan_queue.specs.Pass.{AddsElement, InOrder, IsPass, PassFacts, Precedes, first_missed, left, missed_names}
 use Rattle.scan_queue.specs.declared.miss.Cause.{Cause}
 use Rattle.scan_queue.specs.declared.miss.Miss.{Miss}
 use Rattle.scan_queue.specs.declared.miss.Seen.{Seen}
@@ -22,12 +22,12 @@ use Rattle.scan_queue.proofs.Leaves.{without_names}
 use Rattle.scan_queue.proofs.NameTests.{path_differs}
 use Rattle.scan_queue.proofs.Picks.{head_pairs}
 use Rattle.index_state.specs.Away.{MissesOut}
-use Rattle.index_state.specs.State.{StateFacts, pass_of}
+use Rattle.index_state.specs.State.{StateFacts, pass_or_none}
 use Rattle.index_state.proofs.Members.{differs_in, in_without_other, same_name_self}
 use Rattle.index_state.proofs.PassSteps.{in_added}
-use Rattle.scan_worker.specs.Read.{FindsOther, MayWant, Reads, load_of}
+use Rattle.scan_worker.specs.Read.{FindsOther, MayWant, ReadsListed, heard_load}
 use Rattle.tree_trait.specs.Heard.{Heard, load}
-use Rattle.tree_trait.specs.Listens.{heard_of}
+use Rattle.tree_trait.specs.Listens.{heard_or_none}
 use Rattle.tree_trait.specs.Load.{LoadFacts, loaded, too_large, failed, no_memory}
 use Rattle.tree_trait.proofs.ListenLemmas.{all_heard}
 use Rattle.pass_runner.specs.Settled.{AlteredAreMissed, IsHeardAltered, MissesStay, is_missed}
@@ -59,23 +59,23 @@ out_unmissed pass name place out =
     omega (arith, one, a, b, c, d, e))
 
 -- so it is another one than a name that was
-pub out_differs : (pass : Option PassFacts) (name other : NameFacts) → IfSome pass IsPass → is_in (pass_of pass).out name ≡ true
-    → is_in (missed_names (pass_of pass).missed) other ≡ true → same_name other name ≡ false
+pub out_differs : (pass : Option PassFacts) (name other : NameFacts) → IfSome pass IsPass → is_in (pass_or_none pass).out name ≡ true
+    → is_in (missed_names (pass_or_none pass).missed) other ≡ true → same_name other name ≡ false
 out_differs None name other place out missed = absurd (true≢false (sym out))
 out_differs (Some p) name other place out missed =
     differs_in (missed_names p.missed) other name missed (out_unmissed p name place out)
 
 -- a name that was missed is missed still once another one left
 pub left_still : (name other : NameFacts) (pass : Option PassFacts) → same_name other name ≡ false
-    → is_in (missed_names (pass_of pass).missed) other ≡ true
-    → is_in (missed_names (pass_of (option_map (left name) pass)).missed) other ≡ true
+    → is_in (missed_names (pass_or_none pass).missed) other ≡ true
+    → is_in (missed_names (pass_or_none (option_map (left name) pass)).missed) other ≡ true
 left_still name other None differs missed = missed
 left_still name other (Some p) differs missed =
     ap (λ (l : List NameFacts). is_in l other) (sym (without_names name p.missed))
     ∙ in_without_other name other (missed_names p.missed) differs ∙ missed
 
 -- the names of missed ones, of which one is more
-names_added : (m : Miss) (before after : List Miss) → Adds m before after → Adds m.name (missed_names before) (missed_names after)
+names_added : (m : Miss) (before after : List Miss) → AddsElement m before after → AddsElement m.name (missed_names before) (missed_names after)
 names_added m before after adds = record {
   front = missed_names adds.front;
   back = missed_names adds.back;
@@ -84,7 +84,7 @@ names_added m before after adds = record {
 }
 
 -- as many were missed
-pub still_same : {K : Type 0} (old new : StateFacts K) (listing : List NameFacts) → (pass_of new.pass).missed ≡ (pass_of old.pass).missed
+pub still_same : {K : Type 0} (old new : StateFacts K) (listing : List NameFacts) → (pass_or_none new.pass).missed ≡ (pass_or_none old.pass).missed
     → MissesStay listing old new
 still_same old new listing same = λ name listed missed. ap (λ (ms : List Miss). is_in (missed_names ms) name) same ∙ missed
 
@@ -92,10 +92,10 @@ module _ {K : Type 0} {old new : StateFacts K} where
   missed_now : {name : NameFacts} {cause : Cause} → MissesOut name cause old true new → (n : NameFacts)
       → is_missed new n ≡ (same_name n name || is_missed old n)
   missed_now {name} {cause} misses n =
-      ap (λ (o : Option PassFacts). is_in (missed_names (pass_of o).missed) n) misses.missed.is
+      ap (λ (o : Option PassFacts). is_in (missed_names (pass_or_none o).missed) n) misses.missed.is
       ∙ in_added name n (missed_names misses.missed.from.missed) (missed_names misses.missed.into.missed)
       (names_added (record { name = name; cause = cause }) misses.missed.from.missed misses.missed.into.missed misses.missed.step.missed)
-      ∙ ap (λ (o : Option PassFacts). same_name n name || is_in (missed_names (pass_of o).missed) n) (sym misses.missed.was)
+      ∙ ap (λ (o : Option PassFacts). same_name n name || is_in (missed_names (pass_or_none o).missed) n) (sym misses.missed.was)
 
   -- or one more
   pub still_more : {name : NameFacts} {cause : Cause} (listing : List NameFacts) → MissesOut name cause old true new
@@ -103,7 +103,7 @@ module _ {K : Type 0} {old new : StateFacts K} where
   still_more {name} listing misses = λ n listed missed. missed_now misses n ∙ or_right (same_name n name) (is_missed old n) missed
 
   -- and that one is missed
-  pub missed_self : {name : NameFacts} {cause : Cause} (was_out : Bool) → is_in (pass_of old.pass).out name ≡ true
+  pub missed_self : {name : NameFacts} {cause : Cause} (was_out : Bool) → is_in (pass_or_none old.pass).out name ≡ true
       → MissesOut name cause old was_out new → is_missed new name ≡ true
   missed_self {name} true out misses =
       missed_now misses name ∙ or_left (same_name name name) (is_missed old name) (same_name_self name)
@@ -139,12 +139,12 @@ unaltered_none listing state = λ name met h. absurd (omega (arith, h.heard.1))
 pub unaltered_looks : {K : Type 0} (listing : List NameFacts) (roots : List (List ℕ)) (answers : List Heard) (state : StateFacts K)
     → All (IsLookUnder roots) answers → AlteredAreMissed listing answers state
 unaltered_looks listing roots answers state looks = λ name met h.
-    absurd (All-contains (IsLookUnder roots) answers (load_of name h.answer) looks h.heard)
+    absurd (All-contains (IsLookUnder roots) answers (heard_load name h.answer) looks h.heard)
 
 -- what was heard of one question is that question
-one_heard : (asked heard : Heard) → Contains (heard_of asked) heard → asked ≡ heard
+one_heard : (asked heard : Heard) → Contains (heard_or_none asked) heard → asked ≡ heard
 one_heard asked heard there =
-    All-contains (λ (x : Heard). asked ≡ x) (heard_of asked) heard (all_heard (λ (x : Heard). asked ≡ x) asked refl) there
+    All-contains (λ (x : Heard). asked ≡ x) (heard_or_none asked) heard (all_heard (λ (x : Heard). asked ≡ x) asked refl) there
 
 same_load : {p q : List ℕ} {l m : ℕ} {a b : LoadFacts} → load p l a ≡ load q m b → (p ≡ q) × (a ≡ b)
 same_load e = (cc, cc)
@@ -152,25 +152,25 @@ same_load e = (cc, cc)
 -- the load of a listed name was heard
 module _ {K : Type 0} (listing : List NameFacts) (name : NameFacts) (answer : LoadFacts) (by_path : IsByPath listing)
     (listed : is_in listing name ≡ true) (new : StateFacts K) where
-  that_one : (n : NameFacts) (met : Seen) → IsHeardAltered listing (heard_of (load_of name answer)) n met
+  that_one : (n : NameFacts) (met : Seen) → IsHeardAltered listing (heard_or_none (heard_load name answer)) n met
       → (n ≡ name) × FindsOther name answer met
   that_one n met h =
-      let same : (name.path ≡ n.path) × (answer ≡ h.answer) = same_load (one_heard (load_of name answer) (load_of n h.answer) h.heard) in
+      let same : (name.path ≡ n.path) × (answer ≡ h.answer) = same_load (one_heard (heard_load name answer) (heard_load n h.answer) h.heard) in
       let is : n ≡ name = one_name n name listing by_path h.listed listed ((bytes_eq-Decides n.path name.path).1 (sym same.0)) in (
         is,
         subst (λ (x : NameFacts). FindsOther x answer met) is (subst (λ (a : LoadFacts). FindsOther n a met) (sym same.1) h.other),
       )
 
   -- it found no other file
-  pub unaltered_by : ((met : Seen) → FindsOther name answer met → ⊥) → AlteredAreMissed listing (heard_of (load_of name answer)) new
+  pub unaltered_by : ((met : Seen) → FindsOther name answer met → ⊥) → AlteredAreMissed listing (heard_or_none (heard_load name answer)) new
   unaltered_by never = λ n met h. absurd (never met (that_one n met h).1)
 
   -- or the name was missed
-  pub altered_by : is_missed new name ≡ true → AlteredAreMissed listing (heard_of (load_of name answer)) new
+  pub altered_by : is_missed new name ≡ true → AlteredAreMissed listing (heard_or_none (heard_load name answer)) new
   altered_by missed = λ n met h. subst (λ (x : NameFacts). is_missed new x ≡ true) (sym (that_one n met h).0) missed
 
 -- a load that gave the file, one that failed and one after which memory was refused found no other
-pub read_same : (name : NameFacts) (answer : LoadFacts) (row : RowFacts) → Reads name answer row → (met : Seen)
+pub read_same : (name : NameFacts) (answer : LoadFacts) (row : RowFacts) → ReadsListed name answer row → (met : Seen)
     → FindsOther name answer met → ⊥
 read_same name (loaded found) row reads met other = other.0 reads.0
 read_same name (too_large stamp) row reads met other = other.0 reads.0

@@ -13,7 +13,7 @@ use Rattle.row_types.specs.Stamp.{StampFacts}
 use Rattle.index_keeper.specs.Keeper.{ShownKeeper}
 use Rattle.index_rows.specs.Rows.{row_names, row_path, without_row}
 use Rattle.scan_queue.specs.Names.{IsByPath, is_in}
-use Rattle.scan_queue.specs.Pass.{Adds, InOrder, IsPass, PassFacts, Precedes, first_missed, left, missed_names, misses_without}
+use Rattle.scan_queue.specs.Pass.{AddsElement, InOrder, IsPass, PassFacts, Precedes, first_missed, left, missed_names, misses_without}
 use Rattle.scan_queue.specs.declared.miss.Cause.{Cause}
 use Rattle.scan_queue.specs.declared.miss.Cause.TheVariants.{ReadFault, Altered, Appeared}
 use Rattle.scan_queue.specs.declared.miss.Miss.{Miss}
@@ -22,7 +22,7 @@ use Rattle.scan_queue.proofs.Picks.{head_pairs}
 use Rattle.index_state.specs.Away.{MissesOut}
 use Rattle.index_state.specs.Invariant.{IndexInvariant, ListedAccounted, to_read}
 use Rattle.index_state.specs.Plan.{has_stamp}
-use Rattle.index_state.specs.State.{StateFacts, pass_of}
+use Rattle.index_state.specs.State.{StateFacts, pass_or_none}
 use Rattle.index_state.proofs.ByName.{has_stamp_is_in, names_by_path, one_of_path}
 use Rattle.index_state.proofs.Keeps.{there}
 use Rattle.tree_trait.specs.Heard.{Heard}
@@ -35,15 +35,15 @@ use Rattle.pass_runner.proofs.NameLists.{drop_stays}
 -- where none appeared, each one that did stands
 pub none_stand : {K : Type 0} (state : StateFacts K) → NoneAppeared state → AppearedStand state
 none_stand state none =
-    All-weaker HasNotAppeared (StandsIfAppeared (row_names state.rows)) (λ m never is. absurd (never is)) (pass_of state.pass).missed none
+    All-weaker HasNotAppeared (StandsIfAppeared (row_names state.rows)) (λ m never is. absurd (never is)) (pass_or_none state.pass).missed none
 
 -- where none was missed, none appeared
-pub none_of_none : {K : Type 0} (state : StateFacts K) → (pass_of state.pass).missed ≡ [] → NoneAppeared state
+pub none_of_none : {K : Type 0} (state : StateFacts K) → (pass_or_none state.pass).missed ≡ [] → NoneAppeared state
 none_of_none state none = subst (λ (ms : List Miss). All HasNotAppeared ms) (sym none) (All-nil HasNotAppeared)
 
 -- once a name left
-pub left_all : (P : Miss → Type 0) (name : NameFacts) (pass : Option PassFacts) → All P (pass_of pass).missed
-    → All P (pass_of (option_map (left name) pass)).missed
+pub left_all : (P : Miss → Type 0) (name : NameFacts) (pass : Option PassFacts) → All P (pass_or_none pass).missed
+    → All P (pass_or_none (option_map (left name) pass)).missed
 left_all P name None h = h
 left_all P name (Some p) h = All-filter (λ (m : Miss). not (same_name name m.name)) P p.missed h
 
@@ -59,7 +59,7 @@ kept_missed P Q name so (m ∷ ms) h =
     ] refl
 
 -- once one more was missed
-added_all : (P : Miss → Type 0) (m : Miss) (before after : List Miss) → Adds m before after → P m → All P before → All P after
+added_all : (P : Miss → Type 0) (m : Miss) (before after : List Miss) → AddsElement m before after → P m → All P before → All P after
 added_all P m before after adds own h = All-weaker (Contains after) P each after (All-contains_itself after)
   where
     was : (x : Miss) → Contains (adds.front ++ adds.back) x → P x
@@ -82,10 +82,10 @@ added_all P m before after adds own h = All-weaker (Contains after) P each after
 
 module _ {K : Type 0} (old new : StateFacts K) where
   -- rows and missed names stay
-  pub appears_same : (reads : List NameFacts) → (pass_of new.pass).missed ≡ (pass_of old.pass).missed → new.rows ≡ old.rows
+  pub appears_same : (reads : List NameFacts) → (pass_or_none new.pass).missed ≡ (pass_or_none old.pass).missed → new.rows ≡ old.rows
       → AppearsBy reads old new
   appears_same [] missed rows = λ h.
-      subst (λ (r : List RowFacts). All (StandsIfAppeared (row_names r)) (pass_of new.pass).missed) (sym rows)
+      subst (λ (r : List RowFacts). All (StandsIfAppeared (row_names r)) (pass_or_none new.pass).missed) (sym rows)
       (subst (λ (ms : List Miss). All (StandsIfAppeared (row_names old.rows)) ms) (sym missed) h)
   appears_same (n ∷ ns) missed rows = λ h. subst (λ (ms : List Miss). All HasNotAppeared ms) (sym missed) h
 
@@ -93,22 +93,22 @@ module _ {K : Type 0} (old new : StateFacts K) where
   pub left_stand : (name : NameFacts) → new.pass ≡ option_map (left name) old.pass → new.rows ≡ old.rows
       → AppearedStand old → AppearedStand new
   left_stand name pass rows h =
-      subst (λ (r : List RowFacts). All (StandsIfAppeared (row_names r)) (pass_of new.pass).missed) (sym rows)
-      (subst (λ (o : Option PassFacts). All (StandsIfAppeared (row_names old.rows)) (pass_of o).missed) (sym pass)
+      subst (λ (r : List RowFacts). All (StandsIfAppeared (row_names r)) (pass_or_none new.pass).missed) (sym rows)
+      (subst (λ (o : Option PassFacts). All (StandsIfAppeared (row_names old.rows)) (pass_or_none o).missed) (sym pass)
       (left_all (StandsIfAppeared (row_names old.rows)) name old.pass h))
 
   pub left_none : (name : NameFacts) → new.pass ≡ option_map (left name) old.pass → NoneAppeared old → NoneAppeared new
   left_none name pass h =
-      subst (λ (o : Option PassFacts). All HasNotAppeared (pass_of o).missed) (sym pass) (left_all HasNotAppeared name old.pass h)
+      subst (λ (o : Option PassFacts). All HasNotAppeared (pass_or_none o).missed) (sym pass) (left_all HasNotAppeared name old.pass h)
 
   -- a name was missed, if it was out
   pub missed_all : {name : NameFacts} {cause : Cause} (P : Miss → Type 0) (was_out : Bool) → P (record { name = name; cause = cause })
-      → MissesOut name cause old was_out new → All P (pass_of old.pass).missed → All P (pass_of new.pass).missed
+      → MissesOut name cause old was_out new → All P (pass_or_none old.pass).missed → All P (pass_or_none new.pass).missed
   missed_all {name} {cause} P true own misses h =
-      subst (λ (o : Option PassFacts). All P (pass_of o).missed) (sym misses.missed.is)
+      subst (λ (o : Option PassFacts). All P (pass_or_none o).missed) (sym misses.missed.is)
       (added_all P (record { name = name; cause = cause }) misses.missed.from.missed misses.missed.into.missed misses.missed.step.missed own
-      (subst (λ (o : Option PassFacts). All P (pass_of o).missed) misses.missed.was h))
-  missed_all P false own misses h = subst (λ (o : Option PassFacts). All P (pass_of o).missed) (sym misses.missed.same) h
+      (subst (λ (o : Option PassFacts). All P (pass_or_none o).missed) misses.missed.was h))
+  missed_all P false own misses h = subst (λ (o : Option PassFacts). All P (pass_or_none o).missed) (sym misses.missed.same) h
 
   pub missed_none : {name : NameFacts} {cause : Cause} (was_out : Bool) → (cause ≡ Appeared → ⊥) → MissesOut name cause old was_out new
       → NoneAppeared old → NoneAppeared new
@@ -118,7 +118,7 @@ module _ {K : Type 0} (old new : StateFacts K) where
       → (cause ≡ Appeared → is_in (row_names old.rows) name ≡ true) → MissesOut name cause old was_out new
       → AppearedStand old → AppearedStand new
   missed_stand was_out own misses h =
-      subst (λ (r : List RowFacts). All (StandsIfAppeared (row_names r)) (pass_of new.pass).missed)
+      subst (λ (r : List RowFacts). All (StandsIfAppeared (row_names r)) (pass_or_none new.pass).missed)
       (sym (ap (λ (s : StateFacts K). s.rows) misses.same))
       (missed_all (StandsIfAppeared (row_names old.rows)) was_out own misses h)
 
@@ -126,8 +126,8 @@ module _ {K : Type 0} (old new : StateFacts K) where
   pub dropped_stand : (name : NameFacts) → AscendsBy row_path old.rows → is_in (row_names old.rows) name ≡ true
       → new.pass ≡ option_map (left name) old.pass → new.rows ≡ without_row name.path old.rows → AppearedStand old → AppearedStand new
   dropped_stand name ascend stood pass rows h =
-      subst (λ (r : List RowFacts). All (StandsIfAppeared (row_names r)) (pass_of new.pass).missed) (sym rows)
-      (subst (λ (o : Option PassFacts). All (StandsIfAppeared (row_names (without_row name.path old.rows))) (pass_of o).missed) (sym pass)
+      subst (λ (r : List RowFacts). All (StandsIfAppeared (row_names r)) (pass_or_none new.pass).missed) (sym rows)
+      (subst (λ (o : Option PassFacts). All (StandsIfAppeared (row_names (without_row name.path old.rows))) (pass_or_none o).missed) (sym pass)
       (each old.pass h))
     where
       Was : Miss → Type 0
@@ -141,7 +141,7 @@ module _ {K : Type 0} (old new : StateFacts K) where
           drop_stays name old.rows ascend stood m.name
           (λ same. true≢false (sym ((same_name-Decides name m.name).1 (sym same)) ∙ differs)) (was is)
 
-      each : (o : Option PassFacts) → All Was (pass_of o).missed → All Is (pass_of (option_map (left name) o)).missed
+      each : (o : Option PassFacts) → All Was (pass_or_none o).missed → All Is (pass_or_none (option_map (left name) o)).missed
       each None none = All-nil Is
       each (Some p) all = kept_missed Was Is name still p.missed all
 
@@ -204,20 +204,20 @@ module _ (pass : PassFacts) (rows : List RowFacts) (miss : Miss) (place : IsPass
 
 -- no name that was missed stands before the first, and the path of one that appeared and was missed first isn't listed
 pub first_apart : {K : Type 0} {true_row : RowFacts → Type 0} {tells : Bool} {shows : K → ShownKeeper} {state : StateFacts K} (miss : Miss)
-    → IndexInvariant true_row tells shows state → IsHandedOut state → first_missed (pass_of state.pass).missed ≡ Some miss
+    → IndexInvariant true_row tells shows state → IsHandedOut state → first_missed (pass_or_none state.pass).missed ≡ Some miss
     → IsFirstMissed miss state
 first_apart {state = state} miss holds handed first = record {
   first = first;
   least = λ name missed.
-      let order : InOrder (pass_of state.pass).listing (missed_names (pass_of state.pass).missed) =
-      subst (λ (p : PassFacts). InOrder p.listing (missed_names p.missed)) (sym (ap pass_of handed.is_open.was))
+      let order : InOrder (pass_or_none state.pass).listing (missed_names (pass_or_none state.pass).missed) =
+      subst (λ (p : PassFacts). InOrder p.listing (missed_names p.missed)) (sym (ap pass_or_none handed.is_open.was))
       (there IsPass handed.is_open.was holds.each_name_in_one_place).missed in
-      first_least (pass_of state.pass).listing (pass_of state.pass).missed miss order first name missed;
+      first_least (pass_or_none state.pass).listing (pass_or_none state.pass).missed miss order first name missed;
   apart = λ is unlisted.
       let pass : PassFacts = handed.is_open.from in
-      let was : pass_of state.pass ≡ pass = ap pass_of handed.is_open.was in
+      let was : pass_or_none state.pass ≡ pass = ap pass_or_none handed.is_open.was in
       let stands : is_in (row_names state.rows) miss.name ≡ true =
-      first_stands (pass_of state.pass).missed handed.appeared first is in
+      first_stands (pass_or_none state.pass).missed handed.appeared first is in
       ap (λ (p : PassFacts). stamp_at p.listing miss.name.path) was
       ∙ path_apart pass state.rows miss (there IsPass handed.is_open.was holds.each_name_in_one_place)
       (there (ListedAccounted state.rows) handed.is_open.was holds.listed_names_accounted_for)

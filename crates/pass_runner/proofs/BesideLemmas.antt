@@ -16,7 +16,7 @@ use Rattle.index_state.specs.Bound.{IsBounded, still_open, voids}
 use Rattle.index_state.specs.Plan.{most_changes, plan_of}
 use Rattle.index_state.specs.Spare.{after_spare}
 use Rattle.index_state.specs.Spared.{AreSpared, Sparing}
-use Rattle.index_state.specs.State.{Origin, StateFacts, pass_of, unspared}
+use Rattle.index_state.specs.State.{Origin, StateFacts, pass_or_none, unspared}
 use Rattle.index_state.specs.Step.{BeginsPass, after_begin}
 use Rattle.index_state.specs.declared.answer.Plan.{Plan}
 use Rattle.index_state.proofs.Members.{in_filter}
@@ -24,7 +24,7 @@ use Rattle.scan_queue.specs.Names.{is_in}
 use Rattle.tree_trait.specs.Shown.{ShownTree}
 use Rattle.pass_runner.specs.Beside.{EndsAgain, IsWeighed, StaysOut, is_whole}
 use Rattle.pass_runner.specs.Owned.{IsHelped}
-use Rattle.pass_runner.specs.Passes.{EndsBegun, EndsFound, EndsOver, IsLeft}
+use Rattle.pass_runner.specs.Passes.{EndsBegun, EndsFound, EndsOver, LeavesToHands}
 use Rattle.pass_runner.specs.declared.pass_end.PassEnd.{PassEnd}
 use Rattle.pass_runner.specs.declared.pass_end.PassEnd.TheVariants.{Whole, Missed, Walk, Broken}
 use Rattle.pass_runner.specs.declared.pass_end.PassEnd.TheVariants.{KeeperFault, LogFull, OutOfMemory}
@@ -49,7 +49,7 @@ module _ {K : Type 0} (count : ℕ) (some : 1 < count) (listing : List NameFacts
   pub helped_found : (found : StateFacts K) {at : Option Sparing} {long : ℕ} → old.broken ≡ false
       → row_names old.rows ≡ replay old.log → IsPrefix (shared_from listing roots old).log found.log
       → found.origin ≡ (shared_from listing roots old).origin
-      → AreSpared at long found.origin.spared (pass_of found.pass).listing (row_names found.rows)
+      → AreSpared at long found.origin.spared (pass_or_none found.pass).listing (row_names found.rows)
       → IfSome found.origin.sparing (IsBounded found.broken found.log (row_names found.rows))
       → IsHelped count listing old found
   helped_found found sound names log same spared bounded = record {
@@ -90,7 +90,7 @@ module _ {K : Type 0} (count : ℕ) (some : 1 < count) (listing : List NameFacts
     at_found e h = record { found = found; helped = helped; begun = h }
 
     left_at : (Why Ends : Type 0) → (Why → Ends) → StaysOut before after found new Why
-        → IsLeft count listing before after old new Ends
+        → LeavesToHands count listing before after old new Ends
     left_at Why Ends so h = record {
       hand = h.hand;
       helped = subst (λ (s : StateFacts K). IsHelped count listing old s) (sym h.state) helped;
@@ -173,7 +173,7 @@ module _ {K : Type 0} (count : ℕ) (some : 1 < count) {listing : List NameFacts
 
   -- memory was refused for the lock
   pub not_shared : {T : Type 0} (hand : T) (new : StateFacts K) → new ≡ shared
-      → IsLeft count listing hand hand old new (new.broken ≡ false)
+      → LeavesToHands count listing hand hand old new (new.broken ≡ false)
   not_shared hand new same = record {
     hand = refl;
     helped =
@@ -186,7 +186,7 @@ module _ {K : Type 0} (count : ℕ) (some : 1 < count) {listing : List NameFacts
   pub over_shared : {T : Type 0} (world : Rules) (told tells : Bool) (shows : K → ShownKeeper) (sees : T → ShownTree)
       (before after : T) (found new : StateFacts K) {at : Option Sparing} {long : ℕ} → row_names shared.rows ≡ replay shared.log
       → IsPrefix shared.log found.log → found.origin ≡ shared.origin
-      → AreSpared at long found.origin.spared (pass_of found.pass).listing (row_names found.rows)
+      → AreSpared at long found.origin.spared (pass_or_none found.pass).listing (row_names found.rows)
       → IfSome found.origin.sparing (IsBounded found.broken found.log (row_names found.rows))
       → {again : List NameFacts} {roots_again : List (List ℕ)} → again ≡ listing → roots_again ≡ roots → (end : PassEnd)
       → EndsAgain world told tells shows sees plan again roots_again before after found new end

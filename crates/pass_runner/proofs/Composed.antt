@@ -10,16 +10,16 @@ use Rattle.index_keeper.specs.Keeper.{ShownKeeper}
 use Rattle.index_rows.specs.Rows.{row_names}
 use Rattle.index_state.specs.Invariant.{IndexInvariant}
 use Rattle.index_state.specs.Judge.{is_under}
-use Rattle.index_state.specs.State.{StateFacts, pass_of}
+use Rattle.index_state.specs.State.{StateFacts, pass_or_none}
 use Rattle.scan_queue.specs.Names.{is_in}
 use Rattle.scan_queue.specs.declared.miss.Seen.{Seen}
-use Rattle.scan_worker.specs.Read.{load_of}
+use Rattle.scan_worker.specs.Read.{heard_load}
 use Rattle.tree_trait.specs.Found.{Versions}
 use Rattle.tree_trait.specs.Heard.{Heard, load, stat, read_dir}
 use Rattle.tree_trait.specs.Listens.{Listens}
 use Rattle.tree_trait.specs.Shown.{ShownTree}
-use Rattle.pass_runner.specs.Settled.{Advances, AlteredAreMissed, IsHeardAltered, IsNew, IsPassOn, Proceeds, Settles, Wants, is_missed, times_loaded}
-use Rattle.pass_runner.specs.Turns.{Takes}
+use Rattle.pass_runner.specs.Settled.{Advances, AlteredAreMissed, IsHeardAltered, HadNoRow, IsPassOn, Proceeds, Settles, Wants, is_missed, times_loaded}
+use Rattle.pass_runner.specs.Turns.{TakesNames}
 use Rattle.tree_trait.proofs.ListenLemmas.{listens_none, listens_then}
 use Rattle.pass_runner.proofs.Altered.{unaltered_none}
 use Rattle.pass_runner.proofs.Loads.{loads_append, todo_once}
@@ -31,7 +31,7 @@ module _ {K : Type 0} {told : Bool} {version : Versions} {shows : K → ShownKee
   abbrev pub settles_by : {before after : ShownTree} {old new : StateFacts K} {answers : List Heard}
       → Listens told version before after answers
       → All (Wants old) answers
-      → AlteredAreMissed (pass_of old.pass).listing answers new
+      → AlteredAreMissed (pass_or_none old.pass).listing answers new
       → Advances shows answers (Rose before.faults after.faults) old new
       → Proceeds told version shows before after old new
   settles_by {answers = answers} listens wanted altered on =
@@ -42,7 +42,7 @@ module _ {K : Type 0} {told : Bool} {version : Versions} {shows : K → ShownKee
       → Proceeds told version shows hand hand state state
   settles_none {hand} {state} opened =
       settles_by listens_none (All-nil (Wants state))
-      (unaltered_none (pass_of state.pass).listing state) (record {
+      (unaltered_none (pass_or_none state.pass).listing state) (record {
         keeper = omega arith;
         pass = opened;
         roots = refl;
@@ -51,7 +51,7 @@ module _ {K : Type 0} {told : Bool} {version : Versions} {shows : K → ShownKee
         goes = λ name there gone none under. absurd (true≢false (sym there ∙ gone));
         comes = λ name stands fresh. absurd (true≢false (sym stands ∙ fresh));
         brings = still_brought state.rows [];
-        missed = still_missed (pass_of state.pass).listing (row_names state.rows) (pass_of state.pass).missed [] (Rose hand.faults hand.faults);
+        missed = still_missed (pass_or_none state.pass).listing (row_names state.rows) (pass_or_none state.pass).missed [] (Rose hand.faults hand.faults);
         still = λ name listed missed. missed;
         todo = λ path. omega arith;
         bounded = omega arith;
@@ -62,9 +62,9 @@ module _ {K : Type 0} {told : Bool} {version : Versions} {shows : K → ShownKee
       → (asked : Heard) → Wants mid asked
       → Wants old asked
   wanted_before {old = old} {mid = mid} p (load path limit answer) h =
-      let same : (pass_of mid.pass).listing ≡ (pass_of old.pass).listing = same_listing p.on.pass in
-      let new : IsNew (pass_of old.pass).listing (row_names mid.rows) path
-      = subst (λ (l : List NameFacts). IsNew l (row_names mid.rows) path) same h.1 in
+      let same : (pass_or_none mid.pass).listing ≡ (pass_or_none old.pass).listing = same_listing p.on.pass in
+      let new : HadNoRow (pass_or_none old.pass).listing (row_names mid.rows) path
+      = subst (λ (l : List NameFacts). HadNoRow l (row_names mid.rows) path) same h.1 in
       let name : NameFacts = record { path = path; stamp = new.stamp } in (
         h.0,
         record {
@@ -72,7 +72,7 @@ module _ {K : Type 0} {told : Bool} {version : Versions} {shows : K → ShownKee
           listed = new.listed;
           absent =
               false_from_ne_true (is_in (row_names old.rows) name)
-              (λ there. true≢false (sym (p.on.stays name (in_by_stamp path new.stamp (pass_of old.pass).listing new.listed) there) ∙ new.absent));
+              (λ there. true≢false (sym (p.on.stays name (in_by_stamp path new.stamp (pass_or_none old.pass).listing new.listed) there) ∙ new.absent));
         },
       )
   wanted_before p (stat path answer) h = ap (λ (r : List (List ℕ)). is_under r path) (sym p.on.roots) ∙ h
@@ -80,14 +80,14 @@ module _ {K : Type 0} {told : Bool} {version : Versions} {shows : K → ShownKee
 
   -- a name that was heard altered is missed in the end
   pub altered_then : {before between after : ShownTree} {old mid new : StateFacts K} (p : Proceeds told version shows before between old mid)
-      (q : Proceeds told version shows between after mid new) → AlteredAreMissed (pass_of old.pass).listing (p.answers ++ q.answers) new
+      (q : Proceeds told version shows between after mid new) → AlteredAreMissed (pass_or_none old.pass).listing (p.answers ++ q.answers) new
   altered_then {old = old} {mid = mid} {new = new} p q = λ name met h.
       by name met h (ap (λ (l : List NameFacts). is_in l name) (same_listing p.on.pass) ∙ h.listed)
-      (Contains-append_cases p.answers q.answers (load_of name h.answer) h.heard)
+      (Contains-append_cases p.answers q.answers (heard_load name h.answer) h.heard)
     where
-      by : (name : NameFacts) (met : Seen) (h : IsHeardAltered (pass_of old.pass).listing (p.answers ++ q.answers) name met)
-          → is_in (pass_of mid.pass).listing name ≡ true
-          → Contains p.answers (load_of name h.answer) ⊎ Contains q.answers (load_of name h.answer) → is_missed new name ≡ true
+      by : (name : NameFacts) (met : Seen) (h : IsHeardAltered (pass_or_none old.pass).listing (p.answers ++ q.answers) name met)
+          → is_in (pass_or_none mid.pass).listing name ≡ true
+          → Contains p.answers (heard_load name h.answer) ⊎ Contains q.answers (heard_load name h.answer) → is_missed new name ≡ true
       by name met h listed (inl sooner) =
           q.on.still name listed (p.altered name met (record { listed = h.listed; answer = h.answer; heard = sooner; other = h.other }))
       by name met h listed (inr later) =
@@ -108,8 +108,8 @@ module _ {K : Type 0} {told : Bool} {version : Versions} {shows : K → ShownKee
 
   -- and what each load took
   pub takes_then : {before between after : ShownTree} {old mid new : StateFacts K}
-      → Takes told version shows before between old mid → Takes told version shows between after mid new
-      → Takes told version shows before after old new
+      → TakesNames told version shows before between old mid → TakesNames told version shows between after mid new
+      → TakesNames told version shows before after old new
   takes_then p q = record {
     does = settles_then p.does q.does;
     takes = λ path.
@@ -123,7 +123,7 @@ module _ {K : Type 0} {told : Bool} {version : Versions} {shows : K → ShownKee
 
   -- what is to be read has each path once, so each is loaded once
   pub settles_once : {true_row : RowFacts → Type 0} {tells : Bool} {before after : ShownTree} {old new : StateFacts K}
-      → IndexInvariant true_row tells shows old → Takes told version shows before after old new
+      → IndexInvariant true_row tells shows old → TakesNames told version shows before after old new
       → Settles told version shows before after old new
   settles_once {old = old} holds t = record {
     does = t.does;

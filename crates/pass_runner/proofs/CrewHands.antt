@@ -10,7 +10,7 @@ use Rattle.tree_trait.specs.Heard.{Heard, with_answers}
 use Rattle.tree_trait.specs.Listens.{loads}
 use Rattle.tree_trait.proofs.ListenLemmas.{loads_both}
 use Rattle.tree_trait.specs.Shown.{HandsOn, ShownTree}
-use Rattle.pass_runner.specs.Helped.{BeginsWithLook, HelpedFrom, IsCounted, asked_by, hands_in}
+use Rattle.pass_runner.specs.Helped.{BeginsWithLook, HelpedFrom, CountsNoLook, loads_counted, hands_in}
 use Rattle.pass_runner.specs.Owned.{HandsGo, HearLoads, Helps, loads_told}
 use Rattle.pass_runner.specs.declared.helper.Helper.{Helper}
 use Rattle.pass_runner.specs.declared.helper.Task.{Task}
@@ -75,7 +75,7 @@ module _ {T : Type 0} (sees : T → ShownTree) (told : Bool) (version : Versions
 
   -- helpers whose hands tell heard as many loads as they count, or more
   loads_all : (ps qs : List (Helper T)) → AllZip Came ps qs → All (λ hand. IsSome (sees hand).heard) (hands_in qs)
-      → sum_by (λ hand. loads_told (sees hand).heard) (hands_in ps) + sum_by asked_by qs
+      → sum_by (λ hand. loads_told (sees hand).heard) (hands_in ps) + sum_by loads_counted qs
       ≤ sum_by (λ hand. loads_told (sees hand).heard) (hands_in qs)
   loads_all [] [] zip all = omega arith
   loads_all [] (q ∷ qs) zip all = absurd zip
@@ -87,21 +87,21 @@ module _ {T : Type 0} (sees : T → ShownTree) (told : Bool) (version : Versions
       let asked = zip.0.0.loaded in
       let a = sum_by-cons (λ hand. loads_told (sees hand).heard) p.hand (hands_in ps) in
       let b = sum_by-cons (λ hand. loads_told (sees hand).heard) q.hand (hands_in qs) in
-      let c = sum_by-cons asked_by q qs in
+      let c = sum_by-cons loads_counted q qs in
       omega (arith, rest, one, asked, a, b, c)
 
-  none_by_look : (task was : Task) (asked : ℕ) → task ≡ was → was ≡ Look → IsCounted task asked → asked ≡ 0
+  none_by_look : (task was : Task) (asked : ℕ) → task ≡ was → was ≡ Look → CountsNoLook task asked → asked ≡ 0
   none_by_look Look was asked same look counted = counted
   none_by_look Read was asked same look counted = absurd (cc)
 
   -- the hands from the third on heard as many loads as all that help count, or more
   pub loads_beside : (first later : T) (asked : ℕ) (ps qs : List (Helper T)) → AllZip Came ps qs → BeginsWithLook ps
-      → asked ≤ sum_by asked_by qs → HearLoads sees asked (drop 2 (first ∷ hands_in ps)) (drop 2 (later ∷ hands_in qs))
+      → asked ≤ sum_by loads_counted qs → HearLoads sees asked (drop 2 (first ∷ hands_in ps)) (drop 2 (later ∷ hands_in qs))
   loads_beside first later asked [] [] zip look counts = λ all. omega (arith, counts)
   loads_beside first later asked [] (q ∷ qs) zip look counts = absurd zip
   loads_beside first later asked (p ∷ ps) [] zip look counts = absurd zip
   loads_beside first later asked (p ∷ ps) (q ∷ qs) zip look counts = λ all.
       let rest = loads_all ps qs zip.1 all in
-      let none = none_by_look q.task p.task (asked_by q) zip.0.1 look zip.0.2 in
-      let c = sum_by-cons asked_by q qs in
+      let none = none_by_look q.task p.task (loads_counted q) zip.0.1 look zip.0.2 in
+      let c = sum_by-cons loads_counted q qs in
       omega (arith, rest, none, c, counts)

@@ -10,7 +10,7 @@ use Rattle.tree_trait.specs.Heard.{Heard, load, stat, read_dir}
 use Rattle.tree_trait.specs.declared.entry.EntryKind.{EntryKind}
 use Rattle.tree_trait.specs.declared.entry.EntryKind.TheVariants as kind
 use Rattle.tree_trait.specs.declared.stat.StatAnswer.{StatAnswer}
-use Rattle.tree_walk.specs.Answers.{entries_of, first_look, first_reading, first_some, look_at, reading_of}
+use Rattle.tree_walk.specs.Answers.{listed_entries, first_look, first_reading, first_some, look_at, reading_of}
 use Rattle.tree_walk.specs.Walked.{AsksAll, IsCandidate, IsEntry, IsFolder, IsNamed, IsReached, IsWalkListing, IsWalked, root, entry}
 use Rattle.tree_walk.proofs.FirstLemmas.{first_some-append, or_none}
 use Rattle.tree_walk.proofs.ReachLemmas.{candidate_more}
@@ -38,7 +38,7 @@ module _ (roots : List (List ℕ)) (Asked : Heard → Type 0)
     named_before folder k path n = record {
       name = n.name;
       listed =
-          subst (λ (d : Option DirFacts). has_entry (entries_of d) (record { name = n.name; kind = k }) ≡ true)
+          subst (λ (d : Option DirFacts). has_entry (listed_entries d) (record { name = n.name; kind = k }) ≡ true)
           (same_reading folder) n.listed;
       joined = n.joined;
     }

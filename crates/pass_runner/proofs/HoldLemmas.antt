@@ -17,7 +17,7 @@ use Rattle.index_state.specs.Invariant.{IndexInvariant}
 use Rattle.index_state.specs.Judge.{is_file, is_under}
 use Rattle.index_state.specs.Plan.{has_stamp, is_other, plan_of}
 use Rattle.index_state.specs.State.{Origin, StateFacts}
-use Rattle.index_state.specs.Step.{Begins, BeginsPass, Judges, begins, judges, to_begin, to_judge}
+use Rattle.index_state.specs.Step.{BeginsOrNot, BeginsPass, Judges, begins, judges, to_begin, to_judge}
 use Rattle.index_state.specs.declared.answer.Begun.{Begun}
 use Rattle.index_state.specs.declared.answer.Begun.TheVariants as begun
 use Rattle.index_state.specs.declared.answer.Judged.{Judged}
@@ -89,7 +89,7 @@ module _ {K : Type 0} (tells : Bool) (shows : K → ShownKeeper) {old new : Stat
 -- what the first hold shows
 pub begin_shows : {K : Type 0} (tells : Bool) (shows : K → ShownKeeper) (old : StateFacts K) {new : StateFacts K}
     {true_row : RowFacts → Type 0} (listing : List NameFacts) (roots : List (List ℕ))
-    → IndexInvariant true_row tells shows new → (answer : Begun) → Begins listing roots old answer new
+    → IndexInvariant true_row tells shows new → (answer : Begun) → BeginsOrNot listing roots old answer new
     → BeginShows listing answer new.log
 begin_shows tells shows old listing roots holds (begun.Begun plan) h = planned_by tells shows holds h
 begin_shows {K} tells shows old listing roots holds begun.Broken h =

@@ -19,8 +19,8 @@ use Rattle.index_state.specs.Changes.{EndsVoid}
 use Rattle.index_state.specs.Complete.{CompletePass, LeavesNone, standing_of}
 use Rattle.index_state.specs.Invariant.{IndexInvariant}
 use Rattle.index_state.specs.Plan.{has_stamp}
-use Rattle.index_state.specs.State.{StateFacts, pass_of}
-use Rattle.index_state.specs.Step.{BeginsPass, Stays}
+use Rattle.index_state.specs.State.{StateFacts, pass_or_none}
+use Rattle.index_state.specs.Step.{BeginsPass, StateStays}
 use Rattle.index_state.specs.declared.answer.Begun.TheVariants as begun
 use Rattle.index_state.specs.declared.answer.Plan.{Plan}
 use Rattle.index_state.specs.declared.answer.Standing.{Standing}
@@ -57,8 +57,8 @@ none_begun {K} state names listing is same =
     ap (λ (l : List NameFacts). length (not_in l listing)) same ∙ ap (λ (l : List NameFacts). length l) none in
     let groom : length (not_in listing names) ≡ 0 =
     ap (λ (l : List NameFacts). length (not_in listing l)) same ∙ ap (λ (l : List NameFacts). length l) none in
-    ap (λ (o : Option PassFacts). (length (pass_of o).todo == 0) && (length (pass_of o).out == 0)
-    && (length (pass_of o).groom == 0) && (length (pass_of o).missed == 0)) is
+    ap (λ (o : Option PassFacts). (length (pass_or_none o).todo == 0) && (length (pass_or_none o).out == 0)
+    && (length (pass_or_none o).groom == 0) && (length (pass_or_none o).missed == 0)) is
     ∙ ap (λ (n : ℕ). (n == 0) && true && (length (not_in listing names) == 0) && true) todo
     ∙ ap (λ (n : ℕ). true && true && (n == 0) && true) groom
 
@@ -92,7 +92,7 @@ done_again {K} world tells shows plan {state} {standing} is_open value whole non
     Of : PassFacts → Type 0
     Of pass = CompletePass world.told world.true_row tells shows pass.listing state
 
-    by : (o : Option PassFacts) → IsSome o → IfSome o (λ pass. LeavesNone standing → Of pass) → Of (pass_of o)
+    by : (o : Option PassFacts) → IsSome o → IfSome o (λ pass. LeavesNone standing → Of pass) → Of (pass_or_none o)
     by None some complete = absurd (true≢false (sym some))
     by (Some pass) some complete = complete (leaves_none standing none)
 
@@ -115,8 +115,8 @@ module _ {K : Type 0} (world : Rules) (tells : Bool) (shows : K → ShownKeeper)
     sound_last void =
         never_both (void_by tells shows false holds (ap (λ (s : StateFacts K). s.broken) begins.after ∙ begins.sound)) void
 
-    over_listing : (pass_of new.pass).listing ≡ listing
-    over_listing = ap (λ (s : StateFacts K). (pass_of s.pass).listing) begins.after
+    over_listing : (pass_or_none new.pass).listing ≡ listing
+    over_listing = ap (λ (s : StateFacts K). (pass_or_none s.pass).listing) begins.after
 
     -- the pass was begun over the rows that stand
     begun_over : new.pass ≡ Some (begun_pass listing (row_names new.rows))
@@ -204,7 +204,7 @@ pub last_goes : {K : Type 0} (world : Rules) (tells : Bool) (shows : K → Shown
     → old.origin.spared ≡ [] → (end : PassEnd) → BeginsLast world tells shows listing roots plan own old new end → GoesOn old new
 last_goes {K} world tells shows listing roots plan own {old} {new} never none end = by end
   where
-    same : {Why : Type 0} → Stays Why old new → GoesOn old new
+    same : {Why : Type 0} → StateStays Why old new → GoesOn old new
     same h = record {
       log = subst (λ (s : StateFacts K). IsPrefix old.log s.log) (sym h.same) (prefix_self old.log);
       origin = ap (λ (s : StateFacts K). s.origin) h.same;

@@ -19,14 +19,14 @@ use Rattle.tree_trait.specs.Listens.{Listens}
 use Rattle.tree_trait.specs.Shown.{ShownTree}
 use Rattle.tree_trait.proofs.ListenLemmas.{listens_none, listens_then}
 use Rattle.pass_runner.specs.Helped.{IsSparing}
-use Rattle.pass_runner.specs.Leading.{IsNoted, Leads, MayNote}
-use Rattle.pass_runner.specs.SharedPass.{IsMet}
+use Rattle.pass_runner.specs.Leading.{IsMissNoted, LeadsInSettling, MayNote}
+use Rattle.pass_runner.specs.SharedPass.{IsMetByHand}
 use Rattle.pass_runner.proofs.Moves.{rose_after, rose_before}
 
 -- what a hand met stays met, of an earlier log up to a later one, and among more answers
 pub met_as : (brought log first last : List Change) (some more : List Heard) {Failed Fails : Type 0}
     → IsPrefix first brought → IsPrefix log last → ((h : Heard) → Contains some h → Contains more h) → (Failed → Fails)
-    → (name : NameFacts) (cause : Cause) → IsMet brought log some Failed name cause → IsMet first last more Fails name cause
+    → (name : NameFacts) (cause : Cause) → IsMetByHand brought log some Failed name cause → IsMetByHand first last more Fails name cause
 met_as brought log first last some more front back among so name ReadFault h = so h
 met_as brought log first last some more front back among so name (Altered met) h =
     record { answer = h.answer; heard = among _ h.heard; other = h.other }
@@ -41,16 +41,16 @@ met_as brought log first last some more front back among so name Appeared h = re
 }
 
 still_noted : (brought log : List Change) (answers : List Heard) (Failed : Type 0) (missed : List Miss)
-    → All (IsNoted brought log answers Failed missed) missed
+    → All (IsMissNoted brought log answers Failed missed) missed
 still_noted brought log answers Failed missed =
-    All-weaker (Contains missed) (IsNoted brought log answers Failed missed) (λ m before. inl before) missed
+    All-weaker (Contains missed) (IsMissNoted brought log answers Failed missed) (λ m before. inl before) missed
     (All-contains_itself missed)
 
 module _ {told : Bool} {version : Versions} {missed : List Miss} where
   -- nothing was noted
   pub leads_quiet : {seat later : SeatFacts Change Origin} {before after : ShownTree} (more : List Heard)
       → IsLater seat later → Listens told version before after more → All (IsSparing []) more
-      → Leads told version seat before later after missed missed
+      → LeadsInSettling told version seat before later after missed missed
   leads_quiet {seat} {later} {before} {after} more on listens asks = record {
     later = on;
     more = more;
@@ -61,20 +61,20 @@ module _ {told : Bool} {version : Versions} {missed : List Miss} where
 
   -- the token alone went on
   pub leads_later : {seat later : SeatFacts Change Origin} {hand : ShownTree} → IsLater seat later
-      → Leads told version seat hand later hand missed missed
+      → LeadsInSettling told version seat hand later hand missed missed
   leads_later on = leads_quiet [] on listens_none (All-nil (IsSparing []))
 
   -- nothing was done
   pub leads_none : {seat : SeatFacts Change Origin} {hand : ShownTree}
-      → Leads told version seat hand seat hand missed missed
+      → LeadsInSettling told version seat hand seat hand missed missed
   leads_none {seat} = leads_later (later_self seat)
 
   -- a miss may have been noted
   pub leads_by : {seat later : SeatFacts Change Origin} {before after : ShownTree} {last : List Miss} (miss : Miss)
       (more : List Heard) → IsLater seat later → Listens told version before after more → All (IsSparing []) more
       → MayNote miss missed last
-      → IsMet seat.seen later.seen more (Rose before.faults after.faults) miss.name miss.cause
-      → Leads told version seat before later after missed last
+      → IsMetByHand seat.seen later.seen more (Rose before.faults after.faults) miss.name miss.cause
+      → LeadsInSettling told version seat before later after missed last
   leads_by {seat} {later} {before} {after} {last} miss more on listens asks noted why = record {
     later = on;
     more = more;
@@ -84,7 +84,7 @@ module _ {told : Bool} {version : Versions} {missed : List Miss} where
   }
     where
       Noted : Miss → Type 0
-      Noted = IsNoted seat.seen later.seen more (Rose before.faults after.faults) missed
+      Noted = IsMissNoted seat.seen later.seen more (Rose before.faults after.faults) missed
 
       by : MayNote miss missed last → All Noted last
       by (inl same) =
@@ -99,8 +99,8 @@ module _ {told : Bool} {version : Versions} {missed : List Miss} where
 -- one after the other
 pub leads_then : {told : Bool} {version : Versions} {seat between later : SeatFacts Change Origin}
     {before mid after : ShownTree} {missed some last : List Miss}
-    → Leads told version seat before between mid missed some → Leads told version between mid later after some last
-    → Leads told version seat before later after missed last
+    → LeadsInSettling told version seat before between mid missed some → LeadsInSettling told version between mid later after some last
+    → LeadsInSettling told version seat before later after missed last
 leads_then {told} {version} {seat} {between} {later} {before} {mid} {after} {missed} {some} {last} p q = record {
   later = later_trans p.later q.later;
   more = p.more ++ q.more;
@@ -110,13 +110,13 @@ leads_then {told} {version} {seat} {between} {later} {before} {mid} {after} {mis
 }
   where
     First : Miss → Type 0
-    First = IsNoted seat.seen between.seen p.more (Rose before.faults mid.faults) missed
+    First = IsMissNoted seat.seen between.seen p.more (Rose before.faults mid.faults) missed
 
     Second : Miss → Type 0
-    Second = IsNoted between.seen later.seen q.more (Rose mid.faults after.faults) some
+    Second = IsMissNoted between.seen later.seen q.more (Rose mid.faults after.faults) some
 
     All_ : Miss → Type 0
-    All_ = IsNoted seat.seen later.seen (p.more ++ q.more) (Rose before.faults after.faults) missed
+    All_ = IsMissNoted seat.seen later.seen (p.more ++ q.more) (Rose before.faults after.faults) missed
 
     early : (m : Miss) → First m → All_ m
     early m (inl there) = inl there

@@ -14,10 +14,10 @@ use Rattle.row_types.proofs.AscendsLemmas.{first_related, rest_related}
 use Rattle.scan_queue.specs.Names.{is_in}
 use Rattle.scan_queue.specs.Pass.{InOrder, IsPass, PassFacts, Precedes, left}
 use Rattle.scan_queue.proofs.NameTests.{not_before_itself}
-use Rattle.index_state.specs.State.{pass_of}
-use Rattle.scan_worker.specs.Read.{load_of}
+use Rattle.index_state.specs.State.{pass_or_none}
+use Rattle.scan_worker.specs.Read.{heard_load}
 use Rattle.tree_trait.specs.Heard.{Heard, load, stat, read_dir, wants_memory}
-use Rattle.tree_trait.specs.Listens.{heard_of}
+use Rattle.tree_trait.specs.Listens.{heard_or_none}
 use Rattle.tree_trait.specs.Load.{LoadFacts}
 use Rattle.pass_runner.specs.Settled.{is_load_of, times_loaded, times_named}
 use Rattle.pass_runner.specs.Turns.{IsLookUnder}
@@ -37,13 +37,13 @@ loads_append xs ys path = sum_by-append (λ (h : Heard). cond (is_load_of path h
 
 -- the load of a name, if it was heard
 pub loads_heard : (name : NameFacts) (answer : LoadFacts) (path : List ℕ)
-    → times_loaded (heard_of (load_of name answer)) path ≤ times_named (name ∷ []) path
+    → times_loaded (heard_or_none (heard_load name answer)) path ≤ times_named (name ∷ []) path
 loads_heard name answer path =
-    elim (wants_memory (load_of name answer)) as (λ b.
-    times_loaded (if b then [] else load_of name answer ∷ []) path ≤ times_named (name ∷ []) path) [
+    elim (wants_memory (heard_load name answer)) as (λ b.
+    times_loaded (if b then [] else heard_load name answer ∷ []) path ≤ times_named (name ∷ []) path) [
       | true ↦ omega arith
       | false ↦
-          let heard = sum_by-cons (λ (h : Heard). cond (is_load_of path h) 1 0) (load_of name answer) [] in
+          let heard = sum_by-cons (λ (h : Heard). cond (is_load_of path h) 1 0) (heard_load name answer) [] in
           let named = sum_by-cons (λ (n : NameFacts). cond (bytes_eq n.path path) 1 0) name [] in
           omega (arith, heard, named)
     ]
@@ -77,15 +77,15 @@ times_filter p (n ∷ names) path =
 
 -- what is to be read once a name left
 pub times_left : (name : NameFacts) (pass : Option PassFacts) (path : List ℕ)
-    → times_named (pass_of (option_map (left name) pass)).todo path ≤ times_named (pass_of pass).todo path
+    → times_named (pass_or_none (option_map (left name) pass)).todo path ≤ times_named (pass_or_none pass).todo path
 times_left name None path = omega arith
 times_left name (Some p) path = times_filter (λ (other : NameFacts). not (same_name name other)) p.todo path
 
 -- the pass is the same
 pub same_todo : {new old : Option PassFacts} → new ≡ old → (path : List ℕ)
-    → times_named (pass_of new).todo path ≤ times_named (pass_of old).todo path
+    → times_named (pass_or_none new).todo path ≤ times_named (pass_or_none old).todo path
 same_todo same path =
-    let e = ap (λ (o : Option PassFacts). times_named (pass_of o).todo path) same in omega (arith, e)
+    let e = ap (λ (o : Option PassFacts). times_named (pass_or_none o).todo path) same in omega (arith, e)
 
 -- or what is to be read is
 pub same_names : {new old : List NameFacts} → new ≡ old → (path : List ℕ) → times_named new path ≤ times_named old path
@@ -132,6 +132,6 @@ named_once listing (n ∷ names) path listed order =
     ] refl
 
 -- of what is to be read in a pass too
-pub todo_once : (pass : Option PassFacts) (path : List ℕ) → IfSome pass IsPass → times_named (pass_of pass).todo path ≤ 1
+pub todo_once : (pass : Option PassFacts) (path : List ℕ) → IfSome pass IsPass → times_named (pass_or_none pass).todo path ≤ 1
 todo_once None path h = omega arith
 todo_once (Some p) path h = named_once p.listing p.todo path h.listed h.todo

@@ -10,7 +10,7 @@ use Rattle.index_keeper.specs.Keeper.{ShownKeeper}
 use Rattle.index_rows.specs.Rows.{row_names}
 use Rattle.index_state.specs.Bound.{StaysBounded}
 use Rattle.index_state.specs.Judge.{is_under}
-use Rattle.index_state.specs.State.{StateFacts, pass_of}
+use Rattle.index_state.specs.State.{StateFacts, pass_or_none}
 use Rattle.scan_queue.specs.Names.{is_in}
 use Rattle.scan_queue.specs.Pass.{PassFacts}
 use Rattle.scan_queue.specs.declared.miss.Cause.{Cause}
@@ -33,10 +33,10 @@ one_pass : {a b : PassFacts} {o : Option PassFacts} → o ≡ Some a → o ≡ S
 one_pass p q = some_same (sym p ∙ q)
 
 -- the listing stays
-pub same_listing : {old new : Option PassFacts} → IsPassOn old new → (pass_of new).listing ≡ (pass_of old).listing
+pub same_listing : {old new : Option PassFacts} → IsPassOn old new → (pass_or_none new).listing ≡ (pass_or_none old).listing
 same_listing on =
-    ap (λ (o : Option PassFacts). (pass_of o).listing) on.is ∙ on.over
-    ∙ sym (ap (λ (o : Option PassFacts). (pass_of o).listing) on.was)
+    ap (λ (o : Option PassFacts). (pass_or_none o).listing) on.is ∙ on.over
+    ∙ sym (ap (λ (o : Option PassFacts). (pass_or_none o).listing) on.was)
 
 pub pass_then : {old mid new : Option PassFacts} → IsPassOn old mid → IsPassOn mid new → IsPassOn old new
 pass_then p q = record {
@@ -83,7 +83,7 @@ module _ (some more : List Heard) {Failed Fails : Type 0} (among : (h : Heard) �
     missed =
         All-weaker (MissesBy old some Failed)
         (MissesBy old more Fails)
-        (miss_as (pass_of old.pass).listing (row_names old.rows) (pass_of old.pass).missed) (pass_of new.pass).missed on.missed;
+        (miss_as (pass_or_none old.pass).listing (row_names old.rows) (pass_or_none old.pass).missed) (pass_or_none new.pass).missed on.missed;
     still = on.still;
     todo = on.todo;
     bounded = on.bounded;
@@ -124,7 +124,7 @@ pub advances_then : {K : Type 0} {shows : K → ShownKeeper} {xs ys : List Heard
 advances_then {K} {shows} {xs} {ys} {First} {Second} {Failed} {old} {mid} {new} first second p q =
     let a : Advances shows (xs ++ ys) Failed old mid = advances_as xs (xs ++ ys) (λ h. Contains-append_left xs ys h) first p in
     let b : Advances shows (xs ++ ys) Failed mid new = advances_as ys (xs ++ ys) (λ h. Contains-append_right xs ys h) second q in
-    let listing : (pass_of mid.pass).listing ≡ (pass_of old.pass).listing = same_listing p.pass in
+    let listing : (pass_or_none mid.pass).listing ≡ (pass_or_none old.pass).listing = same_listing p.pass in
     record {
       keeper = omega (arith, p.keeper, q.keeper);
       pass = pass_then p.pass q.pass;
@@ -141,21 +141,21 @@ advances_then {K} {shows} {xs} {ys} {First} {Second} {Failed} {old} {mid} {new} 
           ] refl;
       comes = λ name there fresh.
           elim (is_in (row_names mid.rows) name) as (λ v. is_in (row_names mid.rows) name ≡ v
-          → is_in (pass_of old.pass).listing name ≡ true) [
+          → is_in (pass_or_none old.pass).listing name ≡ true) [
             | true ↦ λ stood. p.comes name stood fresh
             | false ↦ λ absent.
                 ap (λ (l : List NameFacts). is_in l name) (sym listing) ∙ q.comes name there absent
           ] refl;
       brings = All-weaker (IsBrought mid.rows (xs ++ ys)) (IsBrought old.rows (xs ++ ys)) brought new.rows b.brings;
       missed =
-          All-weaker (Later (pass_of old.pass).listing) (Sooner (pass_of old.pass).listing) (λ m why. before m why)
-          (pass_of new.pass).missed
-          (subst (λ (l : List NameFacts). All (Later l) (pass_of new.pass).missed) listing b.missed);
+          All-weaker (Later (pass_or_none old.pass).listing) (Sooner (pass_or_none old.pass).listing) (λ m why. before m why)
+          (pass_or_none new.pass).missed
+          (subst (λ (l : List NameFacts). All (Later l) (pass_or_none new.pass).missed) listing b.missed);
       still = λ name listed missed.
           q.still name (ap (λ (l : List NameFacts). is_in l name) listing ∙ listed) (p.still name listed missed);
       todo = λ path. let first = p.todo path in let later = q.todo path in omega (arith, first, later);
       bounded =
-          let later : StaysBounded (pass_of old.pass).listing mid new = subst (λ (l : List NameFacts). StaysBounded l mid new) listing q.bounded in
+          let later : StaysBounded (pass_or_none old.pass).listing mid new = subst (λ (l : List NameFacts). StaysBounded l mid new) listing q.bounded in
           omega (arith, p.bounded, later);
     }
   where
@@ -166,15 +166,15 @@ advances_then {K} {shows} {xs} {ys} {First} {Second} {Failed} {old} {mid} {new} 
     brought row (inr read) = inr read
 
     Later : List NameFacts → Miss → Type 0
-    Later l m = IsMissBy l (row_names mid.rows) (pass_of mid.pass).missed (xs ++ ys) Failed m
+    Later l m = IsMissBy l (row_names mid.rows) (pass_or_none mid.pass).missed (xs ++ ys) Failed m
 
     Sooner : List NameFacts → Miss → Type 0
-    Sooner l m = IsMissBy l (row_names old.rows) (pass_of old.pass).missed (xs ++ ys) Failed m
+    Sooner l m = IsMissBy l (row_names old.rows) (pass_or_none old.pass).missed (xs ++ ys) Failed m
 
-    before : (m : Miss) → Later (pass_of old.pass).listing m → Sooner (pass_of old.pass).listing m
+    before : (m : Miss) → Later (pass_or_none old.pass).listing m → Sooner (pass_or_none old.pass).listing m
     before m (inl there) =
-        All-contains (Sooner (pass_of old.pass).listing) (pass_of mid.pass).missed m
+        All-contains (Sooner (pass_or_none old.pass).listing) (pass_or_none mid.pass).missed m
         (advances_as xs (xs ++ ys) (λ h. Contains-append_left xs ys h) first p).missed there
     before m (inr why) =
-        inr (backed_before (pass_of old.pass).listing (row_names mid.rows) (row_names old.rows) (xs ++ ys) Failed
+        inr (backed_before (pass_or_none old.pass).listing (row_names mid.rows) (row_names old.rows) (xs ++ ys) Failed
         p.comes m.name m.cause why)

@@ -19,27 +19,27 @@ use Rattle.scan_queue.specs.declared.miss.Miss.{Miss}
 use Rattle.scan_queue.specs.declared.miss.Seen.{Seen}
 use Rattle.scan_queue.specs.declared.miss.Seen.TheVariants as seen
 use Rattle.scan_queue.proofs.NameTests.{same_stamp-Decides}
-use Rattle.scan_worker.specs.Read.{FindsOther, load_of}
-use Rattle.tree_trait.specs.Asks.{Asks}
+use Rattle.scan_worker.specs.Read.{FindsOther, heard_load}
+use Rattle.tree_trait.specs.Asks.{AsksTree}
 use Rattle.tree_trait.specs.Found.{Versions}
-use Rattle.tree_trait.specs.Heard.{Heard, stat, has_failed, wants_memory}
-use Rattle.tree_trait.specs.Listens.{Listens, heard_of}
+use Rattle.tree_trait.specs.Heard.{Heard, stat, call_failed, wants_memory}
+use Rattle.tree_trait.specs.Listens.{Listens, heard_or_none}
 use Rattle.tree_trait.specs.Load.{LoadFacts, loaded, too_large, gone, failed, no_memory}
 use Rattle.tree_trait.specs.Shown.{ShownTree}
 use Rattle.tree_trait.specs.declared.stat.StatAnswer.{StatAnswer}
 use Rattle.tree_trait.specs.declared.stat.StatAnswer.TheVariants as said
 use Rattle.tree_trait.proofs.ListenLemmas.{all_heard, is_heard, listens_none, listens_one}
-use Rattle.groomer.specs.Looks.{LooksAt, looked_of}
+use Rattle.groomer.specs.Looks.{LooksAtName, looked_of}
 use Rattle.groomer.specs.declared.looking.Looked.{Looked}
 use Rattle.groomer.specs.declared.looking.Looked.TheVariants as looked
 use Rattle.pass_runner.specs.Helped.{IsSparing}
-use Rattle.pass_runner.specs.Leading.{IsStanding, Leads, MayNote, MayNoteThere}
-use Rattle.pass_runner.specs.SharedPass.{IsMet}
+use Rattle.pass_runner.specs.Leading.{IsStanding, LeadsInSettling, MayNote, MayNoteThere}
+use Rattle.pass_runner.specs.SharedPass.{IsMetByHand}
 use Rattle.pass_runner.proofs.LeadLemmas.{leads_by, leads_quiet}
 
 -- what was found in place of a file was heard
 other_heard : (name : NameFacts) (answer : LoadFacts) (met : Seen) → FindsOther name answer met
-    → wants_memory (load_of name answer) ≡ false
+    → wants_memory (heard_load name answer) ≡ false
 other_heard name (loaded found) met h = refl
 other_heard name (too_large stamp) met h = refl
 other_heard name gone met h = refl
@@ -48,33 +48,33 @@ other_heard name no_memory met h = absurd h
 
 module _ {told : Bool} {version : Versions} {missed : List Miss} {seat taken later : SeatFacts Change Origin}
     {before after : ShownTree} (name : NameFacts) (answer : LoadFacts) (took : IsLater seat taken) (on : IsLater taken later)
-    (asks : Asks told version before after (load_of name answer)) where
+    (asks : AsksTree told version before after (heard_load name answer)) where
   -- a listed file was loaded, and nothing was noted
-  pub leads_load : Leads told version seat before later after missed missed
+  pub leads_load : LeadsInSettling told version seat before later after missed missed
   leads_load =
-      leads_quiet (heard_of (load_of name answer)) (later_trans took on) (listens_one (load_of name answer) asks)
-      (all_heard (IsSparing []) (load_of name answer) (refl, refl))
+      leads_quiet (heard_or_none (heard_load name answer)) (later_trans took on) (listens_one (heard_load name answer) asks)
+      (all_heard (IsSparing []) (heard_load name answer) (refl, refl))
 
   load_noted : {last : List Miss} (cause : Cause) → MayNote (record { name = name; cause = cause }) missed last
-      → IsMet seat.seen later.seen (heard_of (load_of name answer)) (Rose before.faults after.faults) name cause
-      → Leads told version seat before later after missed last
+      → IsMetByHand seat.seen later.seen (heard_or_none (heard_load name answer)) (Rose before.faults after.faults) name cause
+      → LeadsInSettling told version seat before later after missed last
   load_noted cause noted why =
-      leads_by (record { name = name; cause = cause }) (heard_of (load_of name answer)) (later_trans took on)
-      (listens_one (load_of name answer) asks) (all_heard (IsSparing []) (load_of name answer) (refl, refl)) noted why
+      leads_by (record { name = name; cause = cause }) (heard_or_none (heard_load name answer)) (later_trans took on)
+      (listens_one (heard_load name answer) asks) (all_heard (IsSparing []) (heard_load name answer) (refl, refl)) noted why
 
   -- another file stood there, or none
   pub leads_other : {last : List Miss} (met : Seen) → FindsOther name answer met
       → MayNote (record { name = name; cause = Altered met }) missed last
-      → Leads told version seat before later after missed last
+      → LeadsInSettling told version seat before later after missed last
   leads_other met finds noted =
       load_noted (Altered met) noted
-      (record { answer = answer; heard = is_heard (load_of name answer) (other_heard name answer met finds); other = finds })
+      (record { answer = answer; heard = is_heard (heard_load name answer) (other_heard name answer met finds); other = finds })
 
   -- it could not be read
   pub leads_unread : {last : List Miss} → answer ≡ failed → MayNote (record { name = name; cause = ReadFault }) missed last
-      → Leads told version seat before later after missed last
+      → LeadsInSettling told version seat before later after missed last
   leads_unread is noted =
-      load_noted ReadFault noted (asks.hands.cause.rose (ap (λ (a : LoadFacts). has_failed (load_of name a)) is))
+      load_noted ReadFault noted (asks.hands.cause.rose (ap (λ (a : LoadFacts). call_failed (heard_load name a)) is))
 
 -- what a look saw is what was answered
 saw_file : (answer : StatAnswer) (stamp : StampFacts) → looked.Saw (seen.File stamp) ≡ looked_of answer
@@ -103,19 +103,19 @@ record HearsLook (told : Bool) (version : Versions) (name : NameFacts) (before a
   rose : end ≡ looked.Failed → Rose before.faults after.faults
 
 module _ {told : Bool} {version : Versions} where
-  at_look : {name : NameFacts} {before after : ShownTree} (end : Looked) → LooksAt told version name before after end
+  at_look : {name : NameFacts} {before after : ShownTree} (end : Looked) → LooksAtName told version name before after end
       → HearsLook told version name before after end
   at_look {name} end at = record {
-    more = heard_of (stat name.path at.answer);
+    more = heard_or_none (stat name.path at.answer);
     listens = listens_one (stat name.path at.answer) at.asks;
     asks = all_heard (IsSparing []) (stat name.path at.answer) tt;
     saw = λ stamp is.
         let answered : at.answer ≡ said.File stamp = saw_file at.answer stamp (sym is ∙ at.saw) in
-        subst (λ (a : StatAnswer). Contains (heard_of (stat name.path a)) (stat name.path (said.File stamp))) (sym answered)
+        subst (λ (a : StatAnswer). Contains (heard_or_none (stat name.path a)) (stat name.path (said.File stamp))) (sym answered)
         (is_heard (stat name.path (said.File stamp)) refl);
     rose = λ is.
         at.asks.hands.cause.rose
-        (ap (λ (a : StatAnswer). has_failed (stat name.path a)) (look_failed at.answer (sym is ∙ at.saw)));
+        (ap (λ (a : StatAnswer). call_failed (stat name.path a)) (look_failed at.answer (sym is ∙ at.saw)));
   }
 
   no_look : {name : NameFacts} {hand : ShownTree} (end : Looked) → end ≡ looked.Saw seen.Gone
@@ -129,7 +129,7 @@ module _ {told : Bool} {version : Versions} where
   }
 
   look_heard : {T : Type 0} (shows : T → ShownTree) (before after : T) (under : Bool) (name : NameFacts) (end : Looked)
-      → OnTrue under (LooksAt told version name (shows before) (shows after) end)
+      → OnTrue under (LooksAtName told version name (shows before) (shows after) end)
       → OnFalse under (end ≡ looked.Saw seen.Gone) → OnFalse under (after ≡ before)
       → HearsLook told version name (shows before) (shows after) end
   look_heard {T} shows before after under name end at unasked same =
@@ -151,19 +151,19 @@ module _ {T : Type 0} {told : Bool} {version : Versions} {missed : List Miss} {s
     (took : IsLater seat taken) where
   -- the file of a row was looked for, and the row was judged
   pub leads_judged : {last : List Miss} (met : Seen)
-      → OnTrue under (LooksAt told version name (shows before) (shows after) (looked.Saw met))
+      → OnTrue under (LooksAtName told version name (shows before) (shows after) (looked.Saw met))
       → OnFalse under (looked.Saw met ≡ looked.Saw seen.Gone) → OnFalse under (after ≡ before)
       → IsLater taken later → MayNoteThere name met later.seen missed last
-      → Leads told version seat (shows before) later (shows after) missed last
+      → LeadsInSettling told version seat (shows before) later (shows after) missed last
   leads_judged {last} met at unasked same on noted = by noted
     where
       heard : HearsLook told version name (shows before) (shows after) (looked.Saw met)
       heard = look_heard shows before after under name (looked.Saw met) at unasked same
 
       by : MayNoteThere name met later.seen missed last
-          → Leads told version seat (shows before) later (shows after) missed last
+          → LeadsInSettling told version seat (shows before) later (shows after) missed last
       by (inl is) =
-          subst (λ (l : List Miss). Leads told version seat (shows before) later (shows after) missed l) (sym is)
+          subst (λ (l : List Miss). LeadsInSettling told version seat (shows before) later (shows after) missed l) (sym is)
           (leads_quiet heard.more (later_trans took on) heard.listens heard.asks)
       by (inr there) =
           leads_by (record { name = name; cause = Appeared }) heard.more (later_trans took on) heard.listens heard.asks
@@ -177,10 +177,10 @@ module _ {T : Type 0} {told : Bool} {version : Versions} {missed : List Miss} {s
 
   -- the look failed
   pub leads_blind : {last : List Miss}
-      → OnTrue under (LooksAt told version name (shows before) (shows after) looked.Failed)
+      → OnTrue under (LooksAtName told version name (shows before) (shows after) looked.Failed)
       → OnFalse under (looked.Failed ≡ looked.Saw seen.Gone) → OnFalse under (after ≡ before) → IsLater taken later
       → MayNote (record { name = name; cause = ReadFault }) missed last
-      → Leads told version seat (shows before) later (shows after) missed last
+      → LeadsInSettling told version seat (shows before) later (shows after) missed last
   leads_blind at unasked same on noted =
       let heard : HearsLook told version name (shows before) (shows after) looked.Failed
       = look_heard shows before after under name looked.Failed at unasked same in
@@ -188,9 +188,9 @@ module _ {T : Type 0} {told : Bool} {version : Versions} {missed : List Miss} {s
       (heard.rose refl)
 
   -- memory for it was refused
-  pub leads_wanting : OnTrue under (LooksAt told version name (shows before) (shows after) looked.OutOfMemory)
+  pub leads_wanting : OnTrue under (LooksAtName told version name (shows before) (shows after) looked.OutOfMemory)
       → OnFalse under (looked.OutOfMemory ≡ looked.Saw seen.Gone) → OnFalse under (after ≡ before) → IsLater taken later
-      → Leads told version seat (shows before) later (shows after) missed missed
+      → LeadsInSettling told version seat (shows before) later (shows after) missed missed
   leads_wanting at unasked same on =
       let heard : HearsLook told version name (shows before) (shows after) looked.OutOfMemory
       = look_heard shows before after under name looked.OutOfMemory at unasked same in

@@ -12,7 +12,7 @@ use Rattle.index_rows.specs.Rows.{row_names}
 use Rattle.index_state.specs.Bound.{still_open}
 use Rattle.index_state.specs.Complete.{CompletePass, LeavesNone, standing_of}
 use Rattle.index_state.specs.Plan.{most_changes, plan_of}
-use Rattle.index_state.specs.State.{StateFacts, pass_of}
+use Rattle.index_state.specs.State.{StateFacts, pass_or_none}
 use Rattle.index_state.specs.Step.{BeginsPass, after_begin}
 use Rattle.index_state.specs.declared.answer.Plan.{Plan}
 use Rattle.index_state.specs.declared.answer.Standing.{Standing}
@@ -26,10 +26,10 @@ use Rattle.tree_trait.specs.Found.{Versions}
 use Rattle.tree_trait.specs.Heard.{Heard}
 use Rattle.tree_trait.specs.Shown.{ShownTree}
 use Rattle.pass_runner.specs.Beside.{EndsAgain}
-use Rattle.pass_runner.specs.Ends.{IsSettled}
+use Rattle.pass_runner.specs.Ends.{AreNamesSettled}
 use Rattle.pass_runner.specs.Numbers.{summary_of}
 use Rattle.pass_runner.specs.Owned.{IsHelped, is_hand_fault, is_read_fault, is_unwalked}
-use Rattle.pass_runner.specs.Passes.{EndsBegun, EndsFound, EndsOf, EndsOver, IsDone, IsFresh, IsHandedOut}
+use Rattle.pass_runner.specs.Passes.{EndsBegun, EndsFound, EndsOf, EndsOver, IsPassWhole, IsFresh, IsHandedOut}
 use Rattle.pass_runner.specs.Settled.{IsBacked, IsMissBy, Settles}
 use Rattle.pass_runner.specs.declared.pass_end.PassEnd.{PassEnd}
 use Rattle.pass_runner.specs.declared.pass_end.PassEnd.TheVariants.{Whole, Missed, Walk, Broken}
@@ -140,7 +140,7 @@ backed_fault listing names answers Failed name Appeared h fault = absurd (true�
 
 module _ {K : Type 0} {told : Bool} {version : Versions} {shows : K → ShownKeeper} {before after : ShownTree} {old new : StateFacts K} where
   -- no name is left to be handed out
-  pub handed_out : IsFresh old → Settles told version shows before after old new → IsSettled old new → IsHandedOut new
+  pub handed_out : IsFresh old → Settles told version shows before after old new → AreNamesSettled old new → IsHandedOut new
   handed_out fresh settles ends = record {
     sound = ends.sound;
     is_open = record { from = settles.does.on.pass.into; into = settles.does.on.pass.into; was = settles.does.on.pass.is; is = settles.does.on.pass.is; over = refl };
@@ -151,14 +151,14 @@ module _ {K : Type 0} {told : Bool} {version : Versions} {shows : K → ShownKee
   }
 
   -- each name that was missed has its reason
-  pub all_backed : (pass_of old.pass).missed ≡ [] → (settles : Settles told version shows before after old new)
-      → All (λ (miss : Miss). IsBacked (pass_of old.pass).listing (row_names old.rows) settles.does.answers (Rose before.faults after.faults) miss.name miss.cause)
-      (pass_of new.pass).missed
+  pub all_backed : (pass_or_none old.pass).missed ≡ [] → (settles : Settles told version shows before after old new)
+      → All (λ (miss : Miss). IsBacked (pass_or_none old.pass).listing (row_names old.rows) settles.does.answers (Rose before.faults after.faults) miss.name miss.cause)
+      (pass_or_none new.pass).missed
   all_backed none settles =
-      All-weaker (IsMissBy (pass_of old.pass).listing (row_names old.rows) [] settles.does.answers (Rose before.faults after.faults))
-      (λ (miss : Miss). IsBacked (pass_of old.pass).listing (row_names old.rows) settles.does.answers (Rose before.faults after.faults) miss.name miss.cause)
-      (backed_alone (pass_of old.pass).listing (row_names old.rows) settles.does.answers (Rose before.faults after.faults)) (pass_of new.pass).missed
-      (subst (λ (ms : List Miss). All (IsMissBy (pass_of old.pass).listing (row_names old.rows) ms settles.does.answers (Rose before.faults after.faults)) (pass_of new.pass).missed)
+      All-weaker (IsMissBy (pass_or_none old.pass).listing (row_names old.rows) [] settles.does.answers (Rose before.faults after.faults))
+      (λ (miss : Miss). IsBacked (pass_or_none old.pass).listing (row_names old.rows) settles.does.answers (Rose before.faults after.faults) miss.name miss.cause)
+      (backed_alone (pass_or_none old.pass).listing (row_names old.rows) settles.does.answers (Rose before.faults after.faults)) (pass_or_none new.pass).missed
+      (subst (λ (ms : List Miss). All (IsMissBy (pass_or_none old.pass).listing (row_names old.rows) ms settles.does.answers (Rose before.faults after.faults)) (pass_or_none new.pass).missed)
       none settles.does.on.missed)
 
 -- the end by what is left
@@ -189,9 +189,9 @@ pub begun_fault : {K : Type 0} (world : Rules) (told tells : Bool) (shows : K �
     (old new : StateFacts K) (end : PassEnd) → IsFresh old → EndsBegun world told tells shows plan before after old new end
     → IsTrue (is_hand_fault end) → Rose before.faults after.faults
 begun_fault world told tells shows plan before after old new (Missed miss) fresh h fault =
-    backed_fault (pass_of old.pass).listing (row_names old.rows) h.settles.does.answers (Rose before.faults after.faults) miss.name miss.cause
-    (first_is (λ (m : Miss). IsBacked (pass_of old.pass).listing (row_names old.rows) h.settles.does.answers (Rose before.faults after.faults) m.name m.cause)
-    (pass_of new.pass).missed miss (all_backed fresh.missed h.settles) h.ends.missed.first) fault
+    backed_fault (pass_or_none old.pass).listing (row_names old.rows) h.settles.does.answers (Rose before.faults after.faults) miss.name miss.cause
+    (first_is (λ (m : Miss). IsBacked (pass_or_none old.pass).listing (row_names old.rows) h.settles.does.answers (Rose before.faults after.faults) m.name m.cause)
+    (pass_or_none new.pass).missed miss (all_backed fresh.missed h.settles) h.ends.missed.first) fault
 begun_fault world told tells shows plan before after old new (Walk fault) fresh h f = absurd h
 begun_fault world told tells shows plan before after old new (Whole summary) fresh h f = absurd (true≢false (sym f))
 begun_fault world told tells shows plan before after old new Broken fresh h f = absurd h
@@ -212,12 +212,12 @@ never_fault world tells shows plan state LogFull h is = h
 
 -- where no name was missed either, the pass is whole
 pub whole_done : {K : Type 0} (world : Rules) (tells : Bool) (shows : K → ShownKeeper) {state : StateFacts K} {plan : Plan}
-    {summary : Summary} {standing : Standing} → IsHandedOut state → None ≡ first_missed (pass_of state.pass).missed
+    {summary : Summary} {standing : Standing} → IsHandedOut state → None ≡ first_missed (pass_or_none state.pass).missed
     → standing ≡ standing_of state
     → IfSome state.pass (λ pass. LeavesNone standing → CompletePass world.told world.true_row tells shows pass.listing state)
-    → summary ≡ summary_of plan state.rows → IsDone world tells shows plan summary state
+    → summary ≡ summary_of plan state.rows → IsPassWhole world tells shows plan summary state
 whole_done {K} world tells shows {state} {plan} {summary} {standing} handed first value complete numbers =
-    let missed = none_missed (pass_of state.pass).missed first in
+    let missed = none_missed (pass_or_none state.pass).missed first in
     let leaves : LeavesNone standing
     = subst (λ (s : Standing). LeavesNone s) (sym value) (record {
       todo = ap (λ (xs : List NameFacts). length xs) handed.todo;
@@ -227,7 +227,7 @@ whole_done {K} world tells shows {state} {plan} {summary} {standing} handed firs
     }) in
     record {
       complete =
-          subst (λ (o : Option PassFacts). CompletePass world.told world.true_row tells shows (pass_of o).listing state) (sym handed.is_open.was)
+          subst (λ (o : Option PassFacts). CompletePass world.told world.true_row tells shows (pass_or_none o).listing state) (sym handed.is_open.was)
           (there (λ (pass : PassFacts). LeavesNone standing → CompletePass world.told world.true_row tells shows pass.listing state)
           handed.is_open.was complete leaves);
       whole = record { todo = handed.todo; out = handed.out; groom = handed.groom; missed = missed };

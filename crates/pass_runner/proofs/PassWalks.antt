@@ -7,26 +7,26 @@ use Rattle.row_types.specs.Name.{NameFacts}
 use Rattle.row_types.specs.Rules.{Rules}
 use Rattle.index_keeper.specs.Keeper.{ShownKeeper}
 use Rattle.index_rows.specs.Rows.{row_names}
-use Rattle.index_state.specs.State.{StateFacts, pass_of}
+use Rattle.index_state.specs.State.{StateFacts, pass_or_none}
 use Rattle.index_state.specs.Step.{after_begin}
 use Rattle.scan_queue.specs.Pass.{PassFacts}
 use Rattle.scan_queue.specs.declared.miss.Cause.{Cause}
 use Rattle.scan_queue.specs.declared.miss.Cause.TheVariants.{ReadFault, Altered, Appeared}
 use Rattle.scan_queue.specs.declared.miss.Miss.{Miss}
-use Rattle.tree_trait.specs.Asks.{IsTold}
+use Rattle.tree_trait.specs.Asks.{IsAnswerTold}
 use Rattle.tree_trait.specs.Found.{Versions}
 use Rattle.tree_trait.specs.Heard.{Heard}
 use Rattle.tree_trait.specs.Shown.{HandsOn, ShownTree}
-use Rattle.tree_walk.specs.Ends.{Walks}
+use Rattle.tree_walk.specs.Ends.{WalksTree}
 use Rattle.tree_walk.specs.Files.{AreFilesUnder}
 use Rattle.tree_walk.specs.declared.walked.Walk.{Walk as WalkFacts}
 use Rattle.pass_runner.specs.Ends.{IsOutOfRoom}
 use Rattle.index_state.specs.Plan.{plan_of}
 use Rattle.scan_queue.specs.Names.{is_in}
 use Rattle.pass_runner.specs.Helped.{IsSparing}
-use Rattle.pass_runner.specs.Owned.{EndsHelped, EndsPass, HasMissed, HearsPass, Helps, IsHelped, IsWholePass, LeavesIndex, RunsPass, TellsStill}
-use Rattle.pass_runner.specs.Passes.{EndsOver, IsApart, IsFirstMiss, IsLeft}
-use Rattle.pass_runner.specs.Settled.{IsBacked, IsWanted, Settles}
+use Rattle.pass_runner.specs.Owned.{EndsPassHelped, EndsPass, HasMissed, HearsPass, Helps, IsHelped, IsWholePass, LeavesIndex, RunsPass, TellsStill}
+use Rattle.pass_runner.specs.Passes.{EndsOver, IsApart, IsFirstMiss, LeavesToHands}
+use Rattle.pass_runner.specs.Settled.{IsBacked, MayBeAsked, Settles}
 use Rattle.pass_runner.specs.declared.pass_end.PassEnd.{PassEnd}
 use Rattle.pass_runner.specs.declared.pass_end.PassEnd.TheVariants.{Whole, Missed, Walk, Broken}
 use Rattle.pass_runner.specs.declared.pass_end.PassEnd.TheVariants.{KeeperFault, LogFull, OutOfMemory}
@@ -46,7 +46,7 @@ backed_so listing names answers so name Appeared h = h
 
 module _ {K : Type 0} (world : Rules) (hands_given : ℕ) (old found : StateFacts K) {told : Bool} {shows : K → ShownKeeper} {roots : List (List ℕ)}
     {before met after : ShownTree} {new : StateFacts K} {walk : WalkFacts} {Asked Fails : Type 0}
-    (walks : Walks told before met roots (Ok walk))
+    (walks : WalksTree told before met roots (Ok walk))
     (under : TellsStill told before → AreFilesUnder before.present roots walk.listing)
     (hands : HandsOn told world.version before met Asked Fails)
     (settles : Settles told world.version shows met after (after_begin walk.listing roots found) new)
@@ -57,17 +57,17 @@ module _ {K : Type 0} (world : Rules) (hands_given : ℕ) (old found : StateFact
     heard = heard_both before.heard met.heard after.heard walks.goes.more settles.does.answers walks.goes.heard settles.does.listens.heard;
     whole = walks.goes.ends;
     full =
-        full_stays roots (IsWanted walk.listing roots (row_names found.rows)) (λ path answer never. never) walks.goes.more
+        full_stays roots (MayBeAsked walk.listing roots (row_names found.rows)) (λ path answer never. never) walks.goes.more
         settles.does.answers settles.does.wanted walks.goes.ends.full;
     listing =
-        listing_stays roots (IsWanted walk.listing roots (row_names found.rows)) (λ path answer never. never) walks.goes.more
+        listing_stays roots (MayBeAsked walk.listing roots (row_names found.rows)) (λ path answer never. never) walks.goes.more
         settles.does.answers settles.does.wanted walks.goes.ends.full walk.listing walks.goes.ends.listing;
     wanted = settles.does.wanted;
     once = settles.once;
     fits = settles.does.listens.fits;
     tells = λ t.
-        All-append (IsTold before.present) walks.goes.more settles.does.answers (walks.goes.tells t.0 t.1)
-        (subst (λ (names : List NameFacts). All (IsTold names) settles.does.answers) (hands.still t.1).same
+        All-append (IsAnswerTold before.present) walks.goes.more settles.does.answers (walks.goes.tells t.0 t.1)
+        (subst (λ (names : List NameFacts). All (IsAnswerTold names) settles.does.answers) (hands.still t.1).same
         (settles.does.listens.tells t.0 (hands.still t.1).still));
     under = under;
   }
@@ -78,18 +78,18 @@ module _ {K : Type 0} (world : Rules) (hands_given : ℕ) (old found : StateFact
   fault_late miss why = backed_so walk.listing (row_names found.rows) settles.does.answers (rose_later before.faults met.faults after.faults hands.cause.later) miss.name miss.cause why
 
   backed_new : All (λ (miss : Miss). IsBacked walk.listing (row_names found.rows) settles.does.answers (Rose before.faults after.faults) miss.name miss.cause)
-      (pass_of new.pass).missed
+      (pass_or_none new.pass).missed
   backed_new =
       All-weaker (λ (miss : Miss). IsBacked walk.listing (row_names found.rows) settles.does.answers (Rose met.faults after.faults) miss.name miss.cause)
       (λ (miss : Miss). IsBacked walk.listing (row_names found.rows) settles.does.answers (Rose before.faults after.faults) miss.name miss.cause)
-      fault_late (pass_of new.pass).missed (all_backed refl settles)
+      fault_late (pass_or_none new.pass).missed (all_backed refl settles)
 
   -- what it left of the index
   left_index : LeavesIndex roots walk.listing settles.does.answers (Rose before.faults after.faults) found new
   left_index = record {
     pass = settles.does.on.pass.into;
     is_open = settles.does.on.pass.is;
-    over = sym (ap (λ (o : Option PassFacts). (pass_of o).listing) settles.does.on.pass.is) ∙ same_listing settles.does.on.pass;
+    over = sym (ap (λ (o : Option PassFacts). (pass_or_none o).listing) settles.does.on.pass.is) ∙ same_listing settles.does.on.pass;
     roots = settles.does.on.roots;
     origin = settles.does.on.origin;
     bounded = settles.does.on.bounded;
@@ -98,7 +98,7 @@ module _ {K : Type 0} (world : Rules) (hands_given : ℕ) (old found : StateFact
     comes = settles.does.on.comes;
     brings = settles.does.on.brings;
     missed =
-        subst (λ (o : Option PassFacts). All (λ (miss : Miss). IsBacked walk.listing (row_names found.rows) settles.does.answers (Rose before.faults after.faults) miss.name miss.cause) (pass_of o).missed)
+        subst (λ (o : Option PassFacts). All (λ (miss : Miss). IsBacked walk.listing (row_names found.rows) settles.does.answers (Rose before.faults after.faults) miss.name miss.cause) (pass_or_none o).missed)
         settles.does.on.pass.is backed_new;
   }
 
@@ -123,8 +123,8 @@ module _ {K : Type 0} (world : Rules) (hands_given : ℕ) (old found : StateFact
   runs_to_miss miss h =
       let why =
       first_is (λ (m : Miss). IsBacked walk.listing (row_names found.rows) settles.does.answers (Rose before.faults after.faults) m.name m.cause)
-      (pass_of new.pass).missed miss backed_new h.missed.first in
-      let over : (pass_of new.pass).listing ≡ walk.listing = same_listing settles.does.on.pass in
+      (pass_or_none new.pass).missed miss backed_new h.missed.first in
+      let over : (pass_or_none new.pass).listing ≡ walk.listing = same_listing settles.does.on.pass in
       record {
         first = h.missed.first;
         why = why;
@@ -138,7 +138,7 @@ module _ {K : Type 0} (world : Rules) (hands_given : ℕ) (old found : StateFact
 -- the pass whose listing was walked
 pub ends_walked : {K T : Type 0} (world : Rules) (told tells : Bool) (shows : K → ShownKeeper) (sees : T → ShownTree)
     (count : ℕ) (roots : List (List ℕ)) (before met after : T) (old new : StateFacts K) (walk : WalkFacts) {Asked Fails : Type 0}
-    (end : PassEnd) → Walks told (sees before) (sees met) roots (Ok walk)
+    (end : PassEnd) → WalksTree told (sees before) (sees met) roots (Ok walk)
     → (TellsStill told (sees before) → AreFilesUnder (sees before).present roots walk.listing)
     → HandsOn told world.version (sees before) (sees met) Asked Fails
     → EndsOver world told tells shows sees count walk.listing roots met after old new end
@@ -146,12 +146,12 @@ pub ends_walked : {K T : Type 0} (world : Rules) (told tells : Bool) (shows : K 
 ends_walked {K} {T} world told tells shows sees count roots before met after old new walk {Asked} {Fails} end walks under hands = by end
   where
     -- the other hands helped alone
-    left : (Ends : Type 0) → IsLeft count walk.listing met after old new Ends
-        → EndsHelped told count roots walk.listing (sees before) (sees after) old new Ends
+    left : (Ends : Type 0) → LeavesToHands count walk.listing met after old new Ends
+        → EndsPassHelped told count roots walk.listing (sees before) (sees after) old new Ends
     left Ends h = record {
       walk = walk;
       over = refl;
-      walks = subst (λ (t : T). Walks told (sees before) (sees t) roots (Ok walk)) (sym h.hand) walks;
+      walks = subst (λ (t : T). WalksTree told (sees before) (sees t) roots (Ok walk)) (sym h.hand) walks;
       helped = h.helped;
       bounded = omega (arith, h.helped.allowed, h.helped.bounded);
       ends = h.ends;
@@ -173,7 +173,7 @@ ends_walked {K} {T} world told tells shows sees count roots before met after old
     by OutOfMemory (inl early) = inl (record {
       walk = walk;
       over = refl;
-      walks = subst (λ (t : T). Walks told (sees before) (sees t) roots (Ok walk)) (sym early.hand) walks;
+      walks = subst (λ (t : T). WalksTree told (sees before) (sees t) roots (Ok walk)) (sym early.hand) walks;
       same = early.state;
     })
     by OutOfMemory (inr (inl h)) =

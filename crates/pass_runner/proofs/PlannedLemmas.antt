@@ -17,9 +17,9 @@ use Rattle.tree_trait.specs.Shown.{ShownTree}
 use Rattle.index_lock.specs.Tokens.{SeatFacts}
 use Rattle.index_state.specs.State.{Origin}
 use Rattle.pass_runner.specs.Helped.{IsSparing}
-use Rattle.pass_runner.specs.Leading.{EndsPlanned, IsNoted, IsPlanned, LastShows, Leads, LeadsPass, SettlesLast}
+use Rattle.pass_runner.specs.Leading.{EndsPlanned, IsMissNoted, IsPlanned, LastShows, LeadsInSettling, LeadsPass, SettlesLast}
 use Rattle.pass_runner.specs.Numbers.{summary_of}
-use Rattle.pass_runner.specs.SharedPass.{EndsListed, IsMet}
+use Rattle.pass_runner.specs.SharedPass.{EndsListed, IsMetByHand}
 use Rattle.pass_runner.specs.declared.pass_end.PassEnd.{PassEnd}
 use Rattle.pass_runner.specs.declared.pass_end.PassEnd.TheVariants.{Whole, Missed, Walk, Broken}
 use Rattle.pass_runner.specs.declared.pass_end.PassEnd.TheVariants.{KeeperFault, LogFull, OutOfMemory}
@@ -30,7 +30,7 @@ use Rattle.tree_trait.proofs.ListenLemmas.{listens_none}
 -- the settling, and what the last hold shows
 pub settles_last : {told : Bool} (world : Rules) {listing : List NameFacts} {roots : List (List ℕ)} {plan : Plan}
     {seat mid : SeatFacts Change Origin} (log : List Change) {before after : ShownTree} {met : List Miss}
-    → Leads told world.version seat before mid after [] met → IsPrefix mid.seen log → (end : PassEnd)
+    → LeadsInSettling told world.version seat before mid after [] met → IsPrefix mid.seen log → (end : PassEnd)
     → LastShows world listing roots plan met log end
     → SettlesLast world told listing roots plan seat.seen log before after end
 settles_last world {listing} {roots} {plan} {seat} {mid} log {before} {after} {met} led on end shows = record {
@@ -46,11 +46,11 @@ settles_last world {listing} {roots} {plan} {seat} {mid} log {before} {after} {m
     none_in : (m : Miss) → Contains [] m → ⊥
     none_in m h = absurd (omega (arith, h.1))
 
-    own_met : (m : Miss) → Contains met m → IsMet seat.seen log led.more Failed m.name m.cause
-    own_met m there = noted m (All-contains (IsNoted seat.seen mid.seen led.more Failed []) met m led.noted there)
+    own_met : (m : Miss) → Contains met m → IsMetByHand seat.seen log led.more Failed m.name m.cause
+    own_met m there = noted m (All-contains (IsMissNoted seat.seen mid.seen led.more Failed []) met m led.noted there)
       where
-        noted : (m : Miss) → IsNoted seat.seen mid.seen led.more Failed [] m
-            → IsMet seat.seen log led.more Failed m.name m.cause
+        noted : (m : Miss) → IsMissNoted seat.seen mid.seen led.more Failed [] m
+            → IsMetByHand seat.seen log led.more Failed m.name m.cause
         noted m (inl none) = absurd (none_in m none)
         noted m (inr why) =
             met_as seat.seen mid.seen seat.seen log led.more led.more (prefix_self seat.seen) on (λ h there. there) (λ f. f)

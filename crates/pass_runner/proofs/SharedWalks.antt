@@ -10,13 +10,13 @@ use Rattle.index_lock.proofs.Prefixes.{prefix_self}
 use Rattle.index_rows.specs.declared.change.Change.{Change}
 use Rattle.scan_queue.specs.declared.miss.Cause.{Cause}
 use Rattle.scan_queue.specs.declared.miss.Cause.TheVariants.{ReadFault, Altered, Appeared}
-use Rattle.tree_trait.specs.Asks.{IsTold}
+use Rattle.tree_trait.specs.Asks.{IsAnswerTold}
 use Rattle.tree_trait.specs.Dir.{DirFacts}
 use Rattle.tree_trait.specs.Heard.{Heard, read_dir}
 use Rattle.tree_trait.specs.Listens.{Listens}
 use Rattle.tree_trait.specs.Shown.{HandsOn, ShownTree}
 use Rattle.tree_trait.proofs.ListenLemmas.{heard_both}
-use Rattle.tree_walk.specs.Ends.{Walks}
+use Rattle.tree_walk.specs.Ends.{WalksTree}
 use Rattle.tree_walk.specs.Files.{AreFilesUnder, FitsFault}
 use Rattle.tree_walk.specs.declared.fault.WalkFault.{WalkFault}
 use Rattle.tree_walk.specs.declared.fault.WalkFault.TheVariants as stop
@@ -24,7 +24,7 @@ use Rattle.tree_walk.specs.declared.walked.Walk.{Walk as WalkFacts}
 use Rattle.pass_runner.specs.Helped.{IsSparing}
 use Rattle.pass_runner.specs.Leading.{LeadsPass}
 use Rattle.pass_runner.specs.Owned.{TellsStill, is_hand_fault, is_unwalked}
-use Rattle.pass_runner.specs.SharedPass.{EndsListed, EndsShared, HearsShared, IsDoneShared, IsMet, IsOfPass, IsUnhinderedPass, RunsShared}
+use Rattle.pass_runner.specs.SharedPass.{EndsListed, EndsShared, HearsShared, IsDoneShared, IsMetByHand, IsOfPass, IsUnhinderedPass, RunsShared}
 use Rattle.pass_runner.specs.declared.pass_end.PassEnd.{PassEnd}
 use Rattle.pass_runner.specs.declared.pass_end.PassEnd.TheVariants.{Whole, Missed, Walk, Broken}
 use Rattle.pass_runner.specs.declared.pass_end.PassEnd.TheVariants.{KeeperFault, LogFull, OutOfMemory}
@@ -57,7 +57,7 @@ leads_fault world (Walk fault) h is = absurd h.ends
 leads_fault world {brought = brought} {log = log} {before = before} {after = after} (Missed miss) h is =
     by miss.cause h.ends.why is
   where
-    by : (cause : Cause) → IsMet brought log h.more (Rose before.faults after.faults) miss.name cause
+    by : (cause : Cause) → IsMetByHand brought log h.more (Rose before.faults after.faults) miss.name cause
         → IsTrue (is_hand_fault (Missed (record { name = miss.name; cause = cause }))) → Rose before.faults after.faults
     by ReadFault rose is = rose
     by (Altered met) why is = absurd (true≢false (sym is))
@@ -88,7 +88,7 @@ ends_late world listing roots brought log more so LogFull h = h
 ends_late world listing roots brought log more so OutOfMemory h = h
 
 module _ (world : Rules) {told : Bool} {roots : List (List ℕ)} (brought log : List Change) {before met after : ShownTree}
-    {walk : WalkFacts} {Asked Fails : Type 0} (walks : Walks told before met roots (Ok walk))
+    {walk : WalkFacts} {Asked Fails : Type 0} (walks : WalksTree told before met roots (Ok walk))
     (under : TellsStill told before → AreFilesUnder before.present roots walk.listing)
     (hands : HandsOn told world.version before met Asked Fails) where
   -- what the hand heard, of the walk and of the settling
@@ -104,8 +104,8 @@ module _ (world : Rules) {told : Bool} {roots : List (List ℕ)} (brought log : 
     asks = asks;
     fits = listens.fits;
     tells = λ t.
-        All-append (IsTold before.present) walks.goes.more more (walks.goes.tells t.0 t.1)
-        (subst (λ (names : List NameFacts). All (IsTold names) more) (hands.still t.1).same
+        All-append (IsAnswerTold before.present) walks.goes.more more (walks.goes.tells t.0 t.1)
+        (subst (λ (names : List NameFacts). All (IsAnswerTold names) more) (hands.still t.1).same
         (listens.tells t.0 (hands.still t.1).still));
     under = under;
   }
@@ -145,7 +145,7 @@ module _ (world : Rules) {told : Bool} {roots : List (List ℕ)} (brought log : 
           ends_late world walk.listing roots brought log led.more
           (rose_later before.faults met.faults after.faults hands.cause.later) (Missed miss) led.ends
 
-      none_missed : (cause : Cause) → IsMet brought log led.more (Rose before.faults after.faults) miss.name cause
+      none_missed : (cause : Cause) → IsMetByHand brought log led.more (Rose before.faults after.faults) miss.name cause
           → IsOfPass walk.listing roots miss.name cause → ⊥
       none_missed ReadFault rose fits = free.faultless rose
       none_missed (Altered seen) why listed =

@@ -13,8 +13,8 @@ use Rattle.row_types.specs.Stamp.{StampFacts}
 use Rattle.scan_queue.specs.Names.{is_in}
 use Rattle.scan_queue.specs.declared.miss.Seen.{Seen}
 use Rattle.scan_queue.proofs.NameTests.{same_name-Decides}
-use Rattle.scan_worker.specs.Read.{FindsOther, load_of}
-use Rattle.tree_trait.specs.Asks.{IsTold}
+use Rattle.scan_worker.specs.Read.{FindsOther, heard_load}
+use Rattle.tree_trait.specs.Asks.{IsAnswerTold}
 use Rattle.tree_trait.specs.Found.{Versions}
 use Rattle.tree_trait.specs.Heard.{Heard, stat}
 use Rattle.tree_trait.specs.Load.{LoadFacts, loaded, too_large, gone, TellsLoad}
@@ -27,7 +27,7 @@ use Rattle.tree_walk.specs.declared.walked.Walk.{Walk}
 use Rattle.index_rows.specs.declared.change.Change.{Change}
 use Rattle.pass_runner.proofs.NameLists.{in_by_stamp, stamp_listed}
 use Rattle.pass_runner.specs.Owned.{TellsStill}
-use Rattle.pass_runner.specs.SharedPass.{HearsShared, HeardOther, HeardThere, IsStray}
+use Rattle.pass_runner.specs.SharedPass.{HearsShared, HeardInPlace, HeardThere, IsStray}
 
 -- what holds of each holds of those in front
 pub all_front : {X : Type 0} (P : X → Type 0) (xs ys : List X) → All P (xs ++ ys) → All P xs
@@ -39,12 +39,12 @@ some_one e = cc
 
 -- the first look of told answers at a path is told
 pub first_told : (present : List NameFacts) (path : List ℕ) (answers : List Heard) (answer : StatAnswer)
-    → All (IsTold present) answers → first_look answers path ≡ Some answer
+    → All (IsAnswerTold present) answers → first_look answers path ≡ Some answer
     → TellsStat present path answer
 first_told present path [] answer told e = absurd (cc)
 first_told present path (stat asked given ∷ rest) answer told e =
-    look_told (All-head (IsTold present) (stat asked given) rest told)
-    (λ h. first_told present path rest answer (All-tail (IsTold present) (stat asked given) rest told) h)
+    look_told (All-head (IsAnswerTold present) (stat asked given) rest told)
+    (λ h. first_told present path rest answer (All-tail (IsAnswerTold present) (stat asked given) rest told) h)
     (bytes_eq asked path) refl (is_look_answer given) e
   where
     look_told : TellsStat present asked given
@@ -58,7 +58,7 @@ first_told present path (stat asked given ∷ rest) answer told e =
     look_told here later true is false e = later e
     look_told here later false is answered e = later e
 first_told present path (asked ∷ rest) answer told e =
-    first_told present path rest answer (All-tail (IsTold present) asked rest told) e
+    first_told present path rest answer (All-tail (IsAnswerTold present) asked rest told) e
 
 -- a load of the files that are there shows no other file
 pub none_other : (present : List NameFacts) (name : NameFacts) (answer : LoadFacts) (met : Seen)
@@ -92,15 +92,15 @@ module _ {told : Bool} {version : Versions} {roots : List (List ℕ)} {walk : Wa
     {before after : ShownTree} (hears : HearsShared told version roots walk walked more before after)
     (still : TellsStill told before) (name : NameFacts) where
   -- a listed file was another
-  pub never_other : (met : Seen) → stamp_at walk.listing name.path ≡ Some name.stamp → HeardOther more name met → ⊥
+  pub never_other : (met : Seen) → stamp_at walk.listing name.path ≡ Some name.stamp → HeardInPlace more name met → ⊥
   never_other met listed why =
       let member : Contains walk.listing name
       = contained walk.listing name (in_by_stamp name.path name.stamp walk.listing listed) in
       let there = first_told before.present name.path walked (File name.stamp)
-      (all_front (IsTold before.present) walked more (hears.tells still)) ((hears.whole.listing.all name).0 member).file in
+      (all_front (IsAnswerTold before.present) walked more (hears.tells still)) ((hears.whole.listing.all name).0 member).file in
       none_other before.present name why.answer met there
-      (All-contains (IsTold before.present) (walked ++ more) (load_of name why.answer) (hears.tells still)
-      (Contains-append_right walked more (load_of name why.answer) why.heard))
+      (All-contains (IsAnswerTold before.present) (walked ++ more) (heard_load name why.answer) (hears.tells still)
+      (Contains-append_right walked more (heard_load name why.answer) why.heard))
       why.other
 
   -- a file stood that isn't listed
@@ -108,7 +108,7 @@ module _ {told : Bool} {version : Versions} {roots : List (List ℕ)} {walk : Wa
   never_there stray why =
       let look = stat name.path (File name.stamp) in
       let there : stamp_at before.present name.path ≡ Some name.stamp
-      = All-contains (IsTold before.present) (walked ++ more) look (hears.tells still)
+      = All-contains (IsAnswerTold before.present) (walked ++ more) look (hears.tells still)
       (Contains-append_right walked more look why.heard) in
       let listed : Contains walk.listing name
       = ((hears.under still).all name).1

@@ -17,26 +17,26 @@ use Rattle.scan_queue.specs.declared.miss.Seen.{Seen}
 use Rattle.scan_queue.specs.declared.miss.Seen.TheVariants as seen
 use Rattle.index_state.specs.Away.{MissesOut}
 use Rattle.index_state.specs.Invariant.{IndexInvariant}
-use Rattle.index_state.specs.Judge.{is_kept, is_under}
-use Rattle.index_state.specs.State.{StateFacts, pass_of}
+use Rattle.index_state.specs.Judge.{is_name_kept, is_under}
+use Rattle.index_state.specs.State.{StateFacts, pass_or_none}
 use Rattle.index_state.specs.Step.{IsAwaited, Judges}
 use Rattle.index_state.specs.declared.answer.Judged.{Judged}
 use Rattle.index_state.specs.declared.answer.Judged.TheVariants as judged
-use Rattle.scan_worker.specs.Read.{FindsOther, MayWant, Reads, load_of}
+use Rattle.scan_worker.specs.Read.{FindsOther, MayWant, ReadsListed, heard_load}
 use Rattle.index_desk.specs.declared.work_end.WorkEnd.{WorkEnd}
 use Rattle.index_desk.specs.declared.work_end.WorkEnd.TheVariants.{KeeperFault, LogFull, OutOfMemory}
-use Rattle.tree_trait.specs.Asks.{Asks}
+use Rattle.tree_trait.specs.Asks.{AsksTree}
 use Rattle.tree_trait.specs.Found.{Versions}
-use Rattle.tree_trait.specs.Heard.{Heard, load, stat, read_dir, has_failed, wants_memory}
-use Rattle.tree_trait.specs.Listens.{Listens, heard_of}
+use Rattle.tree_trait.specs.Heard.{Heard, load, stat, read_dir, call_failed, wants_memory}
+use Rattle.tree_trait.specs.Listens.{Listens, heard_or_none}
 use Rattle.tree_trait.specs.Load.{LoadFacts, loaded, too_large, gone, failed}
 use Rattle.tree_trait.specs.Shown.{ShownTree}
 use Rattle.tree_trait.specs.declared.stat.StatAnswer.{StatAnswer}
 use Rattle.tree_trait.specs.declared.stat.StatAnswer.TheVariants as said
 use Rattle.pass_runner.specs.Ends.{IsOutOfRoom, TurnsBy}
-use Rattle.pass_runner.specs.Settled.{Advances, AlteredAreMissed, IsBacked, IsPassOn, IsReadOf, IsWanted, Wants, is_missed, times_loaded, times_named}
-use Rattle.pass_runner.specs.Turns.{AppearsBy, HasSeen, IsLookUnder, JudgesLeft, Looks, LooksTo, PublishesNew, TurnsOver, after_judged}
-use Rattle.groomer.specs.Looks.{LooksAt, looked_of}
+use Rattle.pass_runner.specs.Settled.{Advances, AlteredAreMissed, IsBacked, IsPassOn, IsReadOf, MayBeAsked, Wants, is_missed, times_loaded, times_named}
+use Rattle.pass_runner.specs.Turns.{AppearsBy, HasSeenFile, IsLookUnder, JudgesLeft, LooksForFile, LooksTo, PublishesNew, TurnsOver, after_judged}
+use Rattle.groomer.specs.Looks.{LooksAtName, looked_of}
 use Rattle.groomer.specs.declared.looking.Looked.{Looked}
 use Rattle.groomer.specs.declared.looking.Looked.TheVariants as looked
 use Rattle.pass_runner.proofs.Altered.{altered_by, failed_same, missed_self, read_same, unaltered_by, unaltered_looks, wanting_same}
@@ -59,14 +59,14 @@ false≢true e = true≢false (sym e)
 module _ {K : Type 0} (tells : Bool) (shows : K → ShownKeeper) (old new : StateFacts K) where
   -- where a row is published
   published_on : {F : Type 0} {true_row : RowFacts → Type 0} {answers : List Heard} (row : RowFacts) (end : Option WorkEnd) → IndexInvariant true_row tells shows old
-      → is_in (pass_of old.pass).out row.name ≡ true → IsReadOf answers row → IsAwaited row.name old → PublishesNew tells shows row old new end
+      → is_in (pass_or_none old.pass).out row.name ≡ true → IsReadOf answers row → IsAwaited row.name old → PublishesNew tells shows row old new end
       → Advances shows answers F old new
   published_on row None holds out read awaited h = stored_on holds out read h
   published_on row (Some KeeperFault) holds out read awaited h =
       same_on (listed_open old.pass row.name awaited.listed) h.keeper.asked.cause.later
       (ap (λ (s : StateFacts K). s.pass) h.after) (ap (λ (s : StateFacts K). s.rows) h.after)
       (ap (λ (s : StateFacts K). s.roots) h.after) (ap (λ (s : StateFacts K). s.origin) h.after)
-      (bounded_void old new (pass_of old.pass).listing (drop_of row.name) h.can.sound (ap (λ (s : StateFacts K). s.log) h.after)
+      (bounded_void old new (pass_or_none old.pass).listing (drop_of row.name) h.can.sound (ap (λ (s : StateFacts K). s.log) h.after)
       (ap (λ (s : StateFacts K). s.rows) h.after) (ap (λ (s : StateFacts K). s.broken) h.after))
   published_on row (Some LogFull) holds out read awaited h =
       kept_on {keeper = old.keeper} (listed_open old.pass row.name awaited.listed)
@@ -85,7 +85,7 @@ module _ {K : Type 0} (tells : Bool) (shows : K → ShownKeeper) (old new : Stat
       subst (λ (s : StateFacts K). IsOutOfRoom s) (sym h.same) (record {
         sound = sound;
         full = h.why.full;
-        apart = apart_by (row_names old.rows) (pass_of old.pass).listing row.name false true false≢true awaited.absent awaited.listed;
+        apart = apart_by (row_names old.rows) (pass_or_none old.pass).listing row.name false true false≢true awaited.absent awaited.listed;
       })
   published_ends row (Some OutOfMemory) sound awaited h = ap (λ (s : StateFacts K). s.broken) h.same ∙ sound
   published_ends row (Some _) sound awaited h = absurd h
@@ -94,11 +94,11 @@ module _ {K : Type 0} (tells : Bool) (shows : K → ShownKeeper) (old new : Stat
       → AppearsBy (name ∷ []) old new
   published_appears name row None h = λ none. left_none old new row.name (ap (λ (s : StateFacts K). s.pass) h.after) none
   published_appears name row (Some KeeperFault) h =
-      appears_same old new (name ∷ []) (ap (λ (s : StateFacts K). (pass_of s.pass).missed) h.after) (ap (λ (s : StateFacts K). s.rows) h.after)
+      appears_same old new (name ∷ []) (ap (λ (s : StateFacts K). (pass_or_none s.pass).missed) h.after) (ap (λ (s : StateFacts K). s.rows) h.after)
   published_appears name row (Some LogFull) h =
-      appears_same old new (name ∷ []) (ap (λ (s : StateFacts K). (pass_of s.pass).missed) h.same) (ap (λ (s : StateFacts K). s.rows) h.same)
+      appears_same old new (name ∷ []) (ap (λ (s : StateFacts K). (pass_or_none s.pass).missed) h.same) (ap (λ (s : StateFacts K). s.rows) h.same)
   published_appears name row (Some OutOfMemory) h =
-      appears_same old new (name ∷ []) (ap (λ (s : StateFacts K). (pass_of s.pass).missed) h.same) (ap (λ (s : StateFacts K). s.rows) h.same)
+      appears_same old new (name ∷ []) (ap (λ (s : StateFacts K). (pass_or_none s.pass).missed) h.same) (ap (λ (s : StateFacts K). s.rows) h.same)
   published_appears name row (Some _) h = absurd h
 
   published_cause : (row : RowFacts) (end : Option WorkEnd) → PublishesNew tells shows row old new end
@@ -110,9 +110,9 @@ module _ {K : Type 0} (tells : Bool) (shows : K → ShownKeeper) (old new : Stat
   published_cause row (Some _) h is = absurd h
 
   -- where a name that isn't listed is judged
-  module _ (name : NameFacts) (met : Seen) (sound : old.broken ≡ false) (unlisted : is_kept old.pass name ≡ false) (out : is_in (pass_of old.pass).out name ≡ true) where
+  module _ (name : NameFacts) (met : Seen) (sound : old.broken ≡ false) (unlisted : is_name_kept old.pass name ≡ false) (out : is_in (pass_or_none old.pass).out name ≡ true) where
     judged_on : {F : Type 0} {true_row : RowFacts → Type 0} {answers : List Heard} (answer : Judged) → IndexInvariant true_row tells shows old
-        → (is_under old.roots name.path ≡ true → HasSeen answers name met)
+        → (is_under old.roots name.path ≡ true → HasSeenFile answers name met)
         → Judges tells shows name met old answer new → Advances shows answers F old new
     judged_on judged.Broken holds sees h = absurd (true≢false (sym h.why ∙ sound))
     judged_on judged.Kept holds sees h = absurd (true≢false (sym h.why.kept ∙ unlisted))
@@ -133,7 +133,7 @@ module _ {K : Type 0} (tells : Bool) (shows : K → ShownKeeper) (old new : Stat
         same_on (out_open old.pass name out) h.drops.keeper.cause.later
         (ap (λ (s : StateFacts K). s.pass) h.drops.after) (ap (λ (s : StateFacts K). s.rows) h.drops.after)
         (ap (λ (s : StateFacts K). s.roots) h.drops.after) (ap (λ (s : StateFacts K). s.origin) h.drops.after)
-        (bounded_void old new (pass_of old.pass).listing (put_of name) sound (ap (λ (s : StateFacts K). s.log) h.drops.after)
+        (bounded_void old new (pass_or_none old.pass).listing (put_of name) sound (ap (λ (s : StateFacts K). s.log) h.drops.after)
         (ap (λ (s : StateFacts K). s.rows) h.drops.after) (ap (λ (s : StateFacts K). s.broken) h.drops.after))
     judged_on judged.Dropped holds sees h = removed_on holds (out_open old.pass name out) sees h.gone h.drops
 
@@ -149,7 +149,7 @@ module _ {K : Type 0} (tells : Bool) (shows : K → ShownKeeper) (old new : Stat
           sound = sound;
           full = h.drops.why.full;
           apart =
-              apart_by (row_names old.rows) (pass_of old.pass).listing name true false true≢false h.gone.left_over.stands
+              apart_by (row_names old.rows) (pass_or_none old.pass).listing name true false true≢false h.gone.left_over.stands
               (kept_listed old.pass name unlisted);
         })
     judged_ends judged.OutOfMemory h = ap (λ (s : StateFacts K). s.broken) h.drops.same ∙ sound
@@ -167,11 +167,11 @@ module _ {K : Type 0} (tells : Bool) (shows : K → ShownKeeper) (old new : Stat
     judged_appears judged.Strange holds h = λ stood.
         missed_stand old new {cause = Appeared} h.was_out (λ is. h.strange.left_over.stands) h.missed stood
     judged_appears judged.LogFull holds h =
-        appears_same old new [] (ap (λ (s : StateFacts K). (pass_of s.pass).missed) h.drops.same) (ap (λ (s : StateFacts K). s.rows) h.drops.same)
+        appears_same old new [] (ap (λ (s : StateFacts K). (pass_or_none s.pass).missed) h.drops.same) (ap (λ (s : StateFacts K). s.rows) h.drops.same)
     judged_appears judged.OutOfMemory holds h =
-        appears_same old new [] (ap (λ (s : StateFacts K). (pass_of s.pass).missed) h.drops.same) (ap (λ (s : StateFacts K). s.rows) h.drops.same)
+        appears_same old new [] (ap (λ (s : StateFacts K). (pass_or_none s.pass).missed) h.drops.same) (ap (λ (s : StateFacts K). s.rows) h.drops.same)
     judged_appears judged.KeeperFault holds h =
-        appears_same old new [] (ap (λ (s : StateFacts K). (pass_of s.pass).missed) h.drops.after) (ap (λ (s : StateFacts K). s.rows) h.drops.after)
+        appears_same old new [] (ap (λ (s : StateFacts K). (pass_or_none s.pass).missed) h.drops.after) (ap (λ (s : StateFacts K). s.rows) h.drops.after)
     judged_appears judged.Dropped holds h = λ stood.
         dropped_stand old new name holds.rows_sorted_and_true.ascend h.gone.left_over.stands (ap (λ (s : StateFacts K). s.pass) h.drops.after)
         (ap (λ (s : StateFacts K). s.rows) h.drops.after) stood
@@ -189,11 +189,11 @@ module _ {K : Type 0} (tells : Bool) (shows : K → ShownKeeper) (old new : Stat
 
 -- looks at paths under a root may be asked
 wanted_looks : (listing : List NameFacts) (roots : List (List ℕ)) (names : List NameFacts) (answers : List Heard)
-    → All (IsLookUnder roots) answers → All (IsWanted listing roots names) answers
+    → All (IsLookUnder roots) answers → All (MayBeAsked listing roots names) answers
 wanted_looks listing roots names answers asked =
-    All-weaker (IsLookUnder roots) (IsWanted listing roots names) each answers asked
+    All-weaker (IsLookUnder roots) (MayBeAsked listing roots names) each answers asked
   where
-    each : (asked : Heard) → IsLookUnder roots asked → IsWanted listing roots names asked
+    each : (asked : Heard) → IsLookUnder roots asked → MayBeAsked listing roots names asked
     each (stat path answer) h = h
     each (load path limit answer) h = absurd h
     each (read_dir path answer) h = absurd h
@@ -205,80 +205,80 @@ unloaded roots answers asked path = let none = loads_looks roots answers path as
 
 -- a name is awaited in a listing by path
 awaited_by_path : {K : Type 0} {true_row : RowFacts → Type 0} {tells : Bool} {shows : K → ShownKeeper} {state : StateFacts K} {name : NameFacts}
-    → IndexInvariant true_row tells shows state → IsAwaited name state → IsByPath (pass_of state.pass).listing
+    → IndexInvariant true_row tells shows state → IsAwaited name state → IsByPath (pass_or_none state.pass).listing
 awaited_by_path {state = state} {name = name} holds awaited =
     listing_by_path state.pass holds.each_name_in_one_place (listed_open state.pass name awaited.listed)
 
 -- the load of a name that is awaited may be asked
 wanted_load : {K : Type 0} {true_row : RowFacts → Type 0} {tells : Bool} {shows : K → ShownKeeper} {state : StateFacts K}
     (name : NameFacts) (answer : LoadFacts) → IndexInvariant true_row tells shows state → IsAwaited name state
-    → Wants state (load_of name answer)
+    → Wants state (heard_load name answer)
 wanted_load {state = state} name answer holds awaited = (
   refl,
   record {
     stamp = name.stamp;
-    listed = stamp_listed name (pass_of state.pass).listing (awaited_by_path holds awaited) awaited.listed;
+    listed = stamp_listed name (pass_or_none state.pass).listing (awaited_by_path holds awaited) awaited.listed;
     absent = awaited.absent;
   },
 )
 
 -- a row that was read has the listed name
-read_named : (name : NameFacts) (answer : LoadFacts) (row : RowFacts) → Reads name answer row → row.name ≡ name
+read_named : (name : NameFacts) (answer : LoadFacts) (row : RowFacts) → ReadsListed name answer row → row.name ≡ name
 read_named name (loaded found) row h = h.1.named
 read_named name (too_large stamp) row h = ap (λ (r : RowFacts). r.name) h.1
 read_named name _ row h = absurd h
 
 -- and the name of the row is awaited, where that name is
 pub reads_awaited : {K : Type 0} {state : StateFacts K} {name : NameFacts} (row : RowFacts) (answer : LoadFacts)
-    → Reads name answer row → IsAwaited name state → IsAwaited row.name state
+    → ReadsListed name answer row → IsAwaited name state → IsAwaited row.name state
 reads_awaited {state = state} {name = name} row answer reads awaited =
     subst (λ (n : NameFacts). IsAwaited n state) (sym (read_named name answer row reads)) awaited
 
 -- a load that gave another file wasn't refused memory
 other_heard : (name : NameFacts) (answer : LoadFacts) (met : Seen) → FindsOther name answer met
-    → wants_memory (load_of name answer) ≡ false
+    → wants_memory (heard_load name answer) ≡ false
 other_heard name (loaded found) met h = refl
 other_heard name (too_large stamp) met h = refl
 other_heard name gone met h = refl
 other_heard name _ met h = absurd h
 
 -- nor was one that gave the file
-read_heard : (name : NameFacts) (answer : LoadFacts) (row : RowFacts) → Reads name answer row
-    → wants_memory (load_of name answer) ≡ false
+read_heard : (name : NameFacts) (answer : LoadFacts) (row : RowFacts) → ReadsListed name answer row
+    → wants_memory (heard_load name answer) ≡ false
 read_heard name (loaded found) row h = refl
 read_heard name (too_large stamp) row h = refl
 read_heard name _ row h = absurd h
 
 -- what the row says is what the load found
-read_of : (name : NameFacts) (answer : LoadFacts) (row : RowFacts) → Reads name answer row → row.name ≡ name
-    → IsReadOf (heard_of (load_of name answer)) row
+read_of : (name : NameFacts) (answer : LoadFacts) (row : RowFacts) → ReadsListed name answer row → row.name ≡ name
+    → IsReadOf (heard_or_none (heard_load name answer)) row
 read_of name answer row reads named = record {
   answer = answer;
   heard =
-      subst (λ (n : NameFacts). Contains (heard_of (load_of name answer)) (load_of n answer)) (sym named)
-      (is_heard (load_of name answer) (read_heard name answer row reads));
-  reads = subst (λ (n : NameFacts). Reads n answer row) (sym named) reads;
+      subst (λ (n : NameFacts). Contains (heard_or_none (heard_load name answer)) (heard_load n answer)) (sym named)
+      (is_heard (heard_load name answer) (read_heard name answer row reads));
+  reads = subst (λ (n : NameFacts). ReadsListed n answer row) (sym named) reads;
 }
 
 module _ {K : Type 0} {told : Bool} {version : Versions} {shows : K → ShownKeeper}
     {before after : ShownTree} {old new : StateFacts K} {name : NameFacts} where
   -- the file was read, and its row is published
   pub turns_read : {true_row : RowFacts → Type 0} {tells : Bool} (row : RowFacts) {end : Option WorkEnd} (answer : LoadFacts) → IndexInvariant true_row tells shows old
-      → old.broken ≡ false → IsAwaited name old → is_in (pass_of old.pass).out name ≡ true
-      → Asks told version before after (load_of name answer) → Reads name answer row → PublishesNew tells shows row old new end
+      → old.broken ≡ false → IsAwaited name old → is_in (pass_or_none old.pass).out name ≡ true
+      → AsksTree told version before after (heard_load name answer) → ReadsListed name answer row → PublishesNew tells shows row old new end
       → TurnsOver told version shows (name ∷ []) name before after old new end
   turns_read {tells = tells} row {end = end} answer holds sound awaited out asks reads h =
       let named : row.name ≡ name = read_named name answer row reads in
       let waits : IsAwaited row.name old = subst (λ (n : NameFacts). IsAwaited n old) (sym named) awaited in
-      let on : Advances shows (heard_of (load_of name answer)) (Rose before.faults after.faults) old new
-      = published_on tells shows old new row end holds (subst (λ (n : NameFacts). is_in (pass_of old.pass).out n ≡ true) (sym named) out)
+      let on : Advances shows (heard_or_none (heard_load name answer)) (Rose before.faults after.faults) old new
+      = published_on tells shows old new row end holds (subst (λ (n : NameFacts). is_in (pass_or_none old.pass).out n ≡ true) (sym named) out)
       (read_of name answer row reads named) waits h in
       record {
         settles =
-            settles_by (listens_one (load_of name answer) asks)
-            (all_heard (Wants old) (load_of name answer)
+            settles_by (listens_one (heard_load name answer) asks)
+            (all_heard (Wants old) (heard_load name answer)
             (wanted_load name answer holds awaited))
-            (unaltered_by (pass_of old.pass).listing name answer (awaited_by_path holds awaited) awaited.listed new
+            (unaltered_by (pass_or_none old.pass).listing name answer (awaited_by_path holds awaited) awaited.listed new
             (read_same name answer row reads)) on;
         loads = loads_heard name answer;
         ends = subst (λ (n : NameFacts). TurnsBy n old new end) named (published_ends tells shows old new row end sound waits h);
@@ -288,10 +288,10 @@ module _ {K : Type 0} {told : Bool} {version : Versions} {shows : K → ShownKee
 
   -- it was missed
   missed_so : {cause : Cause} {answers : List Heard} (reads : List NameFacts) (was_out : Bool) → old.broken ≡ false
-      → is_in (pass_of old.pass).out name ≡ true → Listens told version before after answers
+      → is_in (pass_or_none old.pass).out name ≡ true → Listens told version before after answers
       → All (Wants old) answers
-      → IsBacked (pass_of old.pass).listing (row_names old.rows) answers (Rose before.faults after.faults) name cause
-      → (is_missed new name ≡ true → AlteredAreMissed (pass_of old.pass).listing answers new) → ((path : List ℕ) → times_loaded answers path ≤ times_named reads path) → MissesOut name cause old was_out new
+      → IsBacked (pass_or_none old.pass).listing (row_names old.rows) answers (Rose before.faults after.faults) name cause
+      → (is_missed new name ≡ true → AlteredAreMissed (pass_or_none old.pass).listing answers new) → ((path : List ℕ) → times_loaded answers path ≤ times_named reads path) → MissesOut name cause old was_out new
       → AppearsBy reads old new → TurnsOver told version shows reads name before after old new None
   missed_so {answers = answers} reads was_out sound out listens wanted why altered loads misses appears =
       let on : Advances shows answers (Rose before.faults after.faults) old new
@@ -306,56 +306,56 @@ module _ {K : Type 0} {told : Bool} {version : Versions} {shows : K → ShownKee
 
   -- another file stood there
   pub turns_altered : {true_row : RowFacts → Type 0} {tells : Bool} {met : Seen} (was_out : Bool) (answer : LoadFacts) → IndexInvariant true_row tells shows old
-      → old.broken ≡ false → IsAwaited name old → is_in (pass_of old.pass).out name ≡ true
-      → Asks told version before after (load_of name answer) → FindsOther name answer met
+      → old.broken ≡ false → IsAwaited name old → is_in (pass_or_none old.pass).out name ≡ true
+      → AsksTree told version before after (heard_load name answer) → FindsOther name answer met
       → MissesOut name (Altered met) old was_out new → TurnsOver told version shows (name ∷ []) name before after old new None
   turns_altered {met = met} was_out answer holds sound awaited out asks other misses =
-      missed_so {cause = Altered met} (name ∷ []) was_out sound out (listens_one (load_of name answer) asks)
-      (all_heard (Wants old) (load_of name answer)
+      missed_so {cause = Altered met} (name ∷ []) was_out sound out (listens_one (heard_load name answer) asks)
+      (all_heard (Wants old) (heard_load name answer)
       (wanted_load name answer holds awaited))
       (record {
         listed = awaited.listed;
         answer = answer;
-        heard = is_heard (load_of name answer) (other_heard name answer met other);
+        heard = is_heard (heard_load name answer) (other_heard name answer met other);
         other = other;
-      }) (altered_by (pass_of old.pass).listing name answer (awaited_by_path holds awaited) awaited.listed new)
+      }) (altered_by (pass_or_none old.pass).listing name answer (awaited_by_path holds awaited) awaited.listed new)
       (loads_heard name answer) misses (λ none. missed_none old new {cause = Altered met} was_out (λ is. cc) misses none)
 
   -- the load failed
   pub turns_unread : {true_row : RowFacts → Type 0} {tells : Bool} (was_out : Bool) (answer : LoadFacts) → IndexInvariant true_row tells shows old → old.broken ≡ false
-      → IsAwaited name old → is_in (pass_of old.pass).out name ≡ true → Asks told version before after (load_of name answer)
+      → IsAwaited name old → is_in (pass_or_none old.pass).out name ≡ true → AsksTree told version before after (heard_load name answer)
       → answer ≡ failed → MissesOut name ReadFault old was_out new
       → TurnsOver told version shows (name ∷ []) name before after old new None
   turns_unread was_out answer holds sound awaited out asks is misses =
-      missed_so {cause = ReadFault} (name ∷ []) was_out sound out (listens_one (load_of name answer) asks)
-      (all_heard (Wants old) (load_of name answer)
+      missed_so {cause = ReadFault} (name ∷ []) was_out sound out (listens_one (heard_load name answer) asks)
+      (all_heard (Wants old) (heard_load name answer)
       (wanted_load name answer holds awaited))
-      (asks.hands.cause.rose (subst (λ (a : LoadFacts). IsTrue (has_failed (load_of name a))) (sym is) refl))
-      (λ missed. unaltered_by (pass_of old.pass).listing name answer (awaited_by_path holds awaited) awaited.listed new
+      (asks.hands.cause.rose (subst (λ (a : LoadFacts). IsTrue (call_failed (heard_load name a))) (sym is) refl))
+      (λ missed. unaltered_by (pass_or_none old.pass).listing name answer (awaited_by_path holds awaited) awaited.listed new
       (failed_same name answer is)) (loads_heard name answer) misses (λ none. missed_none old new {cause = ReadFault} was_out (λ is. cc) misses none)
 
   -- the look failed
-  pub turns_unseen : (was_out : Bool) → old.broken ≡ false → is_in (pass_of old.pass).out name ≡ true
-      → Looks told version old.roots name before after looked.Failed → MissesOut name ReadFault old was_out new
+  pub turns_unseen : (was_out : Bool) → old.broken ≡ false → is_in (pass_or_none old.pass).out name ≡ true
+      → LooksForFile told version old.roots name before after looked.Failed → MissesOut name ReadFault old was_out new
       → TurnsOver told version shows [] name before after old new None
   turns_unseen was_out sound out looks misses =
-      missed_so {cause = ReadFault} [] was_out sound out looks.listens (wanted_looks (pass_of old.pass).listing old.roots (row_names old.rows) looks.answers looks.asked) looks.leads
-      (λ missed. unaltered_looks (pass_of old.pass).listing old.roots looks.answers new looks.asked)
+      missed_so {cause = ReadFault} [] was_out sound out looks.listens (wanted_looks (pass_or_none old.pass).listing old.roots (row_names old.rows) looks.answers looks.asked) looks.leads
+      (λ missed. unaltered_looks (pass_or_none old.pass).listing old.roots looks.answers new looks.asked)
       (unloaded old.roots looks.answers looks.asked) misses
       (λ stood. missed_stand old new {cause = ReadFault} was_out (λ is. absurd (cc)) misses stood)
 
   -- and the row is judged by what was seen
   pub turns_judged : {true_row : RowFacts → Type 0} {tells : Bool} {met : Seen} {end : Option WorkEnd} → IndexInvariant true_row tells shows old → old.broken ≡ false
-      → is_kept old.pass name ≡ false → is_in (pass_of old.pass).out name ≡ true
-      → Looks told version old.roots name before after (looked.Saw met) → JudgesLeft tells shows name met old new end
+      → is_name_kept old.pass name ≡ false → is_in (pass_or_none old.pass).out name ≡ true
+      → LooksForFile told version old.roots name before after (looked.Saw met) → JudgesLeft tells shows name met old new end
       → TurnsOver told version shows [] name before after old new end
   turns_judged {tells = tells} {met = met} {end = end} holds sound unlisted out looks h =
       let on : Advances shows looks.answers (Rose before.faults after.faults) old new
       = judged_on tells shows old new name met sound unlisted out h.answer holds looks.leads h.judged in
       record {
         settles =
-            settles_by looks.listens (wanted_looks (pass_of old.pass).listing old.roots (row_names old.rows) looks.answers looks.asked)
-            (unaltered_looks (pass_of old.pass).listing old.roots looks.answers new looks.asked) on;
+            settles_by looks.listens (wanted_looks (pass_or_none old.pass).listing old.roots (row_names old.rows) looks.answers looks.asked)
+            (unaltered_looks (pass_or_none old.pass).listing old.roots looks.answers new looks.asked) on;
         loads = unloaded old.roots looks.answers looks.asked;
         ends = subst (λ (e : Option WorkEnd). TurnsBy name old new e) (sym h.ends) (judged_ends tells shows old new name met sound unlisted out h.answer h.judged);
         appears = judged_appears tells shows old new name met sound unlisted out h.answer holds h.judged;
@@ -368,7 +368,7 @@ module _ {K : Type 0} {told : Bool} {version : Versions} {shows : K → ShownKee
 module _ {K : Type 0} {told : Bool} {version : Versions} {shows : K → ShownKeeper} {before after : ShownTree} {state : StateFacts K} {name : NameFacts} where
   wanting : {answers : List Heard} (reads : List NameFacts) → IsPassOn state.pass state.pass → state.broken ≡ false → Listens told version before after answers
       → All (Wants state) answers
-      → AlteredAreMissed (pass_of state.pass).listing answers state
+      → AlteredAreMissed (pass_or_none state.pass).listing answers state
       → ((path : List ℕ) → times_loaded answers path ≤ times_named reads path)
       → TurnsOver told version shows reads name before after state state (Some OutOfMemory)
   wanting reads opened sound listens wanted altered loads = record {
@@ -381,28 +381,28 @@ module _ {K : Type 0} {told : Bool} {version : Versions} {shows : K → ShownKee
 
   -- memory was refused for the load, or for the row
   pub turns_wanting : {true_row : RowFacts → Type 0} {tells : Bool} (answer : LoadFacts) → IndexInvariant true_row tells shows state
-      → state.broken ≡ false → IsAwaited name state → Asks told version before after (load_of name answer) → MayWant name answer
+      → state.broken ≡ false → IsAwaited name state → AsksTree told version before after (heard_load name answer) → MayWant name answer
       → TurnsOver told version shows (name ∷ []) name before after state state (Some OutOfMemory)
   turns_wanting answer holds sound awaited asks wants =
-      wanting (name ∷ []) (listed_open state.pass name awaited.listed) sound (listens_one (load_of name answer) asks)
-      (all_heard (Wants state) (load_of name answer)
+      wanting (name ∷ []) (listed_open state.pass name awaited.listed) sound (listens_one (heard_load name answer) asks)
+      (all_heard (Wants state) (heard_load name answer)
       (wanted_load name answer holds awaited))
-      (unaltered_by (pass_of state.pass).listing name answer (awaited_by_path holds awaited) awaited.listed state
+      (unaltered_by (pass_or_none state.pass).listing name answer (awaited_by_path holds awaited) awaited.listed state
       (wanting_same name answer wants)) (loads_heard name answer)
 
   -- or for the look
-  pub turns_blind : state.broken ≡ false → is_in (pass_of state.pass).out name ≡ true
-      → Looks told version state.roots name before after looked.OutOfMemory
+  pub turns_blind : state.broken ≡ false → is_in (pass_or_none state.pass).out name ≡ true
+      → LooksForFile told version state.roots name before after looked.OutOfMemory
       → TurnsOver told version shows [] name before after state state (Some OutOfMemory)
   turns_blind sound out looks =
-      wanting [] (out_open state.pass name out) sound looks.listens (wanted_looks (pass_of state.pass).listing state.roots (row_names state.rows) looks.answers looks.asked)
-      (unaltered_looks (pass_of state.pass).listing state.roots looks.answers state looks.asked)
+      wanting [] (out_open state.pass name out) sound looks.listens (wanted_looks (pass_or_none state.pass).listing state.roots (row_names state.rows) looks.answers looks.asked)
+      (unaltered_looks (pass_or_none state.pass).listing state.roots looks.answers state looks.asked)
       (unloaded state.roots looks.answers looks.asked)
 
 -- a look that was made
 module _ {told : Bool} {version : Versions} {before after : ShownTree} (roots : List (List ℕ)) (name : NameFacts) where
-  looks_lead : (answer : StatAnswer) → Asks told version before after (stat name.path answer)
-      → LooksTo (is_under roots name.path) (heard_of (stat name.path answer)) name (Rose before.faults after.faults) (looked_of answer)
+  looks_lead : (answer : StatAnswer) → AsksTree told version before after (stat name.path answer)
+      → LooksTo (is_under roots name.path) (heard_or_none (stat name.path answer)) name (Rose before.faults after.faults) (looked_of answer)
   looks_lead said.Folder asks = λ under. record { answer = said.Folder; heard = is_heard (stat name.path said.Folder) refl; saw = refl }
   looks_lead (said.File stamp) asks = λ under. record { answer = said.File stamp; heard = is_heard (stat name.path (said.File stamp)) refl; saw = refl }
   looks_lead said.Other asks = λ under. record { answer = said.Other; heard = is_heard (stat name.path said.Other) refl; saw = refl }
@@ -410,10 +410,10 @@ module _ {told : Bool} {version : Versions} {before after : ShownTree} (roots : 
   looks_lead said.Failed asks = asks.hands.cause.rose refl
   looks_lead said.OutOfMemory asks = tt
 
-  pub looks_by : (answer : StatAnswer) → is_under roots name.path ≡ true → Asks told version before after (stat name.path answer)
-      → Looks told version roots name before after (looked_of answer)
+  pub looks_by : (answer : StatAnswer) → is_under roots name.path ≡ true → AsksTree told version before after (stat name.path answer)
+      → LooksForFile told version roots name before after (looked_of answer)
   looks_by answer under asks = record {
-    answers = heard_of (stat name.path answer);
+    answers = heard_or_none (stat name.path answer);
     listens = listens_one (stat name.path answer) asks;
     asked = all_heard (IsLookUnder roots) (stat name.path answer) under;
     leads = looks_lead answer asks;
@@ -421,7 +421,7 @@ module _ {told : Bool} {version : Versions} {before after : ShownTree} (roots : 
 
 -- no look was made
 pub looks_none : {told : Bool} {version : Versions} {hand : ShownTree} (roots : List (List ℕ)) (name : NameFacts) {met : Seen}
-    → is_under roots name.path ≡ false → Looks told version roots name hand hand (looked.Saw met)
+    → is_under roots name.path ≡ false → LooksForFile told version roots name hand hand (looked.Saw met)
 looks_none roots name apart = record {
   answers = [];
   listens = listens_none;
@@ -432,17 +432,17 @@ looks_none roots name apart = record {
 -- a look was made at a path under a root, and none elsewhere
 module _ {told : Bool} {version : Versions} {T : Type 0} (shows : T → ShownTree) (before after : T) (under : Bool) where
   pub looks_as : (roots : List (List ℕ)) (name : NameFacts) (end : Looked) → under ≡ is_under roots name.path
-      → OnTrue under (LooksAt told version name (shows before) (shows after) end)
+      → OnTrue under (LooksAtName told version name (shows before) (shows after) end)
       → OnFalse under (end ≡ looked.Saw seen.Gone) → OnFalse under (after ≡ before)
-      → Looks told version roots name (shows before) (shows after) end
+      → LooksForFile told version roots name (shows before) (shows after) end
   looks_as roots name end lies at apart same =
-      elim under as (λ b. under ≡ b → Looks told version roots name (shows before) (shows after) end) [
+      elim under as (λ b. under ≡ b → LooksForFile told version roots name (shows before) (shows after) end) [
         | true ↦ λ is.
             let seen_there = OnTrue_at is at in
-            subst (λ (e : Looked). Looks told version roots name (shows before) (shows after) e) (sym seen_there.saw)
+            subst (λ (e : Looked). LooksForFile told version roots name (shows before) (shows after) e) (sym seen_there.saw)
             (looks_by roots name seen_there.answer (sym lies ∙ is) seen_there.asks)
         | false ↦ λ is.
-            subst (λ (t : T). Looks told version roots name (shows before) (shows t) end) (sym (OnFalse_at is same))
-            (subst (λ (e : Looked). Looks told version roots name (shows before) (shows before) e) (sym (OnFalse_at is apart))
+            subst (λ (t : T). LooksForFile told version roots name (shows before) (shows t) end) (sym (OnFalse_at is same))
+            (subst (λ (e : Looked). LooksForFile told version roots name (shows before) (shows before) e) (sym (OnFalse_at is apart))
             (looks_none roots name (sym lies ∙ is)))
       ] refl

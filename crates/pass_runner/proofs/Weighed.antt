@@ -8,7 +8,7 @@ use Rattle.scan_queue.specs.Names.{is_in}
 use Rattle.tree_trait.specs.Found.{Versions}
 use Rattle.tree_trait.specs.Shown.{HandsOn, ShownTree}
 use Rattle.pass_runner.specs.Beside.{IsWeighed, is_whole}
-use Rattle.pass_runner.specs.Helped.{BeginsWithLook, HelpedFrom, asked_by, hands_in}
+use Rattle.pass_runner.specs.Helped.{BeginsWithLook, HelpedFrom, loads_counted, hands_in}
 use Rattle.pass_runner.specs.Owned.{Helps, LoadsBeside, is_hand_fault}
 use Rattle.pass_runner.specs.declared.helper.Helper.{Helper}
 use Rattle.pass_runner.specs.declared.pass_end.PassEnd.{PassEnd}
@@ -66,7 +66,7 @@ module _ {T : Type 0} (sees : T → ShownTree) (told : Bool) (version : Versions
 
   -- the loads of a pass that came to be whole
   pub came_loads : (first later : T) (asked : ℕ) (many : Bool) (final : PassEnd) → Came → BeginsWithLook before
-      → asked ≤ sum_by asked_by after → (3 ≤ length (first ∷ hands_in before) → IsTrue many)
+      → asked ≤ sum_by loads_counted after → (3 ≤ length (first ∷ hands_in before) → IsTrue many)
       → IsWeighed end asked many final
       → LoadsBeside sees (first ∷ hands_in before) (later ∷ hands_in after) final
   came_loads first later asked many (Whole summary) (inl zip) look counts three w = λ long told_all.

@@ -29,13 +29,13 @@ pub record Helped (told : Bool) (version : Versions) (spared : List NameFacts) (
   pub loaded : asked ≤ loads more
 
 -- a hand that looks for files counts no load
-abbrev pub IsCounted : Task → ℕ → Type 0
-IsCounted Look asked = asked ≡ 0
-IsCounted Read asked = Unit {0}
+abbrev pub CountsNoLook : Task → ℕ → Type 0
+CountsNoLook Look asked = asked ≡ 0
+CountsNoLook Read asked = Unit {0}
 
 -- how many loads a helper counts
-abbrev pub asked_by : {T : Type 0} → Helper T → ℕ
-asked_by helper = padded_value helper.asked
+abbrev pub loads_counted : {T : Type 0} → Helper T → ℕ
+loads_counted helper = padded_value helper.asked
 
 -- the hands of helpers, in order
 abbrev pub hands_in : {T : Type 0} → List (Helper T) → List T
@@ -44,8 +44,8 @@ hands_in helpers = map (λ helper. helper.hand) helpers
 -- what a helper comes to whose hand helped while these names were skipped
 abbrev pub HelpedFrom : {T : Type 0} → (T → ShownTree) → Bool → Versions → List NameFacts → Helper T → Helper T → Type 0
 HelpedFrom sees told version spared before after =
-    Helped told version spared (sees before.hand) (sees after.hand) (asked_by after)
-    × (after.task ≡ before.task) × IsCounted after.task (asked_by after)
+    Helped told version spared (sees before.hand) (sees after.hand) (loads_counted after)
+    × (after.task ≡ before.task) × CountsNoLook after.task (loads_counted after)
 
 -- what a run of a slot makes of its helper
 abbrev pub HelpsFrom : {T : Type 0} → (T → ShownTree) → Bool → Versions → SeatFacts Change Origin → Helper T

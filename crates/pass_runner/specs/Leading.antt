@@ -12,8 +12,8 @@ use Rattle.index_rows.specs.declared.rows.TheConstants.{LOG_LIMIT}
 use Rattle.index_state.specs.Changes.{EachChanges, EndsVoid}
 use Rattle.index_state.specs.Plan.{has_stamp, plan_of}
 use Rattle.index_state.specs.Complete.{CompletePass, standing_of}
-use Rattle.index_state.specs.State.{Origin, StateFacts, pass_of}
-use Rattle.index_state.specs.Step.{BeginsPass, Stays}
+use Rattle.index_state.specs.State.{Origin, StateFacts, pass_or_none}
+use Rattle.index_state.specs.Step.{BeginsPass, StateStays}
 use Rattle.index_state.specs.declared.answer.Begun.{Begun}
 use Rattle.index_state.specs.declared.answer.Begun.TheVariants as begun
 use Rattle.index_state.specs.declared.answer.Plan.{Plan}
@@ -29,26 +29,26 @@ use Rattle.tree_trait.specs.Listens.{Listens}
 use Rattle.tree_trait.specs.Shown.{ShownTree}
 use Rattle.pass_runner.specs.Helped.{IsSparing}
 use Rattle.pass_runner.specs.Numbers.{summary_of}
-use Rattle.pass_runner.specs.SharedPass.{AreRowsOf, EndsListed, HasNoRoom, IsMet, IsOfPass, IsOwnMiss, StillStands}
+use Rattle.pass_runner.specs.SharedPass.{AreRowsOf, EndsListed, HasNoRoom, IsMetByHand, IsOfPass, IsOwnMiss, StillStands}
 use Rattle.pass_runner.specs.declared.pass_end.PassEnd.{PassEnd}
 use Rattle.pass_runner.specs.declared.pass_end.PassEnd.TheVariants.{Whole, Missed, Walk as Unwalked, Broken}
 use Rattle.pass_runner.specs.declared.pass_end.PassEnd.TheVariants.{KeeperFault, LogFull, OutOfMemory}
 use Rattle.pass_runner.specs.declared.summary.Summary.{Summary}
 
 -- the miss was noted before, or this is why the hand met it
-abbrev pub IsNoted : List Change → List Change → List Heard → Type 0 → List Miss → Miss → Type 0
-IsNoted brought log answers Failed missed miss =
-    Contains missed miss ⊎ IsMet brought log answers Failed miss.name miss.cause
+abbrev pub IsMissNoted : List Change → List Change → List Heard → Type 0 → List Miss → Miss → Type 0
+IsMissNoted brought log answers Failed missed miss =
+    Contains missed miss ⊎ IsMetByHand brought log answers Failed miss.name miss.cause
 
 -- from one moment of the settling to a later one: the token is a later one, the hand heard nothing but loads and looks, and
 -- each miss that was noted since it met itself
-pub record Leads (told : Bool) (version : Versions) (seat : SeatFacts Change Origin) (before : ShownTree)
+pub record LeadsInSettling (told : Bool) (version : Versions) (seat : SeatFacts Change Origin) (before : ShownTree)
     (later_seat : SeatFacts Change Origin) (after : ShownTree) (missed later_missed : List Miss) : Type 0 where
   pub later : IsLater seat later_seat
   pub more : List Heard
   pub listens : Listens told version before after more
   pub asks : All (IsSparing []) more
-  pub noted : All (IsNoted seat.seen later_seat.seen more (Rose before.faults after.faults) missed) later_missed
+  pub noted : All (IsMissNoted seat.seen later_seat.seen more (Rose before.faults after.faults) missed) later_missed
 
 -- the list has the miss more, or is as it was
 abbrev pub MayNote : Miss → List Miss → List Miss → Type 0
@@ -114,7 +114,7 @@ is_none_left standing = (standing.todo == 0) && (standing.out == 0) && (standing
 -- nothing is to be done of the pass, and these are its numbers
 pub record IsDoneAgain {K : Type 0} (world : Rules) (tells : Bool) (shows : K → ShownKeeper) (plan : Plan)
     (summary : Summary) (state : StateFacts K) : Type 0 where
-  pub complete : CompletePass world.told world.true_row tells shows (pass_of state.pass).listing state
+  pub complete : CompletePass world.told world.true_row tells shows (pass_or_none state.pass).listing state
   pub numbers : summary ≡ summary_of plan state.rows
 
 -- the log has its limit, and something is to be done of the pass
@@ -141,9 +141,9 @@ pub record OpensLast {K : Type 0} (world : Rules) (tells : Bool) (shows : K → 
 -- what the last hold made of the index
 abbrev pub BeginsLast : {K : Type 0} → Rules → Bool → (K → ShownKeeper) → List NameFacts → List (List ℕ) → Plan
     → Option Miss → StateFacts K → StateFacts K → PassEnd → Type 0
-BeginsLast world tells shows listing roots plan own old new KeeperFault = Stays (old.broken ≡ true) old new
+BeginsLast world tells shows listing roots plan own old new KeeperFault = StateStays (old.broken ≡ true) old new
 BeginsLast world tells shows listing roots plan own old new OutOfMemory =
-    Stays (old.broken ≡ false) old new
+    StateStays (old.broken ≡ false) old new
     ⊎ OpensLast world tells shows listing roots plan own old new OutOfMemory
 BeginsLast world tells shows listing roots plan own old new end =
     OpensLast world tells shows listing roots plan own old new end

@@ -16,19 +16,19 @@ use Rattle.index_state.specs.Complete.{CompletePass}
 use Rattle.index_state.specs.Bound.{IsWithinPlan, StaysBounded, still_open}
 use Rattle.index_state.specs.Plan.{most_changes, plan_of}
 use Rattle.index_state.specs.declared.answer.Plan.{Plan}
-use Rattle.index_state.specs.State.{StateFacts, pass_of, unspared}
+use Rattle.index_state.specs.State.{StateFacts, pass_or_none, unspared}
 use Rattle.scan_queue.specs.Names.{is_in}
 use Rattle.scan_queue.specs.Pass.{IsWhole, PassFacts, first_missed}
 use Rattle.scan_queue.specs.declared.miss.Cause.{Cause}
 use Rattle.scan_queue.specs.declared.miss.Cause.TheVariants.{Appeared, ReadFault}
 use Rattle.scan_queue.specs.declared.miss.Miss.{Miss}
 use Rattle.scan_queue.specs.declared.miss.Seen.{Seen}
-use Rattle.tree_trait.specs.Asks.{FitsAny, IsTold}
+use Rattle.tree_trait.specs.Asks.{FitsAny, IsAnswerTold}
 use Rattle.tree_trait.specs.Found.{Versions}
 use Rattle.tree_trait.specs.Heard.{Heard, with_answers}
 use Rattle.tree_trait.specs.Listens.{Listens, loads}
 use Rattle.tree_trait.specs.Shown.{ShownTree}
-use Rattle.tree_walk.specs.Ends.{IsWholeWalk, Walks}
+use Rattle.tree_walk.specs.Ends.{IsWholeWalk, WalksTree}
 use Rattle.tree_walk.specs.Files.{AreFilesUnder, FitsFault}
 use Rattle.tree_walk.specs.Walked.{AsksAll, IsWalkListing}
 use Rattle.tree_walk.specs.declared.fault.WalkFault.{WalkFault}
@@ -37,7 +37,7 @@ use Rattle.tree_walk.specs.declared.walked.Walk.{Walk}
 use Rattle.pass_runner.specs.Ends.{IsOutOfRoom}
 use Rattle.pass_runner.specs.Helped.{IsSparing}
 use Rattle.pass_runner.specs.Numbers.{summary_of}
-use Rattle.pass_runner.specs.Settled.{IsBacked, IsBrought, IsHeardAltered, IsWanted, MayGo, times_loaded}
+use Rattle.pass_runner.specs.Settled.{IsBacked, IsBrought, IsHeardAltered, MayBeAsked, MayGo, times_loaded}
 use Rattle.pass_runner.specs.declared.pass_end.PassEnd.{PassEnd}
 use Rattle.pass_runner.specs.declared.pass_end.PassEnd.TheVariants.{Whole, Missed, Walk as Unwalked, Broken}
 use Rattle.pass_runner.specs.declared.pass_end.PassEnd.TheVariants.{KeeperFault, LogFull, OutOfMemory}
@@ -56,10 +56,10 @@ pub record HearsPass (told : Bool) (version : Versions) (roots : List (List ℕ)
   pub whole : IsWholeWalk walked roots walk
   pub full : AsksAll (walked ++ more) roots
   pub listing : IsWalkListing (walked ++ more) roots walk.listing
-  pub wanted : All (IsWanted walk.listing roots names) more
+  pub wanted : All (MayBeAsked walk.listing roots names) more
   pub once : (path : List ℕ) → times_loaded more path ≤ 1
   pub fits : All (FitsAny version) more
-  pub tells : TellsStill told before → All (IsTold before.present) (walked ++ more)
+  pub tells : TellsStill told before → All (IsAnswerTold before.present) (walked ++ more)
   pub under : TellsStill told before → AreFilesUnder before.present roots walk.listing
 
 -- what the pass left of the index, however it ended: a pass over the listing is open; no row of a listed name went; a row
@@ -115,7 +115,7 @@ pub record RunsPass {K : Type 0} (world : Rules) (told : Bool) (hands : ℕ) (ro
 -- the roots could not be walked: nothing was loaded, and the index stays as it is
 pub record EndsUnwalked {K : Type 0} (told : Bool) (roots : List (List ℕ)) (before after : ShownTree)
     (old new : StateFacts K) (fault : WalkFault) : Type 0 where
-  pub walks : Walks told before after roots (Err fault)
+  pub walks : WalksTree told before after roots (Err fault)
   pub fits : TellsStill told before → FitsFault before.present roots fault
   pub same : new ≡ old
 
@@ -124,7 +124,7 @@ pub record EndsUnwalked {K : Type 0} (told : Bool) (roots : List (List ℕ)) (be
 pub record IsWholePass {K : Type 0} (world : Rules) (tells : Bool) (shows : K → ShownKeeper) (plan : Plan)
     (summary : Summary) (new : StateFacts K) (listing : List NameFacts) : Type 0 where
   pub complete : CompletePass world.told world.true_row tells shows listing new
-  pub whole : IsWhole (pass_of new.pass)
+  pub whole : IsWhole (pass_or_none new.pass)
   pub sound : new.broken ≡ false
   pub numbers : summary ≡ summary_of plan new.rows
 
@@ -137,7 +137,7 @@ NoneAlteredBefore listing answers name =
 -- one that appeared isn't listed
 pub record HasMissed {K : Type 0} (miss : Miss) (Failed : Type 0) (listing : List NameFacts) (new found : StateFacts K)
     (more : List Heard) : Type 0 where
-  pub first : first_missed (pass_of new.pass).missed ≡ Some miss
+  pub first : first_missed (pass_or_none new.pass).missed ≡ Some miss
   pub why : IsBacked listing (row_names found.rows) more Failed miss.name miss.cause
   pub before : NoneAlteredBefore listing more miss.name
   pub apart : miss.cause ≡ Appeared → stamp_at listing miss.name.path ≡ None
@@ -145,21 +145,21 @@ pub record HasMissed {K : Type 0} (miss : Miss) (Failed : Type 0) (listing : Lis
 
 -- the pass ended while, or as soon as, the other hands had helped: the first hand heard the walk alone, and the log grew by
 -- no more than the plan allows, but for a void change
-pub record EndsHelped {K : Type 0} (told : Bool) (hands : ℕ) (roots : List (List ℕ)) (listing : List NameFacts)
+pub record EndsPassHelped {K : Type 0} (told : Bool) (hands : ℕ) (roots : List (List ℕ)) (listing : List NameFacts)
     (before after : ShownTree) (old new : StateFacts K) (Ends : Type 0) : Type 0 where
   pub walk : Walk
   pub over : walk.listing ≡ listing
-  pub walks : Walks told before after roots (Ok walk)
+  pub walks : WalksTree told before after roots (Ok walk)
   pub helped : IsHelped hands listing old new
   pub bounded : IsWithinPlan listing old new
   pub ends : Ends
 
 -- memory was refused before the pass began: nothing was loaded, and the index stays as it is
-pub record EndsEarly {K : Type 0} (told : Bool) (roots : List (List ℕ)) (listing : List NameFacts)
+pub record EndsPassEarly {K : Type 0} (told : Bool) (roots : List (List ℕ)) (listing : List NameFacts)
     (before after : ShownTree) (old new : StateFacts K) : Type 0 where
   pub walk : Walk
   pub over : walk.listing ≡ listing
-  pub walks : Walks told before after roots (Ok walk)
+  pub walks : WalksTree told before after roots (Ok walk)
   pub same : new ≡ old
 
 -- how the pass ended, and what it left
@@ -176,13 +176,13 @@ EndsPass world told tells shows hands roots listing before after old new (Unwalk
 EndsPass world told tells shows hands roots listing before after old new Broken = ⊥
 EndsPass world told tells shows hands roots listing before after old new KeeperFault =
     RunsPass world told hands roots listing before after old new (λ found more. new.broken ≡ true)
-    ⊎ EndsHelped told hands roots listing before after old new (new.broken ≡ true)
+    ⊎ EndsPassHelped told hands roots listing before after old new (new.broken ≡ true)
 EndsPass world told tells shows hands roots listing before after old new LogFull =
     RunsPass world told hands roots listing before after old new (λ found more. IsOutOfRoom new)
 EndsPass world told tells shows hands roots listing before after old new OutOfMemory =
-    EndsEarly told roots listing before after old new
+    EndsPassEarly told roots listing before after old new
     ⊎ (RunsPass world told hands roots listing before after old new (λ found more. new.broken ≡ false)
-    ⊎ EndsHelped told hands roots listing before after old new (new.broken ≡ false))
+    ⊎ EndsPassHelped told hands roots listing before after old new (new.broken ≡ false))
 
 -- whether a name was missed since its file could not be read
 abbrev pub is_read_fault : Cause → Bool

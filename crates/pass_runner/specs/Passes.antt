@@ -7,7 +7,7 @@ use Rattle.index_keeper.specs.Keeper.{ShownKeeper}
 use Rattle.index_rows.specs.Rows.{row_names}
 use Rattle.index_state.specs.Complete.{CompletePass}
 use Rattle.index_state.specs.Plan.{plan_of}
-use Rattle.index_state.specs.State.{StateFacts, pass_of}
+use Rattle.index_state.specs.State.{StateFacts, pass_or_none}
 use Rattle.index_state.specs.Step.{after_begin}
 use Rattle.index_state.specs.declared.answer.Plan.{Plan}
 use Rattle.scan_queue.specs.Pass.{IsWhole, first_missed}
@@ -28,23 +28,23 @@ use Rattle.pass_runner.specs.declared.summary.Summary.{Summary}
 pub record IsFresh {K : Type 0} (state : StateFacts K) : Type 0 where
   pub sound : state.broken ≡ false
   pub is_open : IsPassOn state.pass state.pass
-  pub out : (pass_of state.pass).out ≡ []
-  pub missed : (pass_of state.pass).missed ≡ []
+  pub out : (pass_or_none state.pass).out ≡ []
+  pub missed : (pass_or_none state.pass).missed ≡ []
 
 -- no name of the pass is left to be handed out, and none is out; the row of each name that appeared stands
 pub record IsHandedOut {K : Type 0} (state : StateFacts K) : Type 0 where
   pub sound : state.broken ≡ false
   pub is_open : IsPassOn state.pass state.pass
-  pub todo : (pass_of state.pass).todo ≡ []
-  pub out : (pass_of state.pass).out ≡ []
-  pub groom : (pass_of state.pass).groom ≡ []
+  pub todo : (pass_or_none state.pass).todo ≡ []
+  pub out : (pass_or_none state.pass).out ≡ []
+  pub groom : (pass_or_none state.pass).groom ≡ []
   pub appeared : AppearedStand state
 
 -- the pass is whole, and these are its numbers
-pub record IsDone {K : Type 0} (world : Rules) (tells : Bool) (shows : K → ShownKeeper) (plan : Plan) (summary : Summary)
+pub record IsPassWhole {K : Type 0} (world : Rules) (tells : Bool) (shows : K → ShownKeeper) (plan : Plan) (summary : Summary)
     (state : StateFacts K) : Type 0 where
-  pub complete : CompletePass world.told world.true_row tells shows (pass_of state.pass).listing state
-  pub whole : IsWhole (pass_of state.pass)
+  pub complete : CompletePass world.told world.true_row tells shows (pass_or_none state.pass).listing state
+  pub whole : IsWhole (pass_or_none state.pass)
   pub numbers : summary ≡ summary_of plan state.rows
 
 -- the path of a name that appeared isn't listed, where the name isn't
@@ -53,13 +53,13 @@ IsApart listing miss = miss.cause ≡ Appeared → is_in listing miss.name ≡ f
 
 -- the name was missed first, so no name that was missed stands before it; and where it appeared its path isn't listed
 pub record IsFirstMissed {K : Type 0} (miss : Miss) (state : StateFacts K) : Type 0 where
-  pub first : first_missed (pass_of state.pass).missed ≡ Some miss
+  pub first : first_missed (pass_or_none state.pass).missed ≡ Some miss
   pub least : (name : NameFacts) → is_missed state name ≡ true → ¬ IsBefore name.path miss.name.path
-  pub apart : IsApart (pass_of state.pass).listing miss
+  pub apart : IsApart (pass_or_none state.pass).listing miss
 
 -- the end of a pass of which no name is left to be handed out
 abbrev pub EndsOf : {K : Type 0} → Rules → Bool → (K → ShownKeeper) → Plan → StateFacts K → PassEnd → Type 0
-EndsOf world tells shows plan state (Whole summary) = IsDone world tells shows plan summary state
+EndsOf world tells shows plan state (Whole summary) = IsPassWhole world tells shows plan summary state
 EndsOf world tells shows plan state (Missed miss) = IsFirstMissed miss state
 EndsOf world tells shows plan state OutOfMemory = Unit {0}
 EndsOf world tells shows plan state _ = ⊥
@@ -80,7 +80,7 @@ abbrev pub EndsBegun : {K : Type 0} → Rules → Bool → Bool → (K → Shown
     → StateFacts K → StateFacts K → PassEnd → Type 0
 EndsBegun world told tells shows plan before after old new (Whole summary) =
     SettlesTo world told shows before after old new
-    (IsWholePass world tells shows plan summary new (pass_of old.pass).listing)
+    (IsWholePass world tells shows plan summary new (pass_or_none old.pass).listing)
 EndsBegun world told tells shows plan before after old new (Missed miss) =
     SettlesTo world told shows before after old new (IsFirstMiss miss new)
 EndsBegun world told tells shows plan before after old new KeeperFault =
@@ -106,7 +106,7 @@ pub record StaysSame {K T : Type 0} (before after : T) (old new : StateFacts K) 
   pub state : new ≡ old
 
 -- the other hands helped, and the first one did nothing more
-pub record IsLeft {K T : Type 0} (hands : ℕ) (listing : List NameFacts) (before after : T) (old new : StateFacts K)
+pub record LeavesToHands {K T : Type 0} (hands : ℕ) (listing : List NameFacts) (before after : T) (old new : StateFacts K)
     (Ends : Type 0) : Type 0 where
   pub hand : after ≡ before
   pub helped : IsHelped hands listing old new
@@ -118,9 +118,9 @@ abbrev pub EndsOver : {K T : Type 0} → Rules → Bool → Bool → (K → Show
 EndsOver world told tells shows sees hands listing roots before after old new OutOfMemory =
     StaysSame before after old new
     ⊎ (EndsFound world told tells shows hands listing roots (sees before) (sees after) old new OutOfMemory
-    ⊎ IsLeft hands listing before after old new (new.broken ≡ false))
+    ⊎ LeavesToHands hands listing before after old new (new.broken ≡ false))
 EndsOver world told tells shows sees hands listing roots before after old new KeeperFault =
     EndsFound world told tells shows hands listing roots (sees before) (sees after) old new KeeperFault
-    ⊎ IsLeft hands listing before after old new (new.broken ≡ true)
+    ⊎ LeavesToHands hands listing before after old new (new.broken ≡ true)
 EndsOver world told tells shows sees hands listing roots before after old new end =
     EndsFound world told tells shows hands listing roots (sees before) (sees after) old new end

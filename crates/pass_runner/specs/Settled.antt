@@ -12,14 +12,14 @@ use Rattle.index_keeper.specs.Keeper.{ShownKeeper}
 use Rattle.index_rows.specs.Rows.{row_names}
 use Rattle.index_state.specs.Bound.{StaysBounded}
 use Rattle.index_state.specs.Judge.{is_under}
-use Rattle.index_state.specs.State.{StateFacts, pass_of}
+use Rattle.index_state.specs.State.{StateFacts, pass_or_none}
 use Rattle.scan_queue.specs.Names.{is_in}
 use Rattle.scan_queue.specs.Pass.{PassFacts, missed_names}
 use Rattle.scan_queue.specs.declared.miss.Cause.{Cause}
 use Rattle.scan_queue.specs.declared.miss.Cause.TheVariants.{ReadFault, Altered, Appeared}
 use Rattle.scan_queue.specs.declared.miss.Miss.{Miss}
 use Rattle.scan_queue.specs.declared.miss.Seen.{Seen}
-use Rattle.scan_worker.specs.Read.{FindsOther, Reads, load_of}
+use Rattle.scan_worker.specs.Read.{FindsOther, ReadsListed, heard_load}
 use Rattle.tree_trait.specs.Found.{Versions}
 use Rattle.tree_trait.specs.Heard.{Heard, load, stat, read_dir}
 use Rattle.tree_trait.specs.Listens.{Listens}
@@ -29,20 +29,20 @@ use Rattle.tree_trait.specs.declared.stat.StatAnswer.{StatAnswer}
 use Rattle.tree_trait.specs.declared.stat.StatAnswer.TheVariants.{Folder, File, Other, Gone}
 
 -- the path is listed, and its name had no row
-pub record IsNew (listing names : List NameFacts) (path : List ℕ) : Type 0 where
+pub record HadNoRow (listing names : List NameFacts) (path : List ℕ) : Type 0 where
   pub stamp : StampFacts
   pub listed : stamp_at listing path ≡ Some stamp
   pub absent : is_in names (record { path = path; stamp = stamp }) ≡ false
 
 -- what may be asked: the load of a listed file whose name had no row, and a look at a path under a root
-abbrev pub IsWanted : List NameFacts → List (List ℕ) → List NameFacts → Heard → Type 0
-IsWanted listing roots names (load path limit answer) = (limit ≡ FILE_LIMIT) × IsNew listing names path
-IsWanted listing roots names (stat path answer) = is_under roots path ≡ true
-IsWanted listing roots names (read_dir path answer) = ⊥
+abbrev pub MayBeAsked : List NameFacts → List (List ℕ) → List NameFacts → Heard → Type 0
+MayBeAsked listing roots names (load path limit answer) = (limit ≡ FILE_LIMIT) × HadNoRow listing names path
+MayBeAsked listing roots names (stat path answer) = is_under roots path ≡ true
+MayBeAsked listing roots names (read_dir path answer) = ⊥
 
 -- what may be asked of an index at a moment
 abbrev pub Wants : {K : Type 0} → StateFacts K → Heard → Type 0
-Wants state = IsWanted (pass_of state.pass).listing state.roots (row_names state.rows)
+Wants state = MayBeAsked (pass_or_none state.pass).listing state.roots (row_names state.rows)
 
 -- whether this is a load of the path
 abbrev pub is_load_of : List ℕ → Heard → Bool
@@ -79,7 +79,7 @@ MayGo listing roots answers name = stamp_at listing name.path ≡ None → is_un
 pub record IsHeardAltered (listing : List NameFacts) (answers : List Heard) (name : NameFacts) (met : Seen) : Type 0 where
   pub listed : is_in listing name ≡ true
   pub answer : LoadFacts
-  pub heard : Contains answers (load_of name answer)
+  pub heard : Contains answers (heard_load name answer)
   pub other : FindsOther name answer met
 
 -- a look found the file of a name that isn't listed
@@ -102,11 +102,11 @@ StandsIfAppeared names miss = miss.cause ≡ Appeared → is_in names miss.name 
 
 -- no name was missed as one that appeared
 abbrev pub NoneAppeared : {K : Type 0} → StateFacts K → Type 0
-NoneAppeared state = All HasNotAppeared (pass_of state.pass).missed
+NoneAppeared state = All HasNotAppeared (pass_or_none state.pass).missed
 
 -- the row of each name that was missed as one that appeared stands
 abbrev pub AppearedStand : {K : Type 0} → StateFacts K → Type 0
-AppearedStand state = All (StandsIfAppeared (row_names state.rows)) (pass_of state.pass).missed
+AppearedStand state = All (StandsIfAppeared (row_names state.rows)) (pass_or_none state.pass).missed
 
 -- by what a name was missed, where these names had rows: the count of faults rose, or this was heard
 abbrev pub IsBacked : List NameFacts → List NameFacts → List Heard → Type 0 → NameFacts → Cause → Type 0
@@ -121,13 +121,13 @@ IsMissBy listing names missed answers Failed miss =
 
 -- of the names that were missed since a moment
 abbrev pub MissesBy : {K : Type 0} → StateFacts K → List Heard → Type 0 → Miss → Type 0
-MissesBy state = IsMissBy (pass_of state.pass).listing (row_names state.rows) (pass_of state.pass).missed
+MissesBy state = IsMissBy (pass_or_none state.pass).listing (row_names state.rows) (pass_or_none state.pass).missed
 
 -- a load found the file of the row's name, and the row says what it is
 pub record IsReadOf (answers : List Heard) (row : RowFacts) : Type 0 where
   pub answer : LoadFacts
-  pub heard : Contains answers (load_of row.name answer)
-  pub reads : Reads row.name answer row
+  pub heard : Contains answers (heard_load row.name answer)
+  pub reads : ReadsListed row.name answer row
 
 -- the row was there before, or says what a load found
 abbrev pub IsBrought : List RowFacts → List Heard → RowFacts → Type 0
@@ -135,7 +135,7 @@ IsBrought rows answers row = Contains rows row ⊎ IsReadOf answers row
 
 -- whether the name was missed
 abbrev pub is_missed : {K : Type 0} → StateFacts K → NameFacts → Bool
-is_missed state name = is_in (missed_names (pass_of state.pass).missed) name
+is_missed state name = is_in (missed_names (pass_or_none state.pass).missed) name
 
 -- each listed name that was missed is missed still
 abbrev pub MissesStay : {K : Type 0} → List NameFacts → StateFacts K → StateFacts K → Type 0
@@ -166,19 +166,19 @@ pub record Advances {K : Type 0} (shows : K → ShownKeeper) (answers : List Hea
   pub pass : IsPassOn old.pass new.pass
   pub roots : new.roots ≡ old.roots
   pub origin : new.origin ≡ old.origin
-  pub stays : (name : NameFacts) → is_in (pass_of old.pass).listing name ≡ true
+  pub stays : (name : NameFacts) → is_in (pass_or_none old.pass).listing name ≡ true
       → is_in (row_names old.rows) name ≡ true → is_in (row_names new.rows) name ≡ true
   pub goes : (name : NameFacts) → is_in (row_names old.rows) name ≡ true
       → is_in (row_names new.rows) name ≡ false
-      → MayGo (pass_of old.pass).listing old.roots answers name
+      → MayGo (pass_or_none old.pass).listing old.roots answers name
   pub comes : (name : NameFacts) → is_in (row_names new.rows) name ≡ true
-      → is_in (row_names old.rows) name ≡ false → is_in (pass_of old.pass).listing name ≡ true
+      → is_in (row_names old.rows) name ≡ false → is_in (pass_or_none old.pass).listing name ≡ true
   pub brings : All (IsBrought old.rows answers) new.rows
-  pub missed : All (MissesBy old answers Failed) (pass_of new.pass).missed
-  pub still : MissesStay (pass_of old.pass).listing old new
+  pub missed : All (MissesBy old answers Failed) (pass_or_none new.pass).missed
+  pub still : MissesStay (pass_or_none old.pass).listing old new
   pub todo : (path : List ℕ)
-      → times_named (pass_of new.pass).todo path ≤ times_named (pass_of old.pass).todo path
-  pub bounded : StaysBounded (pass_of old.pass).listing old new
+      → times_named (pass_or_none new.pass).todo path ≤ times_named (pass_or_none old.pass).todo path
+  pub bounded : StaysBounded (pass_or_none old.pass).listing old new
 
 -- what the settling did from one moment to a later one: nothing else was heard, all of it was wanted, the index went on so,
 -- and a listed name for which a load found another file is missed
@@ -188,7 +188,7 @@ pub record Proceeds {K : Type 0} (told : Bool) (version : Versions) (shows : K �
   pub listens : Listens told version before after answers
   pub wanted : All (Wants old) answers
   pub on : Advances shows answers (Rose before.faults after.faults) old new
-  pub altered : AlteredAreMissed (pass_of old.pass).listing answers new
+  pub altered : AlteredAreMissed (pass_or_none old.pass).listing answers new
 
 -- and no path was loaded twice
 pub record Settles {K : Type 0} (told : Bool) (version : Versions) (shows : K → ShownKeeper)

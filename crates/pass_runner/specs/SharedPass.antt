@@ -22,15 +22,15 @@ use Rattle.scan_queue.specs.declared.miss.Cause.{Cause}
 use Rattle.scan_queue.specs.declared.miss.Cause.TheVariants.{ReadFault, Altered, Appeared}
 use Rattle.scan_queue.specs.declared.miss.Miss.{Miss}
 use Rattle.scan_queue.specs.declared.miss.Seen.{Seen}
-use Rattle.scan_worker.specs.Read.{FindsOther, load_of}
-use Rattle.tree_trait.specs.Asks.{FitsAny, IsTold}
+use Rattle.scan_worker.specs.Read.{FindsOther, heard_load}
+use Rattle.tree_trait.specs.Asks.{FitsAny, IsAnswerTold}
 use Rattle.tree_trait.specs.Found.{Versions}
 use Rattle.tree_trait.specs.Heard.{Heard, stat, with_answers}
 use Rattle.tree_trait.specs.Load.{LoadFacts}
 use Rattle.tree_trait.specs.Shown.{ShownTree}
 use Rattle.tree_trait.specs.Stat.{IsNothingAt}
 use Rattle.tree_trait.specs.declared.stat.StatAnswer.TheVariants.{File}
-use Rattle.tree_walk.specs.Ends.{IsWholeWalk, Walks}
+use Rattle.tree_walk.specs.Ends.{IsWholeWalk, WalksTree}
 use Rattle.tree_walk.specs.Files.{AreFilesUnder, FitsFault, HasManyEntries, HasManyFiles}
 use Rattle.tree_walk.specs.Walked.{AsksAll, IsWalkListing}
 use Rattle.tree_walk.specs.declared.fault.WalkFault.{WalkFault}
@@ -55,7 +55,7 @@ pub record HearsShared (told : Bool) (version : Versions) (roots : List (List �
   pub listing : IsWalkListing (walked ++ more) roots walk.listing
   pub asks : All (IsSparing []) more
   pub fits : All (FitsAny version) more
-  pub tells : TellsStill told before → All (IsTold before.present) (walked ++ more)
+  pub tells : TellsStill told before → All (IsAnswerTold before.present) (walked ++ more)
   pub under : TellsStill told before → AreFilesUnder before.present roots walk.listing
 
 -- the log is no shorter than the one that was brought, and no longer than the one that came back
@@ -83,9 +83,9 @@ pub record IsOneScan (world : Rules) (listing : List NameFacts) (brought log : L
   pub parts : summary.added + summary.replaced + summary.kept ≡ summary.files
 
 -- a load found this in place of the name's file
-pub record HeardOther (answers : List Heard) (name : NameFacts) (met : Seen) : Type 0 where
+pub record HeardInPlace (answers : List Heard) (name : NameFacts) (met : Seen) : Type 0 where
   pub answer : LoadFacts
-  pub heard : Contains answers (load_of name answer)
+  pub heard : Contains answers (heard_load name answer)
   pub other : FindsOther name answer met
 
 -- a look found the name's own file, while a row of the name stood
@@ -96,10 +96,10 @@ pub record HeardThere (brought log : List Change) (answers : List Heard) (name :
   pub row : is_in (replay at) name ≡ true
 
 -- by what a hand missed the name itself: its count of faults rose, or it heard this
-abbrev pub IsMet : List Change → List Change → List Heard → Type 0 → NameFacts → Cause → Type 0
-IsMet brought log answers Failed name ReadFault = Failed
-IsMet brought log answers Failed name (Altered met) = HeardOther answers name met
-IsMet brought log answers Failed name Appeared = HeardThere brought log answers name
+abbrev pub IsMetByHand : List Change → List Change → List Heard → Type 0 → NameFacts → Cause → Type 0
+IsMetByHand brought log answers Failed name ReadFault = Failed
+IsMetByHand brought log answers Failed name (Altered met) = HeardInPlace answers name met
+IsMetByHand brought log answers Failed name Appeared = HeardThere brought log answers name
 
 -- the path isn't listed, lies under a root, and is no longer than a path that is kept
 pub record IsStray (listing : List NameFacts) (roots : List (List ℕ)) (path : List ℕ) : Type 0 where
@@ -121,7 +121,7 @@ StillStands listing log name = is_in (replay log) name ≡ not (is_in listing na
 -- void change
 pub record IsOwnMiss (listing : List NameFacts) (roots : List (List ℕ)) (brought log : List Change) (answers : List Heard)
     (Failed : Type 0) (miss : Miss) : Type 0 where
-  pub why : IsMet brought log answers Failed miss.name miss.cause
+  pub why : IsMetByHand brought log answers Failed miss.name miss.cause
   pub of_pass : IsOfPass listing roots miss.name miss.cause
   pub stands : StillStands listing log miss.name
   pub sound : ¬ EndsVoid log
@@ -167,7 +167,7 @@ pub record RunsShared (world : Rules) (told : Bool) (roots : List (List ℕ)) (b
 -- the roots could not be walked: the token saw nothing new
 pub record StopsShared (told : Bool) (roots : List (List ℕ)) (brought log : List Change) (before after : ShownTree)
     (fault : WalkFault) : Type 0 where
-  pub walks : Walks told before after roots (Err fault)
+  pub walks : WalksTree told before after roots (Err fault)
   pub fits : TellsStill told before → FitsFault before.present roots fault
   pub same : log ≡ brought
 

@@ -5,8 +5,8 @@ use Rattle.row_types.specs.Name.{NameFacts}
 use Rattle.row_types.specs.Row.{RowFacts}
 use Rattle.index_keeper.specs.Keeper.{ShownKeeper}
 use Rattle.index_state.specs.Judge.{is_under}
-use Rattle.index_state.specs.State.{StateFacts, pass_of}
-use Rattle.index_state.specs.Step.{Breaks, FindsNoMemory, IsShut, Judges, Stays, Stores}
+use Rattle.index_state.specs.State.{StateFacts, pass_or_none}
+use Rattle.index_state.specs.Step.{Breaks, FindsNoMemory, IsShut, Judges, StateStays, Stores}
 use Rattle.index_state.specs.declared.answer.Judged.{Judged}
 use Rattle.index_state.specs.declared.answer.Judged.TheVariants.{Broken as JudgedBroken, LogFull as JudgedFull, KeeperFault as JudgedFault, OutOfMemory as JudgedNoMemory}
 use Rattle.scan_queue.specs.declared.miss.Seen.{Seen}
@@ -38,25 +38,25 @@ pub record TurnsOver {K : Type 0} (told : Bool) (version : Versions) (shows : K 
   pub keeper : HasCause (shows old.keeper).faults (shows new.keeper).faults (end ≡ Some KeeperFault)
 
 -- the settling went on, and each load took a name that was to be read
-pub record Takes {K : Type 0} (told : Bool) (version : Versions) (shows : K → ShownKeeper) (before after : ShownTree)
+pub record TakesNames {K : Type 0} (told : Bool) (version : Versions) (shows : K → ShownKeeper) (before after : ShownTree)
     (old new : StateFacts K) : Type 0 where
   pub does : Proceeds told version shows before after old new
   pub takes : (path : List ℕ)
-      → times_loaded does.answers path + times_named (pass_of new.pass).todo path ≤ times_named (pass_of old.pass).todo path
+      → times_loaded does.answers path + times_named (pass_or_none new.pass).todo path ≤ times_named (pass_or_none old.pass).todo path
 
 -- the settling goes on from the start: the index isn't broken, and where no name was out, none is
-pub record Goes {K : Type 0} (told : Bool) (version : Versions) (shows : K → ShownKeeper) (before after : ShownTree)
+pub record GoesFromStart {K : Type 0} (told : Bool) (version : Versions) (shows : K → ShownKeeper) (before after : ShownTree)
     (start now : StateFacts K) : Type 0 where
-  pub settles : Takes told version shows before after start now
+  pub settles : TakesNames told version shows before after start now
   pub sound : now.broken ≡ false
-  pub out : (pass_of start.pass).out ≡ [] → (pass_of now.pass).out ≡ []
+  pub out : (pass_or_none start.pass).out ≡ [] → (pass_or_none now.pass).out ≡ []
 
 -- what comes of a row that is awaited
 abbrev pub PublishesNew : {K : Type 0} → Bool → (K → ShownKeeper) → RowFacts → StateFacts K → StateFacts K
     → Option WorkEnd → Type 0
 PublishesNew tells shows row old new None = Stores tells shows row old new
 PublishesNew tells shows row old new (Some KeeperFault) = Breaks tells shows row old new
-PublishesNew tells shows row old new (Some LogFull) = Stays (IsShut row.name old) old new
+PublishesNew tells shows row old new (Some LogFull) = StateStays (IsShut row.name old) old new
 PublishesNew tells shows row old new (Some OutOfMemory) = FindsNoMemory tells shows row old new
 PublishesNew tells shows row old new (Some _) = ⊥
 
@@ -76,14 +76,14 @@ pub record JudgesLeft {K : Type 0} (tells : Bool) (shows : K → ShownKeeper) (n
   pub ends : end ≡ after_judged answer
 
 -- a look at the path of the name that was heard saw this
-pub record HasSeen (answers : List Heard) (name : NameFacts) (met : Seen) : Type 0 where
+pub record HasSeenFile (answers : List Heard) (name : NameFacts) (met : Seen) : Type 0 where
   pub answer : StatAnswer
   pub heard : Contains answers (stat name.path answer)
   pub saw : looked_of answer ≡ looked.Saw met
 
 -- what a look leads to; at a path under no root none was made
 abbrev pub LooksTo : Bool → List Heard → NameFacts → Type 0 → Looked → Type 0
-LooksTo under answers name Failed (looked.Saw met) = under ≡ true → HasSeen answers name met
+LooksTo under answers name Failed (looked.Saw met) = under ≡ true → HasSeenFile answers name met
 LooksTo under answers name Failed looked.Failed = Failed
 LooksTo under answers name Failed looked.OutOfMemory = Unit {0}
 
@@ -93,7 +93,7 @@ IsLookUnder roots (stat path answer) = is_under roots path ≡ true
 IsLookUnder roots _ = ⊥
 
 -- the file of a row was looked for
-pub record Looks (told : Bool) (version : Versions) (roots : List (List ℕ)) (name : NameFacts)
+pub record LooksForFile (told : Bool) (version : Versions) (roots : List (List ℕ)) (name : NameFacts)
     (before after : ShownTree) (end : Looked) : Type 0 where
   pub answers : List Heard
   pub listens : Listens told version before after answers

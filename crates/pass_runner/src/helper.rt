@@ -3,7 +3,7 @@
 ghost use Rattle.std.specs.Prelude.{◌≡◌};
 ghost use Rattle.index_lock.specs.Tokens.{IsLater};
 ghost use Rattle.lock_crew.specs.Runs.{SlotHas, SlotRan};
-ghost use Rattle.pass_runner.specs.Helped.{Helped, HelpsFrom, IsCounted, asked_by};
+ghost use Rattle.pass_runner.specs.Helped.{Helped, HelpsFrom, CountsNoLook, loads_counted};
 
 use crossbeam_utils::CachePadded;
 use groomer::groom;
@@ -67,9 +67,9 @@ fn help<W: Truth, K: Keeper<W>, T: Tree<W>, R: Reader<W>, G: Gate, Rt: Wait + Sy
     requires { seat.lock ≡ lock.now }
     ensures later { IsLater seat result.0 }
     ensures helped { Helped T.told W.version seat.origin.spared (T.shows place.hand)
-        (T.shows result.1.hand) (asked_by result.1) }
+        (T.shows result.1.hand) (loads_counted result.1) }
     ensures task { result.1.task ≡ place.task }
-    ensures counted { IsCounted result.1.task (asked_by result.1) }
+    ensures counted { CountsNoLook result.1.task (loads_counted result.1) }
 {
     let Helper {
         hand,

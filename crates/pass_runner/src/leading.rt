@@ -2,7 +2,7 @@
 
 ghost use Rattle.std.specs.Prelude.{◌≡◌, []};
 ghost use Rattle.index_lock.specs.Tokens.{IsLater};
-ghost use Rattle.pass_runner.specs.Leading.{Leads, MayNote, MayNoteThere};
+ghost use Rattle.pass_runner.specs.Leading.{LeadsInSettling, MayNote, MayNoteThere};
 
 use crate::holds::{is_open, judge_one};
 use groomer::{Looked, look};
@@ -24,7 +24,7 @@ pub(crate) fn settle_shared<'a, W: Truth, K: Keeper<W>, T: Tree<W>, R: Reader<W>
     desk: Desk<'a, W, K>,
     hand: &mut T,
 ) -> (Desk<'a, W, K>, Vec<Miss>)
-    ensures { Leads T.told W.version desk.entry.seat (T.shows hand.old) result.0.seat
+    ensures { LeadsInSettling T.told W.version desk.entry.seat (T.shows hand.old) result.0.seat
         (T.shows hand.new) [] result.1.items }
 {
     let mut met = Vec::new(ground.alloc);
@@ -44,7 +44,7 @@ fn read_left<'a, W: Truth, K: Keeper<W>, T: Tree<W>, R: Reader<W>, G, Rt: Wait>(
     hand: &mut T,
     met: &mut Vec<Miss>,
 ) -> Desk<'a, W, K>
-    ensures { Leads T.told W.version desk.entry.seat (T.shows hand.old) result.seat
+    ensures { LeadsInSettling T.told W.version desk.entry.seat (T.shows hand.old) result.seat
         (T.shows hand.new) met.old.items met.new.items }
 {
     let Desk { lock, mut seat } = desk;
@@ -69,7 +69,7 @@ fn read_next<'a, W: Truth, K: Keeper<W>, T: Tree<W>, R: Reader<W>, G, Rt: Wait>(
     hand: &mut T,
     met: &mut Vec<Miss>,
 ) -> (Desk<'a, W, K>, bool)
-    ensures { Leads T.told W.version desk.entry.seat (T.shows hand.old) result.0.seat
+    ensures { LeadsInSettling T.told W.version desk.entry.seat (T.shows hand.old) result.0.seat
         (T.shows hand.new) met.old.items met.new.items }
 {
     let (desk, name) = desk.take(ground.rt);
@@ -102,7 +102,7 @@ fn look_left<'a, W: Truth, K: Keeper<W>, T: Tree<W>, Rt: Wait>(
     hand: &mut T,
     met: &mut Vec<Miss>,
 ) -> Desk<'a, W, K>
-    ensures { Leads T.told W.version desk.entry.seat (T.shows hand.old) result.seat
+    ensures { LeadsInSettling T.told W.version desk.entry.seat (T.shows hand.old) result.seat
         (T.shows hand.new) met.old.items met.new.items }
 {
     let Desk { lock, mut seat } = desk;
@@ -129,7 +129,7 @@ fn look_next<'a, W: Truth, K: Keeper<W>, T: Tree<W>, Rt: Wait>(
     hand: &mut T,
     met: &mut Vec<Miss>,
 ) -> (Desk<'a, W, K>, bool)
-    ensures { Leads T.told W.version desk.entry.seat (T.shows hand.old) result.0.seat
+    ensures { LeadsInSettling T.told W.version desk.entry.seat (T.shows hand.old) result.0.seat
         (T.shows hand.new) met.old.items met.new.items }
 {
     let (desk, task) = desk.groom_take(rt);

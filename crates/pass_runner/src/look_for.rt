@@ -3,12 +3,12 @@
 ghost use Rattle.std.specs.Prelude.{◌≡◌, ℕ, List, [], false, true, IfSome};
 ghost use Rattle.row_types.specs.Faults.{HasCause};
 ghost use Rattle.index_state.specs.Away.{GroomsNext};
-ghost use Rattle.index_state.specs.Judge.{is_kept, is_under};
-ghost use Rattle.index_state.specs.State.{pass_of};
+ghost use Rattle.index_state.specs.Judge.{is_name_kept, is_under};
+ghost use Rattle.index_state.specs.State.{pass_or_none};
 ghost use Rattle.scan_queue.specs.Names.{is_in};
 ghost use Rattle.pass_runner.specs.Ends.{SettlesBy};
 ghost use Rattle.pass_runner.specs.Settled.{IsPassOn};
-ghost use Rattle.pass_runner.specs.Turns.{JudgesLeft, Looks, Takes, TurnsOver};
+ghost use Rattle.pass_runner.specs.Turns.{JudgesLeft, LooksForFile, TakesNames, TurnsOver};
 ghost use Rattle.pass_runner.specs.Turns.{after_judged};
 
 use groomer::{Looked, look};
@@ -29,8 +29,8 @@ pub(crate) fn look_for_all<W: Truth, K: Keeper<W>, T: Tree<W>>(
 ) -> WorkEnd
     requires sound { state.old.broken ≡ false }
     requires open { IsPassOn state.old.pass state.old.pass }
-    requires read { (pass_of state.old.pass).todo ≡ [] }
-    ensures settles { Takes T.told W.version K.shows (T.shows hand.old) (T.shows hand.new)
+    requires read { (pass_or_none state.old.pass).todo ≡ [] }
+    ensures settles { TakesNames T.told W.version K.shows (T.shows hand.old) (T.shows hand.new)
         state.old state.new }
     ensures ends { SettlesBy state.old state.new result }
     ensures keeper { HasCause (K.shows state.old.keeper).faults (K.shows state.new.keeper).faults
@@ -47,7 +47,7 @@ pub(crate) fn look_for_all<W: Truth, K: Keeper<W>, T: Tree<W>>(
 /// Hands out the next name to be looked for, which isn't listed.
 fn next_task<W: Truth, K: Keeper<W>>(state: &mut State<W, K>) -> Option<GroomTask>
     ensures step { GroomsNext state.old result state.new }
-    ensures unlisted { IfSome result (λ task. is_kept state.new.pass task.name ≡ false) }
+    ensures unlisted { IfSome result (λ task. is_name_kept state.new.pass task.name ≡ false) }
 {
     show_index(state);
     state.groom_take()
@@ -61,8 +61,8 @@ fn look_for<W: Truth, K: Keeper<W>, T: Tree<W>>(
     task: &GroomTask,
 ) -> Option<WorkEnd>
     requires sound { state.old.broken ≡ false }
-    requires unlisted { is_kept state.old.pass task.now.name ≡ false }
-    requires out { is_in (pass_of state.old.pass).out task.now.name ≡ true }
+    requires unlisted { is_name_kept state.old.pass task.now.name ≡ false }
+    requires out { is_in (pass_or_none state.old.pass).out task.now.name ≡ true }
     requires under { task.now.under ≡ is_under state.old.roots task.now.name.path }
     ensures { TurnsOver T.told W.version K.shows [] task.now.name (T.shows hand.old)
         (T.shows hand.new) state.old state.new result }
@@ -82,7 +82,7 @@ fn look_for<W: Truth, K: Keeper<W>, T: Tree<W>>(
 #[tactic(auto, using(crate::proofs::Turning::looks_as))]
 fn look_under<W: Truth, T: Tree<W>>(alloc: Global, hand: &mut T, task: &GroomTask) -> Looked
     ensures { (roots : List (List ℕ)) → task.now.under ≡ is_under roots task.now.name.path
-        → Looks T.told W.version roots task.now.name (T.shows hand.old) (T.shows hand.new) result }
+        → LooksForFile T.told W.version roots task.now.name (T.shows hand.old) (T.shows hand.new) result }
 {
     look(alloc, hand, task)
 }

@@ -2,7 +2,7 @@
 
 ghost use Rattle.std.specs.Prelude.{◌≡◌, ◌∷◌, ◌<◌, ◌≤◌, [], vec_capacity, vec_len, IfErr, IfOk};
 ghost use Rattle.std.specs.List.{sum_by};
-ghost use Rattle.pass_runner.specs.Helped.{BeginsWithLook, asked_by, hands_in};
+ghost use Rattle.pass_runner.specs.Helped.{BeginsWithLook, loads_counted, hands_in};
 
 use crate::helper::{Helper, Task};
 use crossbeam_utils::CachePadded;
@@ -74,7 +74,7 @@ pub(crate) fn together<T: Drop>(first: T, helpers: Vec<Helper<T>>, room: Vec<T>)
     requires none { room.items ≡ [] }
     requires room { vec_len helpers < vec_capacity room }
     ensures hands { result.0.items ≡ first ∷ hands_in helpers.items }
-    ensures asked { result.1 ≤ sum_by asked_by helpers.items }
+    ensures asked { result.1 ≤ sum_by loads_counted helpers.items }
 {
     let mut hands = room;
     hands.push_reserved(first);

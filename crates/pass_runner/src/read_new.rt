@@ -2,12 +2,12 @@
 
 ghost use Rattle.std.specs.Prelude.{◌≡◌, ◌∷◌, [], false, true};
 ghost use Rattle.row_types.specs.Faults.{HasCause};
-ghost use Rattle.index_state.specs.State.{pass_of};
+ghost use Rattle.index_state.specs.State.{pass_or_none};
 ghost use Rattle.index_state.specs.Step.{IsAwaited};
 ghost use Rattle.scan_queue.specs.Names.{is_in};
 ghost use Rattle.pass_runner.specs.Ends.{ReadsBy};
 ghost use Rattle.pass_runner.specs.Settled.{IsPassOn};
-ghost use Rattle.pass_runner.specs.Turns.{PublishesNew, Takes, TurnsOver};
+ghost use Rattle.pass_runner.specs.Turns.{PublishesNew, TakesNames, TurnsOver};
 
 use index_desk::WorkEnd;
 use index_keeper::Keeper;
@@ -28,7 +28,7 @@ pub(crate) fn read_new<W: Truth, K: Keeper<W>, T: Tree<W>, R: Reader<W>>(
 ) -> WorkEnd
     requires sound { state.old.broken ≡ false }
     requires open { IsPassOn state.old.pass state.old.pass }
-    ensures settles { Takes T.told W.version K.shows (T.shows hand.old) (T.shows hand.new)
+    ensures settles { TakesNames T.told W.version K.shows (T.shows hand.old) (T.shows hand.new)
         state.old state.new }
     ensures ends { ReadsBy state.old state.new result }
     ensures keeper { HasCause (K.shows state.old.keeper).faults (K.shows state.new.keeper).faults
@@ -52,7 +52,7 @@ fn read_one<W: Truth, K: Keeper<W>, T: Tree<W>, R: Reader<W>>(
 ) -> Option<WorkEnd>
     requires sound { state.old.broken ≡ false }
     requires awaited { IsAwaited name.now state.old }
-    requires out { is_in (pass_of state.old.pass).out name.now ≡ true }
+    requires out { is_in (pass_or_none state.old.pass).out name.now ≡ true }
     ensures { TurnsOver T.told W.version K.shows (name.now ∷ []) name.now (T.shows hand.old)
         (T.shows hand.new) state.old state.new result }
 {

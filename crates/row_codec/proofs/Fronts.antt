@@ -6,8 +6,8 @@ use Rattle.std.proofs.Math.Seq.{take-append_seam, drop-append_seam}
 use Rattle.std.proofs.lemmas.Bool.{le-ltb, ltb-false}
 use Rattle.std.proofs.lemmas.List.{length-take-le, take-append-drop}
 use Rattle.std.proofs.lemmas.Nat.{from_le_bytes-to_le_bytes_4, from_le_bytes-to_le_bytes_8, le_bytes_4, le_bytes_8}
-use Rattle.row_codec.specs.Read.{and_then, byte_at, bytes_at, eight_at, four_at, tested, text_at}
-use Rattle.row_codec.specs.RowBytes.{eight_bytes, four_bytes, text_bytes}
+use Rattle.row_codec.specs.Read.{and_then, one_byte, some_bytes, eight_at, four_at, tested, text_in_front}
+use Rattle.row_codec.specs.RowBytes.{eight_bytes, four_bytes, spelled_text}
 use Rattle.row_codec.specs.declared.fault.CodecFault.{CodecFault}
 use Rattle.row_codec.specs.declared.fault.CodecFault.TheVariants.{Short}
 
@@ -82,8 +82,8 @@ test_failed true x xs fault h =
 test_failed false x xs fault h = refl
 
 -- a byte
-pub byte_written : (bytes : List ℕ) (b : ℕ) (rest : List ℕ) → byte_at bytes ≡ Ok (b, rest) → bytes ≡ b ∷ rest
-unfolding byte_at
+pub byte_written : (bytes : List ℕ) (b : ℕ) (rest : List ℕ) → one_byte bytes ≡ Ok (b, rest) → bytes ≡ b ∷ rest
+unfolding one_byte
 byte_written [] b rest h = cc
 byte_written (a ∷ bytes) b rest h =
     let same : (a, bytes) ≡ (b, rest) = cc in ap (λ (p : ℕ × List ℕ). p.0 ∷ p.1) same
@@ -128,8 +128,8 @@ unfolding eight_at eight_bytes
 eight_read n rest h = ap (λ (m : ℕ). Ok (m, rest)) (from_le_bytes-to_le_bytes_8 n h)
 
 -- so many bytes
-pub bytes_written : (count : ℕ) (bytes x rest : List ℕ) → bytes_at count bytes ≡ Ok (x, rest) → (length x ≡ count) × (bytes ≡ x ++ rest)
-unfolding bytes_at
+pub bytes_written : (count : ℕ) (bytes x rest : List ℕ) → some_bytes count bytes ≡ Ok (x, rest) → (length x ≡ count) × (bytes ≡ x ++ rest)
+unfolding some_bytes
 bytes_written count bytes x rest h = by_test (nat_lt (length bytes) count) refl h
   where
     by_test : (short : Bool) → nat_lt (length bytes) count ≡ short → cond short (Err Short) (given (take count bytes) (drop count bytes)) ≡ given x rest → (length x ≡ count) × (bytes ≡ x ++ rest)
@@ -140,15 +140,15 @@ bytes_written count bytes x rest h = by_test (nat_lt (length bytes) count) refl 
         subst (λ (p : List ℕ × List ℕ). (length p.0 ≡ count) × (bytes ≡ p.0 ++ p.1)) same
         (length-take-le count bytes (ltb-false (length bytes) count s), sym (take-append-drop count bytes))
 
-pub bytes_read : (x rest : List ℕ) → bytes_at (length x) (x ++ rest) ≡ Ok (x, rest)
-unfolding bytes_at
+pub bytes_read : (x rest : List ℕ) → some_bytes (length x) (x ++ rest) ≡ Ok (x, rest)
+unfolding some_bytes
 bytes_read x rest =
     ap (λ (short : Bool). cond short (Err Short) (given (take (length x) (x ++ rest)) (drop (length x) (x ++ rest)))) (le-ltb (length (x ++ rest)) (length x) (simp length-append (omega arith)))
     ∙ ap (λ (front : List ℕ). given front (drop (length x) (x ++ rest))) (take-append_seam x rest) ∙ ap (given x) (drop-append_seam x rest)
 
 -- texts
-pub text_written : (bytes x rest : List ℕ) → AreBytes bytes → text_at bytes ≡ Ok (x, rest) → bytes ≡ text_bytes x ++ rest
-unfolding text_at
+pub text_written : (bytes x rest : List ℕ) → AreBytes bytes → text_in_front bytes ≡ Ok (x, rest) → bytes ≡ spelled_text x ++ rest
+unfolding text_in_front
 text_written bytes x rest h e =
     let first = led _ _ _ e in
     let number = four_written bytes first.part first.rest h first.read in
@@ -156,7 +156,7 @@ text_written bytes x rest h e =
     number.written ∙ ap (λ (n : ℕ). four_bytes n ++ first.rest) (sym parts.0) ∙ ap (λ (ys : List ℕ). four_bytes (length x) ++ ys) parts.1
     ∙ sym (append_assoc (four_bytes (length x)) x rest)
 
-pub text_read : (x rest : List ℕ) → length x < 2 ^ 32 → text_at (text_bytes x ++ rest) ≡ Ok (x, rest)
-unfolding text_at
+pub text_read : (x rest : List ℕ) → length x < 2 ^ 32 → text_in_front (spelled_text x ++ rest) ≡ Ok (x, rest)
+unfolding text_in_front
 text_read x rest h =
-    ap text_at (append_assoc (four_bytes (length x)) x rest) ∙ leads _ _ _ _ _ (four_read (length x) (x ++ rest) h) (bytes_read x rest)
+    ap text_in_front (append_assoc (four_bytes (length x)) x rest) ∙ leads _ _ _ _ _ (four_read (length x) (x ++ rest) h) (bytes_read x rest)

@@ -30,8 +30,8 @@ use Rattle.row_types.specs.declared.stamp.TheConstants.{NANOS_PER_SECOND}
 use Rattle.row_types.proofs.AscendsLemmas.{before_from_test, first_related, rest_related}
 use Rattle.row_types.proofs.PartLemmas.{stamp_from}
 use Rattle.row_codec.specs.Spelled.{AreSources, IsPathText, IsSpelledReading, IsStamp}
-use Rattle.row_codec.specs.RowBytes.{IsRowBytes, eight_bytes, flags_byte, four_bytes, ident_bytes, reading_bytes, sources_bytes, stamp_bytes, text_bytes, why_byte}
-use Rattle.row_codec.specs.Read.{HasPath, and_then, at_end, byte_at, edition_at, flags_of, id_at, ident_at, is_above, is_id_length, is_path_text, known, path_at, paths_at, reading_at, row_at, sources_at, stamp_at, tagged_at, tested, text_at, why_at, why_of}
+use Rattle.row_codec.specs.RowBytes.{IsRowBytes, eight_bytes, flags_byte, four_bytes, ident_bytes, reading_bytes, sources_bytes, stamp_bytes, spelled_text, why_byte}
+use Rattle.row_codec.specs.Read.{HasPathInFront, and_then, row_at_end, one_byte, edition_at, flags_of, id_at, ident_at, is_above, is_id_length, is_path_text, known, path_at, paths_at, reading_at, row_of_bytes, sources_at, stamp_in_front, tagged_at, tested, text_in_front, why_at, why_of_number}
 use Rattle.row_codec.specs.declared.codes.TheConstants.{PLAIN_TAG, ELF_TAG}
 use Rattle.row_codec.specs.declared.fault.CodecFault.{CodecFault}
 use Rattle.row_codec.specs.declared.fault.CodecFault.TheVariants.{BadTag, BadText, BadOrder, Trailing}
@@ -55,16 +55,16 @@ text_path x h =
 short_path : (text : List ℕ) → IsPathText text → length text < 2 ^ 32
 short_path text h = omega (arith, h.canonical.short)
 
-path_written : (bytes x rest : List ℕ) → AreBytes bytes → path_at bytes ≡ Ok (x, rest) → IsPathText x × (bytes ≡ text_bytes x ++ rest)
+path_written : (bytes x rest : List ℕ) → AreBytes bytes → path_at bytes ≡ Ok (x, rest) → IsPathText x × (bytes ≡ spelled_text x ++ rest)
 unfolding path_at
 path_written bytes x rest h e =
     let one = led _ _ _ e in
     let passed = test_passed (is_path_text one.part) one.part x one.rest rest BadText one.then in (
       path_text x (ap is_path_text (sym passed.1) ∙ passed.0),
-      text_written bytes one.part one.rest h one.read ∙ ap (λ (t : List ℕ). text_bytes t ++ one.rest) passed.1 ∙ ap (λ (r : List ℕ). text_bytes x ++ r) passed.2,
+      text_written bytes one.part one.rest h one.read ∙ ap (λ (t : List ℕ). spelled_text t ++ one.rest) passed.1 ∙ ap (λ (r : List ℕ). spelled_text x ++ r) passed.2,
     )
 
-path_read : (x rest : List ℕ) → IsPathText x → path_at (text_bytes x ++ rest) ≡ Ok (x, rest)
+path_read : (x rest : List ℕ) → IsPathText x → path_at (spelled_text x ++ rest) ≡ Ok (x, rest)
 unfolding path_at
 path_read x rest h = leads _ _ _ _ _ (text_read x rest (short_path x h)) (passes_test (is_path_text x) x rest BadText (text_path x h))
 
@@ -72,8 +72,8 @@ path_read x rest h = leads _ _ _ _ _ (text_read x rest (short_path x h)) (passes
 regroup : (a b c d : List ℕ) → ((a ++ b) ++ c) ++ d ≡ a ++ (b ++ (c ++ d))
 regroup a b c d = simp append_assoc
 
-stamp_written : (bytes : List ℕ) (s : StampFacts) (rest : List ℕ) → AreBytes bytes → stamp_at bytes ≡ Ok (s, rest) → IsStamp s × (bytes ≡ stamp_bytes s ++ rest)
-unfolding stamp_at
+stamp_written : (bytes : List ℕ) (s : StampFacts) (rest : List ℕ) → AreBytes bytes → stamp_in_front bytes ≡ Ok (s, rest) → IsStamp s × (bytes ≡ stamp_bytes s ++ rest)
+unfolding stamp_in_front
 stamp_written bytes s rest h e =
     let one = led _ _ _ e in
     let size = eight_written bytes one.part one.rest h one.read in
@@ -96,13 +96,13 @@ unsigned_below : (z : ℤ) → FitsSigned w64 z → cast_unsigned w64 z < 2 ^ 64
 unsigned_below (pos n) h = omega (arith, h.sfits)
 unsigned_below (negsuc n) h = omega arith
 
-stamp_read : (s : StampFacts) (rest : List ℕ) → IsStamp s → stamp_at (stamp_bytes s ++ rest) ≡ Ok (s, rest)
-unfolding stamp_at
+stamp_read : (s : StampFacts) (rest : List ℕ) → IsStamp s → stamp_in_front (stamp_bytes s ++ rest) ≡ Ok (s, rest)
+unfolding stamp_in_front
 stamp_read s rest h =
     let last : tested (nat_lt s.nanos NANOS_PER_SECOND) (stamp_from s.size (cast_signed w64 (cast_unsigned w64 s.secs)) s.nanos) rest BadTag ≡ Ok (s, rest) =
     passes_test (nat_lt s.nanos NANOS_PER_SECOND) (stamp_from s.size (cast_signed w64 (cast_unsigned w64 s.secs)) s.nanos) rest BadTag (lt-ltb s.nanos NANOS_PER_SECOND h.nanos)
     ∙ ap (λ (z : ℤ). Ok (stamp_from s.size z s.nanos, rest)) (to_z-of_z w64 s.secs h.secs) in
-    ap stamp_at (regroup (eight_bytes s.size) (eight_bytes (cast_unsigned w64 s.secs)) (four_bytes s.nanos) rest)
+    ap stamp_in_front (regroup (eight_bytes s.size) (eight_bytes (cast_unsigned w64 s.secs)) (four_bytes s.nanos) rest)
     ∙ leads _ _ _ _ _ (eight_read s.size (eight_bytes (cast_unsigned w64 s.secs) ++ (four_bytes s.nanos ++ rest)) h.size)
     (leads _ _ _ _ _ (eight_read (cast_unsigned w64 s.secs) (four_bytes s.nanos ++ rest) (unsigned_below s.secs h.secs))
     (leads _ _ _ _ _ (four_read s.nanos rest (omega (arith, h.nanos))) last))
@@ -121,8 +121,8 @@ chosen spell n x w o later h =
       | false ↦ λ e k. later k
     ] refl h
 
-why_back : (n : ℕ) (w : Why) → why_of n ≡ Some w → n ≡ why_byte w
-unfolding why_of
+why_back : (n : ℕ) (w : Why) → why_of_number n ≡ Some w → n ≡ why_byte w
+unfolding why_of_number
 why_back n w h =
     chosen why_byte n NotElf w _
     (chosen why_byte n BadElf w _ (chosen why_byte n NoSections w _ (chosen why_byte n Core w _ (chosen why_byte n NoBuildId w _ (chosen why_byte n TooLarge w _ (λ k. let none : ⊥ = cc in absurd none)))))) h
@@ -131,15 +131,15 @@ why_written : (bytes : List ℕ) (w : Why) (rest : List ℕ) → why_at bytes �
 unfolding why_at
 why_written bytes w rest e =
     let one = led _ _ _ e in
-    let said = known_is (why_of one.part) w one.rest rest one.then in
+    let said = known_is (why_of_number one.part) w one.rest rest one.then in
     byte_written bytes one.part one.rest one.read ∙ ap (λ (n : ℕ). n ∷ one.rest) (why_back one.part w said.0) ∙ ap (λ (r : List ℕ). why_byte w ∷ r) said.1
 
-byte_read : (b : ℕ) (rest : List ℕ) → byte_at (b ∷ rest) ≡ Ok (b, rest)
-unfolding byte_at
+byte_read : (b : ℕ) (rest : List ℕ) → one_byte (b ∷ rest) ≡ Ok (b, rest)
+unfolding one_byte
 byte_read b rest = refl
 
-why_again : (w : Why) (rest : List ℕ) → known (why_of (why_byte w)) rest ≡ Ok (w, rest)
-unfolding why_of
+why_again : (w : Why) (rest : List ℕ) → known (why_of_number (why_byte w)) rest ≡ Ok (w, rest)
+unfolding why_of_number
 why_again NotElf rest = refl
 why_again BadElf rest = refl
 why_again NoSections rest = refl
@@ -254,7 +254,7 @@ record ReadPaths (count : ℕ) (last : Option (List ℕ)) (bytes : List ℕ) (ps
   counted : length ps ≡ count
   texts : AllByRecursion IsPathText ps
   follow : Follows last ps
-  written : bytes ≡ flat_map text_bytes ps ++ rest
+  written : bytes ≡ flat_map spelled_text ps ++ rest
 
 paths_written : (count : ℕ) (last : Option (List ℕ)) (bytes : List ℕ) (ps : List (List ℕ)) (rest : List ℕ) → AreBytes bytes → paths_at count last bytes ≡ Ok (ps, rest) → ReadPaths count last bytes ps rest
 unfolding paths_at
@@ -267,7 +267,7 @@ paths_written (suc count) last bytes ps rest h e =
     let two = led _ _ _ one.then in
     let passed = test_passed (is_above last one.part) one.part two.part one.rest two.rest BadOrder two.read in
     let three = led _ _ _ two.then in
-    let g : AreBytes two.rest = subst AreBytes passed.2 (behind_bytes (text_bytes one.part) one.rest (subst AreBytes path.1 h)) in
+    let g : AreBytes two.rest = subst AreBytes passed.2 (behind_bytes (spelled_text one.part) one.rest (subst AreBytes path.1 h)) in
     let more = paths_written count (Some two.part) two.rest three.part three.rest g three.read in
     let same : (two.part ∷ three.part, three.rest) ≡ (ps, rest) = cc (three.then) in
     let counted = more.counted in
@@ -276,17 +276,17 @@ paths_written (suc count) last bytes ps rest h e =
       counted = omega arith;
       texts = (subst IsPathText passed.1 path.0, more.texts);
       follow = (ap (is_above last) (sym passed.1) ∙ passed.0, more.follow);
-      written = path.1 ∙ ap (λ (t : List ℕ). text_bytes t ++ one.rest) passed.1 ∙ ap (λ (r : List ℕ). text_bytes two.part ++ r) (passed.2 ∙ more.written)
-          ∙ sym (append_assoc (text_bytes two.part) (flat_map text_bytes three.part) three.rest);
+      written = path.1 ∙ ap (λ (t : List ℕ). spelled_text t ++ one.rest) passed.1 ∙ ap (λ (r : List ℕ). spelled_text two.part ++ r) (passed.2 ∙ more.written)
+          ∙ sym (append_assoc (spelled_text two.part) (flat_map spelled_text three.part) three.rest);
     })
 
-paths_read : (ps : List (List ℕ)) (last : Option (List ℕ)) (rest : List ℕ) → AllByRecursion IsPathText ps → Follows last ps → paths_at (length ps) last (flat_map text_bytes ps ++ rest) ≡ Ok (ps, rest)
+paths_read : (ps : List (List ℕ)) (last : Option (List ℕ)) (rest : List ℕ) → AllByRecursion IsPathText ps → Follows last ps → paths_at (length ps) last (flat_map spelled_text ps ++ rest) ≡ Ok (ps, rest)
 unfolding paths_at
 paths_read [] last rest t f = refl
 paths_read (p ∷ ps) last rest t f =
-    ap (paths_at (suc (length ps)) last) (append_assoc (text_bytes p) (flat_map text_bytes ps) rest)
-    ∙ leads _ _ _ _ _ (path_read p (flat_map text_bytes ps ++ rest) t.0)
-    (leads _ _ _ _ _ (passes_test (is_above last p) p (flat_map text_bytes ps ++ rest) BadOrder f.0) (leads _ _ _ _ _ (paths_read ps (Some p) rest t.1 f.1) refl))
+    ap (paths_at (suc (length ps)) last) (append_assoc (spelled_text p) (flat_map spelled_text ps) rest)
+    ∙ leads _ _ _ _ _ (path_read p (flat_map spelled_text ps ++ rest) t.0)
+    (leads _ _ _ _ _ (passes_test (is_above last p) p (flat_map spelled_text ps ++ rest) BadOrder f.0) (leads _ _ _ _ _ (paths_read ps (Some p) rest t.1 f.1) refl))
 
 -- sources
 sources_written : (bytes : List ℕ) (ps : List (List ℕ)) (rest : List ℕ) → AreBytes bytes → sources_at bytes ≡ Ok (ps, rest) → AreSources ps × (bytes ≡ sources_bytes ps ++ rest)
@@ -300,15 +300,15 @@ sources_written bytes ps rest h e =
         paths = All-from_recursion IsPathText ps paths.texts;
         ascend = ascends None ps paths.follow;
       },
-      number.written ∙ ap (λ (r : List ℕ). four_bytes one.part ++ r) paths.written ∙ ap (λ (n : ℕ). four_bytes n ++ (flat_map text_bytes ps ++ rest)) (sym paths.counted)
-          ∙ sym (append_assoc (four_bytes (length ps)) (flat_map text_bytes ps) rest),
+      number.written ∙ ap (λ (r : List ℕ). four_bytes one.part ++ r) paths.written ∙ ap (λ (n : ℕ). four_bytes n ++ (flat_map spelled_text ps ++ rest)) (sym paths.counted)
+          ∙ sym (append_assoc (four_bytes (length ps)) (flat_map spelled_text ps) rest),
     )
 
 sources_read : (ps : List (List ℕ)) (rest : List ℕ) → AreSources ps → sources_at (sources_bytes ps ++ rest) ≡ Ok (ps, rest)
 unfolding sources_at
 sources_read ps rest h =
-    ap sources_at (append_assoc (four_bytes (length ps)) (flat_map text_bytes ps) rest)
-    ∙ leads _ _ _ _ _ (four_read (length ps) (flat_map text_bytes ps ++ rest) h.few) (paths_read ps None rest (recursion_from_All IsPathText ps h.paths) (follow ps h.ascend))
+    ap sources_at (append_assoc (four_bytes (length ps)) (flat_map spelled_text ps) rest)
+    ∙ leads _ _ _ _ _ (four_read (length ps) (flat_map spelled_text ps ++ rest) h.few) (paths_read ps None rest (recursion_from_All IsPathText ps h.paths) (follow ps h.ascend))
 
 -- readings
 by_tag : {Z : Type 0} (b c : Bool) (p q : Result Z CodecFault) (z : Z) → cond b p (cond c q (Err BadTag)) ≡ Ok z → ((b ≡ true) × (p ≡ Ok z)) ⊎ ((c ≡ true) × (q ≡ Ok z))
@@ -390,18 +390,18 @@ reading_read (Elf ident sources) rest h =
     (leads _ _ _ _ _ (ap ident_at (append_assoc (ident_bytes ident) (sources_bytes sources) rest) ∙ ident_read ident (sources_bytes sources ++ rest) h.0) (leads _ _ _ _ _ (sources_read sources rest h.1) refl))
 
 -- a path has its text
-pub path_has_text : (bytes path rest : List ℕ) → path_at bytes ≡ Ok (path, rest) → IsOk (text_at bytes)
+pub path_has_text : (bytes path rest : List ℕ) → path_at bytes ≡ Ok (path, rest) → IsOk (text_in_front bytes)
 unfolding path_at
 path_has_text bytes path rest e =
     let one = led _ _ _ e in subst IsOk (sym one.read) refl
 
 -- an edition, and the text of a path
-pub has_path : (bytes : List ℕ) (edition : ℕ) (rest : List ℕ) → edition_at bytes ≡ Ok (edition, rest) → IsOk (text_at rest) → HasPath bytes
-unfolding HasPath
+pub has_path : (bytes : List ℕ) (edition : ℕ) (rest : List ℕ) → edition_at bytes ≡ Ok (edition, rest) → IsOk (text_in_front rest) → HasPathInFront bytes
+unfolding HasPathInFront
 has_path bytes edition rest e text = subst IsOk (sym (leads _ _ _ _ _ e refl)) text
 
 -- rows
-pub not_ended : (row : RowFacts) (rest : List ℕ) → (rest ≡ [] → ⊥) → at_end row rest ≡ Err Trailing
+pub not_ended : (row : RowFacts) (rest : List ℕ) → (rest ≡ [] → ⊥) → row_at_end row rest ≡ Err Trailing
 not_ended row [] h = absurd (h refl)
 not_ended row (b ∷ rest) h = refl
 
@@ -409,7 +409,7 @@ not_ended row (b ∷ rest) h = refl
 abbrev pub rows_from : ℕ → List ℕ → StampFacts → Reading → RowFacts
 rows_from edition path stamp reading = record { name = record { path = path; stamp = stamp }; edition = edition; reading = reading }
 
-ended : (row other : RowFacts) (rest : List ℕ) → at_end row rest ≡ Ok other → (row ≡ other) × (rest ≡ [])
+ended : (row other : RowFacts) (rest : List ℕ) → row_at_end row rest ≡ Ok other → (row ≡ other) × (rest ≡ [])
 ended row other [] h = (cc, refl)
 ended row other (b ∷ rest) h =
     let none : ⊥ = cc in absurd none
@@ -423,15 +423,15 @@ edition_written bytes edition rest e =
     (subst (λ (k : ℕ). 1 ≤ k) passed.1 (ltb-true 0 n passed.0), byte_written bytes n one read ∙ ap (λ (k : ℕ). k ∷ one) passed.1 ∙ ap (λ (xs : List ℕ). edition ∷ xs) passed.2))
 
 -- the parts of a row, one behind the other
-row_joined : (bytes one two three four path : List ℕ) (edition : ℕ) (stamp : StampFacts) (reading : Reading) → bytes ≡ edition ∷ one → one ≡ text_bytes path ++ two → two ≡ stamp_bytes stamp ++ three → three ≡ reading_bytes reading ++ four → four ≡ [] → bytes ≡ edition ∷ (text_bytes path ++ stamp_bytes stamp ++ reading_bytes reading)
+row_joined : (bytes one two three four path : List ℕ) (edition : ℕ) (stamp : StampFacts) (reading : Reading) → bytes ≡ edition ∷ one → one ≡ spelled_text path ++ two → two ≡ stamp_bytes stamp ++ three → three ≡ reading_bytes reading ++ four → four ≡ [] → bytes ≡ edition ∷ (spelled_text path ++ stamp_bytes stamp ++ reading_bytes reading)
 row_joined bytes one two three four path edition stamp reading p q r s t =
     p
     ∙ ap (λ (xs : List ℕ). edition ∷ xs)
-    (q ∙ ap (λ (xs : List ℕ). text_bytes path ++ xs) (r ∙ ap (λ (xs : List ℕ). stamp_bytes stamp ++ xs) (s ∙ ap (λ (xs : List ℕ). reading_bytes reading ++ xs) t ∙ append-nil (reading_bytes reading)))
-    ∙ sym (append_assoc (text_bytes path) (stamp_bytes stamp) (reading_bytes reading)))
+    (q ∙ ap (λ (xs : List ℕ). spelled_text path ++ xs) (r ∙ ap (λ (xs : List ℕ). stamp_bytes stamp ++ xs) (s ∙ ap (λ (xs : List ℕ). reading_bytes reading ++ xs) t ∙ append-nil (reading_bytes reading)))
+    ∙ sym (append_assoc (spelled_text path) (stamp_bytes stamp) (reading_bytes reading)))
 
-pub row_written : (row : RowFacts) (bytes : List ℕ) → AreBytes bytes → row_at bytes ≡ Ok row → IsRowBytes row bytes
-unfolding row_at
+pub row_written : (row : RowFacts) (bytes : List ℕ) → AreBytes bytes → row_of_bytes bytes ≡ Ok row → IsRowBytes row bytes
+unfolding row_of_bytes
 row_written row bytes h e =
     by_led _ _ _ _ e (λ edition one edition_read then_path.
     by_led _ _ _ _ then_path (λ path two path_is then_stamp.
@@ -440,7 +440,7 @@ row_written row bytes h e =
     let first = edition_written bytes edition one edition_read in
     let h_one = behind_bytes (edition ∷ []) one (subst AreBytes first.1 h) in
     let second = path_written one path two h_one path_is in
-    let h_two = behind_bytes (text_bytes path) two (subst AreBytes second.1 h_one) in
+    let h_two = behind_bytes (spelled_text path) two (subst AreBytes second.1 h_one) in
     let third = stamp_written two stamp three h_two stamp_is in
     let h_three = behind_bytes (stamp_bytes stamp) three (subst AreBytes third.1 h_two) in
     let fourth = reading_written three reading four h_three reading_is in
@@ -451,16 +451,16 @@ row_written row bytes h e =
       written = row_joined bytes one two three four path edition stamp reading first.1 second.1 third.1 fourth.1 end.1;
     })))))
 
-pub row_read : (row : RowFacts) (bytes : List ℕ) → IsRowBytes row bytes → row_at bytes ≡ Ok row
-unfolding row_at edition_at
+pub row_read : (row : RowFacts) (bytes : List ℕ) → IsRowBytes row bytes → row_of_bytes bytes ≡ Ok row
+unfolding row_of_bytes edition_at
 row_read row bytes h =
     let s = h.spelled in
-    let text = text_bytes row.name.path in
+    let text = spelled_text row.name.path in
     let stamp = stamp_bytes row.name.stamp in
     let reading = reading_bytes row.reading in
     let grouped : bytes ≡ row.edition ∷ (text ++ (stamp ++ (reading ++ []))) =
     h.written ∙ ap (λ (xs : List ℕ). row.edition ∷ xs) (append_assoc text stamp reading ∙ ap (λ (xs : List ℕ). text ++ (stamp ++ xs)) (sym (append-nil reading))) in
-    ap row_at grouped
+    ap row_of_bytes grouped
     ∙ leads _ _ _ _ _ (leads _ _ _ _ _ (byte_read row.edition (text ++ (stamp ++ (reading ++ [])))) (passes_test (nat_lt 0 row.edition) row.edition (text ++ (stamp ++ (reading ++ []))) BadTag (lt-ltb 0 row.edition s.least)))
     (leads _ _ _ _ _ (path_read row.name.path (stamp ++ (reading ++ [])) s.path)
     (leads _ _ _ _ _ (stamp_read row.name.stamp (reading ++ []) s.stamp) (leads _ _ _ _ _ (reading_read row.reading [] s.reading) refl)))

@@ -36,9 +36,9 @@ known None rest = Err BadTag
 known (Some part) rest = Ok (part, rest)
 
 -- a byte
-unfoldable pub byte_at : List ℕ → Result (ℕ × List ℕ) CodecFault
-byte_at [] = Err Short
-byte_at (b ∷ rest) = Ok (b, rest)
+unfoldable pub one_byte : List ℕ → Result (ℕ × List ℕ) CodecFault
+one_byte [] = Err Short
+one_byte (b ∷ rest) = Ok (b, rest)
 
 -- a number in four bytes
 unfoldable pub four_at : List ℕ → Result (ℕ × List ℕ) CodecFault
@@ -52,16 +52,16 @@ eight_at (a ∷ b ∷ c ∷ d ∷ e ∷ f ∷ g ∷ h ∷ rest) =
 eight_at _ = Err Short
 
 -- so many bytes
-unfoldable pub bytes_at : ℕ → List ℕ → Result (List ℕ × List ℕ) CodecFault
-bytes_at count bytes = if nat_lt (length bytes) count then Err Short else Ok (take count bytes, drop count bytes)
+unfoldable pub some_bytes : ℕ → List ℕ → Result (List ℕ × List ℕ) CodecFault
+some_bytes count bytes = if nat_lt (length bytes) count then Err Short else Ok (take count bytes, drop count bytes)
 
 -- an edition
 unfoldable pub edition_at : List ℕ → Result (ℕ × List ℕ) CodecFault
-edition_at bytes = and_then (byte_at bytes) (λ edition rest. tested (nat_lt 0 edition) edition rest BadTag)
+edition_at bytes = and_then (one_byte bytes) (λ edition rest. tested (nat_lt 0 edition) edition rest BadTag)
 
 -- a text: its length, and so many bytes
-unfoldable pub text_at : List ℕ → Result (List ℕ × List ℕ) CodecFault
-text_at bytes = and_then (four_at bytes) (λ count rest. bytes_at count rest)
+unfoldable pub text_in_front : List ℕ → Result (List ℕ × List ℕ) CodecFault
+text_in_front bytes = and_then (four_at bytes) (λ count rest. some_bytes count rest)
 
 -- whether a text is that of a path that is kept
 abbrev pub is_path_text : List ℕ → Bool
@@ -69,19 +69,19 @@ is_path_text text = is_utf8 text && is_canonical text && not (nat_lt PATH_LIMIT 
 
 -- a path
 unfoldable pub path_at : List ℕ → Result (List ℕ × List ℕ) CodecFault
-path_at bytes = and_then (text_at bytes) (λ text rest. tested (is_path_text text) text rest BadText)
+path_at bytes = and_then (text_in_front bytes) (λ text rest. tested (is_path_text text) text rest BadText)
 
 -- a stamp
-unfoldable pub stamp_at : List ℕ → Result (StampFacts × List ℕ) CodecFault
-stamp_at bytes =
+unfoldable pub stamp_in_front : List ℕ → Result (StampFacts × List ℕ) CodecFault
+stamp_in_front bytes =
     and_then (eight_at bytes) (λ size rest.
     and_then (eight_at rest) (λ secs rest.
     and_then (four_at rest) (λ nanos rest.
     tested (nat_lt nanos NANOS_PER_SECOND) (record { size = size; secs = cast_signed w64 secs; nanos = nanos }) rest BadTag)))
 
 -- the reason that has the number
-unfoldable pub why_of : ℕ → Option Why
-why_of n =
+unfoldable pub why_of_number : ℕ → Option Why
+why_of_number n =
     if n == why_byte NotElf then Some NotElf
     else if n == why_byte BadElf then Some BadElf
     else if n == why_byte NoSections then Some NoSections
@@ -92,7 +92,7 @@ why_of n =
 
 -- why a file has no identity
 unfoldable pub why_at : List ℕ → Result (Why × List ℕ) CodecFault
-why_at bytes = and_then (byte_at bytes) (λ number rest. known (why_of number) rest)
+why_at bytes = and_then (one_byte bytes) (λ number rest. known (why_of_number number) rest)
 
 -- the flags that have the sum
 unfoldable pub flags_of : ℕ → Option Flags
@@ -110,13 +110,13 @@ is_id_length count = not (nat_lt count SHORTEST_ID) && not (nat_lt LONGEST_ID co
 -- an id: its length, and so many bytes
 unfoldable pub id_at : List ℕ → Result (List ℕ × List ℕ) CodecFault
 id_at bytes =
-    and_then (byte_at bytes) (λ count rest.
-    and_then (tested (is_id_length count) count rest BadTag) (λ count rest. bytes_at count rest))
+    and_then (one_byte bytes) (λ count rest.
+    and_then (tested (is_id_length count) count rest BadTag) (λ count rest. some_bytes count rest))
 
 -- an identity: its flags and its id
 unfoldable pub ident_at : List ℕ → Result (Identity × List ℕ) CodecFault
 ident_at bytes =
-    and_then (byte_at bytes) (λ sum rest.
+    and_then (one_byte bytes) (λ sum rest.
     and_then (known (flags_of sum) rest) (λ flags rest.
     and_then (id_at rest) (λ id rest. Ok (record { id = id; exec = flags.exec; debug = flags.debug }, rest))))
 
@@ -147,22 +147,22 @@ tagged_at tag bytes =
 
 -- a reading: its tag, and what stands behind it
 unfoldable pub reading_at : List ℕ → Result (Reading × List ℕ) CodecFault
-reading_at bytes = and_then (byte_at bytes) (λ tag rest. tagged_at tag rest)
+reading_at bytes = and_then (one_byte bytes) (λ tag rest. tagged_at tag rest)
 
 -- a row, behind which nothing stands
-abbrev pub at_end : RowFacts → List ℕ → Result RowFacts CodecFault
-at_end row [] = Ok row
-at_end row (b ∷ rest) = Err Trailing
+abbrev pub row_at_end : RowFacts → List ℕ → Result RowFacts CodecFault
+row_at_end row [] = Ok row
+row_at_end row (b ∷ rest) = Err Trailing
 
 -- the row of the bytes, or their first fault
-unfoldable pub row_at : List ℕ → Result RowFacts CodecFault
-row_at bytes =
+unfoldable pub row_of_bytes : List ℕ → Result RowFacts CodecFault
+row_of_bytes bytes =
     and_then (edition_at bytes) (λ edition rest.
     and_then (path_at rest) (λ path rest.
-    and_then (stamp_at rest) (λ stamp rest.
+    and_then (stamp_in_front rest) (λ stamp rest.
     and_then (reading_at rest) (λ reading rest.
-    at_end (record { name = record { path = path; stamp = stamp }; edition = edition; reading = reading }) rest))))
+    row_at_end (record { name = record { path = path; stamp = stamp }; edition = edition; reading = reading }) rest))))
 
 -- an edition and the text of a path stand in front: where these are read, memory may be wanting
-unfoldable pub HasPath : List ℕ → Type 0
-HasPath bytes = IsOk (and_then (edition_at bytes) (λ edition rest. text_at rest))
+unfoldable pub HasPathInFront : List ℕ → Type 0
+HasPathInFront bytes = IsOk (and_then (edition_at bytes) (λ edition rest. text_in_front rest))

@@ -23,8 +23,8 @@ unfoldable pub eight_bytes : ℕ → List ℕ
 eight_bytes number = to_le_bytes w64 number
 
 -- a text: its length in four bytes, and its bytes
-abbrev pub text_bytes : List ℕ → List ℕ
-text_bytes text = four_bytes (length text) ++ text
+abbrev pub spelled_text : List ℕ → List ℕ
+spelled_text text = four_bytes (length text) ++ text
 
 -- a stamp: size, seconds in two's complement, nanoseconds
 abbrev pub stamp_bytes : StampFacts → List ℕ
@@ -50,7 +50,7 @@ ident_bytes ident = flags_byte ident.exec ident.debug ∷ length ident.id ∷ id
 
 -- sources: their number in four bytes, and each as a text
 abbrev pub sources_bytes : List (List ℕ) → List ℕ
-sources_bytes sources = four_bytes (length sources) ++ flat_map text_bytes sources
+sources_bytes sources = four_bytes (length sources) ++ flat_map spelled_text sources
 
 -- a reading: its tag, and what stands behind it
 abbrev pub reading_bytes : Reading → List ℕ
@@ -59,7 +59,7 @@ reading_bytes (Elf ident sources) = ELF_TAG ∷ (ident_bytes ident ++ sources_by
 
 -- a row: its edition, path, stamp and reading
 abbrev pub row_bytes : RowFacts → List ℕ
-row_bytes row = row.edition ∷ (text_bytes row.name.path ++ stamp_bytes row.name.stamp ++ reading_bytes row.reading)
+row_bytes row = row.edition ∷ (spelled_text row.name.path ++ stamp_bytes row.name.stamp ++ reading_bytes row.reading)
 
 -- the bytes are those of the row
 pub record IsRowBytes (row : RowFacts) (bytes : List ℕ) : Type 0 where

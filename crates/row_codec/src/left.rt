@@ -1,8 +1,8 @@
 //! Bytes that are read from the front.
 
 ghost use Rattle.std.specs.Prelude.{◌≡◌, [], ◌↔◌, IsTrue, IfOk, length};
-ghost use Rattle.row_codec.specs.Read.{byte_at, bytes_at, eight_at, four_at, text_at};
-ghost use Rattle.row_codec.specs.Reads.{Reads, ReadsBytes};
+ghost use Rattle.row_codec.specs.Read.{one_byte, some_bytes, eight_at, four_at, text_in_front};
+ghost use Rattle.row_codec.specs.Reads.{ReadsFront, ReadsLentFront};
 
 use crate::fault::CodecFault;
 use std::marker::Model;
@@ -37,9 +37,9 @@ impl<'a> Left<'a> {
     }
 
     /// Reads a byte.
-    #[tactic(auto, unfolding(crate::specs::Read::byte_at))]
+    #[tactic(auto, unfolding(crate::specs::Read::one_byte))]
     pub(crate) fn byte(&mut self) -> Result<u8, CodecFault>
-        ensures { Reads (byte_at self.old) self.new result }
+        ensures { ReadsFront (one_byte self.old) self.new result }
     {
         match self.bytes {
             [byte, rest @ ..] => {
@@ -53,7 +53,7 @@ impl<'a> Left<'a> {
     /// Reads a number in four bytes.
     #[tactic(auto, unfolding(crate::specs::Read::four_at))]
     pub(crate) fn four(&mut self) -> Result<u32, CodecFault>
-        ensures { Reads (four_at self.old) self.new result }
+        ensures { ReadsFront (four_at self.old) self.new result }
     {
         match self.bytes {
             [a, b, c, d, rest @ ..] => {
@@ -67,7 +67,7 @@ impl<'a> Left<'a> {
     /// Reads a number in eight bytes.
     #[tactic(auto, unfolding(crate::specs::Read::eight_at))]
     pub(crate) fn eight(&mut self) -> Result<u64, CodecFault>
-        ensures { Reads (eight_at self.old) self.new result }
+        ensures { ReadsFront (eight_at self.old) self.new result }
     {
         match self.bytes {
             [a, b, c, d, e, f, g, h, rest @ ..] => {
@@ -79,9 +79,9 @@ impl<'a> Left<'a> {
     }
 
     /// Reads so many bytes.
-    #[tactic(auto, unfolding(crate::specs::Read::bytes_at))]
+    #[tactic(auto, unfolding(crate::specs::Read::some_bytes))]
     pub(crate) fn take(&mut self, count: usize) -> Result<&'a [u8], CodecFault>
-        ensures value { ReadsBytes (bytes_at count self.old) self.new result }
+        ensures value { ReadsLentFront (some_bytes count self.old) self.new result }
         ensures long { IfOk result (λ part. length part.now ≡ count) }
     {
         if self.bytes.len() < count {
@@ -94,7 +94,7 @@ impl<'a> Left<'a> {
 
     /// Reads a text.
     pub(crate) fn text(&mut self) -> Result<&'a [u8], CodecFault>
-        ensures { ReadsBytes (text_at self.old) self.new result }
+        ensures { ReadsLentFront (text_in_front self.old) self.new result }
     {
         let count = self.four()?;
         let text = self.take(count as usize)?;

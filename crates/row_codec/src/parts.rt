@@ -2,9 +2,9 @@
 
 ghost use Rattle.std.specs.Prelude.{◌≡◌, ◌≤◌, ◌↔◌, IfOk, IsTrue};
 ghost use Rattle.row_types.specs.BuildId.{IsIdLength};
-ghost use Rattle.row_codec.specs.Read.{edition_at, flags_of, id_at, ident_at, stamp_at, why_at};
-ghost use Rattle.row_codec.specs.Read.{why_of};
-ghost use Rattle.row_codec.specs.Reads.{Reads};
+ghost use Rattle.row_codec.specs.Read.{edition_at, flags_of, id_at, ident_at, stamp_in_front, why_at};
+ghost use Rattle.row_codec.specs.Read.{why_of_number};
+ghost use Rattle.row_codec.specs.Reads.{ReadsFront};
 
 use crate::codes::{BAD_ELF, CORE, NO_BUILD_ID, NO_SECTIONS, NOT_ELF, TOO_LARGE};
 use crate::fault::CodecFault;
@@ -14,7 +14,7 @@ use row_types::{BuildId, Ident, LONGEST_ID, NANOS_PER_SECOND, SHORTEST_ID, Stamp
 
 /// Reads an edition.
 pub(crate) fn read_edition(left: &mut Left<'_>) -> Result<u8, CodecFault>
-    ensures value { Reads (edition_at left.old) left.new result }
+    ensures value { ReadsFront (edition_at left.old) left.new result }
     ensures least { IfOk result (λ edition. 1 ≤ edition) }
 {
     let edition = left.byte()?;
@@ -26,7 +26,7 @@ pub(crate) fn read_edition(left: &mut Left<'_>) -> Result<u8, CodecFault>
 
 /// Reads a stamp.
 pub(crate) fn read_stamp(left: &mut Left<'_>) -> Result<Stamp, CodecFault>
-    ensures { Reads (stamp_at left.old) left.new result }
+    ensures { ReadsFront (stamp_in_front left.old) left.new result }
 {
     let size = left.eight()?;
     let secs = left.eight()?;
@@ -43,7 +43,7 @@ pub(crate) fn read_stamp(left: &mut Left<'_>) -> Result<Stamp, CodecFault>
 
 /// Reads why a file has no identity.
 pub(crate) fn read_why(left: &mut Left<'_>) -> Result<Why, CodecFault>
-    ensures { Reads (why_at left.old) left.new result }
+    ensures { ReadsFront (why_at left.old) left.new result }
 {
     let number = left.byte()?;
     match why_of(number) {
@@ -53,9 +53,9 @@ pub(crate) fn read_why(left: &mut Left<'_>) -> Result<Why, CodecFault>
 }
 
 /// The reason that has the number.
-#[tactic(auto, unfolding(crate::specs::Read::why_of))]
+#[tactic(auto, unfolding(crate::specs::Read::why_of_number))]
 fn why_of(number: u8) -> Option<Why>
-    ensures { result ≡ why_of number }
+    ensures { result ≡ why_of_number number }
 {
     match number {
         NOT_ELF => Some(Why::NotElf),
@@ -107,7 +107,7 @@ fn flags_of(sum: u8) -> Option<Flags>
 
 /// Reads an id.
 fn read_id(left: &mut Left<'_>) -> Result<BuildId, CodecFault>
-    ensures { Reads (id_at left.old) left.new result }
+    ensures { ReadsFront (id_at left.old) left.new result }
 {
     let count = left.byte()?;
     if !is_id_length(count) {
@@ -130,7 +130,7 @@ fn is_id_length(count: u8) -> bool
 
 /// Reads an identity.
 pub(crate) fn read_ident(left: &mut Left<'_>) -> Result<Ident, CodecFault>
-    ensures { Reads (ident_at left.old) left.new result }
+    ensures { ReadsFront (ident_at left.old) left.new result }
 {
     let sum = left.byte()?;
     let Some(Flags { exec, debug }) = flags_of(sum) else {

@@ -4,9 +4,9 @@ ghost use Rattle.std.specs.Prelude.{◌≡◌, ◌-◌, ◌⊎◌, true, false, 
 ghost use Rattle.std.specs.Prelude.{MatchResult};
 ghost use Rattle.std.specs.List.{slice_get};
 ghost use Rattle.row_types.specs.Row.{RowFacts};
-ghost use Rattle.row_codec.specs.Read.{is_above, is_path_text, reading_at, row_at};
+ghost use Rattle.row_codec.specs.Read.{is_above, is_path_text, reading_at, row_of_bytes};
 ghost use Rattle.row_codec.specs.Read.{sources_at, tagged_at};
-ghost use Rattle.row_codec.specs.Reads.{ReadsIfRoom, ReadsPath, Refuses};
+ghost use Rattle.row_codec.specs.Reads.{ReadsIfRoom, ReadsPath, RefusesRowBytes};
 ghost use Rattle.row_codec.specs.RowBytes.{IsRowBytes};
 
 use crate::codes::{ELF_TAG, PLAIN_TAG};
@@ -20,7 +20,7 @@ use std::alloc::Global;
 /// memory where the text that meets it is read.
 pub fn read_row(alloc: Global, bytes: &[u8]) -> Result<Row, CodecFault>
     ensures ok { IfOk result (λ row. IsRowBytes row bytes.now) }
-    ensures fault { IfErr result (Refuses bytes.now) }
+    ensures fault { IfErr result (RefusesRowBytes bytes.now) }
     ensures exact { (row : RowFacts) → IsRowBytes row bytes.now → (result ≡ Ok row) ⊎ (result ≡ Err
         CodecFault.OutOfMemory) }
 {
@@ -29,7 +29,7 @@ pub fn read_row(alloc: Global, bytes: &[u8]) -> Result<Row, CodecFault>
 
 /// Reads the parts of a row.
 fn read_parts(alloc: Global, bytes: &[u8]) -> Result<Row, CodecFault>
-    ensures { MatchResult result (λ row. row_at bytes.now ≡ Ok row) (Refuses bytes.now) }
+    ensures { MatchResult result (λ row. row_of_bytes bytes.now ≡ Ok row) (RefusesRowBytes bytes.now) }
 {
     let mut left = Left::new(bytes);
     let edition = read_edition(&mut left)?;

@@ -9,7 +9,7 @@ ghost use Rattle.row_codec.specs.Spelled.{IsPathText, IsStamp, AreSources, IsSpe
 ghost use Rattle.row_codec.specs.RowBytes.{IsOnlyRow, IsRowBytes, eight_bytes, flags_byte};
 ghost use Rattle.row_codec.specs.RowBytes.{four_bytes};
 ghost use Rattle.row_codec.specs.RowBytes.{ident_bytes, reading_bytes, sources_bytes};
-ghost use Rattle.row_codec.specs.RowBytes.{stamp_bytes, text_bytes, why_byte};
+ghost use Rattle.row_codec.specs.RowBytes.{stamp_bytes, spelled_text, why_byte};
 
 use crate::codes::{
     BAD_ELF, CORE, DEBUG_FLAG, ELF_TAG, EXEC_FLAG, NO_BUILD_ID, NO_SECTIONS, NOT_ELF, PLAIN_TAG,
@@ -38,7 +38,7 @@ pub fn write_row(alloc: Global, row: &Row) -> Result<Vec<u8>, AllocError>
 /// Adds a path, as a text.
 fn push_path(bytes: &mut Vec<u8>, path: &CanonPath) -> Result<(), AllocError>
     ensures text { IsPathText path.now }
-    ensures added { OnOk result (bytes.new.items ≡ bytes.old.items ++ text_bytes path.now) }
+    ensures added { OnOk result (bytes.new.items ≡ bytes.old.items ++ spelled_text path.now) }
 {
     let text = path.text().as_bytes();
     push_u32(bytes, text.len() as u32)?;
@@ -138,7 +138,7 @@ fn push_sources(bytes: &mut Vec<u8>, sources: &Sources) -> Result<(), AllocError
 /// Adds each path, as a text.
 fn push_paths(bytes: &mut Vec<u8>, paths: &[CanonPath]) -> Result<(), AllocError>
     ensures texts { OnOk result (All IsPathText paths.now) }
-    ensures added { OnOk result (bytes.new.items ≡ bytes.old.items ++ flat_map text_bytes
+    ensures added { OnOk result (bytes.new.items ≡ bytes.old.items ++ flat_map spelled_text
         paths.now) }
 {
     for path in paths {

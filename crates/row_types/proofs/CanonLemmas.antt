@@ -11,7 +11,7 @@ use Rattle.std.proofs.lemmas.List.Splits.{join_with_byte-slice_split, length-sli
 use Rattle.std.proofs.lemmas.List.Sums.{AllPass-from_list_all}
 use Rattle.std.proofs.lemmas.Slice.Eq.{bytes_eq-Decides}
 use Rattle.row_types.specs.declared.limits.TheConstants.{SEPARATOR}
-use Rattle.row_types.specs.Canon.{pieces, keep, joined, path_of, canon, is_canonical, stays, is_plain_tail, has_form}
+use Rattle.row_types.specs.Canon.{pieces, keep, joined, path_of_kept, canon, is_canonical, stays, is_plain_tail, has_form}
 
 -- both parts of a test that passed
 pub left_true : (a b : Bool) → (a && b) ≡ true → a ≡ true
@@ -47,14 +47,14 @@ pub joined_pieces : (piece : List ℕ) (rest : List (List ℕ)) → joined (piec
 joined_pieces piece [] = append-nil (SEPARATOR ∷ piece)
 joined_pieces piece (next ∷ rest) = ap (λ t. (SEPARATOR ∷ piece) ++ t) (joined_pieces next rest)
 
-path_of_pieces : (kept : List (List ℕ)) (rest : List ℕ) (n : ℕ) → join_with_byte SEPARATOR kept ≡ rest → length kept ≡ n + 1 → path_of kept ≡ SEPARATOR ∷ rest
+path_of_pieces : (kept : List (List ℕ)) (rest : List ℕ) (n : ℕ) → join_with_byte SEPARATOR kept ≡ rest → length kept ≡ n + 1 → path_of_kept kept ≡ SEPARATOR ∷ rest
 path_of_pieces [] rest n e some = absurd (omega (arith, some))
 path_of_pieces (piece ∷ kept) rest n e some = joined_pieces piece kept ∙ ap (λ t. SEPARATOR ∷ t) e
 
 -- a slash and pieces that stay are canonical
 canon_of_pieces : (rest : List ℕ) → list_all stays (pieces rest) ≡ true → canon (SEPARATOR ∷ rest) ≡ SEPARATOR ∷ rest
 canon_of_pieces rest h =
-    ap path_of (fold_stays (pieces rest) [] h)
+    ap path_of_kept (fold_stays (pieces rest) [] h)
     ∙ path_of_pieces (pieces rest) rest (count_by (λ b. b == SEPARATOR) rest) (join_with_byte-slice_split SEPARATOR rest) (length-slice_split (λ b. b == SEPARATOR) rest)
 
 canon_of_tail : (tail : List ℕ) → is_plain_tail tail ≡ true → canon (SEPARATOR ∷ tail) ≡ SEPARATOR ∷ tail
@@ -131,7 +131,7 @@ tail_of_pieces [] h = refl
 tail_of_pieces (b ∷ rest) h = h
 
 -- a path of kept pieces has the form
-form_of_kept : (kept : List (List ℕ)) (text : List ℕ) → list_all is_kept kept ≡ true → path_of kept ≡ text → has_form text ≡ true
+form_of_kept : (kept : List (List ℕ)) (text : List ℕ) → list_all is_kept kept ≡ true → path_of_kept kept ≡ text → has_form text ≡ true
 form_of_kept [] text h e = subst (λ t. has_form t ≡ true) e refl
 form_of_kept (piece ∷ rest) text h e =
     let tail : List ℕ = join_with_byte SEPARATOR (piece ∷ rest) in

@@ -2,8 +2,8 @@
 use Rattle.std.proofs.Common.{◌≡◌, ℕ, ◌<◌, Bool, true, false, List, Result, Ok, Err, MatchBool, refl, sym, ◌∙◌, subst}
 use Rattle.std.specs.Prelude.{nat_lt}
 use Rattle.std.proofs.lemmas.Bool.{lt-ltb}
-use Rattle.file_formats.specs.Table.{table_of}
-use Rattle.file_formats.specs.Identity.{Identity, IsIdentity, refused, core, no_id, found, why_of}
+use Rattle.file_formats.specs.Table.{section_table}
+use Rattle.file_formats.specs.Identity.{Identity, IsIdentity, refused, core, no_id, found, why_of_fault}
 use Rattle.file_formats.specs.declared.fault.ElfFault.{ElfFault}
 use Rattle.file_formats.specs.declared.fault.Why.{Why}
 use Rattle.file_formats.specs.declared.fault.Why.TheVariants.{TooLarge}
@@ -36,7 +36,7 @@ abbrev pub IdentityIsOne : List ℕ → Type 0
 IdentityIsOne bytes = (r s : Result Identity Why) → IsIdentity bytes r → IsIdentity bytes s → r ≡ s
 
 -- bytes that have no section table have one reason why they have no identity
-pub refused_is_one : (bytes : List ℕ) (fault : ElfFault) → table_of bytes ≡ Err fault → (r : Result Identity Why) → IsIdentity bytes r → r ≡ Err (why_of fault)
+pub refused_is_one : (bytes : List ℕ) (fault : ElfFault) → section_table bytes ≡ Err fault → (r : Result Identity Why) → IsIdentity bytes r → r ≡ Err (why_of_fault fault)
 refused_is_one bytes fault e r (refused other h) = cc
 refused_is_one bytes fault e r (core t h p) = cc
 refused_is_one bytes fault e r (no_id t h p n) = cc

@@ -21,13 +21,13 @@ joined [] = []
 joined (piece ∷ rest) = (SEPARATOR ∷ piece) ++ joined rest
 
 -- the path of the kept pieces; that of no pieces is the root
-abbrev pub path_of : List (List ℕ) → List ℕ
-path_of [] = SEPARATOR ∷ []
-path_of (piece ∷ rest) = joined (piece ∷ rest)
+abbrev pub path_of_kept : List (List ℕ) → List ℕ
+path_of_kept [] = SEPARATOR ∷ []
+path_of_kept (piece ∷ rest) = joined (piece ∷ rest)
 
 -- the canonical form of a text that begins with a slash
 abbrev pub canon : List ℕ → List ℕ
-canon text = path_of (fold keep [] (pieces text))
+canon text = path_of_kept (fold keep [] (pieces text))
 
 -- whether the text is its own canonical form
 abbrev pub is_canonical : List ℕ → Bool

@@ -1,7 +1,7 @@
 -- Indexes for tests (this project's example).
 use Rattle.std.specs.Prelude.{◌≡◌, ℕ, false, List, None}
 use Rattle.row_types.specs.Name.{NameFacts}
-use Rattle.index_state.specs.State.{StateFacts, pass_of}
+use Rattle.index_state.specs.State.{StateFacts, pass_or_none}
 use Rattle.index_state.specs.Step.{BeginsPass}
 use Rattle.index_state.specs.declared.answer.Plan.{Plan}
 
@@ -17,5 +17,5 @@ pub record StartsPass {K : Type 0} (names : List NameFacts) (old new : StateFact
 
 -- the index is in a pass over the names, and no change of the store failed
 pub record IsInPass {K : Type 0} (names : List NameFacts) (index : StateFacts K) : Type 0 where
-  pub listing : (pass_of index.pass).listing ≡ names
+  pub listing : (pass_or_none index.pass).listing ≡ names
   pub sound : index.broken ≡ false

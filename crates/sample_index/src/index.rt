@@ -1,7 +1,7 @@
 //! Indexes on stores in memory.
 
 ghost use Rattle.std.specs.Prelude.{◌≡◌, [], None, false, IfOk, IfSome};
-ghost use Rattle.index_keeper.specs.MemStore.{fresh};
+ghost use Rattle.index_keeper.specs.MemStore.{fresh_store};
 ghost use Rattle.index_state.specs.Opening.{Opens};
 ghost use Rattle.sample_index.specs.Indexes.{IsInPass, IsNew, StartsPass};
 
@@ -17,7 +17,7 @@ pub type Index<W> = State<W, MemKeeper<W>>;
 
 /// A store without rows, which stops at the call of this number.
 pub fn empty_store<W: Truth>(alloc: Global, stop_at: Option<u64>) -> MemStore<W>
-    ensures { result ≡ fresh [] stop_at [] }
+    ensures { result ≡ fresh_store [] stop_at [] }
 {
     MemStore::new(alloc, Vec::new(alloc), stop_at, Vec::new(alloc))
 }

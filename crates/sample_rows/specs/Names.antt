@@ -8,12 +8,12 @@ use Rattle.sample_rows.specs.declared.fault.SampleFault.{SampleFault}
 use Rattle.sample_rows.specs.declared.fault.SampleFault.TheVariants.{NotAPath, NotAnId, NotByPath, OutOfMemory}
 
 -- the stamp of a file of this size, which changed at second 100
-abbrev pub stamp_of : ℕ → StampFacts
-stamp_of size = record { size = size; secs = pos 100; nanos = 0 }
+abbrev pub stamp_of_size : ℕ → StampFacts
+stamp_of_size size = record { size = size; secs = pos 100; nanos = 0 }
 
 -- the name of a file of this path and size
-abbrev pub name_of : List ℕ → ℕ → NameFacts
-name_of path size = record { path = path; stamp = stamp_of size }
+abbrev pub sample_name : List ℕ → ℕ → NameFacts
+sample_name path size = record { path = path; stamp = stamp_of_size size }
 
 -- the texts of the files' paths
 abbrev pub paths_of : List (Bor (List ℕ) × ℕ) → List (List ℕ)
@@ -22,12 +22,12 @@ paths_of files = map (λ file. file.0.now) files
 -- what follows is closed to proofs, so that no test works it out
 
 -- the texts
-unfoldable pub texts_of : List (Bor (List ℕ)) → List (List ℕ)
-texts_of texts = map (λ text. text.now) texts
+unfoldable pub sample_texts : List (Bor (List ℕ)) → List (List ℕ)
+sample_texts texts = map (λ text. text.now) texts
 
 -- the names of files of these paths and sizes
-unfoldable pub names_of : List (Bor (List ℕ) × ℕ) → List NameFacts
-names_of files = map (λ file. name_of file.0.now file.1) files
+unfoldable pub sample_names : List (Bor (List ℕ) × ℕ) → List NameFacts
+sample_names files = map (λ file. sample_name file.0.now file.1) files
 
 -- one of the texts is no canonical path
 pub record HasNoPath (texts : List (List ℕ)) : Type 0 where

@@ -9,7 +9,7 @@ use Rattle.row_types.specs.Row.{RowFacts}
 use Rattle.row_types.specs.declared.limits.TheConstants.{EDITION}
 use Rattle.row_types.specs.declared.reading.Reading.{Reading}
 use Rattle.row_types.specs.declared.reading.Reading.TheVariants.{Elf, Plain}
-use Rattle.sample_rows.specs.Names.{HasNoPath, name_of, name_text}
+use Rattle.sample_rows.specs.Names.{HasNoPath, sample_name, name_text}
 use Rattle.sample_rows.specs.declared.fault.SampleFault.{SampleFault}
 use Rattle.sample_rows.specs.declared.fault.SampleFault.TheVariants.{NotAPath, NotAnId, NotByPath, OutOfMemory}
 
@@ -27,12 +27,12 @@ RefusesElf id sources OutOfMemory = Unit {0}
 
 -- the row of a file of this path and size, which is found to be this
 abbrev pub row_of : List ℕ → ℕ → Reading → RowFacts
-row_of path size reading = record { name = name_of path size; edition = EDITION; reading = reading }
+row_of path size reading = record { name = sample_name path size; edition = EDITION; reading = reading }
 
 -- the row of a file of this path and size, which is no ELF file
 abbrev pub plain_of : List ℕ → ℕ → RowFacts
 plain_of path size = row_of path size (Plain NotElf)
 
 -- the texts of the rows' names, one behind the other
-unfoldable pub rows_text : List (Bor RowFacts) → List ℕ
-rows_text rows = flat_map (λ row. name_text row.now.name) rows
+unfoldable pub names_text : List (Bor RowFacts) → List ℕ
+names_text rows = flat_map (λ row. name_text row.now.name) rows

@@ -1,8 +1,8 @@
 //! Paths, stamps and names.
 
 ghost use Rattle.std.specs.Prelude.{◌≡◌, ◌∷◌, [], IfOk, IfErr};
-ghost use Rattle.sample_rows.specs.Names.{RefusesPaths, name_of, names_of, paths_of};
-ghost use Rattle.sample_rows.specs.Names.{stamp_of, texts_of};
+ghost use Rattle.sample_rows.specs.Names.{RefusesPaths, sample_name, sample_names, paths_of};
+ghost use Rattle.sample_rows.specs.Names.{stamp_of_size, sample_texts};
 
 use crate::fault::SampleFault;
 use row_types::{CanonPath, Name, Stamp};
@@ -24,10 +24,10 @@ pub fn path(alloc: Global, text: &str) -> Result<CanonPath, SampleFault>
 }
 
 /// The canonical paths of these texts.
-#[tactic(auto, unfolding(crate::specs::Names::texts_of, crate::specs::Names::RefusesPaths))]
+#[tactic(auto, unfolding(crate::specs::Names::sample_texts, crate::specs::Names::RefusesPaths))]
 pub fn paths(alloc: Global, texts: &[&str]) -> Result<Vec<CanonPath>, SampleFault>
-    ensures value { IfOk result (λ paths. paths.items ≡ texts_of texts.now) }
-    ensures refused { IfErr result (RefusesPaths (texts_of texts.now)) }
+    ensures value { IfOk result (λ paths. paths.items ≡ sample_texts texts.now) }
+    ensures refused { IfErr result (RefusesPaths (sample_texts texts.now)) }
 {
     let mut paths = Vec::new(alloc);
     for text in texts {
@@ -38,7 +38,7 @@ pub fn paths(alloc: Global, texts: &[&str]) -> Result<Vec<CanonPath>, SampleFaul
 
 /// The stamp of a file of this size.
 pub fn stamp(size: u64) -> Stamp
-    ensures { result ≡ stamp_of size }
+    ensures { result ≡ stamp_of_size size }
 {
     Stamp {
         size,
@@ -49,7 +49,7 @@ pub fn stamp(size: u64) -> Stamp
 
 /// The name of a file of this path and size.
 pub fn name(alloc: Global, text: &str, size: u64) -> Result<Name, SampleFault>
-    ensures value { IfOk result (λ name. name ≡ name_of text.now size) }
+    ensures value { IfOk result (λ name. name ≡ sample_name text.now size) }
     ensures refused { IfErr result (RefusesPaths (text.now ∷ [])) }
 {
     Ok(Name {
@@ -59,9 +59,9 @@ pub fn name(alloc: Global, text: &str, size: u64) -> Result<Name, SampleFault>
 }
 
 /// The names of files of these paths and sizes, in this order.
-#[tactic(auto, unfolding(crate::specs::Names::names_of, crate::specs::Names::RefusesPaths))]
+#[tactic(auto, unfolding(crate::specs::Names::sample_names, crate::specs::Names::RefusesPaths))]
 pub fn names(alloc: Global, files: &[(&str, u64)]) -> Result<Vec<Name>, SampleFault>
-    ensures value { IfOk result (λ names. names.items ≡ names_of files.now) }
+    ensures value { IfOk result (λ names. names.items ≡ sample_names files.now) }
     ensures refused { IfErr result (RefusesPaths (paths_of files.now)) }
 {
     let mut names = Vec::new(alloc);

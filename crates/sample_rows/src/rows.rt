@@ -1,7 +1,7 @@
 //! Rows, and what files are found to be.
 
 ghost use Rattle.std.specs.Prelude.{◌≡◌, ◌∷◌, [], IfOk, IfErr};
-ghost use Rattle.sample_rows.specs.Names.{RefusesPaths, texts_of};
+ghost use Rattle.sample_rows.specs.Names.{RefusesPaths, sample_texts};
 ghost use Rattle.sample_rows.specs.Rows.{RefusesElf, elf_of, plain_of, row_of};
 
 use crate::fault::SampleFault;
@@ -20,8 +20,8 @@ pub fn elf(
     sources: &[&str],
 ) -> Result<Reading, SampleFault>
     ensures value { IfOk result (λ found.
-        found ≡ elf_of id.now exec debug (texts_of sources.now)) }
-    ensures refused { IfErr result (RefusesElf id.now (texts_of sources.now)) }
+        found ≡ elf_of id.now exec debug (sample_texts sources.now)) }
+    ensures refused { IfErr result (RefusesElf id.now (sample_texts sources.now)) }
 {
     let ident = Ident {
         id: BuildId::new(id).ok_or(SampleFault::NotAnId)?,

@@ -6,7 +6,7 @@ ghost use Rattle.std.specs.Iterator.{Drains, IsFinite};
 ghost use Rattle.std.specs.String.{string_bytes};
 ghost use Rattle.row_types.specs.Row.{RowFacts};
 ghost use Rattle.sample_rows.specs.Names.{name_text};
-ghost use Rattle.sample_rows.specs.Rows.{rows_text};
+ghost use Rattle.sample_rows.specs.Rows.{names_text};
 
 use row_types::{Name, Row};
 use std::alloc::{AllocError, Global};
@@ -19,7 +19,7 @@ pub fn rows_text<'a, I: Iterator<Item = &'a Row> + Drop>(
     requires can { I.can_next rows }
     requires ends { IsFinite (I.remaining rows) }
     ensures { IfOk result (λ text. (taken : List (Bor RowFacts)) × Drains I.next_gives rows taken ×
-        (string_bytes text ≡ rows_text taken)) }
+        (string_bytes text ≡ names_text taken)) }
 {
     let mut text = String::new(alloc);
     for row in rows {

@@ -49,5 +49,5 @@ one_content path stamp a b p q =
     p.filled ∙ ap sample_bytes same ∙ sym q.filled
 
 -- a name has at most one true row
-pub one_true_row : (a b : RowFacts) → a.name ≡ b.name → IsTrueRow IsSample a → IsTrueRow IsSample b → a ≡ b
-one_true_row = true_rows_same IsSample (λ path stamp bytes known. identity-unique bytes) one_content
+pub one_sample_row : (a b : RowFacts) → a.name ≡ b.name → IsTrueRow IsSample a → IsTrueRow IsSample b → a ≡ b
+one_sample_row = true_rows_same IsSample (λ path stamp bytes known. identity-unique bytes) one_content

@@ -13,7 +13,7 @@ impl Truth for SampleWorld {
     ghost use Rattle.row_types.specs.Reading.{IsTrueRow};
     ghost use Rattle.row_types.proofs.TrueRowLemmas.{too_large_is_true};
     ghost use Rattle.sample_world.specs.Samples.{IsSample};
-    ghost use Rattle.sample_world.specs.World.{one_content, one_true_row};
+    ghost use Rattle.sample_world.specs.World.{one_content, one_sample_row};
 
     ghost told = { true };
 
@@ -25,7 +25,7 @@ impl Truth for SampleWorld {
 
     ghost one_content = { λ _. one_content };
 
-    ghost one_row = { λ _. one_true_row };
+    ghost one_row = { λ _. one_sample_row };
 
     ghost of_edition = { λ _ h. h.edition };
 }

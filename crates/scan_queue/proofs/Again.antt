@@ -9,7 +9,7 @@ use Rattle.std.proofs.lemmas.List.Sums.{sum_by-cons}
 use Rattle.row_types.specs.Name.{NameFacts, same_name}
 use Rattle.scan_queue.specs.Names.{is_in}
 use Rattle.scan_queue.specs.Pass.{TriesAgain, missed_names}
-use Rattle.scan_queue.specs.Slots.{AreOrdered, AreSlots, IsCopy, IsLaidOut, IsMark, IsSlot, Key, KeyPrecedes, PlaceFits, copy_again, facts_of, filled_slot, filled_to, held_at, is_away, key_of, list_at, mark_of, needs_copy, no_marks, place_again, slot_at, tried_again, waits}
+use Rattle.scan_queue.specs.Slots.{AreOrdered, ArePassSlots, IsCopy, IsLaidOut, IsMark, IsSlot, Key, KeyPrecedes, PlaceFits, copy_again, pass_with, filled_slot, filled_to, held_at, is_away, key_of, misses_at, mark_of, needs_copy, no_marks, place_again, name_slot, tried_again, waits}
 use Rattle.scan_queue.specs.declared.marks.Marks.{Marks}
 use Rattle.scan_queue.specs.declared.miss.Miss.{Miss}
 use Rattle.scan_queue.specs.declared.slot.Place.{Place}
@@ -81,20 +81,20 @@ listed_as : (listing : List NameFacts) (filled : Bool) (name : NameFacts) (s : S
 listed_as listing filled name s slot same = ap (is_in listing) ((same_name-Decides name s.miss.name).0 same) ∙ sym slot.listed
 
 -- a list has what it had, and of what was out or missed what is to stand there
-has_again : (place : Place) (listing : List NameFacts) (filled : Bool) (name : NameFacts) (slots : List Slot) → waits place ≡ true → AllByRecursion (IsSlot listing filled) slots → has name (list_at place (map tried_again slots)) ≡ (has name (list_at place slots) || (goes_to place (is_in listing name) && (has name (list_at Out slots) || has name (list_at Missed slots))))
+has_again : (place : Place) (listing : List NameFacts) (filled : Bool) (name : NameFacts) (slots : List Slot) → waits place ≡ true → AllByRecursion (IsSlot listing filled) slots → has name (misses_at place (map tried_again slots)) ≡ (has name (misses_at place slots) || (goes_to place (is_in listing name) && (has name (misses_at Out slots) || has name (misses_at Missed slots))))
 has_again place listing filled name [] waiting h = sym (nothing (goes_to place (is_in listing name)))
   where
     nothing : (w : Bool) → (w && false) ≡ false
     nothing true = refl
     nothing false = refl
 has_again place listing filled name (s ∷ slots) waiting h =
-    one_again place name s.place s.listed s.miss (goes_to place (is_in listing name)) (list_at place (map tried_again slots)) (list_at place slots) (list_at Out slots) (list_at Missed slots) waiting (λ same. ap (goes_to place) (listed_as listing filled name s h.0 same)) (has_again place listing filled name slots waiting h.1)
+    one_again place name s.place s.listed s.miss (goes_to place (is_in listing name)) (misses_at place (map tried_again slots)) (misses_at place slots) (misses_at Out slots) (misses_at Missed slots) waiting (λ same. ap (goes_to place) (listed_as listing filled name s h.0 same)) (has_again place listing filled name slots waiting h.1)
 
 -- no name is out or missed then
-none_away : (place : Place) (slots : List Slot) → is_away place ≡ true → list_at place (map tried_again slots) ≡ []
+none_away : (place : Place) (slots : List Slot) → is_away place ≡ true → misses_at place (map tried_again slots) ≡ []
 none_away place [] away = refl
 none_away place (s ∷ slots) away =
-    both_nil (held_at place (place_again s.place s.listed) s.miss) (list_at place (map tried_again slots)) (held_none is_away place (place_again s.place s.listed) s.miss away (back s.place s.listed)) (none_away place slots away)
+    both_nil (held_at place (place_again s.place s.listed) s.miss) (misses_at place (map tried_again slots)) (held_none is_away place (place_again s.place s.listed) s.miss away (back s.place s.listed)) (none_away place slots away)
   where
     back : (p : Place) (b : Bool) → is_away (place_again p b) ≡ false
     back Out true = refl
@@ -104,7 +104,7 @@ none_away place (s ∷ slots) away =
     back _ b = refl
 
 -- whether a name is in a list that was made again, in terms of names
-pub tries_again : (listing : List NameFacts) (slots : List Slot) (filled : Bool) → AreSlots listing slots filled → TriesAgain (facts_of listing slots filled) (facts_of listing (map tried_again slots) filled)
+pub tries_again : (listing : List NameFacts) (slots : List Slot) (filled : Bool) → ArePassSlots listing slots filled → TriesAgain (pass_with listing slots filled) (pass_with listing (map tried_again slots) filled)
 tries_again listing slots filled kept =
     let each = recursion_from_All (IsSlot listing filled) slots kept.each in record {
       todo = again Todo refl each;
@@ -115,7 +115,7 @@ tries_again listing slots filled kept =
     named : (w a b c p q r : Bool) → a ≡ p → b ≡ q → c ≡ r → (p || (w && (q || r))) ≡ (a || (w && (b || c)))
     named w a b c p q r x y z = rw (x, y, z) refl
 
-    again : (place : Place) → waits place ≡ true → AllByRecursion (IsSlot listing filled) slots → (name : NameFacts) → is_in (missed_names (list_at place (map tried_again slots))) name ≡ (is_in (missed_names (list_at place slots)) name || (goes_to place (is_in listing name) && (is_in (missed_names (list_at Out slots)) name || is_in (missed_names (list_at Missed slots)) name)))
+    again : (place : Place) → waits place ≡ true → AllByRecursion (IsSlot listing filled) slots → (name : NameFacts) → is_in (missed_names (misses_at place (map tried_again slots))) name ≡ (is_in (missed_names (misses_at place slots)) name || (goes_to place (is_in listing name) && (is_in (missed_names (misses_at Out slots)) name || is_in (missed_names (misses_at Missed slots)) name)))
     again place waiting each name = names_at_have place name (map tried_again slots) ∙ has_again place listing filled name slots waiting each
         ∙ named (goes_to place (is_in listing name)) _ _ _ _ _ _ (names_at_have place name slots) (names_at_have Out name slots) (names_at_have Missed name slots)
 
@@ -154,11 +154,11 @@ laid_out_again listing slots marks laid = record {
 }
 
 -- how many are tried again
-pub away_count : (slots : List Slot) → count_by (λ s. is_away s.place) slots ≡ length (missed_names (list_at Out slots)) + length (list_at Missed slots)
+pub away_count : (slots : List Slot) → count_by (λ s. is_away s.place) slots ≡ length (missed_names (misses_at Out slots)) + length (misses_at Missed slots)
 away_count [] = refl
 away_count (s ∷ slots) = sum_by-cons (λ (t : Slot). cond (is_away t.place) 1 0) s slots ∙ one s.place (away_count slots)
   where
-    one : (p : Place) → count_by (λ t. is_away t.place) slots ≡ length (missed_names (list_at Out slots)) + length (list_at Missed slots) → cond (is_away p) 1 0 + count_by (λ t. is_away t.place) slots ≡ length (missed_names (cons_option (held_at Out p s.miss) (list_at Out slots))) + length (cons_option (held_at Missed p s.miss) (list_at Missed slots))
+    one : (p : Place) → count_by (λ t. is_away t.place) slots ≡ length (missed_names (misses_at Out slots)) + length (misses_at Missed slots) → cond (is_away p) 1 0 + count_by (λ t. is_away t.place) slots ≡ length (missed_names (cons_option (held_at Out p s.miss) (misses_at Out slots))) + length (cons_option (held_at Missed p s.miss) (misses_at Missed slots))
     one Todo h = omega arith
     one Out h = omega arith
     one Groom h = omega arith
@@ -166,16 +166,16 @@ away_count (s ∷ slots) = sum_by-cons (λ (t : Slot). cond (is_away t.place) 1 
     one Done h = omega arith
 
 -- copies change no list
-fills_front : (place : Place) (k n : ℕ) (slots : List Slot) → list_at place (take k (filled_to n slots)) ≡ list_at place (take k slots)
+fills_front : (place : Place) (k n : ℕ) (slots : List Slot) → misses_at place (take k (filled_to n slots)) ≡ misses_at place (take k slots)
 fills_front place k zero slots = refl
 fills_front place zero (suc n) slots = refl
 fills_front place (suc k) (suc n) [] = refl
-fills_front place (suc k) (suc n) (s ∷ slots) = ap (cons_option (slot_at place s)) (fills_front place k n slots)
+fills_front place (suc k) (suc n) (s ∷ slots) = ap (cons_option (name_slot place s)) (fills_front place k n slots)
 
-fills_list : (place : Place) (n : ℕ) (slots : List Slot) → list_at place (filled_to n slots) ≡ list_at place slots
+fills_list : (place : Place) (n : ℕ) (slots : List Slot) → misses_at place (filled_to n slots) ≡ misses_at place slots
 fills_list place zero slots = refl
 fills_list place (suc n) [] = refl
-fills_list place (suc n) (s ∷ slots) = ap (cons_option (slot_at place s)) (fills_list place n slots)
+fills_list place (suc n) (s ∷ slots) = ap (cons_option (name_slot place s)) (fills_list place n slots)
 
 fills_keys : (n : ℕ) (slots : List Slot) → map key_of (filled_to n slots) ≡ map key_of slots
 fills_keys zero slots = refl
@@ -187,7 +187,7 @@ fills_length zero slots = refl
 fills_length (suc n) [] = refl
 fills_length (suc n) (s ∷ slots) = let rest = fills_length n slots in omega arith
 
-pub fills_facts : (listing : List NameFacts) (n : ℕ) (slots : List Slot) (filled : Bool) → facts_of listing (filled_to n slots) filled ≡ facts_of listing slots filled
+pub fills_facts : (listing : List NameFacts) (n : ℕ) (slots : List Slot) (filled : Bool) → pass_with listing (filled_to n slots) filled ≡ pass_with listing slots filled
 fills_facts listing n slots filled =
     same_pass listing _ _ _ _ _ _ _ _ filled (ap missed_names (fills_list Todo n slots)) (ap missed_names (fills_list Out n slots)) (ap missed_names (fills_list Groom n slots)) (fills_list Missed n slots)
 
@@ -260,9 +260,9 @@ filled_all slots =
     sym (ap (λ (r : List Slot). map filled_slot (take (length slots) slots) ++ r) (drop_all (length slots) slots (omega arith)) ∙ append-nil (map filled_slot (take (length slots) slots))
     ∙ ap (map filled_slot) (take_all (length slots) slots (omega arith)))
 
-pub fills_all_facts : (listing : List NameFacts) (slots : List Slot) → facts_of listing (map filled_slot slots) true ≡ facts_of listing slots true
+pub fills_all_facts : (listing : List NameFacts) (slots : List Slot) → pass_with listing (map filled_slot slots) true ≡ pass_with listing slots true
 fills_all_facts listing slots =
-    ap (λ (xs : List Slot). facts_of listing xs true) (filled_all slots) ∙ fills_facts listing (length slots) slots true
+    ap (λ (xs : List Slot). pass_with listing xs true) (filled_all slots) ∙ fills_facts listing (length slots) slots true
 
 -- with all of them the pass is filled
 pub laid_out_full : (listing : List NameFacts) (slots : List Slot) (marks : Marks) (filled : Bool) → IsLaidOut listing slots marks filled → IsLaidOut listing (map filled_slot slots) marks true

@@ -6,8 +6,8 @@ use Rattle.std.proofs.lemmas.Bool.{and_parts, false≢true}
 use Rattle.std.proofs.lemmas.List.{get_or-map, length-map, map-set, set-get_or, take_all}
 use Rattle.std.proofs.lemmas.List.Elements.{All-set, All-weaker}
 use Rattle.row_types.specs.Name.{NameFacts}
-use Rattle.scan_queue.specs.Pass.{Adds, IsWhole, MissesName, first_missed, missed_names}
-use Rattle.scan_queue.specs.Slots.{AreOrdered, AreSlots, Hands, HasNameAt, IsCopy, IsLaidOut, IsMark, IsSlot, Key, KeyPrecedes, facts_of, held_at, key_of, list_at, mark_of, marked, needs_copy, no_marks, same_place, slot_at, waits}
+use Rattle.scan_queue.specs.Pass.{AddsElement, IsWhole, MissesName, first_missed, missed_names}
+use Rattle.scan_queue.specs.Slots.{AreOrdered, ArePassSlots, HandsFrom, HasNameAt, IsCopy, IsLaidOut, IsMark, IsSlot, Key, KeyPrecedes, pass_with, held_at, key_of, misses_at, mark_of, marked, needs_copy, no_marks, same_place, name_slot, waits}
 use Rattle.scan_queue.specs.declared.marks.Marks.{Marks}
 use Rattle.scan_queue.specs.declared.miss.Cause.{Cause}
 use Rattle.scan_queue.specs.declared.miss.Miss.{Miss}
@@ -48,16 +48,16 @@ nil_parts : (o : Option Miss) (xs : List Miss) → cons_option o xs ≡ [] → (
 nil_parts None xs h = (refl, h)
 nil_parts (Some x) xs h = cc
 
-still_passed : (place : Place) (slots : List Slot) (m i : ℕ) (y : Slot) → slot_at place y ≡ None → list_at place (take m slots) ≡ [] → list_at place (take m (slice_set slots i y)) ≡ []
+still_passed : (place : Place) (slots : List Slot) (m i : ℕ) (y : Slot) → name_slot place y ≡ None → misses_at place (take m slots) ≡ [] → misses_at place (take m (slice_set slots i y)) ≡ []
 still_passed place [] m i y none h = h
 still_passed place (s ∷ slots) zero i y none h = refl
 still_passed place (s ∷ slots) (suc m) zero y none h =
-    both_nil (slot_at place y) (list_at place (take m slots)) none (nil_parts (slot_at place s) (list_at place (take m slots)) h).1
+    both_nil (name_slot place y) (misses_at place (take m slots)) none (nil_parts (name_slot place s) (misses_at place (take m slots)) h).1
 still_passed place (s ∷ slots) (suc m) (suc i) y none h =
-    let parts = nil_parts (slot_at place s) (list_at place (take m slots)) h in
-    both_nil (slot_at place s) (list_at place (take m (slice_set slots i y))) parts.0 (still_passed place slots m i y none parts.1)
+    let parts = nil_parts (name_slot place s) (misses_at place (take m slots)) h in
+    both_nil (name_slot place s) (misses_at place (take m (slice_set slots i y))) parts.0 (still_passed place slots m i y none parts.1)
 
-mark_kept : (place : Place) (slots : List Slot) (m i : ℕ) (y : Slot) → slot_at place y ≡ None → IsMark place m slots → IsMark place m (slice_set slots i y)
+mark_kept : (place : Place) (slots : List Slot) (m i : ℕ) (y : Slot) → name_slot place y ≡ None → IsMark place m slots → IsMark place m (slice_set slots i y)
 mark_kept place slots m i y none mark = record {
   within = let same = length-set slots i y in let le = mark.within in omega (arith, same, le);
   passed = still_passed place slots m i y none mark.passed;
@@ -140,9 +140,9 @@ at_hand place listing filled s waiting stands slot = has_copy s.spare slot.copy 
 
 -- the first of a place's list goes to the list of those that are out, and the other lists stay
 record GoesOut (place : Place) (m : Miss) (before after : List Slot) : Type 0 where
-  first : list_at place before ≡ m ∷ list_at place after
-  out : Adds m (list_at Out before) (list_at Out after)
-  stays : (other : Place) → held_at other place m ≡ held_at other Out m → list_at other after ≡ list_at other before
+  first : misses_at place before ≡ m ∷ misses_at place after
+  out : AddsElement m (misses_at Out before) (misses_at Out after)
+  stays : (other : Place) → held_at other place m ≡ held_at other Out m → misses_at other after ≡ misses_at other before
 
 goes_out : (place : Place) (slots : List Slot) (i : ℕ) (d : Slot) → waits place ≡ true → i < length slots → IsMark place i slots → same_place place (slice_index_or slots i d).place ≡ true → GoesOut place (slice_index_or slots i d).miss slots (slice_set slots i (out_slot (slice_index_or slots i d)))
 goes_out place slots i d waiting within mark stands =
@@ -155,7 +155,7 @@ goes_out place slots i d waiting within mark stands =
     }
 
 -- the first that stands at a place is handed out
-pub handed_out : (place : Place) (listing : List NameFacts) (slots : List Slot) (filled : Bool) (i : ℕ) (d : Slot) → waits place ≡ true → i < length slots → IsMark place i slots → same_place place (slice_index_or slots i d).place ≡ true → Hands place (facts_of listing slots filled) (facts_of listing (slice_set slots i (out_slot (slice_index_or slots i d))) false) (Some (slice_index_or slots i d).miss.name)
+pub handed_out : (place : Place) (listing : List NameFacts) (slots : List Slot) (filled : Bool) (i : ℕ) (d : Slot) → waits place ≡ true → i < length slots → IsMark place i slots → same_place place (slice_index_or slots i d).place ≡ true → HandsFrom place (pass_with listing slots filled) (pass_with listing (slice_set slots i (out_slot (slice_index_or slots i d))) false) (Some (slice_index_or slots i d).miss.name)
 handed_out Todo listing slots filled i d waiting within mark stands =
     let goes = goes_out Todo slots i d waiting within mark stands in record {
       first = ap missed_names goes.first;
@@ -171,11 +171,11 @@ handed_out Groom listing slots filled i d waiting within mark stands =
 handed_out _ listing slots filled i d waiting within mark stands = cc
 
 -- a name that is out is missed
-pub missed_out : (name : NameFacts) (listing : List NameFacts) (slots : List Slot) (filled : Bool) (at : ℕ) (d : Slot) (cause : Cause) → AreSlots listing slots filled → HasNameAt name slots at → name ≡ (slice_index_or slots at d).miss.name → (slice_index_or slots at d).place ≡ Out → MissesName (facts_of listing slots filled) (facts_of listing (slice_set slots at (missed_slot cause (slice_index_or slots at d))) filled) name cause
+pub missed_out : (name : NameFacts) (listing : List NameFacts) (slots : List Slot) (filled : Bool) (at : ℕ) (d : Slot) (cause : Cause) → ArePassSlots listing slots filled → HasNameAt name slots at → name ≡ (slice_index_or slots at d).miss.name → (slice_index_or slots at d).place ≡ Out → MissesName (pass_with listing slots filled) (pass_with listing (slice_set slots at (missed_slot cause (slice_index_or slots at d))) filled) name cause
 missed_out name listing slots filled at d cause kept there named out =
     let x = slice_index_or slots at d in
     let y = missed_slot cause x in
-    let missed : Miss → Type 0 = λ m. Adds m (list_at Missed slots) (list_at Missed (slice_set slots at y)) in record {
+    let missed : Miss → Type 0 = λ m. AddsElement m (misses_at Missed slots) (misses_at Missed (slice_set slots at y)) in record {
       missed = subst (λ (n : NameFacts). missed (record { name = n; cause = cause })) (sym named) (list_adds Missed slots at d y y.miss there.within (ap (λ (p : Place). held_at Missed p x.miss) out) refl);
       same = same_pass listing _ _ _ _ _ _ _ _ filled
           (ap missed_names (list_stays Todo slots at d y there.within (ap (λ (p : Place). held_at Todo p x.miss) out)))
@@ -184,11 +184,11 @@ missed_out name listing slots filled at d cause kept there named out =
     }
 
 -- the number of names at a place is that of its slots
-pub names_count : (place : Place) (slots : List Slot) → length (missed_names (list_at place slots)) ≡ count_by (λ s. same_place place s.place) slots
-names_count place slots = length-map (list_at place slots) (λ (m : Miss). m.name) ∙ length_at place slots
+pub names_count : (place : Place) (slots : List Slot) → length (missed_names (misses_at place slots)) ≡ count_by (λ s. same_place place s.place) slots
+names_count place slots = length-map (misses_at place slots) (λ (m : Miss). m.name) ∙ length_at place slots
 
 -- nothing is picked of done slots
-pub all_done : (listing : List NameFacts) (slots : List Slot) (filled : Bool) → list_all (λ s. same_place Done s.place) slots ≡ true → IsWhole (facts_of listing slots filled)
+pub all_done : (listing : List NameFacts) (slots : List Slot) (filled : Bool) → list_all (λ s. same_place Done s.place) slots ≡ true → IsWhole (pass_with listing slots filled)
 all_done listing slots filled h = record {
   todo = ap missed_names (none_at Todo refl slots h);
   out = ap missed_names (none_at Out refl slots h);
@@ -196,18 +196,18 @@ all_done listing slots filled h = record {
   missed = none_at Missed refl slots h;
 }
   where
-    none_at : (place : Place) → same_place place Done ≡ false → (slots : List Slot) → list_all (λ s. same_place Done s.place) slots ≡ true → list_at place slots ≡ []
+    none_at : (place : Place) → same_place place Done ≡ false → (slots : List Slot) → list_all (λ s. same_place Done s.place) slots ≡ true → misses_at place slots ≡ []
     none_at place other [] h = refl
     none_at place other (s ∷ slots) h =
         let both = and_parts (same_place Done s.place) (list_all (λ (t : Slot). same_place Done t.place) slots) h in
-        both_nil (slot_at place s) (list_at place slots)
+        both_nil (name_slot place s) (misses_at place slots)
         (ap (λ (p : Place). held_at place p s.miss) (is_place Done s.place both.0) ∙ ap (λ (b : Bool). cond b (Some s.miss) None) other) (none_at place other slots both.1)
 
 -- slots of which nothing is picked are done
-pub done_all : (listing : List NameFacts) (slots : List Slot) (filled : Bool) → IsWhole (facts_of listing slots filled) → list_all (λ s. same_place Done s.place) slots ≡ true
+pub done_all : (listing : List NameFacts) (slots : List Slot) (filled : Bool) → IsWhole (pass_with listing slots filled) → list_all (λ s. same_place Done s.place) slots ≡ true
 done_all listing [] filled h = refl
 done_all listing (s ∷ slots) filled h =
-    none_picked_done s.place s.miss (list_at Todo slots) (list_at Out slots) (list_at Groom slots) (list_at Missed slots) h.todo h.out h.groom h.missed
+    none_picked_done s.place s.miss (misses_at Todo slots) (misses_at Out slots) (misses_at Groom slots) (misses_at Missed slots) h.todo h.out h.groom h.missed
     (λ t o g m. done_all listing slots filled (record { todo = t; out = o; groom = g; missed = m }))
   where
     none_picked_done : (p : Place) (n : Miss) (t o g m : List Miss) → missed_names (cons_option (held_at Todo p n) t) ≡ [] → missed_names (cons_option (held_at Out p n) o) ≡ [] → missed_names (cons_option (held_at Groom p n) g) ≡ [] → cons_option (held_at Missed p n) m ≡ [] → (missed_names t ≡ [] → missed_names o ≡ [] → missed_names g ≡ [] → m ≡ [] → list_all (λ s. same_place Done s.place) slots ≡ true) → (same_place Done p && list_all (λ s. same_place Done s.place) slots) ≡ true
@@ -218,22 +218,22 @@ done_all listing (s ∷ slots) filled h =
     none_picked_done Missed n t o g m a b c d rest = cc
 
 -- where the mark of a place is at the end, its list is empty
-pub none_left : (place : Place) (slots : List Slot) (at : ℕ) → IsMark place at slots → length slots ≤ at → list_at place slots ≡ []
-none_left place slots at mark end = ap (list_at place) (sym (take_all at slots end)) ∙ mark.passed
+pub none_left : (place : Place) (slots : List Slot) (at : ℕ) → IsMark place at slots → length slots ≤ at → misses_at place slots ≡ []
+none_left place slots at mark end = ap (misses_at place) (sym (take_all at slots end)) ∙ mark.passed
 
 -- and nothing is handed out
-pub none_handed : (place : Place) (listing : List NameFacts) (slots : List Slot) (filled : Bool) (at : ℕ) → waits place ≡ true → IsMark place at slots → length slots ≤ at → Hands place (facts_of listing slots filled) (facts_of listing slots filled) None
+pub none_handed : (place : Place) (listing : List NameFacts) (slots : List Slot) (filled : Bool) (at : ℕ) → waits place ≡ true → IsMark place at slots → length slots ≤ at → HandsFrom place (pass_with listing slots filled) (pass_with listing slots filled) None
 none_handed Todo listing slots filled at w mark end = record { none = ap missed_names (none_left Todo slots at mark end); same = refl }
 none_handed Groom listing slots filled at w mark end = record { none = ap missed_names (none_left Groom slots at mark end); same = refl }
 none_handed _ listing slots filled at w mark end = cc
 
 -- else its first is that of the slot there
-pub first_there : (slots : List Slot) (at : ℕ) (d : Slot) → at < length slots → IsMark Missed at slots → same_place Missed (slice_index_or slots at d).place ≡ true → first_missed (list_at Missed slots) ≡ Some (slice_index_or slots at d).miss
+pub first_there : (slots : List Slot) (at : ℕ) (d : Slot) → at < length slots → IsMark Missed at slots → same_place Missed (slice_index_or slots at d).place ≡ true → first_missed (misses_at Missed slots) ≡ Some (slice_index_or slots at d).miss
 first_there slots at d within mark stands =
     let x = slice_index_or slots at d in
-    first (list_at Missed (take at slots)) (slot_at Missed x) (list_at Missed (drop (at + 1) slots)) mark.passed (ap (λ (b : Bool). cond b (Some x.miss) None) stands) (was (slot_at Missed) slots at d within)
+    first (misses_at Missed (take at slots)) (name_slot Missed x) (misses_at Missed (drop (at + 1) slots)) mark.passed (ap (λ (b : Bool). cond b (Some x.miss) None) stands) (was (name_slot Missed) slots at d within)
   where
-    first : (t : List Miss) (o : Option Miss) (b : List Miss) → t ≡ [] → o ≡ Some (slice_index_or slots at d).miss → list_at Missed slots ≡ t ++ cons_option o b → first_missed (list_at Missed slots) ≡ Some (slice_index_or slots at d).miss
+    first : (t : List Miss) (o : Option Miss) (b : List Miss) → t ≡ [] → o ≡ Some (slice_index_or slots at d).miss → misses_at Missed slots ≡ t ++ cons_option o b → first_missed (misses_at Missed slots) ≡ Some (slice_index_or slots at d).miss
     first t o b none some all =
         let m = (slice_index_or slots at d).miss in
         let parts : t ++ cons_option o b ≡ m ∷ b = rw (none, some) refl in

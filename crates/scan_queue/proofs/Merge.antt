@@ -16,7 +16,7 @@ use Rattle.row_types.specs.Name.{NameFacts, same_name}
 use Rattle.row_types.proofs.AscendsLemmas.{before_from_test}
 use Rattle.scan_queue.specs.Names.{IsByPath, is_in, not_in}
 use Rattle.scan_queue.specs.Pass.{missed_names}
-use Rattle.scan_queue.specs.Slots.{AreFirst, AreOrdered, IsSlot, KeyPrecedes, key_of, list_at, listed_slot, no_miss, same_place, slot_at, unlisted_slot}
+use Rattle.scan_queue.specs.Slots.{AreFirst, AreOrdered, IsSlot, KeyPrecedes, key_of, misses_at, listed_slot, no_miss, same_place, name_slot, unlisted_slot}
 use Rattle.scan_queue.specs.declared.miss.Miss.{Miss}
 use Rattle.scan_queue.specs.declared.slot.Place.{Place}
 use Rattle.scan_queue.specs.declared.slot.Place.TheVariants.{Todo, Out, Groom, Missed}
@@ -37,7 +37,7 @@ merged (l ∷ ls) cs = upto l (merged ls) cs
 
 -- the names of the slots that stand at the place
 abbrev names_at : Place → List Slot → List NameFacts
-names_at place slots = missed_names (list_at place slots)
+names_at place slots = missed_names (misses_at place slots)
 
 -- with no current name left the listed ones follow
 pub only_listed : (ls : List NameFacts) → merged ls [] ≡ map listed_slot ls
@@ -247,11 +247,11 @@ picked_back f Q (s ∷ slots) h =
       | Some w ↦ λ k. ((λ v e. let same : w ≡ v = cc in subst (λ (m : Miss). Q m.name) same k.0), picked_back f Q slots k.1)
     ] h
 
-first_is_slot : (listing : List NameFacts) (s : Slot) → IsFirst listing s → ((v : Miss) → slot_at Groom s ≡ Some v → not (is_in listing v.name) ≡ true) → IsSlot listing true s
+first_is_slot : (listing : List NameFacts) (s : Slot) → IsFirst listing s → ((v : Miss) → name_slot Groom s ≡ Some v → not (is_in listing v.name) ≡ true) → IsSlot listing true s
 first_is_slot listing s (inl first) groomed =
     subst (IsSlot listing true) (sym first.0) (record { listed = sym first.1; place = refl; copy = refl; there = λ e. refl })
 first_is_slot listing s (inr first) groomed =
-    let absent_name : is_in listing s.miss.name ≡ false = not-true (is_in listing s.miss.name) (groomed (no_miss s.miss.name) (ap (slot_at Groom) first)) in
+    let absent_name : is_in listing s.miss.name ≡ false = not-true (is_in listing s.miss.name) (groomed (no_miss s.miss.name) (ap (name_slot Groom) first)) in
     subst (IsSlot listing true) (sym first) (record { listed = sym absent_name; place = refl; copy = refl; there = λ e. refl })
 
 both : (P Q R : Slot → Type 0) → ((s : Slot) → P s → Q s → R s) → (slots : List Slot) → AllByRecursion P slots → AllByRecursion Q slots → AllByRecursion R slots
@@ -270,20 +270,20 @@ merged_first listing current by_path in_order =
       kept = record {
         order = order_merged listing current (rises listing by_path) (rises current in_order);
         each = All-from_recursion (IsSlot listing true) slots
-            (both (IsFirst listing) (λ (s : Slot). (v : Miss) → slot_at Groom s ≡ Some v → not (is_in listing v.name) ≡ true) (IsSlot listing true) (first_is_slot listing) slots
+            (both (IsFirst listing) (λ (s : Slot). (v : Miss) → name_slot Groom s ≡ Some v → not (is_in listing v.name) ≡ true) (IsSlot listing true) (first_is_slot listing) slots
             (every (IsFirst listing) listing current
             (weaken (λ (n : NameFacts). is_in listing n ≡ true) (λ (n : NameFacts). IsFirst listing (listed_slot n)) (λ n h. inl (refl, h)) listing (members listing))
             (hold (λ (n : NameFacts). IsFirst listing (unlisted_slot n)) (λ n. inr refl) current))
-            (picked_back (slot_at Groom) (λ (n : NameFacts). not (is_in listing n) ≡ true) slots unlisted));
+            (picked_back (name_slot Groom) (λ (n : NameFacts). not (is_in listing n) ≡ true) slots unlisted));
       };
     }
   where
-    none_of : (place : Place) → same_place place Todo ≡ false → same_place place Groom ≡ false → list_at place (merged listing current) ≡ []
+    none_of : (place : Place) → same_place place Todo ≡ false → same_place place Groom ≡ false → misses_at place (merged listing current) ≡ []
     none_of place todo groom =
-        none_picked (slot_at place) (merged listing current)
-        (every (λ (s : Slot). slot_at place s ≡ None) listing current
-        (hold (λ (n : NameFacts). slot_at place (listed_slot n) ≡ None) (λ n. ap (λ (b : Bool). cond b (Some (no_miss n)) None) todo) listing)
-        (hold (λ (n : NameFacts). slot_at place (unlisted_slot n) ≡ None) (λ n. ap (λ (b : Bool). cond b (Some (no_miss n)) None) groom) current))
+        none_picked (name_slot place) (merged listing current)
+        (every (λ (s : Slot). name_slot place s ≡ None) listing current
+        (hold (λ (n : NameFacts). name_slot place (listed_slot n) ≡ None) (λ n. ap (λ (b : Bool). cond b (Some (no_miss n)) None) todo) listing)
+        (hold (λ (n : NameFacts). name_slot place (unlisted_slot n) ≡ None) (λ n. ap (λ (b : Bool). cond b (Some (no_miss n)) None) groom) current))
 
 -- with the names of one list left alone, their slots follow
 rest_split : (a b : List NameFacts) → (a ≡ []) ⊎ (b ≡ []) → merged a b ≡ map listed_slot a ++ map unlisted_slot b

@@ -10,7 +10,7 @@ use Rattle.row_types.specs.Ascends.{IsBefore}
 use Rattle.row_types.specs.Name.{NameFacts, same_name}
 use Rattle.scan_queue.specs.Names.{is_in}
 use Rattle.scan_queue.specs.Pass.{PassFacts, InOrder, IsPass, Precedes, missed_names, names_left}
-use Rattle.scan_queue.specs.Slots.{AreSlots, IsLaidOut, IsSlot, KeyPrecedes, PlaceFits, facts_of, held_at, key_of, list_at, no_miss, slot_at}
+use Rattle.scan_queue.specs.Slots.{ArePassSlots, IsLaidOut, IsSlot, KeyPrecedes, PlaceFits, pass_with, held_at, key_of, misses_at, no_miss, name_slot}
 use Rattle.scan_queue.specs.declared.marks.Marks.{Marks}
 use Rattle.scan_queue.specs.declared.miss.Miss.{Miss}
 use Rattle.scan_queue.specs.declared.slot.Place.{Place}
@@ -34,7 +34,7 @@ name_order listing filled s t first second (inl before) = inl before
 name_order listing filled s t first second (inr tie) = inr (tie.0, sym first.listed ∙ tie.1, sym second.listed ∙ tie.2)
 
 -- each slot's name comes before each later one's
-pub slots_in_order : (listing : List NameFacts) (slots : List Slot) (filled : Bool) → AreSlots listing slots filled → AllPairs (λ s t. Precedes listing s.miss.name t.miss.name) slots
+pub slots_in_order : (listing : List NameFacts) (slots : List Slot) (filled : Bool) → ArePassSlots listing slots filled → AllPairs (λ s t. Precedes listing s.miss.name t.miss.name) slots
 slots_in_order listing slots filled kept = λ i j d lt within.
     name_order listing filled (slice_index_or slots i d) (slice_index_or slots j d) (kept.each i d (omega arith)) (kept.each j d within) (slot_precedes slots kept.order i j d lt within)
 
@@ -85,12 +85,12 @@ one_more name Groom m t o g ms c h = omega (arith, sum_by-cons (λ (n : Miss). c
 one_more name Missed m t o g ms c h = omega (arith, sum_by-cons (λ (n : Miss). cond (same_name name n.name) 1 0) m ms)
 one_more name Done m t o g ms c h = omega arith
 
-counted : (name : NameFacts) (slots : List Slot) → times_missed name (list_at Todo slots) + times_missed name (list_at Out slots) + times_missed name (list_at Groom slots) + times_missed name (list_at Missed slots) ≤ count_by (λ s. same_name name s.miss.name) slots
+counted : (name : NameFacts) (slots : List Slot) → times_missed name (misses_at Todo slots) + times_missed name (misses_at Out slots) + times_missed name (misses_at Groom slots) + times_missed name (misses_at Missed slots) ≤ count_by (λ s. same_name name s.miss.name) slots
 counted name [] = omega arith
 counted name (s ∷ slots) =
-    let more = one_more name s.place s.miss (list_at Todo slots) (list_at Out slots) (list_at Groom slots) (list_at Missed slots) (count_by (λ (t : Slot). same_name name t.miss.name) slots) (counted name slots) in
+    let more = one_more name s.place s.miss (misses_at Todo slots) (misses_at Out slots) (misses_at Groom slots) (misses_at Missed slots) (count_by (λ (t : Slot). same_name name t.miss.name) slots) (counted name slots) in
     let whole = sum_by-cons (λ (t : Slot). cond (same_name name t.miss.name) 1 0) s slots in
-    subst (λ (n : ℕ). times_missed name (list_at Todo (s ∷ slots)) + times_missed name (list_at Out (s ∷ slots)) + times_missed name (list_at Groom (s ∷ slots)) + times_missed name (list_at Missed (s ∷ slots)) ≤ n) (sym whole) more
+    subst (λ (n : ℕ). times_missed name (misses_at Todo (s ∷ slots)) + times_missed name (misses_at Out (s ∷ slots)) + times_missed name (misses_at Groom (s ∷ slots)) + times_missed name (misses_at Missed (s ∷ slots)) ≤ n) (sym whole) more
 
 times_names : (name : NameFacts) (missed : List Miss) → times name (missed_names missed) ≡ times_missed name missed
 times_names name [] = refl
@@ -99,16 +99,16 @@ times_names name (m ∷ missed) =
     ∙ ap (λ (k : ℕ). cond (same_name name m.name) 1 0 + k) (times_names name missed)
     ∙ sym (sum_by-cons (λ (n : Miss). cond (same_name name n.name) 1 0) m missed)
 
-once : (name : NameFacts) (listing : List NameFacts) (slots : List Slot) (filled : Bool) → AreSlots listing slots filled → times name (names_left (facts_of listing slots filled)) ≤ 1
+once : (name : NameFacts) (listing : List NameFacts) (slots : List Slot) (filled : Bool) → ArePassSlots listing slots filled → times name (names_left (pass_with listing slots filled)) ≤ 1
 once name listing slots filled kept =
     let f : NameFacts → ℕ = λ m. cond (same_name name m) 1 0 in
-    let t = missed_names (list_at Todo slots) in
-    let o = missed_names (list_at Out slots) in
-    let g = missed_names (list_at Groom slots) in
-    let m = missed_names (list_at Missed slots) in
+    let t = missed_names (misses_at Todo slots) in
+    let o = missed_names (misses_at Out slots) in
+    let g = missed_names (misses_at Groom slots) in
+    let m = missed_names (misses_at Missed slots) in
     let pairs : AllPairs (λ s t. same_name name s.miss.name ≡ true → same_name name t.miss.name ≡ false) slots =
     λ i j d lt within. one_of_two listing name (slice_index_or slots i d).miss.name (slice_index_or slots j d).miss.name (slots_in_order listing slots filled kept i j d lt within) in
-    omega (arith, sum_by-append f (t ++ o ++ g) m, sum_by-append f (t ++ o) g, sum_by-append f t o, times_names name (list_at Todo slots), times_names name (list_at Out slots), times_names name (list_at Groom slots), times_names name (list_at Missed slots), counted name slots, one_counted name slots pairs)
+    omega (arith, sum_by-append f (t ++ o ++ g) m, sum_by-append f (t ++ o) g, sum_by-append f t o, times_names name (misses_at Todo slots), times_names name (misses_at Out slots), times_names name (misses_at Groom slots), times_names name (misses_at Missed slots), counted name slots, one_counted name slots pairs)
 
 missed_order : (listing : List NameFacts) (missed : List Miss) → AllPairs (λ a b. Precedes listing a.name b.name) missed → InOrder listing (missed_names missed)
 missed_order listing missed h = λ i j d lt within.
@@ -122,24 +122,24 @@ same_order listing a b v w p q h =
     subst (λ (n : NameFacts). Precedes listing n w) (sym p) (subst (λ (n : NameFacts). Precedes listing a n) (sym q) h)
 
 -- the list of each place is in order
-list_in_order : (place : Place) (listing : List NameFacts) (slots : List Slot) → AllPairs (λ s t. Precedes listing s.miss.name t.miss.name) slots → InOrder listing (missed_names (list_at place slots))
+list_in_order : (place : Place) (listing : List NameFacts) (slots : List Slot) → AllPairs (λ s t. Precedes listing s.miss.name t.miss.name) slots → InOrder listing (missed_names (misses_at place slots))
 list_in_order place listing slots order =
-    missed_order listing (list_at place slots) (pairs_picked (slot_at place) (λ (s t : Slot). Precedes listing s.miss.name t.miss.name) (λ (a b : Miss). Precedes listing a.name b.name)
+    missed_order listing (misses_at place slots) (pairs_picked (name_slot place) (λ (s t : Slot). Precedes listing s.miss.name t.miss.name) (λ (a b : Miss). Precedes listing a.name b.name)
     (λ s t v w e g p. same_order listing s.miss.name t.miss.name v.name w.name (ap (λ (m : Miss). m.name) (miss_found place s.place s.miss v e)) (ap (λ (m : Miss). m.name) (miss_found place t.place t.miss w g)) p) slots order)
 
 -- what the parts of a pass show is a pass
-pub laid_out_is_pass : (listing : List NameFacts) (slots : List Slot) (marks : Marks) (filled : Bool) → IsLaidOut listing slots marks filled → IsPass (facts_of listing slots filled)
+pub laid_out_is_pass : (listing : List NameFacts) (slots : List Slot) (marks : Marks) (filled : Bool) → IsLaidOut listing slots marks filled → IsPass (pass_with listing slots filled)
 laid_out_is_pass listing slots marks filled h =
     let order = slots_in_order listing slots filled h.kept in
     let each = recursion_from_All (IsSlot listing filled) slots h.kept.each in record {
       listing = h.names;
       once = λ name. once name listing slots filled h.kept;
-      listed = All-map (λ (n : NameFacts). is_in listing n ≡ true) (λ (m : Miss). m.name) (list_at Todo slots)
-          (all_picked (slot_at Todo) (IsSlot listing filled) (λ (m : Miss). is_in listing m.name ≡ true)
+      listed = All-map (λ (n : NameFacts). is_in listing n ≡ true) (λ (m : Miss). m.name) (misses_at Todo slots)
+          (all_picked (name_slot Todo) (IsSlot listing filled) (λ (m : Miss). is_in listing m.name ≡ true)
           (λ s v slot e. ap (λ (m : Miss). is_in listing m.name) (miss_found Todo s.place s.miss v e) ∙ sym slot.listed
           ∙ subst (λ (p : Place). PlaceFits p s.listed) (place_found Todo s.place s.miss v e) slot.place) slots each);
-      unlisted = All-map (λ (n : NameFacts). not (is_in listing n) ≡ true) (λ (m : Miss). m.name) (list_at Groom slots)
-          (all_picked (slot_at Groom) (IsSlot listing filled) (λ (m : Miss). not (is_in listing m.name) ≡ true)
+      unlisted = All-map (λ (n : NameFacts). not (is_in listing n) ≡ true) (λ (m : Miss). m.name) (misses_at Groom slots)
+          (all_picked (name_slot Groom) (IsSlot listing filled) (λ (m : Miss). not (is_in listing m.name) ≡ true)
           (λ s v slot e. not_from_false (is_in listing v.name) (ap (λ (m : Miss). is_in listing m.name) (miss_found Groom s.place s.miss v e) ∙ sym slot.listed
           ∙ subst (λ (p : Place). PlaceFits p s.listed) (place_found Groom s.place s.miss v e) slot.place)) slots each);
       todo = list_in_order Todo listing slots order;

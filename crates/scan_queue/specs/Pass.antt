@@ -58,7 +58,7 @@ begun listing current = record {
 }
 
 -- the second list is the first with the element put in
-pub record Adds {X : Type 0} (x : X) (before after : List X) : Type 0 where
+pub record AddsElement {X : Type 0} (x : X) (before after : List X) : Type 0 where
   pub front : List X
   pub back : List X
   pub old : before ≡ front ++ back
@@ -67,13 +67,13 @@ pub record Adds {X : Type 0} (x : X) (before after : List X) : Type 0 where
 -- the first name of todo is handed out, without its copy from then on
 pub record TakesName (old new : PassFacts) (name : NameFacts) : Type 0 where
   pub first : old.todo ≡ name ∷ new.todo
-  pub out : Adds name old.out new.out
+  pub out : AddsElement name old.out new.out
   pub same : new ≡ record old { todo = new.todo; out = new.out; filled = false }
 
 -- the first name of groom is handed out, without its copy from then on
 pub record GroomsName (old new : PassFacts) (name : NameFacts) : Type 0 where
   pub first : old.groom ≡ name ∷ new.groom
-  pub out : Adds name old.out new.out
+  pub out : AddsElement name old.out new.out
   pub same : new ≡ record old { groom = new.groom; out = new.out; filled = false }
 
 -- the list has no name to hand out, and the pass stays
@@ -96,7 +96,7 @@ left name pass = record pass {
 
 -- a name that is out is missed by that cause
 pub record MissesName (old new : PassFacts) (name : NameFacts) (cause : Cause) : Type 0 where
-  pub missed : Adds (record { name = name; cause = cause }) old.missed new.missed
+  pub missed : AddsElement (record { name = name; cause = cause }) old.missed new.missed
   pub same : new ≡ record old { out = without name old.out; missed = new.missed }
 
 -- whether the name is out or missed

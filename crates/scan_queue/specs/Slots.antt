@@ -26,16 +26,16 @@ abbrev pub held_at : Place → Place → Miss → Option Miss
 held_at place other miss = if same_place place other then Some miss else None
 
 -- the slot's name with its cause, where it stands at the place
-abbrev pub slot_at : Place → Slot → Option Miss
-slot_at place slot = held_at place slot.place slot.miss
+abbrev pub name_slot : Place → Slot → Option Miss
+name_slot place slot = held_at place slot.place slot.miss
 
 -- the names with their causes whose slots stand at the place, in order
-abbrev pub list_at : Place → List Slot → List Miss
-list_at place slots = filter_map (slot_at place) slots
+abbrev pub misses_at : Place → List Slot → List Miss
+misses_at place slots = filter_map (name_slot place) slots
 
 -- the pass of a listing and four lists; a cause counts in the last alone
-abbrev pub pass_of : List NameFacts → List Miss → List Miss → List Miss → List Miss → Bool → PassFacts
-pass_of listing todo out groom missed filled = record {
+abbrev pub pass_of_lists : List NameFacts → List Miss → List Miss → List Miss → List Miss → Bool → PassFacts
+pass_of_lists listing todo out groom missed filled = record {
   listing = listing;
   todo = missed_names todo;
   out = missed_names out;
@@ -45,9 +45,9 @@ pass_of listing todo out groom missed filled = record {
 }
 
 -- the pass of a listing and its slots
-abbrev pub facts_of : List NameFacts → List Slot → Bool → PassFacts
-facts_of listing slots filled =
-    pass_of listing (list_at Todo slots) (list_at Out slots) (list_at Groom slots) (list_at Missed slots) filled
+abbrev pub pass_with : List NameFacts → List Slot → Bool → PassFacts
+pass_with listing slots filled =
+    pass_of_lists listing (misses_at Todo slots) (misses_at Out slots) (misses_at Groom slots) (misses_at Missed slots) filled
 
 -- a name to be read is listed, one to be looked for isn't
 abbrev pub PlaceFits : Place → Bool → Type 0
@@ -92,14 +92,14 @@ abbrev pub AreOrdered : List Slot → Type 0
 AreOrdered slots = AllPairs KeyPrecedes (map key_of slots)
 
 -- what is true of the slots of a pass
-pub record AreSlots (listing : List NameFacts) (slots : List Slot) (filled : Bool) : Type 0 where
+pub record ArePassSlots (listing : List NameFacts) (slots : List Slot) (filled : Bool) : Type 0 where
   pub order : AreOrdered slots
   pub each : All (IsSlot listing filled) slots
 
 -- no slot before the mark stands at the place
 pub record IsMark (place : Place) (mark : ℕ) (slots : List Slot) : Type 0 where
   pub within : mark ≤ length slots
-  pub passed : list_at place (take mark slots) ≡ []
+  pub passed : misses_at place (take mark slots) ≡ []
 
 -- whether names that stand at the place are handed out
 abbrev pub waits : Place → Bool
@@ -122,21 +122,21 @@ abbrev pub no_marks : Marks
 no_marks = record { todo = 0; groom = 0 }
 
 -- what is handed out from the place, if anything is, and the pass then
-abbrev pub Hands : Place → PassFacts → PassFacts → Option NameFacts → Type 0
-Hands Todo old new answer = MatchOption answer (TakesNone old.todo old new) (TakesName old new)
-Hands Groom old new answer = MatchOption answer (TakesNone old.groom old new) (GroomsName old new)
-Hands _ old new answer = ⊥
+abbrev pub HandsFrom : Place → PassFacts → PassFacts → Option NameFacts → Type 0
+HandsFrom Todo old new answer = MatchOption answer (TakesNone old.todo old new) (TakesName old new)
+HandsFrom Groom old new answer = MatchOption answer (TakesNone old.groom old new) (GroomsName old new)
+HandsFrom _ old new answer = ⊥
 
 -- what is true of the parts of a pass
 pub record IsLaidOut (listing : List NameFacts) (slots : List Slot) (marks : Marks) (filled : Bool) : Type 0 where
   pub names : IsListing listing
-  pub kept : AreSlots listing slots filled
+  pub kept : ArePassSlots listing slots filled
   pub marked_to : (place : Place) → waits place ≡ true → IsMark place (mark_of marks place) slots
 
 -- the slots are those of the pass as it begins
 pub record AreFirst (listing current : List NameFacts) (slots : List Slot) : Type 0 where
-  pub facts : facts_of listing slots true ≡ begun listing current
-  pub kept : AreSlots listing slots true
+  pub facts : pass_with listing slots true ≡ begun listing current
+  pub kept : ArePassSlots listing slots true
 
 -- a slot stands there, and has the name
 pub record HasNameAt (name : NameFacts) (slots : List Slot) (at : ℕ) : Type 0 where

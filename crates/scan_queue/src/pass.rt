@@ -6,7 +6,7 @@ ghost use Rattle.std.specs.Option.{option_copied};
 ghost use Rattle.scan_queue.specs.Names.{IsByPath, is_in};
 ghost use Rattle.scan_queue.specs.Pass.{GroomsName, IsPass, IsWhole, MissesName, TakesName, TakesNone};
 ghost use Rattle.scan_queue.specs.Pass.{TriesAgain, begun, counts_of, first_missed, left, names_left};
-ghost use Rattle.scan_queue.specs.Slots.{Hands, waits};
+ghost use Rattle.scan_queue.specs.Slots.{HandsFrom, waits};
 
 use crate::begin::first_slots;
 use crate::listing::Listing;
@@ -45,11 +45,11 @@ pub struct Pass {
 
 impl Model for Pass {
     ghost use Rattle.scan_queue.specs.Pass.{PassFacts};
-    ghost use Rattle.scan_queue.specs.Slots.{IsLaidOut, facts_of};
+    ghost use Rattle.scan_queue.specs.Slots.{IsLaidOut, pass_with};
 
     ghost Value = { PassFacts };
 
-    ghost view = { λ p. facts_of p.listing p.slots.items p.filled };
+    ghost view = { λ p. pass_with p.listing p.slots.items p.filled };
 
     ghost invariant = { λ p. IsLaidOut p.listing p.slots.items p.marks p.filled };
 }
@@ -213,7 +213,7 @@ impl Pass {
     /// Hands out the first name that stands at a place.
     fn take_from(&mut self, place: Place) -> Option<Name>
         requires { waits place ≡ true }
-        ensures step { Hands place self.old self.new result }
+        ensures step { HandsFrom place self.old self.new result }
         ensures keeps { IsPass self.new }
     {
         let at = next_at(self.slots.as_slice(), place, self.marks.of(place));

@@ -3,11 +3,11 @@ use Rattle.std.proofs.Common.{◌≡◌, ℕ, ◌+◌, ◌-◌, ◌^◌, ◌≤�
 use Rattle.std.proofs.lemmas.List.Elements.{All-nil}
 use Rattle.row_types.specs.Name.{NameFacts}
 use Rattle.tree_trait.specs.Found.{Versions}
-use Rattle.tree_trait.specs.Listens.{heard_of, loads}
+use Rattle.tree_trait.specs.Listens.{heard_or_none, loads}
 use Rattle.tree_trait.specs.Load.{LoadFacts, loaded, too_large, gone, failed, no_memory}
 use Rattle.tree_trait.specs.Shown.{ShownTree}
 use Rattle.tree_trait.proofs.ListenLemmas.{listens_none}
-use Rattle.scan_worker.specs.Read.{LeadsTo, load_of}
+use Rattle.scan_worker.specs.Read.{load_leads_to, heard_load}
 use Rattle.scan_worker.specs.Turns.{CountsLoad, counted_by}
 use Rattle.scan_worker.specs.Works.{HandLoads, IsSparingLoad}
 use Rattle.scan_worker.specs.declared.read.NameRead.{NameRead}
@@ -15,8 +15,8 @@ use Rattle.scan_worker.specs.declared.read.NameRead.TheVariants.{Row, Altered, F
 use Rattle.scan_worker.specs.declared.tally.Tally.{Tally}
 
 -- a load that was read is heard
-pub row_heard : (name : NameFacts) (answer : LoadFacts) {W : Type 0} (given : NameRead W) → LeadsTo name answer given
-    → counted_by given ≤ loads (heard_of (load_of name answer))
+pub row_heard : (name : NameFacts) (answer : LoadFacts) {W : Type 0} (given : NameRead W) → load_leads_to name answer given
+    → counted_by given ≤ loads (heard_or_none (heard_load name answer))
 row_heard name (loaded found) (Row row) leads = omega arith
 row_heard name (too_large stamp) (Row row) leads = omega arith
 row_heard name gone (Row row) leads = absurd leads
@@ -28,10 +28,10 @@ row_heard name gone (Altered met) leads = omega arith
 row_heard name failed (Altered met) leads = absurd leads
 row_heard name no_memory (Altered met) leads = absurd leads
 row_heard name answer Failed leads =
-    subst (λ (a : LoadFacts). 1 ≤ loads (heard_of (load_of name a))) (sym leads) (omega arith)
+    subst (λ (a : LoadFacts). 1 ≤ loads (heard_or_none (heard_load name a))) (sym leads) (omega arith)
 row_heard name answer OutOfMemory leads = omega arith
 
-pub at_most_one : (name : NameFacts) (answer : LoadFacts) → loads (heard_of (load_of name answer)) ≤ 1
+pub at_most_one : (name : NameFacts) (answer : LoadFacts) → loads (heard_or_none (heard_load name answer)) ≤ 1
 at_most_one name (loaded found) = omega arith
 at_most_one name (too_large stamp) = omega arith
 at_most_one name gone = omega arith

@@ -9,15 +9,15 @@ use Rattle.index_rows.specs.declared.change.Change.{Change}
 use Rattle.index_state.specs.State.{Origin}
 use Rattle.tree_trait.specs.Found.{Versions}
 use Rattle.tree_trait.specs.Heard.{Heard}
-use Rattle.tree_trait.specs.Listens.{Listens, heard_of, loads}
+use Rattle.tree_trait.specs.Listens.{Listens, heard_or_none, loads}
 use Rattle.tree_trait.specs.Shown.{ShownTree}
 use Rattle.tree_trait.proofs.ListenLemmas.{all_heard, listens_then, loads_both}
 use Rattle.index_desk.proofs.Shown.{puts_grow}
 use Rattle.index_desk.specs.Counts.{puts}
 use Rattle.index_desk.specs.Ends.{EndShows}
 use Rattle.scan_worker.specs.Ends.{uncounted, uncounted_at}
-use Rattle.scan_worker.specs.Read.{load_of}
-use Rattle.scan_worker.specs.Turns.{AsksFor, CountsTurn, FitsRead, counted_by, end_by, missed_by, no_tally, published_by, report_of}
+use Rattle.scan_worker.specs.Read.{heard_load}
+use Rattle.scan_worker.specs.Turns.{LoadsListed, CountsTurn, FitsRead, counted_by, end_by, missed_by, no_tally, published_by, report_of}
 use Rattle.scan_worker.specs.Works.{IsSparingLoad, Works, WorksOn}
 use Rattle.scan_worker.specs.declared.read.NameRead.{NameRead}
 use Rattle.scan_worker.specs.declared.read.NameRead.TheVariants as read
@@ -130,7 +130,7 @@ module _ {told : Bool} {version : Versions} where
   -- a name was taken, loaded and handed in
   pub works_turn : {W : Type 0} {seat taken later : SeatFacts Change Origin} {before after : ShownTree}
       {tally some last : Tally} {name : NameFacts} (given : NameRead W) (turn : Turn) → IsLater seat taken
-      → stamp_at seat.origin.spared name.path ≡ None → AsksFor told version name before after tally some given
+      → stamp_at seat.origin.spared name.path ≡ None → LoadsListed told version name before after tally some given
       → IsLater taken later → puts taken.seen + published_by turn ≤ puts later.seen → FitsRead given turn
       → CountsTurn turn some last
       → WorksOn told version seat before tally later after last (uncounted (end_by turn))
@@ -147,8 +147,8 @@ module _ {told : Bool} {version : Versions} where
       let more = turn_published turn some last counts in
       let all = turn_both turn some last counts in
       let read = counts_read given turn fits in
-      works_of (heard_of (load_of name asks.answer)) (later_trans took on) (omega (arith, grow, grown, published, more))
-      asks.listens (all_heard (IsSparingLoad seat.origin.spared) (load_of name asks.answer) (refl, new))
+      works_of (heard_or_none (heard_load name asks.answer)) (later_trans took on) (omega (arith, grow, grown, published, more))
+      asks.listens (all_heard (IsSparingLoad seat.origin.spared) (heard_load name asks.answer) (refl, new))
       (omega (arith, heard, few, most, same)) (omega (arith, heard, few, least, same, enough))
       (omega (arith, both, all, read, heard))
 

@@ -12,14 +12,14 @@ use Rattle.scan_worker.specs.declared.read.NameRead.{NameRead}
 use Rattle.scan_worker.specs.declared.read.NameRead.TheVariants.{Row, Altered, Failed, OutOfMemory}
 
 -- the load of a listed file, as a tree tells it
-abbrev pub load_of : NameFacts → LoadFacts → Heard
-load_of name answer = load name.path FILE_LIMIT answer
+abbrev pub heard_load : NameFacts → LoadFacts → Heard
+heard_load name answer = load name.path FILE_LIMIT answer
 
 -- the load found the file that was listed, and the row says what it is
-abbrev pub Reads : NameFacts → LoadFacts → RowFacts → Type 0
-Reads name (loaded found) row = (found.stamp ≡ name.stamp) × IsRowOf name found.bytes row
-Reads name (too_large stamp) row = (stamp ≡ name.stamp) × (row ≡ too_large_row name)
-Reads name _ row = ⊥
+abbrev pub ReadsListed : NameFacts → LoadFacts → RowFacts → Type 0
+ReadsListed name (loaded found) row = (found.stamp ≡ name.stamp) × IsRowOf name found.bytes row
+ReadsListed name (too_large stamp) row = (stamp ≡ name.stamp) × (row ≡ too_large_row name)
+ReadsListed name _ row = ⊥
 
 -- the load found this in place of the file that was listed
 abbrev pub FindsOther : NameFacts → LoadFacts → Seen → Type 0
@@ -36,8 +36,8 @@ MayWant name no_memory = Unit {0}
 MayWant name _ = ⊥
 
 -- what the load of a listed file leads to
-abbrev pub LeadsTo : {W : Type 0} → NameFacts → LoadFacts → NameRead W → Type 0
-LeadsTo name answer (Row row) = Reads name answer row
-LeadsTo name answer (Altered met) = FindsOther name answer met
-LeadsTo name answer Failed = answer ≡ failed
-LeadsTo name answer OutOfMemory = MayWant name answer
+abbrev pub load_leads_to : {W : Type 0} → NameFacts → LoadFacts → NameRead W → Type 0
+load_leads_to name answer (Row row) = ReadsListed name answer row
+load_leads_to name answer (Altered met) = FindsOther name answer met
+load_leads_to name answer Failed = answer ≡ failed
+load_leads_to name answer OutOfMemory = MayWant name answer

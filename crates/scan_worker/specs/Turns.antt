@@ -12,12 +12,12 @@ use Rattle.index_state.specs.declared.answer.Published.TheVariants as said
 use Rattle.scan_queue.specs.declared.miss.Cause.{Cause}
 use Rattle.scan_queue.specs.declared.miss.Cause.TheVariants as cause
 use Rattle.tree_trait.specs.Found.{Versions}
-use Rattle.tree_trait.specs.Listens.{Listens, heard_of}
+use Rattle.tree_trait.specs.Listens.{Listens, heard_or_none}
 use Rattle.tree_trait.specs.Load.{LoadFacts}
 use Rattle.tree_trait.specs.Shown.{ShownTree}
 use Rattle.index_desk.specs.Ends.{EndShows}
 use Rattle.index_desk.specs.Holds.{HoldsEvent}
-use Rattle.scan_worker.specs.Read.{LeadsTo, load_of}
+use Rattle.scan_worker.specs.Read.{load_leads_to, heard_load}
 use Rattle.scan_worker.specs.declared.read.NameRead.{NameRead}
 use Rattle.scan_worker.specs.declared.read.NameRead.TheVariants as read
 use Rattle.scan_worker.specs.declared.tally.Tally.{Tally}
@@ -56,15 +56,15 @@ TellsMiss true_row told shows name why seat _ later_seat = ⊥
 
 -- what the index is told of a listed file that was read: its row; or that the name was missed, since another file stood
 -- there or none, or since it could not be read
-abbrev pub Tells : {W K : Type 0} → (RowFacts → Type 0) → Bool → (K → ShownKeeper) → NameFacts → NameRead W
+abbrev pub TellsIndex : {W K : Type 0} → (RowFacts → Type 0) → Bool → (K → ShownKeeper) → NameFacts → NameRead W
     → SeatFacts Change Origin → Turn → SeatFacts Change Origin → Type 0
-Tells true_row told shows name (read.Row row) seat turn later_seat =
+TellsIndex true_row told shows name (read.Row row) seat turn later_seat =
     TellsRow true_row told shows row seat turn later_seat
-Tells true_row told shows name (read.Altered met) seat turn later_seat =
+TellsIndex true_row told shows name (read.Altered met) seat turn later_seat =
     TellsMiss true_row told shows name (cause.Altered met) seat turn later_seat
-Tells true_row told shows name read.Failed seat turn later_seat =
+TellsIndex true_row told shows name read.Failed seat turn later_seat =
     TellsMiss true_row told shows name cause.ReadFault seat turn later_seat
-Tells true_row told shows name read.OutOfMemory seat turn later_seat =
+TellsIndex true_row told shows name read.OutOfMemory seat turn later_seat =
     (turn ≡ Ended end.OutOfMemory) × (later_seat ≡ seat)
 
 -- what may become of the name of a row, and of one that is to be missed
@@ -113,11 +113,11 @@ CountsLoad read.OutOfMemory tally later_tally = later_tally ≡ tally
 CountsLoad _ tally later_tally = later_tally ≡ record tally { asked = min (tally.asked + 1) (2 ^ 64 - 1) }
 
 -- a listed file was loaded, and counted
-pub record AsksFor {W : Type 0} (told : Bool) (version : Versions) (name : NameFacts) (before after : ShownTree)
+pub record LoadsListed {W : Type 0} (told : Bool) (version : Versions) (name : NameFacts) (before after : ShownTree)
     (tally later_tally : Tally) (given : NameRead W) : Type 0 where
   pub answer : LoadFacts
-  pub listens : Listens told version before after (heard_of (load_of name answer))
-  pub leads : LeadsTo name answer given
+  pub listens : Listens told version before after (heard_or_none (heard_load name answer))
+  pub leads : load_leads_to name answer given
   pub counts : CountsLoad given tally later_tally
 
 -- what became of a listed file is counted

@@ -2,10 +2,10 @@
 
 ghost use Rattle.std.specs.Prelude.{◌<◌};
 ghost use Rattle.row_types.specs.declared.limits.TheConstants.{FILE_LIMIT};
-ghost use Rattle.tree_trait.specs.Asks.{Asks};
+ghost use Rattle.tree_trait.specs.Asks.{AsksTree};
 ghost use Rattle.tree_trait.specs.Load.{FitsLoad, IsAskedFile, LoadFacts, load_facts, loaded};
 ghost use Rattle.tree_trait.specs.Load.{too_large};
-ghost use Rattle.scan_worker.specs.Read.{LeadsTo, load_of};
+ghost use Rattle.scan_worker.specs.Read.{load_leads_to, heard_load};
 
 use elf_reading::large_row;
 use row_types::{FILE_LIMIT, Name, Stamp, TrueRow, Truth};
@@ -34,8 +34,8 @@ pub fn read_name<W: Truth, T: Tree<W>, R: Reader<W>>(
     name: &Name,
 ) -> NameRead<W>
     ensures { (answer : LoadFacts)
-        × Asks T.told W.version (T.shows hand.old) (T.shows hand.new) (load_of name.now answer)
-        × LeadsTo name.now answer result }
+        × AsksTree T.told W.version (T.shows hand.old) (T.shows hand.new) (heard_load name.now answer)
+        × load_leads_to name.now answer result }
 {
     let answer = hand.load(alloc, name.path.text(), FILE_LIMIT);
     read_answer(alloc, reader, name, answer)
@@ -49,7 +49,7 @@ fn read_answer<W: Truth, R: Reader<W>>(
     answer: LoadAnswer<W>,
 ) -> NameRead<W>
     requires { FitsLoad W.version name.now.path FILE_LIMIT (load_facts answer) }
-    ensures { LeadsTo name.now (load_facts answer) result }
+    ensures { load_leads_to name.now (load_facts answer) result }
 {
     match answer {
         LoadAnswer::Found(found) => read_found(alloc, reader, name, &found),
@@ -68,7 +68,7 @@ fn read_found<W: Truth, R: Reader<W>>(
     found: &Found<W>,
 ) -> NameRead<W>
     requires { IsAskedFile W.version name.now.path FILE_LIMIT found.now }
-    ensures { LeadsTo name.now (loaded found.now) result }
+    ensures { load_leads_to name.now (loaded found.now) result }
 {
     if found.stamp != name.stamp {
         return NameRead::Altered(Seen::File(found.stamp));
@@ -85,7 +85,7 @@ fn read_found<W: Truth, R: Reader<W>>(
 /// What a file that is larger than a file that is read gives.
 fn read_large<W: Truth>(alloc: Global, name: &Name, stamp: Stamp) -> NameRead<W>
     requires { FILE_LIMIT < stamp.size }
-    ensures { LeadsTo name.now (too_large stamp) result }
+    ensures { load_leads_to name.now (too_large stamp) result }
 {
     if stamp != name.stamp {
         return NameRead::Altered(Seen::File(stamp));

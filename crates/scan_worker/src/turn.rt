@@ -5,7 +5,7 @@ ghost use Rattle.index_lock.specs.Tokens.{IsLater};
 ghost use Rattle.index_rows.specs.declared.change.Change.{Change};
 ghost use Rattle.index_desk.specs.Counts.{puts};
 ghost use Rattle.index_desk.specs.Ends.{PublishedShows, put_by};
-ghost use Rattle.scan_worker.specs.Turns.{FitsMiss, FitsRead, FitsRow, Tells, TellsMiss};
+ghost use Rattle.scan_worker.specs.Turns.{FitsMiss, FitsRead, FitsRow, TellsIndex, TellsMiss};
 ghost use Rattle.scan_worker.specs.Turns.{TellsRow, TurnShows, published_by, turn_of};
 
 use crate::read::NameRead;
@@ -38,7 +38,7 @@ pub(crate) fn hand_in<'a, W: Truth, K: Keeper<W>, R, G, Rt: Wait>(
     name: &Name,
     read: NameRead<W>,
 ) -> (Desk<'a, W, K>, Turn)
-    ensures tells { Tells W.true_row K.told K.shows name.now read desk.entry.seat result.1
+    ensures tells { TellsIndex W.true_row K.told K.shows name.now read desk.entry.seat result.1
         result.0.seat }
     ensures later { IsLater desk.entry.seat result.0.seat }
     ensures counted { puts desk.entry.seat.seen + published_by result.1

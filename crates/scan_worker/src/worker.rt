@@ -3,7 +3,7 @@
 ghost use Rattle.std.specs.Prelude.{◌≡◌};
 ghost use Rattle.index_desk.specs.Ends.{EndsShow};
 ghost use Rattle.scan_worker.specs.Ends.{uncounted};
-ghost use Rattle.scan_worker.specs.Turns.{AsksFor};
+ghost use Rattle.scan_worker.specs.Turns.{LoadsListed};
 ghost use Rattle.scan_worker.specs.Works.{Works, WorksOn};
 
 use crate::read::{NameRead, read_name};
@@ -89,7 +89,7 @@ fn ask_for<W: Truth, T: Tree<W>, R: Reader<W>, G, Rt>(
     tally: &mut Tally,
     name: &Name,
 ) -> NameRead<W>
-    ensures { AsksFor T.told W.version name.now (T.shows hand.old) (T.shows hand.new) tally.old
+    ensures { LoadsListed T.told W.version name.now (T.shows hand.old) (T.shows hand.new) tally.old
         tally.new result }
 {
     let read = read_name(ground.alloc, hand, ground.reader, name);

@@ -15,11 +15,11 @@ use Rattle.std.specs.Global.{Vec}
 use Rattle.std.specs.List.{list_any}
 use Rattle.std.specs.List.Sorted.{IsStrictlySortedBy}
 use Rattle.row_types.specs.Ascends.{Ascends}
-use Rattle.source_paths.specs.Adds.{Adds, Has}
+use Rattle.source_paths.specs.Adds.{AddsPaths, Has}
 use Rattle.row_types.specs.Sources.{IsOfOne}
 
 -- no path is added
-pub adds-nothing : {P : List ℕ → Type 0} (paths : BTreeSet (List ℕ)) → ((path : List ℕ) → P path → ⊥) → Adds P paths paths
+pub adds-nothing : {P : List ℕ → Type 0} (paths : BTreeSet (List ℕ)) → ((path : List ℕ) → P path → ⊥) → AddsPaths P paths paths
 adds-nothing paths none = record {
   kept = λ path h. h;
   added = λ path h. absurd (none path h);
@@ -28,7 +28,7 @@ adds-nothing paths none = record {
 
 -- the same paths are added
 pub adds-same : {P Q : List ℕ → Type 0} {old new : BTreeSet (List ℕ)} → ((path : List ℕ) → P path → Q path)
-    → ((path : List ℕ) → Q path → P path) → Adds P old new → Adds Q old new
+    → ((path : List ℕ) → Q path → P path) → AddsPaths P old new → AddsPaths Q old new
 adds-same to from a = record {
   kept = a.kept;
   added = λ path h. a.added path (from path h);
@@ -36,7 +36,7 @@ adds-same to from a = record {
 }
 
 -- nothing is added that isn't there
-pub adds-had : {P : List ℕ → Type 0} (paths : BTreeSet (List ℕ)) → ((path : List ℕ) → P path → Has paths path) → Adds P paths paths
+pub adds-had : {P : List ℕ → Type 0} (paths : BTreeSet (List ℕ)) → ((path : List ℕ) → P path → Has paths path) → AddsPaths P paths paths
 adds-had paths had = record { kept = λ path h. h; added = had; only = λ path h. inl h }
 
 same_path : (p q : List ℕ) → Decides (is_at (slice_cmp nat_cmp p) q) (p ≡ q)
@@ -53,7 +53,7 @@ cond_cases false c e = inr e
 
 -- one path is added
 pub adds-one : {P : List ℕ → Type 0} {path : List ℕ} {old new : BTreeSet (List ℕ)} → P path → ((other : List ℕ) → P other → other ≡ path)
-    → Updates (slice_cmp nat_cmp) old new path true → Adds P old new
+    → Updates (slice_cmp nat_cmp) old new path true → AddsPaths P old new
 adds-one {P} {path} {old} here only update = record {
   kept = λ p h. update.0 p ∙ cond_true (is_at (slice_cmp nat_cmp path) p) (contains (slice_cmp nat_cmp) old p) h;
   added = λ p h.
@@ -66,12 +66,12 @@ adds-one {P} {path} {old} here only update = record {
 }
 
 -- no element adds a path
-pub adds-none_of : {A : Type 0} (P : A → List ℕ → Type 0) (paths : BTreeSet (List ℕ)) → Adds (IsOfOne P []) paths paths
+pub adds-none_of : {A : Type 0} (P : A → List ℕ → Type 0) (paths : BTreeSet (List ℕ)) → AddsPaths (IsOfOne P []) paths paths
 adds-none_of P paths = adds-nothing paths (λ path h. let within = h.among.1 in absurd (omega (arith, within)))
 
 -- one more element adds its paths
 pub adds-one_more : {A : Type 0} {P : A → List ℕ → Type 0} {done : List A} {x : A} {old now new : BTreeSet (List ℕ)}
-    → Adds (IsOfOne P done) old now → Adds (P x) now new → Adds (IsOfOne P (done ++ x ∷ [])) old new
+    → AddsPaths (IsOfOne P done) old now → AddsPaths (P x) now new → AddsPaths (IsOfOne P (done ++ x ∷ [])) old new
 adds-one_more {A} {P} {done} {x} a b = record {
   kept = λ p h. b.kept p (a.kept p h);
   added = λ p h. elim (Contains-push_cases done x h.one h.among) [
@@ -89,16 +89,16 @@ adds-one_more {A} {P} {done} {x} a b = record {
 
 -- what is read of the next element of a list adds its paths
 pub adds-next : {A B : Type 0} (facts : A → B) {P : B → List ℕ → Type 0} (list : List A) (i : ℕ) (one : A)
-    {old now new : BTreeSet (List ℕ)} → i < length list → Adds (IsOfOne P (map facts (take i list))) old now
-    → Adds (P (facts (get_or list i one))) now new → Adds (IsOfOne P (map facts (take (i + 1) list))) old new
+    {old now new : BTreeSet (List ℕ)} → i < length list → AddsPaths (IsOfOne P (map facts (take i list))) old now
+    → AddsPaths (P (facts (get_or list i one))) now new → AddsPaths (IsOfOne P (map facts (take (i + 1) list))) old new
 adds-next facts {P} list i one {old} {now} {new} h a b =
-    subst (λ done. Adds (IsOfOne P done) old new)
+    subst (λ done. AddsPaths (IsOfOne P done) old new)
     (sym (ap (map facts) (take_more list i one h) ∙ map_push facts (take i list) (get_or list i one))) (adds-one_more a b)
 
 -- the elements of the whole list have added their paths
 pub adds-all : {A B : Type 0} (facts : A → B) {P : B → List ℕ → Type 0} (list : List A) (i : ℕ) {old new : BTreeSet (List ℕ)}
-    → length list ≤ i → Adds (IsOfOne P (map facts (take i list))) old new → Adds (IsOfOne P (map facts list)) old new
-adds-all facts {P} list i {old} {new} h a = subst (λ l. Adds (IsOfOne P (map facts l)) old new) (take_all i list h) a
+    → length list ≤ i → AddsPaths (IsOfOne P (map facts (take i list))) old new → AddsPaths (IsOfOne P (map facts list)) old new
+adds-all facts {P} list i {old} {new} h a = subst (λ l. AddsPaths (IsOfOne P (map facts l)) old new) (take_all i list h) a
 
 -- a list of a set's paths has a path where the set has it
 pub listed-exact : {P : List ℕ → Type 0} (paths : BTreeSet (List ℕ)) {list : List (List ℕ)} → list ≡ paths.keys

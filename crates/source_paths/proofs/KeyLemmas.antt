@@ -12,14 +12,14 @@ use Rattle.std.proofs.lemmas.Map.Views.{All-insert_key}
 use Rattle.file_formats.specs.DwarfLengths.{Piece}
 use Rattle.file_formats.specs.DwarfLines.{LineTable, IsLineTable}
 use Rattle.file_formats.specs.DwarfUnits.{DebugSections, RootEntry, IsRootEntry, unit_texts}
-use Rattle.dwarf_forms.specs.Tells.{IsOnly, Tells}
+use Rattle.dwarf_forms.specs.Tells.{IsOnly, TellsOnly}
 use Rattle.dwarf_lines.specs.declared.table.ReadTable.{ReadTable}
 use Rattle.dwarf_lines.specs.Finds.{as_it_is}
 use Rattle.dwarf_units.specs.UnitList.{AreUnits}
 use Rattle.dwarf_units.proofs.CaseLemmas.{some_same}
 use Rattle.source_paths.specs.declared.tables.TableKey.{TableKey}
-use Rattle.source_paths.specs.Adds.{Adds, Has}
-use Rattle.source_paths.specs.Keys.{HaveSameSources, IsFixed, IsRead, IsTableFor, IsTableOf, key_entry, short_entry}
+use Rattle.source_paths.specs.Adds.{AddsPaths, Has}
+use Rattle.source_paths.specs.Keys.{HaveSameSources, IsFixed, AreSourcesRead, IsTableFor, IsTableOf, key_entry, short_entry}
 use Rattle.row_types.specs.Sources.{IsEntrySource, IsFileSource, IsOfOne, IsSource, IsUnitSource}
 use Rattle.source_paths.proofs.AddLemmas.{adds-same, adds-had, has-nothing}
 use Rattle.source_paths.proofs.OrderLemmas.{equal}
@@ -72,8 +72,8 @@ module _ (s : DebugSections) where
     table-nowhere none path h = none h.table (key_table h)
 
     pub table-adds : {table : LineTable} → IsOnly (IsTableFor s key.offset key.base) table → {old new : BTreeSet (List ℕ)}
-        → Adds (IsOfOne (IsFileSource (option_copied key.directory) table) table.files) old new
-        → Adds (IsEntrySource s false (key_entry key)) old new
+        → AddsPaths (IsOfOne (IsFileSource (option_copied key.directory) table) table.files) old new
+        → AddsPaths (IsEntrySource s false (key_entry key)) old new
     table-adds {table} only a = adds-same
         (λ path h. record { offset = key.offset; named = refl; table = table; stands = only.here; file = h })
         (λ path h. subst (λ (t : LineTable). IsOfOne (IsFileSource (option_copied key.directory) t) t.files path)
@@ -84,7 +84,7 @@ module _ (s : DebugSections) where
   pub fixed-by : {offset : ℕ} {base : Option ℕ} {read : ReadTable} → IsTableOf s offset base read → read.indexed ≡ false → IsFixed s offset
   fixed-by {offset} {read = read} t none base other table h = by read.table (t.fixed none base) (t.fixed none other)
     where
-      by : (found : Option LineTable) → Tells as_it_is (IsTableFor s offset base) found → Tells as_it_is (IsTableFor s offset other) found
+      by : (found : Option LineTable) → TellsOnly as_it_is (IsTableFor s offset base) found → TellsOnly as_it_is (IsTableFor s offset other) found
           → IsTableFor s offset other table
       by None no_table no_other = absurd (no_table table h)
       by (Some one) only others = subst (IsTableFor s offset other) (sym (only.only table h)) others.here
@@ -112,7 +112,7 @@ module _ (s : DebugSections) where
 
   -- what adds one entry's sources adds another's that has the same
   pub adds-shared : {some others : RootEntry} → HaveSameSources s some others → {old new : BTreeSet (List ℕ)}
-      → Adds (IsEntrySource s false some) old new → Adds (IsEntrySource s false others) old new
+      → AddsPaths (IsEntrySource s false some) old new → AddsPaths (IsEntrySource s false others) old new
   adds-shared same a = adds-same same.to same.from a
 
   module _ (unit : Piece) where
@@ -127,7 +127,7 @@ module _ (s : DebugSections) where
         cc
 
     pub unit-adds : {entry : RootEntry} → IsOnly (IsRootEntry s unit) entry → (key : TableKey) → key_entry key ≡ short_entry entry
-        → {old new : BTreeSet (List ℕ)} → Adds (IsEntrySource s false (key_entry key)) old new → Adds (IsUnitSource s unit) old new
+        → {old new : BTreeSet (List ℕ)} → AddsPaths (IsEntrySource s false (key_entry key)) old new → AddsPaths (IsUnitSource s unit) old new
     unit-adds {entry} only key e a = adds-same
         (λ path h. record {
           entry = entry;
@@ -139,15 +139,15 @@ module _ (s : DebugSections) where
         a
 
   -- what was read stays read where paths are only added
-  still_read : {P : List ℕ → Type 0} (keys : List TableKey) {old new : BTreeSet (List ℕ)} → Adds P old new → All (IsRead s old) keys → All (IsRead s new) keys
+  still_read : {P : List ℕ → Type 0} (keys : List TableKey) {old new : BTreeSet (List ℕ)} → AddsPaths P old new → All (AreSourcesRead s old) keys → All (AreSourcesRead s new) keys
   still_read keys a h = λ k d within path source. a.kept path (h k d within path source)
 
   -- the key's table is read too
   pub read-more : (cmp : TableKey → TableKey → Ordering) (key : TableKey) (keys : List TableKey) {now : List TableKey}
-      {old new : BTreeSet (List ℕ)} → now ≡ insert_key cmp keys key → Adds (IsEntrySource s false (key_entry key)) old new
-      → All (IsRead s old) keys → All (IsRead s new) now
+      {old new : BTreeSet (List ℕ)} → now ≡ insert_key cmp keys key → AddsPaths (IsEntrySource s false (key_entry key)) old new
+      → All (AreSourcesRead s old) keys → All (AreSourcesRead s new) now
   read-more cmp key keys {now} {old} {new} e a h =
-      subst (All (IsRead s new)) (sym e) (All-insert_key cmp key (IsRead s new) keys (still_read keys a h) a.added)
+      subst (All (AreSourcesRead s new)) (sym e) (All-insert_key cmp key (AreSourcesRead s new) keys (still_read keys a h) a.added)
 
   -- a key that a test finds
   pub found : {K : Type 0} (test : K → Bool) {P : K → Type 0} {Q : Type 0} (keys : List K) → list_any test keys ≡ true → All P keys
@@ -171,15 +171,15 @@ module _ (s : DebugSections) where
 
   -- the key's table was read before
   pub read-before : (cmp : TableKey → TableKey → Ordering) → ((key other : TableKey) → is_at (cmp key) other ≡ true → key_entry key ≡ key_entry other)
-      → (key : TableKey) (seen : BTreeSet TableKey) {paths : BTreeSet (List ℕ)} → contains cmp seen key ≡ true → All (IsRead s paths) seen.keys
-      → Adds (IsEntrySource s false (key_entry key)) paths paths
+      → (key : TableKey) (seen : BTreeSet TableKey) {paths : BTreeSet (List ℕ)} → contains cmp seen key ≡ true → All (AreSourcesRead s paths) seen.keys
+      → AddsPaths (IsEntrySource s false (key_entry key)) paths paths
   read-before cmp same key seen {paths} e h = adds-had paths
-      (found (is_at (cmp key)) {P = IsRead s paths} seen.keys e h
+      (found (is_at (cmp key)) {P = AreSourcesRead s paths} seen.keys e h
       (λ other tied read path source. read path (subst (λ x. IsEntrySource s false x path) (same key other tied) source)))
 
   -- the paths of all units are the file's sources
   pub units-exact : {all done : List Piece} → AreUnits s.order s.info all → done ≡ all → {none paths : BTreeSet (List ℕ)} → none.keys ≡ []
-      → Adds (IsOfOne (IsUnitSource s) done) none paths → (path : List ℕ) → (Has paths path → IsSource s path) × (IsSource s path → Has paths path)
+      → AddsPaths (IsOfOne (IsUnitSource s) done) none paths → (path : List ℕ) → (Has paths path → IsSource s path) × (IsSource s path → Has paths path)
   units-exact {all} {done} are e {none} empty a path = (
     λ h. elim (a.only path h) [
       | inl before ↦ absurd (has-nothing none path empty before)

@@ -12,8 +12,8 @@ use Rattle.row_types.specs.declared.limits.TheConstants.{SEPARATOR}
 use Rattle.row_types.specs.Absolute.{is_absolute}
 use Rattle.row_types.specs.SourcePaths.{within}
 use Rattle.row_types.specs.Sources.{MayName, Names}
-use Rattle.source_paths.specs.Adds.{Adds, Has, short}
-use Rattle.source_paths.specs.Lately.{AreKnown, IsKnown, is_empty}
+use Rattle.source_paths.specs.Adds.{AddsPaths, Has, short}
+use Rattle.source_paths.specs.Lately.{AreKnown, IsTextKnown, is_empty}
 use Rattle.source_paths.proofs.AddLemmas.{adds-same}
 use Rattle.source_paths.proofs.ShortLemmas.{adds_short}
 
@@ -29,9 +29,9 @@ pub known_kept : {old new : BTreeSet (List ℕ)} (texts : List (Vec ℕ)) → ((
 known_kept texts kept h = record { all = λ k d within path names. kept path (h.all k d within path names) }
 
 -- one text is another known one
-pub known_set : {paths : BTreeSet (List ℕ)} (texts : List (Vec ℕ)) (i : ℕ) (text : Vec ℕ) → IsKnown paths text.items
+pub known_set : {paths : BTreeSet (List ℕ)} (texts : List (Vec ℕ)) (i : ℕ) (text : Vec ℕ) → IsTextKnown paths text.items
     → AreKnown paths texts → AreKnown paths (set texts i text)
-known_set {paths} texts i text known h = record { all = All-set (λ t. IsKnown paths t.items) texts i text known h.all }
+known_set {paths} texts i text known h = record { all = All-set (λ t. IsTextKnown paths t.items) texts i text known h.all }
 
 -- the set has what a known text names
 pub known_named : {paths : BTreeSet (List ℕ)} (texts : List (Vec ℕ)) (i : ℕ) (d : Vec ℕ) → AreKnown paths texts → i < length texts
@@ -40,11 +40,11 @@ known_named texts i d h within e path named =
     h.all i d within path (subst (λ t. Names t path) (some_same (sym named.is ∙ e)) named.names)
 
 -- a copy of a text that was added is known
-pub known_added : {old new : BTreeSet (List ℕ)} {text copy : List ℕ} → copy ≡ text → Adds (Names text) old new → IsKnown new copy
+pub known_added : {old new : BTreeSet (List ℕ)} {text copy : List ℕ} → copy ≡ text → AddsPaths (Names text) old new → IsTextKnown new copy
 known_added e a path names = a.added path (subst (λ t. Names t path) e names)
 
 -- a text that is there adds what it names
-pub adds_there : (text : List ℕ) {old new : BTreeSet (List ℕ)} → Adds (Names text) old new → Adds (MayName (Some text)) old new
+pub adds_there : (text : List ℕ) {old new : BTreeSet (List ℕ)} → AddsPaths (Names text) old new → AddsPaths (MayName (Some text)) old new
 adds_there text a = adds-same
     (λ path h. record { there = text; is = refl; names = h })
     (λ path h. subst (λ t. Names t path) (some_same (sym h.is)) h.names)
@@ -52,8 +52,8 @@ adds_there text a = adds-same
 
 -- a text that was made where it is short adds what it names
 pub adds_made : (text : Option (List ℕ)) {made : Option (List ℕ)} {old new : BTreeSet (List ℕ)} → made ≡ short text
-    → Adds (MayName made) old new → Adds (MayName text) old new
-adds_made text {made} {old} {new} e a = adds_short text (subst (λ t. Adds (MayName t) old new) e a)
+    → AddsPaths (MayName made) old new → AddsPaths (MayName text) old new
+adds_made text {made} {old} {new} e a = adds_short text (subst (λ t. AddsPaths (MayName t) old new) e a)
 
 -- what begins with a text is the text and what is left
 stripped : (all front : List ℕ) {rest : List ℕ} → pointwise nat_eq (take (length front) all) front ≡ true

@@ -5,14 +5,14 @@ use Rattle.std.specs.Cmp.Lexicographic.{slice_cmp}
 use Rattle.std.specs.Ordering.{nat_cmp}
 use Rattle.std.specs.Str.{IsUtf8}
 use Rattle.dwarf_forms.specs.Tells.{IsOnly}
-use Rattle.row_types.specs.Canon.{IsCanonPath, path_of}
+use Rattle.row_types.specs.Canon.{IsCanonPath, path_of_kept}
 use Rattle.row_types.specs.Absolute.{is_absolute}
-use Rattle.source_paths.specs.Adds.{Adds}
+use Rattle.source_paths.specs.Adds.{AddsPaths}
 use Rattle.row_types.specs.Sources.{Names}
 use Rattle.source_paths.proofs.AddLemmas.{adds-one}
 
 -- a path of pieces begins with a slash
-path_absolute : (kept : List (List ℕ)) → is_absolute (path_of kept) ≡ true
+path_absolute : (kept : List (List ℕ)) → is_absolute (path_of_kept kept) ≡ true
 path_absolute [] = refl
 path_absolute (piece ∷ rest) = refl
 
@@ -30,5 +30,5 @@ names_itself {text} h utf8 e = record {
 
 -- the path that a text names is added
 pub adds-named : {text path : List ℕ} {old new : BTreeSet (List ℕ)} → IsOnly (Names text) path
-    → Updates (slice_cmp nat_cmp) old new path true → Adds (Names text) old new
+    → Updates (slice_cmp nat_cmp) old new path true → AddsPaths (Names text) old new
 adds-named only update = adds-one only.here only.only update

@@ -11,7 +11,7 @@ use Rattle.file_formats.specs.DwarfLines.{LineEntry, LineTable}
 use Rattle.row_types.specs.declared.limits.TheConstants.{SEPARATOR, PATH_LIMIT}
 use Rattle.row_types.specs.Absolute.{is_absolute}
 use Rattle.source_paths.proofs.AddLemmas.{adds-same}
-use Rattle.source_paths.specs.Adds.{Adds, IsFileFrom, short, where_short}
+use Rattle.source_paths.specs.Adds.{AddsPaths, IsFileFrom, short, where_short}
 use Rattle.row_types.specs.SourcePaths.{behind, within, directory_from, file_from, file_path, first_directory}
 use Rattle.row_types.specs.Sources.{IsFileSource, IsOfOne, MayName}
 
@@ -173,22 +173,22 @@ to_short first directories file path =
 
 -- what stands behind a folder adds the same where the folder is too long
 pub adds_behind : (folder text : Option (List ℕ)) {made : Option (List ℕ)} {old new : BTreeSet (List ℕ)} → made ≡ short folder
-    → Adds (MayName (behind made text)) old new → Adds (MayName (behind folder text)) old new
+    → AddsPaths (MayName (behind made text)) old new → AddsPaths (MayName (behind folder text)) old new
 adds_behind folder text {made} {old} {new} e a = adds-same
     (λ path h. same_named (behind (short folder) text) (behind folder text) (short_behind folder text) h)
     (λ path h. same_named (behind folder text) (behind (short folder) text) (sym (short_behind folder text)) h)
-    (subst (λ f. Adds (MayName (behind f text)) old new) e a)
+    (subst (λ f. AddsPaths (MayName (behind f text)) old new) e a)
 
 -- a text adds the same where it is too long
 pub adds_text : (folder text : Option (List ℕ)) {made : Option (List ℕ)} {old new : BTreeSet (List ℕ)} → made ≡ short text
-    → Adds (MayName (behind folder made)) old new → Adds (MayName (behind folder text)) old new
+    → AddsPaths (MayName (behind folder made)) old new → AddsPaths (MayName (behind folder text)) old new
 adds_text folder text {made} {old} {new} e a = adds-same
     (λ path h. same_named (behind folder (short text)) (behind folder text) (short_text folder text) h)
     (λ path h. same_named (behind folder text) (behind folder (short text)) (sym (short_text folder text)) h)
-    (subst (λ t. Adds (MayName (behind folder t)) old new) e a)
+    (subst (λ t. AddsPaths (MayName (behind folder t)) old new) e a)
 
 -- the text is short, or it isn't
-pub adds_short : (text : Option (List ℕ)) {old new : BTreeSet (List ℕ)} → Adds (MayName (short text)) old new → Adds (MayName text) old new
+pub adds_short : (text : Option (List ℕ)) {old new : BTreeSet (List ℕ)} → AddsPaths (MayName (short text)) old new → AddsPaths (MayName text) old new
 adds_short text a = adds-same (λ path h. where_short_named text h) (λ path h. where_named text h) a
 
 pub one_by_one : {A : Type 0} {P Q : A → List ℕ → Type 0} → ((one : A) (path : List ℕ) → P one path → Q one path)
@@ -197,22 +197,22 @@ one_by_one to list path h = record { one = h.one; among = h.among; has = to h.on
 
 -- the files' paths are the same where directories are too long
 pub adds_files : (first : Option (List ℕ)) (directories : List (Option (List ℕ))) (files : List LineEntry) {old new : BTreeSet (List ℕ)}
-    → Adds (IsOfOne (IsFileFrom (short first) (map short directories)) files) old new
-    → Adds (IsOfOne (IsFileFrom first directories) files) old new
+    → AddsPaths (IsOfOne (IsFileFrom (short first) (map short directories)) files) old new
+    → AddsPaths (IsOfOne (IsFileFrom first directories) files) old new
 adds_files first directories files a =
     adds-same (one_by_one (from_short first directories) files) (one_by_one (to_short first directories) files) a
 
 -- the files of a table add their paths
 pub adds_table : (unit : Option (List ℕ)) (table : LineTable) {first : Option (List ℕ)} {directories : List (Option (List ℕ))}
     {files : List LineEntry} {old new : BTreeSet (List ℕ)} → first ≡ short (first_directory unit (map short table.directories))
-    → directories ≡ map short table.directories → files ≡ table.files → Adds (IsOfOne (IsFileFrom first directories) files) old new
-    → Adds (IsOfOne (IsFileSource unit table) table.files) old new
+    → directories ≡ map short table.directories → files ≡ table.files → AddsPaths (IsOfOne (IsFileFrom first directories) files) old new
+    → AddsPaths (IsOfOne (IsFileSource unit table) table.files) old new
 adds_table unit table {first} {directories} {files} {old} {new} e d f a =
     adds_files (first_directory unit table.directories) table.directories table.files
-    (subst (λ x. Adds (IsOfOne (IsFileFrom x (map short table.directories)) table.files) old new)
+    (subst (λ x. AddsPaths (IsOfOne (IsFileFrom x (map short table.directories)) table.files) old new)
     (e ∙ first_listed unit table.directories)
-    (subst (λ x. Adds (IsOfOne (IsFileFrom first x) table.files) old new) d
-    (subst (λ x. Adds (IsOfOne (IsFileFrom first directories) x) old new) f a)))
+    (subst (λ x. AddsPaths (IsOfOne (IsFileFrom first x) table.files) old new) d
+    (subst (λ x. AddsPaths (IsOfOne (IsFileFrom first directories) x) old new) f a)))
 
 -- a table's file has the path that it has in a unit whose directory is too long
 same_first : (unit : Option (List ℕ)) (directories : List (Option (List ℕ)))

@@ -10,7 +10,7 @@ use Rattle.file_formats.specs.DwarfForms.{Raw, numbered, inline, passed_by}
 use Rattle.file_formats.specs.DwarfLengths.{Piece}
 use Rattle.file_formats.specs.DwarfLines.{LineEntry, LineTable, Row, no_more, one_more, IsLineEntry, IsLineList, AreLineLists, IsLineTable, first_value, entry_of, entry_of_path, directory_of, number_of}
 use Rattle.file_formats.specs.DwarfTexts.{Texts, value_of, text_is, indexed_place}
-use Rattle.file_formats.specs.DwarfUnits.{DebugSections, RootEntry, RawEntry, IsRootEntry, place_of, root_of, text_of}
+use Rattle.file_formats.specs.DwarfUnits.{DebugSections, RootEntry, RawEntry, IsRootEntry, section_place, root_of, text_or_none}
 use Rattle.file_formats.specs.Sections.{text_at}
 use Rattle.dwarf_forms.specs.TextBytes.{AreSameTexts}
 use Rattle.row_types.specs.Sources.{IsEntrySource, IsSource, IsUnitSource}
@@ -66,10 +66,10 @@ module _ {a b c d : List ℕ} (strs : AreSameTexts a c) (lines : AreSameTexts b 
         ap (λ v. entry_of_path v (directory_of (these offsets order a b base wide) directory)) (value_same path)
         ∙ ap (entry_of_path (value_of (these offsets order c d base wide) path)) (directory_same directory)
 
-    folder_same : (raw : Option Raw) → option_and_then (λ r. text_of (value_of (these offsets order a b base wide) r)) raw
-        ≡ option_and_then (λ r. text_of (value_of (these offsets order c d base wide) r)) raw
+    folder_same : (raw : Option Raw) → option_and_then (λ r. text_or_none (value_of (these offsets order a b base wide) r)) raw
+        ≡ option_and_then (λ r. text_or_none (value_of (these offsets order c d base wide) r)) raw
     folder_same None = refl
-    folder_same (Some raw) = ap text_of (value_same raw)
+    folder_same (Some raw) = ap text_or_none (value_same raw)
 
     line_entry : {s : Input} {fields : List FieldFormat} (p : ℕ) (entry : LineEntry) (q : ℕ)
         → IsLineEntry s (these offsets order a b base wide) fields p entry q → IsLineEntry s (these offsets order c d base wide) fields p entry q
@@ -116,9 +116,9 @@ module _ {a b c d : List ℕ} (strs : AreSameTexts a c) (lines : AreSameTexts b 
   module _ (info abbrevs section : List ℕ) where
     root_same : (wide : Bool) (raw : RawEntry) → root_of (sections info abbrevs section offsets order a b) wide raw ≡ root_of (sections info abbrevs section offsets order c d) wide raw
     root_same wide raw =
-        let base = option_and_then place_of raw.str_offsets_base in
+        let base = option_and_then section_place raw.str_offsets_base in
         ap (λ (folder : Option (List ℕ)). record {
-          stmt_list = option_and_then place_of raw.stmt_list;
+          stmt_list = option_and_then section_place raw.stmt_list;
           comp_dir = folder;
           str_offsets_base = base;
         }) (folder_same base wide raw.comp_dir)

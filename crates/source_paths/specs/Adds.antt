@@ -22,7 +22,7 @@ abbrev pub Has : BTreeSet (List ℕ) → List ℕ → Type 0
 Has paths path = IsTrue (contains (slice_cmp nat_cmp) paths path)
 
 -- the set has what it had, and these paths, and no others
-pub record Adds (P : List ℕ → Type 0) (old new : BTreeSet (List ℕ)) : Type 0 where
+pub record AddsPaths (P : List ℕ → Type 0) (old new : BTreeSet (List ℕ)) : Type 0 where
   pub kept : (path : List ℕ) → Has old path → Has new path
   pub added : (path : List ℕ) → P path → Has new path
   pub only : (path : List ℕ) → Has new path → Has old path ⊎ P path

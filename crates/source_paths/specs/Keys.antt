@@ -4,7 +4,7 @@ use Rattle.std.specs.Option.{option_copied}
 use Rattle.std.specs.BTreeSet.{BTreeSet}
 use Rattle.file_formats.specs.DwarfLines.{LineTable, IsLineTable}
 use Rattle.file_formats.specs.DwarfUnits.{DebugSections, RootEntry, unit_texts}
-use Rattle.dwarf_forms.specs.Tells.{Tells}
+use Rattle.dwarf_forms.specs.Tells.{TellsOnly}
 use Rattle.dwarf_lines.specs.declared.table.ReadTable.{ReadTable}
 use Rattle.dwarf_lines.specs.Finds.{as_it_is}
 use Rattle.source_paths.specs.declared.tables.LastTable.{LastTable}
@@ -31,8 +31,8 @@ IsTableFor s offset base table = IsLineTable s.lines offset (unit_texts s false 
 
 -- what was read at a place for such units, and for any others where it has no indexes
 pub record IsTableOf (s : DebugSections) (offset : ℕ) (base : Option ℕ) (read : ReadTable) : Type 0 where
-  pub here : Tells as_it_is (IsTableFor s offset base) read.table
-  pub fixed : read.indexed ≡ false → (other : Option ℕ) → Tells as_it_is (IsTableFor s offset other) read.table
+  pub here : TellsOnly as_it_is (IsTableFor s offset base) read.table
+  pub fixed : read.indexed ≡ false → (other : Option ℕ) → TellsOnly as_it_is (IsTableFor s offset other) read.table
 
 -- what was read last is what it says
 abbrev pub IsLast : DebugSections → LastTable → Type 0
@@ -48,19 +48,19 @@ pub record HaveSameSources (s : DebugSections) (some others : RootEntry) : Type 
   pub from : (path : List ℕ) → IsEntrySource s false others path → IsEntrySource s false some path
 
 -- the sources of a key are in the set
-abbrev pub IsRead : DebugSections → BTreeSet (List ℕ) → TableKey → Type 0
-IsRead s paths key = (path : List ℕ) → IsEntrySource s false (key_entry key) path → Has paths path
+abbrev pub AreSourcesRead : DebugSections → BTreeSet (List ℕ) → TableKey → Type 0
+AreSourcesRead s paths key = (path : List ℕ) → IsEntrySource s false (key_entry key) path → Has paths path
 
 -- the sources of each key are in the set, each table that is kept as such is the same for all units, and the last one is what
 -- it says
 pub record AreRead (s : DebugSections) (tables : Tables) (paths : BTreeSet (List ℕ)) : Type 0 where
-  pub all : All (IsRead s paths) tables.seen.keys
+  pub all : All (AreSourcesRead s paths) tables.seen.keys
   pub fixed : All (IsFixed s) tables.fixed.keys
   pub last : IfSome tables.last (IsLast s)
 
 -- nothing was read
-abbrev pub IsUnread : Tables → Type 0
-IsUnread tables = (s : DebugSections) (paths : BTreeSet (List ℕ)) → AreRead s tables paths
+abbrev pub AreTablesUnread : Tables → Type 0
+AreTablesUnread tables = (s : DebugSections) (paths : BTreeSet (List ℕ)) → AreRead s tables paths
 
 -- the offset is kept, unless the table there has indexes
 abbrev pub KeepsFixed : BTreeSet ℕ → ℕ → Bool → BTreeSet ℕ → Type 0

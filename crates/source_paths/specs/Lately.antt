@@ -6,12 +6,12 @@ use Rattle.row_types.specs.Sources.{Names}
 use Rattle.source_paths.specs.Adds.{Has}
 
 -- the set has each path that the text names
-abbrev pub IsKnown : BTreeSet (List ℕ) → List ℕ → Type 0
-IsKnown paths text = (path : List ℕ) → Names text path → Has paths path
+abbrev pub IsTextKnown : BTreeSet (List ℕ) → List ℕ → Type 0
+IsTextKnown paths text = (path : List ℕ) → Names text path → Has paths path
 
 -- the set has the paths of each text
 pub record AreKnown (paths : BTreeSet (List ℕ)) (texts : List (Vec ℕ)) : Type 0 where
-  pub all : All (λ text. IsKnown paths text.items) texts
+  pub all : All (λ text. IsTextKnown paths text.items) texts
 
 -- the text has no bytes
 abbrev pub is_empty : Vec ℕ → Type 0

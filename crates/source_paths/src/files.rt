@@ -4,7 +4,7 @@ ghost use Rattle.std.specs.Prelude.{map, OnOk};
 ghost use Rattle.std.specs.Option.{option_copied};
 ghost use Rattle.dwarf_forms.specs.TextBytes.{text_said};
 ghost use Rattle.dwarf_lines.specs.Entries.{file_facts};
-ghost use Rattle.source_paths.specs.Adds.{Adds, IsFileFrom};
+ghost use Rattle.source_paths.specs.Adds.{AddsPaths, IsFileFrom};
 ghost use Rattle.row_types.specs.SourcePaths.{behind};
 ghost use Rattle.row_types.specs.Sources.{IsFileSource, IsOfOne, MayName};
 
@@ -21,7 +21,7 @@ fn add_text(
     text: Option<Text<'_>>,
     paths: &mut Found,
 ) -> Result<(), AllocError>
-    ensures { OnOk result (Adds
+    ensures { OnOk result (AddsPaths
         (MayName (behind (option_copied folder.entry) (text_said text.entry)))
         paths.old paths.new) }
 {
@@ -36,7 +36,7 @@ fn add_in_folder(
     text: Option<Text<'_>>,
     paths: &mut Found,
 ) -> Result<(), AllocError>
-    ensures { OnOk result (Adds (MayName (behind
+    ensures { OnOk result (AddsPaths (MayName (behind
         (behind (option_copied first.entry) (option_copied directory.entry))
         (text_said text.entry))) paths.old paths.new) }
 {
@@ -57,7 +57,7 @@ fn add_file(
     file: &LineFile<'_>,
     paths: &mut Found,
 ) -> Result<(), AllocError>
-    ensures { OnOk result (Adds
+    ensures { OnOk result (AddsPaths
         (IsFileFrom (option_copied first.entry) (map option_copied dirs.now) (file_facts file.now))
         paths.old paths.new) }
 {
@@ -76,7 +76,7 @@ fn add_each(
     files: &[LineFile<'_>],
     paths: &mut Found,
 ) -> Result<(), AllocError>
-    ensures { OnOk result (Adds
+    ensures { OnOk result (AddsPaths
         (IsOfOne (IsFileFrom (option_copied first.entry) (map option_copied dirs.now))
         (map file_facts files.now)) paths.old paths.new) }
 {
@@ -94,7 +94,7 @@ pub(crate) fn add_files(
     table: &LineTable<'_>,
     paths: &mut Found,
 ) -> Result<(), AllocError>
-    ensures { OnOk result (Adds
+    ensures { OnOk result (AddsPaths
         (IsOfOne (IsFileSource (option_copied unit.entry) table.now) table.now.files)
         paths.old paths.new) }
 {

@@ -4,8 +4,8 @@ ghost use Rattle.std.specs.Prelude.{◌≡◌, ◌<◌, ◌≤◌, ◌∷◌, �
 ghost use Rattle.std.specs.Option.{option_copied, option_map};
 ghost use Rattle.row_types.specs.SourcePaths.{behind, within};
 ghost use Rattle.row_types.specs.Sources.{MayName};
-ghost use Rattle.source_paths.specs.Adds.{Adds, Has};
-ghost use Rattle.source_paths.specs.Lately.{IsKnown, is_empty};
+ghost use Rattle.source_paths.specs.Adds.{AddsPaths, Has};
+ghost use Rattle.source_paths.specs.Lately.{IsTextKnown, is_empty};
 ghost use Rattle.source_paths.specs.Room.{texts_room};
 
 use crate::joined::{behind, is_absolute};
@@ -71,7 +71,7 @@ impl Found {
         folder: Option<&[u8]>,
         text: Option<&[u8]>,
     ) -> Result<(), AllocError>
-        ensures { OnOk result (Adds
+        ensures { OnOk result (AddsPaths
             (MayName (behind (option_copied folder.entry) (option_copied text.entry)))
             self.old self.new) }
     {
@@ -104,7 +104,7 @@ impl Found {
         text: Option<Vec<u8>>,
         slot: usize,
     ) -> Result<(), AllocError>
-        ensures { OnOk result (Adds
+        ensures { OnOk result (AddsPaths
             (MayName (option_map (λ v. v.items) text)) self.old self.new) }
     {
         let Some(text) = text else {
@@ -118,7 +118,7 @@ impl Found {
 
     /// Keeps a text in a slot, which has one.
     fn keep(&mut self, text: Vec<u8>, slot: usize)
-        requires { IsKnown self.old text.items }
+        requires { IsTextKnown self.old text.items }
         ensures { self.new ≡ self.old }
     {
         if slot < self.lately.len() {

@@ -4,9 +4,9 @@ ghost use Rattle.std.specs.Prelude.{◌≡◌, All, IfOk, IfSome, IsTrue, OnOk, 
 ghost use Rattle.file_formats.specs.DwarfUnits.{DebugSections};
 ghost use Rattle.dwarf_forms.specs.Parts.{sections_of};
 ghost use Rattle.dwarf_units.specs.UnitList.{unit_facts};
-ghost use Rattle.source_paths.specs.Adds.{Adds};
+ghost use Rattle.source_paths.specs.Adds.{AddsPaths};
 ghost use Rattle.source_paths.specs.Keys.{AreRead, HaveSameSources, IsFixed, IsLast, IsTableOf};
-ghost use Rattle.source_paths.specs.Keys.{IsUnread, KeepsFixed, key_entry};
+ghost use Rattle.source_paths.specs.Keys.{AreTablesUnread, KeepsFixed, key_entry};
 ghost use Rattle.row_types.specs.Sources.{IsEntrySource, IsUnitSource};
 
 use crate::files::add_files;
@@ -63,7 +63,7 @@ impl<'a> LastTable<'a> {
 impl<'a> Tables<'a> {
     /// No tables.
     pub(crate) fn new(alloc: Global) -> Tables<'a>
-        ensures { IsUnread result }
+        ensures { AreTablesUnread result }
     {
         Tables {
             seen: BTreeSet::new(alloc),
@@ -136,7 +136,7 @@ fn add_read(
     paths: &mut Found,
 ) -> Result<(), AllocError>
     requires { IsTableOf (sections_of parts.now) key.now.offset key.now.base read.now }
-    ensures { OnOk result (Adds
+    ensures { OnOk result (AddsPaths
         (IsEntrySource (sections_of parts.now) false (key_entry key.now)) paths.old paths.new) }
 {
     match &read.table {
@@ -154,7 +154,7 @@ fn add_table<'a>(
     paths: &mut Found,
 ) -> Result<LastTable<'a>, AllocError>
     requires { IfSome last (IsLast (sections_of parts.now)) }
-    ensures adds { OnOk result (Adds
+    ensures adds { OnOk result (AddsPaths
         (IsEntrySource (sections_of parts.now) false (key_entry key.now)) paths.old paths.new) }
     ensures last { IfOk result (IsLast (sections_of parts.now)) }
     ensures fixed { IfOk result (λ last. last.read.indexed ≡ false
@@ -184,7 +184,7 @@ fn add_new_table<'a>(
     paths: &mut Found,
 ) -> Result<(), AllocError>
     requires { AreRead (sections_of parts.now) tables.old paths.old }
-    ensures adds { OnOk result (Adds
+    ensures adds { OnOk result (AddsPaths
         (IsEntrySource (sections_of parts.now) false (key_entry key.entry)) paths.old paths.new) }
     ensures read { OnOk result (AreRead (sections_of parts.now) tables.new paths.new) }
 {
@@ -208,7 +208,7 @@ pub(crate) fn add_unit<'a>(
 ) -> Result<(), AllocError>
     requires reader { reader.old ≡ sections_of parts.now }
     requires read { AreRead (sections_of parts.now) tables.old paths.old }
-    ensures adds { OnOk result (Adds
+    ensures adds { OnOk result (AddsPaths
         (IsUnitSource (sections_of parts.now) (unit_facts unit.now)) paths.old paths.new) }
     ensures reader { reader.new ≡ reader.old }
     ensures read { OnOk result (AreRead (sections_of parts.now) tables.new paths.new) }

@@ -5,20 +5,20 @@ use Rattle.std.proofs.lemmas.Bool.{false≢true}
 use Rattle.sqlite.specs.Held.{Held, state}
 use Rattle.sqlite.specs.State.{HasCleanDisk, State}
 use Rattle.sqlite.specs.Store.{Ghosts}
-use Rattle.index_keeper.specs.Answers.{for_change, for_rows, has_failed, rows_in}
-use Rattle.index_keeper.specs.Keeper.{Asks, IsUntouched, TellsTables, made_after}
+use Rattle.index_keeper.specs.Answers.{for_change, for_rows, keeper_failed, rows_given}
+use Rattle.index_keeper.specs.Keeper.{AsksKeeper, AreTablesUntouched, TellsTables, made_after}
 use Rattle.index_keeper.specs.Store.{IsOpened}
 use Rattle.index_keeper.specs.Tables.{EditFacts, KeptFacts}
 use Rattle.index_keeper.specs.declared.answer.KeepAnswer.{KeepAnswer}
 use Rattle.index_keeper.specs.declared.answer.KeepAnswer.TheVariants as answer
 use Rattle.index_keeper.specs.declared.answer.KeptAnswer.{KeptAnswer}
 use Rattle.index_keeper.specs.declared.answer.KeptAnswer.TheVariants as rows
-use Rattle.sqlite_keeper.specs.HeldStore.{HeldFacts, held_shown, tables_held}
-use Rattle.sqlite_keeper.specs.Keeper.{IsCounted, KeeperFacts, keeper_shown}
-use Rattle.sqlite_keeper.specs.Told.{IfTold, IsNumbered, IsTold, IsToldBy, TellsRows, tables}
+use Rattle.sqlite_keeper.specs.HeldStore.{HeldStoreFacts, held_shown, tables_held}
+use Rattle.sqlite_keeper.specs.Keeper.{IsCounted, SqliteKeeperFacts, keeper_shown}
+use Rattle.sqlite_keeper.specs.Told.{IfTold, IsNumbered, IsDatabaseTold, IsToldBy, TellsRows, tables}
 
 -- either way the database is told after a change
-pub told_after : (given : KeepAnswer) (edit : EditFacts) (old new : State) → IsToldBy given edit old new → IsTold new
+pub told_after : (given : KeepAnswer) (edit : EditFacts) (old new : State) → IsToldBy given edit old new → IsDatabaseTold new
 told_after answer.Done edit old new tells = tells.told
 told_after answer.Failed edit old new stays = stays.told
 told_after answer.OutOfMemory edit old new stays = stays.told
@@ -42,20 +42,20 @@ module _ {S : Type 0} (g : Ghosts S) where
   pub record Laws (tells : Bool) : Type 0 where
     pub clean : tells ≡ true → (c : Held S) → HasCleanDisk (state g c)
     pub opened : tells ≡ true → (c : Held S) → IsTrue (state g c).is_open
-    pub numbered : tells ≡ true → (c : Held S) → IsTold (state g c) → IsNumbered (state g c)
+    pub numbered : tells ≡ true → (c : Held S) → IsDatabaseTold (state g c) → IsNumbered (state g c)
 
   -- they are the premises of what is told
-  pub by_laws : (tells : Bool) (laws : Laws tells) (before after : Held S) (So : Type 0) → (IsTrue tells → IsTold (state g before)) → IfTold g before after So → IsTrue tells → So
+  pub by_laws : (tells : Bool) (laws : Laws tells) (before after : Held S) (So : Type 0) → (IsTrue tells → IsDatabaseTold (state g before)) → IfTold g before after So → IsTrue tells → So
   by_laws tells laws before after So told so is =
       so (told is) (laws.numbered is before (told is)) (laws.numbered is after) (laws.clean is after) (laws.opened is after)
 
-  module _ (old new : KeeperFacts S) where
-    untouched : tables (state g new.connection) ≡ tables (state g old.connection) → IsUntouched (keeper_shown g old) (keeper_shown g new)
+  module _ (old new : SqliteKeeperFacts S) where
+    untouched : tables (state g new.connection) ≡ tables (state g old.connection) → AreTablesUntouched (keeper_shown g old) (keeper_shown g new)
     untouched same = record { same = same; left = λ image. (λ e. e ∙ same, λ e. e ∙ sym same) }
 
     -- a change is answered, as keepers are asked for one
     pub asks_change : (tells : Bool) (edit : EditFacts) (given : KeepAnswer) → (IsTrue tells → IsToldBy given edit (state g old.connection) (state g new.connection))
-        → IsCounted (has_failed (for_change edit given)) old.faults new.faults → new.epoch ≡ old.epoch → Asks tells (keeper_shown g old) (keeper_shown g new) (for_change edit given)
+        → IsCounted (keeper_failed (for_change edit given)) old.faults new.faults → new.epoch ≡ old.epoch → AsksKeeper tells (keeper_shown g old) (keeper_shown g new) (for_change edit given)
     asks_change tells edit given told counted number = record {
       tells = λ is. by given (told is);
       grows = grows given;
@@ -75,8 +75,8 @@ module _ {S : Type 0} (g : Ghosts S) where
         grows answer.OutOfMemory = refl
 
     -- and so are all rows
-    pub asks_rows : (tells : Bool) (given : KeptAnswer) → (IsTrue tells → TellsRows (rows_in given) (state g old.connection) (state g new.connection))
-        → IsCounted (has_failed (for_rows given)) old.faults new.faults → new.epoch ≡ old.epoch → Asks tells (keeper_shown g old) (keeper_shown g new) (for_rows given)
+    pub asks_rows : (tells : Bool) (given : KeptAnswer) → (IsTrue tells → TellsRows (rows_given given) (state g old.connection) (state g new.connection))
+        → IsCounted (keeper_failed (for_rows given)) old.faults new.faults → new.epoch ≡ old.epoch → AsksKeeper tells (keeper_shown g old) (keeper_shown g new) (for_rows given)
     asks_rows tells given told counted number = record {
       tells = λ is. by given (told is);
       grows = refl;
@@ -85,13 +85,13 @@ module _ {S : Type 0} (g : Ghosts S) where
       number = number;
     }
       where
-        by : (a : KeptAnswer) → TellsRows (rows_in a) (state g old.connection) (state g new.connection) → TellsTables (keeper_shown g old) (keeper_shown g new) (for_rows a)
+        by : (a : KeptAnswer) → TellsRows (rows_given a) (state g old.connection) (state g new.connection) → TellsTables (keeper_shown g old) (keeper_shown g new) (for_rows a)
         by (rows.All it) told = record { whole = told.all ∙ sym told.stays.same; stays = untouched told.stays.same }
         by rows.Failed told = untouched told.stays.same
         by rows.OutOfMemory told = untouched told.stays.same
 
   -- the keeper that is handed out has the tables of the connection that was held
-  pub opens_held : (tells : Bool) (path : List ℕ) (held : Held S) (old new : HeldFacts S) (keeper : KeeperFacts S) → old.connection ≡ Some held → keeper.faults ≡ 0 → keeper.epoch ≡ new.epoch
+  pub opens_held : (tells : Bool) (path : List ℕ) (held : Held S) (old new : HeldStoreFacts S) (keeper : SqliteKeeperFacts S) → old.connection ≡ Some held → keeper.faults ≡ 0 → keeper.epoch ≡ new.epoch
       → new.faults ≡ old.faults → old.epoch < new.epoch → (IsTrue tells → tables (state g keeper.connection) ≡ tables (state g held))
       → IsOpened tells path (held_shown tells g old) (held_shown tells g new) (keeper_shown g keeper)
   opens_held tells path held old new keeper was faultless number faults rises kept = record {
@@ -109,7 +109,7 @@ module _ {S : Type 0} (g : Ghosts S) where
   }
 
   -- a store whose opening was refused shows what it did
-  pub shows_held : (tells : Bool) (held now : Held S) (old new : HeldFacts S) → old.connection ≡ Some held → new.connection ≡ Some now → (IsTrue tells → tables (state g now) ≡ tables (state g held))
+  pub shows_held : (tells : Bool) (held now : Held S) (old new : HeldStoreFacts S) → old.connection ≡ Some held → new.connection ≡ Some now → (IsTrue tells → tables (state g now) ≡ tables (state g held))
       → (held_shown tells g new).tables ≡ (held_shown tells g old).tables
   shows_held tells held now old new was is kept =
       shown_same tells (tables_held g new.connection) (tables_held g old.connection) (λ told. ap (tables_held g) is ∙ kept told ∙ sym (ap (tables_held g) was))

@@ -11,8 +11,8 @@ use Rattle.row_types.specs.Ascends.{IsBefore}
 use Rattle.row_types.proofs.AscendsLemmas.{first_related, rest_related}
 use Rattle.sqlite_value.specs.Order.{Row}
 use Rattle.sqlite_rules.specs.Lists.{Has}
-use Rattle.index_keeper.specs.Tables.{KeptFacts, EditFacts, AscendsByPath, stands_before, stands_after, row_after, edited, put_of, removal_of}
-use Rattle.sqlite_keeper.specs.Stored.{kept_of, tables_of}
+use Rattle.index_keeper.specs.Tables.{KeptFacts, EditFacts, AscendsByPath, stands_before, stands_after, row_after, edited, put_bytes, removal_of}
+use Rattle.sqlite_keeper.specs.Stored.{stored_row, stored_tables}
 use Rattle.index_keeper.proofs.CutLemmas.{edited_ascends, flipped_back}
 use Rattle.sqlite_keeper.proofs.HasLemmas.{all_has, has_left, has_right, has_either, has_filter, filter_has}
 
@@ -84,7 +84,7 @@ edited_keeps rows edit k h differs =
 
 -- a row's path
 abbrev pub path_in : Row → List ℕ
-path_in row = (kept_of row).path
+path_in row = (stored_row row).path
 
 -- rows of one path are one row
 abbrev pub AreApart : List Row → Type 0
@@ -95,44 +95,44 @@ rest_apart : (row : Row) (rows : List Row) → AreApart (row ∷ rows) → AreAp
 rest_apart row rows h = λ r s p q. h r s (inr p) (inr q)
 
 -- the tables stand by path
-pub tables_ascend : (rows : List Row) → AscendsByPath (tables_of rows)
+pub tables_ascend : (rows : List Row) → AscendsByPath (stored_tables rows)
 tables_ascend [] = λ i j d less within. absurd (omega arith)
-tables_ascend (row ∷ rows) = edited_ascends (tables_of rows) (put_of (path_in row) (kept_of row).bytes) (tables_ascend rows)
+tables_ascend (row ∷ rows) = edited_ascends (stored_tables rows) (put_bytes (path_in row) (stored_row row).bytes) (tables_ascend rows)
 
 -- each row of the tables is one of the tree
-pub tables_have : (rows : List Row) (k : KeptFacts) → Has (tables_of rows) k → (r : Row) × Has rows r × (k ≡ kept_of r)
+pub tables_have : (rows : List Row) (k : KeptFacts) → Has (stored_tables rows) k → (r : Row) × Has rows r × (k ≡ stored_row r)
 tables_have [] k h = absurd h
-tables_have (row ∷ rows) k h = from (λ old. tables_have rows k old) (edited_has (tables_of rows) (put_of (path_in row) (kept_of row).bytes) k h)
+tables_have (row ∷ rows) k h = from (λ old. tables_have rows k old) (edited_has (stored_tables rows) (put_bytes (path_in row) (stored_row row).bytes) k h)
   where
-    own : Has (kept_of row ∷ []) k → (r : Row) × Has (row ∷ rows) r × (k ≡ kept_of r)
+    own : Has (stored_row row ∷ []) k → (r : Row) × Has (row ∷ rows) r × (k ≡ stored_row r)
     own (inl e) = (row, inl refl, e)
     own (inr h) = absurd h
 
-    from : (Has (tables_of rows) k → (r : Row) × Has rows r × (k ≡ kept_of r)) → (Has (tables_of rows) k × (k.path ≡ path_in row → ⊥)) ⊎ Has (kept_of row ∷ []) k → (r : Row) × Has (row ∷ rows) r × (k ≡ kept_of r)
+    from : (Has (stored_tables rows) k → (r : Row) × Has rows r × (k ≡ stored_row r)) → (Has (stored_tables rows) k × (k.path ≡ path_in row → ⊥)) ⊎ Has (stored_row row ∷ []) k → (r : Row) × Has (row ∷ rows) r × (k ≡ stored_row r)
     from earlier (inl old) = let r = earlier old.0 in (r.0, inr r.1, r.2)
     from earlier (inr new) = own new
 
 -- each row of the tree is one of the tables, where no path comes twice
-pub have_tables : (rows : List Row) → AreApart rows → (r : Row) → Has rows r → Has (tables_of rows) (kept_of r)
+pub have_tables : (rows : List Row) → AreApart rows → (r : Row) → Has rows r → Has (stored_tables rows) (stored_row r)
 have_tables [] one r h = absurd h
-have_tables (row ∷ rows) one r (inl e) = edited_own (tables_of rows) (put_of (path_in row) (kept_of row).bytes) (kept_of r) (inl (ap kept_of e))
+have_tables (row ∷ rows) one r (inl e) = edited_own (stored_tables rows) (put_bytes (path_in row) (stored_row row).bytes) (stored_row r) (inl (ap stored_row e))
 have_tables (row ∷ rows) one r (inr h) =
-    let later : Has (tables_of rows) (kept_of r) = have_tables rows (rest_apart row rows one) r h in
-    (elim (slice_cmp nat_cmp (path_in r) (path_in row)) as (λ o. slice_cmp nat_cmp (path_in r) (path_in row) ≡ o → Has (tables_of (row ∷ rows)) (kept_of r)) [
+    let later : Has (stored_tables rows) (stored_row r) = have_tables rows (rest_apart row rows one) r h in
+    (elim (slice_cmp nat_cmp (path_in r) (path_in row)) as (λ o. slice_cmp nat_cmp (path_in r) (path_in row) ≡ o → Has (stored_tables (row ∷ rows)) (stored_row r)) [
       | Less ↦ λ e. other later (λ same. apart (path_in r) (path_in row) (ap is_lt e) same)
-      | Equal ↦ λ e. edited_own (tables_of rows) (put_of (path_in row) (kept_of row).bytes) (kept_of r) (inl (ap kept_of (one r row (inr h) (inl refl) (exact_bytes (path_in r) (path_in row) e))))
+      | Equal ↦ λ e. edited_own (stored_tables rows) (put_bytes (path_in row) (stored_row row).bytes) (stored_row r) (inl (ap stored_row (one r row (inr h) (inl refl) (exact_bytes (path_in r) (path_in row) e))))
       | Greater ↦ λ e. other later (λ same. apart (path_in row) (path_in r) (ap is_lt (flipped_back (path_in r) (path_in row) e)) (sym same))
     ]) refl
   where
-    other : Has (tables_of rows) (kept_of r) → (path_in r ≡ path_in row → ⊥) → Has (tables_of (row ∷ rows)) (kept_of r)
-    other later differs = edited_keeps (tables_of rows) (put_of (path_in row) (kept_of row).bytes) (kept_of r) later differs
+    other : Has (stored_tables rows) (stored_row r) → (path_in r ≡ path_in row → ⊥) → Has (stored_tables (row ∷ rows)) (stored_row r)
+    other later differs = edited_keeps (stored_tables rows) (put_bytes (path_in row) (stored_row row).bytes) (stored_row r) later differs
 
 -- a list by path of the rows is the tables
 pub listed : (rows : List Row) (shown : List KeptFacts) → AreApart rows → AscendsByPath shown
-    → ((k : KeptFacts) → Has shown k → (r : Row) × Has rows r × (k ≡ kept_of r)) → ((r : Row) → Has rows r → Has shown (kept_of r)) → shown ≡ tables_of rows
+    → ((k : KeptFacts) → Has shown k → (r : Row) × Has rows r × (k ≡ stored_row r)) → ((r : Row) → Has rows r → Has shown (stored_row r)) → shown ≡ stored_tables rows
 listed rows shown one ascends from to =
-    same_kept shown (tables_of rows) ascends (tables_ascend rows)
-    (λ k h. let r = from k h in subst (Has (tables_of rows)) (sym r.2) (have_tables rows one r.0 r.1))
+    same_kept shown (stored_tables rows) ascends (tables_ascend rows)
+    (λ k h. let r = from k h in subst (Has (stored_tables rows)) (sym r.2) (have_tables rows one r.0 r.1))
     (λ k h. let r = tables_have rows k h in subst (Has shown) (sym r.2) (to r.0 r.1))
 
 -- what a tree has without the rows of a path
@@ -140,43 +140,43 @@ pub record IsWithout (path : List ℕ) (old new : List Row) : Type 0 where
   pub from : (r : Row) → Has new r → Has old r × (path_in r ≡ path → ⊥)
   pub to : (r : Row) → Has old r → (path_in r ≡ path → ⊥) → Has new r
 
-pub removed : (path : List ℕ) (old new : List Row) → AreApart old → AreApart new → IsWithout path old new → tables_of new ≡ edited (tables_of old) (removal_of path)
+pub removed : (path : List ℕ) (old new : List Row) → AreApart old → AreApart new → IsWithout path old new → stored_tables new ≡ edited (stored_tables old) (removal_of path)
 removed path old new was is h =
-    same_kept (tables_of new) (edited (tables_of old) (removal_of path)) (tables_ascend new) (edited_ascends (tables_of old) (removal_of path) (tables_ascend old))
+    same_kept (stored_tables new) (edited (stored_tables old) (removal_of path)) (tables_ascend new) (edited_ascends (stored_tables old) (removal_of path) (tables_ascend old))
     (λ k g. let r = tables_have new k g in let o = h.from r.0 r.1 in
-    subst (Has (edited (tables_of old) (removal_of path))) (sym r.2) (edited_keeps (tables_of old) (removal_of path) (kept_of r.0) (have_tables old was r.0 o.0) o.1))
-    (λ k g. back k (edited_has (tables_of old) (removal_of path) k g))
+    subst (Has (edited (stored_tables old) (removal_of path))) (sym r.2) (edited_keeps (stored_tables old) (removal_of path) (stored_row r.0) (have_tables old was r.0 o.0) o.1))
+    (λ k g. back k (edited_has (stored_tables old) (removal_of path) k g))
   where
-    back : (k : KeptFacts) → (Has (tables_of old) k × (k.path ≡ path → ⊥)) ⊎ Has (row_after (removal_of path)) k → Has (tables_of new) k
+    back : (k : KeptFacts) → (Has (stored_tables old) k × (k.path ≡ path → ⊥)) ⊎ Has (row_after (removal_of path)) k → Has (stored_tables new) k
     back k (inl kept) =
         let r = tables_have old k kept.0 in
-        subst (Has (tables_of new)) (sym r.2) (have_tables new is r.0 (h.to r.0 r.1 (λ same. kept.1 (ap (λ (z : KeptFacts). z.path) r.2 ∙ same))))
+        subst (Has (stored_tables new)) (sym r.2) (have_tables new is r.0 (h.to r.0 r.1 (λ same. kept.1 (ap (λ (z : KeptFacts). z.path) r.2 ∙ same))))
     back k (inr none) = absurd none
 
 -- what a tree has with one row of a path
 pub record IsWith (path kept : List ℕ) (old new : List Row) : Type 0 where
-  pub from : (r : Row) → Has new r → (Has old r × (path_in r ≡ path → ⊥)) ⊎ (kept_of r ≡ record { path = path; bytes = kept })
+  pub from : (r : Row) → Has new r → (Has old r × (path_in r ≡ path → ⊥)) ⊎ (stored_row r ≡ record { path = path; bytes = kept })
   pub to : (r : Row) → Has old r → (path_in r ≡ path → ⊥) → Has new r
   pub its : Row
   pub there : Has new its
-  pub is : kept_of its ≡ record { path = path; bytes = kept }
+  pub is : stored_row its ≡ record { path = path; bytes = kept }
 
-pub put_in : (path kept : List ℕ) (old new : List Row) → AreApart old → AreApart new → IsWith path kept old new → tables_of new ≡ edited (tables_of old) (put_of path kept)
+pub put_in : (path kept : List ℕ) (old new : List Row) → AreApart old → AreApart new → IsWith path kept old new → stored_tables new ≡ edited (stored_tables old) (put_bytes path kept)
 put_in path kept old new was is h =
-    same_kept (tables_of new) (edited (tables_of old) (put_of path kept)) (tables_ascend new) (edited_ascends (tables_of old) (put_of path kept) (tables_ascend old))
-    (λ k g. let r = tables_have new k g in subst (Has (edited (tables_of old) (put_of path kept))) (sym r.2) (forth r.0 (h.from r.0 r.1)))
-    (λ k g. back k (edited_has (tables_of old) (put_of path kept) k g))
+    same_kept (stored_tables new) (edited (stored_tables old) (put_bytes path kept)) (tables_ascend new) (edited_ascends (stored_tables old) (put_bytes path kept) (tables_ascend old))
+    (λ k g. let r = tables_have new k g in subst (Has (edited (stored_tables old) (put_bytes path kept))) (sym r.2) (forth r.0 (h.from r.0 r.1)))
+    (λ k g. back k (edited_has (stored_tables old) (put_bytes path kept) k g))
   where
-    forth : (r : Row) → (Has old r × (path_in r ≡ path → ⊥)) ⊎ (kept_of r ≡ record { path = path; bytes = kept }) → Has (edited (tables_of old) (put_of path kept)) (kept_of r)
-    forth r (inl o) = edited_keeps (tables_of old) (put_of path kept) (kept_of r) (have_tables old was r o.0) o.1
-    forth r (inr e) = edited_own (tables_of old) (put_of path kept) (kept_of r) (inl e)
+    forth : (r : Row) → (Has old r × (path_in r ≡ path → ⊥)) ⊎ (stored_row r ≡ record { path = path; bytes = kept }) → Has (edited (stored_tables old) (put_bytes path kept)) (stored_row r)
+    forth r (inl o) = edited_keeps (stored_tables old) (put_bytes path kept) (stored_row r) (have_tables old was r o.0) o.1
+    forth r (inr e) = edited_own (stored_tables old) (put_bytes path kept) (stored_row r) (inl e)
 
-    own : (k : KeptFacts) → Has (record { path = path; bytes = kept } ∷ []) k → Has (tables_of new) k
-    own k (inl e) = subst (Has (tables_of new)) (h.is ∙ sym e) (have_tables new is h.its h.there)
+    own : (k : KeptFacts) → Has (record { path = path; bytes = kept } ∷ []) k → Has (stored_tables new) k
+    own k (inl e) = subst (Has (stored_tables new)) (h.is ∙ sym e) (have_tables new is h.its h.there)
     own k (inr none) = absurd none
 
-    back : (k : KeptFacts) → (Has (tables_of old) k × (k.path ≡ path → ⊥)) ⊎ Has (row_after (put_of path kept)) k → Has (tables_of new) k
+    back : (k : KeptFacts) → (Has (stored_tables old) k × (k.path ≡ path → ⊥)) ⊎ Has (row_after (put_bytes path kept)) k → Has (stored_tables new) k
     back k (inl old_one) =
         let r = tables_have old k old_one.0 in
-        subst (Has (tables_of new)) (sym r.2) (have_tables new is r.0 (h.to r.0 r.1 (λ same. old_one.1 (ap (λ (z : KeptFacts). z.path) r.2 ∙ same))))
+        subst (Has (stored_tables new)) (sym r.2) (have_tables new is r.0 (h.to r.0 r.1 (λ same. old_one.1 (ap (λ (z : KeptFacts). z.path) r.2 ∙ same))))
     back k (inr new_one) = own k new_one

@@ -15,7 +15,7 @@ use Rattle.sqlite.specs.Table.{Table}
 use Rattle.sqlite.proofs.Callers.{IsPlain, command_of, runs_as, statement_of}
 use Rattle.sqlite_keeper.specs.Schema.{Fits, IsStore, begun_schema, no_schema, store_of}
 use Rattle.sqlite_keeper.specs.Statements.{epoch_table, kept_table}
-use Rattle.sqlite_keeper.specs.Stored.{tables_of}
+use Rattle.sqlite_keeper.specs.Stored.{stored_tables}
 use Rattle.sqlite_keeper.specs.Told.{first_of, tables, tables_in}
 use Rattle.sqlite_keeper.proofs.StatementLemmas.{same_value, went}
 
@@ -101,7 +101,7 @@ pub kept_run : (old new : State) (count : ℕ) → Fits old.now.schema → IsAtR
 kept_run old new count (inl none) rest h =
     let m = made kept_table old new no_schema count (λ s. s ≡ begun_schema) none makes_kept.0 makes_kept.1 makes_kept.2 rest h in (
       inl m.0,
-      record { rests = m.3; same = first_is new.now begun_schema m.0 ∙ ap tables_of m.1 ∙ sym (first_is old.now no_schema none) },
+      record { rests = m.3; same = first_is new.now begun_schema m.0 ∙ ap stored_tables m.1 ∙ sym (first_is old.now no_schema none) },
     )
 kept_run old new count (inr (inl begun)) rest h =
     let f = found kept_table old new begun_schema count begun finds_kept rest h in (inl (ap (λ (d : Database). d.schema) f.0 ∙ begun), f.1)
@@ -117,7 +117,7 @@ epoch_run old new count (inl begun) rest h =
     (λ t it. (record { second = t; is = it.0 }, it.1)) makes_epoch.2 in
     let m = made epoch_table old new begun_schema count IsStore begun makes_epoch.0 makes_epoch.1 defined rest h in (
       m.0,
-      record { rests = m.3; same = first_is new.now (store_of m.0.second) m.0.is ∙ ap tables_of m.2.0 ∙ sym (first_is old.now begun_schema begun) },
+      record { rests = m.3; same = first_is new.now (store_of m.0.second) m.0.is ∙ ap stored_tables m.2.0 ∙ sym (first_is old.now begun_schema begun) },
     )
 epoch_run old new count (inr store) rest h =
     let f = found epoch_table old new (store_of store.second) count store.is (finds_epoch store.second) rest h in

@@ -7,10 +7,10 @@ use Rattle.sqlite.specs.Order.{Row}
 use Rattle.sqlite.specs.State.{State, Executes, IsLive, QueriesRow}
 use Rattle.sqlite.specs.Store.{Ghosts}
 use Rattle.sqlite.specs.declared.error.Error.{Error}
-use Rattle.sqlite_keeper.specs.Begins.{Front, MakesNumber, Refuses, nothing, to_kept, to_epoch, to_raise}
+use Rattle.sqlite_keeper.specs.Begins.{Front, MakesNumber, RefusesToBegin, nothing, to_kept, to_epoch, to_raise}
 use Rattle.sqlite_keeper.specs.Schema.{Fits, IsStore}
 use Rattle.sqlite_keeper.specs.Statements.{StaysOutside, epoch_table, kept_table, raise_text}
-use Rattle.sqlite_keeper.specs.Told.{IsTold, KeepsTables, tables, tables_in}
+use Rattle.sqlite_keeper.specs.Told.{IsDatabaseTold, KeepsTables, tables, tables_in}
 use Rattle.sqlite_keeper.specs.declared.fault.SqlFault.{SqlFault}
 use Rattle.sqlite_keeper.proofs.MadeLemmas.{HasKept, IsAtRest, epoch_run, kept_run}
 use Rattle.sqlite_keeper.proofs.OutsideLemmas.{clean_before}
@@ -51,7 +51,7 @@ module _ {S : Type 0} (g : Ghosts S) (before : Held S) (fits : Fits before.schem
       raise_came (state g made) (state g after) raises.came e.0 e.1.rests opened (raises.ran clean) ∙ e.1.same ∙ k.1.same
 
   -- an opening that stops short of its end
-  pub refuses_by : (fault : SqlFault) (after : Held S) → Front g before after → StaysOutside g before after → Refuses g before fault after
+  pub refuses_by : (fault : SqlFault) (after : Held S) → Front g before after → StaysOutside g before after → RefusesToBegin g before fault after
   refuses_by fault after front outside = record {
     cause = λ inside. absurd (false≢true (sym rest.outside ∙ inside));
     strange = λ other. absurd (other fits);
@@ -65,7 +65,7 @@ module _ {S : Type 0} (g : Ghosts S) (before : Held S) (fits : Fits before.schem
 
 -- an opening whose number was raised leaves a told database
 pub told_made : {S : Type 0} (g : Ghosts S) (before after : Held S) (number : ℕ) → MakesNumber g before after number → IsStore after.schema → IsLive (state g after) → IsTrue (state g after).is_open
-    → IsTold (state g after)
+    → IsDatabaseTold (state g after)
 told_made g before after number makes store live opened = record {
   schema = store;
   sound = (live opened).0;

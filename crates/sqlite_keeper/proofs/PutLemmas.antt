@@ -35,7 +35,7 @@ use Rattle.sqlite.specs.Rows.{Written, Task, Gives, Refuses, Upserts, Meets, Jud
 use Rattle.sqlite.specs.State.{State, Shows, mode_of, Executes}
 use Rattle.sqlite.specs.Listing.{understood}
 use Rattle.sqlite.proofs.Callers.{statement_of, runs_as, one_step}
-use Rattle.sqlite_keeper.specs.Stored.{kept_of}
+use Rattle.sqlite_keeper.specs.Stored.{stored_row}
 use Rattle.sqlite_schema.specs.declared.schema.Table.{Table}
 use Rattle.sqlite_keeper.specs.Schema.{kept_index, rows_table, store_of}
 use Rattle.sqlite_keeper.specs.Commands.{put_command, plain_query}
@@ -135,8 +135,8 @@ module _ (second : Table) (limit : Option ℕ) (keys : Keys) (db : Trees) (path 
         is = refl;
       })
     where
-      only : (r : Row) → Has (row_of id path body ∷ []) r → kept_of r ≡ record { path = path; bytes = body }
-      only r (inl e) = ap kept_of e
+      only : (r : Row) → Has (row_of id path body ∷ []) r → stored_row r ≡ record { path = path; bytes = body }
+      only r (inl e) = ap stored_row e
       only r (inr absent) = absurd absent
 
   -- what the renewal is given: the parameters, the number of the row in the way, and the new row
@@ -178,7 +178,7 @@ module _ (second : Table) (limit : Option ℕ) (keys : Keys) (db : Trees) (path 
       let ids : (i : ℤ) → Has (ids_of asked.0) i → i ≡ y.id =
       λ i hi. let q = has_map (λ s. id_in (rowid s)) asked.0 i hi in q.2 ∙ ap (λ (z : Row). id_in (rowid z)) (each q.0 q.1) in
       let gone : Has (ids_of asked.0) y.id = map_has (λ s. id_in (rowid s)) asked.0 _ asked_for in
-      let is : kept_of its ≡ record { path = path; bytes = body } = ap (λ p. kept_of (row_of y.id p body)) same in
+      let is : stored_row its ≡ record { path = path; bytes = body } = ap (λ p. stored_row (row_of y.id p body)) same in
       let others : (w : Row) → Has left w → path_in w ≡ path → ⊥ =
       λ w hw e.
       let hold = without_all_has (ids_of asked.0) (db 0) w hw in
@@ -186,7 +186,7 @@ module _ (second : Table) (limit : Option ℕ) (keys : Keys) (db : Trees) (path 
       false≢true (sym (without_not (ids_of asked.0) (db 0) w y.id hw gone) ∙ ap (has_rowid y.id) one ∙ has_its r y) in
       subst (IsWith path body (db 0)) (sym rows) (record {
         from = λ w g. elim (put_all_has sources left w g) [
-          | inl new ↦ inr (ap kept_of (made w new) ∙ is)
+          | inl new ↦ inr (ap stored_row (made w new) ∙ is)
           | inr old ↦ inl (without_all_has (ids_of asked.0) (db 0) w old, others w old)
         ];
         to = λ w g differs.

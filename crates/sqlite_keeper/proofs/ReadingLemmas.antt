@@ -16,7 +16,7 @@ use Rattle.sqlite.specs.declared.error.Error.{Error}
 use Rattle.sqlite.proofs.Callers.{unchanged_then}
 use Rattle.index_keeper.specs.Tables.{KeptFacts}
 use Rattle.sqlite_keeper.specs.Reading.{GivesAll, GivesRow, LeavesAlone, shown_kept}
-use Rattle.sqlite_keeper.specs.Statements.{rows_text}
+use Rattle.sqlite_keeper.specs.Statements.{rows_query}
 use Rattle.sqlite_keeper.proofs.TextLemmas.{rows_show_none}
 use Rattle.sqlite_keeper.proofs.UndoneLemmas.{query_undone}
 
@@ -31,17 +31,17 @@ one_more given row items after its is row_is e =
     e ∙ ap (λ l. l ++ its ∷ []) is ∙ ap (λ k. map shown_kept given ++ k ∷ []) row_is ∙ sym (map-append shown_kept given (row ∷ []))
 
 -- a query at one moment is one at an earlier moment that shows the same
-shown_from : (first now last : State) (rows : List Row) → IsUnchanged first now → Shown rows_text [] now last rows → Shown rows_text [] first last rows
+shown_from : (first now last : State) (rows : List Row) → IsUnchanged first now → Shown rows_query [] now last rows → Shown rows_query [] first last rows
 unfolding Shown
 shown_from first now last rows same h =
     let full = timed [] h.0.formats h.1.now in
-    let is : understood first.now.schema rows_text ≡ Ok h.0 = subst (λ (d : Database). understood d.schema rows_text ≡ Ok h.0) same.0.now_is h.1.is in
+    let is : understood first.now.schema rows_query ≡ Ok h.0 = subst (λ (d : Database). understood d.schema rows_query ≡ Ok h.0) same.0.now_is h.1.is in
     let bare : h.0.returning ≡ None = subst (λ r. IfOk r (λ c. c.returning ≡ None)) is (rows_show_none first.now.schema) in
-    let it = subst (ShowsRows now last rows_text h.0 full rows) bare h.2 in (
+    let it = subst (ShowsRows now last rows_query h.0 full rows) bare h.2 in (
       h.0,
       record { is = is; whole = h.1.whole; given = h.1.given; now = h.1.now },
-      subst (ShowsRows first last rows_text h.0 full rows) (sym bare)
-          (it.0, subst (λ (d : Database). IsSourceOf (reads_listing d.schema rows_text) d it.0) same.0.now_is it.1, it.2, unchanged_then first now last same it.3),
+      subst (ShowsRows first last rows_query h.0 full rows) (sym bare)
+          (it.0, subst (λ (d : Database). IsSourceOf (reads_listing d.schema rows_query) d it.0) same.0.now_is it.1, it.2, unchanged_then first now last same it.3),
     )
 
 -- what is unchanged is left alone, and so is what is rolled back
@@ -64,8 +64,8 @@ left_by_step old new P e (inl failed) = left_back old new failed.3
 left_by_step old new P e (inr same) = left_unchanged old new same
 
 -- and so does a query that doesn't begin
-pub left_by_query : (old new : State) (e : Error) → FailsToQuery rows_text [] old new e → LeavesAlone old new
-left_by_query old new e h = elim (query_undone rows_text [] old new e h) [ inl same ↦ left_unchanged old new same | inr undone ↦ left_back old new undone ]
+pub left_by_query : (old new : State) (e : Error) → FailsToQuery rows_query [] old new e → LeavesAlone old new
+left_by_query old new e h = elim (query_undone rows_query [] old new e h) [ inl same ↦ left_unchanged old new same | inr undone ↦ left_back old new undone ]
 
 -- what follows where the answer is good
 pub on_ok : {A E : Type 0} (r : Result A E) (P Q : Type 0) → (P → Q) → OnOk r P → OnOk r Q
@@ -74,18 +74,18 @@ on_ok (Err e) P Q f h = tt
 
 module _ {S : Type 0} (g : Ghosts S) where
   pub given_more : (old new : Held S) (o : Option Row) (row : Row) (its : KeptFacts) → Some row ≡ o → Advances g old new o → its ≡ shown_kept row → GivesRow g old new (Some its)
-  given_more old new o row its e h is given had = (row, subst (λ (x : Option Row). GivesOn g rows_text [] old new given x) (sym e) (h rows_text [] given had), is)
+  given_more old new o row its e h is given had = (row, subst (λ (x : Option Row). GivesOn g rows_query [] old new given x) (sym e) (h rows_query [] given had), is)
 
   pub given_none : (old new : Held S) (o : Option Row) → None ≡ o → Advances g old new o → GivesRow g old new None
-  given_none old new o e h given had = subst (λ (x : Option Row). GivesOn g rows_text [] old new given x) (sym e) (h rows_text [] given had)
+  given_none old new o e h given had = subst (λ (x : Option Row). GivesOn g rows_query [] old new given x) (sym e) (h rows_query [] given had)
 
   -- a query that has begun has given nothing yet
-  pub begun : (old new : Held S) → HasBegun g rows_text [] old new → HasGiven g rows_text [] new [] × IsUnchanged (state g old) (state g new)
+  pub begun : (old new : Held S) → HasBegun g rows_query [] old new → HasGiven g rows_query [] new [] × IsUnchanged (state g old) (state g new)
   begun old new (inl h) = h
-  begun old new (inr h) = absurd (returns_never (understood old.schema rows_text) (rows_show_none old.schema) h.0)
+  begun old new (inr h) = absurd (returns_never (understood old.schema rows_query) (rows_show_none old.schema) h.0)
 
   -- a query that has given nothing is that of an open database
-  pub given_rests : (h : Held S) → HasGiven g rows_text [] h [] → IsUnchanged (state g h) (state g h)
+  pub given_rests : (h : Held S) → HasGiven g rows_query [] h [] → IsUnchanged (state g h) (state g h)
   unfolding HasGiven
   given_rests h it = (record { was_open = it.0.is_open; is_open = it.0.is_open; now_is = refl; committed_is = refl; mode = refl }, record { changes = refl; last_rowid = refl }, refl)
 
@@ -99,7 +99,7 @@ module _ {S : Type 0} (g : Ghosts S) where
   }
 
   -- no row is left: those that were given are all
-  pub gave_all : (first now last : Held S) (given : List Row) (items : List KeptFacts) → IsUnchanged (state g first) (state g now) → HasGiven g rows_text [] now given
+  pub gave_all : (first now last : Held S) (given : List Row) (items : List KeptFacts) → IsUnchanged (state g first) (state g now) → HasGiven g rows_query [] now given
       → GivesRow g now last None → IsUnchanged (state g now) (state g last) → items ≡ map shown_kept given → GivesAll g first last items
   gave_all first now last given items same had ends still is = record {
     answer = given;

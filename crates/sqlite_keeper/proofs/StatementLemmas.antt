@@ -29,21 +29,21 @@ use Rattle.sqlite.specs.Rows.{Written}
 use Rattle.sqlite.specs.State.{State, Shows, mode_of, Executes, Shown}
 use Rattle.sqlite.proofs.Callers.{IsPlain, command_of, statement_of, runs_as, reads_as, one_step}
 use Rattle.index_keeper.specs.Tables.{KeptFacts, AscendsByPath}
-use Rattle.sqlite_keeper.specs.Stored.{kept_of, tables_of}
+use Rattle.sqlite_keeper.specs.Stored.{stored_row, stored_tables}
 use Rattle.sqlite_keeper.specs.Schema.{rows_table, store_of}
 use Rattle.sqlite_keeper.specs.Commands.{rows_command, remove_command, put_command, at_path, plain_query}
 use Rattle.sqlite_keeper.specs.Reading.{shown_kept}
-use Rattle.sqlite_keeper.specs.Statements.{rows_text, put_text, remove_text}
+use Rattle.sqlite_keeper.specs.Statements.{rows_query, put_text, remove_text}
 use Rattle.sqlite_keeper.proofs.HasLemmas.{has_map, map_has}
 use Rattle.sqlite_keeper.proofs.KeptLemmas.{path_in, listed, IsWithout}
 use Rattle.sqlite_keeper.proofs.QueryLemmas.{answer_from, answer_to}
 use Rattle.sqlite_keeper.proofs.RowLemmas.{AreKept, IsKeptRow, one_int, one_number, texts_equal, equal_texts}
 
-rows_is : (second : Table) → (command_of (understood (store_of second) rows_text) ≡ rows_command) × (reads_listing (store_of second) rows_text ≡ false)
+rows_is : (second : Table) → (command_of (understood (store_of second) rows_query) ≡ rows_command) × (reads_listing (store_of second) rows_query ≡ false)
 unfolding understood everything
 rows_is second = (refl, refl)
 
-pub rows_plain : (second : Table) → IsPlain (understood (store_of second) rows_text)
+pub rows_plain : (second : Table) → IsPlain (understood (store_of second) rows_query)
 unfolding understood everything
 rows_plain second = (refl, refl)
 
@@ -64,14 +64,14 @@ unfolding understood everything
 put_plain second = (refl, refl)
 
 -- the rows that the query showed, strictly by path, are the tables
-pub shows : (second : Table) (old new : State) (rows : List Row) (items : List KeptFacts) → old.now.schema ≡ (store_of second) → AreKept (old.now.trees 0) → Shown rows_text [] old new rows
-    → items ≡ map shown_kept rows → AscendsByPath items → items ≡ tables_of (old.now.trees 0)
+pub shows : (second : Table) (old new : State) (rows : List Row) (items : List KeptFacts) → old.now.schema ≡ (store_of second) → AreKept (old.now.trees 0) → Shown rows_query [] old new rows
+    → items ≡ map shown_kept rows → AscendsByPath items → items ≡ stored_tables (old.now.trees 0)
 shows second old new rows items has kept h is ascends =
-    let answers = reads_as rows_text [] old new (store_of second) has rows_command (rows_is second).0 (rows_plain second) (rows_is second).1 rows h in
+    let answers = reads_as rows_query [] old new (store_of second) has rows_command (rows_is second).0 (rows_plain second) (rows_is second).1 rows h in
     let a = answers.answer Null in
     listed (old.now.trees 0) items kept.apart ascends
     (λ k g. let x = has_map shown_kept rows k (subst (λ l. Has l k) is g) in let r = answer_from old.now.trees [] rows _ _ _ a x.0 x.1 in (r.0, r.1, x.2 ∙ ap shown_kept r.3))
-    (λ r g. subst (λ l. Has l (kept_of r)) (sym is) (map_has shown_kept rows _ (answer_to old.now.trees [] rows _ _ _ a r g refl)))
+    (λ r g. subst (λ l. Has l (stored_row r)) (sym is) (map_has shown_kept rows _ (answer_to old.now.trees [] rows _ _ _ a r g refl)))
 
 -- a row that is left has another number than those that are taken
 pub without_not : (ids : List ℤ) (rows : List Row) (x : Row) (id : ℤ) → Has (without_all rows ids) x → Has ids id → has_rowid id x ≡ false

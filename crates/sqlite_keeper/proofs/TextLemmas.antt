@@ -28,7 +28,7 @@ use Rattle.sqlite_resolve.specs.Program.{program}
 use Rattle.sqlite_resolve.specs.Write.{deleted}
 use Rattle.sqlite.specs.Listing.{if_select, is_select, listing_schema, reads_listing, understood}
 use Rattle.sqlite_tied.specs.Compute.{everything}
-use Rattle.sqlite_keeper.specs.Statements.{kept_table, epoch_table, put_text, remove_text, rows_text}
+use Rattle.sqlite_keeper.specs.Statements.{kept_table, epoch_table, put_text, remove_text, rows_query}
 
 -- whether a command begins no transaction and moves no savepoint
 abbrev pub begins_none : Command → Bool
@@ -156,7 +156,7 @@ of_understood P schema text h = either_holds P (reads_listing schema text) _ _ (
     selected (Err e) p = record { it = tt }
 
 changes : IfOk (first kept_table) (λ p. is_change p.statement ≡ true) × IfOk (first epoch_table) (λ p. is_change p.statement ≡ true)
-    × IfOk (first put_text) (λ p. is_change p.statement ≡ true) × IfOk (first remove_text) (λ p. is_change p.statement ≡ true) × IfOk (first rows_text) (λ p. is_query p.statement ≡ true)
+    × IfOk (first put_text) (λ p. is_change p.statement ≡ true) × IfOk (first remove_text) (λ p. is_change p.statement ≡ true) × IfOk (first rows_query) (λ p. is_query p.statement ≡ true)
 unfolding everything
 changes = (refl, refl, refl, refl, refl)
 
@@ -172,5 +172,5 @@ put_begins_none schema = (of_understood _ schema put_text (λ s. compiled_out s 
 pub remove_begins_none : (schema : Schema) → BeginsNone (understood schema remove_text)
 remove_begins_none schema = (of_understood _ schema remove_text (λ s. compiled_out s remove_text (record { it = changes.3 }))).it
 
-pub rows_show_none : (schema : Schema) → IfOk (understood schema rows_text) (λ c. c.returning ≡ None)
-rows_show_none schema = (of_understood _ schema rows_text (λ s. compiled_shows_none s rows_text (record { it = changes.4 }))).it
+pub rows_show_none : (schema : Schema) → IfOk (understood schema rows_query) (λ c. c.returning ≡ None)
+rows_show_none schema = (of_understood _ schema rows_query (λ s. compiled_shows_none s rows_query (record { it = changes.4 }))).it

@@ -6,6 +6,6 @@ use Rattle.sqlite_keeper.specs.declared.fault.SqlFault.{SqlFault}
 use Rattle.sqlite_keeper.specs.declared.fault.SqlFault.TheVariants.{Failed, OutOfMemory}
 
 -- what an error of the database is
-abbrev pub fault_of : Error → SqlFault
-fault_of (SqliteFailure code.OutOfMemory) = OutOfMemory
-fault_of _ = Failed
+abbrev pub sql_fault : Error → SqlFault
+sql_fault (SqliteFailure code.OutOfMemory) = OutOfMemory
+sql_fault _ = Failed

@@ -8,7 +8,7 @@ use Rattle.sqlite.specs.State.{State, HasCleanDisk, Executes, Survives, CommitsB
 use Rattle.sqlite.specs.Store.{Ghosts}
 use Rattle.sqlite.specs.declared.error.Error.{Error}
 use Rattle.sqlite.specs.declared.types.Value.TheVariants.{Int}
-use Rattle.sqlite_keeper.specs.Faults.{fault_of}
+use Rattle.sqlite_keeper.specs.Faults.{sql_fault}
 use Rattle.sqlite_keeper.specs.declared.fault.SqlFault.{SqlFault}
 use Rattle.sqlite_keeper.specs.declared.fault.SqlFault.TheVariants.{Failed, OutOfMemory}
 
@@ -21,8 +21,8 @@ abbrev pub epoch_table : List ℕ
 epoch_table = codes "CREATE TABLE IF NOT EXISTS epoch(one INTEGER PRIMARY KEY CHECK (one = 1), n INTEGER NOT NULL) STRICT"
 
 -- the query that gives all rows, by path
-abbrev pub rows_text : List ℕ
-rows_text = codes "SELECT path, body FROM kept ORDER BY path"
+abbrev pub rows_query : List ℕ
+rows_query = codes "SELECT path, body FROM kept ORDER BY path"
 
 -- the change that keeps the bytes of the second parameter under the path of the first
 abbrev pub put_text : List ℕ
@@ -53,7 +53,7 @@ pub record WasRun {S : Type 0} (g : Ghosts S) (sql : List ℕ) (before after : H
   pub outside : StaysOutside g before after
 
 -- the statement was run without parameters, and was not refused
-pub record HasPassed {S : Type 0} (g : Ghosts S) (sql : List ℕ) (before after : Held S) : Type 0 where
+pub record HasStatementPassed {S : Type 0} (g : Ghosts S) (sql : List ℕ) (before after : Held S) : Type 0 where
   pub count : ℕ
   pub run : WasRun g sql before after (Ok count)
 
@@ -73,7 +73,7 @@ answer_for OutOfMemory = answer.OutOfMemory
 abbrev pub answer_to : Result ℕ Error → Bool → KeepAnswer
 answer_to (Ok count) false = answer.Done
 answer_to (Ok count) true = answer.Failed
-answer_to (Err error) inside = answer_for (fault_of error)
+answer_to (Err error) inside = answer_for (sql_fault error)
 
 -- the statement was run with these parameters, and answered so; the answer is the database's
 pub record HasRun {S : Type 0} (g : Ghosts S) (sql : List ℕ) (params : Row) (before after : Held S) (given : KeepAnswer) : Type 0 where

@@ -13,10 +13,10 @@ use Rattle.sqlite.specs.Table.{Table as Listed}
 use Rattle.sqlite_trees.specs.View.{IsShaped}
 use Rattle.sqlite_trees.specs.declared.store.Shape.TheVariants.{Table}
 use Rattle.sqlite_keeper.specs.Schema.{IsStore}
-use Rattle.sqlite_keeper.specs.Stored.{tables_of}
+use Rattle.sqlite_keeper.specs.Stored.{stored_tables}
 
 -- it has the tables of the store, and keeps their rules; no transaction is open, and all is committed
-pub record IsTold (now : State) : Type 0 where
+pub record IsDatabaseTold (now : State) : Type 0 where
   pub schema : IsStore now.now.schema
   pub sound : IsDatabase now.now
   pub outside : now.in_transaction ≡ false
@@ -25,7 +25,7 @@ pub record IsTold (now : State) : Type 0 where
 -- the rows of the first table that is listed, by path; there are none before one is
 abbrev pub first_of : List Listed → List Row → List KeptFacts
 first_of [] rows = []
-first_of (table ∷ others) rows = tables_of rows
+first_of (table ∷ others) rows = stored_tables rows
 
 -- the tables in a database, by path
 abbrev pub tables_in : Database → List KeptFacts
@@ -40,25 +40,25 @@ abbrev pub IsNumbered : State → Type 0
 IsNumbered now = IsShaped Table (now.now.trees 0)
 
 -- the change was made, and the database is told as before
-pub record Tells (edit : EditFacts) (old new : State) : Type 0 where
-  pub told : IsTold new
+pub record TellsEdit (edit : EditFacts) (old new : State) : Type 0 where
+  pub told : IsDatabaseTold new
   pub changed : tables new ≡ edited (tables old) edit
 
 -- nothing was changed, and the database is told as before
-pub record Stays (old new : State) : Type 0 where
-  pub told : IsTold new
+pub record DatabaseStays (old new : State) : Type 0 where
+  pub told : IsDatabaseTold new
   pub same : tables new ≡ tables old
 
 -- what an answer to a change tells: one that isn't done changed nothing
 abbrev pub IsToldBy : KeepAnswer → EditFacts → State → State → Type 0
-IsToldBy answer.Done edit old new = Tells edit old new
-IsToldBy _ edit old new = Stays old new
+IsToldBy answer.Done edit old new = TellsEdit edit old new
+IsToldBy _ edit old new = DatabaseStays old new
 
 -- a told database is so after the call, where its disk has returned what was written, it is open still, and the numbers
 -- of its rows rise before, and after if it is told then
 abbrev pub IfTold : {S : Type 0} → Ghosts S → Held S → Held S → Type 0 → Type 0
 IfTold g before after So =
-    IsTold (state g before) → IsNumbered (state g before) → (IsTold (state g after) → IsNumbered (state g after)) → HasCleanDisk (state g after)
+    IsDatabaseTold (state g before) → IsNumbered (state g before) → (IsDatabaseTold (state g after) → IsNumbered (state g after)) → HasCleanDisk (state g after)
     → IsTrue (state g after).is_open → So
 
 -- a change of a told database, by its answer
@@ -68,11 +68,11 @@ TellsChange g edit before after given = IfTold g before after (IsToldBy given ed
 -- the rows of a told database, if they were given; they are its tables, and either way these stay
 pub record TellsRows (given : Option (List KeptFacts)) (old new : State) : Type 0 where
   pub all : IfSome given (λ rows. rows ≡ tables old)
-  pub stays : Stays old new
+  pub stays : DatabaseStays old new
 
 -- rows of a told database were asked for
-abbrev pub TellsAll : {S : Type 0} → Ghosts S → Held S → Held S → Option (List KeptFacts) → Type 0
-TellsAll g before after given = IfTold g before after (TellsRows given (state g before) (state g after))
+abbrev pub TellsQueriedRows : {S : Type 0} → Ghosts S → Held S → Held S → Option (List KeptFacts) → Type 0
+TellsQueriedRows g before after given = IfTold g before after (TellsRows given (state g before) (state g after))
 
 -- the tables that are shown are as they were, where the disk has returned what was written and the database is open still
 abbrev pub KeepsTables : {S : Type 0} → Ghosts S → Held S → Held S → Type 0

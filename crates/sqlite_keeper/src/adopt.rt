@@ -3,9 +3,9 @@
 ghost use Rattle.std.specs.Prelude.{◌≡◌, IfErr, IfOk, IsTrue};
 ghost use Rattle.sqlite.specs.Held.{state};
 ghost use Rattle.sqlite_keeper.specs.Begins.{Adopts, Front, HasNumber, IsReady, MakesNumber};
-ghost use Rattle.sqlite_keeper.specs.Begins.{Refuses};
+ghost use Rattle.sqlite_keeper.specs.Begins.{RefusesToBegin};
 ghost use Rattle.sqlite_keeper.specs.Statements.{StaysOutside};
-ghost use Rattle.sqlite_keeper.specs.Told.{IsTold, tables};
+ghost use Rattle.sqlite_keeper.specs.Told.{IsDatabaseTold, tables};
 
 use crate::fault::SqlFault;
 use crate::keeper::SqliteKeeper;
@@ -43,8 +43,8 @@ pub(crate) fn prepare<F: Telling>(
     last: u64,
 ) -> Result<u64, SqlFault>
     ensures ok { IfOk result (IsReady F.Store last connection.old connection.new) }
-    ensures err { IfErr result (λ fault. Refuses F.Store connection.old fault connection.new) }
-    ensures told { IfOk result (λ _. IsTrue F.tells → IsTold (state F.Store connection.new)) }
+    ensures err { IfErr result (λ fault. RefusesToBegin F.Store connection.old fault connection.new) }
+    ensures told { IfOk result (λ _. IsTrue F.tells → IsDatabaseTold (state F.Store connection.new)) }
     ensures kept { IsTrue F.tells →
         tables (state F.Store connection.new) ≡ tables (state F.Store connection.old) }
 {

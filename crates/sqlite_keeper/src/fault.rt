@@ -14,9 +14,9 @@ pub enum SqlFault {
 
 impl From<Error> for SqlFault {
     ghost use Rattle.std.specs.Prelude.{◌≡◌};
-    ghost use Rattle.sqlite_keeper.specs.Faults.{fault_of};
+    ghost use Rattle.sqlite_keeper.specs.Faults.{sql_fault};
 
-    ghost from_gives = { λ error fault. fault ≡ fault_of error };
+    ghost from_gives = { λ error fault. fault ≡ sql_fault error };
 
     fn from(error: Error) -> SqlFault {
         match error {

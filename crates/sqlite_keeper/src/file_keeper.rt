@@ -4,14 +4,14 @@ ghost use Rattle.std.specs.Prelude.{◌≡◌, [], ◌∷◌, false, IfOk, IfSom
 ghost use Rattle.row_types.specs.declared.limits.TheConstants.{EDITION};
 ghost use Rattle.sqlite.specs.Files.{over_files};
 ghost use Rattle.sqlite.specs.declared.types.Value.TheVariants.{Blob, Text};
-ghost use Rattle.index_keeper.specs.Answers.{for_change, for_rows, rows_in};
-ghost use Rattle.index_keeper.specs.Keeper.{AreKept, Asks};
-ghost use Rattle.index_keeper.specs.Tables.{put_of, removal_of};
+ghost use Rattle.index_keeper.specs.Answers.{for_change, for_rows, rows_given};
+ghost use Rattle.index_keeper.specs.Keeper.{AreRowsKept, AsksKeeper};
+ghost use Rattle.index_keeper.specs.Tables.{put_bytes, removal_of};
 ghost use Rattle.sqlite_keeper.specs.FileStore.{BeginsAnew};
 ghost use Rattle.sqlite_keeper.specs.Keeper.{keeper_shown};
-ghost use Rattle.sqlite_keeper.specs.Reading.{Looks};
+ghost use Rattle.sqlite_keeper.specs.Reading.{LooksUpRows};
 ghost use Rattle.sqlite_keeper.specs.Statements.{Changes, put_text, remove_text};
-ghost use Rattle.sqlite_keeper.specs.Told.{TellsAll, TellsChange};
+ghost use Rattle.sqlite_keeper.specs.Told.{TellsQueriedRows, TellsChange};
 
 use crate::adopt::prepare;
 use crate::fault::SqlFault;
@@ -79,31 +79,31 @@ impl Keeper<OpenWorld> for FileKeeper {
     ghost shows = { λ k. keeper_shown over_files k.keeper };
 
     fn rows(&mut self, alloc: Global) -> KeptAnswer
-        ensures asks { Asks false (keeper_shown over_files self.old.keeper)
+        ensures asks { AsksKeeper false (keeper_shown over_files self.old.keeper)
             (keeper_shown over_files self.new.keeper) (for_rows result) }
-        ensures rows { IfSome (rows_in result) (AreKept (λ row. row.edition ≡ EDITION)) }
-        ensures looks { Looks over_files self.old.keeper.connection self.new.keeper.connection
-            (rows_in result) }
-        ensures tells { TellsAll over_files self.old.keeper.connection self.new.keeper.connection
-            (rows_in result) }
+        ensures rows { IfSome (rows_given result) (AreRowsKept (λ row. row.edition ≡ EDITION)) }
+        ensures looks { LooksUpRows over_files self.old.keeper.connection self.new.keeper.connection
+            (rows_given result) }
+        ensures tells { TellsQueriedRows over_files self.old.keeper.connection self.new.keeper.connection
+            (rows_given result) }
     {
         self.keeper.read(alloc)
     }
 
     fn put(&mut self, _alloc: Global, path: &str, bytes: &[u8]) -> KeepAnswer
-        ensures asks { Asks false (keeper_shown over_files self.old.keeper)
+        ensures asks { AsksKeeper false (keeper_shown over_files self.old.keeper)
             (keeper_shown over_files self.new.keeper)
-            (for_change (put_of path.now bytes.now) result) }
+            (for_change (put_bytes path.now bytes.now) result) }
         ensures changes { Changes over_files put_text (Text path.now ∷ Blob bytes.now ∷ [])
             self.old.keeper.connection self.new.keeper.connection result }
-        ensures tells { TellsChange over_files (put_of path.now bytes.now)
+        ensures tells { TellsChange over_files (put_bytes path.now bytes.now)
             self.old.keeper.connection self.new.keeper.connection result }
     {
         self.keeper.keep(path, bytes)
     }
 
     fn remove(&mut self, _alloc: Global, path: &str) -> KeepAnswer
-        ensures asks { Asks false (keeper_shown over_files self.old.keeper)
+        ensures asks { AsksKeeper false (keeper_shown over_files self.old.keeper)
             (keeper_shown over_files self.new.keeper) (for_change (removal_of path.now) result) }
         ensures changes { Changes over_files remove_text (Text path.now ∷ [])
             self.old.keeper.connection self.new.keeper.connection result }

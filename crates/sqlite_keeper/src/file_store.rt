@@ -1,9 +1,9 @@
 //! The store of the file at a path.
 
 ghost use Rattle.std.specs.Prelude.{◌≡◌, false};
-ghost use Rattle.index_keeper.specs.Store.{OpensStore, TakesBack};
+ghost use Rattle.index_keeper.specs.Store.{OpensStore, TakesKeeperBack};
 ghost use Rattle.sqlite.specs.Files.{over_files};
-ghost use Rattle.sqlite_keeper.specs.FileStore.{GivesBegun, file_shown, fresh};
+ghost use Rattle.sqlite_keeper.specs.FileStore.{GivesBegun, file_shown, fresh_file};
 ghost use Rattle.sqlite_keeper.specs.Keeper.{keeper_shown};
 
 use crate::fault::SqlFault;
@@ -33,7 +33,7 @@ impl Model for SqliteStore {
 impl SqliteStore {
     /// The store of files that are opened through this runtime.
     pub fn new(rt: HostRuntime) -> SqliteStore
-        ensures { result ≡ fresh }
+        ensures { result ≡ fresh_file }
     {
         SqliteStore {
             rt,
@@ -70,7 +70,7 @@ impl Store<OpenWorld> for SqliteStore {
 
     /// The log is copied into the file. Where that fails nothing is lost: the log keeps it.
     fn give_back(&mut self, keeper: FileKeeper)
-        ensures { TakesBack false (keeper_shown over_files keeper.keeper)
+        ensures { TakesKeeperBack false (keeper_shown over_files keeper.keeper)
             (file_shown self.old) (file_shown self.new) }
     {
         self.faults.add(keeper.close());

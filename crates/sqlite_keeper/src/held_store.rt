@@ -1,8 +1,8 @@
 //! The store of a connection that it was given.
 
 ghost use Rattle.std.specs.Prelude.{◌≡◌};
-ghost use Rattle.index_keeper.specs.Store.{OpensStore, TakesBack};
-ghost use Rattle.sqlite_keeper.specs.HeldStore.{Hands, after_giving, held_shown, holding};
+ghost use Rattle.index_keeper.specs.Store.{OpensStore, TakesKeeperBack};
+ghost use Rattle.sqlite_keeper.specs.HeldStore.{Hands, held_after_giving, held_shown, holding};
 ghost use Rattle.sqlite_keeper.specs.Keeper.{keeper_shown};
 
 use crate::adopt::prepare;
@@ -27,9 +27,9 @@ pub struct HeldStore<F: Telling> {
 }
 
 impl<F: Telling> Model for HeldStore<F> {
-    ghost use Rattle.sqlite_keeper.specs.HeldStore.{HeldFacts, held_facts_code};
+    ghost use Rattle.sqlite_keeper.specs.HeldStore.{HeldStoreFacts, held_facts_code};
 
-    ghost Value = { HeldFacts F };
+    ghost Value = { HeldStoreFacts F };
 
     ghost coded = { held_facts_code F.code };
 
@@ -99,9 +99,9 @@ impl<F: Telling + Send + Drop> Store<OpenWorld> for HeldStore<F> {
     }
 
     fn give_back(&mut self, keeper: SqliteKeeper<F>)
-        ensures takes { TakesBack F.tells (keeper_shown F.Store keeper)
+        ensures takes { TakesKeeperBack F.tells (keeper_shown F.Store keeper)
             (held_shown F.tells F.Store self.old) (held_shown F.tells F.Store self.new) }
-        ensures after { self.new ≡ after_giving self.old keeper }
+        ensures after { self.new ≡ held_after_giving self.old keeper }
     {
         let SqliteKeeper {
             connection,

@@ -4,13 +4,13 @@ ghost use Rattle.std.specs.Prelude.{◌≡◌, [], ◌∷◌, IfSome, IsTrue};
 ghost use Rattle.sqlite.specs.Held.{state};
 ghost use Rattle.sqlite.specs.declared.types.Value.TheVariants.{Blob, Text};
 ghost use Rattle.row_types.specs.declared.limits.TheConstants.{EDITION};
-ghost use Rattle.index_keeper.specs.Answers.{for_change, for_rows, has_failed, rows_in};
-ghost use Rattle.index_keeper.specs.Keeper.{AreKept, Asks};
-ghost use Rattle.index_keeper.specs.Tables.{EditFacts, put_of, removal_of};
-ghost use Rattle.sqlite_keeper.specs.Keeper.{IsCounted, keeper_shown, opened};
-ghost use Rattle.sqlite_keeper.specs.Reading.{Looks};
+ghost use Rattle.index_keeper.specs.Answers.{for_change, for_rows, keeper_failed, rows_given};
+ghost use Rattle.index_keeper.specs.Keeper.{AreRowsKept, AsksKeeper};
+ghost use Rattle.index_keeper.specs.Tables.{EditFacts, put_bytes, removal_of};
+ghost use Rattle.sqlite_keeper.specs.Keeper.{IsCounted, keeper_shown, opened_connection};
+ghost use Rattle.sqlite_keeper.specs.Reading.{LooksUpRows};
 ghost use Rattle.sqlite_keeper.specs.Statements.{Changes, put_text, remove_text};
-ghost use Rattle.sqlite_keeper.specs.Told.{IsTold, TellsAll, TellsChange};
+ghost use Rattle.sqlite_keeper.specs.Told.{IsDatabaseTold, TellsQueriedRows, TellsChange};
 
 use crate::fault::SqlFault;
 use crate::telling::Telling;
@@ -34,10 +34,10 @@ pub struct SqliteKeeper<F: Telling> {
 impl<F: Telling> Model for SqliteKeeper<F> {
     ghost use Rattle.std.specs.Prelude.{IsTrue};
     ghost use Rattle.sqlite.specs.Held.{state};
-    ghost use Rattle.sqlite_keeper.specs.Keeper.{KeeperFacts, keeper_code};
-    ghost use Rattle.sqlite_keeper.specs.Told.{IsTold};
+    ghost use Rattle.sqlite_keeper.specs.Keeper.{SqliteKeeperFacts, keeper_code};
+    ghost use Rattle.sqlite_keeper.specs.Told.{IsDatabaseTold};
 
-    ghost Value = { KeeperFacts F };
+    ghost Value = { SqliteKeeperFacts F };
 
     ghost coded = { keeper_code F.code };
 
@@ -47,14 +47,14 @@ impl<F: Telling> Model for SqliteKeeper<F> {
       epoch = k.epoch;
     } };
 
-    ghost invariant = { λ k. IsTrue F.tells → IsTold (state F.Store k.connection) };
+    ghost invariant = { λ k. IsTrue F.tells → IsDatabaseTold (state F.Store k.connection) };
 }
 
 impl<F: Telling> SqliteKeeper<F> {
     /// The keeper on a connection, by the number of the opening.
     pub(crate) fn new(connection: Connection<F>, epoch: u64) -> SqliteKeeper<F>
-        requires { IsTrue F.tells → IsTold (state F.Store connection) }
-        ensures { result ≡ opened connection epoch }
+        requires { IsTrue F.tells → IsDatabaseTold (state F.Store connection) }
+        ensures { result ≡ opened_connection connection epoch }
     {
         SqliteKeeper {
             connection,
@@ -72,13 +72,13 @@ impl<F: Telling> SqliteKeeper<F> {
 
     /// All rows of the tables, by path.
     pub(crate) fn read(&mut self, alloc: Global) -> KeptAnswer
-        ensures asks { Asks F.tells (keeper_shown F.Store self.old)
+        ensures asks { AsksKeeper F.tells (keeper_shown F.Store self.old)
             (keeper_shown F.Store self.new) (for_rows result) }
-        ensures rows { IfSome (rows_in result) (AreKept (λ row. row.edition ≡ EDITION)) }
-        ensures looks { Looks F.Store self.old.connection self.new.connection
-            (rows_in result) }
-        ensures tells { TellsAll F.Store self.old.connection self.new.connection
-            (rows_in result) }
+        ensures rows { IfSome (rows_given result) (AreRowsKept (λ row. row.edition ≡ EDITION)) }
+        ensures looks { LooksUpRows F.Store self.old.connection self.new.connection
+            (rows_given result) }
+        ensures tells { TellsQueriedRows F.Store self.old.connection self.new.connection
+            (rows_given result) }
     {
         let mut kept = Vec::new(alloc);
         match rows::read_all(&mut self.connection, &mut kept) {
@@ -93,11 +93,11 @@ impl<F: Telling> SqliteKeeper<F> {
 
     /// Keeps the bytes under the path, in place of those that were kept there.
     pub(crate) fn keep(&mut self, path: &str, bytes: &[u8]) -> KeepAnswer
-        ensures asks { Asks F.tells (keeper_shown F.Store self.old)
-            (keeper_shown F.Store self.new) (for_change (put_of path.now bytes.now) result) }
+        ensures asks { AsksKeeper F.tells (keeper_shown F.Store self.old)
+            (keeper_shown F.Store self.new) (for_change (put_bytes path.now bytes.now) result) }
         ensures changes { Changes F.Store put_text (Text path.now ∷ Blob bytes.now ∷ [])
             self.old.connection self.new.connection result }
-        ensures tells { TellsChange F.Store (put_of path.now bytes.now)
+        ensures tells { TellsChange F.Store (put_bytes path.now bytes.now)
             self.old.connection self.new.connection result }
     {
         let answer = sql::put(&mut self.connection, path, bytes);
@@ -107,7 +107,7 @@ impl<F: Telling> SqliteKeeper<F> {
 
     /// Keeps nothing under the path.
     pub(crate) fn forget(&mut self, path: &str) -> KeepAnswer
-        ensures asks { Asks F.tells (keeper_shown F.Store self.old)
+        ensures asks { AsksKeeper F.tells (keeper_shown F.Store self.old)
             (keeper_shown F.Store self.new) (for_change (removal_of path.now) result) }
         ensures changes { Changes F.Store remove_text (Text path.now ∷ [])
             self.old.connection self.new.connection result }
@@ -123,7 +123,7 @@ impl<F: Telling> SqliteKeeper<F> {
 /// Counts a fault, if the answer is one.
 fn count(faults: &mut Faults, answer: KeepAnswer)
     ensures { (edit : EditFacts) →
-        IsCounted (has_failed (for_change edit answer)) faults.old faults.new }
+        IsCounted (keeper_failed (for_change edit answer)) faults.old faults.new }
 {
     if answer == KeepAnswer::Failed {
         faults.raise();
@@ -138,30 +138,30 @@ impl<F: Telling + Send + Drop> Keeper<OpenWorld> for SqliteKeeper<F> {
     ghost shows = { keeper_shown F.Store };
 
     fn rows(&mut self, alloc: Global) -> KeptAnswer
-        ensures asks { Asks F.tells (keeper_shown F.Store self.old)
+        ensures asks { AsksKeeper F.tells (keeper_shown F.Store self.old)
             (keeper_shown F.Store self.new) (for_rows result) }
-        ensures rows { IfSome (rows_in result) (AreKept (λ row. row.edition ≡ EDITION)) }
-        ensures looks { Looks F.Store self.old.connection self.new.connection
-            (rows_in result) }
-        ensures tells { TellsAll F.Store self.old.connection self.new.connection
-            (rows_in result) }
+        ensures rows { IfSome (rows_given result) (AreRowsKept (λ row. row.edition ≡ EDITION)) }
+        ensures looks { LooksUpRows F.Store self.old.connection self.new.connection
+            (rows_given result) }
+        ensures tells { TellsQueriedRows F.Store self.old.connection self.new.connection
+            (rows_given result) }
     {
         self.read(alloc)
     }
 
     fn put(&mut self, _alloc: Global, path: &str, bytes: &[u8]) -> KeepAnswer
-        ensures asks { Asks F.tells (keeper_shown F.Store self.old)
-            (keeper_shown F.Store self.new) (for_change (put_of path.now bytes.now) result) }
+        ensures asks { AsksKeeper F.tells (keeper_shown F.Store self.old)
+            (keeper_shown F.Store self.new) (for_change (put_bytes path.now bytes.now) result) }
         ensures changes { Changes F.Store put_text (Text path.now ∷ Blob bytes.now ∷ [])
             self.old.connection self.new.connection result }
-        ensures tells { TellsChange F.Store (put_of path.now bytes.now)
+        ensures tells { TellsChange F.Store (put_bytes path.now bytes.now)
             self.old.connection self.new.connection result }
     {
         self.keep(path, bytes)
     }
 
     fn remove(&mut self, _alloc: Global, path: &str) -> KeepAnswer
-        ensures asks { Asks F.tells (keeper_shown F.Store self.old)
+        ensures asks { AsksKeeper F.tells (keeper_shown F.Store self.old)
             (keeper_shown F.Store self.new) (for_change (removal_of path.now) result) }
         ensures changes { Changes F.Store remove_text (Text path.now ∷ [])
             self.old.connection self.new.connection result }

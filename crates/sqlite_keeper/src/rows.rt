@@ -7,7 +7,7 @@ ghost use Rattle.sqlite.specs.State.{HasCleanDisk, IsUnchanged, Survives};
 ghost use Rattle.index_keeper.specs.Tables.{AscendsByPath};
 ghost use Rattle.sqlite_keeper.specs.Ascend.{stands_last};
 ghost use Rattle.sqlite_keeper.specs.Reading.{GivesAll, GivesRow, LeavesAlone, shown_kept};
-ghost use Rattle.sqlite_keeper.specs.Statements.{rows_text};
+ghost use Rattle.sqlite_keeper.specs.Statements.{rows_query};
 
 use crate::fault::SqlFault;
 use crate::sql;
@@ -79,10 +79,10 @@ fn read_from<F: Alter>(rows: &mut Rows<'_, F>, kept: &mut Vec<Kept>) -> Result<(
     ensures same_reference { rows.new.conn.ghost_name ≡ rows.old.conn.ghost_name }
     ensures ascends { AscendsByPath kept.new.items }
     ensures gives { HasCleanDisk (state F.Store rows.new.conn.now) →
-        HasGiven F.Store rows_text [] rows.old.conn.now [] →
+        HasGiven F.Store rows_query [] rows.old.conn.now [] →
         OnOk result (GivesAll F.Store rows.old.conn.now rows.new.conn.now kept.new.items) }
     ensures leaves { HasCleanDisk (state F.Store rows.new.conn.now) →
-        HasGiven F.Store rows_text [] rows.old.conn.now [] →
+        HasGiven F.Store rows_query [] rows.old.conn.now [] →
         LeavesAlone (state F.Store rows.old.conn.now) (state F.Store rows.new.conn.now) }
     ensures outside { rows.old.conn.now.in_transaction ≡ false →
         rows.new.conn.now.in_transaction ≡ false }

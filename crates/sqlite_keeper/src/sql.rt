@@ -6,7 +6,7 @@ ghost use Rattle.sqlite.specs.Held.{state};
 ghost use Rattle.sqlite.specs.State.{CommitsBy, HasCleanDisk, Survives};
 ghost use Rattle.sqlite.specs.Values.{bound};
 ghost use Rattle.sqlite.specs.declared.types.Value.TheVariants.{Blob, Text};
-ghost use Rattle.index_keeper.specs.Tables.{put_of, removal_of};
+ghost use Rattle.index_keeper.specs.Tables.{put_bytes, removal_of};
 ghost use Rattle.index_keeper.specs.declared.answer.KeepAnswer.TheVariants.{Done};
 ghost use Rattle.sqlite_keeper.specs.Statements.{Changes, HasRun, IsCommitted, IsShown, Raises};
 ghost use Rattle.sqlite_keeper.specs.Statements.{WasRaised, put_text, remove_text};
@@ -89,7 +89,7 @@ fn change<F: Alter>(
 pub fn put<F: Alter>(connection: &mut Connection<F>, path: &str, bytes: &[u8]) -> KeepAnswer
     ensures changes { Changes F.Store put_text (Text path.now ∷ Blob bytes.now ∷ [])
         connection.old connection.new result }
-    ensures tells { TellsChange F.Store (put_of path.now bytes.now)
+    ensures tells { TellsChange F.Store (put_bytes path.now bytes.now)
         connection.old connection.new result }
 {
     let params = [ValueRef::Text(path.as_bytes()), ValueRef::Blob(bytes)];

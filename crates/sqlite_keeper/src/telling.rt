@@ -9,7 +9,7 @@ pub trait Telling: Alter {
     ghost use Rattle.std.specs.Prelude.{◌≡◌, Bool, true, IsTrue};
     ghost use Rattle.sqlite.specs.Held.{Held, state};
     ghost use Rattle.sqlite.specs.State.{HasCleanDisk};
-    ghost use Rattle.sqlite_keeper.specs.Told.{IsNumbered, IsTold};
+    ghost use Rattle.sqlite_keeper.specs.Told.{IsNumbered, IsDatabaseTold};
 
     /// Whether it tells. It is a fact of the type.
     ghost tells: { Bool };
@@ -21,7 +21,7 @@ pub trait Telling: Alter {
     ghost opened: { tells ≡ true → (c : Held Self) → IsTrue (state Self.Store c).is_open };
 
     /// It numbers its rows.
-    ghost numbered: { tells ≡ true → (c : Held Self) → IsTold (state Self.Store c) →
+    ghost numbered: { tells ≡ true → (c : Held Self) → IsDatabaseTold (state Self.Store c) →
         IsNumbered (state Self.Store c) };
 }
 

@@ -6,10 +6,10 @@ use Rattle.std.proofs.lemmas.List.{append-nil}
 use Rattle.std.proofs.lemmas.List.Elements.{All-nil, All-cons, All-append, Contains-push}
 use Rattle.std.proofs.lemmas.List.Sums.{sum_by-append}
 use Rattle.row_types.specs.Name.{NameFacts}
-use Rattle.tree_trait.specs.Asks.{Asks, FitsAny, IsTold}
+use Rattle.tree_trait.specs.Asks.{AsksTree, FitsAny, IsAnswerTold}
 use Rattle.tree_trait.specs.Found.{Versions}
-use Rattle.tree_trait.specs.Heard.{Heard, after_asked, wants_memory, with_answers}
-use Rattle.tree_trait.specs.Listens.{Listens, heard_of, is_load, loads}
+use Rattle.tree_trait.specs.Heard.{Heard, list_after, wants_memory, with_answers}
+use Rattle.tree_trait.specs.Listens.{Listens, heard_or_none, is_load, loads}
 use Rattle.tree_trait.specs.Shown.{ShownTree, StaysStill}
 
 -- nothing was heard
@@ -23,7 +23,7 @@ heard_both None mid new xs ys m n = n ∙ ap (λ t. with_answers t ys) m
 heard_both (Some heard) mid new xs ys m n = n ∙ ap (λ t. with_answers t ys) m ∙ ap Some (append_assoc heard xs ys)
 
 heard_one : (told : Option (List Heard)) {new : Option (List Heard)} (asked : Heard)
-    → new ≡ after_asked told asked → new ≡ with_answers told (heard_of asked)
+    → new ≡ list_after told asked → new ≡ with_answers told (heard_or_none asked)
 heard_one told {new} asked h =
     elim (wants_memory asked) as (λ b. new ≡ (if b then told else with_answers told (asked ∷ []))
     → new ≡ with_answers told (if b then [] else asked ∷ [])) [
@@ -32,7 +32,7 @@ heard_one told {new} asked h =
     ] h
 
 -- what holds of the question holds of what was heard of it
-pub all_heard : (P : Heard → Type 0) (asked : Heard) → P asked → All P (heard_of asked)
+pub all_heard : (P : Heard → Type 0) (asked : Heard) → P asked → All P (heard_or_none asked)
 all_heard P asked h =
     elim (wants_memory asked) as (λ b. All P (if b then [] else asked ∷ [])) [
       | true ↦ All-nil P
@@ -40,7 +40,7 @@ all_heard P asked h =
     ]
 
 -- and it was heard, where memory wasn't refused
-pub is_heard : (asked : Heard) → wants_memory asked ≡ false → Contains (heard_of asked) asked
+pub is_heard : (asked : Heard) → wants_memory asked ≡ false → Contains (heard_or_none asked) asked
 is_heard asked e =
     subst (λ b. Contains (if b then [] else asked ∷ []) asked) (sym e) (Contains-push [] asked)
 
@@ -54,7 +54,7 @@ module _ {told : Bool} {version : Versions} where
   listens_none {hand} = record {
     heard = heard_none hand.heard;
     fits = All-nil (FitsAny version);
-    tells = λ _ _. All-nil (IsTold hand.present);
+    tells = λ _ _. All-nil (IsAnswerTold hand.present);
     hand = record {
       cause = record { later = omega arith; rose = λ never. absurd never };
       known = λ _ never. absurd never;
@@ -64,14 +64,14 @@ module _ {told : Bool} {version : Versions} where
   }
 
   -- what was heard of one question
-  pub listens_one : {before after : ShownTree} (asked : Heard) → Asks told version before after asked
-      → Listens told version before after (heard_of asked)
+  pub listens_one : {before after : ShownTree} (asked : Heard) → AsksTree told version before after asked
+      → Listens told version before after (heard_or_none asked)
   listens_one {before} {after} asked asks = record {
     heard = heard_one before.heard asked asks.listed;
     fits = all_heard (FitsAny version) asked asks.fits;
     tells = λ t still.
-        all_heard (IsTold before.present) asked
-        (subst (λ (names : List NameFacts). IsTold names asked) (asks.hands.still still).same (asks.tells t));
+        all_heard (IsAnswerTold before.present) asked
+        (subst (λ (names : List NameFacts). IsAnswerTold names asked) (asks.hands.still still).same (asks.tells t));
     hand = record {
       cause = record { later = asks.hands.cause.later; rose = λ never. absurd never };
       known = λ _ never. absurd never;
@@ -87,8 +87,8 @@ module _ {told : Bool} {version : Versions} where
     heard = heard_both before.heard mid.heard after.heard xs ys p.heard q.heard;
     fits = All-append (FitsAny version) xs ys p.fits q.fits;
     tells = λ t still.
-        All-append (IsTold before.present) xs ys (p.tells t still)
-        (subst (λ (names : List NameFacts). All (IsTold names) ys) (p.hand.still still).same
+        All-append (IsAnswerTold before.present) xs ys (p.tells t still)
+        (subst (λ (names : List NameFacts). All (IsAnswerTold names) ys) (p.hand.still still).same
         (q.tells t (p.hand.still still).still));
     hand = record {
       cause = record { later = omega (arith, p.hand.cause.later, q.hand.cause.later); rose = λ never. absurd never };

@@ -13,14 +13,14 @@ use Rattle.row_types.specs.Canon.{is_canonical}
 use Rattle.row_types.specs.Faults.{HasCause, Rose, raised}
 use Rattle.row_types.specs.Name.{NameFacts}
 use Rattle.row_types.proofs.CanonLemmas.{left_true, right_true}
-use Rattle.tree_trait.specs.Asks.{Asks, FitsAny, IsTold}
+use Rattle.tree_trait.specs.Asks.{AsksTree, FitsAny, IsAnswerTold}
 use Rattle.tree_trait.specs.Found.{FoundFacts, IsFound, Versions, found_name}
-use Rattle.tree_trait.specs.Heard.{Heard, has_failed, wants_memory}
+use Rattle.tree_trait.specs.Heard.{Heard, call_failed, wants_memory}
 use Rattle.tree_trait.specs.HeardCalls.{IsListedAs}
 use Rattle.tree_trait.specs.MemTree.{TreeFacts, IsScripted, IsStill, IsStageAnswer, answered, next_stage}
-use Rattle.tree_trait.specs.MemTree.{present_in, shown_by}
+use Rattle.tree_trait.specs.MemTree.{present_in, tree_shows}
 use Rattle.tree_trait.specs.Present.{IsKnownName, are_apart, are_distinct}
-use Rattle.tree_trait.specs.Script.{ScriptFacts, is_script, is_stage, is_listed, stage_for, names_at}
+use Rattle.tree_trait.specs.Script.{ScriptFacts, is_script, is_stage, is_call_listed, stage_for, names_at}
 use Rattle.tree_trait.specs.Shown.{IsPresence, StaysStill}
 
 -- a sound script's first stage is there
@@ -34,7 +34,7 @@ scripted_first script sound known = record {
 
 -- the names at a stage of a sound script are known
 pub tree_known : {version : Versions} (tree : TreeFacts) → IsScripted version tree.script tree.stage
-    → IsPresence version (shown_by tree)
+    → IsPresence version (tree_shows tree)
 tree_known {version} tree scripted =
     let files : List FoundFacts = slice_index_or tree.script.stages tree.stage [] in
     let known : All (IsFound version) files = scripted.known tree.stage [] scripted.placed in
@@ -59,10 +59,10 @@ tree_known {version} tree scripted =
 next_placed : (moves : List ℕ) (call stage count : ℕ) → stage < count
     → (stage ≤ stage_for moves call stage count) × (stage_for moves call stage count < count)
 next_placed moves call stage count placed =
-    elim (is_listed moves call && nat_lt (stage + 1) count) as (λ b.
-    (is_listed moves call && nat_lt (stage + 1) count) ≡ b
+    elim (is_call_listed moves call && nat_lt (stage + 1) count) as (λ b.
+    (is_call_listed moves call && nat_lt (stage + 1) count) ≡ b
     → (stage ≤ (if b then stage + 1 else stage)) × ((if b then stage + 1 else stage) < count)) [
-      | true ↦ λ t. (omega arith, ltb-true (stage + 1) count (right_true (is_listed moves call) _ t))
+      | true ↦ λ t. (omega arith, ltb-true (stage + 1) count (right_true (is_call_listed moves call) _ t))
       | false ↦ λ t. (omega arith, placed)
     ] refl
 
@@ -71,9 +71,9 @@ asks_answered : {version : Versions} (tree : TreeFacts) {next : TreeFacts} {aske
     → IsScripted version tree.script tree.stage
     → IsStageAnswer version bad (names_at tree.script (next_stage tree)) asked → wants_memory asked ≡ false
     → next ≡ answered tree asked → tree.faults ≤ next.faults
-    → Asks true version (shown_by tree) (shown_by next) asked
+    → AsksTree true version (tree_shows tree) (tree_shows next) asked
 asks_answered {version} tree {asked} scripted answer answers e later =
-    subst (λ (t : TreeFacts). Asks true version (shown_by tree) (shown_by t) asked) (sym e) (record {
+    subst (λ (t : TreeFacts). AsksTree true version (tree_shows tree) (tree_shows t) asked) (sym e) (record {
       fits = answer.fits;
       tells = λ _. answer.tells;
       listed = rw answers refl;
@@ -88,14 +88,14 @@ asks_answered {version} tree {asked} scripted answer answers e later =
     placed : (tree.stage ≤ next_stage tree) × (next_stage tree < length tree.script.stages)
     placed = next_placed tree.script.moves tree.calls tree.stage (length tree.script.stages) scripted.placed
 
-    known : IsPresence version (shown_by (answered tree asked))
+    known : IsPresence version (tree_shows (answered tree asked))
     known = tree_known (answered tree asked)
         (record { sound = scripted.sound; placed = placed.1; known = scripted.known })
 
-    cause : HasCause tree.faults (if has_failed asked then raised tree.faults else tree.faults)
-        (IsTrue (has_failed asked))
+    cause : HasCause tree.faults (if call_failed asked then raised tree.faults else tree.faults)
+        (IsTrue (call_failed asked))
     cause =
-        let risen : tree.faults ≤ (if has_failed asked then raised tree.faults else tree.faults) =
+        let risen : tree.faults ≤ (if call_failed asked then raised tree.faults else tree.faults) =
         subst (λ (t : TreeFacts). tree.faults ≤ t.faults) e later in
         record {
           later = risen;
@@ -104,7 +104,7 @@ asks_answered {version} tree {asked} scripted answer answers e later =
               (omega arith);
         }
 
-    stays : IsStill tree → StaysStill (shown_by tree) (shown_by (answered tree asked))
+    stays : IsStill tree → StaysStill (tree_shows tree) (tree_shows (answered tree asked))
     stays still =
         let same : names_at tree.script (next_stage tree) ≡ present_in tree =
         still.rests (next_stage tree) placed.0 placed.1 in
@@ -125,7 +125,7 @@ pub asks_kept : {X : Type 0} (facts : X → Heard) {version : Versions} (tree ne
     → IsStageAnswer version bad names asked
     → IfSome call (λ kept. IsListedAs asked (facts kept))
     → IsSomeAnd call (λ kept. next ≡ answered tree (facts kept)) → tree.faults ≤ next.faults
-    → Asks true version (shown_by tree) (shown_by next) asked
+    → AsksTree true version (tree_shows tree) (tree_shows next) asked
 asks_kept facts {version} tree next {asked} {bad} (Some kept) scripted files answer listed ended later =
     asks_answered tree scripted
     (subst (λ (ns : List NameFacts). IsStageAnswer version bad ns asked) files answer) listed.answered
@@ -134,11 +134,11 @@ asks_kept facts tree next None scripted files answer listed ended later = absurd
 
 -- a call for which memory was refused, which says nothing
 pub asks_nothing : {version : Versions} {tree next : TreeFacts} {asked : Heard}
-    → IsScripted version tree.script tree.stage → FitsAny version asked → IsTold (present_in tree) asked
-    → has_failed asked ≡ false → wants_memory asked ≡ true → next ≡ tree
-    → Asks true version (shown_by tree) (shown_by next) asked
+    → IsScripted version tree.script tree.stage → FitsAny version asked → IsAnswerTold (present_in tree) asked
+    → call_failed asked ≡ false → wants_memory asked ≡ true → next ≡ tree
+    → AsksTree true version (tree_shows tree) (tree_shows next) asked
 asks_nothing {version} {tree} {asked} scripted fits tells fine wants e =
-    subst (λ (t : TreeFacts). Asks true version (shown_by tree) (shown_by t) asked) (sym e) (record {
+    subst (λ (t : TreeFacts). AsksTree true version (tree_shows tree) (tree_shows t) asked) (sym e) (record {
       fits = fits;
       tells = λ _. tells;
       listed = rw wants refl;

@@ -54,7 +54,7 @@ pub record IsFolderListing (present : List NameFacts) (folder : List ℕ) (entri
   pub once : are_once entries ≡ true
 
 -- a folder stands at the path, and its entries are listed whole
-pub record IsListed (present : List NameFacts) (folder : List ℕ) (entries : List EntryFacts)
+pub record IsFolderListed (present : List NameFacts) (folder : List ℕ) (entries : List EntryFacts)
     (skipped : ℕ) : Type 0 where
   pub there : is_folder present folder ≡ true
   pub listing : IsFolderListing present folder entries
@@ -62,6 +62,6 @@ pub record IsListed (present : List NameFacts) (folder : List ℕ) (entries : Li
 
 -- what is answered of this folder, by the files that are there
 abbrev pub TellsDir : List NameFacts → List ℕ → DirFacts → Type 0
-TellsDir present folder (listed entries skipped) = IsListed present folder entries skipped
+TellsDir present folder (listed entries skipped) = IsFolderListed present folder entries skipped
 TellsDir present folder no_dir = is_folder present folder ≡ false
 TellsDir present folder _ = Unit {0}

@@ -13,11 +13,11 @@ pub data Heard : Type 0 where
   read_dir : (path : List ℕ) (answer : DirFacts) → Heard
 
 -- whether the call failed
-abbrev pub has_failed : Heard → Bool
-has_failed (load path limit failed) = true
-has_failed (stat path Failed) = true
-has_failed (read_dir path dir_failed) = true
-has_failed _ = false
+abbrev pub call_failed : Heard → Bool
+call_failed (load path limit failed) = true
+call_failed (stat path Failed) = true
+call_failed (read_dir path dir_failed) = true
+call_failed _ = false
 
 -- whether memory was refused
 abbrev pub wants_memory : Heard → Bool
@@ -31,5 +31,5 @@ abbrev pub with_answers : Option (List Heard) → List Heard → Option (List He
 with_answers told answers = option_map (λ entries. entries ++ answers) told
 
 -- the list after a call
-abbrev pub after_asked : Option (List Heard) → Heard → Option (List Heard)
-after_asked told asked = if wants_memory asked then told else with_answers told (asked ∷ [])
+abbrev pub list_after : Option (List Heard) → Heard → Option (List Heard)
+list_after told asked = if wants_memory asked then told else with_answers told (asked ∷ [])

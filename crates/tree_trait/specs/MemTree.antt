@@ -3,11 +3,11 @@ use Rattle.std.specs.Prelude.{◌≡◌, ℕ, ◌≤◌, ◌<◌, Bool, false, i
 use Rattle.std.specs.Prelude.{All, IsTrue, Some}
 use Rattle.row_types.specs.Faults.{raised}
 use Rattle.row_types.specs.Name.{NameFacts}
-use Rattle.tree_trait.specs.Asks.{FitsAny, IsTold}
+use Rattle.tree_trait.specs.Asks.{FitsAny, IsAnswerTold}
 use Rattle.tree_trait.specs.Found.{IsFound, Versions}
-use Rattle.tree_trait.specs.Heard.{Heard, has_failed, wants_memory}
+use Rattle.tree_trait.specs.Heard.{Heard, call_failed, wants_memory}
 use Rattle.tree_trait.specs.Present.{are_apart}
-use Rattle.tree_trait.specs.Script.{ScriptFacts, is_script, is_listed, stage_for, names_at}
+use Rattle.tree_trait.specs.Script.{ScriptFacts, is_script, is_call_listed, stage_for, names_at}
 use Rattle.tree_trait.specs.Shown.{ShownTree}
 
 -- the script, the stage that stands, the next call's number, the questions so far, and the count of faults
@@ -43,8 +43,8 @@ abbrev pub next_stage : TreeFacts → ℕ
 next_stage tree = stage_for tree.script.moves tree.calls tree.stage (length tree.script.stages)
 
 -- what the tree shows: it tells its questions
-abbrev pub shown_by : TreeFacts → ShownTree
-shown_by tree = record {
+abbrev pub tree_shows : TreeFacts → ShownTree
+tree_shows tree = record {
   present = present_in tree;
   Still = IsStill tree;
   heard = Some tree.heard;
@@ -58,7 +58,7 @@ answered tree asked = record {
   stage = next_stage tree;
   calls = raised tree.calls;
   heard = tree.heard ++ asked ∷ [];
-  faults = if has_failed asked then raised tree.faults else tree.faults;
+  faults = if call_failed asked then raised tree.faults else tree.faults;
 }
 
 -- the tree after a call; after want of memory it is as it was
@@ -67,17 +67,17 @@ tree_after tree asked = if wants_memory asked then tree else answered tree asked
 
 -- whether the next call's number is among those that fail
 abbrev pub is_bad_call : TreeFacts → Bool
-is_bad_call tree = is_listed tree.script.bad_calls tree.calls
+is_bad_call tree = is_call_listed tree.script.bad_calls tree.calls
 
 -- the call fails exactly where its number is listed, want of memory apart
 abbrev pub FailsAsListed : Bool → Heard → Type 0
-FailsAsListed bad asked = wants_memory asked ≡ false → has_failed asked ≡ bad
+FailsAsListed bad asked = wants_memory asked ≡ false → call_failed asked ≡ bad
 
 -- the call is answered by the files of a stage
 pub record IsStageAnswer (version : Versions) (bad : Bool) (present : List NameFacts)
     (asked : Heard) : Type 0 where
   pub fits : FitsAny version asked
-  pub tells : IsTold present asked
+  pub tells : IsAnswerTold present asked
   pub fails : FailsAsListed bad asked
 
 -- the call is answered by the script

@@ -3,5 +3,5 @@ use Rattle.tree_trait.specs.Entry.{EntryFacts}
 use Rattle.tree_trait.specs.declared.folder.Piece.{Piece}
 
 -- the piece's name and kind
-abbrev pub piece_facts : Piece → EntryFacts
-piece_facts piece = record { name = piece.name.now; kind = piece.kind }
+abbrev pub entry_piece : Piece → EntryFacts
+entry_piece piece = record { name = piece.name.now; kind = piece.kind }

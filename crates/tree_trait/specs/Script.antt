@@ -22,12 +22,12 @@ abbrev pub is_script : ScriptFacts → Bool
 is_script script = nat_lt 0 (length script.stages) && list_all is_stage script.stages
 
 -- whether the call of this number is among the numbers
-abbrev pub is_listed : List ℕ → ℕ → Bool
-is_listed numbers call = list_any (λ number. number == call) numbers
+abbrev pub is_call_listed : List ℕ → ℕ → Bool
+is_call_listed numbers call = list_any (λ number. number == call) numbers
 
 -- the stage, of so many, in which the call of this number is answered, if the one before was in this stage
 abbrev pub stage_for : List ℕ → ℕ → ℕ → ℕ → ℕ
-stage_for moves call stage count = if is_listed moves call && nat_lt (stage + 1) count then stage + 1 else stage
+stage_for moves call stage count = if is_call_listed moves call && nat_lt (stage + 1) count then stage + 1 else stage
 
 -- the names of the files at a stage
 abbrev pub names_at : ScriptFacts → ℕ → List NameFacts

@@ -3,9 +3,9 @@
 use Rattle.std.specs.Prelude.{◌≡◌, ℕ, ◌==◌, pos, ◌⊎◌, List, codes, true, Result, Err, refl}
 use Rattle.std.proofs.Common.{sym, ◌∙◌, ap, subst, inl, inr}
 use Rattle.std.proofs.lemmas.Bool.{false≢true}
-use Rattle.file_formats.specs.Header.{head_of}
+use Rattle.file_formats.specs.Header.{header_of}
 use Rattle.file_formats.specs.Identity.{Identity, IsIdentity}
-use Rattle.file_formats.specs.Table.{table_of}
+use Rattle.file_formats.specs.Table.{section_table}
 use Rattle.file_formats.specs.declared.fault.ElfFault.TheVariants.{NotElf}
 use Rattle.file_formats.specs.declared.fault.Why.{Why}
 use Rattle.file_formats.specs.declared.fault.Why.TheVariants.{NotElf as WhyNotElf}
@@ -58,16 +58,16 @@ either_is_one told asked stamp a b p q = same_bytes stamp a b p.one q.one
 reason_is_one : (stamp : StampFacts) (bytes : List ℕ)
     → IsOne first_stamp (codes "x") stamp bytes ⊎ IsOne second_stamp (codes "yy") stamp bytes
     → (r : Result Identity Why) → IsIdentity bytes r → r ≡ Err WhyNotElf
-unfolding table_of head_of
+unfolding section_table header_of
 reason_is_one stamp bytes (inl p) r h =
     refused_is_one (codes "x") NotElf refl r (subst (λ b. IsIdentity b r) p.filled h)
 reason_is_one stamp bytes (inr p) r h =
     refused_is_one (codes "yy") NotElf refl r (subst (λ b. IsIdentity b r) p.filled h)
 
 -- a name has at most one true row
-pub one_true_row : true ≡ true → (a b : RowFacts) → a.name ≡ b.name → IsTrueRow IsEither a
+pub one_of_two_rows : true ≡ true → (a b : RowFacts) → a.name ≡ b.name → IsTrueRow IsEither a
     → IsTrueRow IsEither b → a ≡ b
-one_true_row told =
+one_of_two_rows told =
     true_rows_same IsEither
     (λ asked stamp bytes either r s p q. reason_is_one stamp bytes either.one r p
     ∙ sym (reason_is_one stamp bytes either.one s q))

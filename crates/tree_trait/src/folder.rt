@@ -8,7 +8,7 @@ ghost use Rattle.tree_trait.specs.Entry.{has_entry};
 ghost use Rattle.tree_trait.specs.Folder.{IsRest, first_piece, piece_under};
 ghost use Rattle.tree_trait.specs.Folder.{with_piece, with_pieces};
 ghost use Rattle.tree_trait.specs.Found.{found_name};
-ghost use Rattle.tree_trait.specs.Pieces.{piece_facts};
+ghost use Rattle.tree_trait.specs.Pieces.{entry_piece};
 ghost use Rattle.row_types.specs.Under.{front_under, lies_under};
 ghost use Rattle.tree_trait.specs.Present.{is_folder};
 
@@ -100,7 +100,7 @@ fn add_piece(
     piece: Option<Piece<'_>>,
 ) -> Result<(), AllocError>
     ensures { OnOk result (entries.new.items
-        ≡ with_piece entries.old.items (option_map piece_facts piece.entry)) }
+        ≡ with_piece entries.old.items (option_map entry_piece piece.entry)) }
 {
     if let Some(piece) = piece {
         if is_entry_name(piece.name) && !has_piece(entries.as_slice(), piece) {
@@ -115,14 +115,14 @@ fn add_piece(
 
 /// Whether an entry is there.
 fn has_piece(entries: &[Entry], piece: Piece<'_>) -> bool
-    ensures { result ≡ has_entry entries.now (piece_facts piece.entry) }
+    ensures { result ≡ has_entry entries.now (entry_piece piece.entry) }
 {
     entries.iter().any(|entry| piece.name == entry.name.as_str() && piece.kind == entry.kind)
 }
 
 /// The piece of a path that stands next behind a folder.
 fn piece_under<'a>(folder: &str, path: &'a str) -> Option<Piece<'a>>
-    ensures { option_map piece_facts result ≡ piece_under folder.now path.now }
+    ensures { option_map entry_piece result ≡ piece_under folder.now path.now }
 {
     match rest_under(folder, path) {
         Some(rest) => Some(first_piece(rest)),
@@ -132,7 +132,7 @@ fn piece_under<'a>(folder: &str, path: &'a str) -> Option<Piece<'a>>
 
 /// The first piece of a text, and whether more follows it.
 fn first_piece(rest: &str) -> Piece<'_>
-    ensures { piece_facts result ≡ first_piece rest.now }
+    ensures { entry_piece result ≡ first_piece rest.now }
 {
     match rest.split_once('/') {
         Some((name, _)) => Piece {

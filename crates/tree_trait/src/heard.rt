@@ -2,7 +2,7 @@
 
 ghost use Rattle.std.specs.Prelude.{◌≡◌, IfSome};
 ghost use Rattle.tree_trait.specs.Dir.{dir_facts};
-ghost use Rattle.tree_trait.specs.Heard.{load, stat, read_dir, has_failed};
+ghost use Rattle.tree_trait.specs.Heard.{load, stat, read_dir, call_failed};
 ghost use Rattle.tree_trait.specs.HeardCalls.{heard_facts, IsListedAs};
 ghost use Rattle.tree_trait.specs.Load.{load_facts};
 
@@ -43,7 +43,7 @@ pub enum HeardCall<W: Truth> {
 impl<W: Truth> HeardCall<W> {
     /// Whether the call failed.
     pub fn has_failed(&self) -> bool
-        ensures { result ≡ has_failed (heard_facts self.now) }
+        ensures { result ≡ call_failed (heard_facts self.now) }
     {
         matches!(
             self,

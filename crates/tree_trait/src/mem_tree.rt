@@ -2,14 +2,14 @@
 
 ghost use Rattle.std.specs.Prelude.{◌≡◌, ◌≤◌, ◌<◌, true, map, length, IsTrue, IsSomeAnd};
 ghost use Rattle.std.specs.Bool.{OnTrue, OnFalse};
-ghost use Rattle.tree_trait.specs.Asks.{Asks};
+ghost use Rattle.tree_trait.specs.Asks.{AsksTree};
 ghost use Rattle.tree_trait.specs.Dir.{dir_facts};
 ghost use Rattle.tree_trait.specs.Found.{found_name};
 ghost use Rattle.tree_trait.specs.Heard.{load, stat, read_dir, wants_memory};
 ghost use Rattle.tree_trait.specs.HeardCalls.{heard_facts};
 ghost use Rattle.tree_trait.specs.Load.{load_facts};
 ghost use Rattle.tree_trait.specs.MemTree.{IsScripted, RunsScript, TreeFacts, answered};
-ghost use Rattle.tree_trait.specs.MemTree.{fresh_tree, is_bad_call, next_stage, shown_by};
+ghost use Rattle.tree_trait.specs.MemTree.{fresh_tree, is_bad_call, next_stage, tree_shows};
 ghost use Rattle.tree_trait.specs.Script.{is_script, names_at};
 
 use crate::answer::LoadAnswer;
@@ -120,14 +120,14 @@ impl<W: Truth> MemTree<W> {
 
 impl<W: Truth + Send> Tree<W> for MemTree<W> {
     ghost use Rattle.std.specs.Prelude.{true};
-    ghost use Rattle.tree_trait.specs.MemTree.{shown_by};
+    ghost use Rattle.tree_trait.specs.MemTree.{tree_shows};
 
     ghost told = { true };
 
-    ghost shows = { shown_by };
+    ghost shows = { tree_shows };
 
     fn load(&mut self, alloc: Global, path: &str, limit: u64) -> LoadAnswer<W>
-        ensures asks { Asks true W.version (shown_by self.old) (shown_by self.new)
+        ensures asks { AsksTree true W.version (tree_shows self.old) (tree_shows self.new)
             (load path.now limit (load_facts result)) }
         ensures memory { IsTrue (wants_memory (load path.now limit (load_facts result)))
             → self.new ≡ self.old }
@@ -143,7 +143,7 @@ impl<W: Truth + Send> Tree<W> for MemTree<W> {
     }
 
     fn stat(&mut self, alloc: Global, path: &str) -> StatAnswer
-        ensures asks { Asks true W.version (shown_by self.old) (shown_by self.new)
+        ensures asks { AsksTree true W.version (tree_shows self.old) (tree_shows self.new)
             (stat path.now result) }
         ensures memory { IsTrue (wants_memory (stat path.now result)) → self.new ≡ self.old }
         ensures script { RunsScript self.old self.new (stat path.now result) }
@@ -158,7 +158,7 @@ impl<W: Truth + Send> Tree<W> for MemTree<W> {
     }
 
     fn read_dir(&mut self, alloc: Global, path: &str) -> DirAnswer
-        ensures asks { Asks true W.version (shown_by self.old) (shown_by self.new)
+        ensures asks { AsksTree true W.version (tree_shows self.old) (tree_shows self.new)
             (read_dir path.now (dir_facts result)) }
         ensures memory { IsTrue (wants_memory (read_dir path.now (dir_facts result)))
             → self.new ≡ self.old }

@@ -10,7 +10,7 @@ ghost use Rattle.tree_trait.specs.Heard.{load, stat, read_dir};
 ghost use Rattle.tree_trait.specs.Load.{load_facts};
 ghost use Rattle.tree_trait.specs.MemTree.{IsStageAnswer};
 ghost use Rattle.tree_trait.specs.Present.{IsFileAt};
-ghost use Rattle.tree_trait.specs.Script.{is_listed, stage_for};
+ghost use Rattle.tree_trait.specs.Script.{is_call_listed, stage_for};
 
 use crate::answer::LoadAnswer;
 use crate::dir::DirAnswer;
@@ -22,7 +22,7 @@ use std::alloc::Global;
 
 /// Whether the call of this number is among the numbers.
 pub fn is_listed(numbers: &[u64], call: u64) -> bool
-    ensures { result ≡ is_listed numbers.now call }
+    ensures { result ≡ is_call_listed numbers.now call }
 {
     numbers.contains(&call)
 }

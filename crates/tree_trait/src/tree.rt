@@ -1,7 +1,7 @@
 //! The trait that stands for a tree of files.
 
 ghost use Rattle.std.specs.Prelude.{◌≡◌, Bool, IsTrue};
-ghost use Rattle.tree_trait.specs.Asks.{Asks};
+ghost use Rattle.tree_trait.specs.Asks.{AsksTree};
 ghost use Rattle.tree_trait.specs.Dir.{dir_facts};
 ghost use Rattle.tree_trait.specs.Heard.{load, stat, read_dir, wants_memory};
 ghost use Rattle.tree_trait.specs.Load.{load_facts};
@@ -26,20 +26,20 @@ pub trait Tree<W: Truth>: Send + Drop {
 
     /// Reads the regular file at a path, if it has no more bytes than the limit.
     fn load(&mut self, alloc: Global, path: &str, limit: u64) -> LoadAnswer<W>
-        ensures asks { Asks told W.version (shows self.old) (shows self.new)
+        ensures asks { AsksTree told W.version (shows self.old) (shows self.new)
             (load path.now limit (load_facts result)) }
         ensures memory { IsTrue (wants_memory (load path.now limit (load_facts result)))
             → self.new ≡ self.old };
 
     /// Looks at what stands at a path.
     fn stat(&mut self, alloc: Global, path: &str) -> StatAnswer
-        ensures asks { Asks told W.version (shows self.old) (shows self.new)
+        ensures asks { AsksTree told W.version (shows self.old) (shows self.new)
             (stat path.now result) }
         ensures memory { IsTrue (wants_memory (stat path.now result)) → self.new ≡ self.old };
 
     /// Reads the entries of the folder at a path.
     fn read_dir(&mut self, alloc: Global, path: &str) -> DirAnswer
-        ensures asks { Asks told W.version (shows self.old) (shows self.new)
+        ensures asks { AsksTree told W.version (shows self.old) (shows self.new)
             (read_dir path.now (dir_facts result)) }
         ensures memory { IsTrue (wants_memory (read_dir path.now (dir_facts result)))
             → self.new ≡ self.old };

@@ -11,7 +11,7 @@ impl Truth for TwoWorld {
     ghost use Rattle.std.specs.Prelude.{true};
     ghost use Rattle.row_types.specs.Reading.{IsTrueRow};
     ghost use Rattle.row_types.proofs.TrueRowLemmas.{too_large_is_true};
-    ghost use Rattle.tree_trait.specs.TwoWorld.{IsEither, either_is_one, one_true_row};
+    ghost use Rattle.tree_trait.specs.TwoWorld.{IsEither, either_is_one, one_of_two_rows};
 
     ghost told = { true };
 
@@ -23,7 +23,7 @@ impl Truth for TwoWorld {
 
     ghost one_content = { either_is_one };
 
-    ghost one_row = { one_true_row };
+    ghost one_row = { one_of_two_rows };
 
     ghost of_edition = { λ _ h. h.edition };
 }

@@ -18,9 +18,9 @@ use Rattle.tree_trait.specs.declared.entry.EntryKind.{EntryKind}
 use Rattle.tree_trait.specs.declared.stat.StatAnswer.{StatAnswer}
 use Rattle.tree_trait.specs.declared.stat.StatAnswer.TheVariants.{File}
 use Rattle.tree_walk.specs.Answers.{first_look, entries_in, times_read, entries_read, all_passed_over}
-use Rattle.tree_walk.specs.Ends.{IsCause, IsWithinLimits, IsWholeWalk, IsTooMany, StopsAtLast}
-use Rattle.tree_walk.specs.Kept.{file_of, IsMet, IsSeenTo, IsSearch}
-use Rattle.tree_walk.specs.Search.{SearchFacts, NotesAnswer, has, search_names}
+use Rattle.tree_walk.specs.Ends.{IsCause, IsWithinLimits, IsWholeWalk, AreFilesTooMany, StopsAtLast}
+use Rattle.tree_walk.specs.Kept.{found_stamp, IsEntryMet, IsSeenTo, IsSearch}
+use Rattle.tree_walk.specs.Search.{SearchFacts, NotesAnswer, has_path, search_names}
 use Rattle.tree_walk.specs.Underway.{IsUnderway}
 use Rattle.tree_walk.specs.Walked.{IsReached, root, entry, IsEntry, IsFolder, IsWalked, IsWalkListing}
 use Rattle.tree_walk.specs.declared.fault.WalkFault.{WalkFault}
@@ -33,7 +33,7 @@ use Rattle.tree_walk.proofs.SetLemmas.{length_names, name_from_lookup, lookup_fr
 use Rattle.tree_walk.proofs.SetLemmas.{distinct_from_sorted, has_from_Contains, Contains-from_has}
 
 -- a file that was found is what the look said
-file_back : (answer : Option StatAnswer) {stamp : StampFacts} → file_of answer ≡ Some stamp
+file_back : (answer : Option StatAnswer) {stamp : StampFacts} → found_stamp answer ≡ Some stamp
     → answer ≡ Some (File stamp)
 file_back (Some (File found)) {stamp} h = ap (λ (s : StampFacts). Some (File s)) (same_Some found stamp h)
 file_back _ {stamp} h = absurd (none-some stamp h)
@@ -57,7 +57,7 @@ listing_is {search} s = record {
   all = λ name. (
     walked_from_file s name,
     λ w. name_from_lookup search.files name
-        (s.looks.files name.path ∙ ap file_of w.file),
+        (s.looks.files name.path ∙ ap found_stamp w.file),
   );
 }
 
@@ -79,7 +79,7 @@ room_is {answers} {search} s few =
 pub too_many_is : {answers : List Heard} {roots : List (List ℕ)} {search : SearchFacts} {folder : List ℕ}
     {rest : List EntryFacts} → StopsAtLast answers roots (λ last. Unit {0})
     → IsSearch answers roots search folder rest → LISTING_LIMIT < length search.files
-    → IsTooMany answers roots
+    → AreFilesTooMany answers roots
 too_many_is {search} last s many = record {
   last = last;
   names = search_names search.files;
@@ -91,7 +91,7 @@ too_many_is {search} last s many = record {
 pub adds_ends : {V : Type 0} {answers : List Heard} {roots : List (List ℕ)} (result : Result V WalkFault)
     (next now : SearchFacts) (Good : SearchFacts → Type 0) → NotesAnswer next now result
     → (length next.files ≤ LISTING_LIMIT → Good next) → StopsAtLast answers roots (λ last. Unit {0})
-    → (LISTING_LIMIT < length next.files → IsTooMany answers roots)
+    → (LISTING_LIMIT < length next.files → AreFilesTooMany answers roots)
     → MatchResult result (λ _. Good now) (IsCause answers roots)
 adds_ends (Ok _) next now Good added few last many = subst Good (sym added.same) (few added.few)
 adds_ends (Err TooMany) next now Good added few last many = many added
@@ -108,20 +108,20 @@ settled_of s at e h = elim
 
 met_of : {answers : List Heard} {roots : List (List ℕ)} {search : SearchFacts} {k : EntryKind}
     {path : List ℕ} → IsSearch answers roots search [] [] → IsEntry answers roots k path
-    → length path ≤ PATH_LIMIT → IsMet answers search.folders path k
+    → length path ≤ PATH_LIMIT → IsEntryMet answers search.folders path k
 met_of {answers} {search} {k} {path} s e short =
     let settled : IsSeenTo answers search.folders search.long path k =
     subst (λ (p : List ℕ). IsSeenTo answers search.folders search.long p k) (sym e.named.joined)
     (settled_of s e.folder (record { name = e.named.name; kind = k }) e.named.listed) in
-    MatchBool-at_false (has search.long path ≡ true) (IsMet answers search.folders path k)
+    MatchBool-at_false (has_path search.long path ≡ true) (IsEntryMet answers search.folders path k)
     (le-ltb PATH_LIMIT (length path) short) settled
 
 long_of : {answers : List Heard} {roots : List (List ℕ)} {search : SearchFacts}
     → IsUnderway answers roots search [] [] → {path : List ℕ} → IsReached answers roots path
-    → PATH_LIMIT < length path → has search.long path ≡ true
+    → PATH_LIMIT < length path → has_path search.long path ≡ true
 long_of {answers} {roots} {search} u {path} (root p c) lt =
     elim (first_look answers path) as (λ o. first_look answers path ≡ o → IsSome o
-    → has search.long path ≡ true) [
+    → has_path search.long path ≡ true) [
       | None ↦ λ e h. absurd (false≢true h)
       | Some a ↦ λ e h.
           let due = look_was_due answers roots u.search_is.asked.due path e in
@@ -132,13 +132,13 @@ long_of {answers} {search} u {path} (entry folder p k r n) lt =
     let settled : IsSeenTo answers search.folders search.long path k =
     subst (λ (q : List ℕ). IsSeenTo answers search.folders search.long q k) (sym n.joined)
     (settled_of u.search_is folder (record { name = n.name; kind = k }) n.listed) in
-    MatchBool-at_true (has search.long path ≡ true) (IsMet answers search.folders path k)
+    MatchBool-at_true (has_path search.long path ≡ true) (IsEntryMet answers search.folders path k)
     (lt-ltb PATH_LIMIT (length path) lt) settled
 
 -- each folder is known
 known_of : {answers : List Heard} {roots : List (List ℕ)} {search : SearchFacts}
     → IsUnderway answers roots search [] [] → (path : List ℕ) → IsFolder answers roots path
-    → length path ≤ PATH_LIMIT → has search.folders path ≡ true
+    → length path ≤ PATH_LIMIT → has_path search.folders path ≡ true
 known_of u path (inl r) short = u.looked.folders path r.root r.folder
 known_of u path (inr e) short = met_of u.search_is e short
 
@@ -156,7 +156,7 @@ never_of : {answers : List Heard} {roots : List (List ℕ)} {search : SearchFact
     → IsUnderway answers roots search [] [] → (path : List ℕ) → PATH_LIMIT < length path
     → times_read answers path ≡ 0
 never_of {answers} {search} u path lt =
-    elim (has search.folders path) as (λ v. has search.folders path ≡ v → times_read answers path ≡ 0) [
+    elim (has_path search.folders path) as (λ v. has_path search.folders path ≡ v → times_read answers path ≡ 0) [
       | true ↦ λ e. absurd (let short : length path ≤ PATH_LIMIT = (u.search_is.known.due path e).1.short in
           omega arith)
       | false ↦ λ e.

@@ -13,7 +13,7 @@ use Rattle.tree_trait.specs.Heard.{Heard}
 use Rattle.tree_trait.proofs.EntryLemmas.{entries_same}
 use Rattle.tree_walk.specs.Answers.{times_read}
 use Rattle.tree_walk.specs.Kept.{IsSeenTo, AreFolders, AreSeenTo, IsSearch}
-use Rattle.tree_walk.specs.Search.{SearchFacts, has, with_path, with_folder, with_long}
+use Rattle.tree_walk.specs.Search.{SearchFacts, has_path, with_path, with_folder, with_long}
 use Rattle.tree_walk.specs.Walked.{IsReached, IsFolder}
 use Rattle.tree_walk.proofs.AnswerLemmas.{one_if}
 use Rattle.tree_walk.proofs.GrowLemmas.{Grows, seen_more}
@@ -33,27 +33,27 @@ with_pending s closed = record {
 }
 
 -- sets that only grew
-has_more : (paths : List (List ℕ)) (path p : List ℕ) → has paths p ≡ true
-    → has (with_path paths path) p ≡ true
-has_more paths path p h = has-with_path paths path p ∙ or_right (same p path) (has paths p) h
+has_more : (paths : List (List ℕ)) (path p : List ℕ) → has_path paths p ≡ true
+    → has_path (with_path paths path) p ≡ true
+has_more paths path p h = has-with_path paths path p ∙ or_right (same p path) (has_path paths p) h
 
-has_new : (paths : List (List ℕ)) (path : List ℕ) → has (with_path paths path) path ≡ true
+has_new : (paths : List (List ℕ)) (path : List ℕ) → has_path (with_path paths path) path ≡ true
 has_new paths path = has-with_path paths path path
-    ∙ ap (λ (b : Bool). b || has paths path) ((same-Decides path path).1 refl)
+    ∙ ap (λ (b : Bool). b || has_path paths path) ((same-Decides path path).1 refl)
 
 grown : {answers : List Heard} {known next long longer : List (List ℕ)}
-    → ((path : List ℕ) → has known path ≡ true → has next path ≡ true)
-    → ((path : List ℕ) → has long path ≡ true → has longer path ≡ true)
+    → ((path : List ℕ) → has_path known path ≡ true → has_path next path ≡ true)
+    → ((path : List ℕ) → has_path long path ≡ true → has_path longer path ≡ true)
     → Grows answers answers known next long longer
 grown folders long = record { folders = folders; too_long = long; looks = λ p h. h }
 
 -- a folder that wasn't known is to be read
 folder_new : {answers : List Heard} {roots known todo : List (List ℕ)} {path : List ℕ}
     → AreFolders answers roots known todo → IsFolder answers roots path → IsCanonPath path
-    → has known path ≡ false
+    → has_path known path ≡ false
     → AreFolders answers roots (with_path known path) (todo ++ path ∷ [])
 folder_new {answers} {roots} {known} {todo} {path} f is_folder kept fresh = record {
-  due = λ p h. elim (or_cases (same p path) (has known p) (sym (has-with_path known path p) ∙ h)) [
+  due = λ p h. elim (or_cases (same p path) (has_path known p) (sym (has-with_path known path p) ∙ h)) [
     | inl one ↦ subst (λ (z : List ℕ). IsFolder answers roots z × IsCanonPath z)
         (sym ((same-Decides p path).0 one)) (is_folder, kept)
     | inr old ↦ f.due p old
@@ -61,16 +61,16 @@ folder_new {answers} {roots} {known} {todo} {path} f is_folder kept fresh = reco
   counts = λ p.
       let push = sum_by_push (λ (q : List ℕ). one_if (bytes_eq p q)) todo path in
       elim (same p path) as (λ v. same p path ≡ v
-      → times_read answers p + count_by (bytes_eq p) (todo ++ path ∷ []) ≡ one_if (v || has known p)) [
+      → times_read answers p + count_by (bytes_eq p) (todo ++ path ∷ []) ≡ one_if (v || has_path known p)) [
         | true ↦ λ e.
             let one : one_if (bytes_eq p path) ≡ 1 = ap one_if (sym (same_bytes p path) ∙ e) in
-            let fresh_p : has known p ≡ false =
-            subst (λ (z : List ℕ). has known z ≡ false) (sym ((same-Decides p path).0 e)) fresh in
+            let fresh_p : has_path known p ≡ false =
+            subst (λ (z : List ℕ). has_path known z ≡ false) (sym ((same-Decides p path).0 e)) fresh in
             let none : times_read answers p + count_by (bytes_eq p) todo ≡ 0 = f.counts p ∙ ap one_if fresh_p in
             omega (arith, push, one, none)
         | false ↦ λ e.
             let zero : one_if (bytes_eq p path) ≡ 0 = ap one_if (sym (same_bytes p path) ∙ e) in
-            let old : times_read answers p + count_by (bytes_eq p) todo ≡ one_if (has known p) = f.counts p in
+            let old : times_read answers p + count_by (bytes_eq p) todo ≡ one_if (has_path known p) = f.counts p in
             omega (arith, push, zero, old)
       ] refl ∙ ap one_if (sym (has-with_path known path p));
 }
@@ -88,7 +88,7 @@ pub folder_step : {answers : List Heard} {roots : List (List ℕ)} {search : Sea
     → IsFolder answers roots path → IsCanonPath path
     → IsSearch answers roots (with_folder search path) folder rest
 folder_step {answers} {roots} {search} {folder} {rest} {path} s is_folder kept =
-    elim (has search.folders path) as (λ v. has search.folders path ≡ v
+    elim (has_path search.folders path) as (λ v. has_path search.folders path ≡ v
     → IsSearch answers roots (with_new_folder search path v) folder rest) [
       | true ↦ λ e. s
       | false ↦ λ e. record {
@@ -102,22 +102,22 @@ folder_step {answers} {roots} {search} {folder} {rest} {path} s is_folder kept =
     ] refl
 
 -- it is known from then on
-pub folder_known : (search : SearchFacts) (path : List ℕ) → has (with_folder search path).folders path ≡ true
+pub folder_known : (search : SearchFacts) (path : List ℕ) → has_path (with_folder search path).folders path ≡ true
 folder_known search path =
-    elim (has search.folders path) as (λ v. has search.folders path ≡ v
-    → has (with_new_folder search path v).folders path ≡ true)
+    elim (has_path search.folders path) as (λ v. has_path search.folders path ≡ v
+    → has_path (with_new_folder search path v).folders path ≡ true)
     [ true ↦ λ e. e | false ↦ λ e. has_new search.folders path ] refl
 
-pub folder_stays : (search : SearchFacts) (path p : List ℕ) → has search.folders p ≡ true
-    → has (with_folder search path).folders p ≡ true
+pub folder_stays : (search : SearchFacts) (path p : List ℕ) → has_path search.folders p ≡ true
+    → has_path (with_folder search path).folders p ≡ true
 folder_stays search path p h =
-    elim (has search.folders path) as (λ v. has (with_new_folder search path v).folders p ≡ true)
+    elim (has_path search.folders path) as (λ v. has_path (with_new_folder search path v).folders p ≡ true)
     [ true ↦ h | false ↦ has_more search.folders path p h ]
 
 -- a folder is no file
 pub folder_files : (search : SearchFacts) (path : List ℕ) → (with_folder search path).files ≡ search.files
 folder_files search path =
-    elim (has search.folders path) as (λ v. (with_new_folder search path v).files ≡ search.files)
+    elim (has_path search.folders path) as (λ v. (with_new_folder search path v).files ≡ search.files)
     [ true ↦ refl | false ↦ refl ]
 
 -- a path that is too long
@@ -130,7 +130,7 @@ long_step {answers} {roots} {search} {path} s reached long = record {
   asked = s.asked;
   known = s.known;
   too_long = record {
-    each = λ p h. elim (or_cases (same p path) (has search.long p)
+    each = λ p h. elim (or_cases (same p path) (has_path search.long p)
         (sym (has-with_path search.long path p) ∙ h)) [
           | inl one ↦ subst (λ (z : List ℕ). IsReached answers roots z × (PATH_LIMIT < length z))
               (sym ((same-Decides p path).0 one)) (reached, long)
@@ -142,7 +142,7 @@ long_step {answers} {roots} {search} {path} s reached long = record {
   closed = seen_more (grown (λ p h. h) (has_more search.long path)) (λ at. refl) s.closed;
 }
 
-pub long_known : (search : SearchFacts) (path : List ℕ) → has (with_long search path).long path ≡ true
+pub long_known : (search : SearchFacts) (path : List ℕ) → has_path (with_long search path).long path ≡ true
 long_known search path = has_new search.long path
 
 -- one of the entries was seen to

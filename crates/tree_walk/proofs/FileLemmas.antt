@@ -10,11 +10,11 @@ use Rattle.tree_trait.specs.Heard.{Heard, stat, read_dir}
 use Rattle.tree_trait.specs.declared.entry.EntryKind.{EntryKind}
 use Rattle.tree_trait.specs.declared.entry.EntryKind.TheVariants as kind
 use Rattle.tree_trait.specs.declared.stat.StatAnswer.{StatAnswer}
-use Rattle.tree_walk.specs.Answers.{first_look, entries_of, listed_count, entries_read}
+use Rattle.tree_walk.specs.Answers.{first_look, listed_entries, listed_count, entries_read}
 use Rattle.tree_walk.specs.Ends.{IsTooManyEntries, IsCause}
 use Rattle.tree_walk.specs.Calls.{HearsLook, HearsReading}
-use Rattle.tree_walk.specs.Kept.{IsMet}
-use Rattle.tree_walk.specs.Search.{SearchFacts, NotesAnswer, noted, with_last, paid, is_looked}
+use Rattle.tree_walk.specs.Kept.{IsEntryMet}
+use Rattle.tree_walk.specs.Search.{SearchFacts, NotesAnswer, search_after, with_last, paid, is_path_looked}
 use Rattle.tree_walk.specs.Underway.{IsEntered, IsNextPath, IsUnderway}
 use Rattle.tree_walk.specs.declared.fault.WalkFault.{WalkFault}
 use Rattle.tree_walk.specs.Walked.{IsEntry, IsCandidate}
@@ -32,13 +32,13 @@ use Rattle.tree_walk.proofs.ReadLemmas.{read_step, read_entries, next_folder}
 pub known_file : {answers : List Heard} {roots : List (List ℕ)} {search : SearchFacts} {folder path : List ℕ}
     {entry : EntryFacts} {rest : List EntryFacts} → entry.kind ≡ kind.File
     → IsNextPath answers roots search folder entry rest path
-    → is_looked search path ≡ true → IsUnderway answers roots search folder rest
+    → is_path_looked search path ≡ true → IsUnderway answers roots search folder rest
 known_file {answers} {search} {path} is n looked =
     let u = n.next.underway in
     let was : IsSome (first_look answers path) = sym (is_looked_is path u.search_is) ∙ looked in
     underway_none u (entry_step u.search_is
     (settled_at answers search n
-    (subst (λ (k : EntryKind). IsMet answers search.folders path k) (sym is) was))) u.few (λ p h. h)
+    (subst (λ (k : EntryKind). IsEntryMet answers search.folders path k) (sym is) was))) u.few (λ p h. h)
 
 -- a file of a folder may be looked at
 pub file_candidate : {answers : List Heard} {roots : List (List ℕ)} {search : SearchFacts}
@@ -52,12 +52,12 @@ pub file_ends : {V : Type 0} {answers more : List Heard} {roots : List (List ℕ
     {folder path : List ℕ} {answer : StatAnswer} {entry : EntryFacts} {rest : List EntryFacts}
     (result : Result V WalkFault) (now : SearchFacts)
     → entry.kind ≡ kind.File → IsNextPath answers roots search folder entry rest path
-    → is_looked search path ≡ false → HearsLook path more answer → NotesAnswer (noted search path answer) now result
+    → is_path_looked search path ≡ false → HearsLook path more answer → NotesAnswer (search_after search path answer) now result
     → MatchResult result (λ _. IsUnderway (answers ++ more) roots now folder rest)
     (IsCause (answers ++ more) roots)
 file_ends {answers} {roots} {search} {folder} {path} {answer} {entry} {rest} result now is n new look added =
     let later : List Heard = answers ++ stat path answer ∷ [] in
-    let next : SearchFacts = noted search path answer in
+    let next : SearchFacts = search_after search path answer in
     let u = n.next.underway in
     let candidate : IsCandidate answers roots path = file_candidate is n in
     let none : is_some (first_look answers path) ≡ false = sym (is_looked_is path u.search_is) ∙ new in
@@ -69,8 +69,8 @@ file_ends {answers} {roots} {search} {folder} {path} {answer} {entry} {rest} res
       answered = look.answered;
       there = λ c gone. false≢true (sym none ∙ u.looked.looked path c);
     } in
-    let met : IsMet later next.folders path entry.kind =
-    subst (λ (k : EntryKind). IsMet later next.folders path k) (sym is)
+    let met : IsEntryMet later next.folders path entry.kind =
+    subst (λ (k : EntryKind). IsEntryMet later next.folders path k) (sym is)
     (ap is_some (look_here answers path answer look.answered fresh)) in
     let s = entry_step (note_step u.search_is due fresh) (settled_at later next n met) in
     subst (λ (m : List Heard). MatchResult result (λ _. IsUnderway (answers ++ m) roots now folder rest)
@@ -91,7 +91,7 @@ pub read_into : {answers more : List Heard} {roots : List (List ℕ)} (search : 
     → IsEntered (answers ++ more) roots (paid search (length entries) skipped) folder entries
 read_into {answers} {roots} search {folder} {entries} {skipped} u r room =
     let d : DirFacts = r.answer in
-    let es : List EntryFacts = entries_of (Some d) in
+    let es : List EntryFacts = listed_entries (Some d) in
     let count : length entries ≡ length es = ap length r.entries_are in
     let s = read_step search folder d u.search_is r.answered
     (omega (arith, count, room)) (ap (λ (n : ℕ). min (search.skipped + n) (2 ^ 64 - 1)) r.passed) in
@@ -112,9 +112,9 @@ pub read_over : {answers more : List Heard} {roots : List (List ℕ)} (search : 
     → IsTooManyEntries (answers ++ more) roots
 read_over {answers} {roots} search {folder} {entries} u r over =
     let d : DirFacts = r.answer in
-    let count : length entries ≡ length (entries_of (Some d)) = ap length r.entries_are in
+    let count : length entries ≡ length (listed_entries (Some d)) = ap length r.entries_are in
     let read : entries_read (answers ++ read_dir folder d ∷ []) ≡ entries_read answers + length
-    (entries_of (Some d)) = sum_by_push listed_count answers (read_dir folder d) in
+    (listed_entries (Some d)) = sum_by_push listed_count answers (read_dir folder d) in
     let was : search.left + entries_read answers ≡ ENTRY_LIMIT = u.search_is.paid.left in
     subst (λ (m : List Heard). IsTooManyEntries (answers ++ m) roots) (sym r.heard)
     (record {

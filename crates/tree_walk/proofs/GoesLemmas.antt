@@ -7,10 +7,10 @@ use Rattle.std.proofs.lemmas.List.{append-nil, drop_more, take_more, take-append
 use Rattle.std.proofs.lemmas.List.Elements.{All-append, All-nil}
 use Rattle.std.proofs.lemmas.Result.{err_from_is_err_and}
 use Rattle.row_types.specs.Name.{NameFacts}
-use Rattle.tree_trait.specs.Asks.{IsTold}
-use Rattle.tree_trait.specs.Heard.{Heard, has_failed, with_answers}
+use Rattle.tree_trait.specs.Asks.{IsAnswerTold}
+use Rattle.tree_trait.specs.Heard.{Heard, call_failed, with_answers}
 use Rattle.tree_trait.specs.Shown.{ShownTree, StaysStill}
-use Rattle.tree_walk.specs.Ends.{Goes, StopsAtLast, StopsBetween, IsCause}
+use Rattle.tree_walk.specs.Ends.{GoesByAnswers, StopsAtLast, StopsBetween, IsCause}
 use Rattle.tree_walk.specs.Calls.{IsCallFault}
 use Rattle.tree_walk.specs.declared.fault.WalkFault.{WalkFault}
 use Rattle.tree_walk.specs.declared.fault.WalkFault.TheVariants.{Failed, OutOfMemory}
@@ -27,11 +27,11 @@ heard_both (Some entries) more last = ap (λ (es : List Heard). Some es) (append
 -- nothing was asked
 pub goes_none : {V : Type 0} {told : Bool} {tree : ShownTree} {answers : List Heard}
     {Good : List Heard → V → Type 0} {Bad : List Heard → WalkFault → Type 0} {result : Result V WalkFault}
-    → MatchResult result (Good answers) (Bad answers) → Goes told tree tree answers Good Bad result
+    → MatchResult result (Good answers) (Bad answers) → GoesByAnswers told tree tree answers Good Bad result
 goes_none {tree} {answers} {Good} {Bad} {result} h = record {
   more = [];
   heard = heard_none tree.heard;
-  tells = λ _ _. All-nil (IsTold tree.present);
+  tells = λ _ _. All-nil (IsAnswerTold tree.present);
   ends = subst (λ (a : List Heard). MatchResult result (Good a) (Bad a)) (sym (append-nil answers)) h;
 }
 
@@ -40,10 +40,10 @@ pub goes_on : {U V : Type 0} {told : Bool} {before after : ShownTree} {first ans
     {Good : List Heard → U → Type 0} {Bad : List Heard → WalkFault → Type 0}
     {NewGood : List Heard → V → Type 0} {NewBad : List Heard → WalkFault → Type 0}
     {result : Result U WalkFault} {next : Result V WalkFault}
-    → Goes told before after first Good Bad result
+    → GoesByAnswers told before after first Good Bad result
     → ((more : List Heard) → MatchResult result (Good (first ++ more)) (Bad (first ++ more))
     → MatchResult next (NewGood (answers ++ more)) (NewBad (answers ++ more)))
-    → Goes told before after answers NewGood NewBad next
+    → GoesByAnswers told before after answers NewGood NewBad next
 goes_on h f = record { more = h.more; heard = h.heard; tells = h.tells; ends = f h.more h.ends }
 
 -- some answers, and then some more
@@ -52,20 +52,20 @@ pub goes_then : {U V X : Type 0} {told : Bool} {before mid after : ShownTree} {a
     {MidGood : List Heard → V → Type 0} {MidBad : List Heard → WalkFault → Type 0}
     {NewGood : List Heard → X → Type 0} {NewBad : List Heard → WalkFault → Type 0}
     {first : Result U WalkFault} {result : Result V WalkFault} {next : Result X WalkFault}
-    → Goes told before mid answers Good Bad first → (before.Still → StaysStill before mid)
+    → GoesByAnswers told before mid answers Good Bad first → (before.Still → StaysStill before mid)
     → ((more : List Heard) → MatchResult first (Good (answers ++ more)) (Bad (answers ++ more))
-    → Goes told mid after (answers ++ more) MidGood MidBad result)
+    → GoesByAnswers told mid after (answers ++ more) MidGood MidBad result)
     → ((heard : List Heard) → MatchResult result (MidGood heard) (MidBad heard)
     → MatchResult next (NewGood heard) (NewBad heard))
-    → Goes told before after answers NewGood NewBad next
+    → GoesByAnswers told before after answers NewGood NewBad next
 goes_then {told} {before} {mid} {after} {answers} {MidGood} {MidBad} {NewGood} {NewBad} {result} {next} h still g f =
-    let k : Goes told mid after (answers ++ h.more) MidGood MidBad result = g h.more h.ends in
+    let k : GoesByAnswers told mid after (answers ++ h.more) MidGood MidBad result = g h.more h.ends in
     record {
       more = h.more ++ k.more;
       heard = k.heard ∙ ap (λ (t : Option (List Heard)). with_answers t k.more) h.heard
           ∙ heard_both before.heard h.more k.more;
-      tells = λ t s. All-append (IsTold before.present) h.more k.more (h.tells t s)
-          (subst (λ (names : List NameFacts). All (IsTold names) k.more)
+      tells = λ t s. All-append (IsAnswerTold before.present) h.more k.more (h.tells t s)
+          (subst (λ (names : List NameFacts). All (IsAnswerTold names) k.more)
           (still s).same (k.tells t (still s).still));
       ends = subst (λ (a : List Heard). MatchResult next (NewGood a) (NewBad a))
           (append_assoc answers h.more k.more) (f ((answers ++ h.more) ++ k.more) k.ends);
@@ -76,13 +76,13 @@ pub goes_up : {U V : Type 0} {told : Bool} {before after : ShownTree} {first ans
     {Good : List Heard → U → Type 0} {Bad : List Heard → WalkFault → Type 0}
     {NewGood : List Heard → V → Type 0} {NewBad : List Heard → WalkFault → Type 0} {next : Result V WalkFault}
     {fault : WalkFault}
-    → IsErrAnd next (λ y. y ≡ fault) → Goes told before after first Good Bad (Err fault)
+    → IsErrAnd next (λ y. y ≡ fault) → GoesByAnswers told before after first Good Bad (Err fault)
     → ((more : List Heard) → Bad (first ++ more) fault → NewBad (answers ++ more) fault)
-    → Goes told before after answers NewGood NewBad next
+    → GoesByAnswers told before after answers NewGood NewBad next
 goes_up {V} {told} {before} {after} {answers} {NewGood} {NewBad} {next} {fault} up h f =
     let p = err_from_is_err_and next up in
     let same : next ≡ Err fault = p.1 ∙ ap (λ (y : WalkFault). Err y) p.2 in
-    subst (λ (r : Result V WalkFault). Goes told before after answers NewGood NewBad r) (sym same)
+    subst (λ (r : Result V WalkFault). GoesByAnswers told before after answers NewGood NewBad r) (sym same)
     (record { more = h.more; heard = h.heard; tells = h.tells; ends = f h.more h.ends })
 
 -- some answers, and then a fault that is passed up
@@ -90,13 +90,13 @@ pub goes_then_up : {U V X : Type 0} {told : Bool} {before mid after : ShownTree}
     {Good : List Heard → U → Type 0} {MidGood : List Heard → V → Type 0} {NewGood : List Heard → X → Type 0}
     {Bad NewBad : List Heard → WalkFault → Type 0}
     {first : Result U WalkFault} {next : Result X WalkFault} {fault : WalkFault}
-    → IsErrAnd next (λ y. y ≡ fault) → Goes told before mid answers Good Bad first
+    → IsErrAnd next (λ y. y ≡ fault) → GoesByAnswers told before mid answers Good Bad first
     → (before.Still → StaysStill before mid)
     → ((more : List Heard) → MatchResult first (Good (answers ++ more)) (Bad (answers ++ more))
-    → Goes told mid after (answers ++ more) MidGood NewBad (Err fault))
-    → Goes told before after answers NewGood NewBad next
+    → GoesByAnswers told mid after (answers ++ more) MidGood NewBad (Err fault))
+    → GoesByAnswers told before after answers NewGood NewBad next
 goes_then_up {told} {before} {after} {answers} {MidGood} {NewBad} {fault} up h still g =
-    let both : Goes told before after answers MidGood NewBad (Err fault) =
+    let both : GoesByAnswers told before after answers MidGood NewBad (Err fault) =
     goes_then h still g (λ heard bad. bad) in
     goes_up up both (λ more bad. bad)
 
@@ -110,15 +110,15 @@ memory_ends {answers} {roots} Good (Err y) h cause = subst (IsCause answers root
 -- memory was refused before anything was asked
 pub goes_memory : {V : Type 0} {told : Bool} {tree : ShownTree} {answers : List Heard} {roots : List (List ℕ)}
     {Good : List Heard → V → Type 0} (result : Result V WalkFault) → IsErrAnd result (λ y. y ≡ OutOfMemory)
-    → StopsBetween answers roots → Goes told tree tree answers Good (λ heard. IsCause heard roots) result
+    → StopsBetween answers roots → GoesByAnswers told tree tree answers Good (λ heard. IsCause heard roots) result
 goes_memory {answers} {Good} result h between = goes_none (memory_ends (Good answers) result h (inl between))
 
 -- a fault of one call, by which the walk ends
 pub call_fault : {roots : List (List ℕ)} (answers more : List Heard) (failed : Heard) (fault : WalkFault)
-    → StopsAtLast (answers ++ failed ∷ []) roots (λ last. has_failed last ≡ true) → StopsBetween answers roots
+    → StopsAtLast (answers ++ failed ∷ []) roots (λ last. call_failed last ≡ true) → StopsBetween answers roots
     → IsCallFault failed more fault → IsCause (answers ++ more) roots fault
 call_fault {roots} answers more failed Failed last between h =
-    subst (λ (m : List Heard). StopsAtLast (answers ++ m) roots (λ last. has_failed last ≡ true)) (sym h) last
+    subst (λ (m : List Heard). StopsAtLast (answers ++ m) roots (λ last. call_failed last ≡ true)) (sym h) last
 call_fault {roots} answers more failed OutOfMemory last between h =
     inl (subst (λ (a : List Heard). StopsBetween a roots)
     (sym (ap (λ (m : List Heard). answers ++ m) h ∙ append-nil answers)) between)

@@ -16,21 +16,21 @@ use Rattle.tree_trait.specs.declared.entry.EntryKind.TheVariants as kind
 use Rattle.tree_trait.specs.declared.stat.StatAnswer.{StatAnswer}
 use Rattle.tree_trait.specs.declared.stat.StatAnswer.TheVariants.{Gone}
 use Rattle.tree_walk.specs.Answers.{is_answered, first_look, entries_in, listed_count, passed_over, times_read}
-use Rattle.tree_walk.specs.Kept.{IsMet, IsSeenTo, AreSeenTo, AreAnswered, AreFolders, AreLong, IsPaid}
-use Rattle.tree_walk.specs.Search.{has}
-use Rattle.tree_walk.specs.Walked.{IsDue}
+use Rattle.tree_walk.specs.Kept.{IsEntryMet, IsSeenTo, AreSeenTo, AreAnswered, AreFolders, AreLong, IsPaid}
+use Rattle.tree_walk.specs.Search.{has_path}
+use Rattle.tree_walk.specs.Walked.{IsAskDue}
 use Rattle.tree_walk.proofs.AnswerLemmas.{one_if, times_past_look}
 use Rattle.tree_walk.proofs.ReachLemmas.{reached_more, folder_more, due_push}
 
 -- later answers and sets know all that earlier ones knew
 pub record Grows (answers later : List Heard) (known next long longer : List (List ℕ)) : Type 0 where
-  pub folders : (path : List ℕ) → has known path ≡ true → has next path ≡ true
-  pub too_long : (path : List ℕ) → has long path ≡ true → has longer path ≡ true
+  pub folders : (path : List ℕ) → has_path known path ≡ true → has_path next path ≡ true
+  pub too_long : (path : List ℕ) → has_path long path ≡ true → has_path longer path ≡ true
   pub looks : (path : List ℕ) → IsSome (first_look answers path) → IsSome (first_look later path)
 
 met_more : {answers later : List Heard} {known next long longer : List (List ℕ)} (path : List ℕ)
-    (k : EntryKind) → Grows answers later known next long longer → IsMet answers known path k
-    → IsMet later next path k
+    (k : EntryKind) → Grows answers later known next long longer → IsEntryMet answers known path k
+    → IsEntryMet later next path k
 met_more path kind.Folder g h = g.folders path h
 met_more path kind.File g h = g.looks path h
 met_more path kind.Other g h = h
@@ -39,8 +39,8 @@ pub settled_more : {answers later : List Heard} {known next long longer : List (
     (k : EntryKind) → Grows answers later known next long longer
     → IsSeenTo answers known long path k → IsSeenTo later next longer path k
 settled_more {answers} {later} {known} {next} {long} {longer} path k g h =
-    elim (nat_lt PATH_LIMIT (length path)) as (λ v. MatchBool v (has long path ≡ true)
-    (IsMet answers known path k) → MatchBool v (has longer path ≡ true) (IsMet later next path k))
+    elim (nat_lt PATH_LIMIT (length path)) as (λ v. MatchBool v (has_path long path ≡ true)
+    (IsEntryMet answers known path k) → MatchBool v (has_path longer path ≡ true) (IsEntryMet later next path k))
     [ true ↦ λ s. g.too_long path s | false ↦ λ s. met_more path k g s ] h
 
 -- what was seen to stays so, and nothing is new to be seen to
@@ -58,7 +58,7 @@ seen_more g stays seen = record {
 
 -- one more was asked, which was due, and was answered
 pub answered_push : {answers : List Heard} {roots : List (List ℕ)} (h : Heard) → AreAnswered answers roots
-    → IsDue (answers ++ h ∷ []) roots h → is_answered h ≡ true
+    → IsAskDue (answers ++ h ∷ []) roots h → is_answered h ≡ true
     → ((path : List ℕ) → Contains roots path → h ≡ stat path Gone → ⊥) → AreAnswered (answers ++ h ∷ []) roots
 answered_push {answers} {roots} h asked due ok there = record {
   due = due_push answers roots h asked.due due;
@@ -84,7 +84,7 @@ pub few_of : {answers : List Heard} {roots known todo : List (List ℕ)} → Are
     → (path : List ℕ) → times_read answers path ≤ 1
 few_of {answers} {known} {todo} f path =
     let all = f.counts path in
-    elim (has known path) as (λ b. times_read answers path + count_by (bytes_eq path) todo ≡ one_if b
+    elim (has_path known path) as (λ b. times_read answers path + count_by (bytes_eq path) todo ≡ one_if b
     → times_read answers path ≤ 1) [ true ↦ λ e. omega arith | false ↦ λ e. omega arith ] all
 
 -- what is too long stays so

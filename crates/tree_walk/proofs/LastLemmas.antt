@@ -12,7 +12,7 @@ use Rattle.tree_walk.specs.Answers.{looks}
 use Rattle.tree_walk.specs.Ends.{BeginsWithRoots, LooksAtRoots, StopsAtLast, StopsBetween}
 use Rattle.tree_walk.specs.Kept.{IsSearch}
 use Rattle.tree_walk.specs.Search.{SearchFacts, with_last}
-use Rattle.tree_walk.specs.Underway.{IsBeginning, IsUnderway}
+use Rattle.tree_walk.specs.Underway.{AreFirstRootsSeen, IsUnderway}
 use Rattle.tree_walk.specs.Walked.{IsCandidate, AsksDue}
 use Rattle.tree_walk.proofs.EndLemmas.{room_is}
 use Rattle.tree_walk.proofs.GrowLemmas.{few_of, folders_look}
@@ -98,7 +98,7 @@ stops_between s few first = record {
 
 -- before all roots were looked at
 pub root_between : {answers : List Heard} {roots seen : List (List ℕ)} {search : SearchFacts}
-    (path : List ℕ) (after : List (List ℕ)) → IsBeginning answers roots seen search
+    (path : List ℕ) (after : List (List ℕ)) → AreFirstRootsSeen answers roots seen search
     → roots ≡ seen ++ path ∷ after → StopsBetween answers roots
 root_between {answers} {roots} {seen} path after b split =
     let first : answers ≡ looks roots b.given =
@@ -114,7 +114,7 @@ underway_between u = stops_between u.search_is u.few (inl u.first)
 -- a look at the next root
 pub root_last : {answers : List Heard} {roots seen : List (List ℕ)} {search : SearchFacts} {path : List ℕ}
     {Stops : Heard → Type 0} (after : List (List ℕ)) (answer : StatAnswer)
-    → IsBeginning answers roots seen search → roots ≡ seen ++ path ∷ after → IsCanonPath path
+    → AreFirstRootsSeen answers roots seen search → roots ≡ seen ++ path ∷ after → IsCanonPath path
     → Stops (stat path answer) → StopsAtLast (answers ++ stat path answer ∷ []) roots Stops
 root_last {answers} {roots} {seen} {path} after answer b split kept stops =
     let given : List StatAnswer = b.given ++ answer ∷ [] in

@@ -10,17 +10,17 @@ use Rattle.std.proofs.lemmas.List.Elements.{All-contains_itself, Contains-append
 use Rattle.std.proofs.lemmas.List.Sums.{sum_by-cons}
 use Rattle.std.proofs.lemmas.Slice.Eq.{bytes_eq-Decides}
 use Rattle.row_types.specs.Name.{NameFacts}
-use Rattle.tree_trait.specs.Asks.{IsTold}
+use Rattle.tree_trait.specs.Asks.{IsAnswerTold}
 use Rattle.tree_trait.specs.Dir.{listed}
 use Rattle.tree_trait.specs.Heard.{Heard, stat, read_dir}
 use Rattle.tree_trait.specs.Present.{are_distinct}
 use Rattle.tree_trait.specs.Shown.{ShownTree}
 use Rattle.tree_trait.specs.declared.stat.StatAnswer.TheVariants.{Gone}
 use Rattle.tree_walk.specs.Answers.{listed_count, entries_read, reads, times_read, looks}
-use Rattle.tree_walk.specs.Ends.{IsCause, IsRootGone, IsTooMany, IsTooManyEntries, Walks}
+use Rattle.tree_walk.specs.Ends.{IsCause, IsRootGone, AreFilesTooMany, IsTooManyEntries, WalksTree}
 use Rattle.tree_walk.specs.Files.{FolderFacts, FitsFault, HasManyEntries, HasManyFiles, IsFileUnder}
 use Rattle.tree_walk.specs.Files.{IsFolderUnder}
-use Rattle.tree_walk.specs.Walked.{IsDue}
+use Rattle.tree_walk.specs.Walked.{IsAskDue}
 use Rattle.tree_walk.specs.declared.fault.WalkFault.{WalkFault}
 use Rattle.tree_walk.specs.declared.fault.WalkFault.TheVariants.{TooMany, TooManyEntries, RootGone}
 use Rattle.tree_walk.specs.declared.walked.Walk.{Walk}
@@ -111,7 +111,7 @@ all_distinct (h ∷ rest) few =
 
 -- each of them stands under a root
 under_with : (present : List NameFacts) (folders : List FolderFacts) (answers : List Heard)
-    (roots : List (List ℕ)) (h : Heard) → IsTold present h → IsDue answers roots h
+    (roots : List (List ℕ)) (h : Heard) → IsAnswerTold present h → IsAskDue answers roots h
     → All (IsFolderUnder present roots) folders → All (IsFolderUnder present roots) (with_listed h folders)
 under_with present folders answers roots (read_dir path (listed entries skipped)) told due under =
     All-cons (IsFolderUnder present roots) (record { path = path; entries = entries }) folders
@@ -123,18 +123,18 @@ under_with present folders answers roots (read_dir path (listed entries skipped)
 under_with present folders answers roots _ told due under = under
 
 all_under : (present : List NameFacts) (answers : List Heard) (roots : List (List ℕ)) (some : List Heard)
-    → All (IsTold present) some → All (IsDue answers roots) some
+    → All (IsAnswerTold present) some → All (IsAskDue answers roots) some
     → All (IsFolderUnder present roots) (folders_of some)
 all_under present answers roots [] told due = All-nil (IsFolderUnder present roots)
 all_under present answers roots (h ∷ rest) told due =
-    under_with present (folders_of rest) answers roots h (All-head (IsTold present) h rest told)
-    (All-head (IsDue answers roots) h rest due)
-    (all_under present answers roots rest (All-tail (IsTold present) h rest told)
-    (All-tail (IsDue answers roots) h rest due))
+    under_with present (folders_of rest) answers roots h (All-head (IsAnswerTold present) h rest told)
+    (All-head (IsAskDue answers roots) h rest due)
+    (all_under present answers roots rest (All-tail (IsAnswerTold present) h rest told)
+    (All-tail (IsAskDue answers roots) h rest due))
 
 -- so the folders that were listed have more entries than a walk reads
 many_entries : (present : List NameFacts) {answers : List Heard} {roots : List (List ℕ)}
-    → All (IsTold present) answers → IsTooManyEntries answers roots → HasManyEntries present roots
+    → All (IsAnswerTold present) answers → IsTooManyEntries answers roots → HasManyEntries present roots
 many_entries present {answers} {roots} told end = record {
   folders = folders_of answers;
   distinct = all_distinct answers end.last.asked.few;
@@ -144,7 +144,7 @@ many_entries present {answers} {roots} told end = record {
 
 -- the files that were found are more than a listing has
 many_files : (present : List NameFacts) {answers : List Heard} {roots : List (List ℕ)}
-    → All (IsTold present) answers → IsTooMany answers roots → HasManyFiles present roots
+    → All (IsAnswerTold present) answers → AreFilesTooMany answers roots → HasManyFiles present roots
 many_files present {roots} told end = record {
   names = end.names;
   by_path = end.listing.by_path;
@@ -156,17 +156,17 @@ many_files present {roots} told end = record {
 
 -- nothing is at the root that is gone
 gone_root : (present : List NameFacts) {answers : List Heard} {roots : List (List ℕ)} {path : List ℕ}
-    → All (IsTold present) answers → IsRootGone answers roots path → FitsFault present roots (RootGone path)
+    → All (IsAnswerTold present) answers → IsRootGone answers roots path → FitsFault present roots (RootGone path)
 gone_root present {answers} {path} told gone = (
   subst (λ (rs : List (List ℕ)). Contains rs path) (sym gone.split)
       (Contains-append_right gone.before (path ∷ gone.after) path (0, omega arith, refl)),
-  All-contains (IsTold present) answers (stat path Gone) told
+  All-contains (IsAnswerTold present) answers (stat path Gone) told
       (subst (λ (a : List Heard). Contains a (stat path Gone)) (sym gone.heard)
       (Contains-push (looks gone.before gone.given) (stat path Gone))),
 )
 
 cause_fits : (present : List NameFacts) (answers : List Heard) (roots : List (List ℕ)) (fault : WalkFault)
-    → All (IsTold present) answers → IsCause answers roots fault → FitsFault present roots fault
+    → All (IsAnswerTold present) answers → IsCause answers roots fault → FitsFault present roots fault
 cause_fits present answers roots TooMany told end = many_files present told end
 cause_fits present answers roots TooManyEntries told end = many_entries present told end
 cause_fits present answers roots (RootGone path) told end = gone_root present told end
@@ -174,7 +174,7 @@ cause_fits present answers roots _ told end = tt
 
 -- a fault of a tree that is told and still
 pub fault_fits : {told : Bool} {before after : ShownTree} {roots : List (List ℕ)}
-    (result : Result Walk WalkFault) → Walks told before after roots result → IsTrue told → before.Still
+    (result : Result Walk WalkFault) → WalksTree told before after roots result → IsTrue told → before.Still
     → IfErr result (FitsFault before.present roots)
 fault_fits (Ok walk) w t s = tt
 fault_fits {before} {roots} (Err fault) w t s =

@@ -12,9 +12,9 @@ use Rattle.tree_trait.specs.Heard.{Heard, stat, read_dir}
 use Rattle.tree_trait.specs.Dir.{DirFacts}
 use Rattle.tree_trait.specs.declared.stat.StatAnswer.{StatAnswer}
 use Rattle.tree_trait.specs.declared.stat.StatAnswer.TheVariants.{File, Gone}
-use Rattle.tree_walk.specs.Answers.{is_look_answer, first_look, entries_of}
-use Rattle.tree_walk.specs.Kept.{file_of, is_no_file, AreLooks, IsSearch}
-use Rattle.tree_walk.specs.Search.{SearchFacts, has, with_path, with_file, with_other, noted, is_looked}
+use Rattle.tree_walk.specs.Answers.{is_look_answer, first_look, listed_entries}
+use Rattle.tree_walk.specs.Kept.{found_stamp, is_no_file, AreLooks, IsSearch}
+use Rattle.tree_walk.specs.Search.{SearchFacts, has_path, with_path, with_file, with_other, search_after, is_path_looked}
 use Rattle.tree_walk.specs.Walked.{IsCandidate}
 use Rattle.tree_walk.proofs.AnswerLemmas.{looked_stays, after_look, look_again, reading_past_look}
 use Rattle.tree_walk.proofs.AnswerLemmas.{look_past_reading}
@@ -25,36 +25,36 @@ use Rattle.tree_walk.proofs.SetLemmas.{lookup-insert_entry}
 
 -- the files with what a look found
 file_kept : (files : List (List ℕ × StampFacts)) (before : Option StatAnswer) (p path : List ℕ)
-    (answer : StatAnswer) → file_of (Some answer) ≡ None → lookup (same p) files ≡ file_of before
+    (answer : StatAnswer) → found_stamp (Some answer) ≡ None → lookup (same p) files ≡ found_stamp before
     → (same p path ≡ true → before ≡ None)
-    → lookup (same p) files ≡ file_of (cond (same p path) (Some answer) before)
+    → lookup (same p) files ≡ found_stamp (cond (same p path) (Some answer) before)
 file_kept files before p path answer none h fresh =
-    elim (same p path) as (λ v. same p path ≡ v → lookup (same p) files ≡ file_of (cond v (Some answer) before))
-    [ true ↦ λ e. h ∙ ap file_of (fresh e) ∙ sym none | false ↦ λ e. h ] refl
+    elim (same p path) as (λ v. same p path ≡ v → lookup (same p) files ≡ found_stamp (cond v (Some answer) before))
+    [ true ↦ λ e. h ∙ ap found_stamp (fresh e) ∙ sym none | false ↦ λ e. h ] refl
 
 lookup-with_file : (files : List (List ℕ × StampFacts)) (before : Option StatAnswer) (p path : List ℕ)
-    (answer : StatAnswer) → lookup (same p) files ≡ file_of before → (same p path ≡ true → before ≡ None)
-    → lookup (same p) (with_file files path answer) ≡ file_of (cond (same p path) (Some answer) before)
+    (answer : StatAnswer) → lookup (same p) files ≡ found_stamp before → (same p path ≡ true → before ≡ None)
+    → lookup (same p) (with_file files path answer) ≡ found_stamp (cond (same p path) (Some answer) before)
 lookup-with_file files before p path (File stamp) h fresh =
     lookup-insert_entry files path stamp p
     ∙ elim (same p path) as (λ v. cond v (Some stamp)
-    (lookup (same p) files) ≡ file_of (cond v (Some (File stamp)) before)) [ true ↦ refl | false ↦ h ]
+    (lookup (same p) files) ≡ found_stamp (cond v (Some (File stamp)) before)) [ true ↦ refl | false ↦ h ]
 lookup-with_file files before p path answer h fresh = file_kept files before p path answer refl h fresh
 
 -- the other paths with what a look found
 other_added : (others : List (List ℕ)) (before : Option StatAnswer) (p path : List ℕ) (answer : StatAnswer)
-    → is_no_file (Some answer) ≡ true → has others p ≡ is_no_file before
-    → has (with_path others path) p ≡ is_no_file (cond (same p path) (Some answer) before)
+    → is_no_file (Some answer) ≡ true → has_path others p ≡ is_no_file before
+    → has_path (with_path others path) p ≡ is_no_file (cond (same p path) (Some answer) before)
 other_added others before p path answer no_file h =
     has-with_path others path p
-    ∙ elim (same p path) as (λ v. (v || has others p) ≡ is_no_file (cond v (Some answer) before))
+    ∙ elim (same p path) as (λ v. (v || has_path others p) ≡ is_no_file (cond v (Some answer) before))
     [ true ↦ sym no_file | false ↦ h ]
 
 has-with_other : (others : List (List ℕ)) (before : Option StatAnswer) (p path : List ℕ)
-    (answer : StatAnswer) → has others p ≡ is_no_file before → (same p path ≡ true → before ≡ None)
-    → has (with_other others path answer) p ≡ is_no_file (cond (same p path) (Some answer) before)
+    (answer : StatAnswer) → has_path others p ≡ is_no_file before → (same p path ≡ true → before ≡ None)
+    → has_path (with_other others path answer) p ≡ is_no_file (cond (same p path) (Some answer) before)
 has-with_other others before p path (File stamp) h fresh =
-    elim (same p path) as (λ v. same p path ≡ v → has others p ≡ is_no_file (cond v (Some (File stamp)) before))
+    elim (same p path) as (λ v. same p path ≡ v → has_path others p ≡ is_no_file (cond v (Some (File stamp)) before))
     [ true ↦ λ e. h ∙ ap is_no_file (fresh e) | false ↦ λ e. h ] refl
 has-with_other others before p path answer h fresh = other_added others before p path answer refl h
 
@@ -77,7 +77,7 @@ looks_noted {answers} {files} {others} path answer l ok fresh =
     λ p e. subst (λ (z : List ℕ). first_look answers z ≡ None) (sym ((same-Decides p path).0 e)) fresh in
     record {
       files = λ p. lookup-with_file files (first_look answers p) p path answer (l.files p) (before p)
-          ∙ ap file_of (sym (after_look answers path answer ok fresh p));
+          ∙ ap found_stamp (sym (after_look answers path answer ok fresh p));
       others = λ p. has-with_other others (first_look answers p) p path answer (l.others p) (before p)
           ∙ ap is_no_file (sym (after_look answers path answer ok fresh p));
       ordered = sorted-with_file files path answer l.ordered;
@@ -88,7 +88,7 @@ looks_stay : {answers : List Heard} {files : List (List ℕ × StampFacts)} {oth
     (later : List Heard) → AreLooks answers files others
     → ((p : List ℕ) → first_look later p ≡ first_look answers p) → AreLooks later files others
 looks_stay later l stays = record {
-  files = λ p. l.files p ∙ ap file_of (sym (stays p));
+  files = λ p. l.files p ∙ ap found_stamp (sym (stays p));
   others = λ p. l.others p ∙ ap is_no_file (sym (stays p));
   ordered = l.ordered;
 }
@@ -134,14 +134,14 @@ look_step {answers} {roots} {search} {path} {answer} s due looks =
         too_long = λ p h. h;
         looks = λ p h. looked_stays answers more p h;
       })
-          (λ at. ap entries_of (reading_past_look answers path answer at)) s.closed;
+          (λ at. ap listed_entries (reading_past_look answers path answer at)) s.closed;
     }
 
 pub note_step : {answers : List Heard} {roots : List (List ℕ)} {search : SearchFacts} {folder : List ℕ}
     {rest : List EntryFacts} {path : List ℕ} {answer : StatAnswer}
     → IsSearch answers roots search folder rest → IsLookDue answers roots path answer
     → first_look answers path ≡ None
-    → IsSearch (answers ++ stat path answer ∷ []) roots (noted search path answer) folder rest
+    → IsSearch (answers ++ stat path answer ∷ []) roots (search_after search path answer) folder rest
 note_step {path} {answer} s due fresh = look_step s due (looks_noted path answer s.looks due.answered fresh)
 
 -- a look at a path that was looked at before
@@ -155,14 +155,14 @@ again_step {answers} {path} {answer} s due before =
     (look_again answers path answer before))
 
 -- whether a path was looked at
-is_some_file : (answer : Option StatAnswer) → (is_some (file_of answer) || is_no_file answer) ≡ is_some answer
+is_some_file : (answer : Option StatAnswer) → (is_some (found_stamp answer) || is_no_file answer) ≡ is_some answer
 is_some_file (Some (File stamp)) = refl
 is_some_file _ = refl
 
 pub is_looked_is : {answers : List Heard} {roots : List (List ℕ)} {search : SearchFacts} {folder : List ℕ}
     {rest : List EntryFacts} (path : List ℕ) → IsSearch answers roots search folder rest
-    → is_looked search path ≡ is_some (first_look answers path)
+    → is_path_looked search path ≡ is_some (first_look answers path)
 is_looked_is {answers} {search} path s =
-    ap (λ (o : Option StampFacts). is_some o || has search.others path) (s.looks.files path)
-    ∙ ap (λ b. is_some (file_of (first_look answers path)) || b) (s.looks.others path)
+    ap (λ (o : Option StampFacts). is_some o || has_path search.others path) (s.looks.files path)
+    ∙ ap (λ b. is_some (found_stamp (first_look answers path)) || b) (s.looks.others path)
     ∙ is_some_file (first_look answers path)

@@ -25,7 +25,7 @@ use Rattle.tree_trait.proofs.FolderLemmas.{front_of_child, name_long, starts_res
 use Rattle.tree_walk.specs.Answers.{is_look_answer, first_look, first_reading}
 use Rattle.tree_walk.specs.Ends.{IsWholeWalk}
 use Rattle.row_types.specs.Under.{is_within}
-use Rattle.tree_trait.specs.Asks.{IsTold}
+use Rattle.tree_trait.specs.Asks.{IsAnswerTold}
 use Rattle.tree_trait.specs.Found.{Versions}
 use Rattle.tree_trait.specs.Shown.{ShownTree, IsPresence}
 use Rattle.tree_walk.specs.Files.{IsFileUnder, AreFilesUnder}
@@ -49,7 +49,7 @@ joined_some name (next ∷ more) h =
     omega (arith, whole, name_long name h)
 
 down : (present : List NameFacts) {answers : List Heard} {roots : List (List ℕ)} (file : NameFacts)
-    → All (IsTold present) answers → AsksAll answers roots → Contains present file
+    → All (IsAnswerTold present) answers → AsksAll answers roots → Contains present file
     → length file.path ≤ PATH_LIMIT
     → (folder name : List ℕ) (more : List (List ℕ)) → list_all is_entry_name (name ∷ more) ≡ true
     → file.path ≡ front_under folder ++ join_with_byte SEPARATOR (name ∷ more)
@@ -152,7 +152,7 @@ root_is_folder present path file _ apart there under t ok = absurd (false≢true
 
 -- each file under a root is reached
 candidate_from_under : (present : List NameFacts) {answers : List Heard} {roots : List (List ℕ)} {walk : Walk}
-    (file : NameFacts) → IsWholeWalk answers roots walk → All (IsTold present) answers
+    (file : NameFacts) → IsWholeWalk answers roots walk → All (IsAnswerTold present) answers
     → are_apart (map (λ n. n.path) present) ≡ true → Contains present file → IsCanonPath file.path
     → (r : List ℕ) → Contains roots r → is_within r file.path ≡ true → IsCandidate answers roots file.path
 candidate_from_under present {answers} {roots} file w told apart there kept r at within =
@@ -180,7 +180,7 @@ candidate_from_under present {answers} {roots} file w told apart there kept r at
 
 -- what is listed is a file under a root
 pub walked_under : (present : List NameFacts) {answers : List Heard} {roots : List (List ℕ)}
-    → All (IsTold present) answers → {name : NameFacts} → IsWalked answers roots name
+    → All (IsAnswerTold present) answers → {name : NameFacts} → IsWalked answers roots name
     → IsFileUnder present roots name
 walked_under present {answers} {roots} told {name} walked = record {
   there = file_found present name.path (told_look present answers told name.path walked.file).0;
@@ -190,7 +190,7 @@ walked_under present {answers} {roots} told {name} walked = record {
 
 -- the listing is the files under the roots
 pub files_are : {version : Versions} {tree : ShownTree} {answers : List Heard} {roots : List (List ℕ)}
-    {walk : Walk} → IsWholeWalk answers roots walk → All (IsTold tree.present) answers
+    {walk : Walk} → IsWholeWalk answers roots walk → All (IsAnswerTold tree.present) answers
     → tree.Still → (0 < length roots → IsPresence version tree)
     → AreFilesUnder tree.present roots walk.listing
 files_are {tree} {answers} {roots} w told still known = record {

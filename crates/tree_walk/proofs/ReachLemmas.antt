@@ -7,7 +7,7 @@ use Rattle.tree_trait.specs.declared.entry.EntryKind.{EntryKind}
 use Rattle.tree_trait.specs.declared.entry.EntryKind.TheVariants as kind
 use Rattle.tree_trait.specs.declared.stat.StatAnswer.{StatAnswer}
 use Rattle.tree_walk.specs.Answers.{first_look, look_at}
-use Rattle.tree_walk.specs.Walked.{IsNamed, IsReached, root, entry, IsEntry, IsFolder, IsCandidate, IsDue}
+use Rattle.tree_walk.specs.Walked.{IsNamed, IsReached, root, entry, IsEntry, IsFolder, IsCandidate, IsAskDue}
 use Rattle.tree_walk.proofs.AnswerLemmas.{entries_stay, look_stays, look_says}
 use Rattle.tree_walk.proofs.FirstLemmas.{place_of_first}
 
@@ -43,19 +43,19 @@ pub candidate_more : (answers more : List Heard) (roots : List (List ℕ)) (path
 candidate_more answers more roots path (inl r) = inl r
 candidate_more answers more roots path (inr e) = inr (entry_more more e)
 
-due_more : (answers more : List Heard) (roots : List (List ℕ)) (h : Heard) → IsDue answers roots h
-    → IsDue (answers ++ more) roots h
+due_more : (answers more : List Heard) (roots : List (List ℕ)) (h : Heard) → IsAskDue answers roots h
+    → IsAskDue (answers ++ more) roots h
 due_more answers more roots (load path limit answer) d = d
 due_more answers more roots (stat path answer) d = (candidate_more answers more roots path d.0, d.1)
 due_more answers more roots (read_dir path answer) d = (folder_more answers more roots path d.0, d.1)
 
 -- with one more that was due, all were
-pub due_push : (answers : List Heard) (roots : List (List ℕ)) (h : Heard) → All (IsDue answers roots) answers
-    → IsDue (answers ++ h ∷ []) roots h → All (IsDue (answers ++ h ∷ []) roots) (answers ++ h ∷ [])
+pub due_push : (answers : List Heard) (roots : List (List ℕ)) (h : Heard) → All (IsAskDue answers roots) answers
+    → IsAskDue (answers ++ h ∷ []) roots h → All (IsAskDue (answers ++ h ∷ []) roots) (answers ++ h ∷ [])
 due_push answers roots h due last =
     let later : List Heard = answers ++ h ∷ [] in
-    All-push (IsDue later roots) answers h
-    (All-weaker (IsDue answers roots) (IsDue later roots)
+    All-push (IsAskDue later roots) answers h
+    (All-weaker (IsAskDue answers roots) (IsAskDue later roots)
     (due_more answers (h ∷ []) roots) answers due) last
 
 -- a folder is reached
@@ -65,10 +65,10 @@ folder_reached answers roots path (inl r) = root path r.root
 folder_reached answers roots path (inr e) = entry e.folder path kind.Folder e.reached e.named
 
 -- a look that was answered was due
-pub look_was_due : (answers : List Heard) (roots : List (List ℕ)) → All (IsDue answers roots) answers
+pub look_was_due : (answers : List Heard) (roots : List (List ℕ)) → All (IsAskDue answers roots) answers
     → (path : List ℕ) {answer : StatAnswer} → first_look answers path ≡ Some answer
     → IsCandidate answers roots path × IsCanonPath path
 look_was_due answers roots due path h =
     let at = place_of_first (look_at path) answers h in
-    subst (IsDue answers roots)
-    (look_says path at.0 at.2).0 (All-contains (IsDue answers roots) answers at.0 due at.1)
+    subst (IsAskDue answers roots)
+    (look_says path at.0 at.2).0 (All-contains (IsAskDue answers roots) answers at.0 due at.1)

@@ -11,11 +11,11 @@ use Rattle.tree_trait.specs.Dir.{DirFacts, child}
 use Rattle.tree_trait.specs.Entry.{has_entry}
 use Rattle.tree_trait.specs.Heard.{Heard, read_dir}
 use Rattle.tree_trait.proofs.EntryLemmas.{bytes_back}
-use Rattle.tree_walk.specs.Answers.{is_dir_answer, first_reading, entries_of, entries_in, times_read}
+use Rattle.tree_walk.specs.Answers.{is_dir_answer, first_reading, listed_entries, entries_in, times_read}
 use Rattle.tree_walk.specs.Answers.{passed_over}
 use Rattle.tree_walk.specs.Kept.{IsSeenTo, IsPending, AreSeenTo, AreFolders, IsSearch}
-use Rattle.tree_walk.specs.Search.{SearchFacts, has, with_last}
-use Rattle.tree_walk.specs.Walked.{IsFolder, IsDue}
+use Rattle.tree_walk.specs.Search.{SearchFacts, has_path, with_last}
+use Rattle.tree_walk.specs.Walked.{IsFolder, IsAskDue}
 use Rattle.tree_walk.proofs.AnswerLemmas.{one_if, looked_stays, after_reading, times_after_reading, unread}
 use Rattle.tree_walk.proofs.GrowLemmas.{settled_more, answered_push, long_more, paid_push}
 use Rattle.tree_walk.proofs.LookLemmas.{looks_past_reading}
@@ -33,7 +33,7 @@ pub next_folder : {answers : List Heard} {roots known : List (List ℕ)} (todo :
 next_folder {answers} {roots} {known} todo path f =
     let push = sum_by_push (λ (q : List ℕ). one_if (bytes_eq path q)) todo path in
     let one : one_if (bytes_eq path path) ≡ 1 = ap one_if ((bytes_eq-Decides path path).1 refl) in
-    elim (has known path) as (λ v. has known path ≡ v → IsNextFolder answers roots path) [
+    elim (has_path known path) as (λ v. has_path known path ≡ v → IsNextFolder answers roots path) [
       | true ↦ λ e.
           let all : times_read answers path + count_by (bytes_eq path) (todo ++ path ∷ []) ≡ 1 =
           f.counts path ∙ ap one_if e in
@@ -51,14 +51,14 @@ next_folder {answers} {roots} {known} todo path f =
 -- its reading is due
 pub reading_due : {answers : List Heard} {roots : List (List ℕ)} (search : SearchFacts) (path : List ℕ)
     (answer : DirFacts) → IsSearch answers roots (with_last search path) [] []
-    → IsDue (answers ++ read_dir path answer ∷ []) roots (read_dir path answer)
+    → IsAskDue (answers ++ read_dir path answer ∷ []) roots (read_dir path answer)
 reading_due {answers} {roots} search path answer s =
     let next = next_folder search.todo path s.known in
     (folder_more answers (read_dir path answer ∷ []) roots path next.is_folder, next.kept)
 
 pub read_due : {answers : List Heard} {roots : List (List ℕ)} (search : SearchFacts) (path : List ℕ)
     (answer : DirFacts) → IsSearch answers roots (with_last search path) [] []
-    → All (IsDue (answers ++ read_dir path answer ∷ []) roots) (answers ++ read_dir path answer ∷ [])
+    → All (IsAskDue (answers ++ read_dir path answer ∷ []) roots) (answers ++ read_dir path answer ∷ [])
 read_due {answers} {roots} search path answer s =
     due_push answers roots (read_dir path answer) s.asked.due (reading_due search path answer s)
 
@@ -72,7 +72,7 @@ folders_read {answers} {roots} {known} todo path answer f = record {
       let push = sum_by_push (λ (q : List ℕ). one_if (bytes_eq p q)) todo path in
       let times = times_after_reading answers path answer p in
       let turned : one_if (bytes_eq path p) ≡ one_if (bytes_eq p path) = ap one_if (bytes_back path p) in
-      let all : times_read answers p + count_by (bytes_eq p) (todo ++ path ∷ []) ≡ one_if (has known p) =
+      let all : times_read answers p + count_by (bytes_eq p) (todo ++ path ∷ []) ≡ one_if (has_path known p) =
       f.counts p in
       omega (arith, push, times, turned, all);
 }
@@ -80,23 +80,23 @@ folders_read {answers} {roots} {known} todo path answer f = record {
 -- its entries are those of the answer
 pub read_entries : {answers : List Heard} {roots : List (List ℕ)} (search : SearchFacts) (path : List ℕ)
     (answer : DirFacts) → IsSearch answers roots (with_last search path) [] [] → is_dir_answer answer ≡ true
-    → entries_in (answers ++ read_dir path answer ∷ []) path ≡ entries_of (Some answer)
+    → entries_in (answers ++ read_dir path answer ∷ []) path ≡ listed_entries (Some answer)
 read_entries {answers} search path answer s ok =
-    ap entries_of (after_reading answers path answer ok (next_folder search.todo path s.known).unread path
+    ap listed_entries (after_reading answers path answer ok (next_folder search.todo path s.known).unread path
     ∙ ap (λ (b : Bool). cond b (Some answer) (first_reading answers path)) ((same-Decides path path).1 refl))
 
 -- they are still to be seen to, and all others were
 seen_read : {answers : List Heard} {known long : List (List ℕ)} (path : List ℕ) (answer : DirFacts)
     → AreSeenTo answers known long [] [] → is_dir_answer answer ≡ true → first_reading answers path ≡ None
-    → AreSeenTo (answers ++ read_dir path answer ∷ []) known long path (entries_of (Some answer))
+    → AreSeenTo (answers ++ read_dir path answer ∷ []) known long path (listed_entries (Some answer))
 seen_read {answers} {known} {long} path answer seen ok fresh =
     let more : List Heard = read_dir path answer ∷ [] in
     record {
       each = λ at entry h.
           elim (same at path) as (λ v. same at path ≡ v
-          → has_entry (entries_of (cond v (Some answer) (first_reading answers at))) entry ≡ true
+          → has_entry (listed_entries (cond v (Some answer) (first_reading answers at))) entry ≡ true
           → IsSeenTo (answers ++ more) known long (child at entry.name) entry.kind ⊎ IsPending path
-          (entries_of (Some answer)) at entry) [
+          (listed_entries (Some answer)) at entry) [
             | true ↦ λ e t. inr (record { here = (same-Decides at path).0 e; among = t })
             | false ↦ λ e t. elim (seen.each at entry t) [
               | inl done ↦ inl (settled_more {answers = answers} {later = answers ++ more}
@@ -108,7 +108,7 @@ seen_read {answers} {known} {long} path answer seen ok fresh =
                   }) done)
               | inr pending ↦ absurd (false≢true pending.among)
             ]
-          ] refl (subst (λ (o : Option DirFacts). has_entry (entries_of o) entry ≡ true)
+          ] refl (subst (λ (o : Option DirFacts). has_entry (listed_entries o) entry ≡ true)
           (after_reading answers path answer ok fresh at) h);
     }
 
@@ -116,10 +116,10 @@ seen_read {answers} {known} {long} path answer seen ok fresh =
 pub read_step : {answers : List Heard} {roots : List (List ℕ)} (search : SearchFacts) (path : List ℕ)
     (answer : DirFacts) {left skipped : ℕ} → IsSearch answers roots (with_last search path) [] []
     → is_dir_answer answer ≡ true
-    → left + length (entries_of (Some answer)) ≡ search.left
+    → left + length (listed_entries (Some answer)) ≡ search.left
     → skipped ≡ min (search.skipped + passed_over (read_dir path answer)) (2 ^ 64 - 1)
     → IsSearch (answers ++ read_dir path answer ∷ []) roots
-    (record search { left = left; skipped = skipped }) path (entries_of (Some answer))
+    (record search { left = left; skipped = skipped }) path (listed_entries (Some answer))
 read_step search path answer s ok paid passed = record {
   looks = looks_past_reading path answer s.looks;
   asked = answered_push (read_dir path answer) s.asked (reading_due search path answer s) ok (λ p r e. cc);

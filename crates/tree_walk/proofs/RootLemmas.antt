@@ -15,8 +15,8 @@ use Rattle.tree_walk.specs.Answers.{is_look_answer, first_look, is_found}
 use Rattle.tree_walk.specs.Ends.{IsWithinLimits, IsRootGone, IsCause, StopsAtLast}
 use Rattle.tree_walk.specs.Calls.{HearsLook}
 use Rattle.tree_walk.specs.Kept.{IsSearch}
-use Rattle.tree_walk.specs.Search.{SearchFacts, has, is_looked, noted, with_root, with_new_root, NotesAnswer}
-use Rattle.tree_walk.specs.Underway.{AreLooked, IsBeginning}
+use Rattle.tree_walk.specs.Search.{SearchFacts, has_path, is_path_looked, search_after, with_root, with_new_root, NotesAnswer}
+use Rattle.tree_walk.specs.Underway.{AreLooked, AreFirstRootsSeen}
 use Rattle.tree_walk.specs.Walked.{AsksDue}
 use Rattle.tree_walk.specs.declared.fault.WalkFault.{WalkFault}
 use Rattle.tree_walk.specs.declared.fault.WalkFault.TheVariants.{OutOfMemory}
@@ -39,17 +39,17 @@ there_from_answer _ ok there = refl
 record IsRootNoted (answers : List Heard) (roots : List (List ℕ)) (search next : SearchFacts)
     (path : List ℕ) : Type 0 where
   search_is : IsSearch answers roots next [] []
-  keeps : (p : List ℕ) → has search.folders p ≡ true → has next.folders p ≡ true
-  adds : first_look answers path ≡ Some Folder → has next.folders path ≡ true
+  keeps : (p : List ℕ) → has_path search.folders p ≡ true → has_path next.folders p ≡ true
+  adds : first_look answers path ≡ Some Folder → has_path next.folders path ≡ true
 
 root_noted : {answers : List Heard} {roots : List (List ℕ)} (search : SearchFacts) {path : List ℕ}
     (answer : StatAnswer) → Contains roots path → IsCanonPath path → first_look answers path ≡ Some answer
-    → IsSearch answers roots (noted search path answer) [] []
+    → IsSearch answers roots (search_after search path answer) [] []
     → IsRootNoted answers roots search (with_root search path answer) path
 root_noted search {path} Folder r kept here s = record {
   search_is = folder_step s (inl (record { root = r; folder = here })) kept;
-  keeps = λ p h. folder_stays (noted search path Folder) path p h;
-  adds = λ h. folder_known (noted search path Folder) path;
+  keeps = λ p h. folder_stays (search_after search path Folder) path p h;
+  adds = λ h. folder_known (search_after search path Folder) path;
 }
 root_noted search answer r kept here s =
     record {
@@ -68,7 +68,7 @@ record IsRootStep (answers : List Heard) (roots seen : List (List ℕ)) (search 
 looked_push : {answers : List Heard} {roots seen : List (List ℕ)} {search next : SearchFacts} (path : List ℕ)
     (answer : StatAnswer) → AreLooked answers roots seen search → is_look_answer answer ≡ true
     → ((p : List ℕ) → Contains roots p → first_look (answers ++ stat path answer ∷ []) p ≡ Some Folder
-    → has next.folders p ≡ true)
+    → has_path next.folders p ≡ true)
     → AreLooked (answers ++ stat path answer ∷ []) roots (seen ++ path ∷ []) next
 looked_push {answers} {seen} path answer looked ok folders =
     let more : List Heard = stat path answer ∷ [] in
@@ -89,10 +89,10 @@ root_new : {answers : List Heard} {roots seen : List (List ℕ)} {search next : 
 root_new {answers} {next} {path} {answer} looked due fresh noted_root = record {
   search_is = noted_root.search_is;
   looked = looked_push path answer looked due.answered
-      (λ p r h. elim (same p path) as (λ v. same p path ≡ v → has next.folders p ≡ true) [
+      (λ p r h. elim (same p path) as (λ v. same p path ≡ v → has_path next.folders p ≡ true) [
         | true ↦ λ e.
             let one : p ≡ path = (same-Decides p path).0 e in
-            subst (λ (q : List ℕ). has next.folders q ≡ true) (sym one)
+            subst (λ (q : List ℕ). has_path next.folders q ≡ true) (sym one)
             (noted_root.adds (subst (λ (q : List ℕ). first_look
             (answers ++ stat path answer ∷ []) q ≡ Some Folder) one h))
         | false ↦ λ e. noted_root.keeps p
@@ -110,7 +110,7 @@ root_step : {answers : List Heard} {roots seen : List (List ℕ)} {search : Sear
     (with_new_root search path answer)
 root_step {answers} {roots} {seen} {search} {path} {answer} s looked r due =
     let later : List Heard = answers ++ stat path answer ∷ [] in
-    let asked : is_looked search path ≡ is_some (first_look answers path) = is_looked_is path s in
+    let asked : is_path_looked search path ≡ is_some (first_look answers path) = is_looked_is path s in
     elim (first_look answers path) as (λ o. first_look answers path ≡ o
     → IsRootStep later roots (seen ++ path ∷ []) (with_new_root search path answer)) [
       | None ↦ λ e.
@@ -133,9 +133,9 @@ root_step {answers} {roots} {seen} {search} {path} {answer} s looked r due =
 pub root_ends : {V : Type 0} {answers more : List Heard} {roots seen : List (List ℕ)} {search : SearchFacts}
     {path : List ℕ} {answer : StatAnswer} (result : Result V WalkFault) (now : SearchFacts)
     (after : List (List ℕ))
-    → IsBeginning answers roots seen search → roots ≡ seen ++ path ∷ after → IsCanonPath path
+    → AreFirstRootsSeen answers roots seen search → roots ≡ seen ++ path ∷ after → IsCanonPath path
     → HearsLook path more answer → (answer ≡ Gone → ⊥) → NotesAnswer (with_new_root search path answer) now result
-    → MatchResult result (λ _. IsBeginning (answers ++ more) roots (seen ++ path ∷ []) now)
+    → MatchResult result (λ _. AreFirstRootsSeen (answers ++ more) roots (seen ++ path ∷ []) now)
     (IsCause (answers ++ more) roots)
 root_ends {answers} {roots} {seen} {search} {path} {answer} result now after b split kept look there added =
     let r : Contains roots path = root_among seen after path split in
@@ -144,10 +144,10 @@ root_ends {answers} {roots} {seen} {search} {path} {answer} result now after b s
     let step = root_step b.search_is b.looked r due in
     let e : length b.given ≡ length seen = b.each in
     subst (λ (m : List Heard). MatchResult result
-    (λ _. IsBeginning (answers ++ m) roots (seen ++ path ∷ []) now) (IsCause (answers ++ m) roots))
+    (λ _. AreFirstRootsSeen (answers ++ m) roots (seen ++ path ∷ []) now) (IsCause (answers ++ m) roots))
     (sym look.heard)
     (adds_ends result (with_new_root search path answer) now
-    (λ next. IsBeginning (answers ++ stat path answer ∷ []) roots (seen ++ path ∷ []) next) added
+    (λ next. AreFirstRootsSeen (answers ++ stat path answer ∷ []) roots (seen ++ path ∷ []) next) added
     (λ few. record {
       search_is = step.search_is;
       few = few;
@@ -164,7 +164,7 @@ root_ends {answers} {roots} {seen} {search} {path} {answer} result now after b s
 
 -- nothing is at a root
 pub root_gone : {answers more : List Heard} {roots seen : List (List ℕ)} {search : SearchFacts}
-    {path : List ℕ} (after : List (List ℕ)) → IsBeginning answers roots seen search
+    {path : List ℕ} (after : List (List ℕ)) → AreFirstRootsSeen answers roots seen search
     → roots ≡ seen ++ path ∷ after → IsCanonPath path → more ≡ stat path Gone ∷ []
     → IsRootGone (answers ++ more) roots path
 root_gone {answers} {roots} {seen} {path} after b split kept heard = record {
@@ -183,7 +183,7 @@ root_gone {answers} {roots} {seen} {path} after b split kept heard = record {
 
 -- and memory for its name was refused
 pub gone_memory : {answers more : List Heard} {roots seen : List (List ℕ)} {search : SearchFacts}
-    {path : List ℕ} (after : List (List ℕ)) → IsBeginning answers roots seen search
+    {path : List ℕ} (after : List (List ℕ)) → AreFirstRootsSeen answers roots seen search
     → roots ≡ seen ++ path ∷ after → IsCanonPath path → more ≡ stat path Gone ∷ []
     → IsCause (answers ++ more) roots OutOfMemory
 gone_memory {answers} {roots} after b split kept heard =

@@ -20,9 +20,9 @@ use Rattle.tree_trait.specs.declared.entry.EntryKind.TheVariants as kind
 use Rattle.tree_trait.specs.declared.stat.StatAnswer.{StatAnswer}
 use Rattle.tree_trait.specs.declared.stat.StatAnswer.TheVariants.{Folder, File, Other, Gone}
 use Rattle.tree_walk.specs.Answers.{first_some, is_look_answer, is_dir_answer, look_at, reading_of, first_look}
-use Rattle.tree_walk.specs.Answers.{first_reading, entries_of, entries_in}
+use Rattle.tree_walk.specs.Answers.{first_reading, listed_entries, entries_in}
 use Rattle.row_types.specs.Under.{is_within}
-use Rattle.tree_trait.specs.Asks.{IsTold}
+use Rattle.tree_trait.specs.Asks.{IsAnswerTold}
 use Rattle.tree_walk.specs.Walked.{IsReached, root, entry, IsCandidate}
 use Rattle.tree_walk.proofs.AnswerLemmas.{look_says, reading_says}
 use Rattle.tree_walk.proofs.FirstLemmas.{place_of_first}
@@ -31,27 +31,27 @@ use Rattle.tree_walk.proofs.ElementLemmas.{any_from_Contains, any_more}
 
 -- what the answers say of the tree
 told_first : {Y : Type 0} (f : Heard → Option Y) {y : Y} (present : List NameFacts) (answers : List Heard)
-    → All (IsTold present) answers → first_some f answers ≡ Some y
-    → (h : Heard) × IsTold present h × (f h ≡ Some y)
+    → All (IsAnswerTold present) answers → first_some f answers ≡ Some y
+    → (h : Heard) × IsAnswerTold present h × (f h ≡ Some y)
 told_first f present answers told h =
     let at = place_of_first f answers h in
-    (at.0, All-contains (IsTold present) answers at.0 told at.1, at.2)
+    (at.0, All-contains (IsAnswerTold present) answers at.0 told at.1, at.2)
 
-pub told_look : (present : List NameFacts) (answers : List Heard) → All (IsTold present) answers
+pub told_look : (present : List NameFacts) (answers : List Heard) → All (IsAnswerTold present) answers
     → (path : List ℕ) {answer : StatAnswer} → first_look answers path ≡ Some answer
     → TellsStat present path answer × (is_look_answer answer ≡ true)
 told_look present answers told path h =
     let at = told_first (look_at path) present answers told h in
     let says = look_says path at.0 at.2 in
-    (subst (IsTold present) says.0 at.1, says.1)
+    (subst (IsAnswerTold present) says.0 at.1, says.1)
 
-told_reading : (present : List NameFacts) (answers : List Heard) → All (IsTold present) answers
+told_reading : (present : List NameFacts) (answers : List Heard) → All (IsAnswerTold present) answers
     → (path : List ℕ) {answer : DirFacts} → first_reading answers path ≡ Some answer
     → TellsDir present path answer × (is_dir_answer answer ≡ true)
 told_reading present answers told path h =
     let at = told_first (reading_of path) present answers told h in
     let says = reading_says path at.0 at.2 in
-    (subst (IsTold present) says.0 at.1, says.1)
+    (subst (IsAnswerTold present) says.0 at.1, says.1)
 
 -- a look at a file finds it
 pub look_finds : (present : List NameFacts) (path : List ℕ) {stamp : StampFacts} (answer : StatAnswer)
@@ -85,18 +85,18 @@ candidate_within answers roots path (inr e) = reached_within (entry e.folder pat
 entries_told : (present : List NameFacts) (folder : List ℕ) (answer : DirFacts) (e : EntryFacts)
     → TellsDir present folder answer → is_dir_answer answer ≡ true → is_folder present folder ≡ true
     → is_entry_name e.name ≡ true → is_there present folder e ≡ true
-    → has_entry (entries_of (Some answer)) e ≡ true
+    → has_entry (listed_entries (Some answer)) e ≡ true
 entries_told present folder (listed entries skipped) e t ok some valid there = t.listing.all e valid there
 entries_told present folder no_dir e t ok some valid there = absurd (false≢true (sym t ∙ some))
 entries_told present folder _ e t ok some valid there = absurd (false≢true ok)
 
 pub named_told : (present : List NameFacts) (answers : List Heard) (folder : List ℕ) (e : EntryFacts)
-    → All (IsTold present) answers → IsSome (first_reading answers folder) → is_folder present folder ≡ true
+    → All (IsAnswerTold present) answers → IsSome (first_reading answers folder) → is_folder present folder ≡ true
     → is_entry_name e.name ≡ true → is_there present folder e ≡ true
     → has_entry (entries_in answers folder) e ≡ true
 named_told present answers folder e told read some valid there =
     elim (first_reading answers folder) as (λ o. first_reading answers folder ≡ o → IsSome o
-    → has_entry (entries_of o) e ≡ true) [
+    → has_entry (listed_entries o) e ≡ true) [
       | None ↦ λ h r. absurd (false≢true r)
       | Some answer ↦ λ h r. let says = told_reading present answers told folder h in
           entries_told present folder answer e says.0 says.1 some valid there

@@ -14,8 +14,8 @@ use Rattle.tree_trait.specs.declared.entry.EntryKind.{EntryKind}
 use Rattle.tree_trait.specs.declared.entry.EntryKind.TheVariants as kind
 use Rattle.tree_trait.specs.declared.stat.StatAnswer.TheVariants.{Folder}
 use Rattle.tree_walk.specs.Answers.{first_look}
-use Rattle.tree_walk.specs.Kept.{IsMet, IsSeenTo, IsSearch}
-use Rattle.tree_walk.specs.Search.{SearchFacts, has, with_folder, with_long}
+use Rattle.tree_walk.specs.Kept.{IsEntryMet, IsSeenTo, IsSearch}
+use Rattle.tree_walk.specs.Search.{SearchFacts, has_path, with_folder, with_long}
 use Rattle.tree_walk.specs.Underway.{IsEntered, IsNextEntry, IsNextPath, AreLooked, IsUnderway}
 use Rattle.tree_walk.specs.Walked.{IsNamed, IsEntry, entry as reached_entry}
 use Rattle.tree_trait.proofs.EntryLemmas.{entry_itself}
@@ -28,7 +28,7 @@ use Rattle.tree_walk.proofs.EntrySteps.{long_known, entry_step, with_pending}
 -- the roots stay looked at
 still_looked : {answers : List Heard} (more : List Heard) {roots : List (List ℕ)} {search : SearchFacts}
     (next : SearchFacts) → AreLooked answers roots roots search
-    → ((path : List ℕ) → has search.folders path ≡ true → has next.folders path ≡ true)
+    → ((path : List ℕ) → has_path search.folders path ≡ true → has_path next.folders path ≡ true)
     → AreLooked (answers ++ more) roots roots next
 still_looked {answers} more next looked grows = record {
   looked = λ p c. looked_stays answers more p (looked.looked p c);
@@ -48,7 +48,7 @@ pub underway_more : {answers : List Heard} (more : List Heard) {roots : List (Li
     {search next : SearchFacts} {folder to : List ℕ} {rest left : List EntryFacts}
     → IsUnderway answers roots search folder rest → IsSearch (answers ++ more) roots next to left
     → length next.files ≤ LISTING_LIMIT
-    → ((path : List ℕ) → has search.folders path ≡ true → has next.folders path ≡ true)
+    → ((path : List ℕ) → has_path search.folders path ≡ true → has_path next.folders path ≡ true)
     → IsUnderway (answers ++ more) roots next to left
 underway_more more {next} u s few grows = record {
   search_is = s;
@@ -61,7 +61,7 @@ underway_more more {next} u s few grows = record {
 pub underway_none : {answers : List Heard} {roots : List (List ℕ)} {search next : SearchFacts}
     {folder : List ℕ} {rest left : List EntryFacts} → IsUnderway answers roots search folder rest
     → IsSearch answers roots next folder left → length next.files ≤ LISTING_LIMIT
-    → ((path : List ℕ) → has search.folders path ≡ true → has next.folders path ≡ true)
+    → ((path : List ℕ) → has_path search.folders path ≡ true → has_path next.folders path ≡ true)
     → IsUnderway answers roots next folder left
 underway_none u s few grows = record {
   search_is = s;
@@ -72,16 +72,16 @@ underway_none u s few grows = record {
 
 -- an entry whose path isn't too long was seen to
 settled_short : (answers : List Heard) (known long : List (List ℕ)) (path : List ℕ) (k : EntryKind)
-    → length path ≤ PATH_LIMIT → IsMet answers known path k → IsSeenTo answers known long path k
+    → length path ≤ PATH_LIMIT → IsEntryMet answers known path k → IsSeenTo answers known long path k
 settled_short answers known long path k short met =
-    subst (λ (b : Bool). MatchBool b (has long path ≡ true) (IsMet answers known path k))
+    subst (λ (b : Bool). MatchBool b (has_path long path ≡ true) (IsEntryMet answers known path k))
     (sym (le-ltb PATH_LIMIT (length path) short)) met
 
 -- an entry that is seen to at its path
 pub settled_at : {answers : List Heard} {roots : List (List ℕ)} {search : SearchFacts} {folder path : List ℕ}
     {entry : EntryFacts} {rest : List EntryFacts} (later : List Heard) (next : SearchFacts)
     → IsNextPath answers roots search folder entry rest path
-    → IsMet later next.folders path entry.kind
+    → IsEntryMet later next.folders path entry.kind
     → IsSeenTo later next.folders next.long (child folder entry.name) entry.kind
 settled_at {path} {entry} later next n met =
     subst (λ (p : List ℕ). IsSeenTo later next.folders next.long p entry.kind) n.joined
@@ -108,8 +108,8 @@ folder_entry {answers} {roots} {search} {path} {entry} is n =
     let at : IsEntry answers roots kind.Folder path =
     subst (λ (k : EntryKind). IsEntry answers roots k path) is (entry_of n) in
     let s = folder_step n.next.underway.search_is (inr at) n.kept in
-    let met : IsMet answers next.folders path entry.kind =
-    subst (λ (k : EntryKind). IsMet answers next.folders path k) (sym is) (folder_known search path) in
+    let met : IsEntryMet answers next.folders path entry.kind =
+    subst (λ (k : EntryKind). IsEntryMet answers next.folders path k) (sym is) (folder_known search path) in
     underway_none n.next.underway (entry_step s (settled_at answers next n met))
     (subst (λ (files : List (List ℕ × StampFacts)). length files ≤ LISTING_LIMIT)
     (sym (folder_files search path)) n.next.underway.few) (folder_stays search path)
@@ -120,8 +120,8 @@ pub other_entry : {answers : List Heard} {roots : List (List ℕ)} {search : Sea
     → IsNextPath answers roots search folder entry rest path
     → IsUnderway answers roots search folder rest
 other_entry {answers} {search} {path} {entry} is n =
-    let met : IsMet answers search.folders path entry.kind =
-    subst (λ (k : EntryKind). IsMet answers search.folders path k) (sym is) tt in
+    let met : IsEntryMet answers search.folders path entry.kind =
+    subst (λ (k : EntryKind). IsEntryMet answers search.folders path k) (sym is) tt in
     underway_none n.next.underway
     (entry_step n.next.underway.search_is (settled_at answers search n met)) n.next.underway.few (λ p h. h)
 
@@ -137,7 +137,7 @@ long_entry {answers} {search} {folder} {entry} n long =
     record { name = entry.name; listed = n.listed; joined = refl } in
     let s = long_step n.underway.search_is (reached_entry folder path entry.kind n.reached named) long in
     let settled : IsSeenTo answers next.folders next.long path entry.kind =
-    subst (λ (b : Bool). MatchBool b (has next.long path ≡ true) (IsMet answers next.folders path entry.kind))
+    subst (λ (b : Bool). MatchBool b (has_path next.long path ≡ true) (IsEntryMet answers next.folders path entry.kind))
     (sym (lt-ltb PATH_LIMIT (length path) long)) (long_known search path) in
     underway_none n.underway (entry_step s settled) n.underway.few (λ p h. h)
 

@@ -4,16 +4,16 @@ use Rattle.std.proofs.Common.{IsTrue, MatchResult, All, sym, subst}
 use Rattle.std.proofs.lemmas.List.Elements.{All-weaker}
 use Rattle.row_types.specs.Faults.{summed}
 use Rattle.row_types.specs.Name.{NameFacts}
-use Rattle.tree_trait.specs.Asks.{IsTold}
+use Rattle.tree_trait.specs.Asks.{IsAnswerTold}
 use Rattle.tree_trait.specs.Found.{Versions}
 use Rattle.tree_trait.specs.Heard.{Heard, load, stat, read_dir}
 use Rattle.tree_trait.specs.Shown.{ShownTree, HandsOn, StaysStill}
-use Rattle.tree_walk.specs.Ends.{EndsWalk, IsAskedUnder, IsCause, IsWholeWalk, Walks}
+use Rattle.tree_walk.specs.Ends.{EndsWalk, IsAskedUnder, IsCause, IsWholeWalk, WalksTree}
 use Rattle.tree_walk.specs.Files.{AreFilesUnder}
 use Rattle.tree_walk.specs.Search.{SearchFacts, search_names}
 use Rattle.tree_walk.specs.Underway.{IsUnderway}
 use Rattle.tree_walk.specs.declared.fault.WalkFault.{WalkFault}
-use Rattle.tree_walk.specs.Walked.{IsDue}
+use Rattle.tree_walk.specs.Walked.{IsAskDue}
 use Rattle.tree_walk.specs.declared.fault.WalkFault.TheVariants.{Failed, TooMany, TooManyEntries, RootGone}
 use Rattle.tree_walk.specs.declared.fault.WalkFault.TheVariants.{OutOfMemory}
 use Rattle.tree_walk.specs.declared.walked.Walk.{Walk}
@@ -35,16 +35,16 @@ walk_ended {answers} {roots} (Err fault) u empty listing skipped memory =
     subst (IsCause answers roots) (sym memory) (inl (underway_between u))
 
 -- what was due is under the roots
-due_under : (answers : List Heard) (roots : List (List ℕ)) (h : Heard) → IsDue answers roots h
+due_under : (answers : List Heard) (roots : List (List ℕ)) (h : Heard) → IsAskDue answers roots h
     → IsAskedUnder roots h
 due_under answers roots (load path limit answer) due = due
 due_under answers roots (stat path answer) due = candidate_within answers roots path due.0
 due_under answers roots (read_dir path answer) due = reached_within (folder_reached answers roots path due.0)
 
-all_under : (answers : List Heard) (roots : List (List ℕ)) → All (IsDue answers roots) answers
+all_under : (answers : List Heard) (roots : List (List ℕ)) → All (IsAskDue answers roots) answers
     → All (IsAskedUnder roots) answers
 all_under answers roots due =
-    All-weaker (IsDue answers roots) (IsAskedUnder roots) (due_under answers roots) answers due
+    All-weaker (IsAskDue answers roots) (IsAskedUnder roots) (due_under answers roots) answers due
 
 cause_under : (answers : List Heard) (roots : List (List ℕ)) (fault : WalkFault) → IsCause answers roots fault
     → All (IsAskedUnder roots) answers
@@ -57,13 +57,13 @@ cause_under answers roots OutOfMemory (inr last) = all_under answers roots last.
 
 -- whatever its end, a walk asks nothing else
 pub walks_by : {told : Bool} {before after : ShownTree} {roots : List (List ℕ)} (result : Result Walk WalkFault)
-    → EndsWalk told before after roots result → Walks told before after roots result
+    → EndsWalk told before after roots result → WalksTree told before after roots result
 walks_by {roots} (Ok walk) w = record { goes = w; under = all_under w.more roots w.ends.once.due }
 walks_by {roots} (Err fault) w = record { goes = w; under = cause_under w.more roots fault w.ends }
 
 -- the listing of a tree that is told and still
 pub files_of : {told : Bool} {version : Versions} {before after : ShownTree} {roots : List (List ℕ)}
-    {Fails : Type 0} (result : Result Walk WalkFault) → Walks told before after roots result
+    {Fails : Type 0} (result : Result Walk WalkFault) → WalksTree told before after roots result
     → HandsOn told version before after (0 < length roots) Fails
     → IsTrue told → before.Still → IfOk result (λ walk. AreFilesUnder before.present roots walk.listing)
 files_of (Err fault) w hands t s = tt
@@ -71,5 +71,5 @@ files_of {version} {before} {after} {roots} (Ok walk) w hands t s =
     let stays : StaysStill before after = hands.still s in
     subst (λ (names : List NameFacts). AreFilesUnder names roots walk.listing) stays.same
     (files_are {version = version} {tree = after} w.goes.ends
-    (subst (λ (names : List NameFacts). All (IsTold names) w.goes.more) (sym stays.same)
+    (subst (λ (names : List NameFacts). All (IsAnswerTold names) w.goes.more) (sym stays.same)
     (w.goes.tells t s)) stays.still (hands.known t))

@@ -54,13 +54,13 @@ abbrev pub first_reading : List Heard → List ℕ → Option DirFacts
 first_reading answers path = first_some (reading_of path) answers
 
 -- the entries that an answer lists; a folder that is gone has none
-abbrev pub entries_of : Option DirFacts → List EntryFacts
-entries_of (Some (listed entries skipped)) = entries
-entries_of _ = []
+abbrev pub listed_entries : Option DirFacts → List EntryFacts
+listed_entries (Some (listed entries skipped)) = entries
+listed_entries _ = []
 
 -- the entries of the folder, by the first answer
 abbrev pub entries_in : List Heard → List ℕ → List EntryFacts
-entries_in answers folder = entries_of (first_reading answers folder)
+entries_in answers folder = listed_entries (first_reading answers folder)
 
 -- whether this is a reading of the folder at the path, answered or not
 abbrev pub reads : List ℕ → Heard → Bool
@@ -73,7 +73,7 @@ times_read answers path = count_by (reads path) answers
 
 -- how many entries an answer lists
 abbrev pub listed_count : Heard → ℕ
-listed_count (read_dir asked answer) = length (entries_of (Some answer))
+listed_count (read_dir asked answer) = length (listed_entries (Some answer))
 listed_count _ = 0
 
 -- how many entries were read

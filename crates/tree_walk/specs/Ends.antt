@@ -5,8 +5,8 @@ use Rattle.std.specs.List.{list_all, list_any}
 use Rattle.row_types.specs.Name.{NameFacts}
 use Rattle.row_types.specs.Under.{is_within}
 use Rattle.scan_queue.specs.declared.listing.TheConstants.{LISTING_LIMIT}
-use Rattle.tree_trait.specs.Asks.{IsTold}
-use Rattle.tree_trait.specs.Heard.{Heard, load, stat, read_dir, has_failed, with_answers}
+use Rattle.tree_trait.specs.Asks.{IsAnswerTold}
+use Rattle.tree_trait.specs.Heard.{Heard, load, stat, read_dir, call_failed, with_answers}
 use Rattle.tree_trait.specs.Shown.{ShownTree}
 use Rattle.tree_trait.specs.declared.stat.StatAnswer.{StatAnswer}
 use Rattle.tree_trait.specs.declared.stat.StatAnswer.TheVariants.{Gone}
@@ -60,7 +60,7 @@ pub record StopsAtLast (answers : List Heard) (roots : List (List ℕ)) (Stops :
   pub stops : Stops last
 
 -- the last answer made more files than a listing has
-pub record IsTooMany (answers : List Heard) (roots : List (List ℕ)) : Type 0 where
+pub record AreFilesTooMany (answers : List Heard) (roots : List (List ℕ)) : Type 0 where
   pub last : StopsAtLast answers roots (λ last. Unit {0})
   pub names : List NameFacts
   pub listing : IsWalkListing answers roots names
@@ -92,8 +92,8 @@ pub record StopsBetween (answers : List Heard) (roots : List (List ℕ)) : Type 
 
 -- the answers by which a walk ends with a fault; want of memory may end it at any, or between two calls
 abbrev pub IsCause : List Heard → List (List ℕ) → WalkFault → Type 0
-IsCause answers roots Failed = StopsAtLast answers roots (λ last. has_failed last ≡ true)
-IsCause answers roots TooMany = IsTooMany answers roots
+IsCause answers roots Failed = StopsAtLast answers roots (λ last. call_failed last ≡ true)
+IsCause answers roots TooMany = AreFilesTooMany answers roots
 IsCause answers roots TooManyEntries = IsTooManyEntries answers roots
 IsCause answers roots (RootGone path) = IsRootGone answers roots path
 IsCause answers roots OutOfMemory = StopsBetween answers roots ⊎ StopsAtLast answers roots (λ last. Unit {0})
@@ -101,18 +101,18 @@ IsCause answers roots OutOfMemory = StopsBetween answers roots ⊎ StopsAtLast a
 -- some more answers were heard, which the list that the tree tells grew by; they are those of the files that
 -- are there, where the tree is told and still; and by them, behind those that were heard before, a call
 -- ended so
-pub record Goes {V : Type 0} (told : Bool) (before after : ShownTree) (answers : List Heard)
+pub record GoesByAnswers {V : Type 0} (told : Bool) (before after : ShownTree) (answers : List Heard)
     (Good : List Heard → V → Type 0) (Bad : List Heard → WalkFault → Type 0)
     (result : Result V WalkFault) : Type 0 where
   pub more : List Heard
   pub heard : after.heard ≡ with_answers before.heard more
-  pub tells : IsTrue told → before.Still → All (IsTold before.present) more
+  pub tells : IsTrue told → before.Still → All (IsAnswerTold before.present) more
   pub ends : MatchResult result (Good (answers ++ more)) (Bad (answers ++ more))
 
 -- the walk ended by the answers that it heard
 abbrev pub EndsWalk : Bool → ShownTree → ShownTree → List (List ℕ) → Result Walk WalkFault → Type 0
 EndsWalk told before after roots result =
-    Goes told before after [] (λ answers walk. IsWholeWalk answers roots walk)
+    GoesByAnswers told before after [] (λ answers walk. IsWholeWalk answers roots walk)
     (λ answers fault. IsCause answers roots fault) result
 
 -- a look at a path that is a root or lies under one, or the reading of a folder there; so no load
@@ -123,7 +123,7 @@ IsAskedUnder roots (read_dir path answer) = list_any (λ root. is_within root pa
 
 -- the walk ended by the answers that it heard; whatever its end, nothing was loaded, and nothing was asked but
 -- what is under the roots
-pub record Walks (told : Bool) (before after : ShownTree) (roots : List (List ℕ))
+pub record WalksTree (told : Bool) (before after : ShownTree) (roots : List (List ℕ))
     (result : Result Walk WalkFault) : Type 0 where
   pub goes : EndsWalk told before after roots result
   pub under : All (IsAskedUnder roots) goes.more

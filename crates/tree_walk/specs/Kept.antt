@@ -20,14 +20,14 @@ use Rattle.tree_trait.specs.declared.stat.StatAnswer.{StatAnswer}
 use Rattle.tree_trait.specs.declared.stat.StatAnswer.TheVariants.{File, Gone}
 use Rattle.tree_walk.specs.Answers.{is_answered, first_look, entries_in}
 use Rattle.tree_walk.specs.Answers.{times_read, entries_read, all_passed_over}
-use Rattle.tree_walk.specs.Walked.{IsReached, IsFolder, IsDue}
+use Rattle.tree_walk.specs.Walked.{IsReached, IsFolder, IsAskDue}
 use Rattle.tree_walk.specs.declared.walked.TheConstants.{ENTRY_LIMIT}
-use Rattle.tree_walk.specs.Search.{SearchFacts, has}
+use Rattle.tree_walk.specs.Search.{SearchFacts, has_path}
 
 -- the stamp of a file that was found
-abbrev pub file_of : Option StatAnswer → Option StampFacts
-file_of (Some (File stamp)) = Some stamp
-file_of _ = None
+abbrev pub found_stamp : Option StatAnswer → Option StampFacts
+found_stamp (Some (File stamp)) = Some stamp
+found_stamp _ = None
 
 -- whether something else than a file was found, or nothing
 abbrev pub is_no_file : Option StatAnswer → Bool
@@ -36,16 +36,16 @@ is_no_file (Some (File stamp)) = false
 is_no_file (Some _) = true
 
 -- an entry whose path is no longer than is kept is known as what it is
-abbrev pub IsMet : List Heard → List (List ℕ) → List ℕ → EntryKind → Type 0
-IsMet answers known path kind.Folder = has known path ≡ true
-IsMet answers known path kind.File = IsSome (first_look answers path)
-IsMet answers known path kind.Other = Unit {0}
+abbrev pub IsEntryMet : List Heard → List (List ℕ) → List ℕ → EntryKind → Type 0
+IsEntryMet answers known path kind.Folder = has_path known path ≡ true
+IsEntryMet answers known path kind.File = IsSome (first_look answers path)
+IsEntryMet answers known path kind.Other = Unit {0}
 
 -- an entry was seen to, by its path and its kind, with the folders that are known and the paths that are too
 -- long
 abbrev pub IsSeenTo : List Heard → List (List ℕ) → List (List ℕ) → List ℕ → EntryKind → Type 0
 IsSeenTo answers known long path k =
-    MatchBool (nat_lt PATH_LIMIT (length path)) (has long path ≡ true) (IsMet answers known path k)
+    MatchBool (nat_lt PATH_LIMIT (length path)) (has_path long path ≡ true) (IsEntryMet answers known path k)
 
 -- the entry of this folder is among the entries that are still to be seen to
 pub record IsPending (folder : List ℕ) (rest : List EntryFacts) (at : List ℕ)
@@ -63,25 +63,25 @@ pub record AreSeenTo (answers : List Heard) (known long : List (List ℕ)) (fold
 pub record AreLooks (answers : List Heard) (found : List (List ℕ × StampFacts))
     (rest : List (List ℕ)) : Type 0 where
   pub files : (path : List ℕ)
-      → lookup (is_at (slice_cmp nat_cmp path)) found ≡ file_of (first_look answers path)
-  pub others : (path : List ℕ) → has rest path ≡ is_no_file (first_look answers path)
+      → lookup (is_at (slice_cmp nat_cmp path)) found ≡ found_stamp (first_look answers path)
+  pub others : (path : List ℕ) → has_path rest path ≡ is_no_file (first_look answers path)
   pub ordered : IsStrictlySortedBy (slice_cmp nat_cmp) (keys_of found)
 
 -- what was asked was due and was answered, and no look at a root said that nothing is there
 pub record AreAnswered (answers : List Heard) (roots : List (List ℕ)) : Type 0 where
-  pub due : All (IsDue answers roots) answers
+  pub due : All (IsAskDue answers roots) answers
   pub answered : list_all is_answered answers ≡ true
   pub there : (path : List ℕ) → Contains roots path → Contains answers (stat path Gone) → ⊥
 
 -- the folders that are known are due, and each was read or is among those that aren't read yet
 pub record AreFolders (answers : List Heard) (roots known todo : List (List ℕ)) : Type 0 where
-  pub due : (path : List ℕ) → has known path ≡ true → IsFolder answers roots path × IsCanonPath path
+  pub due : (path : List ℕ) → has_path known path ≡ true → IsFolder answers roots path × IsCanonPath path
   pub counts : (path : List ℕ)
-      → times_read answers path + count_by (bytes_eq path) todo ≡ (if has known path then 1 else 0)
+      → times_read answers path + count_by (bytes_eq path) todo ≡ (if has_path known path then 1 else 0)
 
 -- the paths are reached, and too long
 pub record AreLong (answers : List Heard) (roots paths : List (List ℕ)) : Type 0 where
-  pub each : (path : List ℕ) → has paths path ≡ true
+  pub each : (path : List ℕ) → has_path paths path ≡ true
       → IsReached answers roots path × (PATH_LIMIT < length path)
   pub apart : IsStrictlySortedBy (slice_cmp nat_cmp) paths
 

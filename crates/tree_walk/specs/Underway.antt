@@ -13,16 +13,16 @@ use Rattle.tree_walk.specs.Answers.{looks, is_found}
 use Rattle.tree_walk.specs.Ends.{BeginsWithRoots}
 use Rattle.tree_walk.specs.Walked.{IsReached}
 use Rattle.tree_walk.specs.Kept.{IsSearch}
-use Rattle.tree_walk.specs.Search.{SearchFacts, has}
+use Rattle.tree_walk.specs.Search.{SearchFacts, has_path}
 
 -- these roots were looked at, and each root that is known to be a folder is among the folders
 pub record AreLooked (answers : List Heard) (roots seen : List (List ℕ)) (search : SearchFacts) : Type 0 where
   pub looked : (path : List ℕ) → Contains seen path → IsSome (first_look answers path)
   pub folders : (path : List ℕ) → Contains roots path → first_look answers path ≡ Some Folder
-      → has search.folders path ≡ true
+      → has_path search.folders path ≡ true
 
 -- the first roots were looked at, and nothing else was asked
-pub record IsBeginning (answers : List Heard) (roots seen : List (List ℕ)) (search : SearchFacts) : Type 0 where
+pub record AreFirstRootsSeen (answers : List Heard) (roots seen : List (List ℕ)) (search : SearchFacts) : Type 0 where
   pub search_is : IsSearch answers roots search [] []
   pub few : length search.files ≤ LISTING_LIMIT
   pub looked : AreLooked answers roots seen search

@@ -66,19 +66,19 @@ pub record AsksAll (answers : List Heard) (roots : List (List ℕ)) : Type 0 whe
       → IsSome (first_look answers path)
 
 -- the look or the reading was due: at a root or a file, or of a folder, and at a path that is kept
-abbrev pub IsDue : List Heard → List (List ℕ) → Heard → Type 0
-IsDue answers roots (load path limit answer) = ⊥
-IsDue answers roots (stat path answer) = IsCandidate answers roots path × IsCanonPath path
-IsDue answers roots (read_dir path answer) = IsFolder answers roots path × IsCanonPath path
+abbrev pub IsAskDue : List Heard → List (List ℕ) → Heard → Type 0
+IsAskDue answers roots (load path limit answer) = ⊥
+IsAskDue answers roots (stat path answer) = IsCandidate answers roots path × IsCanonPath path
+IsAskDue answers roots (read_dir path answer) = IsFolder answers roots path × IsCanonPath path
 
 -- nothing was asked but what was due, and no folder twice
 pub record AsksDue (answers : List Heard) (roots : List (List ℕ)) : Type 0 where
-  pub due : All (IsDue answers roots) answers
+  pub due : All (IsAskDue answers roots) answers
   pub few : (path : List ℕ) → times_read answers path ≤ 1
 
 -- nothing was asked but what was due, and each folder once
 pub record AsksOnce (answers : List Heard) (roots : List (List ℕ)) : Type 0 where
-  pub due : All (IsDue answers roots) answers
+  pub due : All (IsAskDue answers roots) answers
   pub once : (path : List ℕ) → IsFolder answers roots path → length path ≤ PATH_LIMIT
       → times_read answers path ≡ 1
   pub never : (path : List ℕ) → PATH_LIMIT < length path → times_read answers path ≡ 0

@@ -9,7 +9,7 @@ ghost use Rattle.std.specs.Map.{keys_of};
 ghost use Rattle.std.specs.Ordering.{nat_cmp};
 ghost use Rattle.std.specs.String.{string_bytes};
 ghost use Rattle.row_types.specs.Faults.{summed};
-ghost use Rattle.tree_walk.specs.Search.{NotesAnswer, is_looked, noted, paid, unasked};
+ghost use Rattle.tree_walk.specs.Search.{NotesAnswer, is_path_looked, search_after, paid, unasked};
 ghost use Rattle.tree_walk.specs.Search.{search_names, with_folder, with_last, with_long};
 ghost use Rattle.tree_walk.specs.Search.{with_new_root, with_path};
 
@@ -71,7 +71,7 @@ impl Search {
 
     /// Whether a path was looked at.
     pub fn is_looked(&self, path: &CanonPath) -> bool
-        ensures { result ≡ is_looked self.now path.now }
+        ensures { result ≡ is_path_looked self.now path.now }
     {
         self.files.contains_key(path) || self.others.contains(path)
     }
@@ -84,7 +84,7 @@ impl Search {
         path: &CanonPath,
         answer: StatAnswer,
     ) -> Result<(), WalkFault>
-        ensures { NotesAnswer (noted self.old path.now answer) self.new result }
+        ensures { NotesAnswer (search_after self.old path.now answer) self.new result }
     {
         self.note(path.copy(alloc)?, answer)?;
         if self.is_over() {
@@ -111,7 +111,7 @@ impl Search {
 
     /// Notes what was found at a path.
     fn note(&mut self, path: CanonPath, answer: StatAnswer) -> Result<(), AllocError>
-        ensures { OnOk result (self.new ≡ noted self.old path answer) }
+        ensures { OnOk result (self.new ≡ search_after self.old path answer) }
     {
         match answer {
             StatAnswer::File(stamp) => {

@@ -9,9 +9,9 @@ ghost use Rattle.tree_trait.specs.Dir.{child};
 ghost use Rattle.tree_trait.specs.Entry.{EntryFacts};
 ghost use Rattle.tree_trait.specs.Heard.{Heard};
 ghost use Rattle.tree_trait.specs.Shown.{HandsOn};
-ghost use Rattle.tree_walk.specs.Ends.{Goes, IsCause, Walks};
+ghost use Rattle.tree_walk.specs.Ends.{GoesByAnswers, IsCause, WalksTree};
 ghost use Rattle.tree_walk.specs.Files.{AreFilesUnder, FitsFault};
-ghost use Rattle.tree_walk.specs.Underway.{IsBeginning, IsEntered, IsUnderway};
+ghost use Rattle.tree_walk.specs.Underway.{AreFirstRootsSeen, IsEntered, IsUnderway};
 ghost use Rattle.tree_walk.specs.Underway.{IsNextEntry, IsNextPath};
 ghost use Rattle.tree_walk.specs.Search.{with_last};
 
@@ -30,7 +30,7 @@ pub fn walk<W: Truth, T: Tree<W>>(
     hand: &mut T,
     roots: &[CanonPath],
 ) -> Result<Walk, WalkFault>
-    ensures walk { Walks T.told (T.shows hand.old) (T.shows hand.new) roots.now result }
+    ensures walk { WalksTree T.told (T.shows hand.old) (T.shows hand.new) roots.now result }
 
     // Whether or not the answers are told at the end.
     ensures files { IsTrue T.told → (T.shows hand.old).Still
@@ -54,7 +54,7 @@ fn begin<W: Truth, T: Tree<W>>(
     hand: &mut T,
     roots: &[CanonPath],
 ) -> Result<Search, WalkFault>
-    ensures goes { Goes T.told (T.shows hand.old) (T.shows hand.new) []
+    ensures goes { GoesByAnswers T.told (T.shows hand.old) (T.shows hand.new) []
         (λ heard search. IsUnderway heard roots.now search [] [])
         (λ heard. IsCause heard roots.now) result }
     ensures hands { HandsOn T.told W.version (T.shows hand.old) (T.shows hand.new)
@@ -75,9 +75,9 @@ fn look_at_root<W: Truth, T: Tree<W>>(
     root: &CanonPath,
 ) -> Result<(), WalkFault>
     ensures goes { (answers : List Heard) (roots seen after : List (List ℕ))
-        → roots ≡ seen ++ root.now ∷ after → IsBeginning answers roots seen search.old
-        → Goes T.told (T.shows hand.old) (T.shows hand.new) answers
-        (λ heard _. IsBeginning heard roots (seen ++ root.now ∷ []) search.new)
+        → roots ≡ seen ++ root.now ∷ after → AreFirstRootsSeen answers roots seen search.old
+        → GoesByAnswers T.told (T.shows hand.old) (T.shows hand.new) answers
+        (λ heard _. AreFirstRootsSeen heard roots (seen ++ root.now ∷ []) search.new)
         (λ heard. IsCause heard roots) result }
     ensures hands { HandsOn T.told W.version (T.shows hand.old) (T.shows hand.new) (Unit {0})
         (result ≡ Err WalkFault.Failed) }
@@ -98,7 +98,7 @@ fn read_folder<W: Truth, T: Tree<W>>(
 ) -> Result<(), WalkFault>
     ensures goes { (answers : List Heard) (roots : List (List ℕ))
         → IsUnderway answers roots (with_last search.old folder.now) [] []
-        → Goes T.told (T.shows hand.old) (T.shows hand.new) answers
+        → GoesByAnswers T.told (T.shows hand.old) (T.shows hand.new) answers
         (λ heard _. IsUnderway heard roots search.new [] []) (λ heard. IsCause heard roots) result }
     ensures ends { OnOk result
         (search.new.left + length search.new.todo ≤ search.old.left + length search.old.todo) }
@@ -119,7 +119,7 @@ fn enter_all<W: Truth, T: Tree<W>>(
 ) -> Result<(), WalkFault>
     ensures goes { (answers : List Heard) (roots : List (List ℕ))
         → IsEntered answers roots search.old folder.now entries.now
-        → Goes T.told (T.shows hand.old) (T.shows hand.new) answers
+        → GoesByAnswers T.told (T.shows hand.old) (T.shows hand.new) answers
         (λ heard _. IsUnderway heard roots search.new folder.now [])
         (λ heard. IsCause heard roots) result }
     ensures ends { OnOk result ((search.new.left ≡ search.old.left)
@@ -142,7 +142,7 @@ fn read_entries<W: Truth, T: Tree<W>>(
 ) -> Result<Vec<Entry>, WalkFault>
     ensures goes { (answers : List Heard) (roots : List (List ℕ))
         → IsUnderway answers roots (with_last search.old folder.now) [] []
-        → Goes T.told (T.shows hand.old) (T.shows hand.new) answers
+        → GoesByAnswers T.told (T.shows hand.old) (T.shows hand.new) answers
         (λ heard entries. IsEntered heard roots search.new folder.now entries.items)
         (λ heard. IsCause heard roots) result }
     ensures ends { IfOk result (λ entries.
@@ -169,7 +169,7 @@ fn enter<W: Truth, T: Tree<W>>(
 ) -> Result<(), WalkFault>
     ensures goes { (answers : List Heard) (roots : List (List ℕ)) (rest : List EntryFacts)
         → IsNextEntry answers roots search.old folder.now entry.now rest
-        → Goes T.told (T.shows hand.old) (T.shows hand.new) answers
+        → GoesByAnswers T.told (T.shows hand.old) (T.shows hand.new) answers
         (λ heard _. IsUnderway heard roots search.new folder.now rest)
         (λ heard. IsCause heard roots) result }
     ensures ends { OnOk result ((search.new.left ≡ search.old.left)
@@ -195,7 +195,7 @@ fn enter_path<W: Truth, T: Tree<W>>(
     ensures goes { (answers : List Heard) (roots : List (List ℕ)) (folder : List ℕ)
         (entry : EntryFacts) (rest : List EntryFacts)
         → entry.kind ≡ kind → IsNextPath answers roots search.old folder entry rest path
-        → Goes T.told (T.shows hand.old) (T.shows hand.new) answers
+        → GoesByAnswers T.told (T.shows hand.old) (T.shows hand.new) answers
         (λ heard _. IsUnderway heard roots search.new folder rest)
         (λ heard. IsCause heard roots) result }
     ensures ends { OnOk result ((search.new.left ≡ search.old.left)
@@ -220,7 +220,7 @@ fn look_at_file<W: Truth, T: Tree<W>>(
     ensures goes { (answers : List Heard) (roots : List (List ℕ)) (folder : List ℕ)
         (entry : EntryFacts) (rest : List EntryFacts)
         → entry.kind ≡ EntryKind.File → IsNextPath answers roots search.old folder entry rest path
-        → Goes T.told (T.shows hand.old) (T.shows hand.new) answers
+        → GoesByAnswers T.told (T.shows hand.old) (T.shows hand.new) answers
         (λ heard _. IsUnderway heard roots search.new folder rest)
         (λ heard. IsCause heard roots) result }
     ensures ends { OnOk result ((search.new.left ≡ search.old.left)

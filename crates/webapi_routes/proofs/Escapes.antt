@@ -12,14 +12,14 @@ use Rattle.std.proofs.lemmas.List.Sums.{position_or_len_is}
 use Rattle.percent_encoding.specs.Percent.{percent_encode, percent_encode_byte, encode_byte}
 use Rattle.percent_encoding.specs.AsciiSet.{should_percent_encode}
 use Rattle.percent_encoding.proofs.PercentLemmas.{All-percent_encode, IsEscapeByte, percent_encode-nil, percent_encode_escaped, percent_encode_kept}
-use Rattle.webapi_routes.specs.Printed.{escaped_target, is_kept}
+use Rattle.webapi_routes.specs.Printed.{escaped_target, is_plain_byte}
 use Rattle.webapi_routes.specs.Path.{begins_with_digits, has_whole_escapes, before_query}
 use Rattle.webapi_routes.specs.declared.printing.TheConstants.{ESCAPED}
 
 -- a byte is escaped where it doesn't stand for itself
-escapes : (b : ℕ) → b < 256 → should_percent_encode ESCAPED b ≡ not (is_kept b)
+escapes : (b : ℕ) → b < 256 → should_percent_encode ESCAPED b ≡ not (is_plain_byte b)
 unfolding should_percent_encode
-escapes b small = agree_below_at (should_percent_encode ESCAPED) (λ n. not (is_kept n)) 256 b refl small
+escapes b small = agree_below_at (should_percent_encode ESCAPED) (λ n. not (is_plain_byte n)) 256 b refl small
 
 chosen : (kept : Bool) (a b : List ℕ) → if not kept then a else b ≡ if kept then b else a
 chosen true a b = refl
@@ -31,8 +31,8 @@ escaped_is [] small = refl
 escaped_is (b ∷ bytes) small =
     let here = escapes b (All-head (λ n. n < 256) b bytes small) in
     let rest = escaped_is bytes (All-tail (λ n. n < 256) b bytes small) in
-    let one : encode_byte ESCAPED b ≡ (if is_kept b then b ∷ [] else percent_encode_byte b) =
-    rw here (chosen (is_kept b) (percent_encode_byte b) (b ∷ [])) in
+    let one : encode_byte ESCAPED b ≡ (if is_plain_byte b then b ∷ [] else percent_encode_byte b) =
+    rw here (chosen (is_plain_byte b) (percent_encode_byte b) (b ∷ [])) in
     ap (λ tail. encode_byte ESCAPED b ++ tail) rest ∙ ap (λ front. front ++ escaped_target bytes) one
 
 -- the question mark and the percent sign are escaped

@@ -15,13 +15,13 @@ use Rattle.percent_encoding.specs.Percent.{percent_decode, percent_encode}
 use Rattle.percent_encoding.proofs.PercentLemmas.{round_trip}
 use Rattle.row_types.specs.Absolute.{is_absolute}
 use Rattle.row_types.specs.BuildId.{IsIdLength, IsIdText}
-use Rattle.row_types.specs.Canon.{IsCanonical, keep, path_of as joined_path, pieces}
+use Rattle.row_types.specs.Canon.{IsCanonical, keep, path_of_kept as joined_path, pieces}
 use Rattle.row_types.specs.declared.limits.TheConstants.{SEPARATOR}
-use Rattle.webapi_routes.specs.Routes.{IsShort, id_of, route_of, wanted_of}
-use Rattle.webapi_routes.specs.Printed.{CanBeAsked, HasPath, IsRouteText, escaped_target, route_text}
+use Rattle.webapi_routes.specs.Routes.{IsShort, route_id, route_of, wanted_of}
+use Rattle.webapi_routes.specs.Printed.{CanBeAsked, HasSourcePath, IsRouteText, escaped_target, route_text}
 use Rattle.webapi_routes.specs.Targets.{IsTextOf, PathSays, TargetSays}
 use Rattle.webapi_routes.specs.Path.{holds_zero, before_query}
-use Rattle.webapi_routes.specs.Written.{IsWanted, wanted_text}
+use Rattle.webapi_routes.specs.Written.{IsWantedValid, wanted_text}
 use Rattle.webapi_routes.specs.declared.printing.TheConstants.{ESCAPED}
 use Rattle.webapi_routes.specs.declared.route.Route.{Route}
 use Rattle.webapi_routes.specs.declared.route.Route.TheVariants.{Debuginfo, Executable, Source, Section}
@@ -73,7 +73,7 @@ no_zero_parts front id behind f i b =
     ∙ rw (f, list_any-append (λ n. n == 0) id behind, i, b) refl
 
 -- what a route asks of its id is UTF-8 without a zero, where a target can ask for it
-wanted_utf8 : (route : Route) → HasPath route → CanBeAsked route → IsUtf8 (SEPARATOR ∷ wanted_text (wanted_of route))
+wanted_utf8 : (route : Route) → HasSourcePath route → CanBeAsked route → IsUtf8 (SEPARATOR ∷ wanted_text (wanted_of route))
 wanted_utf8 (Debuginfo id) known asked = literal_utf8 (codes "/debuginfo") refl
 wanted_utf8 (Executable id) known asked = literal_utf8 (codes "/executable") refl
 wanted_utf8 (Source id path) known asked = IsUtf8-append (codes "/source") path (literal_utf8 (codes "/source") refl) known.1
@@ -89,20 +89,20 @@ wanted_no_zero (Section id name) asked = list_any-append (λ n. n == 0) (codes "
 absolute_path : (path : List ℕ) → IsCanonical path → is_absolute path ≡ true
 absolute_path path same = subst (λ p. is_absolute p ≡ true) same (path_begins (fold keep [] (pieces path)))
 
-wanted_valid : (route : Route) → HasPath route → CanBeAsked route → IsWanted (wanted_of route)
+wanted_valid : (route : Route) → HasSourcePath route → CanBeAsked route → IsWantedValid (wanted_of route)
 wanted_valid (Debuginfo id) known asked = tt
 wanted_valid (Executable id) known asked = tt
 wanted_valid (Source id path) known asked = absolute_path path known.0.canonical
 wanted_valid (Section id name) known asked = asked.1
 
-wanted_short : (route : Route) → HasPath route → IsShort (wanted_of route)
+wanted_short : (route : Route) → HasSourcePath route → IsShort (wanted_of route)
 wanted_short (Debuginfo id) known = tt
 wanted_short (Executable id) known = tt
 wanted_short (Source id path) known = known.0.short
 wanted_short (Section id name) known = tt
 
 -- a route is that of its parts
-route_again : (route : Route) → HasPath route → route ≡ route_of (id_of route) (wanted_of route)
+route_again : (route : Route) → HasSourcePath route → route ≡ route_of (route_id route) (wanted_of route)
 route_again (Debuginfo id) known = refl
 route_again (Executable id) known = refl
 route_again (Source id path) known = ap (Source id) (sym known.0.canonical)
@@ -112,16 +112,16 @@ route_again (Section id name) known = refl
 text_is : (route : Route) {bytes : List ℕ} → IsRouteText route bytes → CanBeAsked route → IsTextOf (route_text route) route
 unfolding route_text
 text_is route writes asked = record {
-  hex = encode_lower (id_of route);
+  hex = encode_lower (route_id route);
   wanted = wanted_of route;
-  id = id_of route;
+  id = route_id route;
   written = record {
     whole = refl;
-    one_piece = All-weaker (λ c. is_hex_digit c ≡ true) (λ c. c ≢ SEPARATOR) no_slash_digit (encode_lower (id_of route)) (id_digits (id_of route) writes.small);
+    one_piece = All-weaker (λ c. is_hex_digit c ≡ true) (λ c. c ≢ SEPARATOR) no_slash_digit (encode_lower (route_id route)) (id_digits (route_id route) writes.small);
     valid = wanted_valid route writes.path asked;
   };
-  digits = id_text (id_of route) writes.small writes.sized;
-  bytes = decode_of-encode_lower (id_of route) writes.small;
+  digits = id_text (route_id route) writes.small writes.sized;
+  bytes = decode_of-encode_lower (route_id route) writes.small;
   short = wanted_short route writes.path;
   value = route_again route writes.path;
 }
@@ -129,17 +129,17 @@ text_is route writes asked = record {
 text_utf8 : (route : Route) {bytes : List ℕ} → IsRouteText route bytes → CanBeAsked route → IsUtf8 (route_text route)
 unfolding route_text
 text_utf8 route writes asked =
-    utf8_parts (codes "/buildid/") (encode_lower (id_of route)) (SEPARATOR ∷ wanted_text (wanted_of route))
+    utf8_parts (codes "/buildid/") (encode_lower (route_id route)) (SEPARATOR ∷ wanted_text (wanted_of route))
     (literal_utf8 (codes "/buildid/") refl)
-    (IsUtf8-from_ascii (encode_lower (id_of route)) (IsAscii-encode_with lower_digits (id_of route) ascii_digits))
+    (IsUtf8-from_ascii (encode_lower (route_id route)) (IsAscii-encode_with lower_digits (route_id route) ascii_digits))
     (wanted_utf8 route writes.path asked)
 
 text_no_zero : (route : Route) {bytes : List ℕ} → IsRouteText route bytes → CanBeAsked route → holds_zero (route_text route) ≡ false
 unfolding route_text
 text_no_zero route writes asked =
-    no_zero_parts (codes "/buildid/") (encode_lower (id_of route)) (SEPARATOR ∷ wanted_text (wanted_of route))
+    no_zero_parts (codes "/buildid/") (encode_lower (route_id route)) (SEPARATOR ∷ wanted_text (wanted_of route))
     refl
-    (list_any_none (λ n. n == 0) (encode_lower (id_of route)) (All-weaker (λ c. is_hex_digit c ≡ true) (λ c. (c == 0) ≡ false) no_zero_digit (encode_lower (id_of route)) (id_digits (id_of route) writes.small)))
+    (list_any_none (λ n. n == 0) (encode_lower (route_id route)) (All-weaker (λ c. is_hex_digit c ≡ true) (λ c. (c == 0) ≡ false) no_zero_digit (encode_lower (route_id route)) (id_digits (route_id route) writes.small)))
     (wanted_no_zero route asked)
 
 -- what an encoding says, of a text that is read back

@@ -26,11 +26,11 @@ build_id_of (Source id path) = Some id
 build_id_of (Section id name) = Some id
 
 -- the id in the text of a route's path
-abbrev pub id_of : Route → List ℕ
-id_of (Debuginfo id) = id
-id_of (Executable id) = id
-id_of (Source id path) = id
-id_of (Section id name) = id
+abbrev pub route_id : Route → List ℕ
+route_id (Debuginfo id) = id
+route_id (Executable id) = id
+route_id (Source id path) = id
+route_id (Section id name) = id
 
 -- what a route asks of its id
 abbrev pub wanted_of : Route → Wanted

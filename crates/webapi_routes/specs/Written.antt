@@ -19,18 +19,18 @@ wanted_text (source path) = codes "source" ++ path
 wanted_text (section name) = codes "section/" ++ name
 
 -- a source's path begins with a slash, and a section has a name
-abbrev pub IsWanted : Wanted → Type 0
-IsWanted (source path) = is_absolute path ≡ true
-IsWanted (section name) = 0 < length name
-IsWanted _ = Unit {0}
+abbrev pub IsWantedValid : Wanted → Type 0
+IsWantedValid (source path) = is_absolute path ≡ true
+IsWantedValid (section name) = 0 < length name
+IsWantedValid _ = Unit {0}
 
 -- the bytes are the text of what is asked of an id
 pub record IsWantedText (bytes : List ℕ) (wanted : Wanted) : Type 0 where
   pub text : bytes ≡ wanted_text wanted
-  pub valid : IsWanted wanted
+  pub valid : IsWantedValid wanted
 
 -- a text is written as a route's path: the text of an id stands in it, which has no slash, and what is asked of the id
 pub record IsWritten (text hex : List ℕ) (wanted : Wanted) : Type 0 where
   pub whole : text ≡ codes "/buildid/" ++ (hex ++ SEPARATOR ∷ wanted_text wanted)
   pub one_piece : All (λ b. b ≢ SEPARATOR) hex
-  pub valid : IsWanted wanted
+  pub valid : IsWantedValid wanted

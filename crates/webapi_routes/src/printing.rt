@@ -5,7 +5,7 @@ ghost use Rattle.std.specs.String.{string_bytes};
 ghost use Rattle.hex.specs.Hex.{IsBytes, encode_lower};
 ghost use Rattle.row_types.specs.BuildId.{IsIdLength};
 ghost use Rattle.webapi_routes.specs.Routes.{wanted_of};
-ghost use Rattle.webapi_routes.specs.Printed.{CanBeAsked, HasPath, IsRouteText};
+ghost use Rattle.webapi_routes.specs.Printed.{CanBeAsked, HasSourcePath, IsRouteText};
 ghost use Rattle.webapi_routes.specs.Printed.{escaped_target, printed};
 ghost use Rattle.webapi_routes.specs.Targets.{TargetSays};
 ghost use Rattle.webapi_routes.specs.Written.{wanted_text};
@@ -83,7 +83,7 @@ fn push_digits(text: &mut Vec<u8>, alloc: Global, bytes: &[u8]) -> Result<(), Al
 fn push_wanted(text: &mut Vec<u8>, route: &Route) -> Result<(), AllocError>
     ensures text { OnOk result
         (text.new.items ≡ text.old.items ++ wanted_text (wanted_of route.now)) }
-    ensures path { OnOk result (HasPath route.now) }
+    ensures path { OnOk result (HasSourcePath route.now) }
 {
     match route {
         Route::Debuginfo(_) => text.extend_from_slice(b"debuginfo"),

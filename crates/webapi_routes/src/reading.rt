@@ -6,7 +6,7 @@ ghost use Rattle.row_types.specs.Limits.{ArePinnedIdLengths, ArePinnedPathLimits
 ghost use Rattle.webapi_routes.specs.Targets.{IsSaidBy, PathSays, TargetSays, TextSays};
 ghost use Rattle.webapi_routes.specs.Targets.{UnlessMemory};
 ghost use Rattle.webapi_routes.specs.Parts.{Makes, seen};
-ghost use Rattle.webapi_routes.specs.Written.{IsWanted, source};
+ghost use Rattle.webapi_routes.specs.Written.{IsWantedValid, source};
 ghost use Rattle.webapi_routes.specs.declared.fault.RouteFault.{RouteFault};
 ghost use Rattle.webapi_routes.specs.declared.route.Route.{Route};
 
@@ -64,7 +64,7 @@ fn parse_text(alloc: Global, text: &str) -> Result<Route, RouteFault>
 
 /// The route of an id, and of what is asked of it.
 fn route_of(alloc: Global, id: BuildId, wanted: Written<'_>) -> Result<Route, RouteFault>
-    requires { IsWanted (seen wanted) }
+    requires { IsWantedValid (seen wanted) }
     ensures { Makes id (seen wanted.entry) result }
 {
     match wanted {

@@ -1,7 +1,7 @@
 //! The routes of the web API.
 
 ghost use Rattle.std.specs.Prelude.{◌≡◌, option_copied};
-ghost use Rattle.webapi_routes.specs.Routes.{build_id_of, id_of};
+ghost use Rattle.webapi_routes.specs.Routes.{build_id_of, route_id};
 
 use crate::section_name::SectionName;
 use row_types::{BuildId, CanonPath};
@@ -29,7 +29,7 @@ impl Route {
 
     /// The build-id that stands in the text of the route's path.
     pub(crate) fn id(&self) -> &BuildId
-        ensures { result.now ≡ id_of self.now }
+        ensures { result.now ≡ route_id self.now }
     {
         match self {
             Route::Debuginfo(id)

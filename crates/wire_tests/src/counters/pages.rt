@@ -1,7 +1,7 @@
 //! What one thread counts, and how many rows are drawn.
 
 ghost use Rattle.std.specs.Prelude.{◌≡◌, IsSome};
-ghost use Rattle.dbgd_metrics.specs.Counts.{CanCount};
+ghost use Rattle.dbgd_metrics.specs.Counts.{HasReplyStatus};
 
 use crate::counters::expected::{
     AT_THE_END, EACH_ROUTE_AND_STATUS, TWO_REQUESTS_AND_A_PASS, ZEROS,
@@ -21,7 +21,7 @@ fn answers(
 ) -> [(Counted, bool); 3]
     requires book { share.old.book ≡ book.now.id }
     requires row { IsSome share.old.row }
-    requires status { CanCount first × CanCount second × CanCount third }
+    requires status { HasReplyStatus first × HasReplyStatus second × HasReplyStatus third }
     ensures { (share.new.book ≡ book.now.id) × IsSome share.new.row }
 {
     let first = (book.count(share, first), share.is_marked());

@@ -1,7 +1,7 @@
 //! Tables, and shares that have a row.
 
 ghost use Rattle.std.specs.Prelude.{◌≡◌, ◌≤◌, IsSome, IfSome, None};
-ghost use Rattle.dbgd_metrics.specs.Counts.{CanCount};
+ghost use Rattle.dbgd_metrics.specs.Counts.{HasReplyStatus};
 ghost use Rattle.dbgd_metrics.specs.declared.count.Count.TheVariants.{Request};
 
 use dbgd_metrics::{Book, Count, Drawn, RouteName, Share, ShareSplit};
@@ -99,7 +99,7 @@ pub fn request(route: RouteName, status: u16, bytes: u64) -> Count
 pub fn count_often(book: &Book, mut share: Share, what: Count, times: u64) -> Share
     requires book { share.book ≡ book.now.id }
     requires row { IsSome share.row }
-    requires status { CanCount what }
+    requires status { HasReplyStatus what }
     ensures { (result.book ≡ book.now.id) × IsSome result.row }
 {
     for _ in 0..times {

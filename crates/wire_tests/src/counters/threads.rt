@@ -2,7 +2,7 @@
 
 ghost use Rattle.std.specs.Prelude.{◌≡◌, IsSome, None};
 ghost use Rattle.std.specs.Thread.{IsSync};
-ghost use Rattle.dbgd_metrics.specs.Counts.{CanCount};
+ghost use Rattle.dbgd_metrics.specs.Counts.{HasReplyStatus};
 
 use crate::counters::expected::{FOUR_THREADS, TWO_THREADS};
 use crate::counters::shares::{compare, count_often, cut, drawn_pair, request, two_drawn};
@@ -21,7 +21,7 @@ fn count_by_two<R: Threads + Sync>(
     requires first_row { IsSome first.row }
     requires second { second.book ≡ book.now.id }
     requires second_row { IsSome second.row }
-    requires status { CanCount what }
+    requires status { HasReplyStatus what }
     ensures first { (result.0.book ≡ book.now.id) × IsSome result.0.row }
     ensures second { (result.1.book ≡ book.now.id) × IsSome result.1.row }
 {
@@ -58,12 +58,12 @@ fn count_by_four<R: Threads + Sync>(
         rt,
         || -> (Share, Share)
             requires { IsSync R.row × (first.book ≡ book.now.id) × IsSome first.row
-                × (second.book ≡ book.now.id) × IsSome second.row × CanCount one }
+                × (second.book ≡ book.now.id) × IsSome second.row × HasReplyStatus one }
             ensures { (result.0.book ≡ book.entry.now.id) × IsSome result.0.row }
         { count_by_two(rt, book, first, second, one) },
         || -> (Share, Share)
             requires { IsSync R.row × (third.book ≡ book.now.id) × IsSome third.row
-                × (fourth.book ≡ book.now.id) × IsSome fourth.row × CanCount other }
+                × (fourth.book ≡ book.now.id) × IsSome fourth.row × HasReplyStatus other }
             ensures { (result.0.book ≡ book.entry.now.id) × IsSome result.0.row }
         { count_by_two(rt, book, third, fourth, other) },
     );

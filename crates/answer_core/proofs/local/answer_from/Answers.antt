@@ -1,6 +1,6 @@
 -- What the first candidate that passed gives is the answer.
 use Rattle.std.proofs.Common.{List, subst}
-use Rattle.answer_core.specs.Loads.{Hand, HasPassed}
+use Rattle.answer_core.specs.Loads.{Hand, HasCandidatePassed}
 use Rattle.answer_core.specs.declared.candidate.Candidate.{Candidate}
 use Rattle.answer_core.proofs.LocalLemmas.{from_first}
 use Rattle.answer_core.proofs.local.answer_from.Goals as goal
@@ -8,7 +8,7 @@ use Rattle.answer_core.proofs.local.answer_from.Goals as goal
 pub returns-in-Passed : goal.returns-in-Passed
 returns-in-Passed g c =
     let hand : Hand = record { told = g.T.Tree.told; version = g.W.Truth.version; start = g.T.Tree.shows c.args.hand.now } in
-    let passed = subst (λ (all : List Candidate). HasPassed hand c.args.route.now all c.in-Passed.place c.in-Passed.given
+    let passed = subst (λ (all : List Candidate). HasCandidatePassed hand c.args.route.now all c.in-Passed.place c.in-Passed.given
     (g.T.Tree.shows c.try_all.new.hand)) c.as_slice.ensures.value c.in-Passed.ensures in
     from_first hand c.args.route.now c.args.list.items c.in-Passed.place c.in-Passed.given c.take_path.result
     c.args.generation c.local_of.result (g.T.Tree.shows c.try_all.new.hand) passed c.take_path.ensures c.local_of.ensures

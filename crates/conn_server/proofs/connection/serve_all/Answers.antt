@@ -3,7 +3,7 @@ use Rattle.std.proofs.Common.{◌≡◌, ℕ, ◌+◌, ◌<◌, List, [], ◌∷
 use Rattle.std.specs.Prelude.{◌==◌}
 use Rattle.http_wire.specs.ReaderFacts.{ReaderFacts}
 use Rattle.index_lock.proofs.Later.{later_self, later_trans}
-use Rattle.conn_server.specs.Connection.{fresh}
+use Rattle.conn_server.specs.Connection.{fresh_wire}
 use Rattle.conn_server.specs.Scene.{scene_of, stand_of, wire_of}
 use Rattle.conn_server.specs.declared.connection.TheConstants.{REQUESTS}
 use Rattle.conn_server.specs.declared.report.Served.{Served}
@@ -16,8 +16,8 @@ loop-entry-init g c =
     let a = stand_of c.args.seat.seen c.args.hand.now in
     let stream = g.N.Stream.shows c.args.conn.now in
     let few : 0 < REQUESTS = omega arith in (
-      subst (λ (reader : ReaderFacts). IsOpen scene a (fresh stream) c.args.served.items a (wire_of stream reader))
-          (sym c.requires.fresh) (open_first scene a (fresh stream) c.args.served.items c.requires.none refl),
+      subst (λ (reader : ReaderFacts). IsOpen scene a (fresh_wire stream) c.args.served.items a (wire_of stream reader))
+          (sym c.requires.fresh) (open_first scene a (fresh_wire stream) c.args.served.items c.requires.none refl),
       later_self c.args.seat,
       c.requires.seat,
       subst (λ (told : List Served). length told < REQUESTS) (sym c.requires.none) few,
@@ -28,7 +28,7 @@ pub loop-entry-preserved : goal.loop-entry-preserved
 loop-entry-preserved g c =
     let scene = scene_of g.W.Truth.true_row g.T.Tree.told g.W.Truth.version g.T.Tree.shows c.args.service.now.folders.now in
     let a = stand_of c.args.seat.seen c.args.hand.now in
-    let v = fresh (g.N.Stream.shows c.args.conn.now) in
+    let v = fresh_wire (g.N.Stream.shows c.args.conn.now) in
     let told : List Served = c.loop-entry.served.items in
     let base = c.loop-entry.invariant in
     let b = stand_of c.loop-entry.seat.seen c.loop-entry.hand in
@@ -65,7 +65,7 @@ returns-in-Last-clause-serves g c =
     let count : c.len.result ≡ length c.loop-entry.served.items =
     omega (arith, c.len.ensures, c.loop-entry.served.ok.0) in
     let turned = turn_as scene _ _ b w _ _ next u (ap (λ (n : ℕ). n + 1 == REQUESTS) count) c.in-Last.is c.next_turn-next.ensures.turn in
-    ends_last scene (stand_of c.args.seat.seen c.args.hand.now) (fresh (g.N.Stream.shows c.args.conn.now))
+    ends_last scene (stand_of c.args.seat.seen c.args.hand.now) (fresh_wire (g.N.Stream.shows c.args.conn.now))
     c.loop-entry.served.items b w base.0 c.in-Last.entry c.in-Last.end
     (record { served = c.push_reserved-in-Last.new.self; end = c.in-Last.end })
     next (g.N.Stream.shows c.next_turn-next.new.conn) base.3 turned
@@ -82,7 +82,7 @@ returns-in-Ended-clause-serves g c =
     let count : c.len.result ≡ length c.loop-entry.served.items =
     omega (arith, c.len.ensures, c.loop-entry.served.ok.0) in
     let turned = turn_as scene _ _ b w _ _ next u (ap (λ (n : ℕ). n + 1 == REQUESTS) count) c.in-Ended.is c.next_turn-next.ensures.turn in
-    ends_by scene (stand_of c.args.seat.seen c.args.hand.now) (fresh (g.N.Stream.shows c.args.conn.now))
+    ends_by scene (stand_of c.args.seat.seen c.args.hand.now) (fresh_wire (g.N.Stream.shows c.args.conn.now))
     c.loop-entry.served.items b w base.0 c.in-Ended.end
     (record { served = c.loop-entry.served; end = c.in-Ended.end })
     next (g.N.Stream.shows c.next_turn-next.new.conn) base.3 turned

@@ -1,4 +1,4 @@
-use Rattle.file_picture.specs.Agrees.{filled}
+use Rattle.file_picture.specs.Agrees.{filled_with_zeros}
 use Rattle.std.proofs.Common.{◌≡◌, true}
 use Rattle.file_formats.specs.Identity.{is_debug}
 use Rattle.file_formats.specs.Table.{section_at, name_at}
@@ -8,5 +8,5 @@ use Rattle.elf_classify.proofs.identity.has_debug.Given as goal
 abbrev pub invariant-loop-index : goal.invariant-loop-index
 invariant-loop-index l =
     NoneBelow l.file.table
-    (λ i. is_debug (section_at (filled l.file.file) l.file.table i) (name_at (filled l.file.file) l.file.table i)
+    (λ i. is_debug (section_at (filled_with_zeros l.file.file) l.file.table i) (name_at (filled_with_zeros l.file.file) l.file.table i)
     ≡ true) l.index

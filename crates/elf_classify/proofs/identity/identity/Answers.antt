@@ -1,5 +1,5 @@
 use Rattle.std.proofs.Common.{sym, ◌∙◌, subst}
-use Rattle.elf_file.specs.Steps.{Stops}
+use Rattle.elf_file.specs.Steps.{StopsBefore}
 use Rattle.elf_classify.specs.Ids.{Finds}
 use Rattle.elf_classify.proofs.SeenLemmas.{sees_need, sees_fault, sees_core, sees_none, sees_id}
 use Rattle.elf_classify.proofs.identity.identity.Goals as goal
@@ -7,12 +7,12 @@ use Rattle.elf_classify.proofs.identity.identity.Goals as goal
 pub returns-in-Err-Need : goal.returns-in-Err-Need
 returns-in-Err-Need c =
     sees_need c.args.seen c.in-Err-Need.need _ c.needs.ensures
-    (subst (Stops c.args.seen) c.in-Err-Need.field-0-is c.in-Err-Need.ensures)
+    (subst (StopsBefore c.args.seen) c.in-Err-Need.field-0-is c.in-Err-Need.ensures)
 
 pub returns-in-Err-Fault : goal.returns-in-Err-Fault
 returns-in-Err-Fault c =
     sees_fault c.args.seen c.in-Err-Fault.fault c.reason.result c.reason.ensures
-    (subst (Stops c.args.seen) c.in-Err-Fault.field-0-is c.in-Err-Fault.ensures)
+    (subst (StopsBefore c.args.seen) c.in-Err-Fault.field-0-is c.in-Err-Fault.ensures)
 
 pub returns-then-kind-eq-ET_CORE : goal.returns-then-kind-eq-ET_CORE
 returns-then-kind-eq-ET_CORE c =

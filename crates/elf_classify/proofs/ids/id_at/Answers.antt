@@ -1,4 +1,4 @@
-use Rattle.file_picture.specs.Agrees.{filled}
+use Rattle.file_picture.specs.Agrees.{filled_with_zeros}
 use Rattle.std.proofs.Common.{rules, sym, ◌∙◌, ap, subst, inl, inr, Some}
 use Rattle.file_picture.specs.Picture.{IsCovered}
 use Rattle.file_picture.specs.declared.view.Need.{Need}
@@ -16,8 +16,8 @@ returns-in-Err c =
     needs_notes c.args.file.now c.args.index c.in-Err.need c.requires.looks c.requires.index
     (ap (λ (s : SectionHeader). s.sh_type) (sym same) ∙ search (rules, c.if-header-ne-SHT_NOTE.false))
     (ap (λ (s : SectionHeader). has_flag s SHF_COMPRESSED) (sym same) ∙ sym c.is_flagged.ensures.value ∙ search rules)
-    (ap (contents_of (filled c.args.file.now.file)) (sym same) ∙ c.in-Some.ensures.0
-    ∙ ap (λ (n : Need). Some (bytes_at (filled c.args.file.now.file) n.at n.len)) (sym c.in-Err.ensures.1))
+    (ap (contents_of (filled_with_zeros c.args.file.now.file)) (sym same) ∙ c.in-Some.ensures.0
+    ∙ ap (λ (n : Need). Some (bytes_at (filled_with_zeros c.args.file.now.file) n.at n.len)) (sym c.in-Err.ensures.1))
     (ap (λ (n : Need). range n.at n.len) c.in-Err.ensures.1 ∙ c.in-Some.ensures.1 ∙ ap extent same)
     (subst (λ (n : Need). (IsCovered c.args.file.now.file n.at n.len → ⊥)) (sym c.in-Err.ensures.1) c.in-Err.ensures.0)
 
@@ -28,7 +28,7 @@ returns-in-Ok c =
     c.id_in.result c.requires.looks c.requires.index
     (ap (λ (s : SectionHeader). s.sh_type) (sym same) ∙ search (rules, c.if-header-ne-SHT_NOTE.false))
     (ap (λ (s : SectionHeader). has_flag s SHF_COMPRESSED) (sym same) ∙ sym c.is_flagged.ensures.value ∙ search rules)
-    (ap (contents_of (filled c.args.file.now.file)) (sym same) ∙ c.in-Some.ensures.0)
+    (ap (contents_of (filled_with_zeros c.args.file.now.file)) (sym same) ∙ c.in-Some.ensures.0)
     (c.in-Some.ensures.1 ∙ ap extent same)
     c.in-Ok.ensures.0 c.in-Ok.ensures.1
     (found_in c.in-Ok.contents.now _ _ _ _ c.id_in.result c.order.ensures (ap (λ (s : SectionHeader). s.sh_addralign) same)

@@ -1,6 +1,6 @@
 use Rattle.std.proofs.Common.{sym, subst}
 use Rattle.file_formats.proofs.IdentityLemmas.{section-unique}
-use Rattle.elf_file.specs.Parsed.{IsWhole}
+use Rattle.elf_file.specs.Parsed.{IsPictureWhole}
 use Rattle.elf_file.proofs.WholeLemmas.{is_whole}
 use Rattle.elf_classify.proofs.PlacedLemmas.{never_needs_section, section_whole, section_fault}
 use Rattle.elf_classify.proofs.named.section_of.Goals as goal
@@ -15,7 +15,7 @@ returns-in-Err-clause-only c = λ r is.
 pub unreachable-requires : goal.unreachable-requires
 unreachable-requires c =
     never_needs_section c.in-Ok.file.file c.args.name.now c.in-Err-section_in.field-0
-    (subst IsWhole (sym c.in-Ok.ensures.same) (is_whole c.args.bytes.now)) c.in-Err-section_in.ensures
+    (subst IsPictureWhole (sym c.in-Ok.ensures.same) (is_whole c.args.bytes.now)) c.in-Err-section_in.ensures
 
 pub returns-clause-answer : goal.returns-clause-answer
 returns-clause-answer c =

@@ -1,7 +1,7 @@
 use Rattle.std.proofs.Common.{sym, refl, subst, None}
 use Rattle.file_formats.proofs.DwarfSectionLemmas.{debug-unique}
 use Rattle.file_picture.specs.Whole.{whole}
-use Rattle.elf_file.specs.Parsed.{IsWhole}
+use Rattle.elf_file.specs.Parsed.{IsPictureWhole}
 use Rattle.elf_file.proofs.WholeLemmas.{is_whole}
 use Rattle.elf_classify.proofs.DebugLemmas.{never_needs_debug, debug_whole, debug_fault}
 use Rattle.elf_classify.proofs.parts.debug_parts.Goals as goal
@@ -20,7 +20,7 @@ returns-in-Err-clause-only c = λ r is.
 pub unreachable-requires : goal.unreachable-requires
 unreachable-requires c =
     never_needs_debug c.in-Ok.file.file c.in-Err-debug_in.field-0
-    (subst IsWhole (sym c.in-Ok.ensures.same) (is_whole c.args.bytes.now)) c.in-Err-debug_in.ensures
+    (subst IsPictureWhole (sym c.in-Ok.ensures.same) (is_whole c.args.bytes.now)) c.in-Err-debug_in.ensures
 
 pub returns-clause-answer : goal.returns-clause-answer
 returns-clause-answer c =

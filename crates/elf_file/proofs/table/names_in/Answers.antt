@@ -1,5 +1,5 @@
 use Rattle.std.proofs.Common.{sym, ◌∙◌, ap, subst}
-use Rattle.file_picture.specs.Agrees.{filled}
+use Rattle.file_picture.specs.Agrees.{filled_with_zeros}
 use Rattle.file_formats.specs.Sections.{contents_of}
 use Rattle.file_formats.specs.Windows.{range, extent}
 use Rattle.file_picture.specs.Picture.{IsCovered}
@@ -14,7 +14,7 @@ entry-requires-clause-below c =
 pub returns-in-None : goal.returns-in-None
 returns-in-None c =
     absurd (names_there c.args.view.now c.args.table.now c.args.entries.now c.requires c.if-table-eq-SHN_UNDEF.false
-    (ap (contents_of (filled c.args.view.now)) (sym c.entry.ensures) ∙ c.in-None.ensures))
+    (ap (contents_of (filled_with_zeros c.args.view.now)) (sym c.entry.ensures) ∙ c.in-None.ensures))
 
 pub returns-in-Err : goal.returns-in-Err
 returns-in-Err c =

@@ -2,11 +2,11 @@
 use Rattle.std.proofs.Common.{◌++◌, take, ap, ◌∙◌}
 use Rattle.std.specs.Int.{w64, to_le_bytes}
 use Rattle.sha2.specs.Sha256.{sha256}
-use Rattle.elf_forge.specs.Forge.{id_of}
+use Rattle.elf_forge.specs.Forge.{forged_id}
 use Rattle.elf_forge.proofs.forging.id_of.Goals as goal
 
 pub returns : goal.returns
-unfolding id_of
+unfolding forged_id
 returns c =
     c.front.ensures ∙ ap (take 20) (c.digest_of.ensures
     ∙ ap (λ m. sha256 (m ++ c.to_le_bytes-2.result)) c.to_le_bytes.ensures

@@ -3,7 +3,7 @@ use Rattle.std.proofs.Common.{◌≡◌, List, [], ◌∷◌, ◌++◌, All, len
 use Rattle.std.specs.List.{AllZip}
 use Rattle.std.specs.Vec.Iter.{into_iter_items}
 use Rattle.std.proofs.lemmas.Slice.Zip.{all_zipped_more}
-use Rattle.lock_crew.specs.Runs.{IsReady, SlotHas}
+use Rattle.lock_crew.specs.Runs.{IsSlotReady, SlotHas}
 use Rattle.lock_crew.specs.declared.crew.Slot.{Slot}
 use Rattle.lock_crew.proofs.Slots.{ready_locks}
 use Rattle.lock_crew.proofs.Zips.{none_left}
@@ -25,7 +25,7 @@ loop-place-preserved g c =
       c.in-Two.ensures.0 ∙ at.invariant.2,
       omega (arith, pushed.len),
       omega (arith, pushed.len, pushed.capacity),
-      subst (λ ys. AllZip (IsReady (λ slot. slot.seat) (λ slot. slot.place) c.args.seat) (at.yielded ++ x ∷ []) ys) (sym pushed.items)
+      subst (λ ys. AllZip (IsSlotReady (λ slot. slot.seat) (λ slot. slot.place) c.args.seat) (at.yielded ++ x ∷ []) ys) (sym pushed.items)
           (all_zipped_more _ at.yielded at.slots.items x _ at.invariant.5 (c.in-Two.ensures.1 ∙ at.invariant.2, refl)),
     )
 
@@ -36,7 +36,7 @@ returns g c =
     let empty : into_iter_items at.place-iterator ≡ [] = none_left _ (sym at.invariant.1 ∙ none) in
     let all = sym (append-nil at.yielded) ∙ rw empty at at.invariant.0 ∙ c.into_iter-place-iterator.ensures.into_iter_gives.0 in
     let ready = subst (λ (xs : List g.row.P.Denot).
-    AllZip (IsReady {C = Slot g.row.S.Denot g.row.P.Denot g.row.S-Entry.Denot g.row.S-Origin.Denot}
+    AllZip (IsSlotReady {C = Slot g.row.S.Denot g.row.P.Denot g.row.S-Entry.Denot g.row.S-Origin.Denot}
     (λ slot. slot.seat) (λ slot. slot.place) c.args.seat) xs at.slots.items) all at.invariant.5 in
     let count = at.invariant.3 in record {
       same = at.invariant.2;

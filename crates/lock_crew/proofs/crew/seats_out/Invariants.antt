@@ -2,7 +2,7 @@
 use Rattle.std.proofs.Common.{◌≡◌, ◌+◌, ◌≤◌, ◌++◌, length, vec_capacity, vec_len}
 use Rattle.std.specs.List.{AllZip}
 use Rattle.std.specs.Vec.Iter.{into_iter_items, into_iter_len}
-use Rattle.lock_crew.specs.Runs.{IsReady}
+use Rattle.lock_crew.specs.Runs.{IsSlotReady}
 use Rattle.lock_crew.specs.declared.crew.Slot.{Slot}
 use Rattle.lock_crew.proofs.crew.seats_out.Given as goal
 
@@ -13,5 +13,5 @@ invariant-loop-place g l =
     × (l.seat ≡ l.fn.seat)
     × (vec_len l.slots + into_iter_len l.place-iterator ≡ vec_len l.fn.places)
     × (vec_len l.slots + into_iter_len l.place-iterator ≤ vec_capacity l.slots)
-    × AllZip (IsReady {C = Slot g.row.S.Denot g.row.P.Denot g.row.S-Entry.Denot g.row.S-Origin.Denot}
+    × AllZip (IsSlotReady {C = Slot g.row.S.Denot g.row.P.Denot g.row.S-Entry.Denot g.row.S-Origin.Denot}
     (λ slot. slot.seat) (λ slot. slot.place) l.fn.seat) l.yielded l.slots.items

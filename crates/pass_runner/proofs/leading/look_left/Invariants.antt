@@ -1,8 +1,8 @@
 -- The looking so far.
-use Rattle.pass_runner.specs.Leading.{Leads}
+use Rattle.pass_runner.specs.Leading.{LeadsInSettling}
 use Rattle.pass_runner.proofs.leading.look_left.Given as goal
 
 abbrev pub invariant-loop : goal.invariant-loop
 invariant-loop g l =
-    Leads g.T.Tree.told g.W.Truth.version l.fn.desk.seat (g.T.Tree.shows l.fn.hand) l.seat (g.T.Tree.shows l.hand)
+    LeadsInSettling g.T.Tree.told g.W.Truth.version l.fn.desk.seat (g.T.Tree.shows l.fn.hand) l.seat (g.T.Tree.shows l.hand)
     l.fn.met.items l.met.items

@@ -2,7 +2,7 @@
 use Rattle.std.proofs.Common.{◌≡◌, ℕ, List, sym, ◌∙◌, ap, subst, rules}
 use Rattle.std.specs.Prelude.{Err}
 use Rattle.std.proofs.lemmas.Bool.{false≢true, false_from_ne_true}
-use Rattle.row_codec.specs.Read.{bytes_at, id_at, is_id_length}
+use Rattle.row_codec.specs.Read.{some_bytes, id_at, is_id_length}
 use Rattle.row_codec.proofs.Fronts.{fails, given, leads, passes_test, test_failed}
 use Rattle.row_codec.proofs.OneSpelling.{id_length, length_id}
 use Rattle.row_codec.proofs.parts.read_id.Goals as goal
@@ -25,11 +25,11 @@ returns-in_err-id c =
     let is : c.from_residual-in_err-id.result ≡ Err c.in_err-id.field-0.0 = search rules in rw is (
     leads _ _ _ _ _ c.in_ok-count.ensures
     (leads _ _ _ _ _ (passes_test (is_id_length c.in_ok-count.count) _ _ _ (length_id c.in_ok-count.count (c.is_id_length.ensures.0 c.if-not-is_id_length.false)))
-    (subst (λ (n : ℕ). bytes_at n c.byte.new.self ≡ Err c.in_err-id.field-0.0) c.from.ensures c.in_err-id.ensures.value)))
+    (subst (λ (n : ℕ). some_bytes n c.byte.new.self ≡ Err c.in_err-id.field-0.0) c.from.ensures c.in_err-id.ensures.value)))
 
 pub returns : goal.returns
 unfolding id_at
 returns c =
     leads _ _ _ _ _ c.in_ok-count.ensures
     (leads _ _ _ _ _ (passes_test (is_id_length c.in_ok-count.count) _ _ _ (length_id c.in_ok-count.count (c.is_id_length.ensures.0 c.if-not-is_id_length.false)))
-    (subst (λ (n : ℕ). bytes_at n c.byte.new.self ≡ given c.in_ok-id.id.now c.take.new.self) c.from.ensures c.in_ok-id.ensures.value ∙ ap (λ (id : List ℕ). given id c.take.new.self) (sym c.in-Some.ensures.value)))
+    (subst (λ (n : ℕ). some_bytes n c.byte.new.self ≡ given c.in_ok-id.id.now c.take.new.self) c.from.ensures c.in_ok-id.ensures.value ∙ ap (λ (id : List ℕ). given id c.take.new.self) (sym c.in-Some.ensures.value)))

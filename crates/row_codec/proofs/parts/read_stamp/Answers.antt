@@ -7,32 +7,32 @@ use borrow.Author.Gap.{read_sfits}
 use Rattle.row_types.specs.declared.stamp.TheConstants.{NANOS_PER_SECOND}
 use Rattle.row_types.proofs.PartLemmas.{stamp_from}
 use Rattle.std.specs.Prelude.{Err}
-use Rattle.row_codec.specs.Read.{stamp_at}
+use Rattle.row_codec.specs.Read.{stamp_in_front}
 use Rattle.row_codec.proofs.Fronts.{fails, given, leads, passes_test, test_failed}
 use Rattle.row_codec.proofs.parts.read_stamp.Goals as goal
 
 pub returns-in_err-size : goal.returns-in_err-size
-unfolding stamp_at
+unfolding stamp_in_front
 returns-in_err-size c =
     let is : c.from_residual.result ≡ Err c.in_err-size.field-0.0 = search rules in rw is (fails _ _ _ c.in_err-size.ensures)
 
 pub returns-in_err-secs : goal.returns-in_err-secs
-unfolding stamp_at
+unfolding stamp_in_front
 returns-in_err-secs c =
     let is : c.from_residual-in_err-secs.result ≡ Err c.in_err-secs.field-0.0 = search rules in rw is (leads _ _ _ _ _ c.in_ok-size.ensures (fails _ _ _ c.in_err-secs.ensures))
 
 pub returns-in_err-nanos : goal.returns-in_err-nanos
-unfolding stamp_at
+unfolding stamp_in_front
 returns-in_err-nanos c =
     let is : c.from_residual-in_err-nanos.result ≡ Err c.in_err-nanos.field-0.0 = search rules in rw is (leads _ _ _ _ _ c.in_ok-size.ensures (leads _ _ _ _ _ c.in_ok-secs.ensures (fails _ _ _ c.in_err-nanos.ensures)))
 
 pub returns-then-nanos-ge-NANOS_PER_SECOND : goal.returns-then-nanos-ge-NANOS_PER_SECOND
-unfolding stamp_at
+unfolding stamp_in_front
 returns-then-nanos-ge-NANOS_PER_SECOND c =
     leads _ _ _ _ _ c.in_ok-size.ensures (leads _ _ _ _ _ c.in_ok-secs.ensures (leads _ _ _ _ _ c.in_ok-nanos.ensures (test_failed _ _ _ _ (le-ltb c.in_ok-nanos.nanos NANOS_PER_SECOND (omega arith)))))
 
 pub returns : goal.returns
-unfolding stamp_at
+unfolding stamp_in_front
 returns c =
     let size = c.in_ok-size.size in
     let secs = c.in_ok-secs.secs in

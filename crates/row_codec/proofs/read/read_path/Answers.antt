@@ -1,13 +1,13 @@
 -- A path is a text that is one.
 use Rattle.std.proofs.Common.{◌≡◌, ◌⊎◌, inl, inr, ℕ, List, false, refl, sym, ◌∙◌, ap, subst, rules}
 use Rattle.std.specs.Prelude.{Err, Ok, IsOk}
-use Rattle.row_codec.specs.Read.{is_path_text, path_at, text_at}
+use Rattle.row_codec.specs.Read.{is_path_text, path_at, text_in_front}
 use Rattle.row_codec.specs.declared.fault.CodecFault.{CodecFault}
 use Rattle.row_codec.specs.declared.fault.CodecFault.TheVariants.{BadText, OutOfMemory}
 use Rattle.row_codec.proofs.Fronts.{fails, given, leads, passes_test, test_failed}
 use Rattle.row_codec.proofs.read.read_path.Goals as goal
 
-no_path : (bytes text rest : List ℕ) (fault : CodecFault) → text_at bytes ≡ Ok (text, rest) → ((fault ≡ BadText) × (is_path_text text ≡ false)) ⊎ (fault ≡ OutOfMemory) → (path_at bytes ≡ Err fault) ⊎ ((fault ≡ OutOfMemory) × IsOk (text_at bytes))
+no_path : (bytes text rest : List ℕ) (fault : CodecFault) → text_in_front bytes ≡ Ok (text, rest) → ((fault ≡ BadText) × (is_path_text text ≡ false)) ⊎ (fault ≡ OutOfMemory) → (path_at bytes ≡ Err fault) ⊎ ((fault ≡ OutOfMemory) × IsOk (text_in_front bytes))
 unfolding path_at
 no_path bytes text rest fault e (inl bad) =
     inl (leads _ _ _ _ _ e (test_failed (is_path_text text) text rest BadText bad.1 ∙ ap (λ (f : CodecFault). Err f) (sym bad.0)))

@@ -2,8 +2,8 @@
 use Rattle.std.proofs.Common.{◌≡◌, ◌⊎◌, inl, inr, ℕ, List, sym, ◌∙◌, ap, arith}
 use Rattle.std.specs.Prelude.{Result, Ok, Err, IfOk, MatchResult}
 use Rattle.row_types.specs.Row.{RowFacts}
-use Rattle.row_codec.specs.Read.{row_at}
-use Rattle.row_codec.specs.Reads.{Refuses}
+use Rattle.row_codec.specs.Read.{row_of_bytes}
+use Rattle.row_codec.specs.Reads.{RefusesRowBytes}
 use Rattle.row_codec.specs.RowBytes.{IsRowBytes}
 use Rattle.row_codec.specs.declared.fault.CodecFault.{CodecFault}
 use Rattle.row_codec.specs.declared.fault.CodecFault.TheVariants.{OutOfMemory}
@@ -12,7 +12,7 @@ use Rattle.row_codec.proofs.OneSpelling.{row_read, row_written}
 use Rattle.row_codec.proofs.read.read_row.Goals as goal
 
 abbrev Read : List ℕ → Result RowFacts CodecFault → Type 0
-Read bytes result = MatchResult result (λ row. row_at bytes ≡ Ok row) (Refuses bytes)
+Read bytes result = MatchResult result (λ row. row_of_bytes bytes ≡ Ok row) (RefusesRowBytes bytes)
 
 is_row : (bytes : List ℕ) (result : Result RowFacts CodecFault) → AreBytes bytes → Read bytes result → IfOk result (λ row. IsRowBytes row bytes)
 is_row bytes (Ok row) h read = row_written row bytes h read

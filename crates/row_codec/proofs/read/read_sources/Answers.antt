@@ -3,7 +3,7 @@ use Rattle.std.proofs.Common.{◌≡◌, ℕ, ◌-◌, ◌<◌, ◌⊎◌, inl, 
 use Rattle.std.specs.Prelude.{Err, Ok, IsOk}
 use Rattle.std.specs.List.{slice_get}
 use Rattle.std.proofs.lemmas.Bool.{false≢true}
-use Rattle.row_codec.specs.Read.{four_at, is_above, path_at, paths_at, sources_at, text_at}
+use Rattle.row_codec.specs.Read.{four_at, is_above, path_at, paths_at, sources_at, text_in_front}
 use Rattle.row_codec.specs.declared.fault.CodecFault.{CodecFault}
 use Rattle.row_codec.specs.declared.fault.CodecFault.TheVariants.{OutOfMemory}
 use Rattle.row_codec.proofs.Fronts.{fails, given, leads}
@@ -11,7 +11,7 @@ use Rattle.row_codec.proofs.OneSpelling.{Follows, ascends}
 use Rattle.row_codec.proofs.Sources.{all_read, behind, behind_none, follows_push, last_of, last_pushed, last_there, one_more, order_fails, path_fails}
 use Rattle.row_codec.proofs.read.read_sources.Goals as goal
 
-source_fails : (bytes four left : List ℕ) (count n : ℕ) (ps : List (List ℕ)) (fault : CodecFault) → four_at bytes ≡ Ok (count, four) → paths_at count None four ≡ behind ps (paths_at n (last_of None ps) left) → 0 < n → (path_at left ≡ Err fault) ⊎ ((fault ≡ OutOfMemory) × IsOk (text_at left)) → (sources_at bytes ≡ Err fault) ⊎ (fault ≡ OutOfMemory)
+source_fails : (bytes four left : List ℕ) (count n : ℕ) (ps : List (List ℕ)) (fault : CodecFault) → four_at bytes ≡ Ok (count, four) → paths_at count None four ≡ behind ps (paths_at n (last_of None ps) left) → 0 < n → (path_at left ≡ Err fault) ⊎ ((fault ≡ OutOfMemory) × IsOk (text_in_front left)) → (sources_at bytes ≡ Err fault) ⊎ (fault ≡ OutOfMemory)
 unfolding sources_at
 source_fails bytes four left count n ps fault e so_far some (inl bad) =
     inl (leads _ _ _ _ _ e (so_far ∙ path_fails ps n (last_of None ps) left fault some bad))

@@ -7,15 +7,15 @@ use Rattle.std.proofs.lemmas.List.{append-nil}
 use Rattle.std.specs.String.{string_bytes}
 use Rattle.row_types.specs.Row.{RowFacts}
 use Rattle.sample_rows.specs.Names.{name_text}
-use Rattle.sample_rows.specs.Rows.{rows_text}
+use Rattle.sample_rows.specs.Rows.{names_text}
 use Rattle.sample_rows.proofs.texts.rows_text.Goals as goal
 
 pub loop-row-init : goal.loop-row-init
-unfolding rows_text
+unfolding names_text
 loop-row-init g c = c.new-text.ensures.bytes
 
 pub loop-row-preserved : goal.loop-row-preserved
-unfolding rows_text
+unfolding names_text
 loop-row-preserved g c =
     let text : Bor RowFacts → List ℕ = λ row. name_text row.now.name in
     c.in_ok-add_name.ensures ∙ ap (λ (r : RowFacts). string_bytes c.loop-row.text ++ name_text r.name) c.row.view_is ∙ ap (λ (xs : List ℕ). xs ++ text c.in-Some.row) c.loop-row.invariant

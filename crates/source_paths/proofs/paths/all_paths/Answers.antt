@@ -4,7 +4,7 @@ use Rattle.std.proofs.lemmas.Iterator.Consumers.{YieldsList-from_first, YieldsLi
 use Rattle.std.proofs.lemmas.List.{map_push}
 use Rattle.dwarf_forms.specs.Parts.{sections_of}
 use Rattle.dwarf_units.specs.UnitList.{unit_facts, units_left}
-use Rattle.source_paths.specs.Adds.{Adds, Has}
+use Rattle.source_paths.specs.Adds.{AddsPaths, Has}
 use Rattle.row_types.specs.Sources.{IsOfOne, IsSource, IsUnitSource}
 use Rattle.source_paths.proofs.AddLemmas.{adds-none_of, adds-one_more}
 use Rattle.source_paths.proofs.KeyLemmas.{units-exact}
@@ -12,7 +12,7 @@ use Rattle.source_paths.proofs.paths.all_paths.Goals as goal
 
 pub loop-unit-preserved : goal.loop-unit-preserved
 loop-unit-preserved c = record {
-  adds = subst (λ done. Adds (IsOfOne (IsUnitSource (sections_of c.args.parts.now)) done) c.in_ok-paths.paths c.add_unit.new.paths)
+  adds = subst (λ done. AddsPaths (IsOfOne (IsUnitSource (sections_of c.args.parts.now)) done) c.in_ok-paths.paths c.add_unit.new.paths)
       (sym (map_push unit_facts c.loop-unit.yielded c.in-Some.unit))
       (adds-one_more c.loop-unit.invariant.adds c.in_ok-add_unit.ensures.adds);
   reader = c.in_ok-add_unit.ensures.reader ∙ c.loop-unit.invariant.reader;

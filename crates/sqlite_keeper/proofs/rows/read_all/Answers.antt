@@ -3,7 +3,7 @@ use Rattle.std.specs.Prelude.{OnOk}
 use Rattle.sqlite.specs.Held.{state}
 use Rattle.sqlite.specs.State.{CommitsShowing, HasCleanDisk, Survives}
 use Rattle.sqlite_keeper.specs.Reading.{GivesAll, LeavesAlone}
-use Rattle.sqlite_keeper.specs.Statements.{rows_text}
+use Rattle.sqlite_keeper.specs.Statements.{rows_query}
 use Rattle.sqlite_keeper.proofs.ReadingLemmas.{begun, gave_since, left_after, left_by_query, on_ok}
 use Rattle.sqlite_keeper.proofs.SurvivesLemmas.{survives_both, survives_reading}
 use Rattle.sqlite_keeper.proofs.TextLemmas.{rows_show_none}
@@ -39,7 +39,7 @@ returns-clause-survives g c =
     let same : last ≡ c.connection-2-1.given.0 = search rules in
     subst (λ h. Survives (state g.F.Store first) (state g.F.Store h) (λ _. ⊥)) same
     (survives_both (state g.F.Store first) (state g.F.Store now) (state g.F.Store last)
-    (survives_reading rows_text [] (state g.F.Store first) (state g.F.Store now) (rows_show_none first.schema) c.in_ok-rows.ensures.survives) c.read_from.ensures.survives)
+    (survives_reading rows_query [] (state g.F.Store first) (state g.F.Store now) (rows_show_none first.schema) c.in_ok-rows.ensures.survives) c.read_from.ensures.survives)
 
 -- no query has begun, and none has RETURNING
 pub returns-in_err-rows-clause-survives : goal.returns-in_err-rows-clause-survives
@@ -47,8 +47,8 @@ returns-in_err-rows-clause-survives g c =
     let first = c.args.connection.now in
     let last = c.query.follows.lender-at-none in
     let held = c.query.follows.holds-at-none in
-    let kept : Survives (state g.F.Store first) (state g.F.Store last) (CommitsShowing rows_text [] (state g.F.Store first)) = search rules in
-    survives_reading rows_text [] (state g.F.Store first) (state g.F.Store last) (rows_show_none first.schema) kept
+    let kept : Survives (state g.F.Store first) (state g.F.Store last) (CommitsShowing rows_query [] (state g.F.Store first)) = search rules in
+    survives_reading rows_query [] (state g.F.Store first) (state g.F.Store last) (rows_show_none first.schema) kept
 
 -- a query that doesn't begin leaves all alone
 pub returns-in_err-rows-clause-leaves : goal.returns-in_err-rows-clause-leaves

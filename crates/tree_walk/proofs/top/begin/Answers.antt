@@ -1,7 +1,7 @@
 -- One root after the other is looked at.
 use Rattle.std.proofs.Common.{ℕ, ◌+◌, ◌<◌, List, length, take, drop, inr, subst, arith}
 use Rattle.tree_trait.proofs.HandLemmas.{hands_then}
-use Rattle.tree_walk.specs.Underway.{IsBeginning}
+use Rattle.tree_walk.specs.Underway.{AreFirstRootsSeen}
 use Rattle.tree_walk.proofs.GoesLemmas.{goes_then, goes_then_up, split_at, take_one}
 use Rattle.tree_walk.proofs.top.begin.Goals as goal
 
@@ -23,7 +23,7 @@ loop-root-preserved g c =
       goes = goes_then c.loop-root.invariant.goes c.loop-root.invariant.hands.still
           (λ heard b. c.in_ok-look_at_root.ensures.goes heard roots (take i roots) (drop (i + 1) roots)
           (split_at roots i within c.root-item.is) b)
-          (λ heard b. subst (λ (seen : List (List ℕ)). IsBeginning heard roots seen c.look_at_root.new.search)
+          (λ heard b. subst (λ (seen : List (List ℕ)). AreFirstRootsSeen heard roots seen c.look_at_root.new.search)
           (take_one roots i within c.root-item.is) b);
       hands = hands_then c.loop-root.invariant.hands c.look_at_root.ensures.hands (λ _. inr tt)
           (λ none. absurd none);

@@ -1,6 +1,6 @@
 use Rattle.std.proofs.Common.{◌≡◌, rules, ap, ◌∙◌, refl}
 use Rattle.dbgd_metrics.specs.Shares.{ShareFacts}
-use Rattle.dbgd_metrics.specs.Seats.{facts_of}
+use Rattle.dbgd_metrics.specs.Seats.{share_with}
 use Rattle.dbgd_metrics.proofs.Seats.{facts_after, nothing_counted}
 use Rattle.dbgd_metrics.proofs.Steps.{splits_off}
 use Rattle.dbgd_metrics.proofs.book.Book.split.Goals as goal
@@ -10,7 +10,7 @@ split_seat-token-requires c = (search rules, search rules, splits_off _ _ _)
 
 pub returns : goal.returns
 returns c =
-    let shows : facts_of c.share.inside.token c.share.inside.marked ≡ c.args.share = c.share.view_is in
+    let shows : share_with c.share.inside.token c.share.inside.marked ≡ c.args.share = c.share.view_is in
     let same = facts_after c.share.inside.token c.split_seat-token.new.seat c.share.inside.marked _ c.split_seat-token.ensures.0 c.split_seat-token.ensures.2 ∙ shows in
     let other = ap (λ m. m.0) c.split_seat-token.ensures.4 in (
       same,

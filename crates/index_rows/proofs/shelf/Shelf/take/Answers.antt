@@ -4,7 +4,7 @@ use Rattle.std.specs.BTreeMap.{is_at}
 use Rattle.std.specs.Cmp.Lexicographic.{slice_cmp}
 use Rattle.std.specs.Map.{remove_entry}
 use Rattle.std.specs.Ordering.{nat_cmp}
-use Rattle.index_rows.specs.Slots.{Slot, slot_at}
+use Rattle.index_rows.specs.Slots.{Slot, path_slot}
 use Rattle.index_rows.proofs.ShelfLemmas.{none_taken, shelved_ascend, slot_none, slot_there, taken_numbered, taken_slots}
 use Rattle.index_rows.proofs.shelf.Shelf.take.Goals as goal
 
@@ -17,7 +17,7 @@ pub returns-in-Some-clause-old : goal.returns-in-Some-clause-old
 returns-in-Some-clause-old c =
     sym c.remove-in-Some.ensures.value
     ∙ slot_there c.self.inside.held c.self.inside.numbers.entries c.args.path.now c.in-Some.number c.self.invariant c.in-Some.ensures.value
-    ∙ ap (λ (s : List Slot). slot_at c.args.path.now s) c.self.view_is
+    ∙ ap (λ (s : List Slot). path_slot c.args.path.now s) c.self.view_is
 
 pub returns-in-Some-clause-new : goal.returns-in-Some-clause-new
 returns-in-Some-clause-new c =
@@ -31,7 +31,7 @@ returns-in-Some-clause-ascend c = shelved_ascend c.remove-in-Some.new.self c.rem
 pub returns-in-None-clause-old : goal.returns-in-None-clause-old
 returns-in-None-clause-old c =
     sym (slot_none c.self.inside.held c.self.inside.numbers.entries c.args.path.now c.in-None.ensures.value)
-    ∙ ap (λ (s : List Slot). slot_at c.args.path.now s) c.self.view_is
+    ∙ ap (λ (s : List Slot). path_slot c.args.path.now s) c.self.view_is
 
 pub returns-in-None-clause-new : goal.returns-in-None-clause-new
 returns-in-None-clause-new c =

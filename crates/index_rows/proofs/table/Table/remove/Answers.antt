@@ -3,7 +3,7 @@ use Rattle.std.proofs.Common.{List, sym, subst, arith}
 use Rattle.std.specs.List.{All}
 use Rattle.std.proofs.lemmas.List.Elements.{All-filter}
 use Rattle.row_types.specs.Row.{RowFacts}
-use Rattle.index_rows.specs.Slots.{rows_in}
+use Rattle.index_rows.specs.Slots.{rows_in_slots}
 use Rattle.index_rows.specs.Table.{ListsOnce, id_counts, source_counts}
 use Rattle.index_rows.proofs.table.Table.remove.Goals as goal
 
@@ -21,5 +21,5 @@ invariant_of-self c = record {
     c.self.invariant.by_source id path,
     c.remove-old.ensures.total (λ (row : RowFacts). source_counts row.reading id path),
   );
-  once = subst (λ (rows : List RowFacts). All ListsOnce rows) (sym c.remove-old.ensures.rows) (All-filter _ ListsOnce (rows_in c.self.inside.rows) c.self.invariant.once);
+  once = subst (λ (rows : List RowFacts). All ListsOnce rows) (sym c.remove-old.ensures.rows) (All-filter _ ListsOnce (rows_in_slots c.self.inside.rows) c.self.invariant.once);
 }

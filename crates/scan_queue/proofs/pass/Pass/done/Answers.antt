@@ -3,7 +3,7 @@ use Rattle.std.proofs.Common.{◌≡◌, true, false, List, All, refl, sym, ◌�
 use Rattle.row_types.specs.Name.{same_name}
 use Rattle.scan_queue.specs.Names.{is_in}
 use Rattle.scan_queue.specs.Pass.{PassFacts, left, names_left}
-use Rattle.scan_queue.specs.Slots.{HasNameAt, IsLaidOut, IsNotHeld, facts_of, same_place}
+use Rattle.scan_queue.specs.Slots.{HasNameAt, IsLaidOut, IsNotHeld, pass_with, same_place}
 use Rattle.scan_queue.specs.declared.slot.Place.TheVariants.{Done}
 use Rattle.scan_queue.specs.declared.slot.Slot.{Slot}
 use Rattle.scan_queue.proofs.Changes.{done_slot, laid_out_done}
@@ -63,5 +63,5 @@ returns-clause-after c =
     let before = c.self.inside in
     let name = c.args.name.now in
     let there : HasNameAt name before.slots.items c.in-Some.at = subst (λ (xs : List Slot). HasNameAt name xs c.in-Some.at) c.as_slice.ensures.value c.in-Some.ensures in
-    subst (λ (p : PassFacts). facts_of before.listing (slice_set before.slots.items c.in-Some.at (done_slot c.index_mut.result.now)) before.filled ≡ left name p) c.self.view_is
+    subst (λ (p : PassFacts). pass_with before.listing (slice_set before.slots.items c.in-Some.at (done_slot c.index_mut.result.now)) before.filled ≡ left name p) c.self.view_is
     (sym (name_leaves name before.listing before.slots.items before.filled c.in-Some.at c.index_mut.result.now (done_slot c.index_mut.result.now) c.self.invariant.kept there refl))

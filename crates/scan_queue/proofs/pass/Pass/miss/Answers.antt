@@ -4,7 +4,7 @@ use Rattle.std.proofs.lemmas.List.{get_or_default}
 use Rattle.row_types.specs.Name.{same_name}
 use Rattle.scan_queue.specs.Names.{is_in}
 use Rattle.scan_queue.specs.Pass.{MissesName, PassFacts}
-use Rattle.scan_queue.specs.Slots.{HasNameAt, IsLaidOut, IsNotHeld, facts_of, same_place}
+use Rattle.scan_queue.specs.Slots.{HasNameAt, IsLaidOut, IsNotHeld, pass_with, same_place}
 use Rattle.scan_queue.specs.declared.slot.Place.TheVariants.{Out}
 use Rattle.scan_queue.specs.declared.slot.Slot.{Slot}
 use Rattle.scan_queue.proofs.Changes.{laid_out_missed, missed_out, missed_slot}
@@ -64,6 +64,6 @@ returns-clause-after c =
     let there : HasNameAt name before.slots.items at = subst (λ (xs : List Slot). HasNameAt name xs at) c.as_slice.ensures.value c.in-Some.ensures in
     let out = out_there before.slots.items at c.index.result.now x there.within c.index.ensures (sym c.same_place.ensures ∙ c.if-not-same_place.false) in
     let named = (same_name-Decides name (slice_index_or before.slots.items at x).miss.name).0 (there.named x) in
-    λ _. subst (λ (p : PassFacts). MissesName p (facts_of before.listing (slice_set before.slots.items at (missed_slot c.args.cause x)) before.filled) name c.args.cause) c.self.view_is
-    (subst (λ (s : Slot). MissesName (facts_of before.listing before.slots.items before.filled) (facts_of before.listing (slice_set before.slots.items at (missed_slot c.args.cause s)) before.filled) name c.args.cause) (sym c.index_mut-slot.ensures.value)
+    λ _. subst (λ (p : PassFacts). MissesName p (pass_with before.listing (slice_set before.slots.items at (missed_slot c.args.cause x)) before.filled) name c.args.cause) c.self.view_is
+    (subst (λ (s : Slot). MissesName (pass_with before.listing before.slots.items before.filled) (pass_with before.listing (slice_set before.slots.items at (missed_slot c.args.cause s)) before.filled) name c.args.cause) (sym c.index_mut-slot.ensures.value)
     (missed_out name before.listing before.slots.items before.filled at x c.args.cause c.self.invariant.kept there named out))

@@ -4,7 +4,7 @@ use Rattle.std.specs.Prelude.{count_by}
 use Rattle.std.specs.Vec.{with_items}
 use Rattle.std.proofs.lemmas.List.{with_items_is}
 use Rattle.scan_queue.specs.Pass.{PassFacts, TriesAgain}
-use Rattle.scan_queue.specs.Slots.{IsLaidOut, facts_of, is_away, no_marks, tried_again}
+use Rattle.scan_queue.specs.Slots.{IsLaidOut, pass_with, is_away, no_marks, tried_again}
 use Rattle.scan_queue.specs.declared.slot.Slot.{Slot}
 use Rattle.scan_queue.proofs.Again.{away_count, laid_out_again, tries_again}
 use Rattle.scan_queue.proofs.pass.Pass.retry.Goals as goal
@@ -29,6 +29,6 @@ returns-clause-after c =
     let before = c.self.inside in
     let all : (with_items before.slots c.try_again.new.slots).items ≡ map tried_again before.slots.items =
     with_items_is before.slots c.try_again.new.slots (omega (arith, c.try_again.auto.slots, ap length c.as_mut_slice.ensures.value, before.slots.ok.0)) ∙ c.try_again.ensures ∙ ap (map tried_again) c.as_mut_slice.ensures.value in
-    subst (λ (p : PassFacts). TriesAgain p (facts_of before.listing (with_items before.slots c.try_again.new.slots).items before.filled)) c.self.view_is
-    (subst (λ (xs : List Slot). TriesAgain (facts_of before.listing before.slots.items before.filled) (facts_of before.listing xs before.filled)) (sym all)
+    subst (λ (p : PassFacts). TriesAgain p (pass_with before.listing (with_items before.slots c.try_again.new.slots).items before.filled)) c.self.view_is
+    (subst (λ (xs : List Slot). TriesAgain (pass_with before.listing before.slots.items before.filled) (pass_with before.listing xs before.filled)) (sym all)
     (tries_again before.listing before.slots.items before.filled c.self.invariant.kept))

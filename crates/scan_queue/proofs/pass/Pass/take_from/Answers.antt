@@ -2,7 +2,7 @@
 use Rattle.std.proofs.Common.{◌≡◌, ℕ, ◌<◌, length, true, false, Some, None, List, sym, ◌∙◌, ap, subst, arith, slice_index_or, slice_set}
 use Rattle.row_types.specs.Name.{NameFacts}
 use Rattle.scan_queue.specs.Pass.{PassFacts}
-use Rattle.scan_queue.specs.Slots.{Hands, IsLaidOut, IsMark, facts_of, marked, same_place}
+use Rattle.scan_queue.specs.Slots.{HandsFrom, IsLaidOut, IsMark, pass_with, marked, same_place}
 use Rattle.scan_queue.specs.declared.marks.Marks.{Marks}
 use Rattle.scan_queue.specs.declared.slot.Slot.{Slot}
 use Rattle.scan_queue.proofs.Changes.{at_hand, handed_out, laid_out_on, laid_out_out, none_handed, out_slot}
@@ -25,7 +25,7 @@ pub returns-then-at-len-clause-step : goal.returns-then-at-len-clause-step
 returns-then-at-len-clause-step c =
     let before = c.self.inside in
     let at = c.next_at-at.result in
-    subst (λ (p : PassFacts). Hands c.args.place p (facts_of before.listing before.slots.items before.filled) None) c.self.view_is
+    subst (λ (p : PassFacts). HandsFrom c.args.place p (pass_with before.listing before.slots.items before.filled) None) c.self.view_is
     (none_handed c.args.place before.listing before.slots.items before.filled at c.requires (subst (IsMark c.args.place at) c.as_slice.ensures.value c.next_at-at.ensures.passed) (omega arith))
 
 -- the slot there is one that stands at the place
@@ -61,9 +61,9 @@ returns-clause-step c =
     let within : at < length before.slots.items = omega arith in
     let x = c.index_mut.result.now in
     let named : (slice_index_or before.slots.items at x).miss.name ≡ c.take_out-name.result = ap (λ (s : Slot). s.miss.name) (sym c.index_mut.ensures.value) ∙ sym c.take_out-name.ensures.name in
-    let now : Slot → PassFacts = λ y. facts_of before.listing (slice_set before.slots.items at y) false in
-    subst (λ (p : PassFacts). Hands c.args.place p (now c.take_out-name.new.self) (Some c.take_out-name.result)) c.self.view_is
-    (subst (λ (n : NameFacts). Hands c.args.place (facts_of before.listing before.slots.items before.filled) (now c.take_out-name.new.self) (Some n)) named
-    (subst (λ (y : Slot). Hands c.args.place (facts_of before.listing before.slots.items before.filled) (now y) (Some (slice_index_or before.slots.items at x).miss.name)) (sym (c.take_out-name.ensures.after ∙ ap out_slot c.index_mut.ensures.value))
+    let now : Slot → PassFacts = λ y. pass_with before.listing (slice_set before.slots.items at y) false in
+    subst (λ (p : PassFacts). HandsFrom c.args.place p (now c.take_out-name.new.self) (Some c.take_out-name.result)) c.self.view_is
+    (subst (λ (n : NameFacts). HandsFrom c.args.place (pass_with before.listing before.slots.items before.filled) (now c.take_out-name.new.self) (Some n)) named
+    (subst (λ (y : Slot). HandsFrom c.args.place (pass_with before.listing before.slots.items before.filled) (now y) (Some (slice_index_or before.slots.items at x).miss.name)) (sym (c.take_out-name.ensures.after ∙ ap out_slot c.index_mut.ensures.value))
     (handed_out c.args.place before.listing before.slots.items before.filled at x c.requires within next
     (found_there before.slots.items c.as_slice.result.now at x (λ (s : Slot). same_place c.args.place s.place ≡ true) c.as_slice.ensures.value within c.next_at-at.ensures.found))))

@@ -2,7 +2,7 @@ use Rattle.std.proofs.Common.{◌≡◌, ℕ, List, None, Some, rules, refl, ap,
 use Rattle.index_keeper.specs.Store.{ShownStore}
 use Rattle.index_keeper.specs.Tables.{KeptFacts}
 use Rattle.sqlite.specs.Held.{Held, state}
-use Rattle.sqlite_keeper.specs.HeldStore.{HeldFacts}
+use Rattle.sqlite_keeper.specs.HeldStore.{HeldStoreFacts}
 use Rattle.sqlite_keeper.specs.Told.{tables}
 use Rattle.sqlite_keeper.proofs.KeeperLemmas.{opens_held, shows_held}
 use Rattle.sqlite_keeper.proofs.held_store.HeldStoreStoreOpenWorld.open_store.Goals as goal
@@ -15,7 +15,7 @@ shown epoch faults tables = record { tables = tables; made = None; epoch = epoch
 pub returns-in-Some-take-clause-opens : goal.returns-in-Some-take-clause-opens
 returns-in-Some-take-clause-opens g c =
     let held = c.in-Some.connection in
-    let old : HeldFacts g.row.F.Denot = record { connection = c.self.inside.connection; faults = c.self.inside.faults; epoch = c.self.inside.epoch } in
+    let old : HeldStoreFacts g.row.F.Denot = record { connection = c.self.inside.connection; faults = c.self.inside.faults; epoch = c.self.inside.epoch } in
     let was : c.self.inside.connection ≡ Some held = search rules in
     let given : c.in-Some-take.connection ≡ c.prepare.new.connection = search rules in
     rw (← c.self.view_is, c.new.ensures)
@@ -27,9 +27,9 @@ returns-in-Some-take-clause-opens g c =
 pub returns-in-Err-OutOfMemory-clause-opens : goal.returns-in-Err-OutOfMemory-clause-opens
 returns-in-Err-OutOfMemory-clause-opens g c =
     let held = c.in-Some.connection in
-    let old : HeldFacts g.row.F.Denot = record { connection = c.self.inside.connection; faults = c.self.inside.faults; epoch = c.self.inside.epoch } in
+    let old : HeldStoreFacts g.row.F.Denot = record { connection = c.self.inside.connection; faults = c.self.inside.faults; epoch = c.self.inside.epoch } in
     let was : c.self.inside.connection ≡ Some held = search rules in
-    let new : HeldFacts g.row.F.Denot = record { connection = Some c.prepare.new.connection; faults = c.self.inside.faults; epoch = c.self.inside.epoch } in
+    let new : HeldStoreFacts g.row.F.Denot = record { connection = Some c.prepare.new.connection; faults = c.self.inside.faults; epoch = c.self.inside.epoch } in
     rw (← c.self.view_is)
     (ap (shown c.self.inside.epoch c.self.inside.faults)
     (shows_held g.F.Store g.F.Telling.tells held c.prepare.new.connection old new was refl c.prepare.ensures.kept))
@@ -37,9 +37,9 @@ returns-in-Err-OutOfMemory-clause-opens g c =
 pub returns-in-Err-Failed-clause-opens : goal.returns-in-Err-Failed-clause-opens
 returns-in-Err-Failed-clause-opens g c =
     let held = c.in-Some.connection in
-    let old : HeldFacts g.row.F.Denot = record { connection = c.self.inside.connection; faults = c.self.inside.faults; epoch = c.self.inside.epoch } in
+    let old : HeldStoreFacts g.row.F.Denot = record { connection = c.self.inside.connection; faults = c.self.inside.faults; epoch = c.self.inside.epoch } in
     let was : c.self.inside.connection ≡ Some held = search rules in
-    let new : HeldFacts g.row.F.Denot = record { connection = Some c.prepare.new.connection; faults = c.self.inside.faults; epoch = c.self.inside.epoch } in
+    let new : HeldStoreFacts g.row.F.Denot = record { connection = Some c.prepare.new.connection; faults = c.self.inside.faults; epoch = c.self.inside.epoch } in
     rw (← c.self.view_is)
     (record {
       tables = λ is. shows_held g.F.Store g.F.Telling.tells held c.prepare.new.connection old new was refl c.prepare.ensures.kept;

@@ -1,6 +1,6 @@
 use Rattle.std.proofs.Common.{refl}
 use Rattle.sqlite.specs.Held.{state}
-use Rattle.index_keeper.specs.Tables.{put_of}
+use Rattle.index_keeper.specs.Tables.{put_bytes}
 use Rattle.sqlite_keeper.proofs.KeeperLemmas.{asks_change, by_laws, told_after}
 use Rattle.sqlite_keeper.proofs.keeper.SqliteKeeper.keep.Goals as goal
 
@@ -9,7 +9,7 @@ pub invariant_of-self : goal.invariant_of-self
 invariant_of-self g c is =
     let before = c.self.inside.connection in
     let after = c.put-answer.new.connection in
-    told_after c.put-answer.result (put_of c.args.path.now c.args.bytes.now) (state g.F.Store before) (state g.F.Store after)
+    told_after c.put-answer.result (put_bytes c.args.path.now c.args.bytes.now) (state g.F.Store before) (state g.F.Store after)
     (by_laws g.F.Store g.F.Telling.tells (record { clean = g.met.F.Telling.clean; opened = g.met.F.Telling.opened; numbered = g.met.F.Telling.numbered }) before after _ c.self.invariant c.put-answer.ensures.tells is)
 
 -- what the change tells is what keepers are asked for
@@ -20,4 +20,4 @@ returns-clause-asks g c =
     let told = by_laws g.F.Store g.F.Telling.tells (record { clean = g.met.F.Telling.clean; opened = g.met.F.Telling.opened; numbered = g.met.F.Telling.numbered }) before after _ c.self.invariant c.put-answer.ensures.tells in
     rw (← c.self.view_is)
     (asks_change g.F.Store (record { connection = before; faults = c.self.inside.faults; epoch = c.self.inside.epoch }) (record { connection = after; faults = c.count.new.faults; epoch = c.self.inside.epoch })
-    g.F.Telling.tells (put_of c.args.path.now c.args.bytes.now) c.put-answer.result told (c.count.ensures (put_of c.args.path.now c.args.bytes.now)) refl)
+    g.F.Telling.tells (put_bytes c.args.path.now c.args.bytes.now) c.put-answer.result told (c.count.ensures (put_bytes c.args.path.now c.args.bytes.now)) refl)

@@ -1,7 +1,7 @@
 use Rattle.std.proofs.Common.{None, Some, refl, sym, arith}
 use Rattle.std.proofs.lemmas.Bool.{false≢true}
 use Rattle.index_keeper.specs.declared.answer.KeptAnswer.TheVariants.{All, Failed, OutOfMemory}
-use Rattle.sqlite_keeper.specs.Reading.{Looks}
+use Rattle.sqlite_keeper.specs.Reading.{LooksUpRows}
 use Rattle.sqlite_keeper.proofs.KeeperLemmas.{asks_rows, by_laws, not_counted}
 use Rattle.sqlite_keeper.proofs.ToldLemmas.{rows_told}
 use Rattle.sqlite_keeper.proofs.keeper.SqliteKeeper.read.Goals as goal
@@ -16,7 +16,7 @@ pub returns-in-Ok-clause-asks : goal.returns-in-Ok-clause-asks
 returns-in-Ok-clause-asks g c =
     let before = c.self.inside.connection in
     let after = c.read_all.new.connection in
-    let looks : Looks g.F.Store before after (Some c.read_all.new.kept.items) =
+    let looks : LooksUpRows g.F.Store before after (Some c.read_all.new.kept.items) =
     record { gives = c.in-Ok.ensures.gives; leaves = c.read_all.ensures.leaves; outside = c.read_all.ensures.outside; survives = c.read_all.ensures.survives } in
     let told = by_laws g.F.Store g.F.Telling.tells (record { clean = g.met.F.Telling.clean; opened = g.met.F.Telling.opened; numbered = g.met.F.Telling.numbered }) before after _ c.self.invariant (rows_told g.F.Store before after (Some c.read_all.new.kept.items) c.read_all.ensures.ascends looks) in
     rw (← c.self.view_is)
@@ -28,7 +28,7 @@ pub invariant_of-self-in-Err-OutOfMemory : goal.invariant_of-self-in-Err-OutOfMe
 invariant_of-self-in-Err-OutOfMemory g c is =
     let before = c.self.inside.connection in
     let after = c.read_all.new.connection in
-    let looks : Looks g.F.Store before after None =
+    let looks : LooksUpRows g.F.Store before after None =
     record { gives = λ clean. tt; leaves = c.read_all.ensures.leaves; outside = c.read_all.ensures.outside; survives = c.read_all.ensures.survives } in
     (by_laws g.F.Store g.F.Telling.tells (record { clean = g.met.F.Telling.clean; opened = g.met.F.Telling.opened; numbered = g.met.F.Telling.numbered }) before after _ c.self.invariant (rows_told g.F.Store before after None tt looks) is).stays.told
 
@@ -36,7 +36,7 @@ pub invariant_of-self-in-Err-Failed : goal.invariant_of-self-in-Err-Failed
 invariant_of-self-in-Err-Failed g c is =
     let before = c.self.inside.connection in
     let after = c.read_all.new.connection in
-    let looks : Looks g.F.Store before after None =
+    let looks : LooksUpRows g.F.Store before after None =
     record { gives = λ clean. tt; leaves = c.read_all.ensures.leaves; outside = c.read_all.ensures.outside; survives = c.read_all.ensures.survives } in
     (by_laws g.F.Store g.F.Telling.tells (record { clean = g.met.F.Telling.clean; opened = g.met.F.Telling.opened; numbered = g.met.F.Telling.numbered }) before after _ c.self.invariant (rows_told g.F.Store before after None tt looks) is).stays.told
 
@@ -45,7 +45,7 @@ pub returns-in-Err-OutOfMemory-clause-asks : goal.returns-in-Err-OutOfMemory-cla
 returns-in-Err-OutOfMemory-clause-asks g c =
     let before = c.self.inside.connection in
     let after = c.read_all.new.connection in
-    let looks : Looks g.F.Store before after None =
+    let looks : LooksUpRows g.F.Store before after None =
     record { gives = λ clean. tt; leaves = c.read_all.ensures.leaves; outside = c.read_all.ensures.outside; survives = c.read_all.ensures.survives } in
     let told = by_laws g.F.Store g.F.Telling.tells (record { clean = g.met.F.Telling.clean; opened = g.met.F.Telling.opened; numbered = g.met.F.Telling.numbered }) before after _ c.self.invariant (rows_told g.F.Store before after None tt looks) in
     rw (← c.self.view_is)
@@ -56,7 +56,7 @@ pub returns-clause-asks : goal.returns-clause-asks
 returns-clause-asks g c =
     let before = c.self.inside.connection in
     let after = c.read_all.new.connection in
-    let looks : Looks g.F.Store before after None =
+    let looks : LooksUpRows g.F.Store before after None =
     record { gives = λ clean. tt; leaves = c.read_all.ensures.leaves; outside = c.read_all.ensures.outside; survives = c.read_all.ensures.survives } in
     let told = by_laws g.F.Store g.F.Telling.tells (record { clean = g.met.F.Telling.clean; opened = g.met.F.Telling.opened; numbered = g.met.F.Telling.numbered }) before after _ c.self.invariant (rows_told g.F.Store before after None tt looks) in
     rw (← c.self.view_is)
