@@ -3,7 +3,7 @@ use crate::logged::Logged;
 use crate::view::View;
 use atomic_table::{Join, Play, Split};
 
-/// TakesLock the lock, where the word is the one expected.
+/// Takes the lock, where the word is the one expected.
 pub(crate) struct Acquire;
 
 impl<S: Logged> Play<Option<S>, View<S::Entry, S::Origin>> for Acquire {
