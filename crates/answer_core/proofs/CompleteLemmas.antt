@@ -6,6 +6,7 @@ use Rattle.std.specs.Prelude.{nat_lt}
 use Rattle.std.specs.List.{AllZip, list_any}
 use Rattle.std.specs.Str.{bytes_eq}
 use Rattle.std.proofs.lemmas.Bool.{false≢true, and_parts, ltb-false, or_left, or_right}
+use Rattle.std.proofs.lemmas.List.Folds.{list_any-append}
 use Rattle.std.proofs.lemmas.Option.{none-some, same_Some}
 use Rattle.std.proofs.lemmas.Slice.Eq.{bytes_eq-Decides}
 use Rattle.file_formats.specs.Identity.{Identity}
@@ -25,7 +26,7 @@ use Rattle.tree_trait.specs.Load.{FitsLoad, IsAskedFile, LoadFacts, TellsLoad, l
 use Rattle.answer_check.specs.Certified.{IsCertified, is_of_class}
 use Rattle.webapi_routes.specs.declared.route.Route.{Route}
 use Rattle.answer_core.specs.Complete.{SomeWouldPass, WouldPass}
-use Rattle.answer_core.specs.Loads.{DoesNotPass, GivesNothing, Hand, NonePasses}
+use Rattle.answer_core.specs.Loads.{DoesNotPass, GivesNothing, Hand, NonePasses, joined_parts}
 use Rattle.answer_core.specs.declared.candidate.Candidate.{Candidate}
 
 -- the load of a candidate that would pass, and gave nothing, failed
@@ -42,28 +43,33 @@ load_failed hand route one would gone fits tells nothing = absurd (none-some wou
 load_failed hand route one would failed fits tells nothing = refl
 load_failed hand route one would no_memory fits tells nothing = absurd nothing
 
-one_failed : (hand : Hand) (route : Route) (one : Candidate) (heard : Heard) → IsTrue hand.told → hand.start.Still
-    → WouldPass hand route one → DoesNotPass hand route one heard → call_failed heard ≡ true
-one_failed hand route one heard told still would d =
-    ap call_failed d.loads.asked
-    ∙ load_failed hand route one would d.answer d.loads.fits (d.loads.tells told still) d.nothing
+one_failed : (hand : Hand) (route : Route) (one : Candidate) (part : List Heard) → IsTrue hand.told → hand.start.Still
+    → WouldPass hand route one → DoesNotPass hand route one part → list_any call_failed part ≡ true
+one_failed hand route one part told still would d =
+    ap (list_any call_failed) d.loads.asked
+    ∙ or_left (call_failed (load one.path FILE_LIMIT d.answer)) false
+        (load_failed hand route one would d.answer d.loads.fits (d.loads.tells told still) d.nothing)
 
-some_failed : (hand : Hand) (route : Route) (all : List Candidate) (answers : List Heard) → IsTrue hand.told
-    → hand.start.Still → AllZip (DoesNotPass hand route) all answers → SomeWouldPass hand route all
-    → list_any call_failed answers ≡ true
-some_failed hand route [] answers told still none some = absurd some
+some_failed : (hand : Hand) (route : Route) (all : List Candidate) (parts : List (List Heard)) → IsTrue hand.told
+    → hand.start.Still → AllZip (DoesNotPass hand route) all parts → SomeWouldPass hand route all
+    → list_any call_failed (joined_parts parts) ≡ true
+some_failed hand route [] parts told still none some = absurd some
 some_failed hand route (one ∷ all) [] told still none some = absurd none
-some_failed hand route (one ∷ all) (heard ∷ answers) told still none (inl would) =
-    or_left (call_failed heard) (list_any call_failed answers) (one_failed hand route one heard told still would none.0)
-some_failed hand route (one ∷ all) (heard ∷ answers) told still none (inr some) =
-    or_right (call_failed heard) (list_any call_failed answers)
-    (some_failed hand route all answers told still none.1 some)
+some_failed hand route (one ∷ all) (part ∷ parts) told still none (inl would) =
+    list_any-append call_failed part (joined_parts parts)
+    ∙ or_left (list_any call_failed part) (list_any call_failed (joined_parts parts))
+        (one_failed hand route one part told still would none.0)
+some_failed hand route (one ∷ all) (part ∷ parts) told still none (inr some) =
+    list_any-append call_failed part (joined_parts parts)
+    ∙ or_right (list_any call_failed part) (list_any call_failed (joined_parts parts))
+        (some_failed hand route all parts told still none.1 some)
 
 -- nothing was found only where no candidate that would pass is there
 pub complete : (hand : Hand) (route : Route) (all : List Candidate) (answers : List Heard) → IsTrue hand.told
     → hand.start.Still → NonePasses hand route all answers false → SomeWouldPass hand route all → ⊥
 complete hand route all answers told still none some =
-    false≢true (sym none.failed ∙ some_failed hand route all answers told still none.none some)
+    false≢true (sym none.failed ∙ ap (list_any call_failed) none.are
+        ∙ some_failed hand route all none.parts told still none.none some)
 
 kinds_same : (class : Kind) (i : Identity) → is_of_kind class i ≡ true → is_of_class class i ≡ true
 kinds_same Executable i h = h

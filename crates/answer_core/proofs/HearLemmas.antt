@@ -96,11 +96,11 @@ hears_less {hand} {now} {after} {answers} asked refused hears asks = record {
   hands = hands_more answers answers hears.hands asks (λ f. absurd f);
 }
 
--- the load of a candidate, as it was heard
+-- the load of a candidate is a part of what was heard
 pub load_is : {hand : Hand} {now after : ShownTree} {answers : List Heard} {Before : Type 0} (one : Candidate)
     (answer : LoadFacts) → Hears hand now answers Before
     → AsksTree hand.told hand.version now after (load one.path FILE_LIMIT answer)
-    → IsLoad hand one answer (load one.path FILE_LIMIT answer)
+    → IsLoad hand one answer (load one.path FILE_LIMIT answer ∷ [])
 load_is one answer hears asks = record {
   asked = refl;
   fits = asks.fits;

@@ -3,6 +3,7 @@ use Rattle.std.proofs.Common.{◌≡◌, ℕ, ◌+◌, ◌<◌, ◌||◌, inl, i
 use Rattle.std.proofs.Common.{get_or, IsTrue, refl, sym, ◌∙◌, ap}
 use Rattle.std.proofs.lemmas.Bool.{false≢true, or_right}
 use Rattle.std.proofs.lemmas.List.{take_more}
+use Rattle.std.proofs.lemmas.List.Concat.{flat_map-append}
 use Rattle.std.proofs.lemmas.List.Folds.{list_any-append}
 use Rattle.std.specs.List.{AllZip, list_any}
 use Rattle.row_types.specs.declared.limits.TheConstants.{FILE_LIMIT}
@@ -11,7 +12,7 @@ use Rattle.tree_trait.specs.Heard.{Heard, load, call_failed, wants_memory}
 use Rattle.tree_trait.specs.Load.{LoadFacts, loaded, too_large, gone, failed, no_memory}
 use Rattle.tree_trait.specs.Shown.{ShownTree}
 use Rattle.webapi_routes.specs.declared.route.Route.{Route}
-use Rattle.answer_core.specs.Loads.{DoesNotPass, Hand, HasCandidatePassed, HasTried, Hears, Tries}
+use Rattle.answer_core.specs.Loads.{DoesNotPass, Hand, HasCandidatePassed, HasTried, Hears, Tries, joined_parts}
 use Rattle.answer_core.specs.declared.attempt.Tried.TheVariants as tried
 use Rattle.answer_core.specs.declared.candidate.Candidate.{Candidate}
 use Rattle.answer_check.specs.declared.passed.Passed.{Passed}
@@ -23,6 +24,13 @@ zip_more R [] [] x y h r = (r, tt)
 zip_more R [] (b ∷ ys) x y h r = absurd h
 zip_more R (a ∷ xs) [] x y h r = absurd h
 zip_more R (a ∷ xs) (b ∷ ys) x y h r = (h.0, zip_more R xs ys x y h.1 r)
+
+-- one more part of what was heard, of one call
+parts_more : (answers : List Heard) (parts : List (List Heard)) (heard : Heard) → answers ≡ joined_parts parts
+    → answers ++ heard ∷ [] ≡ joined_parts (parts ++ (heard ∷ []) ∷ [])
+parts_more answers parts heard are =
+    ap (λ (before : List Heard). before ++ heard ∷ []) are
+    ∙ sym (flat_map-append (λ (part : List Heard). part) parts ((heard ∷ []) ∷ []))
 
 or_same : (b c : Bool) → c ≡ false → (b || (c || false)) ≡ b
 or_same true c e = refl
@@ -37,7 +45,7 @@ take_one xs i {x} within here = ap (λ z. take i xs ++ z ∷ []) here ∙ sym (t
 pub tried_none : (hand : Hand) (route : Route) → HasTried hand route [] false hand.start
 tried_none hand route = record {
   answers = [];
-  none = record { none = tt; failed = refl };
+  none = record { parts = []; are = refl; none = tt; failed = refl };
   hears = hears_as (λ (f : IsTrue false). absurd (false≢true f)) (hears_none hand);
 }
 
@@ -52,7 +60,9 @@ tried_refused {hand} {route} {done} {fails} {now} {after} one h t =
     record {
       answers = h.answers ++ heard ∷ [];
       none = record {
-        none = zip_more (DoesNotPass hand route) done h.answers one heard h.none.none
+        parts = h.none.parts ++ (heard ∷ []) ∷ [];
+        are = parts_more h.answers h.none.parts heard h.none.are;
+        none = zip_more (DoesNotPass hand route) done h.none.parts one (heard ∷ []) h.none.none
             (record { answer = t.0; loads = load_is one t.0 h.hears t.1; nothing = t.2 });
         failed = list_any-append call_failed h.answers (heard ∷ [])
             ∙ or_same (list_any call_failed h.answers) (call_failed heard) sound ∙ h.none.failed;
@@ -70,7 +80,9 @@ tried_failed {hand} {route} {done} {fails} {now} {after} one h t =
     record {
       answers = h.answers ++ heard ∷ [];
       none = record {
-        none = zip_more (DoesNotPass hand route) done h.answers one heard h.none.none
+        parts = h.none.parts ++ (heard ∷ []) ∷ [];
+        are = parts_more h.answers h.none.parts heard h.none.are;
+        none = zip_more (DoesNotPass hand route) done h.none.parts one (heard ∷ []) h.none.none
             (record { answer = failed; loads = load_is one failed h.hears t; nothing = tt });
         failed = list_any-append call_failed h.answers (heard ∷ []) ∙ or_right (list_any call_failed h.answers) true refl;
       };
@@ -91,10 +103,10 @@ tried_passed {hand} {route} {all} {fails} {now} {after} place one given within t
         within = within;
         one = one;
         there = there;
-        before = h.answers;
+        before = h.none.parts;
         none = h.none.none;
-        last = heard;
-        heard = refl;
+        last = heard ∷ [];
+        heard = ap (λ (before : List Heard). before ++ heard ∷ []) h.none.are;
         passes = record { found = t.0; loads = load_is one (loaded t.0) h.hears t.1; passes = t.2; gives = t.3 };
       };
       hears = hears_more heard refl h.hears t.1 (λ f. absurd f);

@@ -1,5 +1,6 @@
--- The loads of the files that may answer a route (this project's rule): one after the other, until one passes.
-use Rattle.std.specs.Prelude.{◌≡◌, ℕ, ◌<◌, Bool, List, [], ◌∷◌, ◌++◌, length, take, Option, IsTrue, slice_index_or}
+-- The loads of the files that may answer a route (this project's rule): one after the other, until one passes. Each has a
+-- part of what was heard.
+use Rattle.std.specs.Prelude.{◌≡◌, ℕ, ◌<◌, Bool, List, [], ◌∷◌, ◌++◌, flat_map, length, take, Option, IsTrue, slice_index_or}
 use Rattle.std.specs.List.{AllZip, list_any}
 use Rattle.answer_check.specs.Passing.{GivesPassed, Passes}
 use Rattle.answer_check.specs.declared.passed.Passed.{Passed}
@@ -24,10 +25,10 @@ pub record Hand : Type 1 where
   pub version : Versions
   pub start : ShownTree
 
--- the load of a candidate was heard with this answer: within the limit, and by the files that are there, where the hand is
--- told and still
-pub record IsLoad (hand : Hand) (one : Candidate) (answer : LoadFacts) (heard : Heard) : Type 0 where
-  pub asked : heard ≡ load one.path FILE_LIMIT answer
+-- a part of what was heard is the load of a candidate with this answer: within the limit, and by the files that are there,
+-- where the hand is told and still
+pub record IsLoad (hand : Hand) (one : Candidate) (answer : LoadFacts) (part : List Heard) : Type 0 where
+  pub asked : part ≡ load one.path FILE_LIMIT answer ∷ []
   pub fits : FitsLoad hand.version one.path FILE_LIMIT answer
   pub tells : IsTrue hand.told → hand.start.Still → TellsLoad hand.start.present one.path answer
 
@@ -37,34 +38,40 @@ GivesNothing route class (loaded found) = ¬ Passes route class found.bytes
 GivesNothing route class no_memory = ⊥
 GivesNothing route class _ = Unit {0}
 
--- the load of a candidate gave nothing that passes
-pub record DoesNotPass (hand : Hand) (route : Route) (one : Candidate) (heard : Heard) : Type 0 where
+-- what was heard of a candidate gave nothing that passes
+pub record DoesNotPass (hand : Hand) (route : Route) (one : Candidate) (part : List Heard) : Type 0 where
   pub answer : LoadFacts
-  pub loads : IsLoad hand one answer heard
+  pub loads : IsLoad hand one answer part
   pub nothing : GivesNothing route one.class answer
 
--- the load of a candidate gave bytes that pass, of which this is given
-pub record LoadPasses (hand : Hand) (route : Route) (one : Candidate) (given : Passed) (heard : Heard) : Type 0 where
+-- what was heard of a candidate gave bytes that pass, of which this is given
+pub record LoadPasses (hand : Hand) (route : Route) (one : Candidate) (given : Passed) (part : List Heard) : Type 0 where
   pub found : FoundFacts
-  pub loads : IsLoad hand one (loaded found) heard
+  pub loads : IsLoad hand one (loaded found) part
   pub passes : Passes route one.class found.bytes
   pub gives : GivesPassed route one.class found.bytes given
 
--- each candidate was loaded, in order, and none passed; some load failed or none did
+-- parts, one behind the other
+abbrev pub joined_parts : List (List Heard) → List Heard
+joined_parts parts = flat_map (λ part. part) parts
+
+-- what was heard is a part for each candidate, in order, by which none passed; some call failed or none did
 pub record NonePasses (hand : Hand) (route : Route) (all : List Candidate) (answers : List Heard) (fails : Bool) : Type 0 where
-  pub none : AllZip (DoesNotPass hand route) all answers
+  pub parts : List (List Heard)
+  pub are : answers ≡ joined_parts parts
+  pub none : AllZip (DoesNotPass hand route) all parts
   pub failed : list_any call_failed answers ≡ fails
 
--- the candidates were loaded in order up to the one at this place, which is the first that passed
+-- what was heard is a part for each candidate, in order, up to the one at this place, which is the first that passed
 pub record PassesAt
     (hand : Hand) (route : Route) (all : List Candidate) (answers : List Heard) (place : ℕ) (given : Passed) : Type 0 where
   pub within : place < length all
   pub one : Candidate
   pub there : one ≡ slice_index_or all place one
-  pub before : List Heard
+  pub before : List (List Heard)
   pub none : AllZip (DoesNotPass hand route) (take place all) before
-  pub last : Heard
-  pub heard : answers ≡ before ++ last ∷ []
+  pub last : List Heard
+  pub heard : answers ≡ joined_parts before ++ last
   pub passes : LoadPasses hand route one given last
 
 -- the answer says what stands at the path
