@@ -58,6 +58,7 @@ fn pick<W: Truth, K: Keeper<W>>(
 ) -> Picked
     ensures { Picks W.true_row index.now.log folders.now route.now result }
 {
+    // For its clause alone: the rows are those of the log, and true.
     show_index(index);
     Picked {
         generation: index.standing().log,

@@ -76,6 +76,7 @@ fn id_of(text: &str) -> Option<BuildId>
     ensures { result ≡ spelled_id text.now }
 {
     let id = BuildId::parse(text.as_bytes())?;
+    // For its clause alone: an id has 2 to 64 bytes.
     let _bytes = id.bytes();
     Some(id)
 }

@@ -1,4 +1,5 @@
-//! One event of an index that is held.
+//! One event of an index that is held. `show_index` is called behind each for its clause alone:
+//! the invariant holds again.
 
 ghost use Rattle.std.specs.Prelude.{◌≡◌, IfSome, None};
 ghost use Rattle.row_types.specs.Name.{stamp_at};
@@ -27,6 +28,7 @@ pub(crate) fn begin_held<W: Truth, K: Keeper<W>>(
     ensures goes_on { LogGoesOn state.old state.new }
     ensures holds { IndexInvariant W.true_row K.told K.shows state.new }
 {
+    // For its clause alone: the invariant, before the pass that stood is given up.
     let _rows = state.rows();
     let begun = state.begin(alloc, listing, roots);
     show_index(state);
