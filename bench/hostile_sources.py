@@ -9,9 +9,10 @@ codes     10,000 units over 40,000 abbreviations, each unit with the last one's 
 folders   units over one table, each unit with another folder: there are as many paths as units times files
 lists     the same, just below the limit of a list, with paths of 8, of 157, and of 4,090 bytes
 
-`bases` and `codes` have to end within a second each, and at twice the size within two and a half times that. The large
-`folders` name more than a list may take and have to end with 6; the others have to end with 0, and none may pass 1.5 GB, by a
-scan neither. It stands outside the gate, since the time of a busy machine says nothing.
+`bases` and `codes` have to end within a second each, and at twice the size within two and a half times that: the least
+time of ten runs each, since they take some hundredths of a second. The large `folders` name more than a list may take and
+have to end with 6; the others have to end with 0, and none may pass 1.5 GB, by a scan neither. It stands outside the gate,
+since the time of a busy machine says nothing.
 """
 import os
 import struct
@@ -117,6 +118,10 @@ FILES = {
     "lists_long": lambda: folders(32, 680, b"/" + b"x" * 4080),
 }
 
+# The files that are timed, and how often each of them is run.
+TIMED = {"bases", "bases_twice", "codes", "codes_twice"}
+RUNS = 10
+
 # The files that have to end with 6.
 GIVEN_UP = {"folders_2500", "folders_5000", "folders_20000", "folders_long"}
 
@@ -150,7 +155,8 @@ def main():
         paths = made(work)
         took = {}
         for name, path in paths.items():
-            seconds, status, memory = run([program, "sources", path])
+            runs = [run([program, "sources", path]) for _ in range(RUNS if name in TIMED else 1)]
+            seconds, status, memory = min(runs)
             took[name] = seconds
             print(f"sources {name}: {os.path.getsize(path)} bytes, {seconds:.2f} s, status {status}, {memory >> 20} MB", flush=True)
             failed |= status != (6 if name in GIVEN_UP else 0) or memory > MEMORY
