@@ -1,14 +1,14 @@
 -- What each step asks of the table: whatever it is then, the seat can go on and the rule is kept.
-use Rattle.std.proofs.Common.{◌≡◌, ℕ, ◌+◌, ◌%◌, ◌<◌, List, [], ◌∷◌, ◌++◌, get_or, set, refl, sym, ap, ◌∙◌, subst, arith, Some, None}
+use Rattle.std.proofs.Common.{◌≡◌, ℕ, ◌+◌, ◌%◌, ◌<◌, List, [], ◌∷◌, ◌++◌, length, get_or, set, refl, sym, ap, ◌∙◌, subst, arith, Some, None}
 use Rattle.std.specs.Prelude.{◌==◌, ◌^◌}
 use mathlib.Core.Option.{some, none}
 use lib.ListN.{get_elem?}
 use lib.Seq.{set-get_or}
 use prog.Atomic.{either}
-use Rattle.atomic_table.specs.Table.{State, Me, step, Act, keeps, Valid, stepped, carried_after, Allows, Splits}
-use Rattle.atomic_table.proofs.Lists.{exchanged, set_again}
+use Rattle.atomic_table.specs.Table.{State, Me, step, Act, keeps, Valid, stepped, carried_after, Allows, Joins, Splits}
+use Rattle.atomic_table.proofs.Lists.{exchanged, set_again, set_else}
 use Rattle.dbgd_metrics.specs.declared.view.Known.{Known}
-use Rattle.dbgd_metrics.specs.Rule.{KeepsBook, heir, word_at, known_after, TellsOwn, read, noticed, drew, added}
+use Rattle.dbgd_metrics.specs.Rule.{KeepsBook, heir, word_at, known_after, TellsOwn, read, never_comes, no_seat, noticed, drew, added}
 use Rattle.dbgd_metrics.proofs.Views.{one_row}
 use Rattle.dbgd_metrics.proofs.Keeps.{keeps_look, keeps_draw, keeps_add, keeps_split}
 
@@ -73,3 +73,17 @@ pub splits_off : (rows id : ℕ) (known : Known) → Splits {S = U} (KeepsBook r
 splits_off rows id known s k at =
     subst (λ (vs : List Known). KeepsBook rows record { words = s.words; homes = s.homes; views = vs ++ heir known ∷ [] })
     (sym (set_again s.views id known at)) (keeps_split id s k at)
+
+-- two seats with one row would be one seat, so they can't be joined
+pub clash : (rows id other : ℕ) (mine its : Known) (row : ℕ) → mine.row ≡ Some row → its.row ≡ Some row
+    → Joins {S = U} (KeepsBook rows) id mine other its no_seat no_seat
+clash rows id other mine its row here there s k at two more =
+    absurd (two (k.alone other id its mine row (sym (set_else s.views id other no_seat two) ∙ more) at there here))
+
+-- there is no seat without numbers, so it makes no step
+pub never : (rows slots id word : ℕ) (me : Me U Known) → me.0 ≡ no_seat
+    → Allows (KeepsBook rows) slots id me word (λ n. n) (never_comes (step slots word 0 0 none) me)
+never rows slots id word me none_of s k deep at fits =
+    let whole : length me.0.numbers ≡ 53 = k.whole id me.0 at in
+    let empty : length me.0.numbers ≡ 0 = ap (λ (known : Known). length known.numbers) none_of in
+    absurd (omega (arith, whole, empty))

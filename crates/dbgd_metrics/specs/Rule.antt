@@ -25,6 +25,10 @@ blank = record { row = None; numbers = zeros; loads = []; drawn = 0 }
 abbrev pub heir : Known → Known
 heir known = record blank { drawn = known.drawn }
 
+-- what no seat knows: it has no numbers
+abbrev pub no_seat : Known
+no_seat = record blank { numbers = [] }
+
 -- what the table keeps at every moment
 pub record KeepsBook {S : Type 0} (rows : ℕ) (state : State S Known) : Type 0 where
   pub size : length state.words ≡ 1 + count_of_numbers * rows  -- one word, and one for each number of each row
@@ -63,6 +67,10 @@ module _ {S : Type 0} where
   abbrev pub added : Step S → Me S Known → ℕ → Me S Known → Type 0
   added step before found after = (row place : ℕ) → before.0.row ≡ Some row → place < count_of_numbers → step.word ≡ word_at row place
       → after ≡ (record before.0 { numbers = slice_set before.0.numbers place (slice_index before.0.numbers place + step.first) }, before.1)
+
+  -- a step that no seat makes
+  abbrev pub never_comes : Step S → Me S Known → ℕ → Me S Known → Type 0
+  never_comes step before found after = ⊥
 
 -- a seat of the table
 abbrev pub CountToken : Type 0

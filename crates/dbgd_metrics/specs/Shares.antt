@@ -1,5 +1,5 @@
 -- What contracts see of the counter table and of its shares, and what a new share is.
-use Rattle.std.specs.Prelude.{◌≡◌, ℕ, List, Bool, false, Option, None}
+use Rattle.std.specs.Prelude.{◌≡◌, ℕ, List, Bool, false, Option, Some, None}
 use Rattle.atomic_table.specs.Seated.{TableId}
 use Rattle.dbgd_metrics.specs.declared.view.Load.{Load}
 use Rattle.dbgd_metrics.specs.Numbers.{zeros}
@@ -25,3 +25,11 @@ pub record IsNewShare (book : TableId) (share : ShareFacts) : Type 0 where
   pub no_row : share.row ≡ None
   pub nothing : share.numbers ≡ zeros
   pub unmarked : share.marked ≡ false
+
+-- both have a row, and the same
+abbrev pub HaveOneRow : ShareFacts → ShareFacts → Type 0
+HaveOneRow one other = (row : ℕ) × (one.row ≡ Some row) × (other.row ≡ Some row)
+
+-- where both have a row, the rows differ
+abbrev pub HaveOtherRows : ShareFacts → ShareFacts → Type 0
+HaveOtherRows one other = HaveOneRow one other → ⊥

@@ -2,6 +2,7 @@
 //! It decides nothing about what is worth counting, and knows no reply and no index.
 #![tactic(auto)]
 
+mod apart;
 mod book;
 mod count;
 mod counting;

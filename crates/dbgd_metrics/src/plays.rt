@@ -1,6 +1,6 @@
 //! The kinds of step on the table, each with what it tells.
 use crate::view::Known;
-use atomic_table::{Play, Split};
+use atomic_table::{Join, Play, Split};
 
 /// A load of a word.
 pub(crate) struct Reads;
@@ -47,4 +47,24 @@ impl Split<Known> for Blank {
     ghost left = { λ known. known };
 
     ghost right = { λ known. heir known };
+}
+
+/// Two seats with one row, which there can't be, would become a seat that there can't be.
+pub(crate) struct Clashes;
+
+impl Join<Known> for Clashes {
+    ghost use Rattle.dbgd_metrics.specs.Rule.{no_seat};
+
+    ghost both = { λ _ _. no_seat };
+
+    ghost spent = { no_seat };
+}
+
+/// A step of a seat that there can't be.
+pub(crate) struct NeverComes;
+
+impl Play<(), Known> for NeverComes {
+    ghost use Rattle.dbgd_metrics.specs.Rule.{never_comes};
+
+    ghost then = { never_comes };
 }
