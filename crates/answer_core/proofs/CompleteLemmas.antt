@@ -48,7 +48,7 @@ one_failed : (hand : Hand) (route : Route) (one : Candidate) (part : List Heard)
 one_failed hand route one part told still would d =
     ap (list_any call_failed) d.loads.asked
     ∙ or_left (call_failed (load one.path FILE_LIMIT d.answer)) false
-        (load_failed hand route one would d.answer d.loads.fits (d.loads.tells told still) d.nothing)
+    (load_failed hand route one would d.answer d.loads.fits (d.loads.tells told still) d.nothing)
 
 some_failed : (hand : Hand) (route : Route) (all : List Candidate) (parts : List (List Heard)) → IsTrue hand.told
     → hand.start.Still → AllZip (DoesNotPass hand route) all parts → SomeWouldPass hand route all
@@ -58,18 +58,18 @@ some_failed hand route (one ∷ all) [] told still none some = absurd none
 some_failed hand route (one ∷ all) (part ∷ parts) told still none (inl would) =
     list_any-append call_failed part (joined_parts parts)
     ∙ or_left (list_any call_failed part) (list_any call_failed (joined_parts parts))
-        (one_failed hand route one part told still would none.0)
+    (one_failed hand route one part told still would none.0)
 some_failed hand route (one ∷ all) (part ∷ parts) told still none (inr some) =
     list_any-append call_failed part (joined_parts parts)
     ∙ or_right (list_any call_failed part) (list_any call_failed (joined_parts parts))
-        (some_failed hand route all parts told still none.1 some)
+    (some_failed hand route all parts told still none.1 some)
 
 -- nothing was found only where no candidate that would pass is there
 pub complete : (hand : Hand) (route : Route) (all : List Candidate) (answers : List Heard) → IsTrue hand.told
     → hand.start.Still → NonePasses hand route all answers false → SomeWouldPass hand route all → ⊥
 complete hand route all answers told still none some =
     false≢true (sym none.failed ∙ ap (list_any call_failed) none.are
-        ∙ some_failed hand route all none.parts told still none.none some)
+    ∙ some_failed hand route all none.parts told still none.none some)
 
 kinds_same : (class : Kind) (i : Identity) → is_of_kind class i ≡ true → is_of_class class i ≡ true
 kinds_same Executable i h = h

@@ -13,3 +13,9 @@ abbrev pub HasSeat : CountToken → Option ℕ → Bool → Type 0
 HasSeat token row marked =
     (token.me.1 ≡ []) × (row ≡ token.me.0.row)
     × MatchOption row ((token.me.0.numbers ≡ zeros) × (marked ≡ false)) (λ own. IsRowInside own token.table_id.words)
+
+-- the seat, without a slot, is that of a share which shows this
+pub record IsSeatOf (share : ShareFacts) (token : CountToken) : Type 0 where
+  pub table : token.table_id ≡ share.book
+  pub row : token.me.0.row ≡ share.row
+  pub slots : token.me.1 ≡ []

@@ -2,10 +2,10 @@
 //! It decides nothing about what is worth counting, and knows no reply and no index.
 #![tactic(auto)]
 
-mod apart;
 mod book;
 mod count;
 mod counting;
+mod distinct;
 mod number;
 mod page;
 mod plays;

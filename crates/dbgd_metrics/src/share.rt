@@ -44,6 +44,7 @@ impl Share {
     ghost use Rattle.std.specs.Prelude.{◌≡◌, ◌<◌, IsSome, IfSome};
     ghost use Rattle.dbgd_metrics.specs.Numbers.{number_place};
     ghost use Rattle.dbgd_metrics.specs.Rule.{word_at};
+    ghost use Rattle.dbgd_metrics.specs.Seats.{IsSeatOf};
 
     /// Whether a count was ever refused.
     pub fn is_marked(&self) -> bool
@@ -62,6 +63,18 @@ impl Share {
             Some(row) => (1 + NUMBERS * row + number.place()) as usize,
             None => unreachable!(),
         }
+    }
+
+    /// The share's seat.
+    pub(crate) fn into_token(self) -> Token
+        ensures { IsSeatOf self result }
+    {
+        let Self {
+            token,
+            row: _,
+            marked: _,
+        } = self;
+        token
     }
 }
 

@@ -27,10 +27,9 @@ impl Book {
         requires other { other.book ≡ self.now.id }
         requires row { HaveOneRow one other }
     {
-        let Share { mut token, .. } = one;
-        let Share { token: second, .. } = other;
         let shared = &self.table.shared;
-        shared.join_seat::<Clashes>(&mut token, second);
+        let mut token = one.into_token();
+        shared.join_seat::<Clashes>(&mut token, other.into_token());
         let _never = shared.load::<NeverComes>(&mut token, 0);
         unreachable!()
     }
