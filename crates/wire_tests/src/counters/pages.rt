@@ -102,6 +102,17 @@ fn a_share_that_is_split_off_behind_a_row_has_another(rt: HostRuntime) {
     assert!(rt; !first.is_marked() && !second.is_marked());
 }
 
+// Both were split before either drew.
+#[test]
+fn shares_that_are_told_apart_come_back(rt: HostRuntime) {
+    let (book, first, second) = two_drawn(&rt, rt.alloc());
+    let (first, second) = book.tell_apart(first, second);
+    let most = request(RouteName::Other, 200, u64::MAX);
+    let first = count_often(&book, first, most, 1);
+    let second = count_often(&book, second, most, 1);
+    assert!(rt; !first.is_marked() && !second.is_marked());
+}
+
 #[test]
 fn rows_are_drawn_until_none_is_left(rt: HostRuntime) {
     let (book, share) = Book::make(rt.alloc(), 2).expect(&rt, "memory");
