@@ -3,9 +3,13 @@ use Rattle.std.proofs.Common.{ℕ, ◌+◌, ◌<◌, Bool, true, List, length, t
 use Rattle.tree_trait.specs.Shown.{ShownTree}
 use Rattle.answer_core.specs.Loads.{Hand, HasTried}
 use Rattle.answer_core.specs.declared.candidate.Candidate.{Candidate}
-use Rattle.answer_core.proofs.TryLemmas.{take_one, tried_failed, tried_memory, tried_passed, tried_refused}
+use Rattle.answer_core.proofs.TryLemmas.{take_one, tried_failed, tried_memory, tried_none, tried_passed, tried_refused}
 use Rattle.answer_core.proofs.attempts.try_all.Goals as goal
 use Rattle.answer_core.proofs.attempts.try_all.Goals.{in-Refused, in-Failed}
+
+pub loop-place-init : goal.loop-place-init
+loop-place-init g c =
+    tried_none (record { told = g.T.Tree.told; version = g.W.Truth.version; start = g.T.Tree.shows c.args.hand.now }) c.args.route.now
 
 pub returns-in-Passed : goal.returns-in-Passed
 returns-in-Passed g c =
