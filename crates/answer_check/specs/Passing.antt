@@ -4,7 +4,7 @@ use Rattle.answer_check.specs.Certified.{CertifiedFacts, IsCertified}
 use Rattle.row_types.specs.declared.identity.Kind.{Kind}
 use Rattle.row_types.specs.declared.identity.Kind.TheVariants as kind
 use Rattle.webapi_routes.specs.declared.route.Route.{Route}
-use Rattle.webapi_routes.specs.declared.route.Route.TheVariants.{Debuginfo, Executable, Source, Section}
+use Rattle.webapi_routes.specs.declared.route.Route.TheVariants.{Debuginfo, Executable, Source, Section, Metrics}
 use Rattle.answer_check.specs.Section.{HasSectionOf, named}
 use Rattle.answer_check.specs.declared.passing.Checked.{Checked}
 use Rattle.answer_check.specs.declared.passing.Checked.TheVariants as checked
@@ -16,13 +16,14 @@ abbrev pub certified_file : Kind → List ℕ → List ℕ → CertifiedFacts
 certified_file class id bytes = record { kind = class; id = id; bytes = bytes }
 
 -- these bytes of a candidate of the class pass: a file of the id and of the class that is asked; for a section a file of
--- the id and of the candidate's class that has the section; any bytes of a source
+-- the id and of the candidate's class that has the section; any bytes of a source; none for the counters
 abbrev pub Passes : Route → Option Kind → List ℕ → Type 0
 Passes (Debuginfo id) class bytes = IsCertified kind.Debuginfo id bytes
 Passes (Executable id) class bytes = IsCertified kind.Executable id bytes
 Passes (Section id name) (Some class) bytes = IsCertified class id bytes × HasSectionOf bytes name
 Passes (Section id name) None bytes = ⊥
 Passes (Source id path) class bytes = Unit {0}
+Passes Metrics class bytes = ⊥
 
 -- what is given of bytes that pass: the file, the section of the route's name, the source
 abbrev pub GivesPassed : Route → Option Kind → List ℕ → Passed → Type 0

@@ -24,8 +24,8 @@ pub enum Checked {
 }
 
 /// Whether bytes pass as an answer to a route: for a file those of the route's class and id, for a
-/// section those of a file of the id and of this class that has it, for a source any. They aren't
-/// copied.
+/// section those of a file of the id and of this class that has it, for a source any, for the
+/// counters none. They aren't copied.
 pub fn check(alloc: Global, route: &Route, class: Option<Kind>, bytes: Vec<u8>) -> Checked
     ensures { Checks route.now class bytes.items result }
 {
@@ -35,6 +35,7 @@ pub fn check(alloc: Global, route: &Route, class: Option<Kind>, bytes: Vec<u8>) 
         (Route::Section(id, name), Some(kind)) => check_section(alloc, kind, id, name, bytes),
         (Route::Section(_, _), None) => Checked::Refused,
         (Route::Source(_, _), _) => Checked::Passed(Passed::Source(bytes)),
+        (Route::Metrics, _) => Checked::Refused,
     }
 }
 

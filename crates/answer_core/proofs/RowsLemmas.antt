@@ -8,7 +8,7 @@ use Rattle.row_types.specs.declared.identity.Kind.{Kind}
 use Rattle.row_types.specs.declared.identity.Kind.TheVariants as kind
 use Rattle.answer_check.specs.Certified.{IsCertified}
 use Rattle.webapi_routes.specs.declared.route.Route.{Route}
-use Rattle.webapi_routes.specs.declared.route.Route.TheVariants.{Debuginfo, Executable, Source, Section}
+use Rattle.webapi_routes.specs.declared.route.Route.TheVariants.{Debuginfo, Executable, Source, Section, Metrics}
 use Rattle.answer_core.specs.Candidates.{as_class, candidates, is_in_one, is_source_listed, of_class, source_in}
 use Rattle.answer_core.specs.Complete.{HasToFind, IsSourceThere, IsThere, IsToldWorld, NoneIsThere, SomeWouldPass, WouldPass}
 use Rattle.answer_core.specs.Loads.{Hand, NonePasses}
@@ -88,6 +88,7 @@ has_to_find hand folders (Executable id) rows row world sound in_ there =
     of_class_has hand (Executable id) kind.Executable id rows row in_ there.is
     (would_pass hand (Executable id) kind.Executable id row world sound there (λ bytes known certified. certified))
 has_to_find hand folders (Source id path) rows row world sound in_ there = source_has hand folders id path rows row in_ there
+has_to_find hand folders Metrics rows row world sound in_ there = absurd there
 has_to_find hand folders (Section id name) rows row world sound in_ has =
     by_case has.class has.there (would_pass hand (Section id name) has.class id row world sound has.there
     (λ bytes known certified. (

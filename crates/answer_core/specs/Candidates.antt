@@ -7,7 +7,7 @@ use Rattle.row_types.specs.declared.identity.Kind.{Kind}
 use Rattle.row_types.specs.declared.identity.Kind.TheVariants as kind
 use Rattle.index_rows.specs.Classes.{has_class, lists_source}
 use Rattle.webapi_routes.specs.declared.route.Route.{Route}
-use Rattle.webapi_routes.specs.declared.route.Route.TheVariants.{Debuginfo, Executable, Source, Section}
+use Rattle.webapi_routes.specs.declared.route.Route.TheVariants.{Debuginfo, Executable, Source, Section, Metrics}
 use Rattle.answer_core.specs.declared.candidate.Candidate.{Candidate}
 
 -- the file of a row, as one of this class
@@ -36,9 +36,10 @@ source_in rows folders id path =
     if is_source_listed rows id path && is_in_one folders path then as_source path ∷ [] else []
 
 -- the files that may answer a route, in the order in which they are tried: for a section those with debug information
--- come before those with code
+-- come before those with code; the counters have none
 abbrev pub candidates : List RowFacts → List (List ℕ) → Route → List Candidate
 candidates rows folders (Debuginfo id) = of_class rows id kind.Debuginfo
 candidates rows folders (Executable id) = of_class rows id kind.Executable
 candidates rows folders (Section id name) = of_class rows id kind.Debuginfo ++ of_class rows id kind.Executable
 candidates rows folders (Source id path) = source_in rows folders id path
+candidates rows folders Metrics = []

@@ -11,7 +11,7 @@ use Rattle.row_types.specs.declared.limits.TheConstants.{FILE_LIMIT}
 use Rattle.tree_trait.specs.Found.{FoundFacts, Versions}
 use Rattle.tree_trait.specs.Load.{IsAskedFile}
 use Rattle.webapi_routes.specs.declared.route.Route.{Route}
-use Rattle.webapi_routes.specs.declared.route.Route.TheVariants.{Debuginfo, Executable, Source, Section}
+use Rattle.webapi_routes.specs.declared.route.Route.TheVariants.{Debuginfo, Executable, Source, Section, Metrics}
 use Rattle.answer_core.specs.Candidates.{is_in_one}
 use Rattle.answer_core.specs.Loads.{Hand}
 use Rattle.answer_core.specs.Local.{AreCandidatesAt, Sight}
@@ -64,6 +64,7 @@ HasToFind hand folders (Debuginfo id) row = IsThere hand kind.Debuginfo id row
 HasToFind hand folders (Executable id) row = IsThere hand kind.Executable id row
 HasToFind hand folders (Section id name) row = IsThereWith hand id name row
 HasToFind hand folders (Source id path) row = IsSourceThere hand folders id path row
+HasToFind hand folders Metrics row = ⊥
 
 -- the candidates of the route at the log that was seen, none of which is there and would pass; in a told world no row by
 -- which something has to be found

@@ -1,9 +1,10 @@
 //! The local answer.
 
-ghost use Rattle.std.specs.Prelude.{◌≡◌, ◌<◌, length, slice_index_or};
+ghost use Rattle.std.specs.Prelude.{◌≡◌, ◌≢◌, ◌<◌, length, slice_index_or};
 ghost use Rattle.answer_core.specs.Local.{AnswersRoute, AnswersFrom, IsGiven};
 ghost use Rattle.index_lock.specs.Tokens.{IsLater};
 ghost use Rattle.answer_core.specs.declared.candidate.Candidate.{Candidate};
+ghost use Rattle.webapi_routes.specs.declared.route.Route.TheVariants.{Metrics};
 
 use crate::attempts::{Outcome, try_all};
 use crate::candidate::Candidate;
@@ -63,10 +64,10 @@ pub enum Local {
     OutOfMemory,
 }
 
-/// Answers a route from the index and the hand. The lock is taken once, to pick the candidates,
-/// and left before the first of them is loaded. They are loaded in path order, for a section those
-/// with debug information first, and the first that passes is taken. The gate is passed before each
-/// load.
+/// Answers a route of a build-id from the index and the hand. The lock is taken once, to pick the
+/// candidates, and left before the first of them is loaded. They are loaded in path order, for a
+/// section those with debug information first, and the first that passes is taken. The gate is
+/// passed before each load.
 pub fn answer_local<W: Truth, K: Keeper<W>, T: Tree<W>, G: Gate, R: Wait + Sync>(
     rt: &R,
     alloc: Global,
@@ -77,7 +78,8 @@ pub fn answer_local<W: Truth, K: Keeper<W>, T: Tree<W>, G: Gate, R: Wait + Sync>
     folders: &[CanonPath],
     gate: &G,
 ) -> (Seat<State<W, K>>, Local)
-    requires { seat.lock ≡ lock.now }
+    requires lock { seat.lock ≡ lock.now }
+    requires route { route.now ≢ Metrics }
     ensures later { IsLater seat result.0 }
     ensures answer { AnswersRoute W.true_row result.0.seen folders.now
         (record { told = T.told; version = W.version; start = T.shows hand.old })

@@ -80,6 +80,7 @@ fn candidates<W: Truth, K: Keeper<W>>(
         Route::Executable(id) => of_class(alloc, index, id, Kind::Executable),
         Route::Section(id, _) => of_both(alloc, index, id),
         Route::Source(id, path) => of_source(alloc, index, id, path, folders),
+        Route::Metrics => Ok(Vec::new(alloc)),
     }
 }
 

@@ -5,7 +5,7 @@ use Rattle.file_formats.specs.Table.{IsSectionAnswer}
 use Rattle.row_types.specs.declared.identity.Kind.{Kind}
 use Rattle.row_types.specs.declared.identity.Kind.TheVariants as kind
 use Rattle.webapi_routes.specs.declared.route.Route.{Route}
-use Rattle.webapi_routes.specs.declared.route.Route.TheVariants.{Debuginfo, Executable, Source, Section}
+use Rattle.webapi_routes.specs.declared.route.Route.TheVariants.{Debuginfo, Executable, Source, Section, Metrics}
 use Rattle.answer_core.specs.Local.{IsLocal, Sight}
 use Rattle.answer_check.specs.Section.{FileSectionFacts}
 use Rattle.answer_core.specs.declared.local.Local.{Local}
@@ -35,6 +35,7 @@ carries_local sight (Executable id) (local.File from path n) why body file l p s
 carries_local sight (Executable id) (local.Section from path n) why body file l p s = absurd l.0.are.first.passes.gives
 carries_local sight (Executable id) (local.Source bytes path n) why body file l p s = absurd l.0.are.first.passes.gives
 carries_local sight (Source id source) answer why body file l p s = tt
+carries_local sight Metrics answer why body file l p s = tt
 carries_local sight (Section id name) (local.File from path n) why body file l p s =
     by_class l.0.are.first.one.class refl
   where

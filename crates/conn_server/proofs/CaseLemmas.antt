@@ -4,11 +4,16 @@ use Rattle.index_rows.specs.declared.change.Change.{Change}
 use Rattle.tree_trait.specs.Heard.{Heard}
 use Rattle.webapi_routes.specs.declared.fault.RouteFault.{RouteFault}
 use Rattle.webapi_routes.specs.declared.fault.RouteFault.TheVariants as route_fault
+use Rattle.webapi_routes.specs.declared.route.Route.{Route}
+use Rattle.webapi_routes.specs.declared.route.Route.TheVariants.{Debuginfo, Executable, Source, Section, Metrics}
+use Rattle.answer_core.specs.Local.{IsLocal, Sight}
+use Rattle.answer_core.specs.declared.local.Local.{Local}
 use Rattle.answer_core.specs.declared.local.Local.TheVariants as local
 use Rattle.answer_core.proofs.RowsLemmas.{none_is_there}
 use Rattle.conn_server.specs.Asked.{IsAsked, Request}
-use Rattle.conn_server.specs.Cases.{IsCase, bad_head, too_long, too_many, method, has_body, no_route, passed, read_fault, not_found, no_memory}
-use Rattle.conn_server.specs.Lawful.{Carries, EarnsText, IsEarned}
+use Rattle.dbgd_metrics.specs.Shares.{ShareFacts}
+use Rattle.conn_server.specs.Cases.{IsCase, IsFileRoute, bad_head, too_long, too_many, method, has_body, no_route, metrics, no_page, passed, read_fault, not_found, no_memory}
+use Rattle.conn_server.specs.Lawful.{Carries, EarnsText, IsEarned, RestsOn}
 use Rattle.conn_server.specs.PassedOver.{FindsAll}
 use Rattle.conn_server.specs.Replies.{Shows, reason_of_route}
 use Rattle.conn_server.specs.Scene.{Scene, Stand, hand_at, sight_at}
@@ -29,10 +34,19 @@ no_fault route_fault.BadId e = absurd (cc)
 no_fault route_fault.BadPath e = absurd (cc)
 no_fault route_fault.OutOfMemory e = absurd (cc)
 
-module _ {T : Type 0} (scene : Scene T) (at : Stand T) (log : List Change) (request : Request) where
+-- the local answer to a route of files
+rests_on : (sight : Sight) (route : Route) (answer : Local) → IsFileRoute route → IsLocal sight route answer
+    → RestsOn sight (asked.Route route) answer
+rests_on sight (Debuginfo id) answer files rests = rests
+rests_on sight (Executable id) answer files rests = rests
+rests_on sight (Source id path) answer files rests = rests
+rests_on sight (Section id name) answer files rests = rests
+rests_on sight Metrics answer files rests = absurd files
+
+module _ {T : Type 0} (scene : Scene T) (at : Stand T) (own noted : ShareFacts) (log : List Change) (request : Request) where
   -- what is carried can be written
   pub can_send : {what : given.Asked} {why : Reason} {n : ℕ} {carried : Body} {answers : List Heard}
-      → IsCase scene at log request what why n carried answers → CanCarry carried
+      → IsCase scene at own noted log request what why n carried answers → CanCarry carried
   can_send (bad_head len e) = tt
   can_send (too_long e) = tt
   can_send (too_many e) = tt
@@ -42,11 +56,13 @@ module _ {T : Type 0} (scene : Scene T) (at : Stand T) (log : List Change) (requ
   can_send (passed head route answer heard e asks file rests is) = is
   can_send (read_fault head route m heard e asks file rests) = tt
   can_send (not_found head route m heard e asks file rests) = tt
-  can_send (no_memory head route heard e asks) = tt
+  can_send (no_memory head route heard e asks files) = tt
+  can_send (metrics head text e asks page) = tt
+  can_send (no_page head e asks) = tt
 
   -- a body that passed is certified for what is asked
   pub carries : {what : given.Asked} {why : Reason} {n : ℕ} {carried : Body} {answers : List Heard} (bytes : List ℕ)
-      (file : Option (List ℕ)) → IsCase scene at log request what why n carried answers → Shows why carried bytes file
+      (file : Option (List ℕ)) → IsCase scene at own noted log request what why n carried answers → Shows why carried bytes file
       → why ≡ reason.Local → Carries what bytes
   carries bytes file (bad_head len e) shows is = tt
   carries bytes file (too_long e) shows is = tt
@@ -58,11 +74,13 @@ module _ {T : Type 0} (scene : Scene T) (at : Stand T) (log : List Change) (requ
       carries_local (sight_at scene at log heard) route answer reason.Local bytes file rests is_passed shows
   carries bytes file (read_fault head route m heard e asks routed rests) shows is = absurd (cc)
   carries bytes file (not_found head route m heard e asks routed rests) shows is = absurd (cc)
-  carries bytes file (no_memory head route heard e asks) shows is = absurd (cc)
+  carries bytes file (no_memory head route heard e asks files) shows is = absurd (cc)
+  carries bytes file (metrics head text e asks page) shows is = absurd (cc)
+  carries bytes file (no_page head e asks) shows is = absurd (cc)
 
   -- no candidate is passed over
   pub finds_all : {what : given.Asked} {why : Reason} {n : ℕ} {carried : Body} {answers : List Heard}
-      → IsCase scene at log request what why n carried answers → FindsAll (sight_at scene at log answers) what why
+      → IsCase scene at own noted log request what why n carried answers → FindsAll (sight_at scene at log answers) what why
   finds_all (bad_head len e) told still = tt
   finds_all (too_long e) told still = tt
   finds_all (too_many e) told still = tt
@@ -73,11 +91,13 @@ module _ {T : Type 0} (scene : Scene T) (at : Stand T) (log : List Change) (requ
   finds_all (read_fault head route m heard e asks file rests) told still = tt
   finds_all (not_found head route m heard e asks file rests) told still =
       none_is_there (sight_at scene at log heard) route rests.0.all rests.0.stood told still rests.0.are
-  finds_all (no_memory head route heard e asks) told still = tt
+  finds_all (no_memory head route heard e asks files) told still = tt
+  finds_all (metrics head text e asks page) told still = tt
+  finds_all (no_page head e asks) told still = tt
 
   -- what is asked is what the request asks
   pub asked_of : {what : given.Asked} {why : Reason} {n : ℕ} {carried : Body} {answers : List Heard}
-      → IsCase scene at log request what why n carried answers → IsAsked request what
+      → IsCase scene at own noted log request what why n carried answers → IsAsked request what
   asked_of (bad_head len e) = rw e refl
   asked_of (too_long e) = rw e refl
   asked_of (too_many e) = rw e refl
@@ -87,7 +107,9 @@ module _ {T : Type 0} (scene : Scene T) (at : Stand T) (log : List Change) (requ
   asked_of (passed head route answer heard e asks file rests is) = rw e (asks.taken, asks.says)
   asked_of (read_fault head route m heard e asks file rests) = rw e (asks.taken, asks.says)
   asked_of (not_found head route m heard e asks file rests) = rw e (asks.taken, asks.says)
-  asked_of (no_memory head route heard e asks) = rw e (asks.taken, asks.says)
+  asked_of (no_memory head route heard e asks files) = rw e (asks.taken, asks.says)
+  asked_of (metrics head text e asks page) = rw e (asks.taken, asks.says)
+  asked_of (no_page head e asks) = rw e (asks.taken, asks.says)
 
   earns_fault : (fault : RouteFault) → EarnsText (asked.NotRoute fault) local.OutOfMemory (reason_of_route fault) 0
   earns_fault route_fault.BadEscape = refl
@@ -96,9 +118,9 @@ module _ {T : Type 0} (scene : Scene T) (at : Stand T) (log : List Change) (requ
   earns_fault route_fault.BadPath = refl
   earns_fault route_fault.OutOfMemory = refl
 
-  -- the local answer earns it
+  -- the local answer earns it, or the own share does
   pub earned_of : {what : given.Asked} {why : Reason} {n : ℕ} {carried : Body} {answers : List Heard}
-      → IsCase scene at log request what why n carried answers → IsEarned (sight_at scene at log answers) what why carried n
+      → IsCase scene at own noted log request what why n carried answers → IsEarned scene.rows own noted (sight_at scene at log answers) what why carried n
   earned_of (bad_head len e) = record { answer = local.OutOfMemory; rests = refl; earns = refl }
   earned_of (too_long e) = record { answer = local.OutOfMemory; rests = refl; earns = refl }
   earned_of (too_many e) = record { answer = local.OutOfMemory; rests = refl; earns = refl }
@@ -110,21 +132,30 @@ module _ {T : Type 0} (scene : Scene T) (at : Stand T) (log : List Change) (requ
       record { answer = local.OutOfMemory; rests = refl; earns = earns_fault fault }
   earned_of (passed head route answer heard e asks file rests is) = record {
     answer = answer;
-    rests = rests;
-    earns = record { route = tt; local = refl; is = is; answered = refl; at = refl };
+    rests = rests_on (sight_at scene at log heard) route answer file rests;
+    earns = record { files = file; local = refl; is = is; answered = refl; at = refl };
   }
   earned_of (read_fault head route m heard e asks file rests) =
-      record { answer = local.Fault m; rests = rests; earns = refl }
+      record { answer = local.Fault m; rests = rests_on (sight_at scene at log heard) route (local.Fault m) file rests; earns = (file, refl) }
   earned_of (not_found head route m heard e asks file rests) =
-      record { answer = local.Nothing m; rests = rests; earns = refl }
-  earned_of (no_memory head route heard e asks) =
-      record { answer = local.OutOfMemory; rests = tt; earns = (refl, refl) }
+      record { answer = local.Nothing m; rests = rests_on (sight_at scene at log heard) route (local.Nothing m) file rests; earns = (file, refl) }
+  earned_of (no_memory head route heard e asks files) = record {
+    answer = local.OutOfMemory;
+    rests = rests_on (sight_at scene at log heard) route local.OutOfMemory files tt;
+    earns = (refl, refl);
+  }
+  earned_of (metrics head text e asks page) = record {
+    answer = local.OutOfMemory;
+    rests = refl;
+    earns = record { asks = refl; page = refl; at = refl; is = page };
+  }
+  earned_of (no_page head e asks) = record { answer = local.OutOfMemory; rests = refl; earns = (refl, refl) }
 
 -- the same case, as seen from an earlier stand
 pub case_at : {T : Type 0} (scene : Scene T) (a b : Stand T) → StillTo (hand_at scene a) (scene.shows b.hand)
-    → (log : List Change) {request : Request} {what : given.Asked} {why : Reason} {n : ℕ} {carried : Body}
-    {answers : List Heard} → IsCase scene b log request what why n carried answers
-    → IsCase scene a log request what why n carried answers
+    → (log : List Change) {own noted : ShareFacts} {request : Request} {what : given.Asked} {why : Reason} {n : ℕ} {carried : Body}
+    {answers : List Heard} → IsCase scene b own noted log request what why n carried answers
+    → IsCase scene a own noted log request what why n carried answers
 case_at scene a b keeps log (bad_head len e) = bad_head len e
 case_at scene a b keeps log (too_long e) = too_long e
 case_at scene a b keeps log (too_many e) = too_many e
@@ -137,5 +168,7 @@ case_at scene a b keeps log (read_fault head route m heard e asks file rests) =
     read_fault head route m heard e asks file (local_at scene a b keeps log heard route (local.Fault m) rests)
 case_at scene a b keeps log (not_found head route m heard e asks file rests) =
     not_found head route m heard e asks file (local_at scene a b keeps log heard route (local.Nothing m) rests)
-case_at scene a b keeps log (no_memory head route heard e asks) =
-    no_memory head route heard e asks
+case_at scene a b keeps log (no_memory head route heard e asks files) =
+    no_memory head route heard e asks files
+case_at scene a b keeps log (metrics head text e asks page) = metrics head text e asks page
+case_at scene a b keeps log (no_page head e asks) = no_page head e asks

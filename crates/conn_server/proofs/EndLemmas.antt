@@ -8,6 +8,7 @@ use Rattle.tree_trait.specs.Heard.{Heard}
 use Rattle.http_wire.specs.Stream.{ShownStream}
 use Rattle.conn_server.specs.Asked.{HeadFacts, Request, closes_after, readable, refused}
 use Rattle.conn_server.specs.Connection.{EndsConnection, GoOn, LastCloses, ExchangesRow, Serves, ServesAll, fresh_wire, is_last_request, more, none}
+use Rattle.conn_server.specs.Tallied.{TalliesServed}
 use Rattle.conn_server.specs.Exchange.{Exchange}
 use Rattle.conn_server.specs.Scene.{Scene, Stand, Wire}
 use Rattle.conn_server.specs.Turns.{ClosesConnection, EndsBehind, Exchanges, GoesOnBehind, Stops, StopsFor, Turns, end_of_head}
@@ -17,6 +18,7 @@ use Rattle.conn_server.specs.declared.report.ConnEnd.TheVariants as end
 use Rattle.conn_server.specs.declared.report.ConnReport.{ConnReport}
 use Rattle.conn_server.specs.declared.report.Served.{Served}
 use Rattle.conn_server.specs.declared.turn.Turn.{Turn}
+use Rattle.conn_server.proofs.CountLemmas.{notes_none, tallies_notes, told_tallies}
 use Rattle.conn_server.proofs.JoinLemmas.{flat_leaves, flat_row, goes_more, leaves_none}
 
 -- these requests were answered, and the connection goes on
@@ -97,6 +99,8 @@ module _ {T : Type 0} (scene : Scene T) (a : Stand T) (v : Wire) (told : List Se
           part = [];
           leaves = leaves_none scene c u;
           flat = flat_row (base.xs ++ x ∷ []) c u row;
+          tallies = told_tallies (base.xs ++ x ∷ []) report.served.items c.share (told_more x served at.one.told ∙ sym items) row
+              (notes_none c.share);
           ends = subst (λ (e : ConnEnd). EndsConnection scene a v e (base.xs ++ x ∷ []) c [] [] c u) (sym is)
               (by_request x u at.one.ends x.request refl at.cause);
         },
@@ -157,6 +161,7 @@ module _ {T : Type 0} (scene : Scene T) (a : Stand T) (v : Wire) (told : List Se
           part = at.part;
           leaves = at.leaves;
           flat = flat_leaves (flat_row base.xs b w base.row) at.leaves;
+          tallies = told_tallies base.xs report.served.items c.share (base.told_is ∙ sym items) base.row at.leaves.share;
           ends = subst (λ (e : ConnEnd). EndsConnection scene a v e base.xs b at.rest at.part c u) (sym is)
               (by_why u at.rest at.part why at.cause);
         },
@@ -198,6 +203,8 @@ ends_at_once {T} scene a before report nothing is = (
     part = [];
     leaves = leaves_none scene a (fresh_wire before);
     flat = flat_row [] a (fresh_wire before) none;
+    tallies = subst (λ (told : List Served). TalliesServed told a.share a.share) (sym nothing)
+        (tallies_notes a.share a.share (notes_none a.share));
     ends = subst (λ (why : ConnEnd). EndsConnection scene a (fresh_wire before) why [] a [] [] a (fresh_wire before)) (sym is)
         (tt, refl, inl (record { none = refl; stands = refl; stays = refl }));
   },

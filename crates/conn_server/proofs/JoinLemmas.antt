@@ -24,6 +24,7 @@ use Rattle.conn_server.specs.Scene.{Scene, Stand, Wire, hand_at}
 use Rattle.conn_server.specs.declared.reason.Reason.{Reason}
 use Rattle.conn_server.specs.declared.reason.Reason.TheVariants as reason
 use Rattle.conn_server.proofs.CaseLemmas.{case_at, finds_all}
+use Rattle.conn_server.proofs.CountLemmas.{notes_none}
 use Rattle.conn_server.proofs.SinceLemmas.{StillTo, since}
 
 -- Places and logs
@@ -92,6 +93,7 @@ hears_append hand now later a b first second = record {
 is_fault_of : (why : Reason) → says_read_fault why ≡ true → why ≡ reason.ReadFault
 is_fault_of reason.ReadFault e = refl
 is_fault_of reason.Local e = absurd (false≢true e)
+is_fault_of reason.Metrics e = absurd (false≢true e)
 is_fault_of reason.BadHead e = absurd (false≢true e)
 is_fault_of reason.TooLarge e = absurd (false≢true e)
 is_fault_of reason.Method e = absurd (false≢true e)
@@ -188,7 +190,7 @@ pub exchange_at : {T : Type 0} (scene : Scene T) (last : Bool) (a b : Stand T) (
 exchange_at scene last a b x keeps is =
     let case_ = case_at scene a b keeps x.log is.lawful.is in record {
       lawful = record { carried = is.lawful.carried; is = case_; replied = is.lawful.replied };
-      complete = finds_all scene a x.log x.request case_;
+      complete = finds_all scene a x.own x.noted x.log x.request case_;
       fronts = is.fronts;
     }
 
@@ -251,7 +253,8 @@ flat_leaves {T} {scene} {a} {b} {c} {v} {w} {u} {xs} {rest} {part} row leaves = 
 }
 
 pub leaves_none : {T : Type 0} (scene : Scene T) (a : Stand T) (v : Wire) → LeavesUnanswered scene [] [] a v a v
-leaves_none scene a v = record { log = prefix_self a.log; hand = hears_none (hand_at scene a); moves = moves_none v }
+leaves_none scene a v =
+    record { log = prefix_self a.log; hand = hears_none (hand_at scene a); share = notes_none a.share; moves = moves_none v }
 
 -- of a row all of them follow
 pub flat_row : {T : Type 0} {scene : Scene T} {a : Stand T} {v : Wire} (xs : List Exchange) (b : Stand T) (w : Wire)

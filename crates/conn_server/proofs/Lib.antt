@@ -1,5 +1,6 @@
 mod CarriesLemmas
 pub mod CaseLemmas
+pub mod CountLemmas
 mod DecideLemmas
 mod EndLemmas
 pub mod JoinLemmas

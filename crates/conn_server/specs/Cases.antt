@@ -1,6 +1,7 @@
 -- The table of lawful replies (this project's rule): for what is asked, why it may be answered so. A constructor is a line, in
 -- the order in which they are looked for; a further case is one line more. `507` may stand for each reply from the route on.
-use Rattle.std.specs.Prelude.{◌≡◌, ℕ, true, false, List, [], Err}
+use Rattle.std.specs.Prelude.{◌≡◌, ℕ, true, false, List, [], Err, String, string_bytes}
+use Rattle.std.specs.Global.{Global}
 use Rattle.index_rows.specs.declared.change.Change.{Change}
 use Rattle.tree_trait.specs.Heard.{Heard}
 use Rattle.http_wire.specs.declared.head.HeadFault.TheVariants as head_fault
@@ -11,6 +12,8 @@ use Rattle.webapi_routes.specs.declared.route.Route.TheVariants as route
 use Rattle.answer_core.specs.Local.{IsLocal}
 use Rattle.answer_core.specs.declared.local.Local.{Local}
 use Rattle.answer_core.specs.declared.local.Local.TheVariants as local
+use Rattle.dbgd_metrics.specs.Shares.{ShareFacts}
+use Rattle.dbgd_metrics.specs.Totals.{IsPage}
 use Rattle.conn_server.specs.Asked.{AsksForRoute, HeadFacts, IsTaken, Request, is_served, readable, refused}
 use Rattle.conn_server.specs.Replies.{reason_of_route}
 use Rattle.conn_server.specs.Scene.{Scene, Stand, sight_at}
@@ -43,31 +46,39 @@ IsFileRoute (route.Debuginfo id) = Unit {0}
 IsFileRoute (route.Executable id) = Unit {0}
 IsFileRoute (route.Section id name) = Unit {0}
 IsFileRoute (route.Source id path) = Unit {0}
+IsFileRoute route.Metrics = ⊥
 
--- what is asked, the reason of the reply, its generation, what it carries, and what the hand was asked and answered for it
-pub data IsCase {T : Type 0} (scene : Scene T) (at : Stand T) (log : List Change) (request : Request)
+-- what is asked, the reason of the reply, its generation, what it carries, and what the hand was asked and answered for it;
+-- the page of the counters is by the own share as it was then, and by the loads that it has noted behind it
+pub data IsCase {T : Type 0} (scene : Scene T) (at : Stand T) (own noted : ShareFacts) (log : List Change) (request : Request)
     : declared.Asked → Reason → ℕ → Body → List Heard → Type 0 where
   bad_head : (len : ℕ) → request ≡ refused (head_fault.Bad len)
-      → IsCase scene at log request (asked.Head (head_fault.Bad len)) reason.BadHead 0 bodies.Line []
+      → IsCase scene at own noted log request (asked.Head (head_fault.Bad len)) reason.BadHead 0 bodies.Line []
   too_long : request ≡ refused head_fault.TooLong
-      → IsCase scene at log request (asked.Head head_fault.TooLong) reason.TooLarge 0 bodies.Line []
+      → IsCase scene at own noted log request (asked.Head head_fault.TooLong) reason.TooLarge 0 bodies.Line []
   too_many : request ≡ refused head_fault.TooMany
-      → IsCase scene at log request (asked.Head head_fault.TooMany) reason.TooLarge 0 bodies.Line []
+      → IsCase scene at own noted log request (asked.Head head_fault.TooMany) reason.TooLarge 0 bodies.Line []
   method : (head : HeadFacts) → request ≡ readable head → is_served head.method ≡ false
-      → IsCase scene at log request asked.Method reason.Method 0 bodies.Line []
+      → IsCase scene at own noted log request asked.Method reason.Method 0 bodies.Line []
   has_body : (head : HeadFacts) → request ≡ readable head → is_served head.method ≡ true → head.body ≡ true
-      → IsCase scene at log request asked.Body reason.Body 0 bodies.Line []
+      → IsCase scene at own noted log request asked.Body reason.Body 0 bodies.Line []
   no_route : (head : HeadFacts) (fault : RouteFault) → request ≡ readable head → IsTaken head
       → IsSaidBy head.target (Err fault)
-      → IsCase scene at log request (asked.NotRoute fault) (reason_of_route fault) 0 bodies.Line []
+      → IsCase scene at own noted log request (asked.NotRoute fault) (reason_of_route fault) 0 bodies.Line []
+  metrics : (head : HeadFacts) (text : String Global) → request ≡ readable head → AsksForRoute head route.Metrics
+      → IsPage scene.rows own noted (string_bytes text)
+      → IsCase scene at own noted log request (asked.Route route.Metrics) reason.Metrics 0 (bodies.Page text) []
+  no_page : (head : HeadFacts) → request ≡ readable head → AsksForRoute head route.Metrics
+      → IsCase scene at own noted log request (asked.Route route.Metrics) reason.OutOfMemory 0 bodies.Line []
   passed : (head : HeadFacts) (route : Route) (answer : Local) (answers : List Heard) → request ≡ readable head
       → AsksForRoute head route → IsFileRoute route → IsLocal (sight_at scene at log answers) route answer → IsPassed answer
-      → IsCase scene at log request (asked.Route route) reason.Local (generation_of answer) (bodies.Found answer) answers
+      → IsCase scene at own noted log request (asked.Route route) reason.Local (generation_of answer) (bodies.Found answer) answers
   read_fault : (head : HeadFacts) (route : Route) (n : ℕ) (answers : List Heard) → request ≡ readable head
       → AsksForRoute head route → IsFileRoute route → IsLocal (sight_at scene at log answers) route (local.Fault n)
-      → IsCase scene at log request (asked.Route route) reason.ReadFault n bodies.Line answers
+      → IsCase scene at own noted log request (asked.Route route) reason.ReadFault n bodies.Line answers
   not_found : (head : HeadFacts) (route : Route) (n : ℕ) (answers : List Heard) → request ≡ readable head
       → AsksForRoute head route → IsFileRoute route → IsLocal (sight_at scene at log answers) route (local.Nothing n)
-      → IsCase scene at log request (asked.Route route) reason.NotFound n bodies.Line answers
+      → IsCase scene at own noted log request (asked.Route route) reason.NotFound n bodies.Line answers
   no_memory : (head : HeadFacts) (route : Route) (answers : List Heard) → request ≡ readable head → AsksForRoute head route
-      → IsCase scene at log request (asked.Route route) reason.OutOfMemory 0 bodies.Line answers
+      → IsFileRoute route
+      → IsCase scene at own noted log request (asked.Route route) reason.OutOfMemory 0 bodies.Line answers

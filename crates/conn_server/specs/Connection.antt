@@ -12,6 +12,7 @@ use Rattle.http_wire.specs.declared.head.HeadFault.{HeadFault}
 use Rattle.http_wire.specs.declared.head.HeadFault.TheVariants.{Cut}
 use Rattle.answer_core.specs.Loads.{Hears}
 use Rattle.conn_server.specs.Asked.{HeadFacts, Request, closes_after, readable, refused}
+use Rattle.conn_server.specs.Tallied.{TalliesServed}
 use Rattle.conn_server.specs.Exchange.{Exchange, IsReplyDue, IsExchange, IsPartWritten, LeadsByExchange, LeavesUnanswered, Moves, NoMore}
 use Rattle.conn_server.specs.Replies.{says_read_fault}
 use Rattle.conn_server.specs.Scene.{Scene, Stand, Wire, hand_at}
@@ -97,11 +98,12 @@ EndsConnection scene a v end.Limit xs at rest part b w = (length xs ≡ REQUESTS
 EndsConnection scene a v end.ReadFault xs at rest part b w =
     GoOn 0 xs × NoMore rest part × Rose v.stream.read_faults w.stream.read_faults
 EndsConnection scene a v end.WriteFault xs at rest part b w =
-    GoOn 0 xs × IsPartWritten scene (is_last_request (length xs)) at rest part b.log w × Rose v.stream.write_faults w.stream.write_faults
+    GoOn 0 xs × IsPartWritten scene (is_last_request (length xs)) at rest part b.log b.share w × Rose v.stream.write_faults w.stream.write_faults
 EndsConnection scene a v end.OutOfMemory xs at rest part b w =
-    GoOn 0 xs × (part ≡ []) × (IsConnectionUntouched a v xs b w ⊎ IsReplyDue scene (is_last_request (length xs)) at rest b.log w)
+    GoOn 0 xs × (part ≡ []) × (IsConnectionUntouched a v xs b w ⊎ IsReplyDue scene (is_last_request (length xs)) at rest b.log b.share w)
 
--- a connection from its first moment to its last: the requests that were answered, what is told of them, and how it ended
+-- a connection from its first moment to its last: the requests that were answered, what is told and counted of them, and how it
+-- ended
 pub record ServesAll
     {T : Type 0} (scene : Scene T) (a : Stand T) (v : Wire) (report : ConnReport) (b : Stand T) (w : Wire) : Type 0 where
   pub xs : List Exchange
@@ -113,6 +115,7 @@ pub record ServesAll
   pub part : List ℕ
   pub leaves : LeavesUnanswered scene rest part at held_at b w
   pub flat : IsRow scene a v xs rest part b w
+  pub tallies : TalliesServed report.served.items a.share b.share
   pub ends : EndsConnection scene a v report.end xs at rest part b w
 
 -- before the first read nothing is held

@@ -8,7 +8,10 @@ use Rattle.http_wire.specs.Heads.{IsServed, RefusesAsHead}
 use Rattle.http_wire.specs.Sink.{Appends}
 use Rattle.http_wire.specs.Source.{ComesFrom}
 use Rattle.answer_core.specs.Loads.{Hears}
+use Rattle.dbgd_metrics.specs.Shares.{ShareFacts}
+use Rattle.dbgd_metrics.specs.Totals.{OnlyNotes}
 use Rattle.conn_server.specs.Asked.{HeadFacts, Request, head_facts, readable, refused}
+use Rattle.conn_server.specs.Tallied.{CountsRequest}
 use Rattle.conn_server.specs.Lawful.{IsLawful}
 use Rattle.conn_server.specs.PassedOver.{FindsAll}
 use Rattle.conn_server.specs.Scene.{Scene, Stand, Wire, hand_at, sight_at}
@@ -16,7 +19,7 @@ use Rattle.conn_server.specs.declared.reason.Reason.TheVariants as reason
 use Rattle.conn_server.specs.declared.report.Served.{Served}
 
 -- one request with its reply: the bytes of its head, what is told of it, the bytes of the reply, what the hand was asked for
--- it and answered, and the log that the token had seen behind it
+-- it and answered, the log that the token had seen behind it, and the share before the request was decided and behind that
 pub record Exchange : Type 0 where
   pub request : Request
   pub front : List ℕ
@@ -24,6 +27,8 @@ pub record Exchange : Type 0 where
   pub bytes : List ℕ
   pub answers : List Heard
   pub log : List Change
+  pub own : ShareFacts
+  pub noted : ShareFacts
 
 -- the bytes are those of a head that is served, and that says this
 pub record IsHeadThatSays (facts : HeadFacts) (front : List ℕ) : Type 0 where
@@ -40,7 +45,7 @@ IsFrontOf (refused fault) front = front ≡ []
 -- the exchange is lawful by the objects as they stood, passes over no candidate, and its head is that of its request; it may be
 -- the last that a connection has
 pub record IsExchange {T : Type 0} (scene : Scene T) (last : Bool) (at : Stand T) (x : Exchange) : Type 0 where
-  pub lawful : IsLawful scene at x.log x.answers x.request last x.served x.bytes
+  pub lawful : IsLawful scene at x.own x.noted x.log x.answers x.request last x.served x.bytes
   pub complete : FindsAll (sight_at scene at x.log x.answers) x.served.asked x.served.reason
   pub fronts : IsFrontOf x.request x.front
 
@@ -49,6 +54,8 @@ pub record LeadsByExchange {T : Type 0} (scene : Scene T) (x : Exchange) (a b : 
   pub log : IsPrefix a.log b.log
   pub seen : x.log ≡ b.log
   pub hand : Hears (hand_at scene a) (scene.shows b.hand) x.answers (x.served.reason ≡ reason.ReadFault)
+  pub own : x.own ≡ a.share
+  pub share : CountsRequest x.served a.share x.noted b.share
 
 -- these bytes were in front of what was held and came, and those were written
 pub record Moves (front bytes : List ℕ) (a b : Wire) : Type 0 where
@@ -59,11 +66,12 @@ pub record Moves (front bytes : List ℕ) (a b : Wire) : Type 0 where
   pub read_faults : a.stream.read_faults ≤ b.stream.read_faults
   pub write_faults : a.stream.write_faults ≤ b.stream.write_faults
 
--- without a whole reply this was heard, came and was written
+-- without a whole reply this was heard, came and was written, and nothing was counted
 pub record LeavesUnanswered {T : Type 0} (scene : Scene T) (rest : List Heard) (part : List ℕ) (a : Stand T) (v : Wire) (b : Stand T) (w : Wire)
     : Type 0 where
   pub log : IsPrefix a.log b.log
   pub hand : Hears (hand_at scene a) (scene.shows b.hand) rest ⊥
+  pub share : OnlyNotes a.share b.share
   pub moves : Moves [] part v w
 
 -- nothing was heard or written for a further request
@@ -76,21 +84,24 @@ IsWhy (readable head) held left = Unit {0}
 IsWhy (refused fault) held left = RefusesAsHead fault held left
 
 -- a lawful reply to the next request is due: it was decided by what was heard, and its head is in front of what is held
-pub record IsReplyDue {T : Type 0} (scene : Scene T) (last : Bool) (at : Stand T) (rest : List Heard) (log : List Change) (w : Wire)
+pub record IsReplyDue
+    {T : Type 0} (scene : Scene T) (last : Bool) (at : Stand T) (rest : List Heard) (log : List Change) (share : ShareFacts) (w : Wire)
     : Type 0 where
   pub one : Exchange
   pub is : IsExchange scene last at one
   pub heard : one.answers ≡ rest
   pub logged : one.log ≡ log
+  pub own : one.own ≡ at.share
+  pub noted : one.noted ≡ share
   pub behind : List ℕ
   pub held_is : w.held ≡ one.front ++ behind
   pub why : IsWhy one.request w.held w.stream.left
 
 -- a proper part of it was written
 pub record IsPartWritten
-    {T : Type 0} (scene : Scene T) (last : Bool) (at : Stand T) (rest : List Heard) (part : List ℕ) (log : List Change) (w : Wire)
-    : Type 0 where
-  pub due : IsReplyDue scene last at rest log w
+    {T : Type 0} (scene : Scene T) (last : Bool) (at : Stand T) (rest : List Heard) (part : List ℕ) (log : List Change)
+    (share : ShareFacts) (w : Wire) : Type 0 where
+  pub due : IsReplyDue scene last at rest log share w
   pub count : ℕ
   pub proper : count < length due.one.bytes
   pub part_is : part ≡ take count due.one.bytes

@@ -1,5 +1,5 @@
 -- The lawful reply (this project's rule): a case of the table, told and spelled so. Below it stands what follows of every case.
-use Rattle.std.specs.Prelude.{◌≡◌, ℕ, Bool, List, [], length, Option, Some, if◌then◌else◌}
+use Rattle.std.specs.Prelude.{◌≡◌, ℕ, Bool, List, [], length, Option, Some, if◌then◌else◌, string_bytes}
 use Rattle.answer_check.specs.Certified.{IsCertified}
 use Rattle.index_rows.specs.declared.change.Change.{Change}
 use Rattle.row_types.specs.declared.identity.Kind.{Kind}
@@ -12,8 +12,10 @@ use Rattle.file_formats.specs.Table.{IsSectionAnswer}
 use Rattle.answer_core.specs.Local.{IsLocal, Sight}
 use Rattle.answer_core.specs.declared.local.Local.{Local}
 use Rattle.answer_core.specs.declared.local.Local.TheVariants as local
+use Rattle.dbgd_metrics.specs.Shares.{ShareFacts}
+use Rattle.dbgd_metrics.specs.Totals.{IsPage}
 use Rattle.conn_server.specs.Asked.{Request, closes_after, sends_body}
-use Rattle.conn_server.specs.Cases.{IsCase, IsPassed, generation_of}
+use Rattle.conn_server.specs.Cases.{IsCase, IsFileRoute, IsPassed, generation_of}
 use Rattle.conn_server.specs.Replies.{Shows, bytes_of, status_of}
 use Rattle.conn_server.specs.Scene.{Scene, Stand}
 use Rattle.conn_server.specs.declared.body.Body.{Body}
@@ -48,20 +50,22 @@ pub record IsReplied (request : Request) (last : Bool) (served : Served) (bytes 
   pub len : served.len ≡ (if sends_body request then length body else 0)
   pub spelled : bytes ≡ bytes_of served.reason body file (closes_after request last) (sends_body request)
 
--- the reply to a request is lawful: a case of the table, by the hand as it stood and by what it was asked and answered
+-- the reply to a request is lawful: a case of the table, by the hand and the own share as they stood, and by what the hand was
+-- asked and answered
 pub record IsLawful
-    {T : Type 0} (scene : Scene T) (at : Stand T) (log : List Change) (answers : List Heard) (request : Request) (last : Bool)
-    (served : Served) (bytes : List ℕ) : Type 0 where
+    {T : Type 0} (scene : Scene T) (at : Stand T) (own noted : ShareFacts) (log : List Change) (answers : List Heard)
+    (request : Request) (last : Bool) (served : Served) (bytes : List ℕ) : Type 0 where
   pub carried : Body
-  pub is : IsCase scene at log request served.asked served.reason served.gen_ carried answers
+  pub is : IsCase scene at own noted log request served.asked served.reason served.gen_ carried answers
   pub replied : IsReplied request last served bytes carried
 
--- the local answer to a route is this one, by what was seen and heard; where no route is asked the hand isn't either
+-- the local answer to a route of files is this one, by what was seen and heard; where none is asked the hand isn't either
 abbrev pub RestsOn : Sight → declared.Asked → Local → Type 0
+RestsOn sight (asked.Route route.Metrics) answer = sight.answers ≡ []
 RestsOn sight (asked.Route given) answer = IsLocal sight given answer
 RestsOn sight _ answer = sight.answers ≡ []
 
--- the table of the replies that are texts: what is asked, and the local answer to a route, with the reason of the reply and the
+-- the table of the replies that are a line: what is asked, and the local answer to a route, with the reason of the reply and the
 -- generation
 abbrev pub EarnsText : declared.Asked → Local → Reason → ℕ → Type 0
 EarnsText (asked.Head (head_fault.Bad len)) answer reason.BadHead n = n ≡ 0
@@ -74,31 +78,41 @@ EarnsText (asked.NotRoute route_fault.NoRoute) answer reason.NoRoute n = n ≡ 0
 EarnsText (asked.NotRoute route_fault.BadId) answer reason.BadId n = n ≡ 0
 EarnsText (asked.NotRoute route_fault.BadPath) answer reason.BadPath n = n ≡ 0
 EarnsText (asked.NotRoute route_fault.OutOfMemory) answer reason.OutOfMemory n = n ≡ 0
-EarnsText (asked.Route given) answer reason.ReadFault n = answer ≡ local.Fault n
-EarnsText (asked.Route given) answer reason.NotFound n = answer ≡ local.Nothing n
+EarnsText (asked.Route given) answer reason.ReadFault n = IsFileRoute given × (answer ≡ local.Fault n)
+EarnsText (asked.Route given) answer reason.NotFound n = IsFileRoute given × (answer ≡ local.Nothing n)
 EarnsText (asked.Route given) answer reason.OutOfMemory n = (answer ≡ local.OutOfMemory) × (n ≡ 0)
 EarnsText _ _ _ _ = ⊥
 
--- a route is asked
-abbrev pub IsRoute : declared.Asked → Type 0
-IsRoute (asked.Route given) = Unit {0}
-IsRoute _ = ⊥
+-- a route of files is asked
+abbrev pub IsFileAsked : declared.Asked → Type 0
+IsFileAsked (asked.Route given) = IsFileRoute given
+IsFileAsked _ = ⊥
 
 -- what passed is sent where it is the local answer to a route
 pub record EarnsPassed (what : declared.Asked) (answer : Local) (why : Reason) (passed : Local) (n : ℕ) : Type 0 where
-  pub route : IsRoute what
+  pub files : IsFileAsked what
   pub local : why ≡ reason.Local
   pub is : IsPassed passed
   pub answered : answer ≡ passed
   pub at : n ≡ generation_of passed
 
--- a reply is earned: a text, or what passed
-abbrev pub Earns : declared.Asked → Local → Reason → Body → ℕ → Type 0
-Earns what answer why bodies.Line n = EarnsText what answer why n
-Earns what answer why (bodies.Found passed) n = EarnsPassed what answer why passed n
+-- the page of the counters is sent where it is asked: by the own share as it stood, and by the loads that it noted
+pub record EarnsPage
+    (rows : ℕ) (own noted : ShareFacts) (what : declared.Asked) (why : Reason) (text : List ℕ) (n : ℕ) : Type 0 where
+  pub asks : what ≡ asked.Route route.Metrics
+  pub page : why ≡ reason.Metrics
+  pub at : n ≡ 0
+  pub is : IsPage rows own noted text
 
--- what is decided rests on a local answer, which earns it
-pub record IsEarned (sight : Sight) (what : declared.Asked) (why : Reason) (carried : Body) (n : ℕ) : Type 0 where
+-- a reply is earned: a line, what passed, or the page of the counters
+abbrev pub Earns : ℕ → ShareFacts → ShareFacts → declared.Asked → Local → Reason → Body → ℕ → Type 0
+Earns rows own noted what answer why bodies.Line n = EarnsText what answer why n
+Earns rows own noted what answer why (bodies.Found passed) n = EarnsPassed what answer why passed n
+Earns rows own noted what answer why (bodies.Page text) n = EarnsPage rows own noted what why (string_bytes text) n
+
+-- what is decided rests on a local answer, which earns it, or on the own share as it stood
+pub record IsEarned
+    (rows : ℕ) (own noted : ShareFacts) (sight : Sight) (what : declared.Asked) (why : Reason) (carried : Body) (n : ℕ) : Type 0 where
   pub answer : Local
   pub rests : RestsOn sight what answer
-  pub earns : Earns what answer why carried n
+  pub earns : Earns rows own noted what answer why carried n

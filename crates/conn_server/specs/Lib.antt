@@ -7,6 +7,10 @@ pub use Rattle.http_wire.specs.Source
 pub use Rattle.http_wire.specs.Stream
 pub use Rattle.answer_core.specs.Complete
 pub use Rattle.answer_core.specs.Local
+pub use Rattle.dbgd_metrics.specs.Counts
+pub use Rattle.dbgd_metrics.specs.Numbers
+pub use Rattle.dbgd_metrics.specs.Shares
+pub use Rattle.dbgd_metrics.specs.Totals
 pub use Rattle.webapi_routes.specs.Targets
 pub mod Asked
 pub mod Cases
@@ -18,4 +22,5 @@ pub mod PassedOver
 pub mod Replies
 pub mod Scene
 pub mod Sent
+pub mod Tallied
 pub mod Turns

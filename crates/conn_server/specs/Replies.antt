@@ -1,5 +1,5 @@
 -- Replies (this project's rule): the status and the text of each reason (RFC 9110, section 15; RFC 6585, section 5).
-use Rattle.std.specs.Prelude.{◌≡◌, ℕ, Bool, true, false, List, [], codes, length, Option, Some, None}
+use Rattle.std.specs.Prelude.{◌≡◌, ℕ, Bool, true, false, List, [], codes, length, Option, Some, None, string_bytes}
 use Rattle.file_formats.specs.Table.{IsSectionAnswer}
 use Rattle.http_wire.specs.Reply.{reply_bytes}
 use Rattle.http_wire.specs.declared.head.HeadFault.{HeadFault}
@@ -17,6 +17,7 @@ use Rattle.conn_server.specs.declared.reason.Reason.TheVariants as reason
 -- the status of a reason
 abbrev pub status_of : Reason → ℕ
 status_of reason.Local = 200
+status_of reason.Metrics = 200
 status_of reason.BadHead = 400
 status_of reason.TooLarge = 431
 status_of reason.Method = 405
@@ -29,9 +30,10 @@ status_of reason.NotFound = 404
 status_of reason.ReadFault = 503
 status_of reason.OutOfMemory = 507
 
--- the text of a reason; that of a file that passed is none
+-- the text of a reason; a file that passed and the counters have none
 abbrev pub reason_text : Reason → List ℕ
 reason_text reason.Local = []
+reason_text reason.Metrics = []
 reason_text reason.BadHead = codes "bad request\n"
 reason_text reason.TooLarge = codes "too large\n"
 reason_text reason.Method = codes "bad method\n"
@@ -72,10 +74,12 @@ ShowsPassed (local.Section from path generation) bytes file =
 ShowsPassed (local.Source source path generation) bytes file = (bytes ≡ source.items) × (file ≡ Some path)
 ShowsPassed _ bytes file = ⊥
 
--- the bytes of what a reply carries, and the path that it is told to come from: a line of text without one; or what passed
+-- the bytes of what a reply carries, and the path that it is told to come from: a line of text, or the page of the counters,
+-- without one; or what passed
 abbrev pub Shows : Reason → Body → List ℕ → Option (List ℕ) → Type 0
 Shows why bodies.Line bytes file = (bytes ≡ reason_text why) × (file ≡ None)
 Shows why (bodies.Found answer) bytes file = ShowsPassed answer bytes file
+Shows why (bodies.Page text) bytes file = (bytes ≡ string_bytes text) × (file ≡ None)
 
 -- whether the reply of a reason is a text
 abbrev pub is_text : Reason → Bool

@@ -10,27 +10,34 @@ use Rattle.http_wire.specs.ReaderFacts.{ReaderFacts}
 use Rattle.http_wire.specs.Stream.{ShownStream}
 use Rattle.answer_core.specs.Loads.{Hand}
 use Rattle.answer_core.specs.Local.{Sight}
+use Rattle.dbgd_metrics.specs.Shares.{ShareFacts}
 
 -- what stays: the true rows of the world, whether a hand tells what it has, which bytes the files of the world may have, what
--- a hand shows, and the folders of sources
+-- a hand shows, the folders of sources, and how many rows the counter table has
 pub record Scene (T : Type 0) : Type 1 where
   pub true_row : RowFacts → Type 0
   pub told : Bool
   pub version : Versions
   pub shows : T → ShownTree
   pub folders : List (List ℕ)
+  pub rows : ℕ
 
-abbrev pub scene_of : {T : Type 0} → (RowFacts → Type 0) → Bool → Versions → (T → ShownTree) → List (List ℕ) → Scene T
-scene_of true_row told version shows folders =
-    record { true_row = true_row; told = told; version = version; shows = shows; folders = folders }
+abbrev pub scene_of : {T : Type 0} → (RowFacts → Type 0) → Bool → Versions → (T → ShownTree) → List (List ℕ) → ℕ → Scene T
+scene_of true_row told version shows folders rows =
+    record { true_row = true_row; told = told; version = version; shows = shows; folders = folders; rows = rows }
 
--- what the objects show at a moment: the log that the token has seen, and the hand
+-- what the objects show at a moment: the log that the token has seen, the hand, and the share of the counters
 pub record Stand (T : Type 0) : Type 0 where
   pub log : List Change
   pub hand : T
+  pub share : ShareFacts
 
-abbrev pub stand_of : {T : Type 0} → List Change → T → Stand T
-stand_of log hand = record { log = log; hand = hand }
+abbrev pub stand_of : {T : Type 0} → List Change → T → ShareFacts → Stand T
+stand_of log hand share = record { log = log; hand = hand; share = share }
+
+-- the same moment, but for the share
+abbrev pub with_share : {T : Type 0} → Stand T → ShareFacts → Stand T
+with_share at share = record { log = at.log; hand = at.hand; share = share }
 
 -- the hand as it stands
 abbrev pub hand_at : {T : Type 0} → Scene T → Stand T → Hand

@@ -4,7 +4,9 @@ use Rattle.http_wire.specs.ReplyFault.{FailsReply}
 use Rattle.http_wire.specs.Sink.{GetsAll}
 use Rattle.http_wire.specs.Stream.{ShownStream}
 use Rattle.http_wire.specs.declared.reply.ReplyFault.{ReplyFault}
+use Rattle.dbgd_metrics.specs.Shares.{ShareFacts}
 use Rattle.conn_server.specs.Cases.{IsPassed}
+use Rattle.conn_server.specs.Tallied.{CountsServed}
 use Rattle.conn_server.specs.Replies.{Shows, bytes_of, status_of}
 use Rattle.conn_server.specs.declared.body.Body.{Body}
 use Rattle.conn_server.specs.declared.body.Body.TheVariants as bodies
@@ -32,6 +34,7 @@ SendsBytes why body file close with_body before after result =
 abbrev pub CanCarry : Body → Type 0
 CanCarry bodies.Line = Unit {0}
 CanCarry (bodies.Found passed) = IsPassed passed
+CanCarry (bodies.Page text) = Unit {0}
 
 abbrev pub CanSend : Decided → Type 0
 CanSend decided = CanCarry decided.body
@@ -54,6 +57,11 @@ served_as decided len = served_of decided.asked decided.reason decided.generatio
 abbrev pub TellsServed : Decided → List ℕ → ℕ → ShownStream → ShownStream → Result Served ReplyFault → Type 0
 TellsServed decided bytes len before after (Ok served) = GetsAll bytes before after × (served ≡ served_as decided len)
 TellsServed decided bytes len before after (Err fault) = FailsReply fault bytes before after
+
+-- the request is counted where its reply was written whole
+abbrev pub CountsSent : Result Served ReplyFault → ShareFacts → ShareFacts → Type 0
+CountsSent (Ok served) old new = CountsServed served old new
+CountsSent (Err fault) old new = new ≡ old
 
 -- the reply to what is decided is written
 pub record Sends

@@ -15,11 +15,13 @@ use Rattle.http_wire.specs.declared.head.HeadFault.TheVariants.{Cut}
 use Rattle.http_wire.specs.declared.reply.ReplyFault.{ReplyFault}
 use Rattle.http_wire.specs.declared.reply.ReplyFault.TheVariants as reply_fault
 use Rattle.tree_trait.specs.Heard.{Heard}
+use Rattle.dbgd_metrics.specs.Shares.{ShareFacts}
 use Rattle.conn_server.specs.Asked.{HeadFacts, Request, closes_after, readable, refused, sends_body, told_facts}
+use Rattle.conn_server.specs.Tallied.{CountsServed}
 use Rattle.conn_server.specs.Decided.{Decides, plain}
 use Rattle.conn_server.specs.Exchange.{Exchange, IsReplyDue, IsExchange, IsPartWritten, LeadsByExchange, LeavesUnanswered, Moves, NoMore}
 use Rattle.conn_server.specs.Replies.{Shows, bytes_of, reason_of_head}
-use Rattle.conn_server.specs.Scene.{Scene, Stand, Wire}
+use Rattle.conn_server.specs.Scene.{Scene, Stand, Wire, with_share}
 use Rattle.conn_server.specs.Sent.{sent_len, served_as}
 use Rattle.conn_server.specs.declared.decide.Decided.{Decided}
 use Rattle.conn_server.specs.declared.reason.Reason.{Reason}
@@ -77,19 +79,32 @@ RefusesHead fault before what after = RefusesFor (reason_of_head fault) fault be
 abbrev pub AsksNothing : {T : Type 0} → Stand T → Stand T → Type 0
 AsksNothing a b = b ≡ a
 
--- a head was decided by what was seen and heard, and answered so
+-- nothing was asked of the objects, and the share may have counted
+abbrev pub CountsAlone : {T : Type 0} → Stand T → Stand T → Type 0
+CountsAlone a b = b ≡ with_share a b.share
+
+-- a request is counted where its reply was written whole
+abbrev pub CountsAnswered : Turn → ShareFacts → ShareFacts → Type 0
+CountsAnswered (turn.Replied served) old new = CountsServed served old new
+CountsAnswered (turn.Last served why) old new = CountsServed served old new
+CountsAnswered (turn.Ended why) old new = new ≡ old
+
+-- a head was decided by what was seen and heard, and answered so, and it was counted then
 pub record TakesHead
     {T : Type 0} (scene : Scene T) (a : Stand T) (head : HeadFacts) (last : Bool) (before : ShownStream) (what : Turn)
     (b : Stand T) (after : ShownStream) : Type 0 where
   pub decided : Decided
-  pub decides : Decides scene a (readable head) decided b
+  pub noted : ShareFacts
+  pub decides : Decides scene a (readable head) decided (with_share b noted)
   pub replies : Replies decided (readable head) last before what after
+  pub counts : CountsAnswered what noted b.share
 
 -- what was read is answered
 abbrev pub TakesWhatCame : {T : Type 0} → Scene T → Stand T → HeadAnswer → Bool → ShownStream → Turn → Stand T → ShownStream → Type 0
 TakesWhatCame scene a (answer.Head head) last before what b after = TakesHead scene a (told_facts head) last before what b after
 TakesWhatCame scene a answer.Closed last before what b after = (what ≡ turn.Ended end.Closed) × (after ≡ before) × AsksNothing a b
-TakesWhatCame scene a (answer.Refused fault) last before what b after = RefusesHead fault before what after × AsksNothing a b
+TakesWhatCame scene a (answer.Refused fault) last before what b after =
+    RefusesHead fault before what after × CountsAlone a b × CountsAnswered what a.share b.share
 TakesWhatCame scene a answer.ReadFault last before what b after = (what ≡ turn.Ended end.ReadFault) × (after ≡ before) × AsksNothing a b
 
 -- the next request is read, and what was read is answered
@@ -125,8 +140,8 @@ StopsFor scene last a v rest part b w end.Closed = NoMore rest part × (w.held �
 StopsFor scene last a v rest part b w end.Cut = NoMore rest part × RefusesAsHead (Cut (length w.held)) w.held w.stream.left
 StopsFor scene last a v rest part b w end.ReadFault = NoMore rest part × Rose v.stream.read_faults w.stream.read_faults
 StopsFor scene last a v rest part b w end.WriteFault =
-    IsPartWritten scene last a rest part b.log w × Rose v.stream.write_faults w.stream.write_faults
-StopsFor scene last a v rest part b w end.OutOfMemory = (part ≡ []) × IsReplyDue scene last a rest b.log w
+    IsPartWritten scene last a rest part b.log b.share w × Rose v.stream.write_faults w.stream.write_faults
+StopsFor scene last a v rest part b w end.OutOfMemory = (part ≡ []) × IsReplyDue scene last a rest b.log b.share w
 StopsFor scene last a v rest part b w _ = ⊥
 
 -- no further request was answered whole

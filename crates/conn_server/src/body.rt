@@ -12,10 +12,12 @@ use row_types::CanonPath;
 /// What a reply carries.
 #[derive(Drop)]
 pub(crate) enum Body {
-    /// The text of its reason.
+    /// The line of its reason.
     Line,
     /// What passed here.
     Found(Local),
+    /// The page of the counters.
+    Page(String),
 }
 
 impl Body {
@@ -27,6 +29,7 @@ impl Body {
         match self {
             Body::Line => (why.text(), None),
             Body::Found(local) => passed(local),
+            Body::Page(text) => (text.as_bytes(), None),
         }
     }
 }

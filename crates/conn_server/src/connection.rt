@@ -3,11 +3,13 @@
 ghost use Rattle.std.specs.Prelude.{◌≡◌, ◌≤◌, [], false, vec_capacity};
 ghost use Rattle.index_lock.specs.Tokens.{IsLater};
 ghost use Rattle.conn_server.specs.Connection.{Serves};
+ghost use Rattle.conn_server.specs.Tallied.{HasRowIn};
 ghost use Rattle.conn_server.specs.Scene.{scene_of, stand_of};
 
 use crate::report::{ConnEnd, ConnReport, Served};
 use crate::service::Service;
 use crate::turn::{Turn, next_turn};
+use dbgd_metrics::{Book, Share};
 use http_wire::{HeadReader, Sink, Source};
 use index_keeper::Keeper;
 use index_lock::{Seat, TurnLock};
@@ -23,7 +25,7 @@ pub const REQUESTS: usize = 100;
 /// Answers the requests of a connection, in order, until one closes it, the source ends, or
 /// something fails. All memory of the report and of the reader is taken before the first read. The
 /// gate is passed under this number each time before the index is asked, and behind each reply that
-/// was written whole.
+/// was written whole and counted.
 pub fn serve_connection<
     W: Truth,
     K: Keeper<W>,
@@ -38,26 +40,61 @@ pub fn serve_connection<
     seat: Seat<State<W, K>>,
     hand: &mut T,
     folders: &[CanonPath],
+    book: &Book,
+    share: &mut Share,
     conn: &mut N,
     number: u64,
     gate: &G,
 ) -> (Seat<State<W, K>>, ConnReport)
-    requires { seat.lock ≡ lock.now }
+    requires lock { seat.lock ≡ lock.now }
+    requires share { HasRowIn book.now share.old }
     ensures later { IsLater seat result.0 }
-    ensures serves { Serves (scene_of W.true_row T.told W.version T.shows folders.now)
-        (stand_of seat.seen hand.old) (N.shows conn.old) result.1
-        (stand_of result.0.seen hand.new) (N.shows conn.new) }
+    ensures share { HasRowIn book.now share.new }
+    ensures serves { Serves
+        (scene_of W.true_row T.told W.version T.shows folders.now book.now.rows)
+        (stand_of seat.seen hand.old share.old) (N.shows conn.old) result.1
+        (stand_of result.0.seen hand.new share.new) (N.shows conn.new) }
     ensures requests { REQUESTS ≡ 100 }
 {
     let service = Service {
         rt,
         alloc,
+        lock,
         folders,
+        book,
         number,
         gate,
     };
+    serve_by(&service, seat, hand, share, conn)
+}
+
+/// Answers the requests, where there is memory for the report and the reader.
+pub(crate) fn serve_by<
+    W: Truth,
+    K: Keeper<W>,
+    T: Tree<W>,
+    N: Source + Sink,
+    G: Gate,
+    R: Wait + Sync,
+>(
+    service: &Service<'_, W, K, G, R>,
+    seat: Seat<State<W, K>>,
+    hand: &mut T,
+    share: &mut Share,
+    conn: &mut N,
+) -> (Seat<State<W, K>>, ConnReport)
+    requires lock { seat.lock ≡ service.now.lock.now }
+    requires share { HasRowIn service.now.book.now share.old }
+    ensures later { IsLater seat result.0 }
+    ensures share { HasRowIn service.now.book.now share.new }
+    ensures serves { Serves (scene_of W.true_row T.told W.version T.shows service.now.folders.now
+        service.now.book.now.rows)
+        (stand_of seat.seen hand.old share.old) (N.shows conn.old) result.1
+        (stand_of result.0.seen hand.new share.new) (N.shows conn.new) }
+{
+    let alloc = service.alloc;
     match (Vec::with_capacity(alloc, REQUESTS), HeadReader::new(alloc)) {
-        (Ok(served), Ok(reader)) => serve_all(&service, lock, seat, hand, reader, conn, served),
+        (Ok(served), Ok(reader)) => serve_all(service, seat, hand, share, reader, conn, served),
         _ => (
             seat,
             ConnReport {
@@ -70,22 +107,25 @@ pub fn serve_connection<
 
 /// Answers the requests into the room that was made.
 fn serve_all<W: Truth, K: Keeper<W>, T: Tree<W>, N: Source + Sink, G: Gate, R: Wait + Sync>(
-    service: &Service<'_, G, R>,
-    lock: &TurnLock<State<W, K>>,
+    service: &Service<'_, W, K, G, R>,
     seat: Seat<State<W, K>>,
     hand: &mut T,
+    share: &mut Share,
     reader: HeadReader,
     conn: &mut N,
     served: Vec<Served>,
 ) -> (Seat<State<W, K>>, ConnReport)
-    requires seat { seat.lock ≡ lock.now }
+    requires seat { seat.lock ≡ service.now.lock.now }
+    requires share { HasRowIn service.now.book.now share.old }
     requires fresh { reader ≡ record { all = []; held = []; over = false } }
     requires none { served.items ≡ [] }
     requires room { REQUESTS ≤ vec_capacity served }
     ensures later { IsLater seat result.0 }
-    ensures serves { Serves (scene_of W.true_row T.told W.version T.shows service.now.folders.now)
-        (stand_of seat.seen hand.old) (N.shows conn.old) result.1
-        (stand_of result.0.seen hand.new) (N.shows conn.new) }
+    ensures share { HasRowIn service.now.book.now share.new }
+    ensures serves { Serves (scene_of W.true_row T.told W.version T.shows service.now.folders.now
+        service.now.book.now.rows)
+        (stand_of seat.seen hand.old share.old) (N.shows conn.old) result.1
+        (stand_of result.0.seen hand.new share.new) (N.shows conn.new) }
 {
     let (rt, gate) = (service.rt, service.gate);
     let mut seat = seat;
@@ -93,7 +133,7 @@ fn serve_all<W: Truth, K: Keeper<W>, T: Tree<W>, N: Source + Sink, G: Gate, R: W
     let mut served = served;
     loop {
         let last = served.len() + 1 == REQUESTS;
-        let (next, turn) = next_turn(service, lock, seat, hand, &mut reader, conn, last);
+        let (next, turn) = next_turn(service, seat, hand, share, &mut reader, conn, last);
         seat = next;
         match turn {
             Turn::Replied(entry) => {

@@ -1,9 +1,12 @@
 //! What a request is answered.
 
-ghost use Rattle.std.specs.Prelude.{◌≡◌};
+ghost use Rattle.std.specs.Prelude.{◌≡◌, ◌≢◌};
+ghost use Rattle.dbgd_metrics.specs.Shares.{ShareFacts};
 ghost use Rattle.index_lock.specs.Tokens.{IsLater};
+ghost use Rattle.webapi_routes.specs.declared.route.Route.TheVariants.{Metrics};
 ghost use Rattle.conn_server.specs.Asked.{readable, told_facts};
-ghost use Rattle.conn_server.specs.Decided.{Decides, DecidesRoute, by_local, for_route, plain};
+ghost use Rattle.conn_server.specs.Tallied.{HasRowIn};
+ghost use Rattle.conn_server.specs.Decided.{Decides, DecidesRoute, by_local, by_page, for_route, plain};
 ghost use Rattle.conn_server.specs.Scene.{scene_of, stand_of};
 ghost use Rattle.conn_server.specs.declared.body.Body.TheVariants as bodies;
 ghost use Rattle.conn_server.specs.declared.reason.Reason.TheVariants as reason;
@@ -14,11 +17,13 @@ use crate::reason::{Reason, reason_of_route};
 use crate::report::Asked;
 use crate::service::Service;
 use answer_core::{Local, answer_local};
+use dbgd_metrics::Share;
 use http_wire::Head;
 use index_keeper::Keeper;
-use index_lock::{Seat, TurnLock};
+use index_lock::Seat;
 use index_state::State;
 use row_types::Truth;
+use std::alloc::AllocError;
 use std::sync::Wait;
 use tree_trait::{Gate, Point, Tree};
 use webapi_routes::{Route, parse};
@@ -36,20 +41,23 @@ pub(crate) struct Decided {
     pub body: Body,
 }
 
-/// Decides by the head alone, or by the local answer to its route.
+/// Decides by the head alone, or by what answers its route.
 pub(crate) fn decide<W: Truth, K: Keeper<W>, T: Tree<W>, G: Gate, R: Wait + Sync>(
-    service: &Service<'_, G, R>,
-    lock: &TurnLock<State<W, K>>,
+    service: &Service<'_, W, K, G, R>,
     seat: Seat<State<W, K>>,
     hand: &mut T,
+    share: &mut Share,
     head: &Head<'_>,
 ) -> (Seat<State<W, K>>, Decided)
-    requires { seat.lock ≡ lock.now }
+    requires lock { seat.lock ≡ service.now.lock.now }
+    requires share { HasRowIn service.now.book.now share.old }
     ensures later { IsLater seat result.0 }
+    ensures share { HasRowIn service.now.book.now share.new }
     ensures decided { Decides
-        (scene_of W.true_row T.told W.version T.shows service.now.folders.now)
-        (stand_of seat.seen hand.old) (readable (told_facts head.now)) result.1
-        (stand_of result.0.seen hand.new) }
+        (scene_of W.true_row T.told W.version T.shows service.now.folders.now
+        service.now.book.now.rows)
+        (stand_of seat.seen hand.old share.old) (readable (told_facts head.now)) result.1
+        (stand_of result.0.seen hand.new share.new) }
 {
     if !is_served(head.method) {
         return (seat, plain(Asked::Method, Reason::Method));
@@ -58,31 +66,56 @@ pub(crate) fn decide<W: Truth, K: Keeper<W>, T: Tree<W>, G: Gate, R: Wait + Sync
         return (seat, plain(Asked::Body, Reason::Body));
     }
     match parse(service.alloc, head.target) {
-        Ok(route) => decide_route(service, lock, seat, hand, route),
+        Ok(route) => decide_route(service, seat, hand, share, route),
         Err(fault) => (seat, plain(Asked::NotRoute(fault), reason_of_route(fault))),
     }
 }
 
-/// Decides by the local answer to a route.
+/// Decides by the page of the counters, or by the local answer to a route.
 fn decide_route<W: Truth, K: Keeper<W>, T: Tree<W>, G: Gate, R: Wait + Sync>(
-    service: &Service<'_, G, R>,
-    lock: &TurnLock<State<W, K>>,
+    service: &Service<'_, W, K, G, R>,
+    seat: Seat<State<W, K>>,
+    hand: &mut T,
+    share: &mut Share,
+    route: Route,
+) -> (Seat<State<W, K>>, Decided)
+    requires lock { seat.lock ≡ service.now.lock.now }
+    requires share { HasRowIn service.now.book.now share.old }
+    ensures later { IsLater seat result.0 }
+    ensures share { HasRowIn service.now.book.now share.new }
+    ensures decided { DecidesRoute
+        (scene_of W.true_row T.told W.version T.shows service.now.folders.now
+        service.now.book.now.rows)
+        (stand_of seat.seen hand.old share.old) route result.1
+        (stand_of result.0.seen hand.new share.new) }
+{
+    match route {
+        Route::Metrics => (seat, by_page(service.book.text(service.alloc, share))),
+        _ => decide_file(service, seat, hand, route),
+    }
+}
+
+/// Decides by the local answer to a route. The share has no part in it.
+fn decide_file<W: Truth, K: Keeper<W>, T: Tree<W>, G: Gate, R: Wait + Sync>(
+    service: &Service<'_, W, K, G, R>,
     seat: Seat<State<W, K>>,
     hand: &mut T,
     route: Route,
 ) -> (Seat<State<W, K>>, Decided)
-    requires { seat.lock ≡ lock.now }
+    requires lock { seat.lock ≡ service.now.lock.now }
+    requires route { route ≢ Metrics }
     ensures later { IsLater seat result.0 }
-    ensures decided { DecidesRoute
-        (scene_of W.true_row T.told W.version T.shows service.now.folders.now)
-        (stand_of seat.seen hand.old) route result.1 (stand_of result.0.seen hand.new) }
+    ensures decided { (own : ShareFacts) → DecidesRoute
+        (scene_of W.true_row T.told W.version T.shows service.now.folders.now
+        service.now.book.now.rows)
+        (stand_of seat.seen hand.old own) route result.1 (stand_of result.0.seen hand.new own) }
 {
     let (rt, gate) = (service.rt, service.gate);
     gate.at(rt, &Point::Asking(service.number));
     let (seat, local) = answer_local(
         rt,
         service.alloc,
-        lock,
+        service.lock,
         seat,
         hand,
         &route,
@@ -119,6 +152,16 @@ fn by_local(route: Route, local: Local) -> Decided
         Local::Nothing { gen_ } => for_route(route, Reason::NotFound, gen_, Body::Line),
         Local::Fault { gen_ } => for_route(route, Reason::ReadFault, gen_, Body::Line),
         Local::OutOfMemory => for_route(route, Reason::OutOfMemory, 0, Body::Line),
+    }
+}
+
+/// What is decided by the page of the counters.
+fn by_page(page: Result<String, AllocError>) -> Decided
+    ensures { result ≡ by_page page }
+{
+    match page {
+        Ok(text) => for_route(Route::Metrics, Reason::Metrics, 0, Body::Page(text)),
+        Err(_) => for_route(Route::Metrics, Reason::OutOfMemory, 0, Body::Line),
     }
 }
 

@@ -4,6 +4,7 @@
 
 mod body;
 mod connection;
+mod counting;
 mod decide;
 mod method;
 mod reason;

@@ -1,6 +1,7 @@
 //! Why a request gets the reply that it gets.
 
 ghost use Rattle.std.specs.Prelude.{◌≡◌};
+ghost use Rattle.dbgd_metrics.specs.Numbers.{IsCountedStatus};
 ghost use Rattle.http_wire.specs.Reply.{IsStatus};
 ghost use Rattle.conn_server.specs.Replies.{is_text, reason_of_head, reason_of_route, status_of};
 ghost use Rattle.conn_server.specs.Replies.{reason_text};
@@ -13,6 +14,8 @@ use webapi_routes::RouteFault;
 pub enum Reason {
     /// A file here passed.
     Local,
+    /// The counters are asked for.
+    Metrics,
     /// The bytes are no head.
     BadHead,
     /// The head has more fields than are served, or is too long.
@@ -42,9 +45,10 @@ impl Reason {
     pub fn status(self) -> u16
         ensures value { result ≡ status_of self }
         ensures known { IsStatus result }
+        ensures counted { IsCountedStatus result }
     {
         match self {
-            Reason::Local => 200,
+            Reason::Local | Reason::Metrics => 200,
             Reason::BadHead | Reason::Body | Reason::BadEscape | Reason::BadId | Reason::BadPath =>
                 400,
             Reason::NoRoute | Reason::NotFound => 404,
@@ -65,12 +69,12 @@ impl Reason {
         }
     }
 
-    /// The body of a reply that is a text. A file that passed has none.
+    /// The line that is the body of a reply. A file that passed and the counters have none.
     pub(crate) fn text(self) -> &'static [u8]
         ensures { result.now ≡ reason_text self }
     {
         match self {
-            Reason::Local => b"",
+            Reason::Local | Reason::Metrics => b"",
             Reason::BadHead => b"bad request\n",
             Reason::TooLarge => b"too large\n",
             Reason::Method => b"bad method\n",

@@ -1,5 +1,6 @@
 //! Writing the reply to what was decided.
 
+ghost use Rattle.dbgd_metrics.specs.Numbers.{IsCountedStatus};
 ghost use Rattle.conn_server.specs.Replies.{reply_head};
 ghost use Rattle.conn_server.specs.Sent.{CanSend, Sends, SendsBytes, told_of};
 ghost use Rattle.std.specs.Prelude.{◌≡◌, IfOk, option_copied};
@@ -20,7 +21,8 @@ pub(crate) fn send<N: Sink>(
     with_body: bool,
 ) -> Result<Served, ReplyFault>
     requires { CanSend decided }
-    ensures { Sends decided close with_body (N.shows conn.old) (N.shows conn.new) result }
+    ensures sends { Sends decided close with_body (N.shows conn.old) (N.shows conn.new) result }
+    ensures status { IfOk result (λ served. IsCountedStatus served.status) }
 {
     let Decided {
         asked,
@@ -40,7 +42,8 @@ fn told(
     generation: u64,
     sent: Result<u64, ReplyFault>,
 ) -> Result<Served, ReplyFault>
-    ensures { result ≡ told_of asked why generation sent }
+    ensures value { result ≡ told_of asked why generation sent }
+    ensures status { IfOk result (λ served. IsCountedStatus served.status) }
 {
     let len = sent?;
     Ok(Served {

@@ -3,20 +3,23 @@
 ghost use Rattle.std.specs.Prelude.{◌≡◌, false};
 ghost use Rattle.index_lock.specs.Tokens.{IsLater};
 ghost use Rattle.conn_server.specs.Asked.{readable, told_facts};
+ghost use Rattle.conn_server.specs.Tallied.{HasRowIn};
 ghost use Rattle.conn_server.specs.Scene.{scene_of, stand_of, wire_of};
-ghost use Rattle.conn_server.specs.Sent.{CanSend};
-ghost use Rattle.conn_server.specs.Turns.{RefusesHead, Replies, TakesWhatCame, TakesNextRequest, Turns, end_by_fault};
+ghost use Rattle.conn_server.specs.Sent.{CanSend, CountsSent, Sends};
+ghost use Rattle.conn_server.specs.Turns.{CountsAnswered, RefusesHead, Replies, TakesWhatCame, TakesNextRequest, Turns, end_by_fault};
 ghost use Rattle.conn_server.specs.Turns.{end_of_head};
 
+use crate::counting::count_served;
 use crate::decide::{Decided, decide, plain};
 use crate::method::is_head;
 use crate::reason::reason_of_head;
 use crate::report::{Asked, ConnEnd, Served};
 use crate::send::send;
 use crate::service::Service;
+use dbgd_metrics::{Book, Share};
 use http_wire::{Head, HeadAnswer, HeadFault, HeadReader, ReplyFault, Sink, Source};
 use index_keeper::Keeper;
-use index_lock::{Seat, TurnLock};
+use index_lock::Seat;
 use index_state::State;
 use row_types::Truth;
 use std::alloc::Global;
@@ -35,7 +38,7 @@ pub(crate) enum Turn {
 }
 
 /// Reads the next request and answers it. The last one of a connection is answered with a reply
-/// that closes.
+/// that closes. It is counted once its reply was written whole.
 pub(crate) fn next_turn<
     W: Truth,
     K: Keeper<W>,
@@ -44,68 +47,78 @@ pub(crate) fn next_turn<
     G: Gate,
     R: Wait + Sync,
 >(
-    service: &Service<'_, G, R>,
-    lock: &TurnLock<State<W, K>>,
+    service: &Service<'_, W, K, G, R>,
     seat: Seat<State<W, K>>,
     hand: &mut T,
+    share: &mut Share,
     reader: &mut HeadReader,
     conn: &mut N,
     last: bool,
 ) -> (Seat<State<W, K>>, Turn)
-    requires lock { seat.lock ≡ lock.now }
+    requires lock { seat.lock ≡ service.now.lock.now }
+    requires share { HasRowIn service.now.book.now share.old }
     requires open { reader.old.over ≡ false }
     ensures later { IsLater seat result.0 }
-    ensures turn { Turns (scene_of W.true_row T.told W.version T.shows service.now.folders.now) last
-        (stand_of seat.seen hand.old) (wire_of (N.shows conn.old) reader.old) result.1
-        (stand_of result.0.seen hand.new) (wire_of (N.shows conn.new) reader.new) }
+    ensures share { HasRowIn service.now.book.now share.new }
+    ensures turn { Turns (scene_of W.true_row T.told W.version T.shows service.now.folders.now
+        service.now.book.now.rows) last
+        (stand_of seat.seen hand.old share.old) (wire_of (N.shows conn.old) reader.old) result.1
+        (stand_of result.0.seen hand.new share.new) (wire_of (N.shows conn.new) reader.new) }
 {
     // The call is made for its clause: what is read and what is done about it are told apart there.
-    read_turn(service, lock, seat, hand, reader, conn, last)
+    read_turn(service, seat, hand, share, reader, conn, last)
 }
 
 /// Reads the next request, and answers what was read.
 fn read_turn<W: Truth, K: Keeper<W>, T: Tree<W>, N: Source + Sink, G: Gate, R: Wait + Sync>(
-    service: &Service<'_, G, R>,
-    lock: &TurnLock<State<W, K>>,
+    service: &Service<'_, W, K, G, R>,
     seat: Seat<State<W, K>>,
     hand: &mut T,
+    share: &mut Share,
     reader: &mut HeadReader,
     conn: &mut N,
     last: bool,
 ) -> (Seat<State<W, K>>, Turn)
-    requires { seat.lock ≡ lock.now }
+    requires lock { seat.lock ≡ service.now.lock.now }
+    requires share { HasRowIn service.now.book.now share.old }
     ensures later { IsLater seat result.0 }
-    ensures turn { TakesNextRequest (scene_of W.true_row T.told W.version T.shows service.now.folders.now)
-        (stand_of seat.seen hand.old) reader.old last (N.shows conn.old) result.1
-        (stand_of result.0.seen hand.new) reader.new (N.shows conn.new) }
+    ensures share { HasRowIn service.now.book.now share.new }
+    ensures turn { TakesNextRequest (scene_of W.true_row T.told W.version T.shows service.now.folders.now
+        service.now.book.now.rows)
+        (stand_of seat.seen hand.old share.old) reader.old last (N.shows conn.old) result.1
+        (stand_of result.0.seen hand.new share.new) reader.new (N.shows conn.new) }
 {
     let answer = reader.next(conn);
-    take_turn(service, lock, seat, hand, &answer, conn, last)
+    take_turn(service, seat, hand, share, &answer, conn, last)
 }
 
 /// Answers what was read.
 fn take_turn<W: Truth, K: Keeper<W>, T: Tree<W>, N: Sink, G: Gate, R: Wait + Sync>(
-    service: &Service<'_, G, R>,
-    lock: &TurnLock<State<W, K>>,
+    service: &Service<'_, W, K, G, R>,
     seat: Seat<State<W, K>>,
     hand: &mut T,
+    share: &mut Share,
     answer: &HeadAnswer<'_>,
     conn: &mut N,
     last: bool,
 ) -> (Seat<State<W, K>>, Turn)
-    requires { seat.lock ≡ lock.now }
+    requires lock { seat.lock ≡ service.now.lock.now }
+    requires share { HasRowIn service.now.book.now share.old }
     ensures later { IsLater seat result.0 }
-    ensures turn { TakesWhatCame (scene_of W.true_row T.told W.version T.shows service.now.folders.now)
-        (stand_of seat.seen hand.old) answer.now last (N.shows conn.old) result.1
-        (stand_of result.0.seen hand.new) (N.shows conn.new) }
+    ensures share { HasRowIn service.now.book.now share.new }
+    ensures turn { TakesWhatCame (scene_of W.true_row T.told W.version T.shows service.now.folders.now
+        service.now.book.now.rows)
+        (stand_of seat.seen hand.old share.old) answer.now last (N.shows conn.old) result.1
+        (stand_of result.0.seen hand.new share.new) (N.shows conn.new) }
 {
+    let (alloc, book) = (service.alloc, service.book);
     match answer {
         HeadAnswer::Head(head) => {
-            let (seat, decided) = decide(service, lock, seat, hand, head);
-            (seat, reply(service.alloc, conn, decided, head, last))
+            let (seat, decided) = decide(service, seat, hand, share, head);
+            (seat, reply(alloc, book, share, conn, decided, head, last))
         }
         HeadAnswer::Closed => (seat, Turn::Ended(ConnEnd::Closed)),
-        HeadAnswer::Refused(fault) => (seat, refuse(service.alloc, conn, *fault)),
+        HeadAnswer::Refused(fault) => (seat, refuse(alloc, book, share, conn, *fault)),
         HeadAnswer::ReadFault => (seat, Turn::Ended(ConnEnd::ReadFault)),
     }
 }
@@ -113,18 +126,23 @@ fn take_turn<W: Truth, K: Keeper<W>, T: Tree<W>, N: Sink, G: Gate, R: Wait + Syn
 /// Answers a head.
 fn reply<N: Sink>(
     alloc: Global,
+    book: &Book,
+    share: &mut Share,
     conn: &mut N,
     decided: Decided,
     head: &Head<'_>,
     last: bool,
 ) -> Turn
-    requires { CanSend decided }
-    ensures { Replies decided (readable (told_facts head.now)) last (N.shows conn.old) result
+    requires send { CanSend decided }
+    requires share { HasRowIn book.now share.old }
+    ensures share { HasRowIn book.now share.new }
+    ensures replies { Replies decided (readable (told_facts head.now)) last (N.shows conn.old) result
         (N.shows conn.new) }
+    ensures counts { CountsAnswered result share.old share.new }
 {
     let close = head.close || head.has_body || last;
     let with_body = !is_head(head.method);
-    match send(alloc, conn, decided, close, with_body) {
+    match send_counted(alloc, book, share, conn, decided, close, with_body) {
         Ok(served) => {
             if close {
                 Turn::Last(served, end_after(last))
@@ -148,18 +166,52 @@ fn end_after(last: bool) -> ConnEnd
 }
 
 /// Answers bytes that are no head. Those that were cut off get no reply.
-fn refuse<N: Sink>(alloc: Global, conn: &mut N, fault: HeadFault) -> Turn
-    ensures { RefusesHead fault (N.shows conn.old) result (N.shows conn.new) }
+fn refuse<N: Sink>(
+    alloc: Global,
+    book: &Book,
+    share: &mut Share,
+    conn: &mut N,
+    fault: HeadFault,
+) -> Turn
+    requires share { HasRowIn book.now share.old }
+    ensures share { HasRowIn book.now share.new }
+    ensures refuses { RefusesHead fault (N.shows conn.old) result (N.shows conn.new) }
+    ensures counts { CountsAnswered result share.old share.new }
 {
     match reason_of_head(fault) {
         Some(reason) => {
             let decided = plain(Asked::Head(fault), reason);
-            match send(alloc, conn, decided, true, true) {
+            match send_counted(alloc, book, share, conn, decided, true, true) {
                 Ok(served) => Turn::Last(served, ConnEnd::Refused),
                 Err(fault) => Turn::Ended(end_of(fault)),
             }
         }
         None => Turn::Ended(ConnEnd::Cut),
+    }
+}
+
+/// Writes the reply, and counts the request once all of it is written.
+fn send_counted<N: Sink>(
+    alloc: Global,
+    book: &Book,
+    share: &mut Share,
+    conn: &mut N,
+    decided: Decided,
+    close: bool,
+    with_body: bool,
+) -> Result<Served, ReplyFault>
+    requires send { CanSend decided }
+    requires share { HasRowIn book.now share.old }
+    ensures share { HasRowIn book.now share.new }
+    ensures sends { Sends decided close with_body (N.shows conn.old) (N.shows conn.new) result }
+    ensures counts { CountsSent result share.old share.new }
+{
+    match send(alloc, conn, decided, close, with_body) {
+        Ok(served) => {
+            count_served(book, share, &served);
+            Ok(served)
+        }
+        Err(fault) => Err(fault),
     }
 }
 

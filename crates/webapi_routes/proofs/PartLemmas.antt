@@ -7,7 +7,7 @@ use Rattle.std.proofs.lemmas.Str.Pattern.{IsSplitOnceResult, split_after, split_
 use Rattle.hex.specs.Hex.{decode_of}
 use Rattle.row_types.specs.BuildId.{IsIdText}
 use Rattle.row_types.specs.declared.limits.TheConstants.{SEPARATOR}
-use Rattle.webapi_routes.specs.Targets.{IsNoRoute, TextSays, UnlessMemory}
+use Rattle.webapi_routes.specs.Targets.{IdTextSays, IsNoIdText, UnlessMemory}
 use Rattle.webapi_routes.specs.Parts.{IsTooLong, Makes}
 use Rattle.webapi_routes.specs.Written.{IsWantedText, IsWritten, Wanted, debuginfo, executable, section, source, wanted_text}
 use Rattle.webapi_routes.specs.declared.fault.RouteFault.{RouteFault}
@@ -24,12 +24,12 @@ parts_there {text} {tail} cut front splits hex wanted w =
     (λ i within. w.one_piece i 0 within)
 
 -- a text that isn't cut there is no route's
-pub no_slash : {text tail : List ℕ} → text ≡ codes "/buildid/" ++ tail → IsSplitOnceResult 47 tail None → IsNoRoute text
+pub no_slash : {text tail : List ℕ} → text ≡ codes "/buildid/" ++ tail → IsSplitOnceResult 47 tail None → IsNoIdText text
 no_slash front splits hex wanted w = parts_there None front splits hex wanted w
 
 -- nor is one that asks for nothing that is known
 pub nothing_asked : {text tail : List ℕ} (x : Bor (List ℕ) × Bor (List ℕ)) → text ≡ codes "/buildid/" ++ tail → IsSplitOnceResult 47 tail (Some x)
-    → ((wanted : Wanted) → ¬ (IsWantedText x.1.now wanted)) → IsNoRoute text
+    → ((wanted : Wanted) → ¬ (IsWantedText x.1.now wanted)) → IsNoIdText text
 nothing_asked x front splits none hex wanted w =
     none wanted (record { text = (parts_there (Some x) front splits hex wanted w).1; valid = w.valid })
 
@@ -53,7 +53,7 @@ none_asked d e p n (source path) asks = p path asks
 none_asked d e p n (section name) asks = n name asks
 
 -- a path that is too long was asked for
-long_path : {text hex : List ℕ} (wanted : Wanted) → IsWritten text hex wanted → IsIdText hex → IsTooLong wanted → TextSays text (Err BadPath)
+long_path : {text hex : List ℕ} (wanted : Wanted) → IsWritten text hex wanted → IsIdText hex → IsTooLong wanted → IdTextSays text (Err BadPath)
 long_path debuginfo w digits long = absurd long
 long_path executable w digits long = absurd long
 long_path {text} {hex} (source path) w digits long = record { hex = hex; path = path; written = w; digits = digits; long = long }
@@ -61,7 +61,7 @@ long_path (section name) w digits long = absurd long
 
 -- what is made of the parts is what the text says
 pub made_says : {text hex id : List ℕ} {wanted : Wanted} (answer : Result Route RouteFault) → IsWritten text hex wanted → IsIdText hex → decode_of hex ≡ Ok id
-    → Makes id wanted answer → UnlessMemory answer (TextSays text answer)
+    → Makes id wanted answer → UnlessMemory answer (IdTextSays text answer)
 made_says {text} {hex} {id} {wanted} (Ok route) w digits bytes makes =
     record { hex = hex; wanted = wanted; id = id; written = w; digits = digits; bytes = bytes; short = makes.0; value = makes.1 }
 made_says (Err BadEscape) w digits bytes makes = absurd makes

@@ -7,11 +7,13 @@ use Rattle.percent_encoding.specs.Percent.{percent_decode}
 use Rattle.row_types.specs.BuildId.{IsIdText}
 use Rattle.row_types.specs.declared.limits.TheConstants.{PATH_LIMIT}
 use Rattle.webapi_routes.specs.Routes.{IsShort, route_of}
-use Rattle.webapi_routes.specs.Targets.{HasBadId, HasBadPath, IsTextOf, PathSays, TargetSays, TextSays, UnlessMemory}
+use Rattle.webapi_routes.specs.Targets.{HasBadId, HasBadPath, IdTextSays, IsTextOf, PathSays, TargetSays, TextSays, UnlessMemory}
 use Rattle.webapi_routes.specs.Path.{SpellsText, before_query}
 use Rattle.webapi_routes.specs.declared.fault.RouteFault.{RouteFault}
 use Rattle.webapi_routes.specs.declared.fault.RouteFault.TheVariants.{BadEscape, BadId, BadPath, NoRoute, OutOfMemory}
+use Rattle.webapi_routes.specs.Written.{Wanted, debuginfo, executable, metrics_path, section, source}
 use Rattle.webapi_routes.specs.declared.route.Route.{Route}
+use Rattle.webapi_routes.specs.declared.route.Route.TheVariants.{Debuginfo, Executable, Metrics, Section, Source}
 use Rattle.webapi_routes.proofs.WrittenLemmas.{written_one}
 
 -- two routes of a text are one
@@ -36,33 +38,60 @@ no_bad_path h k =
 not_both : {text : List ℕ} → HasBadId text → HasBadPath text → ⊥
 not_both h k = h.none (subst IsIdText (sym (written_one h.written k.written).0) k.digits)
 
+id_text_one : (text : List ℕ) (a b : Result Route RouteFault) → IdTextSays text a → IdTextSays text b → a ≡ b
+id_text_one text (Ok r) (Ok s) h k = ap Ok (route_one h k)
+id_text_one text (Ok r) (Err BadEscape) h k = absurd k
+id_text_one text (Ok r) (Err NoRoute) h k = absurd (k h.hex h.wanted h.written)
+id_text_one text (Ok r) (Err BadId) h k = absurd (no_bad_id h k)
+id_text_one text (Ok r) (Err BadPath) h k = absurd (no_bad_path h k)
+id_text_one text (Ok r) (Err OutOfMemory) h k = absurd k
+id_text_one text (Err BadEscape) b h k = absurd h
+id_text_one text (Err OutOfMemory) b h k = absurd h
+id_text_one text (Err NoRoute) (Ok s) h k = absurd (h k.hex k.wanted k.written)
+id_text_one text (Err NoRoute) (Err BadEscape) h k = absurd k
+id_text_one text (Err NoRoute) (Err NoRoute) h k = refl
+id_text_one text (Err NoRoute) (Err BadId) h k = absurd (h k.hex k.wanted k.written)
+id_text_one text (Err NoRoute) (Err BadPath) h k = absurd (h k.hex _ k.written)
+id_text_one text (Err NoRoute) (Err OutOfMemory) h k = absurd k
+id_text_one text (Err BadId) (Ok s) h k = absurd (no_bad_id k h)
+id_text_one text (Err BadId) (Err BadEscape) h k = absurd k
+id_text_one text (Err BadId) (Err NoRoute) h k = absurd (k h.hex h.wanted h.written)
+id_text_one text (Err BadId) (Err BadId) h k = refl
+id_text_one text (Err BadId) (Err BadPath) h k = absurd (not_both h k)
+id_text_one text (Err BadId) (Err OutOfMemory) h k = absurd k
+id_text_one text (Err BadPath) (Ok s) h k = absurd (no_bad_path k h)
+id_text_one text (Err BadPath) (Err BadEscape) h k = absurd k
+id_text_one text (Err BadPath) (Err NoRoute) h k = absurd (k h.hex _ h.written)
+id_text_one text (Err BadPath) (Err BadId) h k = absurd (not_both k h)
+id_text_one text (Err BadPath) (Err BadPath) h k = refl
+id_text_one text (Err BadPath) (Err OutOfMemory) h k = absurd k
+
 text_one : (text : List ℕ) (a b : Result Route RouteFault) → TextSays text a → TextSays text b → a ≡ b
-text_one text (Ok r) (Ok s) h k = ap Ok (route_one h k)
-text_one text (Ok r) (Err BadEscape) h k = absurd k
-text_one text (Ok r) (Err NoRoute) h k = absurd (k h.hex h.wanted h.written)
-text_one text (Ok r) (Err BadId) h k = absurd (no_bad_id h k)
-text_one text (Ok r) (Err BadPath) h k = absurd (no_bad_path h k)
-text_one text (Ok r) (Err OutOfMemory) h k = absurd k
-text_one text (Err BadEscape) b h k = absurd h
-text_one text (Err OutOfMemory) b h k = absurd h
-text_one text (Err NoRoute) (Ok s) h k = absurd (h k.hex k.wanted k.written)
-text_one text (Err NoRoute) (Err BadEscape) h k = absurd k
-text_one text (Err NoRoute) (Err NoRoute) h k = refl
-text_one text (Err NoRoute) (Err BadId) h k = absurd (h k.hex k.wanted k.written)
-text_one text (Err NoRoute) (Err BadPath) h k = absurd (h k.hex _ k.written)
-text_one text (Err NoRoute) (Err OutOfMemory) h k = absurd k
-text_one text (Err BadId) (Ok s) h k = absurd (no_bad_id k h)
-text_one text (Err BadId) (Err BadEscape) h k = absurd k
-text_one text (Err BadId) (Err NoRoute) h k = absurd (k h.hex h.wanted h.written)
-text_one text (Err BadId) (Err BadId) h k = refl
-text_one text (Err BadId) (Err BadPath) h k = absurd (not_both h k)
-text_one text (Err BadId) (Err OutOfMemory) h k = absurd k
-text_one text (Err BadPath) (Ok s) h k = absurd (no_bad_path k h)
-text_one text (Err BadPath) (Err BadEscape) h k = absurd k
-text_one text (Err BadPath) (Err NoRoute) h k = absurd (k h.hex _ h.written)
-text_one text (Err BadPath) (Err BadId) h k = absurd (not_both k h)
-text_one text (Err BadPath) (Err BadPath) h k = refl
-text_one text (Err BadPath) (Err OutOfMemory) h k = absurd k
+text_one text (Ok Metrics) (Ok Metrics) h k = refl
+text_one text (Ok Metrics) b h k = absurd (k.0 h)
+text_one text a (Ok Metrics) h k = absurd (h.0 k)
+text_one text a b h k = id_text_one text a b h.1 k.1
+
+-- no path of an id is that of the counters
+not_metrics : (wanted : Wanted) (id : List ℕ) → Metrics ≡ route_of id wanted → ⊥
+not_metrics debuginfo id e = absurd (cc)
+not_metrics executable id e = absurd (cc)
+not_metrics (source path) id e = absurd (cc)
+not_metrics (section name) id e = absurd (cc)
+
+-- a text that isn't the path of the counters says what it says of an id
+pub text_says : (text : List ℕ) (answer : Result Route RouteFault) → (text ≡ metrics_path → ⊥)
+    → UnlessMemory answer (IdTextSays text answer) → UnlessMemory answer (TextSays text answer)
+text_says text (Ok Metrics) other says = absurd (not_metrics says.wanted says.id says.value)
+text_says text (Ok (Debuginfo id)) other says = (other, says)
+text_says text (Ok (Executable id)) other says = (other, says)
+text_says text (Ok (Source id path)) other says = (other, says)
+text_says text (Ok (Section id name)) other says = (other, says)
+text_says text (Err BadEscape) other says = (other, says)
+text_says text (Err NoRoute) other says = (other, says)
+text_says text (Err BadId) other says = (other, says)
+text_says text (Err BadPath) other says = (other, says)
+text_says text (Err OutOfMemory) other says = tt
 
 path_one : (path : List ℕ) (a b : Result Route RouteFault) → PathSays path a → PathSays path b → a ≡ b
 path_one path (Err BadEscape) (Err BadEscape) h k = refl
@@ -74,7 +103,7 @@ path_one path a b h k = text_one (percent_decode path) a b h.1 k.1
 pub path_says : (path : List ℕ) (answer : Result Route RouteFault) → SpellsText path → UnlessMemory answer (TextSays (percent_decode path) answer)
     → UnlessMemory answer (PathSays path answer)
 path_says path (Ok route) spells says = (spells, says)
-path_says path (Err BadEscape) spells says = absurd says
+path_says path (Err BadEscape) spells says = absurd says.1
 path_says path (Err NoRoute) spells says = (spells, says)
 path_says path (Err BadId) spells says = (spells, says)
 path_says path (Err BadPath) spells says = (spells, says)

@@ -1,10 +1,10 @@
--- The routes, as the parts that their paths are written from (this project's rule).
-use Rattle.std.specs.Prelude.{ℕ, ◌≤◌, List, length, Option, Some}
+-- The routes of a build-id, as the parts that their paths are written from (this project's rule).
+use Rattle.std.specs.Prelude.{ℕ, ◌≤◌, List, length, Option, Some, None}
 use Rattle.row_types.specs.Canon.{canon}
 use Rattle.row_types.specs.declared.limits.TheConstants.{PATH_LIMIT}
 use Rattle.webapi_routes.specs.Written.{Wanted, debuginfo, executable, source, section}
 use Rattle.webapi_routes.specs.declared.route.Route.{Route}
-use Rattle.webapi_routes.specs.declared.route.Route.TheVariants.{Debuginfo, Executable, Source, Section}
+use Rattle.webapi_routes.specs.declared.route.Route.TheVariants.{Debuginfo, Executable, Source, Section, Metrics}
 
 -- the route of an id, and of what is asked of it: a source is the canonical path of the one that is written
 abbrev pub route_of : List ℕ → Wanted → Route
@@ -24,17 +24,4 @@ build_id_of (Debuginfo id) = Some id
 build_id_of (Executable id) = Some id
 build_id_of (Source id path) = Some id
 build_id_of (Section id name) = Some id
-
--- the id in the text of a route's path
-abbrev pub route_id : Route → List ℕ
-route_id (Debuginfo id) = id
-route_id (Executable id) = id
-route_id (Source id path) = id
-route_id (Section id name) = id
-
--- what a route asks of its id
-abbrev pub wanted_of : Route → Wanted
-wanted_of (Debuginfo id) = debuginfo
-wanted_of (Executable id) = executable
-wanted_of (Source id path) = source path
-wanted_of (Section id name) = section name
+build_id_of Metrics = None

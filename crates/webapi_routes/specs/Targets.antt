@@ -1,17 +1,18 @@
 -- What a target says (this project's rule): a route, or the first of its faults.
-use Rattle.std.specs.Prelude.{◌≡◌, ℕ, ◌<◌, List, length, Result, Ok, Err}
+use Rattle.std.specs.Prelude.{◌≡◌, ◌≢◌, ℕ, ◌<◌, List, length, Result, Ok, Err}
 use Rattle.hex.specs.Hex.{decode_of}
 use Rattle.percent_encoding.specs.Percent.{percent_decode}
 use Rattle.row_types.specs.BuildId.{IsIdText}
 use Rattle.row_types.specs.declared.limits.TheConstants.{PATH_LIMIT}
 use Rattle.webapi_routes.specs.Routes.{IsShort, route_of}
 use Rattle.webapi_routes.specs.Path.{SpellsText, before_query}
-use Rattle.webapi_routes.specs.Written.{IsWritten, Wanted, source}
+use Rattle.webapi_routes.specs.Written.{IsWritten, Wanted, metrics_path, source}
 use Rattle.webapi_routes.specs.declared.fault.RouteFault.{RouteFault}
 use Rattle.webapi_routes.specs.declared.fault.RouteFault.TheVariants.{BadEscape, BadId, BadPath, NoRoute, OutOfMemory}
 use Rattle.webapi_routes.specs.declared.route.Route.{Route}
+use Rattle.webapi_routes.specs.declared.route.Route.TheVariants.{Metrics}
 
--- a text is that of this route's path: an id's text that stands for the id's bytes, and what the route asks of it
+-- a text is that of this route's path, of an id: the id's text that stands for the id's bytes, and what the route asks of it
 pub record IsTextOf (text : List ℕ) (route : Route) : Type 0 where
   pub hex : List ℕ
   pub wanted : Wanted
@@ -22,11 +23,11 @@ pub record IsTextOf (text : List ℕ) (route : Route) : Type 0 where
   pub short : IsShort wanted
   pub value : route ≡ route_of id wanted
 
--- the text isn't written as a route's path
-abbrev pub IsNoRoute : List ℕ → Type 0
-IsNoRoute text = (hex : List ℕ) (wanted : Wanted) → ¬ (IsWritten text hex wanted)
+-- the text isn't written as the path of an id
+abbrev pub IsNoIdText : List ℕ → Type 0
+IsNoIdText text = (hex : List ℕ) (wanted : Wanted) → ¬ (IsWritten text hex wanted)
 
--- the text is written as a route's path, but what stands for an id is none
+-- the text is written as the path of an id, but what stands for the id is none
 pub record HasBadId (text : List ℕ) : Type 0 where
   pub hex : List ℕ
   pub wanted : Wanted
@@ -41,13 +42,18 @@ pub record HasBadPath (text : List ℕ) : Type 0 where
   pub digits : IsIdText hex
   pub long : PATH_LIMIT < length path
 
--- what the text of a path says
+-- what the text of a path says of an id
+abbrev pub IdTextSays : List ℕ → Result Route RouteFault → Type 0
+IdTextSays text (Ok route) = IsTextOf text route
+IdTextSays text (Err NoRoute) = IsNoIdText text
+IdTextSays text (Err BadId) = HasBadId text
+IdTextSays text (Err BadPath) = HasBadPath text
+IdTextSays text _ = ⊥
+
+-- what the text of a path says: that of the counters asks for them, and every other one says what it says of an id
 abbrev pub TextSays : List ℕ → Result Route RouteFault → Type 0
-TextSays text (Ok route) = IsTextOf text route
-TextSays text (Err NoRoute) = IsNoRoute text
-TextSays text (Err BadId) = HasBadId text
-TextSays text (Err BadPath) = HasBadPath text
-TextSays text _ = ⊥
+TextSays text (Ok Metrics) = text ≡ metrics_path
+TextSays text answer = (text ≢ metrics_path) × IdTextSays text answer
 
 -- what a path says: that it spells no text, or what its text says
 abbrev pub PathSays : List ℕ → Result Route RouteFault → Type 0

@@ -1,8 +1,12 @@
--- How the text of a route's path is written (this project's rule): `/buildid/`, the text of an id, a slash, and what is asked of
--- the id.
+-- How the text of a route's path is written (this project's rule): `/metrics` for the counters; else `/buildid/`, the text of an
+-- id, a slash, and what is asked of the id.
 use Rattle.std.specs.Prelude.{◌≡◌, ◌≢◌, ℕ, ◌<◌, true, All, List, ◌∷◌, ◌++◌, codes, length}
 use Rattle.row_types.specs.Absolute.{is_absolute}
 use Rattle.row_types.specs.declared.limits.TheConstants.{SEPARATOR}
+
+-- the path of the counters
+abbrev pub metrics_path : List ℕ
+metrics_path = codes "/metrics"
 
 -- what is asked of an id: a file of a class, a source file, or a section
 pub data Wanted : Type 0 where
@@ -29,7 +33,7 @@ pub record IsWantedText (bytes : List ℕ) (wanted : Wanted) : Type 0 where
   pub text : bytes ≡ wanted_text wanted
   pub valid : IsWantedValid wanted
 
--- a text is written as a route's path: the text of an id stands in it, which has no slash, and what is asked of the id
+-- a text is written as the path of an id: the text of the id stands in it, which has no slash, and what is asked of the id
 pub record IsWritten (text hex : List ℕ) (wanted : Wanted) : Type 0 where
   pub whole : text ≡ codes "/buildid/" ++ (hex ++ SEPARATOR ∷ wanted_text wanted)
   pub one_piece : All (λ b. b ≢ SEPARATOR) hex

@@ -4,15 +4,14 @@ ghost use Rattle.std.specs.Prelude.{◌≡◌, ◌++◌, ◌<◌, All, IfOk, OnO
 ghost use Rattle.std.specs.String.{string_bytes};
 ghost use Rattle.hex.specs.Hex.{IsBytes, encode_lower};
 ghost use Rattle.row_types.specs.BuildId.{IsIdLength};
-ghost use Rattle.webapi_routes.specs.Routes.{wanted_of};
-ghost use Rattle.webapi_routes.specs.Printed.{CanBeAsked, HasSourcePath, IsRouteText};
-ghost use Rattle.webapi_routes.specs.Printed.{escaped_target, printed};
+ghost use Rattle.webapi_routes.specs.Printed.{CanBeAsked, IsIdBytes, IsRouteText, IsSourcePath};
+ghost use Rattle.webapi_routes.specs.Printed.{escaped_target, id_path, printed};
 ghost use Rattle.webapi_routes.specs.Targets.{TargetSays};
-ghost use Rattle.webapi_routes.specs.Written.{wanted_text};
+ghost use Rattle.webapi_routes.specs.Written.{source, wanted_text};
 
 use crate::route::Route;
 use percent_encoding::{AsciiSet, NON_ALPHANUMERIC, ascii_set, percent_encode};
-use row_types::BuildId;
+use row_types::{BuildId, CanonPath};
 use std::alloc::{AllocError, Global};
 
 /// The bytes of a path that are escaped, beside those outside ASCII.
@@ -52,11 +51,51 @@ fn push_escaped(target: &mut String, text: &[u8]) -> Result<(), AllocError>
 fn route_text(alloc: Global, route: &Route) -> Result<Vec<u8>, AllocError>
     ensures { IfOk result (λ text. IsRouteText route.now text.items) }
 {
+    match route {
+        Route::Debuginfo(id) => id_text(alloc, id, b"debuginfo"),
+        Route::Executable(id) => id_text(alloc, id, b"executable"),
+        Route::Source(id, path) => source_text(alloc, id, path),
+        Route::Section(id, name) => long_text(alloc, id, b"section/", name.bytes()),
+        Route::Metrics => Vec::from_slice(alloc, b"/metrics"),
+    }
+}
+
+/// The text of the path of a source.
+fn source_text(alloc: Global, id: &BuildId, path: &CanonPath) -> Result<Vec<u8>, AllocError>
+    ensures text { IfOk result (λ text.
+        text.items ≡ id_path id.now (wanted_text (source path.now))) }
+    ensures id { IfOk result (λ text. IsIdBytes id.now) }
+    ensures path { IsSourcePath path.now }
+{
+    long_text(alloc, id, b"source", path.text().as_bytes())
+}
+
+/// The text of the path of an id, behind which two pieces stand.
+fn long_text(
+    alloc: Global,
+    id: &BuildId,
+    first: &[u8],
+    second: &[u8],
+) -> Result<Vec<u8>, AllocError>
+    ensures text { IfOk result (λ text.
+        text.items ≡ id_path id.now (first.now ++ second.now)) }
+    ensures id { IfOk result (λ text. IsIdBytes id.now) }
+{
+    let mut text = id_text(alloc, id, first)?;
+    text.extend_from_slice(second)?;
+    Ok(text)
+}
+
+/// The text of the path of an id, behind which these bytes stand.
+fn id_text(alloc: Global, id: &BuildId, behind: &[u8]) -> Result<Vec<u8>, AllocError>
+    ensures text { IfOk result (λ text. text.items ≡ id_path id.now behind.now) }
+    ensures id { IfOk result (λ text. IsIdBytes id.now) }
+{
     let mut text = Vec::new(alloc);
     text.extend_from_slice(b"/buildid/")?;
-    push_id(&mut text, alloc, route.id())?;
+    push_id(&mut text, alloc, id)?;
     text.extend_from_slice(b"/")?;
-    push_wanted(&mut text, route)?;
+    text.extend_from_slice(behind)?;
     Ok(text)
 }
 
@@ -77,26 +116,4 @@ fn push_digits(text: &mut Vec<u8>, alloc: Global, bytes: &[u8]) -> Result<(), Al
     let digits = hex::encode(alloc, bytes)?;
     text.extend_from_slice(digits.as_bytes())?;
     Ok(())
-}
-
-/// Adds what a route asks of its id.
-fn push_wanted(text: &mut Vec<u8>, route: &Route) -> Result<(), AllocError>
-    ensures text { OnOk result
-        (text.new.items ≡ text.old.items ++ wanted_text (wanted_of route.now)) }
-    ensures path { OnOk result (HasSourcePath route.now) }
-{
-    match route {
-        Route::Debuginfo(_) => text.extend_from_slice(b"debuginfo"),
-        Route::Executable(_) => text.extend_from_slice(b"executable"),
-        Route::Source(_, path) => push_two(text, b"source", path.text().as_bytes()),
-        Route::Section(_, name) => push_two(text, b"section/", name.bytes()),
-    }
-}
-
-/// Adds two pieces.
-fn push_two(text: &mut Vec<u8>, first: &[u8], second: &[u8]) -> Result<(), AllocError>
-    ensures { OnOk result (text.new.items ≡ text.old.items ++ (first.now ++ second.now)) }
-{
-    text.extend_from_slice(first)?;
-    text.extend_from_slice(second)
 }

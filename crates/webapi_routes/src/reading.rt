@@ -3,7 +3,7 @@
 ghost use Rattle.std.specs.Prelude.{◌≡◌, true, Result, IfOk};
 ghost use Rattle.row_types.specs.Absolute.{is_absolute};
 ghost use Rattle.row_types.specs.Limits.{ArePinnedIdLengths, ArePinnedPathLimits};
-ghost use Rattle.webapi_routes.specs.Targets.{IsSaidBy, PathSays, TargetSays, TextSays};
+ghost use Rattle.webapi_routes.specs.Targets.{IdTextSays, IsSaidBy, PathSays, TargetSays, TextSays};
 ghost use Rattle.webapi_routes.specs.Targets.{UnlessMemory};
 ghost use Rattle.webapi_routes.specs.Parts.{Makes, seen};
 ghost use Rattle.webapi_routes.specs.Written.{IsWantedValid, source};
@@ -50,8 +50,19 @@ fn parse_path(alloc: Global, path: &[u8]) -> Result<Route, RouteFault>
 }
 
 /// The route that a path's text asks for.
+#[tactic(auto, using(crate::proofs::TargetLemmas::text_says))]
 fn parse_text(alloc: Global, text: &str) -> Result<Route, RouteFault>
     ensures { UnlessMemory result (TextSays text.now result) }
+{
+    match text {
+        "/metrics" => Ok(Route::Metrics),
+        _ => parse_id_text(alloc, text),
+    }
+}
+
+/// The route that a path's text asks for, of a build-id.
+fn parse_id_text(alloc: Global, text: &str) -> Result<Route, RouteFault>
+    ensures { UnlessMemory result (IdTextSays text.now result) }
 {
     let Some((hex, wanted)) = parts_of(text) else {
         return Err(RouteFault::NoRoute);

@@ -1,22 +1,24 @@
 //! The routes of the web API.
 
 ghost use Rattle.std.specs.Prelude.{◌≡◌, option_copied};
-ghost use Rattle.webapi_routes.specs.Routes.{build_id_of, route_id};
+ghost use Rattle.webapi_routes.specs.Routes.{build_id_of};
 
 use crate::section_name::SectionName;
 use row_types::{BuildId, CanonPath};
 
-/// What a target asks for, of a build-id.
+/// What a target asks for.
 #[derive(PartialEq, Eq, Drop)]
 pub enum Route {
-    /// The file with debug information.
+    /// The file of a build-id with debug information.
     Debuginfo(BuildId),
-    /// The executable file.
+    /// The executable file of a build-id.
     Executable(BuildId),
-    /// The source file at this path.
+    /// The source file of a build-id at this path.
     Source(BuildId, CanonPath),
-    /// The section of this name.
+    /// The section of a build-id of this name.
     Section(BuildId, SectionName),
+    /// The counters.
+    Metrics,
 }
 
 impl Route {
@@ -24,18 +26,12 @@ impl Route {
     pub fn build_id(&self) -> Option<&BuildId>
         ensures { option_copied result ≡ build_id_of self.now }
     {
-        Some(self.id())
-    }
-
-    /// The build-id that stands in the text of the route's path.
-    pub(crate) fn id(&self) -> &BuildId
-        ensures { result.now ≡ route_id self.now }
-    {
         match self {
             Route::Debuginfo(id)
             | Route::Executable(id)
             | Route::Source(id, _)
-            | Route::Section(id, _) => id,
+            | Route::Section(id, _) => Some(id),
+            Route::Metrics => None,
         }
     }
 }

@@ -1,8 +1,8 @@
-//! The parts that the text of a route's path is written from.
+//! The parts that the text of a build-id's path is written from.
 
 ghost use Rattle.std.specs.Prelude.{◌≡◌, List, ℕ, true, MatchOption};
 ghost use Rattle.row_types.specs.Absolute.{is_absolute};
-ghost use Rattle.webapi_routes.specs.Targets.{IsNoRoute};
+ghost use Rattle.webapi_routes.specs.Targets.{IsNoIdText};
 ghost use Rattle.webapi_routes.specs.Parts.{seen};
 ghost use Rattle.webapi_routes.specs.Written.{IsWantedText, IsWritten, Wanted, section, source};
 
@@ -17,7 +17,7 @@ pub(crate) enum Written<'a> {
 
 /// The text of an id, and what is asked of it.
 pub(crate) fn parts_of(text: &str) -> Option<(&str, Written<'_>)>
-    ensures { MatchOption result (IsNoRoute text.now)
+    ensures { MatchOption result (IsNoIdText text.now)
         (λ x. IsWritten text.now x.0.now (seen x.1)) }
 {
     let Some(tail) = text.strip_prefix("/buildid/") else {

@@ -4,5 +4,6 @@ mod cut;
 mod edges;
 mod gates;
 mod helpers;
+mod metrics;
 mod replies;
 mod texts;

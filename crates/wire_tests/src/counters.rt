@@ -1,6 +1,6 @@
 //! What no clause says: that memory suffices, that what threads count adds up, and the pages.
 
-mod expected;
+pub mod expected;
 mod pages;
-mod shares;
+pub mod shares;
 mod threads;

@@ -1,5 +1,8 @@
 //! What is asked, and answers as texts.
 
+ghost use Rattle.std.specs.Prelude.{◌≢◌};
+ghost use Rattle.webapi_routes.specs.declared.route.Route.TheVariants.{Metrics};
+
 use answer_core::{Local, answer_local};
 use row_types::{BuildId, CanonPath, Truth};
 use sample_index::{Index, Shared, put_behind};
@@ -35,7 +38,9 @@ pub struct Case(
 );
 
 /// The route of a request.
-pub fn route(rt: &impl Abort, alloc: Global, id: &[u8], wanted: Wanted) -> Route {
+pub fn route(rt: &impl Abort, alloc: Global, id: &[u8], wanted: Wanted) -> Route
+    ensures { result ≢ Metrics }
+{
     let id = BuildId::new(id).expect(rt, "an id");
     match wanted {
         Wanted::Code => Route::Executable(id),
@@ -77,7 +82,9 @@ fn answer<W: Truth + Send, T: Tree<W>, R: Abort + Wait + Sync>(
     hand: &mut T,
     route: &Route,
     folders: &[CanonPath],
-) -> String {
+) -> String
+    requires { route.now ≢ Metrics }
+{
     let Shared { lock, seat } = put_behind(alloc, index).expect(rt, "memory");
     let (_seat, local) = answer_local(rt, alloc, &lock, seat, hand, route, folders, &NoGate);
     text_of(alloc, &local).expect(rt, "memory")

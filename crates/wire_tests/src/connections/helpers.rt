@@ -1,8 +1,10 @@
 //! Connections in memory, and what comes of them by the files of the reference tree.
 
-ghost use Rattle.std.specs.Prelude.{◌≡◌, ◌<◌, All};
+ghost use Rattle.std.specs.Prelude.{◌≡◌, ◌<◌, All, IsSome};
 
+use crate::counters::shares::one_drawn;
 use conn_server::{ConnEnd, ConnReport, serve_connection};
+use dbgd_metrics::{Book, Share};
 use http_wire::{MemConn, Sink, Source};
 use row_types::CanonPath;
 use sample_index::{Index, Lock, Shared, Token, empty_index, put_behind, reference_index};
@@ -64,7 +66,42 @@ fn serve_by<N: Source + Sink, G: Gate, R: Abort + Wait + Sync>(
     gate: &G,
 ) -> ConnReport {
     let Shared { lock, seat } = put_behind(alloc, index).expect(rt, "memory");
-    let (_seat, report) = serve_connection(rt, alloc, &lock, seat, hand, folders, conn, 7, gate);
+    let (book, mut share) = one_drawn(rt, alloc, 1);
+    let (_seat, report) = serve_connection(
+        rt, alloc, &lock, seat, hand, folders, &book, &mut share, conn, 7, gate,
+    );
+    report
+}
+
+/// What comes of a connection by the reference tree and its index, whose requests are counted in a
+/// share.
+pub fn serve_counting<N: Source + Sink, R: Abort + Wait + Sync>(
+    rt: &R,
+    alloc: Global,
+    book: &Book,
+    share: &mut Share,
+    conn: &mut N,
+) -> ConnReport
+    requires book { share.old.book ≡ book.now.id }
+    requires row { IsSome share.old.row }
+{
+    let folders = folders(rt, alloc);
+    let mut hand = hand(rt, alloc, &[]);
+    let index = reference_index(alloc).expect(rt, "an index");
+    let Shared { lock, seat } = put_behind(alloc, index).expect(rt, "memory");
+    let (_seat, report) = serve_connection(
+        rt,
+        alloc,
+        &lock,
+        seat,
+        &mut hand,
+        folders.as_slice(),
+        book,
+        share,
+        conn,
+        7,
+        &NoGate,
+    );
     report
 }
 
@@ -112,6 +149,7 @@ pub fn serve_through<N: Source + Sink, G: Gate, R: Abort + Wait + Sync>(
 {
     let folders = folders(rt, alloc);
     let mut hand = hand(rt, alloc, &[]);
+    let (book, mut share) = one_drawn(rt, alloc, 1);
     let (_seat, report) = serve_connection(
         rt,
         alloc,
@@ -119,6 +157,8 @@ pub fn serve_through<N: Source + Sink, G: Gate, R: Abort + Wait + Sync>(
         seat,
         &mut hand,
         folders.as_slice(),
+        &book,
+        &mut share,
         conn,
         number,
         gate,

@@ -16,6 +16,7 @@ fn route(rt: &impl Abort, alloc: Global, kind: &str, rest: &[u8]) -> Route {
     match kind {
         "debuginfo" => Route::Debuginfo(id),
         "executable" => Route::Executable(id),
+        "metrics" => Route::Metrics,
         "source" => {
             let text = str::from_utf8(rest).expect(rt, "a text");
             Route::Source(id, path(alloc, text).expect(rt, "the path is canonical"))
@@ -51,7 +52,8 @@ fn says_itself(alloc: Global, route: &Route) -> bool {
 struct Printed(&'static str, &'static [u8], &'static str);
 
 // The reserved characters are those of RFC 3986, 2.2, and the unreserved those of 2.3.
-static PRINTED: [Printed; 8] = [
+static PRINTED: [Printed; 9] = [
+    Printed("metrics", b"", "/metrics"),
     Printed("debuginfo", b"", "/buildid/ab0c/debuginfo"),
     Printed("executable", b"", "/buildid/ab0c/executable"),
     Printed("source", b"/", "/buildid/ab0c/source/"),

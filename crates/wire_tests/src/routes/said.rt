@@ -1,5 +1,6 @@
 //! What targets say.
 
+use row_types::BuildId;
 use std::alloc::{AllocError, Global};
 use std::process::Abort;
 use webapi_routes::{Route, RouteFault, parse};
@@ -51,12 +52,12 @@ static REQUESTS: [Case; 13] = [
         b"/buildid/202122232425262728292a2b2c2d2e2f30313233/debug%zz",
         "BadEscape",
     ),
-    Case(b"/metrics", "NoRoute"),
+    Case(b"/metrics", "metrics"),
     Case(b"/nothing", "NoRoute"),
 ];
 
 /// Forms that are nearly a route's, queries, and faults in their order.
-static FORMS: [Case; 29] = [
+static FORMS: [Case; 35] = [
     Case(b"", "NoRoute"),
     Case(b"?", "NoRoute"),
     Case(b"/", "NoRoute"),
@@ -82,6 +83,12 @@ static FORMS: [Case; 29] = [
     Case(b"/buildid/abcd/section", "NoRoute"),
     Case(b"/buildid/abcd/section/", "NoRoute"),
     Case(b"/buildid/abcd/section/a/../b", "section abcd a/../b"),
+    Case(b"/metrics?a=b", "metrics"),
+    Case(b"/metrics/", "NoRoute"),
+    Case(b"//metrics", "NoRoute"),
+    Case(b"metrics", "NoRoute"),
+    Case(b"/Metrics", "NoRoute"),
+    Case(b"/metric", "NoRoute"),
     Case(b"/nothing/%zz", "BadEscape"),
     Case(b"/buildid/xyz/nothing", "NoRoute"),
     Case(b"/buildid/ab/debuginfo", "BadId"),
@@ -89,7 +96,7 @@ static FORMS: [Case; 29] = [
 ];
 
 // The examples of RFC 3986, 2.5, are U+00C0 and U+30A2; one in ISO 8859-1 is `%E4`.
-static ESCAPES: [Case; 17] = [
+static ESCAPES: [Case; 18] = [
     Case(b"%", "BadEscape"),
     Case(b"/%4", "BadEscape"),
     Case(b"/%g1", "BadEscape"),
@@ -97,6 +104,7 @@ static ESCAPES: [Case; 17] = [
     Case(b"/%%41", "BadEscape"),
     Case(b"/%41%", "BadEscape"),
     Case(b"/%41", "NoRoute"),
+    Case(b"/m%65trics", "metrics"),
     Case(b"/%62uildid%2Fabcd%2fdebuginf%6F", "debuginfo abcd"),
     Case(b"/buildid/%61%42cd/debuginfo", "debuginfo abcd"),
     Case(b"/buildid/ab%2Fcd/debuginfo", "NoRoute"),
@@ -112,9 +120,13 @@ static ESCAPES: [Case; 17] = [
     Case(b"/buildid/abcd/section/a\x00", "BadEscape"),
 ];
 
-/// A route as a line.
-fn line_of_route(rt: &impl Abort, alloc: Global, route: &Route) -> Result<String, AllocError> {
-    let id = route.build_id().expect(rt, "a build-id");
+/// A route of a build-id, as a line.
+fn line_of_id(
+    rt: &impl Abort,
+    alloc: Global,
+    route: &Route,
+    id: &BuildId,
+) -> Result<String, AllocError> {
     let id = id.print(alloc).expect(rt, "memory");
     match route {
         Route::Debuginfo(_) => format!(in alloc; "debuginfo {id}"),
@@ -124,6 +136,15 @@ fn line_of_route(rt: &impl Abort, alloc: Global, route: &Route) -> Result<String
             let name = str::from_utf8(name.bytes()).expect(rt, "a text");
             format!(in alloc; "section {id} {name}")
         }
+        Route::Metrics => panic!(rt; "a build-id of the counters"),
+    }
+}
+
+/// A route as a line.
+fn line_of_route(rt: &impl Abort, alloc: Global, route: &Route) -> Result<String, AllocError> {
+    match route.build_id() {
+        Some(id) => line_of_id(rt, alloc, route, id),
+        None => String::from_str(alloc, "metrics"),
     }
 }
 

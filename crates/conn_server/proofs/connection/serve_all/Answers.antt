@@ -12,8 +12,9 @@ use Rattle.conn_server.proofs.connection.serve_all.Goals as goal
 
 pub loop-entry-init : goal.loop-entry-init
 loop-entry-init g c =
-    let scene = scene_of g.W.Truth.true_row g.T.Tree.told g.W.Truth.version g.T.Tree.shows c.args.service.now.folders.now in
-    let a = stand_of c.args.seat.seen c.args.hand.now in
+    let scene = scene_of g.W.Truth.true_row g.T.Tree.told g.W.Truth.version g.T.Tree.shows c.args.service.now.folders.now
+    c.args.service.now.book.now.rows in
+    let a = stand_of c.args.seat.seen c.args.hand.now c.args.share.now in
     let stream = g.N.Stream.shows c.args.conn.now in
     let few : 0 < REQUESTS = omega arith in (
       subst (λ (reader : ReaderFacts). IsOpen scene a (fresh_wire stream) c.args.served.items a (wire_of stream reader))
@@ -22,18 +23,20 @@ loop-entry-init g c =
       c.requires.seat,
       subst (λ (told : List Served). length told < REQUESTS) (sym c.requires.none) few,
       c.requires.room,
+      c.requires.share,
     )
 
 pub loop-entry-preserved : goal.loop-entry-preserved
 loop-entry-preserved g c =
-    let scene = scene_of g.W.Truth.true_row g.T.Tree.told g.W.Truth.version g.T.Tree.shows c.args.service.now.folders.now in
-    let a = stand_of c.args.seat.seen c.args.hand.now in
+    let scene = scene_of g.W.Truth.true_row g.T.Tree.told g.W.Truth.version g.T.Tree.shows c.args.service.now.folders.now
+    c.args.service.now.book.now.rows in
+    let a = stand_of c.args.seat.seen c.args.hand.now c.args.share.now in
     let v = fresh_wire (g.N.Stream.shows c.args.conn.now) in
     let told : List Served = c.loop-entry.served.items in
     let base = c.loop-entry.invariant in
-    let b = stand_of c.loop-entry.seat.seen c.loop-entry.hand in
+    let b = stand_of c.loop-entry.seat.seen c.loop-entry.hand c.loop-entry.share in
     let w = wire_of (g.N.Stream.shows c.loop-entry.conn) c.loop-entry.reader in
-    let next = stand_of c.next_turn-next.result.0.seen c.next_turn-next.new.hand in
+    let next = stand_of c.next_turn-next.result.0.seen c.next_turn-next.new.hand c.next_turn-next.new.share in
     let u = wire_of (g.N.Stream.shows c.next_turn-next.new.conn) c.next_turn-next.new.reader in
     let later = c.next_turn-next.ensures.later in
     let count : c.len.result ≡ length c.loop-entry.served.items =
@@ -52,20 +55,22 @@ loop-entry-preserved g c =
       later.lock ∙ base.2,
       subst (λ (items : List Served). length items < REQUESTS) (sym c.push_reserved.ensures.items) bound,
       omega (arith, room, kept),
+      c.next_turn-next.ensures.share,
     )
 
 pub returns-in-Last-clause-serves : goal.returns-in-Last-clause-serves
 returns-in-Last-clause-serves g c =
-    let scene = scene_of g.W.Truth.true_row g.T.Tree.told g.W.Truth.version g.T.Tree.shows c.args.service.now.folders.now in
-    let b = stand_of c.loop-entry.seat.seen c.loop-entry.hand in
+    let scene = scene_of g.W.Truth.true_row g.T.Tree.told g.W.Truth.version g.T.Tree.shows c.args.service.now.folders.now
+    c.args.service.now.book.now.rows in
+    let b = stand_of c.loop-entry.seat.seen c.loop-entry.hand c.loop-entry.share in
     let w = wire_of (g.N.Stream.shows c.loop-entry.conn) c.loop-entry.reader in
-    let next = stand_of c.next_turn-next.result.0.seen c.next_turn-next.new.hand in
+    let next = stand_of c.next_turn-next.result.0.seen c.next_turn-next.new.hand c.next_turn-next.new.share in
     let u = wire_of (g.N.Stream.shows c.next_turn-next.new.conn) c.next_turn-next.new.reader in
     let base = c.loop-entry.invariant in
     let count : c.len.result ≡ length c.loop-entry.served.items =
     omega (arith, c.len.ensures, c.loop-entry.served.ok.0) in
     let turned = turn_as scene _ _ b w _ _ next u (ap (λ (n : ℕ). n + 1 == REQUESTS) count) c.in-Last.is c.next_turn-next.ensures.turn in
-    ends_last scene (stand_of c.args.seat.seen c.args.hand.now) (fresh_wire (g.N.Stream.shows c.args.conn.now))
+    ends_last scene (stand_of c.args.seat.seen c.args.hand.now c.args.share.now) (fresh_wire (g.N.Stream.shows c.args.conn.now))
     c.loop-entry.served.items b w base.0 c.in-Last.entry c.in-Last.end
     (record { served = c.push_reserved-in-Last.new.self; end = c.in-Last.end })
     next (g.N.Stream.shows c.next_turn-next.new.conn) base.3 turned
@@ -73,16 +78,17 @@ returns-in-Last-clause-serves g c =
 
 pub returns-in-Ended-clause-serves : goal.returns-in-Ended-clause-serves
 returns-in-Ended-clause-serves g c =
-    let scene = scene_of g.W.Truth.true_row g.T.Tree.told g.W.Truth.version g.T.Tree.shows c.args.service.now.folders.now in
-    let b = stand_of c.loop-entry.seat.seen c.loop-entry.hand in
+    let scene = scene_of g.W.Truth.true_row g.T.Tree.told g.W.Truth.version g.T.Tree.shows c.args.service.now.folders.now
+    c.args.service.now.book.now.rows in
+    let b = stand_of c.loop-entry.seat.seen c.loop-entry.hand c.loop-entry.share in
     let w = wire_of (g.N.Stream.shows c.loop-entry.conn) c.loop-entry.reader in
-    let next = stand_of c.next_turn-next.result.0.seen c.next_turn-next.new.hand in
+    let next = stand_of c.next_turn-next.result.0.seen c.next_turn-next.new.hand c.next_turn-next.new.share in
     let u = wire_of (g.N.Stream.shows c.next_turn-next.new.conn) c.next_turn-next.new.reader in
     let base = c.loop-entry.invariant in
     let count : c.len.result ≡ length c.loop-entry.served.items =
     omega (arith, c.len.ensures, c.loop-entry.served.ok.0) in
     let turned = turn_as scene _ _ b w _ _ next u (ap (λ (n : ℕ). n + 1 == REQUESTS) count) c.in-Ended.is c.next_turn-next.ensures.turn in
-    ends_by scene (stand_of c.args.seat.seen c.args.hand.now) (fresh_wire (g.N.Stream.shows c.args.conn.now))
+    ends_by scene (stand_of c.args.seat.seen c.args.hand.now c.args.share.now) (fresh_wire (g.N.Stream.shows c.args.conn.now))
     c.loop-entry.served.items b w base.0 c.in-Ended.end
     (record { served = c.loop-entry.served; end = c.in-Ended.end })
     next (g.N.Stream.shows c.next_turn-next.new.conn) base.3 turned

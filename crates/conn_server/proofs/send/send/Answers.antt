@@ -7,11 +7,11 @@ use Rattle.conn_server.specs.declared.report.Served.{Served}
 use Rattle.conn_server.proofs.SentLemmas.{sends}
 use Rattle.conn_server.proofs.send.send.Goals as goal
 
-pub returns : goal.returns
-returns g c =
+pub returns-clause-sends : goal.returns-clause-sends
+returns-clause-sends g c =
     let d : Decided = c.args.decided in
     let before = g.N.Stream.shows c.args.conn.now in
     let after = g.N.Stream.shows c.send_bytes-sent.new.conn in
-    subst (λ (told : Result Served ReplyFault). Sends d c.args.close c.args.with_body before after told) (sym c.told.ensures)
+    subst (λ (told : Result Served ReplyFault). Sends d c.args.close c.args.with_body before after told) (sym c.told.ensures.value)
     (sends d c.parts.result.0.now (option_copied c.parts.result.1) c.args.close c.args.with_body before after
     c.send_bytes-sent.result c.parts.ensures c.send_bytes-sent.ensures)
