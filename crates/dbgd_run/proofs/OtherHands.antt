@@ -67,10 +67,7 @@ module _ {T : Type 0} (s : Setting T) (roots : List (List ℕ)) (rest : List T) 
       zip_beside (HelpsWith s run.walk.listing (current run.found)) hands left rest (idle s run.walk.listing (current run.found)) run.hands.1,
     );
     kept = run.kept;
-    stays = run.stays;
-    goes = run.goes;
-    comes = run.comes;
-    brings = run.brings;
+    moves = run.moves;
     ends = run.ends;
   }
 

@@ -5,7 +5,6 @@ use Rattle.std.proofs.lemmas.List.{length-map}
 use Rattle.row_types.specs.Faults.{Rose}
 use Rattle.row_types.specs.Name.{NameFacts}
 use Rattle.row_types.specs.Row.{RowFacts}
-use Rattle.scan_queue.specs.Names.{is_in}
 use Rattle.scan_queue.specs.Pass.{PassFacts}
 use Rattle.index_keeper.specs.Answers.{for_rows, rows_given}
 use Rattle.index_keeper.specs.Keeper.{AsksKeeper, ShownKeeper}
@@ -30,6 +29,7 @@ use Rattle.tree_walk.specs.Ends.{WalksTree}
 use Rattle.tree_walk.specs.declared.walked.Walk.{Walk as WalkFacts}
 use Rattle.pass_runner.specs.Numbers.{summary_of}
 use Rattle.pass_runner.specs.Owned.{EndsPassHelped as EndsBeside, EndsPass, HandsGo, Helps, IsHelped, LeavesIndex, RunsPass, is_unwalked}
+use Rattle.pass_runner.specs.Settled.{KeepsListed}
 use Rattle.pass_runner.specs.declared.pass_end.PassEnd.{PassEnd}
 use Rattle.pass_runner.specs.declared.pass_end.PassEnd.TheVariants as ended
 use Rattle.dbgd_run.specs.Kept.{HasOneChange, HasRows, StoreHoldsRows, MakesChanges, MayHaveRows}
@@ -128,13 +128,9 @@ module _ {K T : Type 0} (s : Setting T) {shows : K → ShownKeeper} {from into :
       subst (λ names. AllZip (λ h l. Helps s.tells_files s.world.version listing names (s.sees h) (s.sees l)) hands left) old_names helps
 
   -- no row of a listed name went
-  kept_by : (listing : List NameFacts) (rows : List RowFacts)
-      → ((name : NameFacts) → is_in listing name ≡ true → is_in (row_names old.rows) name ≡ true → is_in (row_names rows) name ≡ true)
-      → (name : NameFacts) → is_in listing name ≡ true → is_in (row_names (current lent.opens.opened.rows)) name ≡ true
-      → is_in (row_names rows) name ≡ true
-  kept_by listing rows stays =
-      subst (λ names. (name : NameFacts) → is_in listing name ≡ true → is_in names name ≡ true → is_in (row_names rows) name ≡ true)
-      old_names stays
+  kept_by : (listing : List NameFacts) (rows : List RowFacts) → KeepsListed listing old.rows rows
+      → KeepsListed listing (current lent.opens.opened.rows) rows
+  kept_by listing rows stays = subst (λ (from : List RowFacts). KeepsListed listing from rows) old_rows stays
 
   unbegun : {roots : List (List ℕ)} {hand later : T} {hands left : List T} (walk : WalkFacts) → new ≡ old
       → WalksTree s.tells_files (s.sees hand) (s.sees later) roots (Ok walk)
@@ -203,10 +199,7 @@ module _ {K T : Type 0} (s : Setting T) {shows : K → ShownKeeper} {from into :
               (sym run.over) helps),
         );
         kept = kept_by run.walk.listing run.found.rows stands.stays;
-        stays = leaves.stays;
-        goes = leaves.goes;
-        comes = leaves.comes;
-        brings = leaves.brings;
+        moves = leaves.moves;
         ends =
             subst (λ (l : List NameFacts). Into l run.more (current lent.opens.opened.rows) run.found.rows new.rows) (sym run.over) ends;
       }

@@ -1,13 +1,12 @@
 -- The command `scan` (this project's rule): the store is opened, the index on it makes one pass over the folders, and
 -- the store has its keeper back. The rows that the store held and those that it has in the end are what the pass is
 -- said of.
-use Rattle.std.specs.Prelude.{◌≡◌, ◌≢◌, ◌⊎◌, ℕ, ◌+◌, ◌≤◌, Bool, true, false, List, All, Contains, drop, length, None, IsTrue, Ok, Err}
+use Rattle.std.specs.Prelude.{◌≡◌, ◌≢◌, ◌⊎◌, ℕ, ◌+◌, ◌≤◌, Bool, true, List, drop, length, None, IsTrue, Ok, Err}
 use Rattle.row_types.specs.Canon.{IsCanonPath}
 use Rattle.row_types.specs.Faults.{HasCause, Rose}
 use Rattle.row_types.specs.Name.{NameFacts, stamp_at}
 use Rattle.row_types.specs.Row.{RowFacts}
 use Rattle.row_types.specs.Rules.{Rules}
-use Rattle.scan_queue.specs.Names.{is_in}
 use Rattle.scan_queue.specs.declared.miss.Cause.TheVariants.{Appeared}
 use Rattle.scan_queue.specs.declared.miss.Miss.{Miss}
 use Rattle.index_keeper.specs.Store.{ShownStore, with_opened_path}
@@ -30,7 +29,7 @@ use Rattle.tree_walk.specs.declared.fault.WalkFault.{WalkFault}
 use Rattle.tree_walk.specs.declared.walked.Walk.{Walk}
 use Rattle.pass_runner.specs.Numbers.{summary_of}
 use Rattle.pass_runner.specs.Owned.{HandsGo, HearsPass, Helps, LoadsBeside, NoneAlteredBefore, TellsStill}
-use Rattle.pass_runner.specs.Settled.{IsBacked, IsReadOf, MayGo}
+use Rattle.pass_runner.specs.Settled.{IsBacked, KeepsListed, MovesRows}
 use Rattle.pass_runner.specs.declared.pass_end.PassEnd.{PassEnd}
 use Rattle.pass_runner.specs.declared.pass_end.PassEnd.TheVariants as pass
 use Rattle.pass_runner.specs.declared.summary.Summary.{Summary}
@@ -109,17 +108,14 @@ pub record EndsScanHelped {T : Type 0} (s : Setting T) (roots : List (List ℕ))
   pub hands :
       HandsGo (λ hand later. WalksTree s.tells_files (s.sees hand) (s.sees later) roots (Ok walk))
       (HelpsWith s walk.listing (current found)) before after
-  pub stays : (name : NameFacts) → is_in walk.listing name ≡ true
-      → is_in (row_names (current found)) name ≡ true → is_in (row_names left) name ≡ true
+  pub stays : KeepsListed walk.listing (current found) left
   pub ends : Ends left
 
 -- the pass was made: the store held the rows that were found, and those that are left are true. The other hands helped:
 -- each heard nothing but loads and looks, and no load of a path of a listed name that had a row of the edition; the rows
--- that were met stood then. The first hand heard a whole walk, and then nothing but loads of listed files whose names had
--- no row by then and looks under the folders. No row of a listed name went; from then on a row whose path isn't listed
--- and lies under a folder went only where the first hand heard a look that did not find its file, a row that came is of a
--- listed name, and one that wasn't met says what a load found. With one hand the rows that were met are those of the
--- edition that were found
+-- that were met stood then, and no row of a listed name had gone. The first hand heard a whole walk, and then nothing but
+-- loads of listed files whose names had no row by then and looks under the folders; from then on the rows went and came as
+-- in a pass, by what it heard. With one hand the rows that were met are those of the edition that were found
 pub record MakesPass {T : Type 0} (s : Setting T) (roots : List (List ℕ)) (before after : List T)
     (old new : ShownStore)
     (Ends : List NameFacts → List Heard → List RowFacts → List RowFacts → List RowFacts → Type 0)
@@ -139,15 +135,8 @@ pub record MakesPass {T : Type 0} (s : Setting T) (roots : List (List ℕ)) (bef
       (λ hand later. HearsPass s.tells_files s.world.version roots (row_names met) walk
       walked more (s.sees hand) (s.sees later))
       (HelpsWith s walk.listing (current found)) before after
-  pub kept : (name : NameFacts) → is_in walk.listing name ≡ true
-      → is_in (row_names (current found)) name ≡ true → is_in (row_names met) name ≡ true
-  pub stays : (name : NameFacts) → is_in walk.listing name ≡ true
-      → is_in (row_names met) name ≡ true → is_in (row_names left) name ≡ true
-  pub goes : (name : NameFacts) → is_in (row_names met) name ≡ true
-      → is_in (row_names left) name ≡ false → MayGo walk.listing roots more name
-  pub comes : (name : NameFacts) → is_in (row_names left) name ≡ true
-      → is_in (row_names met) name ≡ false → is_in walk.listing name ≡ true
-  pub brings : All (λ row. Contains met row ⊎ IsReadOf more row) left
+  pub kept : KeepsListed walk.listing (current found) met
+  pub moves : MovesRows walk.listing roots more met left
   pub ends : Ends walk.listing more (current found) met left
 
 -- the scan is whole: the rows have the listed names, in a told world they are one scan of the listing, the store has

@@ -93,10 +93,7 @@ module _ {K : Type 0} (world : Rules) (hands_given : ℕ) (old found : StateFact
     roots = settles.does.on.roots;
     origin = settles.does.on.origin;
     bounded = settles.does.on.bounded;
-    stays = settles.does.on.stays;
-    goes = settles.does.on.goes;
-    comes = settles.does.on.comes;
-    brings = settles.does.on.brings;
+    moves = settles.does.on.moves;
     missed =
         subst (λ (o : Option PassFacts). All (λ (miss : Miss). IsBacked walk.listing (row_names found.rows) settles.does.answers (Rose before.faults after.faults) miss.name miss.cause) (pass_or_none o).missed)
         settles.does.on.pass.is backed_new;

@@ -37,7 +37,7 @@ use Rattle.tree_walk.specs.declared.walked.Walk.{Walk}
 use Rattle.pass_runner.specs.Ends.{IsOutOfRoom}
 use Rattle.pass_runner.specs.Helped.{IsSparing}
 use Rattle.pass_runner.specs.Numbers.{summary_of}
-use Rattle.pass_runner.specs.Settled.{IsBacked, IsBrought, IsHeardAltered, MayBeAsked, MayGo, times_loaded}
+use Rattle.pass_runner.specs.Settled.{IsBacked, IsHeardAltered, KeepsListed, MayBeAsked, MovesRows, times_loaded}
 use Rattle.pass_runner.specs.declared.pass_end.PassEnd.{PassEnd}
 use Rattle.pass_runner.specs.declared.pass_end.PassEnd.TheVariants.{Whole, Missed, Walk as Unwalked, Broken}
 use Rattle.pass_runner.specs.declared.pass_end.PassEnd.TheVariants.{KeeperFault, LogFull, OutOfMemory}
@@ -62,10 +62,9 @@ pub record HearsPass (told : Bool) (version : Versions) (roots : List (List ℕ)
   pub tells : TellsStill told before → All (IsAnswerTold before.present) (walked ++ more)
   pub under : TellsStill told before → AreFilesUnder before.present roots walk.listing
 
--- what the pass left of the index, however it ended: a pass over the listing is open; no row of a listed name went; a row
--- whose path isn't listed and lies under a root went only where a look did not find its file; a row that came is of a
--- listed name; a row that wasn't there says what a load found; a name is missed only for a reason; no name is skipped, and
--- else the origin is as it was; and the log did not grow more than what is open became less, but for a void change
+-- what the pass left of the index, however it ended: a pass over the listing is open; the rows went and came as in a pass; a
+-- name is missed only for a reason; no name is skipped, and else the origin is as it was; and the log did not grow more than
+-- what is open became less, but for a void change
 pub record LeavesIndex {K : Type 0} (folders : List (List ℕ)) (listing : List NameFacts) (more : List Heard)
     (Failed : Type 0) (old new : StateFacts K) : Type 0 where
   pub pass : PassFacts
@@ -74,13 +73,7 @@ pub record LeavesIndex {K : Type 0} (folders : List (List ℕ)) (listing : List 
   pub roots : new.roots ≡ folders
   pub origin : new.origin ≡ unspared old.origin
   pub bounded : StaysBounded listing old new
-  pub stays : (name : NameFacts) → is_in listing name ≡ true
-      → is_in (row_names old.rows) name ≡ true → is_in (row_names new.rows) name ≡ true
-  pub goes : (name : NameFacts) → is_in (row_names old.rows) name ≡ true
-      → is_in (row_names new.rows) name ≡ false → MayGo listing folders more name
-  pub comes : (name : NameFacts) → is_in (row_names new.rows) name ≡ true
-      → is_in (row_names old.rows) name ≡ false → is_in listing name ≡ true
-  pub brings : All (IsBrought old.rows more) new.rows
+  pub moves : MovesRows listing folders more old.rows new.rows
   pub missed : All (λ miss. IsBacked listing (row_names old.rows) more Failed miss.name miss.cause) pass.missed
 
 -- what the other hands left of an index over which a pass had begun: its log goes on from the one before, no row of a
@@ -89,8 +82,7 @@ pub record LeavesIndex {K : Type 0} (folders : List (List ℕ)) (listing : List 
 -- alone, nothing happened
 pub record IsHelped {K : Type 0} (hands : ℕ) (listing : List NameFacts) (old found : StateFacts K) : Type 0 where
   pub log : IsPrefix old.log found.log
-  pub stays : (name : NameFacts) → is_in listing name ≡ true
-      → is_in (row_names old.rows) name ≡ true → is_in (row_names found.rows) name ≡ true
+  pub stays : KeepsListed listing old.rows found.rows
   pub origin : unspared found.origin ≡ unspared old.origin
   pub allowed : still_open listing (row_names old.rows) ≤ most_changes (plan_of listing (row_names old.rows))
   pub bounded : StaysBounded listing old found
