@@ -231,9 +231,9 @@ module _ {K T : Type 0} (s : Setting T) {shows : K → ShownKeeper} {from into :
         numbers = run.ends.numbers ∙ ap (λ names. summary_of (plan_of listing names) new.rows) old_names;
       })
   ends_by roots listing hand later hands left (ended.Missed miss) path run helps idle =
-      makes run helps (record { path = path; why = run.ends.why; before = run.ends.before; apart = run.ends.apart; has = has_rows run.ends.sound })
+      makes run helps (record { path = path; tells = run.ends.tells; has = has_rows run.ends.sound })
   ends_by roots listing hand later hands left (ended.Walk fault) path ends helps idle =
-      in_walk ends.same (record { walks = ends.walks; fits = ends.fits }, others_stay (idle refl))
+      in_walk ends.same (ends.stops, others_stay (idle refl))
   ends_by roots listing hand later hands left ended.Broken path ends helps idle = absurd ends
   ends_by roots listing hand later hands left ended.KeeperFault path (inl run) helps idle = inl (makes run helps (may_have run.ends))
   ends_by roots listing hand later hands left ended.KeeperFault path (inr run) helps idle = inr (helped_on run helps (may_have run.ends))

@@ -98,7 +98,7 @@ module _ (seed files count : ℕ) (old new : StateFacts MemKeeperFacts) where
   none_missed later listing miss path run =
       go miss.cause
       (subst (λ (l : List NameFacts). IsBacked l (row_names run.found.rows) run.more (Rose 0 0) miss.name miss.cause)
-      (sym run.over) run.ends.why)
+      (sym run.over) run.ends.tells.why)
     where
       go : (why : Cause) → IsBacked run.walk.listing (row_names run.found.rows) run.more (Rose 0 0) miss.name why → ⊥
       go cause.ReadFault rose = not_rose rose
@@ -130,7 +130,7 @@ module _ (seed files count : ℕ) (old new : StateFacts MemKeeperFacts) where
   ends_well (ended.Missed miss) some few passes path keeper opened =
       absurd (none_missed passes.later passes.listing miss path passes.ends)
   ends_well (ended.Walk fault) some few passes path keeper opened =
-      elim (walks_well seed files fault some few (passes.ends.fits (refl, tt))) [
+      elim (walks_well seed files fault some few (passes.ends.stops.fits (refl, tt))) [
         | inl is ↦ absurd (not_rose (passes.goes.cause.rose (ap (λ (f : WalkFault). is_hand_fault (ended.Walk f)) is)))
         | inr is ↦ subst (λ (f : WalkFault). EndsWell (ended.Walk f)) (sym is) tt
       ]

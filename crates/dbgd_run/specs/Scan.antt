@@ -1,13 +1,12 @@
 -- The command `scan` (this project's rule): the store is opened, the index on it makes one pass over the folders, and
 -- the store has its keeper back. The rows that the store held and those that it has in the end are what the pass is
 -- said of.
-use Rattle.std.specs.Prelude.{◌≡◌, ◌≢◌, ◌⊎◌, ℕ, ◌+◌, ◌≤◌, Bool, true, List, drop, length, None, IsTrue, Ok, Err}
+use Rattle.std.specs.Prelude.{◌≡◌, ◌≢◌, ◌⊎◌, ℕ, ◌+◌, ◌≤◌, Bool, true, List, drop, length, IsTrue, Ok}
 use Rattle.row_types.specs.Canon.{IsCanonPath}
 use Rattle.row_types.specs.Faults.{HasCause, Rose}
-use Rattle.row_types.specs.Name.{NameFacts, stamp_at}
+use Rattle.row_types.specs.Name.{NameFacts}
 use Rattle.row_types.specs.Row.{RowFacts}
 use Rattle.row_types.specs.Rules.{Rules}
-use Rattle.scan_queue.specs.declared.miss.Cause.TheVariants.{Appeared}
 use Rattle.scan_queue.specs.declared.miss.Miss.{Miss}
 use Rattle.index_keeper.specs.Store.{ShownStore, with_opened_path}
 use Rattle.index_keeper.specs.Tables.{KeptFacts}
@@ -24,12 +23,10 @@ use Rattle.index_state.specs.declared.open_fault.OpenFault.TheVariants as refusa
 use Rattle.tree_trait.specs.Heard.{Heard}
 use Rattle.tree_trait.specs.Shown.{HandsOn, ShownTree}
 use Rattle.tree_walk.specs.Ends.{WalksTree}
-use Rattle.tree_walk.specs.Files.{FitsFault}
-use Rattle.tree_walk.specs.declared.fault.WalkFault.{WalkFault}
 use Rattle.tree_walk.specs.declared.walked.Walk.{Walk}
 use Rattle.pass_runner.specs.Numbers.{summary_of}
-use Rattle.pass_runner.specs.Owned.{HandsGo, HearsPass, Helps, LoadsBeside, NoneAlteredBefore, TellsStill}
-use Rattle.pass_runner.specs.Settled.{IsBacked, KeepsListed, MovesRows}
+use Rattle.pass_runner.specs.Owned.{HandsGo, HearsPass, Helps, IsMissTold, LoadsBeside, WalksInto}
+use Rattle.pass_runner.specs.Settled.{KeepsListed, MovesRows}
 use Rattle.pass_runner.specs.declared.pass_end.PassEnd.{PassEnd}
 use Rattle.pass_runner.specs.declared.pass_end.PassEnd.TheVariants as pass
 use Rattle.pass_runner.specs.declared.summary.Summary.{Summary}
@@ -71,12 +68,6 @@ pub record EndsInWalk {T : Type 0} (s : Setting T) (before after : List T) (old 
   pub hands : FirstGoes (λ hand later. Walked (s.sees hand) (s.sees later)) before after
   pub has : HasRows s.tells_tables new (current found)
   pub made : new.made ≡ made_swept found old.made
-
--- the walk ended with a fault, which files that never change explain; nothing was loaded
-pub record WalksInto (told : Bool) (roots : List (List ℕ)) (fault : WalkFault)
-    (before after : ShownTree) : Type 0 where
-  pub walks : WalksTree told before after roots (Err fault)
-  pub fits : TellsStill told before → FitsFault before.present roots fault
 
 -- another hand heard nothing but loads and looks, and no load of a path of a listed name that had a row of the edition
 abbrev pub HelpsWith : {T : Type 0} → Setting T → List NameFacts → List RowFacts → T → T → Type 0
@@ -148,14 +139,11 @@ pub record IsWholeScan (world : Rules) (told : Bool) (new : ShownStore) (summary
   pub has : HasRows told new left
   pub numbers : summary ≡ summary_of (plan_of listing (row_names found)) left
 
--- a name was missed for a reason, no listed file that the first hand heard to be another stands before it by path, where it
--- appeared its path isn't listed, and the store has the rows that are left
+-- a name was missed and is told, by what the first hand heard, and the store has the rows that are left
 pub record ScanMissesName (told : Bool) (new : ShownStore) (Failed : Type 0) (miss : Miss)
     (listing : List NameFacts) (more : List Heard) (met left : List RowFacts) : Type 0 where
   pub path : IsCanonPath miss.name.path
-  pub why : IsBacked listing (row_names met) more Failed miss.name miss.cause
-  pub before : NoneAlteredBefore listing more miss.name
-  pub apart : miss.cause ≡ Appeared → stamp_at listing miss.name.path ≡ None
+  pub tells : IsMissTold miss Failed listing (row_names met) more
   pub has : HasRows told new left
 
 -- the log of the changes that lead to the rows has no room, and they aren't those of the listing; the rows that were found

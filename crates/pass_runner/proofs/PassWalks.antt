@@ -124,11 +124,13 @@ module _ {K : Type 0} (world : Rules) (hands_given : ℕ) (old found : StateFact
       let over : (pass_or_none new.pass).listing ≡ walk.listing = same_listing settles.does.on.pass in
       record {
         first = h.missed.first;
-        why = why;
-        before = λ other met altered. h.missed.least other (settles.does.altered other met altered);
-        apart = λ is.
-            subst (λ (l : List NameFacts). IsApart l miss) over h.missed.apart is
-            (backed_unlisted walk.listing (row_names found.rows) settles.does.answers (Rose before.faults after.faults) miss.name miss.cause why is);
+        tells = record {
+          why = why;
+          before = λ other met altered. h.missed.least other (settles.does.altered other met altered);
+          apart = λ is.
+              subst (λ (l : List NameFacts). IsApart l miss) over h.missed.apart is
+              (backed_unlisted walk.listing (row_names found.rows) settles.does.answers (Rose before.faults after.faults) miss.name miss.cause why is);
+        };
         sound = h.sound;
       }
 

@@ -104,11 +104,15 @@ pub record RunsPass {K : Type 0} (world : Rules) (told : Bool) (hands : ℕ) (ro
   pub bounded : IsWithinPlan listing old new
   pub ends : Ends found more
 
--- the roots could not be walked: nothing was loaded, and the index stays as it is
-pub record EndsUnwalked {K : Type 0} (told : Bool) (roots : List (List ℕ)) (before after : ShownTree)
-    (old new : StateFacts K) (fault : WalkFault) : Type 0 where
+-- the walk ended with a fault, which files that never change explain; nothing was loaded
+pub record WalksInto (told : Bool) (roots : List (List ℕ)) (fault : WalkFault) (before after : ShownTree) : Type 0 where
   pub walks : WalksTree told before after roots (Err fault)
   pub fits : TellsStill told before → FitsFault before.present roots fault
+
+-- the roots could not be walked: the index stays as it is
+pub record EndsUnwalked {K : Type 0} (told : Bool) (roots : List (List ℕ)) (before after : ShownTree)
+    (old new : StateFacts K) (fault : WalkFault) : Type 0 where
+  pub stops : WalksInto told roots fault before after
   pub same : new ≡ old
 
 -- the index is one scan of the listing: the rows' names are the listed ones, in a told world the rows are its scan, and a
@@ -125,14 +129,18 @@ abbrev pub NoneAlteredBefore : List NameFacts → List Heard → NameFacts → T
 NoneAlteredBefore listing answers name =
     (other : NameFacts) (met : Seen) → IsHeardAltered listing answers other met → ¬ IsBefore other.path name.path
 
--- a name was missed for a reason, and this was the first, so no file that was heard altered stands before it; the path of
--- one that appeared isn't listed
+-- the miss that is told: a name was missed for a reason, where these names had rows; no listed file that was heard to be
+-- another stands before it; the path of one that appeared isn't listed
+pub record IsMissTold (miss : Miss) (Failed : Type 0) (listing names : List NameFacts) (more : List Heard) : Type 0 where
+  pub why : IsBacked listing names more Failed miss.name miss.cause
+  pub before : NoneAlteredBefore listing more miss.name
+  pub apart : miss.cause ≡ Appeared → stamp_at listing miss.name.path ≡ None
+
+-- a name was missed, and this was the first
 pub record HasMissed {K : Type 0} (miss : Miss) (Failed : Type 0) (listing : List NameFacts) (new found : StateFacts K)
     (more : List Heard) : Type 0 where
   pub first : first_missed (pass_or_none new.pass).missed ≡ Some miss
-  pub why : IsBacked listing (row_names found.rows) more Failed miss.name miss.cause
-  pub before : NoneAlteredBefore listing more miss.name
-  pub apart : miss.cause ≡ Appeared → stamp_at listing miss.name.path ≡ None
+  pub tells : IsMissTold miss Failed listing (row_names found.rows) more
   pub sound : new.broken ≡ false
 
 -- the pass ended while, or as soon as, the other hands had helped: the first hand heard the walk alone, and the log grew by

@@ -2,7 +2,7 @@
 -- brought and of the one that came back. The first hand walks the roots; a pass over the walk listing begins; the other
 -- hands help; the first one tries again what is left, and decides alone. Whole: the log that came back leaves the walk
 -- listing, and the numbers are those of its plan against the rows of a log between the two.
-use Rattle.std.specs.Prelude.{◌≡◌, ◌≢◌, ℕ, ◌+◌, ◌<◌, ◌≤◌, Bool, true, not, List, [], ◌++◌, All, Contains, length, Some, None, Err}
+use Rattle.std.specs.Prelude.{◌≡◌, ◌≢◌, ℕ, ◌+◌, ◌<◌, ◌≤◌, Bool, true, not, List, [], ◌++◌, All, Contains, length, Some, None}
 use mathlib.Core.List.{IsPrefix}
 use Rattle.row_types.specs.Faults.{Rose}
 use Rattle.row_types.specs.Name.{NameFacts, stamp_at}
@@ -30,15 +30,15 @@ use Rattle.tree_trait.specs.Load.{LoadFacts}
 use Rattle.tree_trait.specs.Shown.{ShownTree}
 use Rattle.tree_trait.specs.Stat.{IsNothingAt}
 use Rattle.tree_trait.specs.declared.stat.StatAnswer.TheVariants.{File}
-use Rattle.tree_walk.specs.Ends.{IsWholeWalk, WalksTree}
-use Rattle.tree_walk.specs.Files.{AreFilesUnder, FitsFault, HasManyEntries, HasManyFiles}
+use Rattle.tree_walk.specs.Ends.{IsWholeWalk}
+use Rattle.tree_walk.specs.Files.{AreFilesUnder, HasManyEntries, HasManyFiles}
 use Rattle.tree_walk.specs.Walked.{AsksAll, IsWalkListing}
 use Rattle.tree_walk.specs.declared.fault.WalkFault.{WalkFault}
 use Rattle.tree_walk.specs.declared.fault.WalkFault.TheVariants as stop
 use Rattle.tree_walk.specs.declared.walked.Walk.{Walk}
 use Rattle.pass_runner.specs.Helped.{IsSparing}
 use Rattle.pass_runner.specs.Numbers.{summary_of}
-use Rattle.pass_runner.specs.Owned.{TellsStill}
+use Rattle.pass_runner.specs.Owned.{TellsStill, WalksInto}
 use Rattle.pass_runner.specs.declared.pass_end.PassEnd.{PassEnd}
 use Rattle.pass_runner.specs.declared.pass_end.PassEnd.TheVariants.{Whole, Missed, Walk as Unwalked, Broken}
 use Rattle.pass_runner.specs.declared.pass_end.PassEnd.TheVariants.{KeeperFault, LogFull, OutOfMemory}
@@ -167,8 +167,7 @@ pub record RunsShared (world : Rules) (told : Bool) (roots : List (List ℕ)) (b
 -- the roots could not be walked: the token saw nothing new
 pub record StopsShared (told : Bool) (roots : List (List ℕ)) (brought log : List Change) (before after : ShownTree)
     (fault : WalkFault) : Type 0 where
-  pub walks : WalksTree told before after roots (Err fault)
-  pub fits : TellsStill told before → FitsFault before.present roots fault
+  pub stops : WalksInto told roots fault before after
   pub same : log ≡ brought
 
 -- how a pass over a shared index ends
