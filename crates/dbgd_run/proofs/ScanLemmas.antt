@@ -1,5 +1,5 @@
 -- What the status of a scan says, by how it ended.
-use Rattle.std.proofs.Common.{◌≡◌, inl, inr, ℕ, ◌+◌, ◌<◌, List, Bool, None, length, sym, refl, subst, arith, IsTrue}
+use Rattle.std.proofs.Common.{◌≡◌, inl, inr, ℕ, ◌+◌, ◌<◌, List, Bool, length, sym, refl, subst, arith, IsTrue}
 use Rattle.std.specs.List.{Contains}
 use Rattle.row_types.specs.Canon.{IsCanonPath}
 use Rattle.row_types.specs.Faults.{Rose}
@@ -84,23 +84,23 @@ heard_other {walk = walk} {walked = walked} {more = more} Failed name (cause.Alt
   walk = walk;
   walked = walked;
   more = more;
-  heard = hears.heard;
-  whole = hears.whole;
+  heard = hears.walks.heard;
+  whole = hears.walks.whole;
   name = name;
   cause = cause.Altered met;
   why = tells.why;
-  still = never_changed Failed name (cause.Altered met) hears tt path tells.why;
+  still = never_changed Failed name (cause.Altered met) hears tt path tells.why tells.apart;
 }
 heard_other {walk = walk} {walked = walked} {more = more} Failed name cause.Appeared hears change path tells = record {
   walk = walk;
   walked = walked;
   more = more;
-  heard = hears.heard;
-  whole = hears.whole;
+  heard = hears.walks.heard;
+  whole = hears.walks.whole;
   name = name;
   cause = cause.Appeared;
   why = record { unlisted = tells.apart refl; heard = tells.why.seen.heard };
-  still = never_changed Failed name cause.Appeared hears tt path tells.why;
+  still = never_changed Failed name cause.Appeared hears tt path tells.why tells.apart;
 }
 
 module _ {T : Type 0} (s : Setting T) (path : List ℕ) (roots : List (List ℕ)) (before after : ProgramScene T) where
@@ -280,7 +280,7 @@ module _ {T : Type 0} (s : Setting T) (path : List ℕ) (roots : List (List ℕ)
       (λ hand later. HearsPass s.tells_files s.world.version roots (row_names ends.met) ends.walk ends.walked ends.more (s.sees hand) (s.sees later))
       (HelpsWith s ends.walk.listing (current ends.found))
       (λ b a. TellsStill s.tells_files b → AreFilesUnder b.present roots ends.walk.listing) before.hands after.hands
-      (λ hand later hears. hears.under) ends.hands)
+      (λ hand later hears. hears.walks.under) ends.hands)
       (λ b a hand so. so hand.still) in
       let same : free.rows ≡ ends.found =
       one_rows free.held (subst (λ values. AreRows ends.found values) (ends.held.gave.tells free.tells) ends.held.sound) in

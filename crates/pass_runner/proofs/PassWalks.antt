@@ -1,7 +1,7 @@
 -- A pass whose listing was walked.
 use Rattle.std.proofs.Common.{◌≡◌, ℕ, inl, inr, Bool, true, false, List, [], Option, refl, sym, ◌∙◌, ap, subst, arith, Ok}
 use Rattle.std.specs.List.{All, filter}
-use Rattle.std.proofs.lemmas.List.Elements.{All-append, All-nil, All-weaker}
+use Rattle.std.proofs.lemmas.List.Elements.{All-nil, All-weaker}
 use Rattle.row_types.specs.Faults.{Rose}
 use Rattle.row_types.specs.Name.{NameFacts}
 use Rattle.row_types.specs.Rules.{Rules}
@@ -13,7 +13,6 @@ use Rattle.scan_queue.specs.Pass.{PassFacts}
 use Rattle.scan_queue.specs.declared.miss.Cause.{Cause}
 use Rattle.scan_queue.specs.declared.miss.Cause.TheVariants.{ReadFault, Altered, Appeared}
 use Rattle.scan_queue.specs.declared.miss.Miss.{Miss}
-use Rattle.tree_trait.specs.Asks.{IsAnswerTold}
 use Rattle.tree_trait.specs.Found.{Versions}
 use Rattle.tree_trait.specs.Heard.{Heard}
 use Rattle.tree_trait.specs.Shown.{HandsOn, ShownTree}
@@ -31,8 +30,8 @@ use Rattle.pass_runner.specs.declared.pass_end.PassEnd.{PassEnd}
 use Rattle.pass_runner.specs.declared.pass_end.PassEnd.TheVariants.{Whole, Missed, Walk, Broken}
 use Rattle.pass_runner.specs.declared.pass_end.PassEnd.TheVariants.{KeeperFault, LogFull, OutOfMemory}
 use Rattle.pass_runner.proofs.Appearing.{backed_unlisted}
-use Rattle.pass_runner.proofs.FullAnswers.{full_stays, listing_stays}
-use Rattle.tree_trait.proofs.ListenLemmas.{heard_both, listens_none}
+use Rattle.pass_runner.proofs.FullAnswers.{hears_walked}
+use Rattle.tree_trait.proofs.ListenLemmas.{listens_none}
 use Rattle.pass_runner.proofs.Moves.{same_listing}
 use Rattle.pass_runner.proofs.PassEnds.{all_backed, first_is}
 use Rattle.pass_runner.proofs.PassHands.{rose_later}
@@ -54,22 +53,11 @@ module _ {K : Type 0} (world : Rules) (hands_given : ℕ) (old found : StateFact
   -- what the hand heard, of the walk and of the settling
   heard_pass : HearsPass told world.version roots (row_names found.rows) walk walks.goes.more settles.does.answers before after
   heard_pass = record {
-    heard = heard_both before.heard met.heard after.heard walks.goes.more settles.does.answers walks.goes.heard settles.does.listens.heard;
-    whole = walks.goes.ends;
-    full =
-        full_stays roots (MayBeAsked walk.listing roots (row_names found.rows)) (λ path answer never. never) walks.goes.more
-        settles.does.answers settles.does.wanted walks.goes.ends.full;
-    listing =
-        listing_stays roots (MayBeAsked walk.listing roots (row_names found.rows)) (λ path answer never. never) walks.goes.more
-        settles.does.answers settles.does.wanted walks.goes.ends.full walk.listing walks.goes.ends.listing;
+    walks =
+        hears_walked (MayBeAsked walk.listing roots (row_names found.rows)) (λ path answer never. never) walks under hands
+        settles.does.answers settles.does.listens settles.does.wanted;
     wanted = settles.does.wanted;
     once = settles.once;
-    fits = settles.does.listens.fits;
-    tells = λ t.
-        All-append (IsAnswerTold before.present) walks.goes.more settles.does.answers (walks.goes.tells t.0 t.1)
-        (subst (λ (names : List NameFacts). All (IsAnswerTold names) settles.does.answers) (hands.still t.1).same
-        (settles.does.listens.tells t.0 (hands.still t.1).still));
-    under = under;
   }
 
   -- a count that rose in the settling rose in the pass

@@ -47,20 +47,26 @@ use Rattle.pass_runner.specs.declared.summary.Summary.{Summary}
 abbrev pub TellsStill : Bool → ShownTree → Type 0
 TellsStill told hand = IsTrue told × hand.Still
 
--- what the first hand heard: a whole walk of the roots, and then nothing but loads of listed files whose names had no row
--- and looks at paths under a root; no path was loaded twice. All of it is full, and leads to the listing. Where the hand
--- tells files that never change, these are the answers that it tells of them, and the listing is the files under the roots
-pub record HearsPass (told : Bool) (version : Versions) (roots : List (List ℕ)) (names : List NameFacts) (walk : Walk)
-    (walked more : List Heard) (before after : ShownTree) : Type 0 where
+-- what the first hand heard: a whole walk of the roots, and then more. All of it is full, and leads to the listing. Where
+-- the hand tells files that never change, these are the answers that it tells of them, and the listing is the files under
+-- the roots
+pub record HearsWalked (told : Bool) (version : Versions) (roots : List (List ℕ)) (walk : Walk) (walked more : List Heard)
+    (before after : ShownTree) : Type 0 where
   pub heard : after.heard ≡ with_answers before.heard (walked ++ more)
   pub whole : IsWholeWalk walked roots walk
   pub full : AsksAll (walked ++ more) roots
   pub listing : IsWalkListing (walked ++ more) roots walk.listing
-  pub wanted : All (MayBeAsked walk.listing roots names) more
-  pub once : (path : List ℕ) → times_loaded more path ≤ 1
   pub fits : All (FitsAny version) more
   pub tells : TellsStill told before → All (IsAnswerTold before.present) (walked ++ more)
   pub under : TellsStill told before → AreFilesUnder before.present roots walk.listing
+
+-- and behind the walk nothing but loads of listed files whose names had no row and looks at paths under a root; no path was
+-- loaded twice
+pub record HearsPass (told : Bool) (version : Versions) (roots : List (List ℕ)) (names : List NameFacts) (walk : Walk)
+    (walked more : List Heard) (before after : ShownTree) : Type 0 where
+  pub walks : HearsWalked told version roots walk walked more before after
+  pub wanted : All (MayBeAsked walk.listing roots names) more
+  pub once : (path : List ℕ) → times_loaded more path ≤ 1
 
 -- what the pass left of the index, however it ended: a pass over the listing is open; the rows went and came as in a pass; a
 -- name is missed only for a reason; no name is skipped, and else the origin is as it was; and the log did not grow more than
