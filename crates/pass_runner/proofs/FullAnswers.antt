@@ -1,28 +1,19 @@
 -- What a walk heard stays full, and leads to the same listing, where no reading of a folder follows it.
-use Rattle.std.proofs.Common.{◌≡◌, ℕ, inl, inr, Bool, true, List, [], ◌∷◌, ◌++◌, Option, Some, None, IsSome, refl, sym, ◌∙◌, ap, subst, Ok}
+use Rattle.std.proofs.Common.{◌≡◌, ℕ, inl, inr, true, List, [], ◌∷◌, ◌++◌, Option, Some, None, IsSome, refl, sym, ◌∙◌, ap, subst}
 use Rattle.std.specs.List.{All}
 use Rattle.std.specs.Option.{option_or}
-use Rattle.std.proofs.lemmas.List.Elements.{All-append, All-head, All-tail}
+use Rattle.std.proofs.lemmas.List.Elements.{All-head, All-tail}
 use Rattle.row_types.specs.Name.{NameFacts}
-use Rattle.tree_trait.specs.Asks.{IsAnswerTold}
 use Rattle.tree_trait.specs.Dir.{DirFacts}
 use Rattle.tree_trait.specs.Entry.{has_entry}
-use Rattle.tree_trait.specs.Found.{Versions}
 use Rattle.tree_trait.specs.Heard.{Heard, load, stat, read_dir}
-use Rattle.tree_trait.specs.Listens.{Listens}
-use Rattle.tree_trait.specs.Shown.{HandsOn, ShownTree}
 use Rattle.tree_trait.specs.declared.entry.EntryKind.{EntryKind}
 use Rattle.tree_trait.specs.declared.entry.EntryKind.TheVariants as kind
 use Rattle.tree_trait.specs.declared.stat.StatAnswer.{StatAnswer}
-use Rattle.tree_trait.proofs.ListenLemmas.{heard_both}
 use Rattle.tree_walk.specs.Answers.{listed_entries, first_look, first_reading, first_some, look_at, reading_of}
-use Rattle.tree_walk.specs.Ends.{WalksTree}
-use Rattle.tree_walk.specs.Files.{AreFilesUnder}
 use Rattle.tree_walk.specs.Walked.{AsksAll, IsCandidate, IsEntry, IsFolder, IsNamed, IsReached, IsWalkListing, IsWalked, root, entry}
-use Rattle.tree_walk.specs.declared.walked.Walk.{Walk as WalkFacts}
 use Rattle.tree_walk.proofs.FirstLemmas.{first_some-append, or_none}
 use Rattle.tree_walk.proofs.ReachLemmas.{candidate_more}
-use Rattle.pass_runner.specs.Owned.{HearsWalked, TellsStill}
 
 module _ (roots : List (List ℕ)) (Asked : Heard → Type 0)
     (never : (path : List ℕ) (answer : DirFacts) → Asked (read_dir path answer) → ⊥) where
@@ -124,23 +115,3 @@ module _ (roots : List (List ℕ)) (Asked : Heard → Type 0)
           λ w. (h.all name).1 (looked_before name w),
         );
       }
-
--- what the hand heard, of a walk and of what followed it
-pub hears_walked : {told : Bool} {version : Versions} {roots : List (List ℕ)} {before met after : ShownTree} {walk : WalkFacts}
-    {Asks Fails : Type 0} (Asked : Heard → Type 0) → ((path : List ℕ) (answer : DirFacts) → Asked (read_dir path answer) → ⊥)
-    → (walks : WalksTree told before met roots (Ok walk))
-    → (TellsStill told before → AreFilesUnder before.present roots walk.listing)
-    → HandsOn told version before met Asks Fails → (more : List Heard) → Listens told version met after more
-    → All Asked more → HearsWalked told version roots walk walks.goes.more more before after
-hears_walked {roots = roots} {before = before} {met = met} {after = after} {walk = walk} Asked never walks under hands more listens asked = record {
-  heard = heard_both before.heard met.heard after.heard walks.goes.more more walks.goes.heard listens.heard;
-  whole = walks.goes.ends;
-  full = full_stays roots Asked never walks.goes.more more asked walks.goes.ends.full;
-  listing = listing_stays roots Asked never walks.goes.more more asked walks.goes.ends.full walk.listing walks.goes.ends.listing;
-  fits = listens.fits;
-  tells = λ t.
-      All-append (IsAnswerTold before.present) walks.goes.more more (walks.goes.tells t.0 t.1)
-      (subst (λ (names : List NameFacts). All (IsAnswerTold names) more) (hands.still t.1).same
-      (listens.tells t.0 (hands.still t.1).still));
-  under = under;
-}

@@ -47,25 +47,10 @@ pass_then p q = record {
 }
 
 -- what was heard is among more
-module _ (some more : List Heard) (among : (h : Heard) → Contains some h → Contains more h) where
+module _ (some more : List Heard) {Failed Fails : Type 0} (among : (h : Heard) → Contains some h → Contains more h) (so : Failed → Fails) where
   gone_as : {name : NameFacts} → IsSeenGone some name → IsSeenGone more name
   gone_as {name} gone = record { answer = gone.answer; heard = among _ gone.heard; missing = gone.missing }
 
-  brought_as : (rows : List RowFacts) (row : RowFacts) → IsBrought rows some row → IsBrought rows more row
-  brought_as rows row (inl before) = inl before
-  brought_as rows row (inr read) = inr (record { answer = read.answer; heard = among _ read.heard; reads = read.reads })
-
-  moves_as : {listing : List NameFacts} {roots : List (List ℕ)} {old new : List RowFacts} → MovesRows listing roots some old new
-      → MovesRows listing roots more old new
-  moves_as {old = old} {new = new} moves = record {
-    stays = moves.stays;
-    goes = λ name there gone none under. gone_as (moves.goes name there gone none under);
-    comes = moves.comes;
-    brings = All-weaker (IsBrought old some) (IsBrought old more) (brought_as old) new moves.brings;
-  }
-
--- and a count that rose so rose otherwise
-module _ (some more : List Heard) {Failed Fails : Type 0} (among : (h : Heard) → Contains some h → Contains more h) (so : Failed → Fails) where
   backed_as : (listing names : List NameFacts) (name : NameFacts) (cause : Cause) → IsBacked listing names some Failed name cause
       → IsBacked listing names more Fails name cause
   backed_as listing names name ReadFault h = so h
@@ -79,6 +64,10 @@ module _ (some more : List Heard) {Failed Fails : Type 0} (among : (h : Heard) �
   miss_as listing names missed miss (inl before) = inl before
   miss_as listing names missed miss (inr why) = inr (backed_as listing names miss.name miss.cause why)
 
+  brought_as : (rows : List RowFacts) (row : RowFacts) → IsBrought rows some row → IsBrought rows more row
+  brought_as rows row (inl before) = inl before
+  brought_as rows row (inr read) = inr (record { answer = read.answer; heard = among _ read.heard; reads = read.reads })
+
   pub advances_as : {K : Type 0} {shows : K → ShownKeeper} {old new : StateFacts K} → Advances shows some Failed old new
       → Advances shows more Fails old new
   advances_as {old = old} {new = new} on = record {
@@ -86,7 +75,12 @@ module _ (some more : List Heard) {Failed Fails : Type 0} (among : (h : Heard) �
     pass = on.pass;
     roots = on.roots;
     origin = on.origin;
-    moves = moves_as some more among on.moves;
+    moves = record {
+      stays = on.moves.stays;
+      goes = λ name there gone none under. gone_as (on.moves.goes name there gone none under);
+      comes = on.moves.comes;
+      brings = All-weaker (IsBrought old.rows some) (IsBrought old.rows more) (brought_as old.rows) new.rows on.moves.brings;
+    };
     missed =
         All-weaker (MissesBy old some Failed)
         (MissesBy old more Fails)
@@ -120,32 +114,26 @@ moves_same {listing} {roots} {answers} {old} {new} same =
     })
 
 -- rows that moved once and again
-moves_then : {listing : List NameFacts} {roots : List (List ℕ)} {xs ys : List Heard} {old mid new : List RowFacts}
-    → MovesRows listing roots xs old mid → MovesRows listing roots ys mid new → MovesRows listing roots (xs ++ ys) old new
-moves_then {listing} {roots} {xs} {ys} {old} {mid} {new} p q =
+moves_then : {listing : List NameFacts} {roots : List (List ℕ)} {answers : List Heard} {old mid new : List RowFacts}
+    → MovesRows listing roots answers old mid → MovesRows listing roots answers mid new → MovesRows listing roots answers old new
+moves_then {listing} {roots} {answers} {old} {mid} {new} p q =
     record {
       stays = λ name listed there. q.stays name listed (p.stays name listed there);
       goes = λ name there gone none under.
-          elim (is_in (row_names mid) name) as (λ v. is_in (row_names mid) name ≡ v → IsSeenGone (xs ++ ys) name) [
-            | true ↦ λ stood. later.goes name stood gone none under
-            | false ↦ λ went. sooner.goes name there went none under
+          elim (is_in (row_names mid) name) as (λ v. is_in (row_names mid) name ≡ v → IsSeenGone answers name) [
+            | true ↦ λ stood. q.goes name stood gone none under
+            | false ↦ λ went. p.goes name there went none under
           ] refl;
       comes = λ name there fresh.
           elim (is_in (row_names mid) name) as (λ v. is_in (row_names mid) name ≡ v → is_in listing name ≡ true) [
             | true ↦ λ stood. p.comes name stood fresh
             | false ↦ λ absent. q.comes name there absent
           ] refl;
-      brings = All-weaker (IsBrought mid (xs ++ ys)) (IsBrought old (xs ++ ys)) brought new later.brings;
+      brings = All-weaker (IsBrought mid answers) (IsBrought old answers) brought new q.brings;
     }
   where
-    sooner : MovesRows listing roots (xs ++ ys) old mid
-    sooner = moves_as xs (xs ++ ys) (λ h. Contains-append_left xs ys h) p
-
-    later : MovesRows listing roots (xs ++ ys) mid new
-    later = moves_as ys (xs ++ ys) (λ h. Contains-append_right xs ys h) q
-
-    brought : (row : RowFacts) → IsBrought mid (xs ++ ys) row → IsBrought old (xs ++ ys) row
-    brought row (inl there) = All-contains (IsBrought old (xs ++ ys)) mid row sooner.brings there
+    brought : (row : RowFacts) → IsBrought mid answers row → IsBrought old answers row
+    brought row (inl there) = All-contains (IsBrought old answers) mid row p.brings there
     brought row (inr read) = inr read
 
 -- where no row of an unlisted name came, one that stands later stood before
@@ -169,6 +157,7 @@ pub advances_then : {K : Type 0} {shows : K → ShownKeeper} {xs ys : List Heard
     {old mid new : StateFacts K} → (First → Failed) → (Second → Failed) → Advances shows xs First old mid
     → Advances shows ys Second mid new → Advances shows (xs ++ ys) Failed old new
 advances_then {K} {shows} {xs} {ys} {First} {Second} {Failed} {old} {mid} {new} first second p q =
+    let a : Advances shows (xs ++ ys) Failed old mid = advances_as xs (xs ++ ys) (λ h. Contains-append_left xs ys h) first p in
     let b : Advances shows (xs ++ ys) Failed mid new = advances_as ys (xs ++ ys) (λ h. Contains-append_right xs ys h) second q in
     let listing : (pass_or_none mid.pass).listing ≡ (pass_or_none old.pass).listing = same_listing p.pass in
     record {
@@ -177,9 +166,9 @@ advances_then {K} {shows} {xs} {ys} {First} {Second} {Failed} {old} {mid} {new} 
       roots = q.roots ∙ p.roots;
       origin = q.origin ∙ p.origin;
       moves =
-          moves_then p.moves
-          (subst (λ (l : List NameFacts). MovesRows l old.roots ys mid.rows new.rows) listing
-          (subst (λ (r : List (List ℕ)). MovesRows (pass_or_none mid.pass).listing r ys mid.rows new.rows) p.roots q.moves));
+          moves_then a.moves
+          (subst (λ (l : List NameFacts). MovesRows l old.roots (xs ++ ys) mid.rows new.rows) listing
+          (subst (λ (r : List (List ℕ)). MovesRows (pass_or_none mid.pass).listing r (xs ++ ys) mid.rows new.rows) p.roots b.moves));
       missed =
           All-weaker (Later (pass_or_none old.pass).listing) (Sooner (pass_or_none old.pass).listing) (λ m why. before m why)
           (pass_or_none new.pass).missed

@@ -26,7 +26,7 @@ use Rattle.pass_runner.specs.declared.pass_end.PassEnd.TheVariants.{Whole, Misse
 use Rattle.pass_runner.specs.declared.pass_end.PassEnd.TheVariants.{KeeperFault, LogFull, OutOfMemory}
 use Rattle.pass_runner.proofs.LeadLemmas.{met_as}
 use Rattle.pass_runner.proofs.PassHands.{rose_later}
-use Rattle.pass_runner.proofs.FullAnswers.{hears_walked}
+use Rattle.pass_runner.proofs.PassWalks.{hears_walked}
 use Rattle.pass_runner.proofs.StillLemmas.{never_other, never_there}
 
 -- a pass that was led over a listing isn't one whose roots could not be walked
@@ -87,7 +87,7 @@ module _ (world : Rules) {told : Bool} {roots : List (List ℕ)} (brought log : 
   hears_shared : (more : List Heard) → Listens told world.version met after more → All (IsSparing []) more
       → HearsShared told world.version roots walk walks.goes.more more before after
   hears_shared more listens asks = record {
-    walks = hears_walked (IsSparing []) (λ path answer never. never) walks under hands more listens asks;
+    walks = hears_walked world walks under hands (IsSparing []) (λ path answer never. never) more listens asks;
     asks = asks;
   }
 
