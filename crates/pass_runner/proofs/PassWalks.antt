@@ -81,17 +81,18 @@ module _ (world : Rules) {told : Bool} {roots : List (List ℕ)} {before met aft
       once = settles.once;
     }
 
+    -- by what a name was missed
+    abbrev Backed : Type 0 → Miss → Type 0
+    Backed Failed = λ (miss : Miss). IsBacked walk.listing (row_names found.rows) settles.does.answers Failed miss.name miss.cause
+
     -- a count that rose in the settling rose in the pass
-    fault_late : (miss : Miss) → IsBacked walk.listing (row_names found.rows) settles.does.answers (Rose met.faults after.faults) miss.name miss.cause
-        → IsBacked walk.listing (row_names found.rows) settles.does.answers (Rose before.faults after.faults) miss.name miss.cause
+    fault_late : (miss : Miss) → Backed (Rose met.faults after.faults) miss → Backed (Rose before.faults after.faults) miss
     fault_late miss why = backed_so walk.listing (row_names found.rows) settles.does.answers (rose_later before.faults met.faults after.faults hands.cause.later) miss.name miss.cause why
 
-    backed_new : All (λ (miss : Miss). IsBacked walk.listing (row_names found.rows) settles.does.answers (Rose before.faults after.faults) miss.name miss.cause)
-        (pass_or_none new.pass).missed
+    backed_new : All (Backed (Rose before.faults after.faults)) (pass_or_none new.pass).missed
     backed_new =
-        All-weaker (λ (miss : Miss). IsBacked walk.listing (row_names found.rows) settles.does.answers (Rose met.faults after.faults) miss.name miss.cause)
-        (λ (miss : Miss). IsBacked walk.listing (row_names found.rows) settles.does.answers (Rose before.faults after.faults) miss.name miss.cause)
-        fault_late (pass_or_none new.pass).missed (all_backed refl settles)
+        All-weaker (Backed (Rose met.faults after.faults)) (Backed (Rose before.faults after.faults)) fault_late (pass_or_none new.pass).missed
+        (all_backed refl settles)
 
     -- what it left of the index
     left_index : LeavesIndex roots walk.listing settles.does.answers (Rose before.faults after.faults) found new
@@ -104,7 +105,7 @@ module _ (world : Rules) {told : Bool} {roots : List (List ℕ)} {before met aft
       bounded = settles.does.on.bounded;
       moves = settles.does.on.moves;
       missed =
-          subst (λ (o : Option PassFacts). All (λ (miss : Miss). IsBacked walk.listing (row_names found.rows) settles.does.answers (Rose before.faults after.faults) miss.name miss.cause) (pass_or_none o).missed)
+          subst (λ (o : Option PassFacts). All (Backed (Rose before.faults after.faults)) (pass_or_none o).missed)
           settles.does.on.pass.is backed_new;
     }
 
@@ -128,8 +129,7 @@ module _ (world : Rules) {told : Bool} {roots : List (List ℕ)} {before met aft
         → HasMissed miss (Rose before.faults after.faults) walk.listing new found settles.does.answers
     runs_to_miss miss h =
         let why =
-        first_is (λ (m : Miss). IsBacked walk.listing (row_names found.rows) settles.does.answers (Rose before.faults after.faults) m.name m.cause)
-        (pass_or_none new.pass).missed miss backed_new h.missed.first in
+        first_is (Backed (Rose before.faults after.faults)) (pass_or_none new.pass).missed miss backed_new h.missed.first in
         let over : (pass_or_none new.pass).listing ≡ walk.listing = same_listing settles.does.on.pass in
         record {
           first = h.missed.first;
