@@ -1,24 +1,22 @@
 -- A scan that some of the hands were lent to is one of all: the others heard nothing.
-use Rattle.std.proofs.Common.{◌≡◌, inl, inr, ℕ, zero, suc, ◌+◌, ◌≤◌, Bool, List, [], ◌∷◌, ◌++◌, drop, take, length, min, refl, sym, ◌∙◌, ap, subst, arith, IsTrue}
+use Rattle.std.proofs.Common.{◌≡◌, inl, inr, ℕ, zero, suc, ◌+◌, ◌≤◌, List, [], ◌∷◌, ◌++◌, drop, take, length, min, refl, sym, ◌∙◌, ap, subst, arith, IsTrue}
 use Rattle.std.specs.Prelude.{IsSome}
-use Rattle.std.specs.List.{All, AllZip, filter, sum_by}
-use Rattle.std.proofs.lemmas.List.{drop-append-le, drop_min, length-append, length-take, take-append-drop, take_at}
-use Rattle.std.proofs.lemmas.List.Elements.{All-nil, All-take}
+use Rattle.std.specs.List.{AllZip, sum_by}
+use Rattle.std.proofs.lemmas.List.{drop-append-le, drop_min, length-append, length-take, take-append-drop}
 use Rattle.std.proofs.lemmas.List.Sums.{sum_by-append}
 use Rattle.row_types.specs.Name.{NameFacts}
 use Rattle.row_types.specs.Row.{RowFacts}
-use Rattle.scan_queue.specs.Names.{is_in}
 use Rattle.index_keeper.specs.Store.{ShownStore}
 use Rattle.index_rows.specs.Rows.{row_names}
 use Rattle.index_state.specs.Opening.{current}
 use Rattle.index_state.specs.declared.open_fault.OpenFault.{OpenFault}
 use Rattle.tree_trait.specs.Heard.{Heard}
 use Rattle.tree_trait.specs.Shown.{HandsOn, ShownTree}
-use Rattle.tree_trait.proofs.ListenLemmas.{listens_none}
-use Rattle.pass_runner.specs.Helped.{IsSparing}
-use Rattle.pass_runner.specs.Owned.{HandsGo, HearLoads, LoadsBeside, loads_told}
+use Rattle.pass_runner.specs.Owned.{HearLoads, LoadsBeside, loads_told}
 use Rattle.pass_runner.specs.declared.pass_end.PassEnd.{PassEnd}
 use Rattle.pass_runner.specs.declared.pass_end.PassEnd.TheVariants as ended
+use Rattle.pass_runner.proofs.PassWalks.{helps_none}
+use Rattle.pass_runner.proofs.StillLemmas.{all_front}
 use Rattle.dbgd_run.specs.Scan.{EndsScan, EndsScanEarly, EndsScanHelped, EndsInWalk, EndsPassed, EndsUnbegun, HelpsWith, LoadsBy, MakesPass, Scans}
 use Rattle.dbgd_run.specs.ScanSaid.{is_first_hand_fault}
 use Rattle.dbgd_run.specs.Scene.{Setting}
@@ -35,18 +33,9 @@ zip_beside R [] (later ∷ left) rest each zip = absurd zip
 zip_beside R (hand ∷ hands) [] rest each zip = absurd zip
 zip_beside R (hand ∷ hands) (later ∷ left) rest each zip = (zip.0, zip_beside R hands left rest each zip.1)
 
--- what is so of each is so of the first of them
-all_front : {T : Type 0} (P : T → Type 0) (xs ys : List T) → All P (xs ++ ys) → All P xs
-all_front {T} P xs ys all =
-    subst (λ (l : List T). All P l) (take_at xs ys (length xs) refl) (All-take P (length xs) (xs ++ ys) all)
-
 -- a hand that isn't asked helps with nothing
 idle : {T : Type 0} (s : Setting T) (listing : List NameFacts) (rows : List RowFacts) (one : T) → HelpsWith s listing rows one one
-idle s listing rows one = record {
-  more = [];
-  listens = listens_none;
-  spares = All-nil (IsSparing (filter (is_in (row_names rows)) listing));
-}
+idle s listing rows one = helps_none s.sees s.tells_files s.world.version listing (row_names rows) one
 
 module _ {T : Type 0} (s : Setting T) (roots : List (List ℕ)) (rest : List T) (hand later : T) (hands left : List T) (old new : ShownStore) where
   makes_beside : {Ends : List NameFacts → List Heard → List RowFacts → List RowFacts → List RowFacts → Type 0}
@@ -67,10 +56,7 @@ module _ {T : Type 0} (s : Setting T) (roots : List (List ℕ)) (rest : List T) 
       zip_beside (HelpsWith s run.walk.listing (current run.found)) hands left rest (idle s run.walk.listing (current run.found)) run.hands.1,
     );
     kept = run.kept;
-    stays = run.stays;
-    goes = run.goes;
-    comes = run.comes;
-    brings = run.brings;
+    moves = run.moves;
     ends = run.ends;
   }
 

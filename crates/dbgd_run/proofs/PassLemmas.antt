@@ -5,7 +5,6 @@ use Rattle.std.proofs.lemmas.List.{length-map}
 use Rattle.row_types.specs.Faults.{Rose}
 use Rattle.row_types.specs.Name.{NameFacts}
 use Rattle.row_types.specs.Row.{RowFacts}
-use Rattle.scan_queue.specs.Names.{is_in}
 use Rattle.scan_queue.specs.Pass.{PassFacts}
 use Rattle.index_keeper.specs.Answers.{for_rows, rows_given}
 use Rattle.index_keeper.specs.Keeper.{AsksKeeper, ShownKeeper}
@@ -30,6 +29,7 @@ use Rattle.tree_walk.specs.Ends.{WalksTree}
 use Rattle.tree_walk.specs.declared.walked.Walk.{Walk as WalkFacts}
 use Rattle.pass_runner.specs.Numbers.{summary_of}
 use Rattle.pass_runner.specs.Owned.{EndsPassHelped as EndsBeside, EndsPass, HandsGo, Helps, IsHelped, LeavesIndex, RunsPass, is_unwalked}
+use Rattle.pass_runner.specs.Settled.{KeepsListed}
 use Rattle.pass_runner.specs.declared.pass_end.PassEnd.{PassEnd}
 use Rattle.pass_runner.specs.declared.pass_end.PassEnd.TheVariants as ended
 use Rattle.dbgd_run.specs.Kept.{HasOneChange, HasRows, StoreHoldsRows, MakesChanges, MayHaveRows}
@@ -120,25 +120,24 @@ module _ {K T : Type 0} (s : Setting T) {shows : K → ShownKeeper} {from into :
     made = lent.back.made ∙ ap (λ (st : StateFacts K). (shows st.keeper).made) same ∙ swept_made;
   }
 
-  -- the other hands helped, against the rows of the edition
-  helps_by : (listing : List NameFacts) (hands left : List T)
-      → AllZip (λ h l. Helps s.tells_files s.world.version listing (row_names old.rows) (s.sees h) (s.sees l)) hands left
+  -- the other hands helped
+  abbrev Aided : List NameFacts → List T → List T → Type 0
+  Aided listing hands left = AllZip (λ h l. Helps s.tells_files s.world.version listing (row_names old.rows) (s.sees h) (s.sees l)) hands left
+
+  -- so they did against the rows of the edition
+  helps_by : (listing : List NameFacts) (hands left : List T) → Aided listing hands left
       → AllZip (HelpsWith s listing (current lent.opens.opened.rows)) hands left
   helps_by listing hands left helps =
       subst (λ names. AllZip (λ h l. Helps s.tells_files s.world.version listing names (s.sees h) (s.sees l)) hands left) old_names helps
 
   -- no row of a listed name went
-  kept_by : (listing : List NameFacts) (rows : List RowFacts)
-      → ((name : NameFacts) → is_in listing name ≡ true → is_in (row_names old.rows) name ≡ true → is_in (row_names rows) name ≡ true)
-      → (name : NameFacts) → is_in listing name ≡ true → is_in (row_names (current lent.opens.opened.rows)) name ≡ true
-      → is_in (row_names rows) name ≡ true
-  kept_by listing rows stays =
-      subst (λ names. (name : NameFacts) → is_in listing name ≡ true → is_in names name ≡ true → is_in (row_names rows) name ≡ true)
-      old_names stays
+  kept_by : (listing : List NameFacts) (rows : List RowFacts) → KeepsListed listing old.rows rows
+      → KeepsListed listing (current lent.opens.opened.rows) rows
+  kept_by listing rows stays = subst (λ (from : List RowFacts). KeepsListed listing from rows) old_rows stays
 
   unbegun : {roots : List (List ℕ)} {hand later : T} {hands left : List T} (walk : WalkFacts) → new ≡ old
       → WalksTree s.tells_files (s.sees hand) (s.sees later) roots (Ok walk)
-      → AllZip (λ h l. Helps s.tells_files s.world.version walk.listing (row_names old.rows) (s.sees h) (s.sees l)) hands left
+      → Aided walk.listing hands left
       → EndsUnbegun s roots (hand ∷ hands) (later ∷ left) from into
   unbegun {hands = hands} {left = left} walk same walks helps = record {
     found = lent.opens.opened.rows;
@@ -153,7 +152,7 @@ module _ {K T : Type 0} (s : Setting T) {shows : K → ShownKeeper} {from into :
 
   helped_on : {roots : List (List ℕ)} {listing : List NameFacts} {hand later : T} {hands left : List T} {count : ℕ} {Ends : Type 0}
       {Into : List RowFacts → Type 0} (run : EndsBeside s.tells_files count roots listing (s.sees hand) (s.sees later) old new Ends)
-      → AllZip (λ h l. Helps s.tells_files s.world.version listing (row_names old.rows) (s.sees h) (s.sees l)) hands left
+      → Aided listing hands left
       → Into new.rows → EndsScanHelped s roots (hand ∷ hands) (later ∷ left) from into Into
   helped_on {hands = hands} {left = left} {count = count} run helps ends =
       let stands = subst (λ (l : List NameFacts). IsHelped count l old new) (sym run.over) run.helped in
@@ -167,7 +166,7 @@ module _ {K T : Type 0} (s : Setting T) {shows : K → ShownKeeper} {from into :
         hands = (
           run.walks,
           helps_by run.walk.listing hands left
-              (subst (λ (l : List NameFacts). AllZip (λ h g. Helps s.tells_files s.world.version l (row_names old.rows) (s.sees h) (s.sees g)) hands left)
+              (subst (λ (l : List NameFacts). Aided l hands left)
               (sym run.over) helps),
         );
         stays = kept_by run.walk.listing new.rows stands.stays;
@@ -178,7 +177,7 @@ module _ {K T : Type 0} (s : Setting T) {shows : K → ShownKeeper} {from into :
       {Ends : StateFacts K → List Heard → Type 0}
       {Into : List NameFacts → List Heard → List RowFacts → List RowFacts → List RowFacts → Type 0}
       (run : RunsPass s.world s.tells_files (length (hand ∷ hands)) roots listing (s.sees hand) (s.sees later) old new Ends)
-      → AllZip (λ h l. Helps s.tells_files s.world.version listing (row_names old.rows) (s.sees h) (s.sees l)) hands left
+      → Aided listing hands left
       → Into listing run.more (current lent.opens.opened.rows) run.found.rows new.rows
       → MakesPass s roots (hand ∷ hands) (later ∷ left) from into Into
   makes {roots} {listing} {hand} {later} {hands} {left} {Into = Into} run helps ends =
@@ -199,14 +198,11 @@ module _ {K T : Type 0} (s : Setting T) {shows : K → ShownKeeper} {from into :
         hands = (
           run.hears,
           helps_by run.walk.listing hands left
-              (subst (λ (l : List NameFacts). AllZip (λ h g. Helps s.tells_files s.world.version l (row_names old.rows) (s.sees h) (s.sees g)) hands left)
+              (subst (λ (l : List NameFacts). Aided l hands left)
               (sym run.over) helps),
         );
         kept = kept_by run.walk.listing run.found.rows stands.stays;
-        stays = leaves.stays;
-        goes = leaves.goes;
-        comes = leaves.comes;
-        brings = leaves.brings;
+        moves = leaves.moves;
         ends =
             subst (λ (l : List NameFacts). Into l run.more (current lent.opens.opened.rows) run.found.rows new.rows) (sym run.over) ends;
       }
@@ -228,7 +224,7 @@ module _ {K T : Type 0} (s : Setting T) {shows : K → ShownKeeper} {from into :
   -- how the pass ended is how the scan does
   ends_by : (roots : List (List ℕ)) (listing : List NameFacts) (hand later : T) (hands left : List T) (end : PassEnd) → HasMissedPath end
       → EndsPass s.world s.tells_files s.tells_tables shows (length (hand ∷ hands)) roots listing (s.sees hand) (s.sees later) old new end
-      → AllZip (λ h l. Helps s.tells_files s.world.version listing (row_names old.rows) (s.sees h) (s.sees l)) hands left
+      → Aided listing hands left
       → (IsTrue (is_unwalked end) → left ≡ hands) → EndsPassed s roots (hand ∷ hands) (later ∷ left) from into end
   ends_by roots listing hand later hands left (ended.Whole summary) path run helps idle =
       makes run helps (record {
@@ -238,9 +234,9 @@ module _ {K T : Type 0} (s : Setting T) {shows : K → ShownKeeper} {from into :
         numbers = run.ends.numbers ∙ ap (λ names. summary_of (plan_of listing names) new.rows) old_names;
       })
   ends_by roots listing hand later hands left (ended.Missed miss) path run helps idle =
-      makes run helps (record { path = path; why = run.ends.why; before = run.ends.before; apart = run.ends.apart; has = has_rows run.ends.sound })
+      makes run helps (record { path = path; tells = run.ends.tells; has = has_rows run.ends.sound })
   ends_by roots listing hand later hands left (ended.Walk fault) path ends helps idle =
-      in_walk ends.same (record { walks = ends.walks; fits = ends.fits }, others_stay (idle refl))
+      in_walk ends.same (ends.stops, others_stay (idle refl))
   ends_by roots listing hand later hands left ended.Broken path ends helps idle = absurd ends
   ends_by roots listing hand later hands left ended.KeeperFault path (inl run) helps idle = inl (makes run helps (may_have run.ends))
   ends_by roots listing hand later hands left ended.KeeperFault path (inr run) helps idle = inr (helped_on run helps (may_have run.ends))
@@ -256,7 +252,7 @@ module _ {K T : Type 0} (s : Setting T) {shows : K → ShownKeeper} {from into :
       })
   ends_by roots listing hand later hands left ended.OutOfMemory path (inl early) helps idle =
       inl (unbegun early.walk early.same early.walks
-      (subst (λ (l : List NameFacts). AllZip (λ h g. Helps s.tells_files s.world.version l (row_names old.rows) (s.sees h) (s.sees g)) hands left)
+      (subst (λ (l : List NameFacts). Aided l hands left)
       (sym early.over) helps))
   ends_by roots listing hand later hands left ended.OutOfMemory path (inr (inl run)) helps idle =
       inr (inl (makes run helps (has_rows run.ends)))

@@ -1,9 +1,9 @@
 -- What the status of a scan says, by how it ended.
-use Rattle.std.proofs.Common.{◌≡◌, inl, inr, ℕ, ◌+◌, ◌<◌, List, Bool, None, length, sym, refl, subst, arith, IsTrue}
+use Rattle.std.proofs.Common.{◌≡◌, inl, inr, ℕ, ◌+◌, ◌<◌, List, Bool, length, sym, refl, subst, arith, IsTrue}
 use Rattle.std.specs.List.{Contains}
 use Rattle.row_types.specs.Canon.{IsCanonPath}
 use Rattle.row_types.specs.Faults.{Rose}
-use Rattle.row_types.specs.Name.{NameFacts, stamp_at}
+use Rattle.row_types.specs.Name.{NameFacts}
 use Rattle.row_types.specs.Row.{RowFacts}
 use Rattle.scan_queue.specs.declared.miss.Cause.{Cause}
 use Rattle.scan_queue.specs.declared.miss.Cause.TheVariants as cause
@@ -20,8 +20,7 @@ use Rattle.tree_walk.specs.Files.{AreFilesUnder, FitsFault}
 use Rattle.tree_walk.specs.declared.fault.WalkFault.{WalkFault}
 use Rattle.tree_walk.specs.declared.walked.Walk.{Walk}
 use Rattle.tree_walk.specs.declared.fault.WalkFault.TheVariants as stop
-use Rattle.pass_runner.specs.Owned.{HearsPass, TellsStill}
-use Rattle.pass_runner.specs.Settled.{IsBacked}
+use Rattle.pass_runner.specs.Owned.{HearsPass, IsMissTold, TellsStill, WalksInto}
 use Rattle.pass_runner.specs.declared.pass_end.PassEnd.{PassEnd}
 use Rattle.pass_runner.specs.declared.pass_end.PassEnd.TheVariants as ended
 use Rattle.pass_runner.specs.declared.summary.Summary.{Summary}
@@ -30,7 +29,7 @@ use Rattle.dbgd_run.specs.Opened.{EndsOnlyWith, HasSomeBad}
 use Rattle.dbgd_run.specs.Causes.{IsUnhindered, ScanEnds, ScanStatus, of_changes, of_rows, of_walk}
 use Rattle.dbgd_run.specs.Endings.{Streams}
 use Rattle.dbgd_run.specs.Kept.{StoreHoldsRows}
-use Rattle.dbgd_run.specs.Scan.{EndsPassed, HelpsWith, MakesPass, RunsScan, Scans, WalksInto}
+use Rattle.dbgd_run.specs.Scan.{EndsPassed, HelpsWith, MakesPass, RunsScan, Scans}
 use Rattle.dbgd_run.specs.ScanSaid.{SaysEnd, SaysMiss, is_first_hand_fault, miss_saying, scan_saying}
 use Rattle.dbgd_run.specs.Scene.{FirstRose, OfFirst, ProgramScene, Setting}
 use Rattle.dbgd_run.specs.declared.scan_end.ScanEnd.{ScanEnd}
@@ -79,30 +78,29 @@ by_end P (Passed ended.OutOfMemory) old new end said wants out whole = subst P (
 heard_other : {told : Bool} {version : Versions} {roots : List (List ℕ)} {names : List NameFacts} {walk : Walk} {walked more : List Heard}
     {before after : ShownTree} (Failed : Type 0) (name : NameFacts) (why : Cause)
     → HearsPass told version roots names walk walked more before after → IsChange why → IsCanonPath name.path
-    → IsBacked walk.listing names more Failed name why → (why ≡ cause.Appeared → stamp_at walk.listing name.path ≡ None)
-    → HeardOtherFile told roots before after
-heard_other {walk = walk} {walked = walked} {more = more} Failed name cause.ReadFault hears change path backed apart = absurd change
-heard_other {walk = walk} {walked = walked} {more = more} Failed name (cause.Altered met) hears change path backed apart = record {
+    → IsMissTold (record { name = name; cause = why }) Failed walk.listing names more → HeardOtherFile told roots before after
+heard_other {walk = walk} {walked = walked} {more = more} Failed name cause.ReadFault hears change path tells = absurd change
+heard_other {walk = walk} {walked = walked} {more = more} Failed name (cause.Altered met) hears change path tells = record {
   walk = walk;
   walked = walked;
   more = more;
-  heard = hears.heard;
-  whole = hears.whole;
+  heard = hears.walks.heard;
+  whole = hears.walks.whole;
   name = name;
   cause = cause.Altered met;
-  why = backed;
-  still = never_changed Failed name (cause.Altered met) hears tt path backed;
+  why = tells.why;
+  still = never_changed Failed name (cause.Altered met) hears tt path tells.why tells.apart;
 }
-heard_other {walk = walk} {walked = walked} {more = more} Failed name cause.Appeared hears change path backed apart = record {
+heard_other {walk = walk} {walked = walked} {more = more} Failed name cause.Appeared hears change path tells = record {
   walk = walk;
   walked = walked;
   more = more;
-  heard = hears.heard;
-  whole = hears.whole;
+  heard = hears.walks.heard;
+  whole = hears.walks.whole;
   name = name;
   cause = cause.Appeared;
-  why = record { unlisted = apart refl; heard = backed.seen.heard };
-  still = never_changed Failed name cause.Appeared hears tt path backed;
+  why = record { unlisted = tells.apart refl; heard = tells.why.seen.heard };
+  still = never_changed Failed name cause.Appeared hears tt path tells.why tells.apart;
 }
 
 module _ {T : Type 0} (s : Setting T) (path : List ℕ) (roots : List (List ℕ)) (before after : ProgramScene T) where
@@ -130,24 +128,24 @@ module _ {T : Type 0} (s : Setting T) (path : List ℕ) (roots : List (List ℕ)
   other_heard : (name : NameFacts) (why : Cause) → IsChange why
       → {Ends : List NameFacts → List Heard → List RowFacts → List RowFacts → List RowFacts → Type 0}
       → (pass : MakesPass s roots before.hands after.hands before.store after.store Ends) → IsCanonPath name.path
-      → IsBacked pass.walk.listing (row_names pass.met) pass.more (FirstRose s before.hands after.hands) name why
-      → (why ≡ cause.Appeared → stamp_at pass.walk.listing name.path ≡ None)
+      → IsMissTold (record { name = name; cause = why }) (FirstRose s before.hands after.hands) pass.walk.listing (row_names pass.met)
+      pass.more
       → OfFirst s (HeardOtherFile s.tells_files roots) before.hands after.hands
-  other_heard name why change pass path backed apart =
+  other_heard name why change pass path tells =
       of_first s
       (λ hand later. HearsPass s.tells_files s.world.version roots (row_names pass.met) pass.walk pass.walked pass.more (s.sees hand) (s.sees later))
       (HelpsWith s pass.walk.listing (current pass.found))
       (HeardOtherFile s.tells_files roots) before.hands after.hands
-      (λ hand later hears. heard_other (FirstRose s before.hands after.hands) name why hears change path backed apart) pass.hands
+      (λ hand later hears. heard_other (FirstRose s before.hands after.hands) name why hears change path tells) pass.hands
 
   -- what the status of a missed name says
   miss_status : (name : NameFacts) (why : Cause) → ScansTo (Passed (ended.Missed (record { name = name; cause = why })))
       → ScanStatus s roots before after (miss_saying name why).status
-  miss_status name cause.ReadFault scans = inr (inl scans.ends.ends.why)
+  miss_status name cause.ReadFault scans = inr (inl scans.ends.ends.tells.why)
   miss_status name (cause.Altered met) scans =
-      other_heard name (cause.Altered met) tt scans.ends scans.ends.ends.path scans.ends.ends.why scans.ends.ends.apart
+      other_heard name (cause.Altered met) tt scans.ends scans.ends.ends.path scans.ends.ends.tells
   miss_status name cause.Appeared scans =
-      other_heard name cause.Appeared tt scans.ends scans.ends.ends.path scans.ends.ends.why scans.ends.ends.apart
+      other_heard name cause.Appeared tt scans.ends scans.ends.ends.path scans.ends.ends.tells
 
   -- what the status of a scan's end says
   end_status : (end : ScanEnd) → ScansTo end → GetsAll (scan_saying end).out before.streams.out after.streams.out
@@ -252,15 +250,15 @@ module _ {T : Type 0} (s : Setting T) (path : List ℕ) (roots : List (List ℕ)
   never_missed : (name : NameFacts) (why : Cause) → IsUnhindered s roots before after
       → ScansTo (Passed (ended.Missed (record { name = name; cause = why }))) → ⊥
   never_missed name cause.ReadFault free scans =
-      both_first s (IsFreeHand s.tells_files roots) (λ b a. Rose b.faults a.faults) before.hands after.hands free.hand scans.ends.ends.why
+      both_first s (IsFreeHand s.tells_files roots) (λ b a. Rose b.faults a.faults) before.hands after.hands free.hand scans.ends.ends.tells.why
       (λ b a hand rose. hand.faultless rose)
   never_missed name (cause.Altered met) free scans =
       both_first s (IsFreeHand s.tells_files roots) (HeardOtherFile s.tells_files roots) before.hands after.hands free.hand
-      (other_heard name (cause.Altered met) tt scans.ends scans.ends.ends.path scans.ends.ends.why scans.ends.ends.apart)
+      (other_heard name (cause.Altered met) tt scans.ends scans.ends.ends.path scans.ends.ends.tells)
       (λ b a hand heard. heard.still hand.still)
   never_missed name cause.Appeared free scans =
       both_first s (IsFreeHand s.tells_files roots) (HeardOtherFile s.tells_files roots) before.hands after.hands free.hand
-      (other_heard name cause.Appeared tt scans.ends scans.ends.ends.path scans.ends.ends.why scans.ends.ends.apart)
+      (other_heard name cause.Appeared tt scans.ends scans.ends.ends.path scans.ends.ends.tells)
       (λ b a hand heard. heard.still hand.still)
 
   -- nor does a walk end with a fault
@@ -282,7 +280,7 @@ module _ {T : Type 0} (s : Setting T) (path : List ℕ) (roots : List (List ℕ)
       (λ hand later. HearsPass s.tells_files s.world.version roots (row_names ends.met) ends.walk ends.walked ends.more (s.sees hand) (s.sees later))
       (HelpsWith s ends.walk.listing (current ends.found))
       (λ b a. TellsStill s.tells_files b → AreFilesUnder b.present roots ends.walk.listing) before.hands after.hands
-      (λ hand later hears. hears.under) ends.hands)
+      (λ hand later hears. hears.walks.under) ends.hands)
       (λ b a hand so. so hand.still) in
       let same : free.rows ≡ ends.found =
       one_rows free.held (subst (λ values. AreRows ends.found values) (ends.held.gave.tells free.tells) ends.held.sound) in

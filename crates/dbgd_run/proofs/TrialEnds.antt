@@ -1,5 +1,5 @@
 -- How a pass over the generated files ends.
-use Rattle.std.proofs.Common.{◌≡◌, inl, inr, ℕ, ◌<◌, ◌≤◌, Bool, true, false, List, [], ◌∷◌, length}
+use Rattle.std.proofs.Common.{◌≡◌, inl, inr, ℕ, ◌<◌, ◌≤◌, Bool, true, false, List, [], ◌∷◌, None, length}
 use Rattle.std.proofs.Common.{refl, sym, ◌∙◌, ap, subst, arith, IsTrue}
 use Rattle.std.specs.Prelude.{is_none, replicate}
 use Rattle.std.proofs.lemmas.List.Sums.{count_by-le-length}
@@ -23,7 +23,7 @@ use Rattle.tree_walk.specs.Files.{AreFilesUnder}
 use Rattle.tree_walk.specs.declared.fault.WalkFault.{WalkFault}
 use Rattle.elf_forge.specs.Place.{forged_names}
 use Rattle.elf_forge.specs.Tree.{ForgeFacts, fresh_forge, forge_shows}
-use Rattle.pass_runner.specs.Owned.{EndsPass, HandsGo, Helps, is_hand_fault}
+use Rattle.pass_runner.specs.Owned.{EndsPass, HandsGo, Helps, IsMissTold, is_hand_fault}
 use Rattle.pass_runner.specs.Settled.{IsBacked}
 use Rattle.pass_runner.specs.declared.pass_end.PassEnd.{PassEnd}
 use Rattle.pass_runner.specs.declared.pass_end.PassEnd.TheVariants as ended
@@ -96,16 +96,16 @@ module _ (seed files count : ℕ) (old new : StateFacts MemKeeperFacts) where
   none_missed : (later : ForgeFacts) (listing : List NameFacts) (miss : Miss) → IsCanonPath miss.name.path
       → EndsForged later listing (ended.Missed miss) → ⊥
   none_missed later listing miss path run =
-      go miss.cause
-      (subst (λ (l : List NameFacts). IsBacked l (row_names run.found.rows) run.more (Rose 0 0) miss.name miss.cause)
-      (sym run.over) run.ends.why)
+      let tells = subst (λ (l : List NameFacts). IsMissTold miss (Rose 0 0) l (row_names run.found.rows) run.more) (sym run.over) run.ends.tells in
+      go miss.cause tells.why tells.apart
     where
-      go : (why : Cause) → IsBacked run.walk.listing (row_names run.found.rows) run.more (Rose 0 0) miss.name why → ⊥
-      go cause.ReadFault rose = not_rose rose
-      go (cause.Altered met) backed =
-          never_changed (Rose 0 0) miss.name (cause.Altered met) run.hears tt path backed (refl, tt)
-      go cause.Appeared backed =
-          never_changed (Rose 0 0) miss.name cause.Appeared run.hears tt path backed (refl, tt)
+      go : (why : Cause) → IsBacked run.walk.listing (row_names run.found.rows) run.more (Rose 0 0) miss.name why
+          → (why ≡ cause.Appeared → stamp_at run.walk.listing miss.name.path ≡ None) → ⊥
+      go cause.ReadFault rose apart = not_rose rose
+      go (cause.Altered met) backed apart =
+          never_changed (Rose 0 0) miss.name (cause.Altered met) run.hears tt path backed apart (refl, tt)
+      go cause.Appeared backed apart =
+          never_changed (Rose 0 0) miss.name cause.Appeared run.hears tt path backed apart (refl, tt)
 
   -- the log has room for each file three times
   log_short : (later : ForgeFacts) (listing : List NameFacts) → files ≤ 100000 → IsNewIndex old → EndsForged later listing ended.LogFull → ⊥
@@ -117,7 +117,7 @@ module _ (seed files count : ℕ) (old new : StateFacts MemKeeperFacts) where
       let replaced = count_by-le-length (λ (name : NameFacts). is_other (stamp_at (row_names old.rows) name.path) name.stamp) listing in
       let many : length listing ≤ 100000 =
       few_listed seed files (forged_root ∷ []) few
-      (subst (AreFilesUnder (forged_names seed files) (forged_root ∷ [])) run.over (run.hears.under (refl, tt))) in
+      (subst (AreFilesUnder (forged_names seed files) (forged_root ∷ [])) run.over (run.hears.walks.under (refl, tt))) in
       let void : voids new.broken ≡ 0 = ap (λ (b : Bool). voids b) run.ends.sound in
       let bounded = run.bounded in
       let full = run.ends.full in
@@ -130,7 +130,7 @@ module _ (seed files count : ℕ) (old new : StateFacts MemKeeperFacts) where
   ends_well (ended.Missed miss) some few passes path keeper opened =
       absurd (none_missed passes.later passes.listing miss path passes.ends)
   ends_well (ended.Walk fault) some few passes path keeper opened =
-      elim (walks_well seed files fault some few (passes.ends.fits (refl, tt))) [
+      elim (walks_well seed files fault some few (passes.ends.stops.fits (refl, tt))) [
         | inl is ↦ absurd (not_rose (passes.goes.cause.rose (ap (λ (f : WalkFault). is_hand_fault (ended.Walk f)) is)))
         | inr is ↦ subst (λ (f : WalkFault). EndsWell (ended.Walk f)) (sym is) tt
       ]
@@ -148,7 +148,7 @@ module _ (seed files count : ℕ) (old new : StateFacts MemKeeperFacts) where
     rows_are = record {
       names =
           subst (AreFilesUnder (forged_names seed files) (forged_root ∷ [])) (run.over ∙ sym run.ends.complete.names)
-          (run.hears.under (refl, tt));
+          (run.hears.walks.under (refl, tt));
       sound = holds.rows_sorted_and_true;
     };
     executables = ap (λ (s : Summary). s.executables) run.ends.numbers;

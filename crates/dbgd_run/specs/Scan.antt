@@ -1,14 +1,12 @@
 -- The command `scan` (this project's rule): the store is opened, the index on it makes one pass over the folders, and
 -- the store has its keeper back. The rows that the store held and those that it has in the end are what the pass is
 -- said of.
-use Rattle.std.specs.Prelude.{◌≡◌, ◌≢◌, ◌⊎◌, ℕ, ◌+◌, ◌≤◌, Bool, true, false, List, All, Contains, drop, length, None, IsTrue, Ok, Err}
+use Rattle.std.specs.Prelude.{◌≡◌, ◌≢◌, ◌⊎◌, ℕ, ◌+◌, ◌≤◌, Bool, true, List, drop, length, IsTrue, Ok}
 use Rattle.row_types.specs.Canon.{IsCanonPath}
 use Rattle.row_types.specs.Faults.{HasCause, Rose}
-use Rattle.row_types.specs.Name.{NameFacts, stamp_at}
+use Rattle.row_types.specs.Name.{NameFacts}
 use Rattle.row_types.specs.Row.{RowFacts}
 use Rattle.row_types.specs.Rules.{Rules}
-use Rattle.scan_queue.specs.Names.{is_in}
-use Rattle.scan_queue.specs.declared.miss.Cause.TheVariants.{Appeared}
 use Rattle.scan_queue.specs.declared.miss.Miss.{Miss}
 use Rattle.index_keeper.specs.Store.{ShownStore, with_opened_path}
 use Rattle.index_keeper.specs.Tables.{KeptFacts}
@@ -25,12 +23,10 @@ use Rattle.index_state.specs.declared.open_fault.OpenFault.TheVariants as refusa
 use Rattle.tree_trait.specs.Heard.{Heard}
 use Rattle.tree_trait.specs.Shown.{HandsOn, ShownTree}
 use Rattle.tree_walk.specs.Ends.{WalksTree}
-use Rattle.tree_walk.specs.Files.{FitsFault}
-use Rattle.tree_walk.specs.declared.fault.WalkFault.{WalkFault}
 use Rattle.tree_walk.specs.declared.walked.Walk.{Walk}
 use Rattle.pass_runner.specs.Numbers.{summary_of}
-use Rattle.pass_runner.specs.Owned.{HandsGo, HearsPass, Helps, LoadsBeside, NoneAlteredBefore, TellsStill}
-use Rattle.pass_runner.specs.Settled.{IsBacked, IsReadOf, MayGo}
+use Rattle.pass_runner.specs.Owned.{HandsGo, HearsPass, Helps, IsMissTold, LoadsBeside, WalksInto}
+use Rattle.pass_runner.specs.Settled.{KeepsListed, MovesRows}
 use Rattle.pass_runner.specs.declared.pass_end.PassEnd.{PassEnd}
 use Rattle.pass_runner.specs.declared.pass_end.PassEnd.TheVariants as pass
 use Rattle.pass_runner.specs.declared.summary.Summary.{Summary}
@@ -73,12 +69,6 @@ pub record EndsInWalk {T : Type 0} (s : Setting T) (before after : List T) (old 
   pub has : HasRows s.tells_tables new (current found)
   pub made : new.made ≡ made_swept found old.made
 
--- the walk ended with a fault, which files that never change explain; nothing was loaded
-pub record WalksInto (told : Bool) (roots : List (List ℕ)) (fault : WalkFault)
-    (before after : ShownTree) : Type 0 where
-  pub walks : WalksTree told before after roots (Err fault)
-  pub fits : TellsStill told before → FitsFault before.present roots fault
-
 -- another hand heard nothing but loads and looks, and no load of a path of a listed name that had a row of the edition
 abbrev pub HelpsWith : {T : Type 0} → Setting T → List NameFacts → List RowFacts → T → T → Type 0
 HelpsWith s listing rows hand later =
@@ -109,17 +99,14 @@ pub record EndsScanHelped {T : Type 0} (s : Setting T) (roots : List (List ℕ))
   pub hands :
       HandsGo (λ hand later. WalksTree s.tells_files (s.sees hand) (s.sees later) roots (Ok walk))
       (HelpsWith s walk.listing (current found)) before after
-  pub stays : (name : NameFacts) → is_in walk.listing name ≡ true
-      → is_in (row_names (current found)) name ≡ true → is_in (row_names left) name ≡ true
+  pub stays : KeepsListed walk.listing (current found) left
   pub ends : Ends left
 
 -- the pass was made: the store held the rows that were found, and those that are left are true. The other hands helped:
 -- each heard nothing but loads and looks, and no load of a path of a listed name that had a row of the edition; the rows
--- that were met stood then. The first hand heard a whole walk, and then nothing but loads of listed files whose names had
--- no row by then and looks under the folders. No row of a listed name went; from then on a row whose path isn't listed
--- and lies under a folder went only where the first hand heard a look that did not find its file, a row that came is of a
--- listed name, and one that wasn't met says what a load found. With one hand the rows that were met are those of the
--- edition that were found
+-- that were met stood then, and no row of a listed name had gone. The first hand heard a whole walk, and then nothing but
+-- loads of listed files whose names had no row by then and looks under the folders; from then on the rows went and came as
+-- in a pass, by what it heard. With one hand the rows that were met are those of the edition that were found
 pub record MakesPass {T : Type 0} (s : Setting T) (roots : List (List ℕ)) (before after : List T)
     (old new : ShownStore)
     (Ends : List NameFacts → List Heard → List RowFacts → List RowFacts → List RowFacts → Type 0)
@@ -139,15 +126,8 @@ pub record MakesPass {T : Type 0} (s : Setting T) (roots : List (List ℕ)) (bef
       (λ hand later. HearsPass s.tells_files s.world.version roots (row_names met) walk
       walked more (s.sees hand) (s.sees later))
       (HelpsWith s walk.listing (current found)) before after
-  pub kept : (name : NameFacts) → is_in walk.listing name ≡ true
-      → is_in (row_names (current found)) name ≡ true → is_in (row_names met) name ≡ true
-  pub stays : (name : NameFacts) → is_in walk.listing name ≡ true
-      → is_in (row_names met) name ≡ true → is_in (row_names left) name ≡ true
-  pub goes : (name : NameFacts) → is_in (row_names met) name ≡ true
-      → is_in (row_names left) name ≡ false → MayGo walk.listing roots more name
-  pub comes : (name : NameFacts) → is_in (row_names left) name ≡ true
-      → is_in (row_names met) name ≡ false → is_in walk.listing name ≡ true
-  pub brings : All (λ row. Contains met row ⊎ IsReadOf more row) left
+  pub kept : KeepsListed walk.listing (current found) met
+  pub moves : MovesRows walk.listing roots more met left
   pub ends : Ends walk.listing more (current found) met left
 
 -- the scan is whole: the rows have the listed names, in a told world they are one scan of the listing, the store has
@@ -159,14 +139,11 @@ pub record IsWholeScan (world : Rules) (told : Bool) (new : ShownStore) (summary
   pub has : HasRows told new left
   pub numbers : summary ≡ summary_of (plan_of listing (row_names found)) left
 
--- a name was missed for a reason, no listed file that the first hand heard to be another stands before it by path, where it
--- appeared its path isn't listed, and the store has the rows that are left
+-- a name was missed and is told, by what the first hand heard, and the store has the rows that are left
 pub record ScanMissesName (told : Bool) (new : ShownStore) (Failed : Type 0) (miss : Miss)
     (listing : List NameFacts) (more : List Heard) (met left : List RowFacts) : Type 0 where
   pub path : IsCanonPath miss.name.path
-  pub why : IsBacked listing (row_names met) more Failed miss.name miss.cause
-  pub before : NoneAlteredBefore listing more miss.name
-  pub apart : miss.cause ≡ Appeared → stamp_at listing miss.name.path ≡ None
+  pub tells : IsMissTold miss Failed listing (row_names met) more
   pub has : HasRows told new left
 
 -- the log of the changes that lead to the rows has no room, and they aren't those of the listing; the rows that were found

@@ -31,14 +31,15 @@ use std::sync::Wait;
 use std::thread::Threads;
 use tree_trait::{Gate, Tree};
 
-/// Shows that a path is one that is kept.
+/// Shows that a path is one that is kept. It is called for its clause alone.
 fn show_path(path: &CanonPath)
     ensures { IsCanonPath path.now }
 {
+    // For its clause: the path is canonical.
     let _text = path.text();
 }
 
-/// Shows the same of the path of a name that was missed.
+/// Shows the same of the path of a name that was missed. It is called for its clause alone.
 pub fn show_end(end: &PassEnd)
     ensures { HasMissedPath end.now }
 {
@@ -77,6 +78,7 @@ fn scan_index<
     let lent = mem::replace(hands, Vec::new(alloc));
     let (state, back, end) = scan_state(rt, alloc, state, lent, roots, &ElfReader, gate);
     *hands = back;
+    // For its clause: the path of a name that was missed is one that is kept.
     show_end(&end);
     (end, state.into_keeper())
 }

@@ -104,6 +104,8 @@ fn scanned<G: Gate, Rt: Threads + Wait + Sync>(
     let hands = hands_of(alloc, seed, files, workers + 2)?;
     let state = new_index(alloc)?;
     let (state, _, end) = scan_state(rt, alloc, state, hands, &[root], &ElfReader, gate);
+    // For their clauses: the index invariant, and the path of a name that was missed is one that is
+    // kept.
     show_index(&state);
     show_end(&end);
     Ok((state, numbers_of(end)?))

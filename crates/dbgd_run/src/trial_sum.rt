@@ -58,7 +58,7 @@ fn sum_of<W: Truth, K: Keeper<W>>(
 fn sources_in<W: Truth, K: Keeper<W>>(state: &State<W, K>) -> u128
     ensures { result ≡ sources_in state.now.rows }
 {
-    // There are no more rows than this counts.
+    // For its clause: there are no more rows than this counts.
     let _standing = state.standing();
     let mut sources = 0;
     for listed in state.rows() {

@@ -23,7 +23,7 @@ use Rattle.pass_runner.specs.Turns.{TakesNames}
 use Rattle.tree_trait.proofs.ListenLemmas.{listens_none, listens_then}
 use Rattle.pass_runner.proofs.Altered.{unaltered_none}
 use Rattle.pass_runner.proofs.Loads.{loads_append, todo_once}
-use Rattle.pass_runner.proofs.Moves.{advances_then, rose_after, rose_before, same_listing, still_brought, still_missed}
+use Rattle.pass_runner.proofs.Moves.{advances_then, moves_same, rose_after, rose_before, same_listing, still_missed}
 use Rattle.pass_runner.proofs.NameLists.{in_by_stamp}
 
 module _ {K : Type 0} {told : Bool} {version : Versions} {shows : K → ShownKeeper} where
@@ -47,10 +47,7 @@ module _ {K : Type 0} {told : Bool} {version : Versions} {shows : K → ShownKee
         pass = opened;
         roots = refl;
         origin = refl;
-        stays = λ name listed there. there;
-        goes = λ name there gone none under. absurd (true≢false (sym there ∙ gone));
-        comes = λ name stands fresh. absurd (true≢false (sym stands ∙ fresh));
-        brings = still_brought state.rows [];
+        moves = moves_same refl;
         missed = still_missed (pass_or_none state.pass).listing (row_names state.rows) (pass_or_none state.pass).missed [] (Rose hand.faults hand.faults);
         still = λ name listed missed. missed;
         todo = λ path. omega arith;
@@ -72,7 +69,7 @@ module _ {K : Type 0} {told : Bool} {version : Versions} {shows : K → ShownKee
           listed = new.listed;
           absent =
               false_from_ne_true (is_in (row_names old.rows) name)
-              (λ there. true≢false (sym (p.on.stays name (in_by_stamp path new.stamp (pass_or_none old.pass).listing new.listed) there) ∙ new.absent));
+              (λ there. true≢false (sym (p.on.moves.stays name (in_by_stamp path new.stamp (pass_or_none old.pass).listing new.listed) there) ∙ new.absent));
         },
       )
   wanted_before p (stat path answer) h = ap (λ (r : List (List ℕ)). is_under r path) (sym p.on.roots) ∙ h

@@ -4,12 +4,11 @@ use Rattle.std.specs.List.{All, Contains}
 use Rattle.std.proofs.lemmas.Bool.{true≢false}
 use Rattle.std.proofs.lemmas.List.Elements.{All-contains, All-contains_itself, All-weaker, Contains-append_left, Contains-append_right}
 use Rattle.row_types.specs.Faults.{Rose}
-use Rattle.row_types.specs.Name.{NameFacts, stamp_at}
+use Rattle.row_types.specs.Name.{NameFacts}
 use Rattle.row_types.specs.Row.{RowFacts}
 use Rattle.index_keeper.specs.Keeper.{ShownKeeper}
 use Rattle.index_rows.specs.Rows.{row_names}
 use Rattle.index_state.specs.Bound.{StaysBounded}
-use Rattle.index_state.specs.Judge.{is_under}
 use Rattle.index_state.specs.State.{StateFacts, pass_or_none}
 use Rattle.scan_queue.specs.Names.{is_in}
 use Rattle.scan_queue.specs.Pass.{PassFacts}
@@ -17,7 +16,7 @@ use Rattle.scan_queue.specs.declared.miss.Cause.{Cause}
 use Rattle.scan_queue.specs.declared.miss.Cause.TheVariants.{ReadFault, Altered, Appeared}
 use Rattle.scan_queue.specs.declared.miss.Miss.{Miss}
 use Rattle.tree_trait.specs.Heard.{Heard}
-use Rattle.pass_runner.specs.Settled.{Advances, IsBacked, IsBrought, IsMissBy, IsPassOn, IsSeenGone, MissesBy}
+use Rattle.pass_runner.specs.Settled.{Advances, IsBacked, IsBrought, IsMissBy, IsPassOn, IsSeenGone, MissesBy, MovesRows}
 
 -- a count that rose before or after has risen
 pub rose_before : (a : ℕ) {b c : ℕ} → Rose a b → b ≤ c → Rose a c
@@ -76,10 +75,12 @@ module _ (some more : List Heard) {Failed Fails : Type 0} (among : (h : Heard) �
     pass = on.pass;
     roots = on.roots;
     origin = on.origin;
-    stays = on.stays;
-    goes = λ name there gone none under. gone_as (on.goes name there gone none under);
-    comes = on.comes;
-    brings = All-weaker (IsBrought old.rows some) (IsBrought old.rows more) (brought_as old.rows) new.rows on.brings;
+    moves = record {
+      stays = on.moves.stays;
+      goes = λ name there gone none under. gone_as (on.moves.goes name there gone none under);
+      comes = on.moves.comes;
+      brings = All-weaker (IsBrought old.rows some) (IsBrought old.rows more) (brought_as old.rows) new.rows on.moves.brings;
+    };
     missed =
         All-weaker (MissesBy old some Failed)
         (MissesBy old more Fails)
@@ -100,6 +101,40 @@ still_missed listing names missed answers Failed =
 pub still_brought : (rows : List RowFacts) (answers : List Heard) → All (IsBrought rows answers) rows
 still_brought rows answers =
     All-weaker (Contains rows) (IsBrought rows answers) (λ row before. inl before) rows (All-contains_itself rows)
+
+-- the rows are those that were there before
+pub moves_same : {listing : List NameFacts} {roots : List (List ℕ)} {answers : List Heard} {old new : List RowFacts} → new ≡ old
+    → MovesRows listing roots answers old new
+moves_same {listing} {roots} {answers} {old} {new} same =
+    subst (λ (rows : List RowFacts). MovesRows listing roots answers old rows) (sym same) (record {
+      stays = λ name listed there. there;
+      goes = λ name there gone none under. absurd (true≢false (sym there ∙ gone));
+      comes = λ name there fresh. absurd (true≢false (sym there ∙ fresh));
+      brings = still_brought old answers;
+    })
+
+-- rows that moved once and again
+moves_then : {listing : List NameFacts} {roots : List (List ℕ)} {answers : List Heard} {old mid new : List RowFacts}
+    → MovesRows listing roots answers old mid → MovesRows listing roots answers mid new → MovesRows listing roots answers old new
+moves_then {listing} {roots} {answers} {old} {mid} {new} p q =
+    record {
+      stays = λ name listed there. q.stays name listed (p.stays name listed there);
+      goes = λ name there gone none under.
+          elim (is_in (row_names mid) name) as (λ v. is_in (row_names mid) name ≡ v → IsSeenGone answers name) [
+            | true ↦ λ stood. q.goes name stood gone none under
+            | false ↦ λ went. p.goes name there went none under
+          ] refl;
+      comes = λ name there fresh.
+          elim (is_in (row_names mid) name) as (λ v. is_in (row_names mid) name ≡ v → is_in listing name ≡ true) [
+            | true ↦ λ stood. p.comes name stood fresh
+            | false ↦ λ absent. q.comes name there absent
+          ] refl;
+      brings = All-weaker (IsBrought mid answers) (IsBrought old answers) brought new q.brings;
+    }
+  where
+    brought : (row : RowFacts) → IsBrought mid answers row → IsBrought old answers row
+    brought row (inl there) = All-contains (IsBrought old answers) mid row p.brings there
+    brought row (inr read) = inr read
 
 -- where no row of an unlisted name came, one that stands later stood before
 backed_before : (listing mid old : List NameFacts) (answers : List Heard) (Failed : Type 0)
@@ -130,23 +165,10 @@ advances_then {K} {shows} {xs} {ys} {First} {Second} {Failed} {old} {mid} {new} 
       pass = pass_then p.pass q.pass;
       roots = q.roots ∙ p.roots;
       origin = q.origin ∙ p.origin;
-      stays = λ name listed there.
-          q.stays name (ap (λ (l : List NameFacts). is_in l name) listing ∙ listed) (p.stays name listed there);
-      goes = λ name there gone none under.
-          elim (is_in (row_names mid.rows) name) as (λ v. is_in (row_names mid.rows) name ≡ v → IsSeenGone (xs ++ ys) name) [
-            | true ↦ λ stood.
-                b.goes name stood gone (ap (λ (l : List NameFacts). stamp_at l name.path) listing ∙ none)
-                (ap (λ (r : List (List ℕ)). is_under r name.path) p.roots ∙ under)
-            | false ↦ λ went. a.goes name there went none under
-          ] refl;
-      comes = λ name there fresh.
-          elim (is_in (row_names mid.rows) name) as (λ v. is_in (row_names mid.rows) name ≡ v
-          → is_in (pass_or_none old.pass).listing name ≡ true) [
-            | true ↦ λ stood. p.comes name stood fresh
-            | false ↦ λ absent.
-                ap (λ (l : List NameFacts). is_in l name) (sym listing) ∙ q.comes name there absent
-          ] refl;
-      brings = All-weaker (IsBrought mid.rows (xs ++ ys)) (IsBrought old.rows (xs ++ ys)) brought new.rows b.brings;
+      moves =
+          moves_then a.moves
+          (subst (λ (l : List NameFacts). MovesRows l old.roots (xs ++ ys) mid.rows new.rows) listing
+          (subst (λ (r : List (List ℕ)). MovesRows (pass_or_none mid.pass).listing r (xs ++ ys) mid.rows new.rows) p.roots b.moves));
       missed =
           All-weaker (Later (pass_or_none old.pass).listing) (Sooner (pass_or_none old.pass).listing) (λ m why. before m why)
           (pass_or_none new.pass).missed
@@ -159,12 +181,6 @@ advances_then {K} {shows} {xs} {ys} {First} {Second} {Failed} {old} {mid} {new} 
           omega (arith, p.bounded, later);
     }
   where
-    brought : (row : RowFacts) → IsBrought mid.rows (xs ++ ys) row → IsBrought old.rows (xs ++ ys) row
-    brought row (inl there) =
-        All-contains (IsBrought old.rows (xs ++ ys)) mid.rows row
-        (advances_as xs (xs ++ ys) (λ h. Contains-append_left xs ys h) first p).brings there
-    brought row (inr read) = inr read
-
     Later : List NameFacts → Miss → Type 0
     Later l m = IsMissBy l (row_names mid.rows) (pass_or_none mid.pass).missed (xs ++ ys) Failed m
 
@@ -177,4 +193,4 @@ advances_then {K} {shows} {xs} {ys} {First} {Second} {Failed} {old} {mid} {new} 
         (advances_as xs (xs ++ ys) (λ h. Contains-append_left xs ys h) first p).missed there
     before m (inr why) =
         inr (backed_before (pass_or_none old.pass).listing (row_names mid.rows) (row_names old.rows) (xs ++ ys) Failed
-        p.comes m.name m.cause why)
+        p.moves.comes m.name m.cause why)

@@ -14,8 +14,10 @@ use Rattle.scan_queue.specs.declared.miss.Cause.{Cause}
 use Rattle.scan_queue.specs.declared.miss.Cause.TheVariants.{ReadFault, Altered, Appeared}
 use Rattle.scan_queue.specs.declared.miss.Miss.{Miss}
 use Rattle.tree_trait.specs.Asks.{IsAnswerTold}
+use Rattle.tree_trait.specs.Dir.{DirFacts}
 use Rattle.tree_trait.specs.Found.{Versions}
-use Rattle.tree_trait.specs.Heard.{Heard}
+use Rattle.tree_trait.specs.Heard.{Heard, read_dir}
+use Rattle.tree_trait.specs.Listens.{Listens}
 use Rattle.tree_trait.specs.Shown.{HandsOn, ShownTree}
 use Rattle.tree_walk.specs.Ends.{WalksTree}
 use Rattle.tree_walk.specs.Files.{AreFilesUnder}
@@ -24,7 +26,7 @@ use Rattle.pass_runner.specs.Ends.{IsOutOfRoom}
 use Rattle.index_state.specs.Plan.{plan_of}
 use Rattle.scan_queue.specs.Names.{is_in}
 use Rattle.pass_runner.specs.Helped.{IsSparing}
-use Rattle.pass_runner.specs.Owned.{EndsPassHelped, EndsPass, HasMissed, HearsPass, Helps, IsHelped, IsWholePass, LeavesIndex, RunsPass, TellsStill}
+use Rattle.pass_runner.specs.Owned.{EndsPassHelped, EndsPass, HasMissed, HearsPass, HearsWalked, Helps, IsHelped, IsWholePass, LeavesIndex, RunsPass, TellsStill}
 use Rattle.pass_runner.specs.Passes.{EndsOver, IsApart, IsFirstMiss, LeavesToHands}
 use Rattle.pass_runner.specs.Settled.{IsBacked, MayBeAsked, Settles}
 use Rattle.pass_runner.specs.declared.pass_end.PassEnd.{PassEnd}
@@ -44,96 +46,102 @@ backed_so listing names answers so name ReadFault h = so h
 backed_so listing names answers so name (Altered met) h = h
 backed_so listing names answers so name Appeared h = h
 
-module _ {K : Type 0} (world : Rules) (hands_given : ℕ) (old found : StateFacts K) {told : Bool} {shows : K → ShownKeeper} {roots : List (List ℕ)}
-    {before met after : ShownTree} {new : StateFacts K} {walk : WalkFacts} {Asked Fails : Type 0}
-    (walks : WalksTree told before met roots (Ok walk))
+module _ (world : Rules) {told : Bool} {roots : List (List ℕ)} {before met after : ShownTree} {walk : WalkFacts}
+    {Asked Fails : Type 0} (walks : WalksTree told before met roots (Ok walk))
     (under : TellsStill told before → AreFilesUnder before.present roots walk.listing)
-    (hands : HandsOn told world.version before met Asked Fails)
-    (settles : Settles told world.version shows met after (after_begin walk.listing roots found) new)
-    (helped : IsHelped hands_given walk.listing old found) where
-  -- what the hand heard, of the walk and of the settling
-  heard_pass : HearsPass told world.version roots (row_names found.rows) walk walks.goes.more settles.does.answers before after
-  heard_pass = record {
-    heard = heard_both before.heard met.heard after.heard walks.goes.more settles.does.answers walks.goes.heard settles.does.listens.heard;
+    (hands : HandsOn told world.version before met Asked Fails) where
+  -- what the hand heard, of the walk and of what followed it
+  pub hears_walked : (Wanted : Heard → Type 0) → ((path : List ℕ) (answer : DirFacts) → Wanted (read_dir path answer) → ⊥)
+      → (more : List Heard) → Listens told world.version met after more → All Wanted more
+      → HearsWalked told world.version roots walk walks.goes.more more before after
+  hears_walked Wanted never more listens wanted = record {
+    heard = heard_both before.heard met.heard after.heard walks.goes.more more walks.goes.heard listens.heard;
     whole = walks.goes.ends;
-    full =
-        full_stays roots (MayBeAsked walk.listing roots (row_names found.rows)) (λ path answer never. never) walks.goes.more
-        settles.does.answers settles.does.wanted walks.goes.ends.full;
+    full = full_stays roots Wanted never walks.goes.more more wanted walks.goes.ends.full;
     listing =
-        listing_stays roots (MayBeAsked walk.listing roots (row_names found.rows)) (λ path answer never. never) walks.goes.more
-        settles.does.answers settles.does.wanted walks.goes.ends.full walk.listing walks.goes.ends.listing;
-    wanted = settles.does.wanted;
-    once = settles.once;
-    fits = settles.does.listens.fits;
+        listing_stays roots Wanted never walks.goes.more more wanted walks.goes.ends.full walk.listing walks.goes.ends.listing;
+    fits = listens.fits;
     tells = λ t.
-        All-append (IsAnswerTold before.present) walks.goes.more settles.does.answers (walks.goes.tells t.0 t.1)
-        (subst (λ (names : List NameFacts). All (IsAnswerTold names) settles.does.answers) (hands.still t.1).same
-        (settles.does.listens.tells t.0 (hands.still t.1).still));
+        All-append (IsAnswerTold before.present) walks.goes.more more (walks.goes.tells t.0 t.1)
+        (subst (λ (names : List NameFacts). All (IsAnswerTold names) more) (hands.still t.1).same
+        (listens.tells t.0 (hands.still t.1).still));
     under = under;
   }
 
-  -- a count that rose in the settling rose in the pass
-  fault_late : (miss : Miss) → IsBacked walk.listing (row_names found.rows) settles.does.answers (Rose met.faults after.faults) miss.name miss.cause
-      → IsBacked walk.listing (row_names found.rows) settles.does.answers (Rose before.faults after.faults) miss.name miss.cause
-  fault_late miss why = backed_so walk.listing (row_names found.rows) settles.does.answers (rose_later before.faults met.faults after.faults hands.cause.later) miss.name miss.cause why
+  module _ {K : Type 0} (hands_given : ℕ) (old found : StateFacts K) {shows : K → ShownKeeper} {new : StateFacts K}
+      (settles : Settles told world.version shows met after (after_begin walk.listing roots found) new)
+      (helped : IsHelped hands_given walk.listing old found) where
+    -- what the hand heard, of the walk and of the settling
+    heard_pass : HearsPass told world.version roots (row_names found.rows) walk walks.goes.more settles.does.answers before after
+    heard_pass = record {
+      walks =
+          hears_walked (MayBeAsked walk.listing roots (row_names found.rows)) (λ path answer never. never) settles.does.answers
+          settles.does.listens settles.does.wanted;
+      wanted = settles.does.wanted;
+      once = settles.once;
+    }
 
-  backed_new : All (λ (miss : Miss). IsBacked walk.listing (row_names found.rows) settles.does.answers (Rose before.faults after.faults) miss.name miss.cause)
-      (pass_or_none new.pass).missed
-  backed_new =
-      All-weaker (λ (miss : Miss). IsBacked walk.listing (row_names found.rows) settles.does.answers (Rose met.faults after.faults) miss.name miss.cause)
-      (λ (miss : Miss). IsBacked walk.listing (row_names found.rows) settles.does.answers (Rose before.faults after.faults) miss.name miss.cause)
-      fault_late (pass_or_none new.pass).missed (all_backed refl settles)
+    -- by what a name was missed
+    abbrev Backed : Type 0 → Miss → Type 0
+    Backed Failed = λ (miss : Miss). IsBacked walk.listing (row_names found.rows) settles.does.answers Failed miss.name miss.cause
 
-  -- what it left of the index
-  left_index : LeavesIndex roots walk.listing settles.does.answers (Rose before.faults after.faults) found new
-  left_index = record {
-    pass = settles.does.on.pass.into;
-    is_open = settles.does.on.pass.is;
-    over = sym (ap (λ (o : Option PassFacts). (pass_or_none o).listing) settles.does.on.pass.is) ∙ same_listing settles.does.on.pass;
-    roots = settles.does.on.roots;
-    origin = settles.does.on.origin;
-    bounded = settles.does.on.bounded;
-    stays = settles.does.on.stays;
-    goes = settles.does.on.goes;
-    comes = settles.does.on.comes;
-    brings = settles.does.on.brings;
-    missed =
-        subst (λ (o : Option PassFacts). All (λ (miss : Miss). IsBacked walk.listing (row_names found.rows) settles.does.answers (Rose before.faults after.faults) miss.name miss.cause) (pass_or_none o).missed)
-        settles.does.on.pass.is backed_new;
-  }
+    -- a count that rose in the settling rose in the pass
+    fault_late : (miss : Miss) → Backed (Rose met.faults after.faults) miss → Backed (Rose before.faults after.faults) miss
+    fault_late miss why = backed_so walk.listing (row_names found.rows) settles.does.answers (rose_later before.faults met.faults after.faults hands.cause.later) miss.name miss.cause why
 
-  -- and both, with the end
-  pub runs_pass : (Ends : StateFacts K → List Heard → Type 0) → Ends found settles.does.answers
-      → RunsPass world told hands_given roots walk.listing before after old new Ends
-  runs_pass Ends ends = record {
-    walk = walk;
-    over = refl;
-    walked = walks.goes.more;
-    more = settles.does.answers;
-    found = found;
-    helped = helped;
-    hears = heard_pass;
-    leaves = left_index;
-    bounded = omega (arith, helped.allowed, helped.bounded, settles.does.on.bounded);
-    ends = ends;
-  }
+    backed_new : All (Backed (Rose before.faults after.faults)) (pass_or_none new.pass).missed
+    backed_new =
+        All-weaker (Backed (Rose met.faults after.faults)) (Backed (Rose before.faults after.faults)) fault_late (pass_or_none new.pass).missed
+        (all_backed refl settles)
 
-  pub runs_to_miss : (miss : Miss) → IsFirstMiss miss new
-      → HasMissed miss (Rose before.faults after.faults) walk.listing new found settles.does.answers
-  runs_to_miss miss h =
-      let why =
-      first_is (λ (m : Miss). IsBacked walk.listing (row_names found.rows) settles.does.answers (Rose before.faults after.faults) m.name m.cause)
-      (pass_or_none new.pass).missed miss backed_new h.missed.first in
-      let over : (pass_or_none new.pass).listing ≡ walk.listing = same_listing settles.does.on.pass in
-      record {
-        first = h.missed.first;
-        why = why;
-        before = λ other met altered. h.missed.least other (settles.does.altered other met altered);
-        apart = λ is.
-            subst (λ (l : List NameFacts). IsApart l miss) over h.missed.apart is
-            (backed_unlisted walk.listing (row_names found.rows) settles.does.answers (Rose before.faults after.faults) miss.name miss.cause why is);
-        sound = h.sound;
-      }
+    -- what it left of the index
+    left_index : LeavesIndex roots walk.listing settles.does.answers (Rose before.faults after.faults) found new
+    left_index = record {
+      pass = settles.does.on.pass.into;
+      is_open = settles.does.on.pass.is;
+      over = sym (ap (λ (o : Option PassFacts). (pass_or_none o).listing) settles.does.on.pass.is) ∙ same_listing settles.does.on.pass;
+      roots = settles.does.on.roots;
+      origin = settles.does.on.origin;
+      bounded = settles.does.on.bounded;
+      moves = settles.does.on.moves;
+      missed =
+          subst (λ (o : Option PassFacts). All (Backed (Rose before.faults after.faults)) (pass_or_none o).missed)
+          settles.does.on.pass.is backed_new;
+    }
+
+    -- and both, with the end
+    pub runs_pass : (Ends : StateFacts K → List Heard → Type 0) → Ends found settles.does.answers
+        → RunsPass world told hands_given roots walk.listing before after old new Ends
+    runs_pass Ends ends = record {
+      walk = walk;
+      over = refl;
+      walked = walks.goes.more;
+      more = settles.does.answers;
+      found = found;
+      helped = helped;
+      hears = heard_pass;
+      leaves = left_index;
+      bounded = omega (arith, helped.allowed, helped.bounded, settles.does.on.bounded);
+      ends = ends;
+    }
+
+    pub runs_to_miss : (miss : Miss) → IsFirstMiss miss new
+        → HasMissed miss (Rose before.faults after.faults) walk.listing new found settles.does.answers
+    runs_to_miss miss h =
+        let why =
+        first_is (Backed (Rose before.faults after.faults)) (pass_or_none new.pass).missed miss backed_new h.missed.first in
+        let over : (pass_or_none new.pass).listing ≡ walk.listing = same_listing settles.does.on.pass in
+        record {
+          first = h.missed.first;
+          tells = record {
+            why = why;
+            before = λ other met altered. h.missed.least other (settles.does.altered other met altered);
+            apart = λ is.
+                subst (λ (l : List NameFacts). IsApart l miss) over h.missed.apart is
+                (backed_unlisted walk.listing (row_names found.rows) settles.does.answers (Rose before.faults after.faults) miss.name miss.cause why is);
+          };
+          sound = h.sound;
+        }
 
 -- the pass whose listing was walked
 pub ends_walked : {K T : Type 0} (world : Rules) (told tells : Bool) (shows : K → ShownKeeper) (sees : T → ShownTree)
@@ -160,16 +168,16 @@ ends_walked {K} {T} world told tells shows sees count roots before met after old
     by : (e : PassEnd) → EndsOver world told tells shows sees count walk.listing roots met after old new e
         → EndsPass world told tells shows count roots walk.listing (sees before) (sees after) old new e
     by (Whole summary) h =
-        runs_pass world count old h.found walks under hands h.begun.settles h.helped
+        runs_pass world walks under hands count old h.found h.begun.settles h.helped
         (λ found more. IsWholePass world tells shows (plan_of walk.listing (row_names old.rows)) summary new walk.listing) h.begun.ends
     by (Missed miss) h =
-        runs_pass world count old h.found walks under hands h.begun.settles h.helped
+        runs_pass world walks under hands count old h.found h.begun.settles h.helped
         (HasMissed miss (Rose (sees before).faults (sees after).faults) walk.listing new)
-        (runs_to_miss world count old h.found walks under hands h.begun.settles h.helped miss h.begun.ends)
+        (runs_to_miss world walks under hands count old h.found h.begun.settles h.helped miss h.begun.ends)
     by KeeperFault (inl h) =
-        inl (runs_pass world count old h.found walks under hands h.begun.settles h.helped (λ found more. new.broken ≡ true) h.begun.ends)
+        inl (runs_pass world walks under hands count old h.found h.begun.settles h.helped (λ found more. new.broken ≡ true) h.begun.ends)
     by KeeperFault (inr h) = inr (left (new.broken ≡ true) h)
-    by LogFull h = runs_pass world count old h.found walks under hands h.begun.settles h.helped (λ found more. IsOutOfRoom new) h.begun.ends
+    by LogFull h = runs_pass world walks under hands count old h.found h.begun.settles h.helped (λ found more. IsOutOfRoom new) h.begun.ends
     by OutOfMemory (inl early) = inl (record {
       walk = walk;
       over = refl;
@@ -177,7 +185,7 @@ ends_walked {K} {T} world told tells shows sees count roots before met after old
       same = early.state;
     })
     by OutOfMemory (inr (inl h)) =
-        inr (inl (runs_pass world count old h.found walks under hands h.begun.settles h.helped (λ found more. new.broken ≡ false) h.begun.ends))
+        inr (inl (runs_pass world walks under hands count old h.found h.begun.settles h.helped (λ found more. new.broken ≡ false) h.begun.ends))
     by OutOfMemory (inr (inr h)) = inr (inr (left (new.broken ≡ false) h))
     by (Walk fault) h = absurd h.begun
     by Broken h = absurd h.begun

@@ -1,8 +1,7 @@
 -- A pass over a shared index whose listing was walked.
-use Rattle.std.proofs.Common.{◌≡◌, ℕ, Bool, List, [], refl, sym, ap, subst, arith, IsTrue, Ok}
+use Rattle.std.proofs.Common.{◌≡◌, ℕ, Bool, List, [], refl, sym, ap, arith, IsTrue, Ok}
 use Rattle.std.specs.List.{All}
 use Rattle.std.proofs.lemmas.Bool.{true≢false}
-use Rattle.std.proofs.lemmas.List.Elements.{All-append}
 use Rattle.row_types.specs.Faults.{Rose}
 use Rattle.row_types.specs.Name.{NameFacts}
 use Rattle.row_types.specs.Rules.{Rules}
@@ -10,12 +9,9 @@ use Rattle.index_lock.proofs.Prefixes.{prefix_self}
 use Rattle.index_rows.specs.declared.change.Change.{Change}
 use Rattle.scan_queue.specs.declared.miss.Cause.{Cause}
 use Rattle.scan_queue.specs.declared.miss.Cause.TheVariants.{ReadFault, Altered, Appeared}
-use Rattle.tree_trait.specs.Asks.{IsAnswerTold}
-use Rattle.tree_trait.specs.Dir.{DirFacts}
-use Rattle.tree_trait.specs.Heard.{Heard, read_dir}
+use Rattle.tree_trait.specs.Heard.{Heard}
 use Rattle.tree_trait.specs.Listens.{Listens}
 use Rattle.tree_trait.specs.Shown.{HandsOn, ShownTree}
-use Rattle.tree_trait.proofs.ListenLemmas.{heard_both}
 use Rattle.tree_walk.specs.Ends.{WalksTree}
 use Rattle.tree_walk.specs.Files.{AreFilesUnder, FitsFault}
 use Rattle.tree_walk.specs.declared.fault.WalkFault.{WalkFault}
@@ -30,12 +26,8 @@ use Rattle.pass_runner.specs.declared.pass_end.PassEnd.TheVariants.{Whole, Misse
 use Rattle.pass_runner.specs.declared.pass_end.PassEnd.TheVariants.{KeeperFault, LogFull, OutOfMemory}
 use Rattle.pass_runner.proofs.LeadLemmas.{met_as}
 use Rattle.pass_runner.proofs.PassHands.{rose_later}
-use Rattle.pass_runner.proofs.FullAnswers.{full_stays, listing_stays}
+use Rattle.pass_runner.proofs.PassWalks.{hears_walked}
 use Rattle.pass_runner.proofs.StillLemmas.{never_other, never_there}
-
--- a load or a look is no reading of a folder
-no_reading : (path : List ℕ) (answer : DirFacts) → IsSparing [] (read_dir path answer) → ⊥
-no_reading path answer h = h
 
 -- a pass that was led over a listing isn't one whose roots could not be walked
 pub leads_walked : {told : Bool} (world : Rules) {listing : List NameFacts} {roots : List (List ℕ)} {brought log : List Change}
@@ -95,19 +87,8 @@ module _ (world : Rules) {told : Bool} {roots : List (List ℕ)} (brought log : 
   hears_shared : (more : List Heard) → Listens told world.version met after more → All (IsSparing []) more
       → HearsShared told world.version roots walk walks.goes.more more before after
   hears_shared more listens asks = record {
-    heard = heard_both before.heard met.heard after.heard walks.goes.more more walks.goes.heard listens.heard;
-    whole = walks.goes.ends;
-    full = full_stays roots (IsSparing []) no_reading walks.goes.more more asks walks.goes.ends.full;
-    listing =
-        listing_stays roots (IsSparing []) no_reading walks.goes.more more asks walks.goes.ends.full walk.listing
-        walks.goes.ends.listing;
+    walks = hears_walked world walks under hands (IsSparing []) (λ path answer never. never) more listens asks;
     asks = asks;
-    fits = listens.fits;
-    tells = λ t.
-        All-append (IsAnswerTold before.present) walks.goes.more more (walks.goes.tells t.0 t.1)
-        (subst (λ (names : List NameFacts). All (IsAnswerTold names) more) (hands.still t.1).same
-        (listens.tells t.0 (hands.still t.1).still));
-    under = under;
   }
 
   runs_shared : (end : PassEnd) → LeadsPass world told walk.listing roots brought log met after end
@@ -149,9 +130,9 @@ module _ (world : Rules) {told : Bool} {roots : List (List ℕ)} (brought log : 
           → IsOfPass walk.listing roots miss.name cause → ⊥
       none_missed ReadFault rose fits = free.faultless rose
       none_missed (Altered seen) why listed =
-          never_other (hears_shared led.more led.listens led.asks) free.still miss.name seen listed why
+          never_other (hears_shared led.more led.listens led.asks).walks free.still miss.name seen listed why
       none_missed Appeared why stray =
-          never_there (hears_shared led.more led.listens led.asks) free.still miss.name stray why
+          never_there (hears_shared led.more led.listens led.asks).walks free.still miss.name stray why.heard
   done_shared Broken led free = led.ends.void
   done_shared KeeperFault led free = led.ends.void
   done_shared LogFull led free =

@@ -42,7 +42,7 @@ use Rattle.pass_runner.proofs.Altered.{left_still, out_differs, still_more, stil
 use Rattle.pass_runner.proofs.Appearing.{left_all, missed_all}
 use Rattle.pass_runner.proofs.Bounding.{bounded_same}
 use Rattle.pass_runner.proofs.Loads.{same_names, same_todo, times_left}
-use Rattle.pass_runner.proofs.Moves.{still_brought, still_missed}
+use Rattle.pass_runner.proofs.Moves.{moves_same, still_brought, still_missed}
 use Rattle.pass_runner.proofs.NameLists.{drop_comes, drop_goes, drop_stays, put_comes, put_goes, put_stays}
 
 -- a pass was begun, where a name is listed in it, out of it or known not to be listed
@@ -99,12 +99,7 @@ module _ {K : Type 0} {shows : K → ShownKeeper} {old new : StateFacts K} where
     pass = subst (λ (o : Option PassFacts). IsPassOn old.pass o) (sym pass) opened;
     roots = roots;
     origin = origin;
-    stays = λ name listed stood. ap (λ (r : List RowFacts). is_in (row_names r) name) rows ∙ stood;
-    goes = λ name stood gone none under.
-        absurd (true≢false (sym stood ∙ sym (ap (λ (r : List RowFacts). is_in (row_names r) name) rows) ∙ gone));
-    comes = λ name stands fresh.
-        absurd (true≢false (sym stands ∙ ap (λ (r : List RowFacts). is_in (row_names r) name) rows ∙ fresh));
-    brings = subst (λ (r : List RowFacts). All (IsBrought old.rows answers) r) (sym rows) (still_brought old.rows answers);
+    moves = moves_same rows;
     missed =
         subst (λ (o : Option PassFacts). All (MissesBy old answers F) (pass_or_none o).missed)
         (sym pass) (still_missed (pass_or_none old.pass).listing (row_names old.rows) (pass_or_none old.pass).missed answers F);
@@ -131,14 +126,7 @@ module _ {K : Type 0} {shows : K → ShownKeeper} {old new : StateFacts K} where
     pass = on;
     roots = ap (λ (s : StateFacts K). s.roots) same;
     origin = ap (λ (s : StateFacts K). s.origin) same;
-    stays = λ name listed stood. ap (λ (s : StateFacts K). is_in (row_names s.rows) name) same ∙ stood;
-    goes = λ name stood gone none under.
-        absurd (true≢false (sym stood ∙ sym (ap (λ (s : StateFacts K). is_in (row_names s.rows) name) same) ∙ gone));
-    comes = λ name stands fresh.
-        absurd (true≢false (sym stands ∙ ap (λ (s : StateFacts K). is_in (row_names s.rows) name) same ∙ fresh));
-    brings =
-        subst (λ (r : List RowFacts). All (IsBrought old.rows answers) r) (sym (ap (λ (s : StateFacts K). s.rows) same))
-        (still_brought old.rows answers);
+    moves = moves_same (ap (λ (s : StateFacts K). s.rows) same);
     missed =
         subst (λ (ms : List Miss). All (MissesBy old answers F) ms) (sym missed)
         (still_missed (pass_or_none old.pass).listing (row_names old.rows) (pass_or_none old.pass).missed answers F);
@@ -158,10 +146,7 @@ module _ {K : Type 0} {shows : K → ShownKeeper} {old new : StateFacts K} where
         pass = left_on name opened;
         roots = refl;
         origin = refl;
-        stays = λ n listed stood. stood;
-        goes = λ n stood gone none under. absurd (true≢false (sym stood ∙ gone));
-        comes = λ n stands fresh. absurd (true≢false (sym stands ∙ fresh));
-        brings = still_brought old.rows answers;
+        moves = moves_same refl;
         missed = left_missed name old.pass (row_names old.rows) answers F;
         still = λ n listed missed. left_still name n old.pass (differs_in (pass_or_none old.pass).listing n name listed unlisted) missed;
         todo = times_left name old.pass;
@@ -181,11 +166,13 @@ module _ {K : Type 0} {shows : K → ShownKeeper} {old new : StateFacts K} where
         pass = left_on row.name opened;
         roots = refl;
         origin = refl;
-        stays = put_stays row (pass_or_none old.pass).listing old.rows by_path awaited.listed awaited.absent;
-        goes = λ n stood gone none under.
-            absurd (put_goes row (pass_or_none old.pass).listing old.rows by_path awaited.listed n stood gone none);
-        comes = put_comes row (pass_or_none old.pass).listing old.rows awaited.listed;
-        brings = put_holds (IsBrought old.rows answers) row_path row old.rows (still_brought old.rows answers) (inr read);
+        moves = record {
+          stays = put_stays row (pass_or_none old.pass).listing old.rows by_path awaited.listed awaited.absent;
+          goes = λ n stood gone none under.
+              absurd (put_goes row (pass_or_none old.pass).listing old.rows by_path awaited.listed n stood gone none);
+          comes = put_comes row (pass_or_none old.pass).listing old.rows awaited.listed;
+          brings = put_holds (IsBrought old.rows answers) row_path row old.rows (still_brought old.rows answers) (inr read);
+        };
         missed = left_missed row.name old.pass (row_names old.rows) answers F;
         still = λ n listed missed.
             left_still row.name n old.pass (out_differs old.pass row.name n holds.each_name_in_one_place out missed) missed;
@@ -263,14 +250,7 @@ module _ {K : Type 0} {shows : K → ShownKeeper} {old new : StateFacts K} where
         pass = on;
         roots = ap (λ (s : StateFacts K). s.roots) same;
         origin = ap (λ (s : StateFacts K). s.origin) same;
-        stays = λ n listed stood. ap (λ (s : StateFacts K). is_in (row_names s.rows) n) same ∙ stood;
-        goes = λ n stood gone none under.
-            absurd (true≢false (sym stood ∙ sym (ap (λ (s : StateFacts K). is_in (row_names s.rows) n) same) ∙ gone));
-        comes = λ n stands fresh.
-            absurd (true≢false (sym stands ∙ ap (λ (s : StateFacts K). is_in (row_names s.rows) n) same ∙ fresh));
-        brings =
-            subst (λ (r : List RowFacts). All (IsBrought old.rows answers) r) (sym (ap (λ (s : StateFacts K). s.rows) same))
-            (still_brought old.rows answers);
+        moves = moves_same (ap (λ (s : StateFacts K). s.rows) same);
         missed =
             missed_all old new (MissesBy old answers F) true (inr why) misses
             (still_missed (pass_or_none old.pass).listing (row_names old.rows) (pass_or_none old.pass).missed answers F);
@@ -301,17 +281,19 @@ module _ {K : Type 0} {shows : K → ShownKeeper} {old new : StateFacts K} where
         pass = left_on name opened;
         roots = refl;
         origin = refl;
-        stays = λ n listed stood.
-            drop_stays name old.rows ascend left_over.stands n
-            (λ same. true≢false (sym listed ∙ ap (is_in (pass_or_none old.pass).listing) same ∙ unlisted)) stood;
-        goes = λ n stood went none under.
-            let same : n ≡ name = drop_goes name old.rows ascend left_over.stands n stood went in
-            subst (λ (m : NameFacts). IsSeenGone answers m) (sym same)
-            (seen_gone old.roots sees gone.gone (ap (λ (m : NameFacts). is_under old.roots m.path) (sym same) ∙ under));
-        comes = λ n stands fresh. absurd (true≢false (sym (drop_comes name old.rows n stands) ∙ fresh));
-        brings =
-            All-filter (λ (r : RowFacts). not (bytes_eq (row_path r) name.path)) (IsBrought old.rows answers) old.rows
-            (still_brought old.rows answers);
+        moves = record {
+          stays = λ n listed stood.
+              drop_stays name old.rows ascend left_over.stands n
+              (λ same. true≢false (sym listed ∙ ap (is_in (pass_or_none old.pass).listing) same ∙ unlisted)) stood;
+          goes = λ n stood went none under.
+              let same : n ≡ name = drop_goes name old.rows ascend left_over.stands n stood went in
+              subst (λ (m : NameFacts). IsSeenGone answers m) (sym same)
+              (seen_gone old.roots sees gone.gone (ap (λ (m : NameFacts). is_under old.roots m.path) (sym same) ∙ under));
+          comes = λ n stands fresh. absurd (true≢false (sym (drop_comes name old.rows n stands) ∙ fresh));
+          brings =
+              All-filter (λ (r : RowFacts). not (bytes_eq (row_path r) name.path)) (IsBrought old.rows answers) old.rows
+              (still_brought old.rows answers);
+        };
         missed = left_missed name old.pass (row_names old.rows) answers F;
         still = λ n listed missed. left_still name n old.pass (differs_in (pass_or_none old.pass).listing n name listed unlisted) missed;
         todo = times_left name old.pass;

@@ -24,10 +24,9 @@ use Rattle.tree_trait.specs.declared.stat.StatAnswer.{StatAnswer}
 use Rattle.tree_trait.specs.declared.stat.StatAnswer.TheVariants.{File}
 use Rattle.tree_walk.specs.Answers.{first_look, is_look_answer}
 use Rattle.tree_walk.specs.declared.walked.Walk.{Walk}
-use Rattle.index_rows.specs.declared.change.Change.{Change}
 use Rattle.pass_runner.proofs.NameLists.{in_by_stamp, stamp_listed}
-use Rattle.pass_runner.specs.Owned.{TellsStill}
-use Rattle.pass_runner.specs.SharedPass.{HearsShared, HeardInPlace, HeardThere, IsStray}
+use Rattle.pass_runner.specs.Owned.{HearsWalked, TellsStill}
+use Rattle.pass_runner.specs.SharedPass.{HeardInPlace, IsStray}
 
 -- what holds of each holds of those in front
 pub all_front : {X : Type 0} (P : X → Type 0) (xs ys : List X) → All P (xs ++ ys) → All P xs
@@ -38,7 +37,7 @@ some_one : {a b : StatAnswer} → Some a ≡ Some b → a ≡ b
 some_one e = cc
 
 -- the first look of told answers at a path is told
-pub first_told : (present : List NameFacts) (path : List ℕ) (answers : List Heard) (answer : StatAnswer)
+first_told : (present : List NameFacts) (path : List ℕ) (answers : List Heard) (answer : StatAnswer)
     → All (IsAnswerTold present) answers → first_look answers path ≡ Some answer
     → TellsStat present path answer
 first_told present path [] answer told e = absurd (cc)
@@ -61,7 +60,7 @@ first_told present path (asked ∷ rest) answer told e =
     first_told present path rest answer (All-tail (IsAnswerTold present) asked rest told) e
 
 -- a load of the files that are there shows no other file
-pub none_other : (present : List NameFacts) (name : NameFacts) (answer : LoadFacts) (met : Seen)
+none_other : (present : List NameFacts) (name : NameFacts) (answer : LoadFacts) (met : Seen)
     → stamp_at present name.path ≡ Some name.stamp → TellsLoad present name.path answer
     → FindsOther name answer met → ⊥
 none_other present name (loaded found) met there tells finds = finds.0 (cc)
@@ -70,7 +69,7 @@ none_other present name gone met there tells finds = absurd (cc)
 none_other present name _ met there tells finds = finds
 
 -- a name of the list is one of its elements
-pub contained : (names : List NameFacts) (name : NameFacts) → is_in names name ≡ true → Contains names name
+contained : (names : List NameFacts) (name : NameFacts) → is_in names name ≡ true → Contains names name
 contained [] name e = absurd (cc)
 contained (n ∷ names) name e = step (same_name name n) refl (λ h. contained names name h) e
   where
@@ -80,7 +79,7 @@ contained (n ∷ names) name e = step (same_name name n) refl (λ h. contained n
     step false differs further later = Contains-append_right (n ∷ []) names name (further later)
 
 -- and so back
-pub is_contained : (names : List NameFacts) (name : NameFacts) → Contains names name → is_in names name ≡ true
+is_contained : (names : List NameFacts) (name : NameFacts) → Contains names name → is_in names name ≡ true
 is_contained names name h =
     list_any_at (same_name name) names h.0 name h.1
     (subst (λ (n : NameFacts). same_name name n ≡ true) (sym h.2) ((same_name-Decides name name).1 refl))
@@ -89,7 +88,7 @@ no_stamp : {stamp : StampFacts} → None ≡ Some stamp → ⊥
 no_stamp e = absurd (cc)
 
 module _ {told : Bool} {version : Versions} {roots : List (List ℕ)} {walk : Walk} {walked more : List Heard}
-    {before after : ShownTree} (hears : HearsShared told version roots walk walked more before after)
+    {before after : ShownTree} (hears : HearsWalked told version roots walk walked more before after)
     (still : TellsStill told before) (name : NameFacts) where
   -- a listed file was another
   pub never_other : (met : Seen) → stamp_at walk.listing name.path ≡ Some name.stamp → HeardInPlace more name met → ⊥
@@ -104,12 +103,12 @@ module _ {told : Bool} {version : Versions} {roots : List (List ℕ)} {walk : Wa
       why.other
 
   -- a file stood that isn't listed
-  pub never_there : {brought log : List Change} → IsStray walk.listing roots name.path → HeardThere brought log more name → ⊥
-  never_there stray why =
+  pub never_there : IsStray walk.listing roots name.path → Contains more (stat name.path (File name.stamp)) → ⊥
+  never_there stray heard =
       let look = stat name.path (File name.stamp) in
       let there : stamp_at before.present name.path ≡ Some name.stamp
       = All-contains (IsAnswerTold before.present) (walked ++ more) look (hears.tells still)
-      (Contains-append_right walked more look why.heard) in
+      (Contains-append_right walked more look heard) in
       let listed : Contains walk.listing name
       = ((hears.under still).all name).1
       (record {

@@ -37,7 +37,7 @@ use Rattle.tree_walk.specs.declared.walked.Walk.{Walk}
 use Rattle.pass_runner.specs.Ends.{IsOutOfRoom}
 use Rattle.pass_runner.specs.Helped.{IsSparing}
 use Rattle.pass_runner.specs.Numbers.{summary_of}
-use Rattle.pass_runner.specs.Settled.{IsBacked, IsBrought, IsHeardAltered, MayBeAsked, MayGo, times_loaded}
+use Rattle.pass_runner.specs.Settled.{IsBacked, IsHeardAltered, KeepsListed, MayBeAsked, MovesRows, times_loaded}
 use Rattle.pass_runner.specs.declared.pass_end.PassEnd.{PassEnd}
 use Rattle.pass_runner.specs.declared.pass_end.PassEnd.TheVariants.{Whole, Missed, Walk as Unwalked, Broken}
 use Rattle.pass_runner.specs.declared.pass_end.PassEnd.TheVariants.{KeeperFault, LogFull, OutOfMemory}
@@ -47,25 +47,30 @@ use Rattle.pass_runner.specs.declared.summary.Summary.{Summary}
 abbrev pub TellsStill : Bool → ShownTree → Type 0
 TellsStill told hand = IsTrue told × hand.Still
 
--- what the first hand heard: a whole walk of the roots, and then nothing but loads of listed files whose names had no row
--- and looks at paths under a root; no path was loaded twice. All of it is full, and leads to the listing. Where the hand
--- tells files that never change, these are the answers that it tells of them, and the listing is the files under the roots
-pub record HearsPass (told : Bool) (version : Versions) (roots : List (List ℕ)) (names : List NameFacts) (walk : Walk)
-    (walked more : List Heard) (before after : ShownTree) : Type 0 where
+-- what the first hand heard: a whole walk of the roots, and then more. All of it is full, and leads to the listing. Where
+-- the hand tells files that never change, these are the answers that it tells of them, and the listing is the files under
+-- the roots
+pub record HearsWalked (told : Bool) (version : Versions) (roots : List (List ℕ)) (walk : Walk) (walked more : List Heard)
+    (before after : ShownTree) : Type 0 where
   pub heard : after.heard ≡ with_answers before.heard (walked ++ more)
   pub whole : IsWholeWalk walked roots walk
   pub full : AsksAll (walked ++ more) roots
   pub listing : IsWalkListing (walked ++ more) roots walk.listing
-  pub wanted : All (MayBeAsked walk.listing roots names) more
-  pub once : (path : List ℕ) → times_loaded more path ≤ 1
   pub fits : All (FitsAny version) more
   pub tells : TellsStill told before → All (IsAnswerTold before.present) (walked ++ more)
   pub under : TellsStill told before → AreFilesUnder before.present roots walk.listing
 
--- what the pass left of the index, however it ended: a pass over the listing is open; no row of a listed name went; a row
--- whose path isn't listed and lies under a root went only where a look did not find its file; a row that came is of a
--- listed name; a row that wasn't there says what a load found; a name is missed only for a reason; no name is skipped, and
--- else the origin is as it was; and the log did not grow more than what is open became less, but for a void change
+-- and behind the walk nothing but loads of listed files whose names had no row and looks at paths under a root; no path was
+-- loaded twice
+pub record HearsPass (told : Bool) (version : Versions) (roots : List (List ℕ)) (names : List NameFacts) (walk : Walk)
+    (walked more : List Heard) (before after : ShownTree) : Type 0 where
+  pub walks : HearsWalked told version roots walk walked more before after
+  pub wanted : All (MayBeAsked walk.listing roots names) more
+  pub once : (path : List ℕ) → times_loaded more path ≤ 1
+
+-- what the pass left of the index, however it ended: a pass over the listing is open; the rows went and came as in a pass; a
+-- name is missed only for a reason; no name is skipped, and else the origin is as it was; and the log did not grow more than
+-- what is open became less, but for a void change
 pub record LeavesIndex {K : Type 0} (folders : List (List ℕ)) (listing : List NameFacts) (more : List Heard)
     (Failed : Type 0) (old new : StateFacts K) : Type 0 where
   pub pass : PassFacts
@@ -74,13 +79,7 @@ pub record LeavesIndex {K : Type 0} (folders : List (List ℕ)) (listing : List 
   pub roots : new.roots ≡ folders
   pub origin : new.origin ≡ unspared old.origin
   pub bounded : StaysBounded listing old new
-  pub stays : (name : NameFacts) → is_in listing name ≡ true
-      → is_in (row_names old.rows) name ≡ true → is_in (row_names new.rows) name ≡ true
-  pub goes : (name : NameFacts) → is_in (row_names old.rows) name ≡ true
-      → is_in (row_names new.rows) name ≡ false → MayGo listing folders more name
-  pub comes : (name : NameFacts) → is_in (row_names new.rows) name ≡ true
-      → is_in (row_names old.rows) name ≡ false → is_in listing name ≡ true
-  pub brings : All (IsBrought old.rows more) new.rows
+  pub moves : MovesRows listing folders more old.rows new.rows
   pub missed : All (λ miss. IsBacked listing (row_names old.rows) more Failed miss.name miss.cause) pass.missed
 
 -- what the other hands left of an index over which a pass had begun: its log goes on from the one before, no row of a
@@ -89,8 +88,7 @@ pub record LeavesIndex {K : Type 0} (folders : List (List ℕ)) (listing : List 
 -- alone, nothing happened
 pub record IsHelped {K : Type 0} (hands : ℕ) (listing : List NameFacts) (old found : StateFacts K) : Type 0 where
   pub log : IsPrefix old.log found.log
-  pub stays : (name : NameFacts) → is_in listing name ≡ true
-      → is_in (row_names old.rows) name ≡ true → is_in (row_names found.rows) name ≡ true
+  pub stays : KeepsListed listing old.rows found.rows
   pub origin : unspared found.origin ≡ unspared old.origin
   pub allowed : still_open listing (row_names old.rows) ≤ most_changes (plan_of listing (row_names old.rows))
   pub bounded : StaysBounded listing old found
@@ -112,11 +110,15 @@ pub record RunsPass {K : Type 0} (world : Rules) (told : Bool) (hands : ℕ) (ro
   pub bounded : IsWithinPlan listing old new
   pub ends : Ends found more
 
--- the roots could not be walked: nothing was loaded, and the index stays as it is
-pub record EndsUnwalked {K : Type 0} (told : Bool) (roots : List (List ℕ)) (before after : ShownTree)
-    (old new : StateFacts K) (fault : WalkFault) : Type 0 where
+-- the walk ended with a fault, which files that never change explain; nothing was loaded
+pub record WalksInto (told : Bool) (roots : List (List ℕ)) (fault : WalkFault) (before after : ShownTree) : Type 0 where
   pub walks : WalksTree told before after roots (Err fault)
   pub fits : TellsStill told before → FitsFault before.present roots fault
+
+-- the roots could not be walked: the index stays as it is
+pub record EndsUnwalked {K : Type 0} (told : Bool) (roots : List (List ℕ)) (before after : ShownTree)
+    (old new : StateFacts K) (fault : WalkFault) : Type 0 where
+  pub stops : WalksInto told roots fault before after
   pub same : new ≡ old
 
 -- the index is one scan of the listing: the rows' names are the listed ones, in a told world the rows are its scan, and a
@@ -133,14 +135,18 @@ abbrev pub NoneAlteredBefore : List NameFacts → List Heard → NameFacts → T
 NoneAlteredBefore listing answers name =
     (other : NameFacts) (met : Seen) → IsHeardAltered listing answers other met → ¬ IsBefore other.path name.path
 
--- a name was missed for a reason, and this was the first, so no file that was heard altered stands before it; the path of
--- one that appeared isn't listed
+-- the miss that is told: a name was missed for a reason, where these names had rows; no listed file that was heard to be
+-- another stands before it; the path of one that appeared isn't listed
+pub record IsMissTold (miss : Miss) (Failed : Type 0) (listing names : List NameFacts) (more : List Heard) : Type 0 where
+  pub why : IsBacked listing names more Failed miss.name miss.cause
+  pub before : NoneAlteredBefore listing more miss.name
+  pub apart : miss.cause ≡ Appeared → stamp_at listing miss.name.path ≡ None
+
+-- a name was missed, and this was the first
 pub record HasMissed {K : Type 0} (miss : Miss) (Failed : Type 0) (listing : List NameFacts) (new found : StateFacts K)
     (more : List Heard) : Type 0 where
   pub first : first_missed (pass_or_none new.pass).missed ≡ Some miss
-  pub why : IsBacked listing (row_names found.rows) more Failed miss.name miss.cause
-  pub before : NoneAlteredBefore listing more miss.name
-  pub apart : miss.cause ≡ Appeared → stamp_at listing miss.name.path ≡ None
+  pub tells : IsMissTold miss Failed listing (row_names found.rows) more
   pub sound : new.broken ≡ false
 
 -- the pass ended while, or as soon as, the other hands had helped: the first hand heard the walk alone, and the log grew by

@@ -133,6 +133,24 @@ pub record IsReadOf (answers : List Heard) (row : RowFacts) : Type 0 where
 abbrev pub IsBrought : List RowFacts → List Heard → RowFacts → Type 0
 IsBrought rows answers row = Contains rows row ⊎ IsReadOf answers row
 
+-- no row of a listed name went
+abbrev pub KeepsListed : List NameFacts → List RowFacts → List RowFacts → Type 0
+KeepsListed listing old new =
+    (name : NameFacts) → is_in listing name ≡ true
+    → is_in (row_names old) name ≡ true → is_in (row_names new) name ≡ true
+
+-- what a pass does to rows from one moment to a later one, while this was heard: no row of a listed name went; a row whose
+-- path isn't listed and lies under a root went only where a look did not find its file; a row that came is of a listed
+-- name; and a row that wasn't there says what a load found
+pub record MovesRows (listing : List NameFacts) (roots : List (List ℕ)) (answers : List Heard) (old new : List RowFacts)
+    : Type 0 where
+  pub stays : KeepsListed listing old new
+  pub goes : (name : NameFacts) → is_in (row_names old) name ≡ true
+      → is_in (row_names new) name ≡ false → MayGo listing roots answers name
+  pub comes : (name : NameFacts) → is_in (row_names new) name ≡ true
+      → is_in (row_names old) name ≡ false → is_in listing name ≡ true
+  pub brings : All (IsBrought old answers) new
+
 -- whether the name was missed
 abbrev pub is_missed : {K : Type 0} → StateFacts K → NameFacts → Bool
 is_missed state name = is_in (missed_names (pass_or_none state.pass).missed) name
@@ -156,24 +174,16 @@ pub record IsPassOn (old new : Option PassFacts) : Type 0 where
   pub over : into.listing ≡ from.listing
 
 -- where the index went from one moment of the settling to a later one, while this was heard and calls of the hand failed only
--- so: the pass goes on, over the same listing and roots; no row of a listed name went; a row whose path isn't listed and lies
--- under a root went only where a look did not find its file; a row that came is of a listed name; a row that wasn't there
--- says what a load found; a name is missed only for a reason, and a listed one that was missed is missed still; no name came
--- to be read; and the log did not grow more than what is open became less, but for a void change
+-- so: the pass goes on, over the same listing and roots; the rows went and came as in a pass; a name is missed only for a
+-- reason, and a listed one that was missed is missed still; no name came to be read; and the log did not grow more than what
+-- is open became less, but for a void change
 pub record Advances {K : Type 0} (shows : K → ShownKeeper) (answers : List Heard) (Failed : Type 0)
     (old new : StateFacts K) : Type 0 where
   pub keeper : (shows old.keeper).faults ≤ (shows new.keeper).faults
   pub pass : IsPassOn old.pass new.pass
   pub roots : new.roots ≡ old.roots
   pub origin : new.origin ≡ old.origin
-  pub stays : (name : NameFacts) → is_in (pass_or_none old.pass).listing name ≡ true
-      → is_in (row_names old.rows) name ≡ true → is_in (row_names new.rows) name ≡ true
-  pub goes : (name : NameFacts) → is_in (row_names old.rows) name ≡ true
-      → is_in (row_names new.rows) name ≡ false
-      → MayGo (pass_or_none old.pass).listing old.roots answers name
-  pub comes : (name : NameFacts) → is_in (row_names new.rows) name ≡ true
-      → is_in (row_names old.rows) name ≡ false → is_in (pass_or_none old.pass).listing name ≡ true
-  pub brings : All (IsBrought old.rows answers) new.rows
+  pub moves : MovesRows (pass_or_none old.pass).listing old.roots answers old.rows new.rows
   pub missed : All (MissesBy old answers Failed) (pass_or_none new.pass).missed
   pub still : MissesStay (pass_or_none old.pass).listing old new
   pub todo : (path : List ℕ)

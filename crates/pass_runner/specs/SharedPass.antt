@@ -2,7 +2,7 @@
 -- brought and of the one that came back. The first hand walks the roots; a pass over the walk listing begins; the other
 -- hands help; the first one tries again what is left, and decides alone. Whole: the log that came back leaves the walk
 -- listing, and the numbers are those of its plan against the rows of a log between the two.
-use Rattle.std.specs.Prelude.{◌≡◌, ◌≢◌, ℕ, ◌+◌, ◌<◌, ◌≤◌, Bool, true, not, List, [], ◌++◌, All, Contains, length, Some, None, Err}
+use Rattle.std.specs.Prelude.{◌≡◌, ◌≢◌, ℕ, ◌+◌, ◌<◌, ◌≤◌, Bool, true, not, List, [], All, Contains, length, Some, None}
 use mathlib.Core.List.{IsPrefix}
 use Rattle.row_types.specs.Faults.{Rose}
 use Rattle.row_types.specs.Name.{NameFacts, stamp_at}
@@ -23,40 +23,29 @@ use Rattle.scan_queue.specs.declared.miss.Cause.TheVariants.{ReadFault, Altered,
 use Rattle.scan_queue.specs.declared.miss.Miss.{Miss}
 use Rattle.scan_queue.specs.declared.miss.Seen.{Seen}
 use Rattle.scan_worker.specs.Read.{FindsOther, heard_load}
-use Rattle.tree_trait.specs.Asks.{FitsAny, IsAnswerTold}
 use Rattle.tree_trait.specs.Found.{Versions}
-use Rattle.tree_trait.specs.Heard.{Heard, stat, with_answers}
+use Rattle.tree_trait.specs.Heard.{Heard, stat}
 use Rattle.tree_trait.specs.Load.{LoadFacts}
 use Rattle.tree_trait.specs.Shown.{ShownTree}
 use Rattle.tree_trait.specs.Stat.{IsNothingAt}
 use Rattle.tree_trait.specs.declared.stat.StatAnswer.TheVariants.{File}
-use Rattle.tree_walk.specs.Ends.{IsWholeWalk, WalksTree}
-use Rattle.tree_walk.specs.Files.{AreFilesUnder, FitsFault, HasManyEntries, HasManyFiles}
-use Rattle.tree_walk.specs.Walked.{AsksAll, IsWalkListing}
+use Rattle.tree_walk.specs.Files.{HasManyEntries, HasManyFiles}
 use Rattle.tree_walk.specs.declared.fault.WalkFault.{WalkFault}
 use Rattle.tree_walk.specs.declared.fault.WalkFault.TheVariants as stop
 use Rattle.tree_walk.specs.declared.walked.Walk.{Walk}
 use Rattle.pass_runner.specs.Helped.{IsSparing}
 use Rattle.pass_runner.specs.Numbers.{summary_of}
-use Rattle.pass_runner.specs.Owned.{TellsStill}
+use Rattle.pass_runner.specs.Owned.{HearsWalked, TellsStill, WalksInto}
 use Rattle.pass_runner.specs.declared.pass_end.PassEnd.{PassEnd}
 use Rattle.pass_runner.specs.declared.pass_end.PassEnd.TheVariants.{Whole, Missed, Walk as Unwalked, Broken}
 use Rattle.pass_runner.specs.declared.pass_end.PassEnd.TheVariants.{KeeperFault, LogFull, OutOfMemory}
 use Rattle.pass_runner.specs.declared.summary.Summary.{Summary}
 
--- what the first hand heard: a whole walk of the roots, and then nothing but loads, up to 1 GiB, and looks. All of it is
--- full, and leads to the listing. Where the hand tells files that never change, these are the answers that it tells of
--- them, and the listing is the files under the roots
+-- what the first hand heard: a whole walk of the roots, and then nothing but loads, up to 1 GiB, and looks
 pub record HearsShared (told : Bool) (version : Versions) (roots : List (List ℕ)) (walk : Walk) (walked more : List Heard)
     (before after : ShownTree) : Type 0 where
-  pub heard : after.heard ≡ with_answers before.heard (walked ++ more)
-  pub whole : IsWholeWalk walked roots walk
-  pub full : AsksAll (walked ++ more) roots
-  pub listing : IsWalkListing (walked ++ more) roots walk.listing
+  pub walks : HearsWalked told version roots walk walked more before after
   pub asks : All (IsSparing []) more
-  pub fits : All (FitsAny version) more
-  pub tells : TellsStill told before → All (IsAnswerTold before.present) (walked ++ more)
-  pub under : TellsStill told before → AreFilesUnder before.present roots walk.listing
 
 -- the log is no shorter than the one that was brought, and no longer than the one that came back
 pub record IsBetween (brought log at : List Change) : Type 0 where
@@ -167,8 +156,7 @@ pub record RunsShared (world : Rules) (told : Bool) (roots : List (List ℕ)) (b
 -- the roots could not be walked: the token saw nothing new
 pub record StopsShared (told : Bool) (roots : List (List ℕ)) (brought log : List Change) (before after : ShownTree)
     (fault : WalkFault) : Type 0 where
-  pub walks : WalksTree told before after roots (Err fault)
-  pub fits : TellsStill told before → FitsFault before.present roots fault
+  pub stops : WalksInto told roots fault before after
   pub same : log ≡ brought
 
 -- how a pass over a shared index ends

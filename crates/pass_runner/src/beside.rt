@@ -157,9 +157,11 @@ fn scan_parts<
     match state.begin(ground.alloc, listing, roots) {
         Begun::Begun(plan) => {
             state.spare();
+            // For its clause: the log leaves the names of the rows.
             let _rows = state.rows();
             match run_shared(ground, state, helpers, (slots, back)) {
                 Ok((mut state, helpers)) => {
+                    // For its clause: the rows of skipped names stand, and the log is bounded.
                     show_index(&state);
                     let mut first = first;
                     let end = settle_again(
@@ -181,8 +183,8 @@ fn scan_parts<
     }
 }
 
-/// Begins a pass over the listing again, and settles it. An index that comes back broken shows that
-/// its keeper has counted a fault.
+/// Begins a pass over the listing again, and settles it. The last call is made for its clause: the
+/// keeper of an index that is broken has counted a fault.
 fn settle_again<W: Truth, K: Keeper<W>, T: Tree<W>, R: Reader<W>>(
     alloc: Global,
     state: &mut State<W, K>,

@@ -66,9 +66,11 @@ fn end_held<W: Truth, K: Keeper<W>>(
     ensures shows { LastShows (rules W.version W.true_row W.told) listing roots.items plan.now
         met.now state.new.log result }
 {
+    // For its clause: where no name was spared, none is skipped.
     let _rows = state.rows();
     let own = own_miss(alloc, state, met, &listing, roots.as_slice());
     let end = begin_last(alloc, state, listing, roots, plan, own);
+    // For its clause: the log leaves the names of the rows, and shows whether the index is broken.
     show_index(state);
     end
 }
@@ -208,6 +210,7 @@ fn is_listed(name: &Name, listing: &Listing) -> bool
 fn is_stray(path: &CanonPath, listing: &Listing, roots: &[CanonPath]) -> bool
     ensures { IsTrue result → IsStray listing.now roots.now path.now }
 {
+    // For its clause: the path is no longer than one that is kept.
     let _text = path.text();
     match listing.stamp_of(path) {
         Some(_) => false,

@@ -49,6 +49,7 @@ fn next_task<W: Truth, K: Keeper<W>>(state: &mut State<W, K>) -> Option<GroomTas
     ensures step { GroomsNext state.old result state.new }
     ensures unlisted { IfSome result (λ task. is_name_kept state.new.pass task.name ≡ false) }
 {
+    // For its clause: what is to be looked for isn't listed.
     show_index(state);
     state.groom_take()
 }
@@ -67,6 +68,7 @@ fn look_for<W: Truth, K: Keeper<W>, T: Tree<W>>(
     ensures { TurnsOver T.told W.version K.shows [] task.now.name (T.shows hand.old)
         (T.shows hand.new) state.old state.new result }
 {
+    // For its clause: the index invariant, before a name is judged or missed.
     show_index(state);
     match look_under(alloc, hand, task) {
         Looked::Saw(seen) => judge_name(alloc, state, &task.name, seen),

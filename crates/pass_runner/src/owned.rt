@@ -182,6 +182,7 @@ fn end_of<W: Truth, K: Keeper<W>>(alloc: Global, state: &State<W, K>, plan: &Pla
     requires handed { IsHandedOut state.now }
     ensures { EndsOf (rules W.version W.true_row W.told) K.told K.shows plan.now state.now result }
 {
+    // For its clause: a path has one row at most.
     show_index(state);
     match state.first_miss() {
         Some(miss) => match copy_miss(alloc, miss) {
@@ -189,6 +190,7 @@ fn end_of<W: Truth, K: Keeper<W>>(alloc: Global, state: &State<W, K>, plan: &Pla
             Err(_) => PassEnd::OutOfMemory,
         },
         None => {
+            // For its clause: where no name is left, the rows are those of the listing.
             let _standing = state.standing();
             PassEnd::Whole(summary_of(state, plan))
         }

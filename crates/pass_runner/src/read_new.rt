@@ -56,6 +56,7 @@ fn read_one<W: Truth, K: Keeper<W>, T: Tree<W>, R: Reader<W>>(
     ensures { TurnsOver T.told W.version K.shows (name.now ∷ []) name.now (T.shows hand.old)
         (T.shows hand.new) state.old state.new result }
 {
+    // For its clause: the index invariant, before a row is put or a name is missed.
     show_index(state);
     match read_name(alloc, hand, reader, name) {
         NameRead::Row(row) => publish_row(alloc, state, row),

@@ -51,6 +51,7 @@ pub(crate) fn settle_pass<W: Truth, K: Keeper<W>, T: Tree<W>, R: Reader<W>>(
     ensures keeper { HasCause (K.shows state.old.keeper).faults (K.shows state.new.keeper).faults
         (result ≡ WorkEnd.KeeperFault) }
 {
+    // For its clause: what is to be read has each path once.
     show_index(state);
     match read_new(alloc, state, hand, reader) {
         WorkEnd::Empty => look_for_all(alloc, state, hand),

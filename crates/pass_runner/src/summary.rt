@@ -45,7 +45,7 @@ pub fn summary_of<W: Truth, K: Keeper<W>>(state: &State<W, K>, plan: &Plan) -> S
 fn count_of<W: Truth, K: Keeper<W>>(state: &State<W, K>, kind: Kind) -> u64
     ensures { result ≡ count_by (λ row. is_of kind row.reading) state.now.rows }
 {
-    // There are no more rows than this counts.
+    // For its clause: there are no more rows than this counts.
     let _standing = state.standing();
     state.rows().filter(|row| is_of(kind, &row.reading)).count() as u64
 }

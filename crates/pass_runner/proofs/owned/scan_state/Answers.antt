@@ -38,7 +38,7 @@ returns-in-Err-clause-pass g c = (
   [],
   first_goes _ _ c.args.hands.items c.index_mut.result.now c.walk.new.hand
       (subst (λ n. 0 < n) c.args.hands.ok.0 c.requires.hand) c.index_mut.ensures.value
-      (record { walks = c.in-Err.ensures.walk; fits = λ t. c.in-Err.ensures.refused t.0 t.1; same = refl })
+      (record { stops = record { walks = c.in-Err.ensures.walk; fits = λ t. c.in-Err.ensures.refused t.0 t.1 }; same = refl })
       (helps_none g.T.Tree.shows g.T.Tree.told g.W.Truth.version [] (row_names c.args.state.rows)),
 )
 
