@@ -1,5 +1,5 @@
 -- The sources of debug sections are those of each file that has these sections.
-use Rattle.std.proofs.Common.{◌≡◌, ◌↔◌, ℕ, ◌<◌, List, [], length, Contains, Option, Some, None, Result, Ok, Err, IfOk, sym, subst, arith}
+use Rattle.std.proofs.Common.{◌≡◌, ◌↔◌, ℕ, List, [], Contains, Option, Some, None, Result, Ok, Err, IfOk, sym, subst, arith}
 use Rattle.file_formats.specs.DwarfSections.{IsDebugAnswer}
 use Rattle.file_formats.specs.DwarfUnits.{DebugSections}
 use Rattle.file_formats.proofs.DwarfSectionLemmas.{debug-unique}

@@ -1,5 +1,5 @@
 -- What is read of a picture is so of each file that agrees with it.
-use Rattle.std.proofs.Common.{◌≡◌, ◌⊎◌, inl, inr, ◌≤◌, ◌<◌, ℕ, List, Option, Result, Ok, Err, IfOk, sym, subst, arith}
+use Rattle.std.proofs.Common.{◌≡◌, inl, inr, ◌≤◌, ◌<◌, ℕ, List, Option, Result, Ok, Err, IfOk, sym, subst, arith}
 use Rattle.file_formats.specs.declared.fault.Why.{Why}
 use Rattle.file_formats.specs.DwarfSections.{IsDebugAnswer}
 use Rattle.file_formats.specs.DwarfUnits.{DebugSections}
