@@ -46,9 +46,3 @@ pub no_sources : (x : Option DebugSections) (paths : List (List ℕ)) → x ≡ 
     → (bytes : List ℕ) → IsDebugAnswer bytes x → AreSourcesOf bytes paths
 no_sources x paths e empty bytes answer =
     subst (AreSourcesOf bytes) (sym empty) (none_read bytes (subst (IsDebugAnswer bytes) e answer))
-
--- they are those of this file
-pub sources_here : {E : Type 0} (r : Result (List (List ℕ)) E) (bytes : List ℕ) (x : Option DebugSections) → IsDebugAnswer bytes x
-    → IfOk r (λ paths. (other : List ℕ) → IsDebugAnswer other x → AreSourcesOf other paths) → IfOk r (AreSourcesOf bytes)
-sources_here (Ok paths) bytes x answer each = each bytes answer
-sources_here (Err fault) bytes x answer each = tt

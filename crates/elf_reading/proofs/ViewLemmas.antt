@@ -1,41 +1,21 @@
 -- What is read of a picture is so of each file that agrees with it.
-use Rattle.std.proofs.Common.{◌≡◌, inl, inr, ◌≤◌, ◌<◌, ℕ, List, Option, Result, Ok, Err, IfOk, sym, subst, arith}
+use Rattle.std.proofs.Common.{◌≡◌, inl, inr, ◌≤◌, ◌<◌, ℕ, List, Ok, Err, sym, subst, arith}
 use Rattle.file_formats.specs.declared.fault.Why.{Why}
-use Rattle.file_formats.specs.DwarfSections.{IsDebugAnswer}
-use Rattle.file_formats.specs.DwarfUnits.{DebugSections}
-use Rattle.file_formats.specs.Identity.{Identity, IsIdentity}
 use Rattle.file_formats.specs.Parts.{IsSomePart}
-use Rattle.file_formats.specs.Windows.{Range, IsSomeWindow}
+use Rattle.file_formats.specs.Windows.{Range}
 use Rattle.file_formats.proofs.IdentityLemmas.{identity-unique}
 use Rattle.file_picture.specs.Agrees.{AgreesWithPicture}
 use Rattle.file_picture.specs.Picture.{PictureFacts, IsCovered}
 use Rattle.row_types.specs.Name.{NameFacts}
-use Rattle.row_types.specs.Reading.{IsVersionRead, ReadsBytes}
+use Rattle.row_types.specs.Reading.{ReadsBytes}
 use Rattle.row_types.specs.Row.{RowFacts, too_large_row}
 use Rattle.row_types.specs.declared.limits.TheConstants.{EDITION, FILE_LIMIT}
 use Rattle.row_types.specs.declared.reading.Reading.{Reading}
 use Rattle.row_types.specs.declared.reading.Reading.TheVariants.{Plain}
-use Rattle.tree_trait.specs.Found.{Versions}
 use Rattle.tree_trait.specs.Reader.{IsRowOf}
 use Rattle.elf_classify.specs.Views.{AsksOf, IsIdentityOfEach, IsOfEach}
-use Rattle.elf_reading.specs.RowViews.{IsPictureOf, IsReadPart}
+use Rattle.elf_reading.specs.RowViews.{IsReadPart}
 use Rattle.elf_reading.proofs.ReadLemmas.{large_is_read, row_says}
-
--- ---- of bytes
-
--- what each file of an identity with some debug sections is found to be, this file is
-pub reads_here : {E : Type 0} (r : Result Reading E) (bytes : List ℕ) (identity : Identity) (x : Option DebugSections)
-    → IsIdentity bytes (Ok identity) → IsDebugAnswer bytes x
-    → IfOk r (λ reading. (other : List ℕ) → IsIdentity other (Ok identity) → IsDebugAnswer other x → ReadsBytes other reading)
-    → IfOk r (ReadsBytes bytes)
-reads_here (Ok reading) bytes identity x i answer each = each bytes i answer
-reads_here (Err fault) bytes identity x i answer each = tt
-
--- ---- of a picture
-
--- a window is one of the parts
-pub window_asked : (p : PictureFacts) (at len : ℕ) → AsksOf IsSomeWindow p at len → AsksOf IsSomePart p at len
-window_asked p at len n = record { gone = n.gone; among = λ b f. inl (n.among b f) }
 
 -- a file without an identity has no other parts
 pub plain_seen : (p : PictureFacts) (why : Why) → IsIdentityOfEach p (Err why)
@@ -46,23 +26,6 @@ plain_seen p why s = record { is = s.is; there = of }
     of b f r (inl w) = s.there b f r w
     of b f r (inr d) =
         let both = identity-unique b (Err why) (Ok d.has.identity) (s.is b f) d.has.is_identity in absurd (cc)
-
--- the files have an identity and debug sections
-pub elf_seen_as : (p : PictureFacts) (identity : Identity) (x : Option DebugSections) (reading : Reading)
-    → IsIdentityOfEach p (Ok identity) → IsOfEach IsSomePart (λ b. IsDebugAnswer b x) p
-    → ((b : List ℕ) → IsIdentity b (Ok identity) → IsDebugAnswer b x → ReadsBytes b reading)
-    → IsOfEach IsSomePart (λ b. ReadsBytes b reading) p
-elf_seen_as p identity x reading i parts reads = record {
-  is = λ b f. reads b (i.is b f) (parts.is b f);
-  there = parts.there;
-}
-
--- ---- of a name
-
--- a version of the name is found to be what each file that agrees is
-pub version_is_read : (version : Versions) (name : NameFacts) (p : PictureFacts) (reading : Reading) → IsPictureOf version name p
-    → IsOfEach IsSomePart (λ b. ReadsBytes b reading) p → IsVersionRead version name reading
-version_is_read version name p reading o s = record { bytes = o.bytes; known = o.known; reads = s.is o.bytes o.agrees }
 
 -- what is asked for is a part on which the row rests
 pub row_asked : (name : NameFacts) (p : PictureFacts) (at len : ℕ) → name.stamp.size ≤ FILE_LIMIT → AsksOf IsSomePart p at len
