@@ -49,11 +49,7 @@ fn seen_under(alloc: Global, name: Name, picture: &Picture) -> ViewAnswer<OpenWo
 
 /// What a picture says of the row of a file of its size.
 fn seen(rt: &impl Abort, alloc: Global, picture: &Picture) -> ViewAnswer<OpenWorld> {
-    seen_under(
-        alloc,
-        name_of(rt, alloc, picture.size() as usize),
-        picture,
-    )
+    seen_under(alloc, name_of(rt, alloc, picture.size() as usize), picture)
 }
 
 /// The row from a picture that has some parts of a file first; each of the others is asked for in their
