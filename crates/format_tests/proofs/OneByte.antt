@@ -1,5 +1,5 @@
 -- Pictures of a file of one byte.
-use Rattle.std.proofs.Common.{◌≡◌, ℕ, ◌+◌, ◌≤◌, List, [], length, Option, Some, None, sym, ap, subst, refl, arith, codes}
+use Rattle.std.proofs.Common.{◌≡◌, ℕ, List, [], Option, Some, None, sym, ap, subst, refl, arith, codes}
 use Rattle.file_picture.specs.Agrees.{AgreesWithPicture}
 use Rattle.file_picture.specs.Picture.{PictureFacts, IsAdded, IsRangeFree}
 use Rattle.file_picture.proofs.AgreeLaws.{added-agrees}

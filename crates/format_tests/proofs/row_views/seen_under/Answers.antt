@@ -7,5 +7,5 @@ pub read_view-requires : goal.read_view-requires
 read_view-requires c = record {
   bytes = filled_with_zeros c.args.picture.now;
   known = tt;
-  agrees = filled-agrees c.args.picture.now c.size-_size.ensures.holds;
+  agrees = filled-agrees c.args.picture.now c.size-size.ensures.holds;
 }
