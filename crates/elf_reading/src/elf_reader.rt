@@ -1,14 +1,13 @@
 //! The reader of ELF files.
 
 ghost use Rattle.std.specs.Prelude.{◌≡◌, ◌≤◌, ◌<◌, IfOk};
-ghost use Rattle.row_types.specs.Reading.{ReadsBytes};
+ghost use Rattle.row_types.specs.Reading.{IsVersionRead};
 ghost use Rattle.row_types.specs.Row.{too_large_row};
 ghost use Rattle.tree_trait.specs.Found.{found_name};
 ghost use Rattle.tree_trait.specs.Reader.{IsRowOf};
 
 use crate::elf_truth::ElfTruth;
-use crate::sources::file_sources;
-use elf_classify::ident;
+use crate::reading::reading_of;
 use row_types::{EDITION, FILE_LIMIT, Name, Reading, Row, TrueRow, Truth};
 use std::alloc::{AllocError, Global};
 use tree_trait::{Found, Reader};
@@ -52,18 +51,15 @@ fn small_row<W: ElfTruth>(
 {
     found.is_version();
     let reading = reading_of(alloc, found.bytes.as_slice())?;
-    Ok(TrueRow::new(Row::new(name, EDITION, reading)))
+    Ok(row_of(name, reading))
 }
 
-/// What bytes are found to be.
-fn reading_of(alloc: Global, bytes: &[u8]) -> Result<Reading, AllocError>
-    ensures { IfOk result (ReadsBytes bytes.now) }
+/// The row of a file of at most 1 GiB, some version of which is found to be this. No memory is taken.
+#[tactic(auto, using(crate::proofs::ReadLemmas::read_is_true))]
+pub(crate) fn row_of<W: ElfTruth>(name: Name, reading: Reading) -> TrueRow<W>
+    requires read { IsVersionRead W.version name reading }
+    requires small { name.stamp.size ≤ FILE_LIMIT }
+    ensures { result ≡ record { name = name; edition = EDITION; reading = reading } }
 {
-    Ok(match ident(bytes) {
-        Ok(ident) => Reading::Elf {
-            ident,
-            sources: file_sources(alloc, bytes)?,
-        },
-        Err(why) => Reading::Plain(why),
-    })
+    TrueRow::new(Row::new(name, EDITION, reading))
 }

@@ -1,11 +1,14 @@
 //! The row of a file: its identity and the source paths that its debug information names, by the
-//! readers of ELF and DWARF.
+//! readers of ELF and DWARF. A picture of the file gives it too, once it has the parts that decide it.
 #![tactic(auto)]
 
 mod elf_reader;
 mod elf_truth;
+mod reading;
 mod sources;
+mod view;
 
 pub use elf_reader::{ElfReader, large_row};
 pub use elf_truth::ElfTruth;
 pub use sources::file_sources;
+pub use view::{ViewAnswer, read_view};

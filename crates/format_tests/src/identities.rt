@@ -5,7 +5,7 @@ mod changes;
 mod parts;
 mod sections;
 mod views;
-mod windows;
+pub mod windows;
 
 pub use changes::changed;
 use elf_classify::ident;

@@ -15,4 +15,6 @@ mod pictures;
 #[cfg(test)]
 mod readings;
 #[cfg(test)]
+mod row_views;
+#[cfg(test)]
 mod samples;

@@ -1,6 +1,6 @@
 //! What no clause says: that memory suffices, and what the samples are read as.
 
-ghost use Rattle.std.specs.Prelude.{◌≡◌};
+ghost use Rattle.std.specs.Prelude.{◌≡◌, codes, pos};
 
 use crate::identities::changed;
 use elf_reading::{ElfReader, file_sources};
@@ -12,10 +12,10 @@ use std::process::Abort;
 use tree_trait::{Found, Reader, TwoWorld};
 
 /// The sources of the sample with DWARF 5, whose section .debug_line begins at 147.
-static SOURCES: [&str; 2] = ["/w/src/inc/util.h", "/w/src/main.c"];
+pub static SOURCES: [&str; 2] = ["/w/src/inc/util.h", "/w/src/main.c"];
 
 /// Checks that these are the paths.
-fn are(rt: &impl Abort, what: &str, found: &Sources, expected: &[&str]) {
+pub fn are(rt: &impl Abort, what: &str, found: &Sources, expected: &[&str]) {
     let mut texts = expected.iter();
     for path in found.paths() {
         assert!(rt; texts.next().copied() == Some(path.text()), "{what}");
@@ -57,8 +57,9 @@ fn a_damaged_line_table_or_a_relocatable_file_has_no_sources(rt: HostRuntime) {
 }
 
 /// The name of a file of so many bytes at `/w/a`.
-fn name_of(rt: &impl Abort, alloc: Global, size: usize) -> Name
-    ensures { result.stamp.size ≡ size }
+pub fn name_of(rt: &impl Abort, alloc: Global, size: usize) -> Name
+    ensures path { result.path ≡ codes "/w/a" }
+    ensures stamp { result.stamp ≡ record { size = size; secs = pos 1; nanos = 0 } }
 {
     let text = String::from_str(alloc, "/w/a").expect(rt, "memory");
     let Ok(path) = CanonPath::check(text) else {
@@ -72,9 +73,8 @@ fn name_of(rt: &impl Abort, alloc: Global, size: usize) -> Name
     Name { path, stamp }
 }
 
-/// The row of the sample.
-fn sample_row(rt: &impl Abort, alloc: Global) -> TrueRow<OpenWorld> {
-    let bytes = dwarf_five(alloc).expect(rt, "memory");
+/// The row of a file of these bytes.
+pub fn row_of(rt: &impl Abort, alloc: Global, bytes: Vec<u8>) -> TrueRow<OpenWorld> {
     let name = name_of(rt, alloc, bytes.len());
     let path = String::from_str(alloc, name.path.text()).expect(rt, "memory");
     let found: Found<OpenWorld> = Found::new(path, name.stamp, bytes);
@@ -95,7 +95,8 @@ fn is_of_sample(rt: &impl Abort, reading: &Reading) {
 
 #[test]
 fn the_row_of_the_sample_has_its_identity_and_its_sources(rt: HostRuntime) {
-    let row = sample_row(&rt, rt.alloc());
+    let file = dwarf_five(rt.alloc()).expect(&rt, "memory");
+    let row = row_of(&rt, rt.alloc(), file);
     assert!(rt; row.row().edition == 1);
     assert!(rt; row.row().name.path.text() == "/w/a");
     assert!(rt; row.row().name.stamp.size == 1016);

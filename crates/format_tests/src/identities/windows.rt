@@ -13,7 +13,7 @@ use std::alloc::{AllocError, Global};
 use std::process::Abort;
 
 /// A place in a file and a number of bytes.
-type Range = (u64, u64);
+pub type Range = (u64, u64);
 
 /// The answer for the whole file.
 fn whole(file: &[u8]) -> IdentView {
@@ -24,7 +24,7 @@ fn whole(file: &[u8]) -> IdentView {
 }
 
 /// Whether a window is among those that are known first: its bit is set.
-fn is_known(first: u32, window: usize) -> bool {
+pub fn is_known(first: u32, window: usize) -> bool {
     window < 32 && (first >> window) & 1 == 1
 }
 
@@ -69,25 +69,25 @@ fn sample(
 }
 
 /// The windows of the sample of both classes: the beginning, the section table, the names, the notes.
-static BOTH: [Range; 4] = [(0, 64), (168, 320), (113, 48), (64, 36)];
+pub static BOTH: [Range; 4] = [(0, 64), (168, 320), (113, 48), (64, 36)];
 
 /// With extended counts section 0's header comes before the table.
-static EXTENDED: [Range; 5] = [(0, 64), (168, 64), (168, 320), (113, 48), (64, 36)];
+pub static EXTENDED: [Range; 5] = [(0, 64), (168, 64), (168, 320), (113, 48), (64, 36)];
 
 /// In a 32-bit file the first 64 bytes are 12 more than the header.
-static BIG: [Range; 4] = [(0, 64), (124, 200), (76, 48), (52, 24)];
+pub static BIG: [Range; 4] = [(0, 64), (124, 200), (76, 48), (52, 24)];
 
-static BIG_EXTENDED: [Range; 5] = [(0, 64), (124, 40), (124, 200), (76, 48), (52, 24)];
+pub static BIG_EXTENDED: [Range; 5] = [(0, 64), (124, 40), (124, 200), (76, 48), (52, 24)];
 
-static ALIGNED: [Range; 4] = [(0, 64), (152, 256), (129, 23), (64, 51)];
+pub static ALIGNED: [Range; 4] = [(0, 64), (152, 256), (129, 23), (64, 51)];
 
-static BIG_ALIGNED: [Range; 4] = [(0, 64), (136, 160), (113, 23), (56, 51)];
+pub static BIG_ALIGNED: [Range; 4] = [(0, 64), (136, 160), (113, 23), (56, 51)];
 
-static PROGRAM: [Range; 4] = [(0, 64), (152, 256), (113, 36), (64, 36)];
+pub static PROGRAM: [Range; 4] = [(0, 64), (152, 256), (113, 36), (64, 36)];
 
-static COMPANION: [Range; 4] = [(0, 64), (200, 384), (136, 58), (64, 36)];
+pub static COMPANION: [Range; 4] = [(0, 64), (200, 384), (136, 58), (64, 36)];
 
-static DWARF: [Range; 4] = [(0, 64), (376, 640), (255, 120), (64, 36)];
+pub static DWARF: [Range; 4] = [(0, 64), (376, 640), (255, 120), (64, 36)];
 
 #[test]
 fn each_sample_is_known_from_its_windows_in_every_order(rt: HostRuntime) {
