@@ -1,17 +1,21 @@
 #!/usr/bin/env bash
 # Scans into a file, and lets sqlite3 (or python3's module of it) read that file: its rows, and its integrity. A second
 # scan adds nothing, a query of an id prints what `ident` says of its files, and a scan that was killed leaves a file from
-# which the next one goes on.
+# which the next one goes on. Files that the same tool wrote are refused, and stay as they were, or are read.
 #
 # usage: checks/store.sh [PROGRAM]      PROGRAM is ./dbgd of the repository's top unless given
 source "$(dirname -- "$(readlink -f -- "${BASH_SOURCE[0]}")")/lib/head.sh" || exit 1
 
-# Asks a SQLite file something, by the first of the two tools that is there.
+# Asks a SQLite file something, or runs the statements of the standard input on it, by the first of the two tools that is
+# there.
 if command -v sqlite3 >/dev/null; then
   ask() { sqlite3 "$1" "$2"; }
+  fill() { sqlite3 -bail "$1"; }
 elif python3 -c 'import sqlite3' 2>/dev/null; then
   ask() { python3 -c 'import sqlite3, sys
 for row in sqlite3.connect(sys.argv[1]).execute(sys.argv[2]): print(*row, sep="|")' "$1" "$2"; }
+  fill() { python3 -c 'import sqlite3, sys
+sqlite3.connect(sys.argv[1]).executescript(sys.stdin.read())' "$1"; }
 else
   say "skipped: there is neither sqlite3 nor python3 with its module"
   exit 0
@@ -71,6 +75,97 @@ print(ran.returncode, ran.stdout + ran.stderr, end="")' "$work/index.db" "$progr
 else
   say "a file that is held: skipped, there is no python3 with sqlite3"
 fi
+
+# Runs words, and compares the status and each byte that is written with what is wanted.
+ends() { # WHAT STATUS OUT ERR WORDS..
+  local what=$1 wanted=$2 status
+  printf '%s' "$3" >"$work/wanted_out"
+  printf '%s' "$4" >"$work/wanted_err"
+  shift 4
+  timeout 60 "$program" "$@" >"$work/out" 2>"$work/err" </dev/null
+  status=$?
+  [ "$status" = "$wanted" ] && cmp -s "$work/out" "$work/wanted_out" && cmp -s "$work/err" "$work/wanted_err" ||
+    differs "$what: wanted status $wanted, $(cat "$work/wanted_out" "$work/wanted_err" | head -c 500); got $status, $(
+      cat "$work/out" "$work/err" | head -c 500
+    )"
+}
+
+# A store that another program wrote. The bytes of its rows are those of empty files, changed at second 100, that are no
+# ELF files: edition, path with its length, size, second, nanoseconds, then that it is no ELF file.
+other=$work/other.db
+kept_table='CREATE TABLE kept(path TEXT PRIMARY KEY NOT NULL, body BLOB NOT NULL) STRICT;'
+epoch_table='CREATE TABLE epoch(one INTEGER PRIMARY KEY CHECK (one = 1), n INTEGER NOT NULL) STRICT;
+  INSERT INTO epoch VALUES (1, 41);'
+row="x'01020000002f6100000000000000006400000000000000000000000001'"
+
+# Writes it anew, by these statements.
+makes() { # STATEMENTS
+  rm -f "$other" "$other-wal" "$other-shm" "$other-journal"
+  printf '%s\n' "$1" | fill "$other" 2>"$work/err"
+}
+
+# Its tables, as they were written, and its rows.
+holds() {
+  ask "$other" 'SELECT name, sql FROM sqlite_master ORDER BY name'
+  ask "$other" 'SELECT typeof(path), hex(path), hex(body) FROM kept ORDER BY rowid'
+}
+
+# A scan and a query are refused, and tables and rows stay. The number is raised by openings behind which the rows aren't
+# read.
+refused() { # WHAT NUMBER
+  holds >"$work/before" 2>&1
+  grep -q '^text\|^blob' "$work/before" || differs "$1: it has no row: $(cat "$work/err" "$work/before")"
+  ends "scan of $1" 1 '' $'dbgd: fault store\n' scan -d "$other" "$tree"
+  ends "query of $1" 1 '' $'dbgd: fault store\n' query -d "$other" ffff
+  holds >"$work/after" 2>&1
+  cmp -s "$work/before" "$work/after" || differs "$1: it had $(cat "$work/before"), and has $(cat "$work/after")"
+  [ "$(ask "$other" 'SELECT one, n FROM epoch')" = "1|$2" ] || differs "$1: the number is $(ask "$other" 'SELECT * FROM epoch')"
+}
+
+makes "CREATE TABLE kept(path TEXT PRIMARY KEY NOT NULL, body BLOB NOT NULL, more TEXT) STRICT;
+  INSERT INTO kept VALUES ('/a', $row, 'more'); $epoch_table"
+refused 'another column' 41
+makes "$kept_table INSERT INTO kept VALUES (CAST(x'2fff' AS TEXT), $row); $epoch_table"
+refused 'a path that is no UTF-8' 43
+
+# A column that is strict takes no blob, so the column becomes strict once the blob is there.
+if makes "CREATE TABLE kept(path TEXT PRIMARY KEY NOT NULL, body BLOB NOT NULL);
+  INSERT INTO kept VALUES (x'2f61', $row); $epoch_table
+  PRAGMA writable_schema = ON; UPDATE sqlite_master SET sql = sql || ' STRICT' WHERE name = 'kept';" &&
+  [ "$(ask "$other" "SELECT sql || ';' FROM sqlite_master WHERE name = 'kept'")" = "$kept_table" ]; then
+  refused 'a path that is a blob' 41
+else
+  say "a path that is a blob: skipped, the tool doesn't write it"
+fi
+
+# 10,000 rows of files that are there, a hundred of them with the id abcd as those of an executable. A scan keeps them all
+# and reads none of the files, and a query finds the hundred.
+many=$work/many
+mkdir "$many"
+(cd "$many" && seq -f '%04.0f' 0 9999 | xargs touch -d @100)
+prefix=$(printf '%s/' "$many" | od -An -tx1 -v | tr -d ' \n')
+makes "$kept_table $(awk -v dir="$many/" -v prefix="$prefix" 'BEGIN {
+  size = length(dir) + 4
+  print "BEGIN;"
+  for (n = 0; n < 10000; n++) {
+    name = sprintf("%04d", n)
+    spelled = name
+    gsub(/./, "3&", spelled)
+    found = n % 100 ? "0001" : "010102abcd00000000"
+    printf "INSERT INTO kept VALUES (%c%s%s%c, x%c01%02x%02x0000%s%s0000000000000000640000000000000000000000%s%c);\n",
+      39, dir, name, 39, 39, size % 256, int(size / 256), prefix, spelled, found, 39
+  }
+  print "COMMIT;"
+}')"
+holds | grep -v '^epoch' >"$work/before"
+[ "$(grep -c '^text' "$work/before")" = 10000 ] || differs "many rows: $(grep -c '^text' "$work/before") are there"
+ends 'scan of many rows' 0 $'scan: 10000 files, 0 added, 0 replaced, 0 dropped, 10000 kept, 100 executables, 0 debuginfo\n' '' \
+  scan -d "$other" "$many"
+ends 'query of many rows' 0 "$(seq -f "executable $many/%02.0f00" 0 99)"$'\n' '' query -d "$other" abcd
+holds | grep -v '^epoch' >"$work/after"
+cmp -s "$work/before" "$work/after" || differs "many rows: $(diff "$work/before" "$work/after" | head -n 5)"
+[ "$(ask "$other" 'SELECT one, n FROM epoch')" = '1|2' ] || differs "many rows: it wasn't opened twice"
+[ "$(ask "$other" 'PRAGMA integrity_check')" = ok ] || differs "many rows: $(ask "$other" 'PRAGMA integrity_check')"
 
 # Twenty scans are killed, each a little later than the one before and with another number of workers. Then a scan goes on
 # to the same rows.
