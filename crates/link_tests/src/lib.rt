@@ -1,0 +1,6 @@
+//! The tests of the crates that ask other servers: responses as they come, in memory. They use what is
+//! public alone, and no code stands on them.
+#![tactic(auto)]
+
+#[cfg(test)]
+mod responses;
