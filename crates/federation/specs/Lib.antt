@@ -1,0 +1,7 @@
+pub mod AskAll
+pub mod Heard
+pub mod HttpLink
+pub mod Judging
+pub mod Link
+pub mod Replies
+pub mod Rows

@@ -1,0 +1,22 @@
+-- Links (this project's rule): what one shows, and what a question changes.
+use Rattle.std.specs.Prelude.{◌≡◌, ℕ, List, [], ◌∷◌, Option}
+use Rattle.row_types.specs.Faults.{HasCause}
+use Rattle.http_wire.specs.Told.{Gains}
+use Rattle.federation.specs.Heard.{LinkHeard, LinkSaid, failed, memory, said_by}
+use Rattle.federation.specs.declared.link.LinkAnswer.{LinkAnswer}
+use Rattle.webapi_routes.specs.declared.route.Route.{Route}
+
+-- the questions so far with their answers, in order, where they are told; and the count of faults
+pub record ShownLink : Type 0 where
+  pub asked : Option (List LinkHeard)
+  pub faults : ℕ
+
+-- what a question adds: one for which memory was refused adds nothing
+abbrev pub heard_by : Route → ℕ → LinkSaid → List LinkHeard
+heard_by route hops memory = []
+heard_by route hops said = record { route = route; hops = hops; said = said } ∷ []
+
+-- a question was asked: it is told with its answer, and the link failed only where its count rose
+pub record AsksOfLink (before : ShownLink) (route : Route) (hops : ℕ) (answer : LinkAnswer) (after : ShownLink) : Type 0 where
+  pub hears : Gains before.asked (heard_by route hops (said_by answer)) after.asked
+  pub cause : HasCause before.faults after.faults (said_by answer ≡ failed)

@@ -1,0 +1,14 @@
+//! Upstream servers: what another server says is certified before it is given. Links that are asked in
+//! order, and the first of their answers that passes. Nothing here looks at the local index.
+#![tactic(auto)]
+
+mod asking;
+mod http_link;
+mod judging;
+mod link;
+mod link_row;
+mod one_link;
+
+pub use asking::{HOP_LIMIT, Upstream, ask_all};
+pub use http_link::HttpLink;
+pub use link::{Link, LinkAnswer};

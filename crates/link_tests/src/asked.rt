@@ -1,0 +1,271 @@
+//! Questions to other servers over a dial in memory: what is written, and what comes of the answers.
+
+use federation::{HttpLink, Link, LinkAnswer, Upstream, ask_all};
+use http_wire::MemConn;
+use row_types::{BuildId, CanonPath};
+use sample_files::{ID_C, both_classes, debug_companion, executable};
+use std::alloc::{AllocError, Global};
+use std::fmt::Write;
+use std::process::Abort;
+use std::sync::Wait;
+use upstream_wire::MemDial;
+use webapi_routes::{Route, SectionName};
+
+/// What a connection to another server holds.
+#[derive(Clone, Copy)]
+enum Held {
+    /// A response of status 404.
+    Missing,
+    /// The program of the id C.
+    Program,
+    /// A file of the id A.
+    Other,
+    /// The debug file of the id C, whose code stands elsewhere.
+    Companion,
+    /// A text, and bytes behind it.
+    Text,
+    /// The program, with another status.
+    Created,
+    /// Nothing.
+    Silence,
+}
+
+/// A response of a file.
+fn file_response(
+    rt: &impl Abort,
+    alloc: Global,
+    head: &[u8],
+    file: Result<Vec<u8>, AllocError>,
+) -> Vec<u8> {
+    let mut bytes = Vec::from_slice(alloc, head).expect(rt, "memory");
+    let file = file.expect(rt, "memory");
+    bytes
+        .extend_from_slice(file.as_slice())
+        .expect(rt, "memory");
+    bytes
+}
+
+/// The bytes that a connection holds.
+fn bytes_of(rt: &impl Abort, alloc: Global, held: Held) -> Vec<u8> {
+    let ok = b"HTTP/1.1 200 OK\r\n\r\n";
+    match held {
+        Held::Missing => Vec::from_slice(
+            alloc,
+            b"HTTP/1.1 404 No\r\nContent-Length: 0\r\n\r\n",
+        ).expect(rt, "memory"),
+        Held::Program => file_response(rt, alloc, ok, executable(alloc)),
+        Held::Other => file_response(rt, alloc, ok, both_classes(alloc)),
+        Held::Companion => file_response(rt, alloc, ok, debug_companion(alloc)),
+        Held::Text => Vec::from_slice(
+            alloc,
+            b"HTTP/1.1 200 OK\r\nContent-Length: 3\r\n\r\nintXYZ",
+        ).expect(rt, "memory"),
+        Held::Created => file_response(rt, alloc, b"HTTP/1.1 201 OK\r\n\r\n", executable(alloc)),
+        Held::Silence => Vec::new(alloc),
+    }
+}
+
+/// A connection that holds this, and of which the write of this number fails.
+fn conn_of(rt: &impl Abort, alloc: Global, held: Held, bad_write: u64) -> MemConn {
+    MemConn::new(
+        alloc,
+        bytes_of(rt, alloc, held),
+        Vec::new(alloc),
+        Vec::new(alloc),
+        vec![in alloc; bad_write].expect(rt, "memory"),
+    )
+}
+
+/// The server at port 8002 of a host that answers so, a connection a question.
+fn link_of(rt: &impl Abort, alloc: Global, held: &[Held], bad_write: u64) -> HttpLink<MemDial> {
+    let mut conns = Vec::new(alloc);
+    for one in held {
+        let pushed = conns.push(conn_of(rt, alloc, *one, bad_write));
+        assert!(rt; pushed.is_ok(), "memory");
+    }
+    HttpLink::new(
+        MemDial::new(alloc, conns),
+        String::from_str(alloc, "h.example").expect(rt, "memory"),
+        8002,
+        String::from_str(alloc, "/up").expect(rt, "memory"),
+    )
+}
+
+/// What is asked of the id C.
+#[derive(Clone, Copy)]
+enum Wanted {
+    Executable,
+    Code,
+    Source,
+}
+
+/// The route of it.
+fn route_of(rt: &impl Abort, alloc: Global, wanted: Wanted) -> Route {
+    let id = BuildId::new(&ID_C).expect(rt, "20 bytes are an id");
+    match wanted {
+        Wanted::Executable => Route::Executable(id),
+        Wanted::Code => {
+            let name = Vec::from_slice(alloc, b".text").expect(rt, "memory");
+            Route::Section(id, SectionName::new(name))
+        }
+        Wanted::Source => {
+            let text = String::from_str(alloc, "/w/main.c").expect(rt, "memory");
+            match CanonPath::check(text) {
+                Ok(path) => Route::Source(id, path),
+                Err(_) => panic!(rt; "a canonical path"),
+            }
+        }
+    }
+}
+
+/// What is told, as a text.
+fn text_of(rt: &impl Abort, alloc: Global, told: &Upstream) -> String {
+    let mut text = String::new(alloc);
+    let written = match told {
+        Upstream::File(file) => write!(text, "file of {}", file.bytes().len()),
+        Upstream::Section(section) => write!(text, "section {:?}", section.bytes()),
+        Upstream::Source(bytes) => write!(text, "source {:?}", bytes.as_slice()),
+        Upstream::Nobody { refused, failed } => write!(text, "nobody {refused} {failed}"),
+        Upstream::HopLimit => write!(text, "hop limit"),
+        Upstream::OutOfMemory => write!(text, "memory"),
+    };
+    written.expect(rt, "memory");
+    text
+}
+
+/// Links, what each answers in turn, and what is told.
+#[derive(Clone, Copy)]
+struct Case(Wanted, u64, &'static [&'static [Held]], &'static str);
+
+static CASES: [Case; 13] = [
+    Case(
+        Wanted::Executable,
+        0,
+        &[&[Held::Other], &[Held::Program]],
+        "file of 408",
+    ),
+    Case(
+        Wanted::Executable,
+        7,
+        &[&[Held::Program], &[Held::Other]],
+        "file of 408",
+    ),
+    Case(
+        Wanted::Executable,
+        0,
+        &[&[Held::Missing], &[Held::Missing]],
+        "nobody 2 0",
+    ),
+    Case(
+        Wanted::Executable,
+        0,
+        &[&[Held::Missing], &[]],
+        "nobody 1 1",
+    ),
+    Case(
+        Wanted::Executable,
+        0,
+        &[&[Held::Silence], &[]],
+        "nobody 0 2",
+    ),
+    Case(
+        Wanted::Executable,
+        0,
+        &[&[], &[Held::Program]],
+        "file of 408",
+    ),
+    Case(Wanted::Executable, 0, &[&[Held::Created]], "nobody 1 0"),
+    Case(Wanted::Executable, 0, &[&[Held::Companion]], "nobody 1 0"),
+    Case(Wanted::Executable, 8, &[&[Held::Program]], "hop limit"),
+    Case(Wanted::Executable, 8, &[], "nobody 0 0"),
+    Case(
+        Wanted::Source,
+        0,
+        &[&[Held::Text]],
+        "source [105, 110, 116]",
+    ),
+    Case(
+        Wanted::Code,
+        0,
+        &[&[Held::Companion, Held::Program]],
+        "section [195]",
+    ),
+    Case(
+        Wanted::Code,
+        0,
+        &[&[Held::Missing], &[Held::Missing, Held::Program]],
+        "section [195]",
+    ),
+];
+
+/// The links that answer so.
+fn links_of(rt: &impl Abort, alloc: Global, held: &[&[Held]]) -> Vec<HttpLink<MemDial>> {
+    let mut links = Vec::new(alloc);
+    for one in held {
+        let pushed = links.push(link_of(rt, alloc, one, 9));
+        assert!(rt; pushed.is_ok(), "memory");
+    }
+    links
+}
+
+/// What these links tell of the route.
+fn told_of<R: Abort + Wait + Sync>(rt: &R, alloc: Global, case: &Case) -> String {
+    let Case(wanted, hops, held, _) = case;
+    let route = route_of(rt, alloc, *wanted);
+    let mut links = links_of(rt, alloc, held);
+    let told = ask_all(rt, alloc, links.as_mut_slice(), &route, *hops);
+    text_of(rt, alloc, &told)
+}
+
+#[test]
+fn the_first_answer_that_passes_is_told(rt: HostRuntime) {
+    for case in &CASES {
+        let text = told_of(&rt, rt.alloc(), case);
+        assert!(rt; text.as_str() == case.3, "{text} at {}", case.3);
+    }
+}
+
+/// The request of a question that came through two forwarders.
+static REQUEST: &[u8] =
+    b"GET /up/buildid/404142434445464748494a4b4c4d4e4f50515253/executable HTTP/1.1\r\nHost: h.example:8002\r\nAccept-Encoding: identity\r\nX-Forwarded-For: unknown, unknown, unknown\r\nConnection: close\r\n\r\n";
+
+/// Whether the link answers with a response, and its count of faults.
+fn ask_once<R: Abort + Wait + Sync>(
+    rt: &R,
+    alloc: Global,
+    link: &mut HttpLink<MemDial>,
+) -> (bool, u64) {
+    let route = route_of(rt, alloc, Wanted::Executable);
+    let answer = link.ask(rt, alloc, &route, 2);
+    (matches!(answer, LinkAnswer::Reply { .. }), link.count())
+}
+
+/// What was written to the connection that ended, and whether there is one alone.
+fn is_written(rt: &impl Abort, link: &HttpLink<MemDial>, wanted: &[u8]) {
+    let ended = link.dial().ended_conns().expect(rt, "they are told");
+    assert!(rt; ended.len() == 1, "one connection");
+    assert!(rt; ended[0].written() == Some(wanted), "a request");
+}
+
+#[test]
+fn a_link_writes_exactly_its_request(rt: HostRuntime) {
+    let mut link = link_of(&rt, rt.alloc(), &[Held::Program], 9);
+    let (replied, faults) = ask_once(&rt, rt.alloc(), &mut link);
+    assert!(rt; replied && faults == 0, "a reply");
+    is_written(&rt, &link, REQUEST);
+    let asked = link.dial().asked();
+    assert!(rt; asked.len() == 1, "one host");
+    assert!(rt;
+        asked[0].host() == "h.example" && asked[0].port() == 8002,
+        "its host"
+    );
+}
+
+#[test]
+fn a_failed_write_gives_the_connection_back(rt: HostRuntime) {
+    let mut link = link_of(&rt, rt.alloc(), &[Held::Program], 0);
+    let (replied, faults) = ask_once(&rt, rt.alloc(), &mut link);
+    assert!(rt; !replied && faults == 1, "a fault of the link");
+    is_written(&rt, &link, b"");
+    assert!(rt; link.dial().count() == 1, "a fault of the dial");
+}

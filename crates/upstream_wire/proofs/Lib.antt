@@ -1,0 +1,16 @@
+pub mod BodyLemmas
+pub mod ChunkedLemmas
+pub mod DataLemmas
+pub mod DialLemmas
+pub mod EndLemmas
+pub mod FailLemmas
+pub mod FeedLemmas
+pub mod HeadLemmas
+pub mod LineLemmas
+pub mod MemDialLemmas
+pub mod NumberLemmas
+pub mod RoomLemmas
+pub mod StepLemmas
+pub mod TrailerLemmas
+pub mod UniqueLemmas
+pub mod WaitLemmas

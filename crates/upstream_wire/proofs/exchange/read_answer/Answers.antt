@@ -1,0 +1,11 @@
+use Rattle.std.proofs.Common.{◌≡◌, sym, subst}
+use Rattle.upstream_wire.specs.Ask.{ReadsAnswerOf}
+use Rattle.upstream_wire.proofs.DialLemmas.{answers_failed}
+use Rattle.upstream_wire.proofs.exchange.read_answer.Goals as goal
+
+pub returns-in-Err : goal.returns-in-Err
+returns-in-Err g c =
+    subst (λ answer. ReadsAnswerOf (g.N.Stream.shows c.args.conn.now) answer (g.N.Stream.shows c.read_response.new.source))
+    (sym c.failed_by.ensures)
+    (answers_failed (g.N.Stream.shows c.args.conn.now) (g.N.Stream.shows c.read_response.new.source) c.in-Err.fault
+    c.in-Err.ensures.reads c.in-Err.ensures.later c.in-Err.ensures.apart)

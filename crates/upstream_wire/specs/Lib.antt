@@ -1,0 +1,13 @@
+pub mod Ask
+pub mod Bodies
+pub mod Chunked
+pub mod Dial
+pub mod Framing
+pub mod Heads
+pub mod Limits
+pub mod MemDial
+pub mod Reads
+pub mod Request
+pub mod Response
+pub mod Room
+pub mod Waits
