@@ -6,7 +6,7 @@ use Rattle.federation.specs.Heard.{LinkHeard, LinkSaid, failed, memory, reply}
 use Rattle.row_types.specs.declared.identity.Kind.{Kind}
 use Rattle.row_types.specs.declared.identity.Kind.TheVariants as kind
 use Rattle.webapi_routes.specs.declared.route.Route.{Route}
-use Rattle.webapi_routes.specs.declared.route.Route.TheVariants.{Debuginfo, Executable, Section, Source}
+use Rattle.webapi_routes.specs.declared.route.Route.TheVariants.{Debuginfo, Executable, Metrics, Section, Source}
 
 -- what a link is asked for a route, in order: for a section the files in which it may be
 abbrev pub questions_of : Route → List Route
@@ -19,6 +19,7 @@ class_asked (Debuginfo id) = Some kind.Debuginfo
 class_asked (Executable id) = Some kind.Executable
 class_asked (Section id name) = None
 class_asked (Source id path) = None
+class_asked Metrics = None
 
 -- an answer to a question passes for a route: it has the status 200 and a body that passes
 abbrev pub ReplyPasses : Route → Route → LinkSaid → Type 0

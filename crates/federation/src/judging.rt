@@ -68,7 +68,6 @@ fn class_asked(question: &Route) -> Option<Kind>
     match question {
         Route::Debuginfo(_) => Some(Kind::Debuginfo),
         Route::Executable(_) => Some(Kind::Executable),
-        Route::Source(_, _) => None,
-        Route::Section(_, _) => None,
+        Route::Source(_, _) | Route::Section(_, _) | Route::Metrics => None,
     }
 }

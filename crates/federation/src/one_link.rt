@@ -40,6 +40,7 @@ pub(crate) fn ask_link<L: Link, Rt: Wait + Sync>(
         Route::Debuginfo(_) => ask_once(rt, alloc, link, route, hops),
         Route::Executable(_) => ask_once(rt, alloc, link, route, hops),
         Route::Source(_, _) => ask_once(rt, alloc, link, route, hops),
+        Route::Metrics => ask_once(rt, alloc, link, route, hops),
     }
 }
 
