@@ -1,5 +1,4 @@
-//! One event of an index that is held. `show_index` is called behind each for its clause alone:
-//! the invariant holds again.
+//! One event of an index that is held.
 
 ghost use Rattle.std.specs.Prelude.{◌≡◌, IfSome, None};
 ghost use Rattle.row_types.specs.Name.{stamp_at};
@@ -28,7 +27,6 @@ pub(crate) fn begin_held<W: Truth, K: Keeper<W>>(
     ensures goes_on { LogGoesOn state.old state.new }
     ensures holds { IndexInvariant W.true_row K.told K.shows state.new }
 {
-    // For its clause alone: the invariant, before the pass that stood is given up.
     let _rows = state.rows();
     let begun = state.begin(alloc, listing, roots);
     show_index(state);

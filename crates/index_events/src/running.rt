@@ -42,7 +42,6 @@ pub fn run_events<W: Truth, S: Store<W>>(
         (MeetsFault result) }
     ensures lasts { EndLasts S.K.told S.K.shows events.items result }
 {
-    // For its clause alone, as each `show_index` below: the invariant.
     show_index(&state);
     let Ok(mut answers) = Vec::with_capacity(alloc, events.len()) else {
         return EventsEnd::Stopped { state, done: 0 };
