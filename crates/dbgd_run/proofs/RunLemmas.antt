@@ -1,7 +1,7 @@
 -- A run, by what its words ask.
 use Rattle.std.proofs.Common.{◌≡◌, ◌⊎◌, ℕ, ◌+◌, ◌<◌, List, [], drop, length, inl, inr, refl, sym, ap, subst}
 use Rattle.index_state.specs.declared.open_fault.OpenFault.TheVariants as refusal
-use Rattle.dbgd_words.specs.Words.{Line, asks_help, asks_ident, asks_query, asks_scan, asks_section, asks_sources, asks_trial, line_of, unbuilt, unreadable}
+use Rattle.dbgd_words.specs.Words.{Line, asks_help, asks_ident, asks_query, asks_scan, asks_section, asks_serve, asks_sources, asks_trial, line_of, unbuilt, unreadable}
 use Rattle.dbgd_words.proofs.OptionLemmas.{AsksByOptions, options_ask}
 use Rattle.dbgd_run.specs.Causes.{HasStatus, HelpStatus, TrialStatus}
 use Rattle.dbgd_run.specs.Endings.{EndsSaying, SaysMemory, out_saying}
@@ -54,7 +54,9 @@ module _ {T : Type 0} (s : Setting T) (words : List (List ℕ)) (before after : 
   has_status (asks_scan path workers roots) run = scan_status s path roots before after workers end run
   has_status (asks_trial seed files workers) run = trial_status seed files run
   has_status asks_help run = help_status run
-  has_status unbuilt run = run.says.ends
+  has_status (asks_serve path workers port secs sources roots) run =
+      subst (λ e. HasStatus s words (asks_serve path workers port secs sources roots) before after e) (sym run.says.ends) tt
+  has_status unbuilt run = subst (λ e. HasStatus s words unbuilt before after e) (sym run.says.ends) tt
   has_status unreadable run = subst (λ e. HasStatus s words unreadable before after e) (sym run.says.ends) tt
 
   -- a part for each command
@@ -73,7 +75,8 @@ module _ {T : Type 0} (s : Setting T) (words : List (List ℕ)) (before after : 
         record { does = does; ends = scan_ends s path roots before after workers end does };
     trial = λ seed files workers is. subst (λ (l : Line). Runs s l before after end) is run;
     help = λ is. subst (λ (l : Line). Runs s l before after end) is run;
-    not_built = λ is. subst (λ (l : Line). Runs s l before after end) is run;
+    serve = λ path workers port secs sources roots is. inl (subst (λ (l : Line). Runs s l before after end) is run);
+    not_built = λ is. inl (subst (λ (l : Line). Runs s l before after end) is run);
     usage = λ is. inl (subst (λ (l : Line). Runs s l before after end) is run);
     causes = has_status (line_of words) run;
   }
@@ -111,7 +114,8 @@ module _ {T : Type 0} (s : Setting T) (words : List (List ℕ)) (before after : 
     lacks_status (asks_scan path workers roots) asked = tt
     lacks_status (asks_trial seed files workers) never = absurd never
     lacks_status asks_help asked = tt
-    lacks_status unbuilt never = absurd never
+    lacks_status (asks_serve path workers port secs sources roots) asked = lacks.options
+    lacks_status unbuilt asked = lacks.options
     lacks_status unreadable asked = lacks.options
 
     pub lacks_room : (code : ℕ) → code ≡ code_of end → IsRun s words before after code
@@ -129,7 +133,8 @@ module _ {T : Type 0} (s : Setting T) (words : List (List ℕ)) (before after : 
           };
       trial = λ seed files workers is. absurd (asks (asks_trial seed files workers) is);
       help = λ is. record { text = []; says = inr lacks.alone.says; hands = lacks.alone.hands; store = lacks.alone.store };
-      not_built = λ is. absurd (asks unbuilt is);
+      serve = λ path workers port secs sources roots is. inr lacks;
+      not_built = λ is. inr lacks;
       usage = λ is. inr lacks;
       causes =
           subst (λ e. HasStatus s words (line_of words) before after e) (sym lacks.alone.says.ends)

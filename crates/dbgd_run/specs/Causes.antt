@@ -26,7 +26,7 @@ use Rattle.dbgd_run.specs.QueryCauses.{QueryStatus}
 use Rattle.dbgd_run.specs.Scan.{EndsPassed}
 use Rattle.dbgd_run.specs.Scene.{FirstRose, OfFirst, ProgramScene, Setting}
 use Rattle.dbgd_run.specs.Texts.{summary_line}
-use Rattle.dbgd_words.specs.Words.{Line, asks_help, asks_ident, asks_query, asks_scan, asks_section}
+use Rattle.dbgd_words.specs.Words.{Line, asks_help, asks_ident, asks_query, asks_scan, asks_section, asks_serve}
 use Rattle.dbgd_run.specs.Trial.{AreForgedRows, trial_end_line}
 use Rattle.dbgd_words.specs.Words.{asks_sources, asks_trial, has_options, unbuilt, unreadable}
 use Rattle.dbgd_run.specs.declared.status.Status.{Status}
@@ -155,8 +155,13 @@ UsageStatus words Usage = Unit {0}
 UsageStatus words OutOfMemory = IsTrue (has_options words)
 UsageStatus words _ = ⊥
 
--- what the status says, by the line; words that can't be read alone end with the usage, a command that isn't built
--- always so
+-- of what isn't built yet, whose words are read as options: that, or want of memory
+abbrev pub UnbuiltStatus : List (List ℕ) → Status → Type 0
+UnbuiltStatus words NotBuilt = Unit {0}
+UnbuiltStatus words OutOfMemory = IsTrue (has_options words)
+UnbuiltStatus words _ = ⊥
+
+-- what the status says, by the line; words that can't be read alone end with the usage, and a server isn't built yet
 abbrev pub HasStatus : {T : Type 0} → Setting T → List (List ℕ) → Line → ProgramScene T → ProgramScene T → Status → Type 0
 HasStatus s words (asks_ident path) before after status = FileStatus s before after status
 HasStatus s words (asks_sources path) before after status = FileStatus s before after status
@@ -167,7 +172,9 @@ HasStatus s words (asks_scan path workers roots) before after status =
 HasStatus s words (asks_trial seed files workers) before after status =
     TrialStatus seed files before after status
 HasStatus s words asks_help before after status = HelpStatus before after status
-HasStatus s words unbuilt before after status = status ≡ NotBuilt
+HasStatus s words (asks_serve path workers port secs sources roots) before after status =
+    UnbuiltStatus words status
+HasStatus s words unbuilt before after status = UnbuiltStatus words status
 HasStatus s words unreadable before after status = UsageStatus words status
 
 -- nothing stands against a walk and what follows it: the hand tells files that never change, something is at each root,

@@ -8,6 +8,8 @@ pub mod Opened
 pub mod Passing
 pub mod Query
 pub mod QueryCauses
+pub mod RoundSaid
+pub mod Rounds
 pub mod Runs
 pub mod Scan
 pub mod ScanSaid

@@ -1,7 +1,7 @@
 -- What a run does, by its words (this project's rule).
 use Rattle.std.specs.Prelude.{◌≡◌, ◌⊎◌, ℕ, Bool, true, false, List, IsTrue}
 use Rattle.dbgd_words.specs.Words.{Line, asks_help, asks_ident, asks_query, asks_scan, asks_section}
-use Rattle.dbgd_words.specs.Words.{asks_sources, asks_trial, has_options, line_of, unbuilt, unreadable}
+use Rattle.dbgd_words.specs.Words.{asks_serve, asks_sources, asks_trial, has_options, line_of, unbuilt, unreadable}
 use Rattle.dbgd_run.specs.Causes.{HasStatus, ScanEnds}
 use Rattle.dbgd_run.specs.Endings.{EndsSaying, EndsWhole, Saying, SaysMemory, error_saying}
 use Rattle.dbgd_run.specs.Endings.{no_memory_saying, not_built_saying, out_saying}
@@ -70,6 +70,8 @@ Runs s (asks_scan path workers roots) before after status =
     RunsScan s path workers roots before after status
 Runs s (asks_trial seed files workers) before after status = RunsTrial seed files before after status
 Runs s asks_help before after status = SaysHelp before after status
+Runs s (asks_serve path workers port secs sources roots) before after status =
+    SaysAlone not_built_saying before after status
 Runs s unbuilt before after status = SaysAlone not_built_saying before after status
 Runs s unreadable before after status = SaysAlone usage_saying before after status
 
@@ -104,7 +106,11 @@ pub record IsRun {T : Type 0} (s : Setting T) (words : List (List ℕ)) (before 
   pub trial : (seed files workers : ℕ) → line_of words ≡ asks_trial seed files workers
       → RunsTrial seed files before after status
   pub help : line_of words ≡ asks_help → SaysHelp before after status
-  pub not_built : line_of words ≡ unbuilt → SaysAlone not_built_saying before after status
+  pub serve : (path : List ℕ) (workers port secs : ℕ) (sources roots : List (List ℕ))
+      → line_of words ≡ asks_serve path workers port secs sources roots
+      → SaysAlone not_built_saying before after status ⊎ LacksRoom words before after status
+  pub not_built : line_of words ≡ unbuilt
+      → SaysAlone not_built_saying before after status ⊎ LacksRoom words before after status
   pub usage : line_of words ≡ unreadable
       → SaysAlone usage_saying before after status ⊎ LacksRoom words before after status
   pub causes : HasStatus s words (line_of words) before after status

@@ -29,6 +29,7 @@ fn hands_for(line: &Line<'_>) -> u64
         Line::Ident { .. } | Line::Sources { .. } | Line::Section { .. } => 1,
         Line::Scan { workers, .. } => workers.saturating_add(2),
         Line::Query { .. }
+        | Line::Serve { .. }
         | Line::Trial { .. }
         | Line::Program { .. }
         | Line::Help { .. }

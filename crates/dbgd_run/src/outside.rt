@@ -74,6 +74,7 @@ fn run_alone<W: ElfTruth + Send + Sync, T: Tree<W>, S: Store<W>, O: Sink, G: Gat
         Line::Scan { .. } | Line::Trial { .. } => unreachable!(),
         Line::Program { text } => say(text.as_bytes(), Status::Done, out, err),
         Line::Help { text } => say(text.as_bytes(), Status::Done, out, err),
+        Line::Serve { .. } => say_not_built(out, err),
         Line::NotBuilt => say_not_built(out, err),
         Line::Usage => say_usage(out, err),
     }

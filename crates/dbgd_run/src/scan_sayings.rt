@@ -106,7 +106,7 @@ fn say_summary<O: Sink>(alloc: Global, summary: &Summary, out: &mut O, err: &mut
 }
 
 /// Says how a pass ended.
-fn say_pass<O: Sink>(alloc: Global, end: &PassEnd, out: &mut O, err: &mut O) -> Status
+pub fn say_pass<O: Sink>(alloc: Global, end: &PassEnd, out: &mut O, err: &mut O) -> Status
     ensures { SaysPass end.now
         (streams O.shows out.old err.old) (streams O.shows out.new err.new) result }
 {

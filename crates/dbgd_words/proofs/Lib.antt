@@ -1,5 +1,6 @@
 pub mod FaultLemmas
 pub mod LimitLemmas
 pub mod OptionLemmas
+pub mod ServeLemmas
 pub mod TextLemmas
 pub mod TrialLemmas

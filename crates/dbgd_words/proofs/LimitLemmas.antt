@@ -2,20 +2,21 @@
 use Rattle.std.proofs.Common.{◌≡◌, ◌≤◌, ℕ, Bool, true, false, ◌&&◌, List, [], ◌∷◌, Option, Some, None, codes, cond, refl, subst}
 use Rattle.std.specs.List.{list_all, list_any}
 use Rattle.std.specs.Option.{option_map_or}
-use Rattle.std.specs.Prelude.{◌-◌, ◌^◌, map, nat_le, option_and_then}
+use Rattle.std.specs.Prelude.{◌-◌, ◌^◌, is_some, map, nat_le, option_and_then}
 use Rattle.std.specs.Str.{bytes_eq}
 use Rattle.std.specs.Str.Parse.{digits_value}
 use Rattle.std.proofs.lemmas.Bool.{and_parts, leb-true}
 use Rattle.clap.specs.Kinds.{Kinds}
 use Rattle.clap.specs.Walk.{Row, all_of, first_of}
 use Rattle.row_types.specs.Canon.{canon}
-use Rattle.dbgd_words.specs.Limits.{FitsLimits, IsScanFit}
+use Rattle.dbgd_words.specs.Limits.{FitsLimits, IsScanFit, IsServeFit}
 use Rattle.dbgd_words.specs.Numbers.{is_number, is_between, spelled_number}
-use Rattle.dbgd_words.specs.Options.{query_faults, query_rows, scan_faults, scan_rows}
+use Rattle.dbgd_words.specs.Options.{query_faults, query_rows, scan_faults, scan_rows, serve_faults, serve_rows}
 use Rattle.dbgd_words.specs.Words.{Line, asks_help, asks_query, asks_scan, asks_trial, spelled_id, ident_line, is_help, is_root, line_of}
-use Rattle.dbgd_words.specs.Words.{query_said, scan_said, section_line, sources_line}
-use Rattle.dbgd_words.specs.Words.{program_line, program_words, trial_words, unbuilt, unbuilt_commands, unreadable}
+use Rattle.dbgd_words.specs.Words.{asks_serve, number_given, query_said, scan_said, section_line, serve_said, served_by, source_folders, sources_line}
+use Rattle.dbgd_words.specs.Words.{program_line, program_words, trial_words, unbuilt, unreadable}
 use Rattle.dbgd_words.specs.declared.scan.TheConstants.{MOST_WORKERS}
+use Rattle.dbgd_words.specs.declared.serve.TheConstants.{MOST_PORT, MOST_SECS}
 use Rattle.dbgd_words.specs.declared.trial.TheConstants.{MOST_FILES}
 
 some_is : {a b : ℕ} → Some a ≡ Some b → a ≡ b
@@ -98,6 +99,34 @@ scan_fits [] rows =
     by_test (list_all is_root folders) (asks_scan store workers (map canon folders)) unreadable fit tt)))
 scan_fits (kind ∷ more) rows = by_test (is_help kind) asks_help unreadable tt tt
 
+-- a number of an argument that is read is one of those that may stand there
+argument_fits : (least most : ℕ) (text : Option (List ℕ)) (n : ℕ) → option_and_then (spelled_number least most) text ≡ Some n
+    → (least ≤ n) × (n ≤ most)
+argument_fits least most None n at = absurd (cc)
+argument_fits least most (Some text) n at = number_fits least most text n at
+
+served_fits : (store : List ℕ) (workers port secs : ℕ) (sources : List (List ℕ)) (others : Bool) (folders : List (List ℕ))
+    → IsServeFit workers port secs → FitsLimits (served_by store workers port secs sources others folders)
+served_fits store workers port secs sources others folders fit =
+    by_test (list_all is_root folders) _ unreadable
+    (by_test (list_all is_root sources) _ unreadable
+    (by_test others unbuilt (asks_serve store workers port secs (map canon sources) (map canon folders)) tt fit) tt) tt
+
+serve_fits : (kinds : Kinds) (rows : List Row) → FitsLimits (serve_said kinds rows)
+serve_fits [] rows =
+    by_option _ (first_of (codes "database") rows) (λ store _.
+    by_option _ (number_given 1 MOST_WORKERS (codes "concurrency") rows) (λ workers at.
+    by_option _ (number_given 1 MOST_PORT (codes "port") rows) (λ port on.
+    by_option _ (number_given 0 MOST_SECS (codes "rescan-time") rows) (λ secs each.
+    by_option _ (all_of (codes "DIR") rows) (λ folders _.
+    let a = argument_fits 1 MOST_WORKERS (first_of (codes "concurrency") rows) workers at in
+    let b = argument_fits 1 MOST_PORT (first_of (codes "port") rows) port on in
+    let c = argument_fits 0 MOST_SECS (first_of (codes "rescan-time") rows) secs each in
+    served_fits store workers port secs (source_folders (first_of (codes "sources") rows))
+    (is_some (first_of (codes "upstream") rows)) folders
+    (record { one = a.0; most = a.1; some = b.0; highest = b.1; longest = c.1 }))))))
+serve_fits (kind ∷ more) rows = by_test (is_help kind) asks_help unreadable tt tt
+
 -- whatever the words are
 pub line_fits : (words : List (List ℕ)) → FitsLimits (line_of words)
 line_fits [] = tt
@@ -107,6 +136,6 @@ line_fits (command ∷ rest) =
     (by_test (bytes_eq command (codes "section")) _ _ (section_fits rest)
     (by_test (bytes_eq command (codes "query")) _ _ (query_fits (query_faults (command ∷ rest)) (query_rows (command ∷ rest)))
     (by_test (bytes_eq command (codes "scan")) _ _ (scan_fits (scan_faults (command ∷ rest)) (scan_rows (command ∷ rest)))
+    (by_test (bytes_eq command (codes "serve")) _ _ (serve_fits (serve_faults (command ∷ rest)) (serve_rows (command ∷ rest)))
     (by_test (bytes_eq command (codes "trial")) _ _ (trial_fits rest)
-    (by_test (list_any (bytes_eq command) program_words) _ _ (program_fits rest)
-    (by_test (list_any (bytes_eq command) unbuilt_commands) unbuilt unreadable tt tt)))))))
+    (by_test (list_any (bytes_eq command) program_words) _ unreadable (program_fits rest) tt)))))))

@@ -74,11 +74,11 @@ no_id text never (Ok bytes) is = go (is_between SHORTEST_ID LONGEST_ID (length b
     go false e = sym (ap (λ b. cond b (Some bytes) None) e)
 
 -- texts that are read one by one or all at once
-each_root : (folders : List (Bor (List ℕ)))
+pub each_root : (folders : List (Bor (List ℕ)))
     → list_all is_root (map (λ folder. folder.now) folders) ≡ list_all (λ folder. is_root folder.now) folders
 each_root folders = list_all-map is_root (λ (folder : Bor (List ℕ)). folder.now) folders
 
-each_path : (folders : List (Bor (List ℕ)))
+pub each_path : (folders : List (Bor (List ℕ)))
     → map canon (map (λ folder. folder.now) folders) ≡ map (λ folder. canon folder.now) folders
 each_path [] = refl
 each_path (folder ∷ folders) = ap (λ rest. canon folder.now ∷ rest) (each_path folders)

@@ -1,4 +1,4 @@
--- The arguments of `query` and `scan` (this project's rule), in the words of `clap`. Each is a simple command of that
+-- The arguments of `query`, `scan` and `serve` (this project's rule), in the words of `clap`. Each is a simple command of that
 -- crate, whose reading of the words decides which text belongs to which argument; what a text says is decided in `Words`.
 use Rattle.std.specs.Prelude.{ℕ, true, List, [], ◌∷◌, Some, codes}
 use Rattle.clap.specs.Faults.{fault_of}
@@ -23,6 +23,26 @@ database_rule = record (option_rule 100 (codes "database")) { required = true }
 -- `-c N`, `--concurrency N`: 4 where it isn't there
 abbrev pub concurrency_rule : Rule
 concurrency_rule = record (option_rule 99 (codes "concurrency")) { defaults = codes "4" ∷ [] }
+
+-- an option of a name alone, which takes one text and may not be repeated
+abbrev pub long_rule : List ℕ → Rule
+long_rule name = record (new_rule name) { long = Some name; value_names = 1; action = Some Set }
+
+-- `-p PORT`, `--port PORT`: 8002 where it isn't there
+abbrev pub port_rule : Rule
+port_rule = record (option_rule 112 (codes "port")) { defaults = codes "8002" ∷ [] }
+
+-- `-t SECS`, `--rescan-time SECS`: 300 where it isn't there
+abbrev pub rescan_time_rule : Rule
+rescan_time_rule = record (option_rule 116 (codes "rescan-time")) { defaults = codes "300" ∷ [] }
+
+-- `--sources DIRS`
+abbrev pub sources_rule : Rule
+sources_rule = long_rule (codes "sources")
+
+-- `--upstream URLS`
+abbrev pub upstream_rule : Rule
+upstream_rule = long_rule (codes "upstream")
 
 -- `-F`, `--scan-file-dir`: a flag, which may not be repeated
 abbrev pub scan_file_dir_rule : Rule
@@ -54,6 +74,18 @@ scan_app =
     with_rule (with_rule (with_rule (with_rule (command_app (codes "scan")) database_rule)
     concurrency_rule) scan_file_dir_rule) folders_rule
 
+-- the command `serve` with its store and its numbers alone
+abbrev pub numbers_app : App
+numbers_app =
+    with_rule (with_rule (with_rule (with_rule (command_app (codes "serve")) database_rule)
+    concurrency_rule) port_rule) rescan_time_rule
+
+-- the command `serve`
+abbrev pub serve_app : App
+serve_app =
+    with_rule (with_rule (with_rule (with_rule numbers_app scan_file_dir_rule) sources_rule)
+    upstream_rule) folders_rule
+
 -- why `clap` refuses a line of `query`; nothing where it reads it
 unfoldable pub query_faults : List (List ℕ) → Kinds
 query_faults words = fault_of query_app words
@@ -69,3 +101,11 @@ scan_faults words = fault_of scan_app words
 -- which texts of a line of `scan` belong to which argument
 unfoldable pub scan_rows : List (List ℕ) → List Row
 scan_rows words = matches_of scan_app words
+
+-- why `clap` refuses a line of `serve`; nothing where it reads it
+unfoldable pub serve_faults : List (List ℕ) → Kinds
+serve_faults words = fault_of serve_app words
+
+-- which texts of a line of `serve` belong to which argument
+unfoldable pub serve_rows : List (List ℕ) → List Row
+serve_rows words = matches_of serve_app words

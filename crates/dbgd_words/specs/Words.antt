@@ -1,7 +1,7 @@
 -- Command lines (this project's rule): what the words after the program's name ask.
-use Rattle.std.specs.Prelude.{ℕ, ◌-◌, ◌^◌, ◌&&◌, ◌||◌, nat_le, Bool, false, true, List, [], ◌∷◌, if◌then◌else◌, length, map, codes}
+use Rattle.std.specs.Prelude.{ℕ, ◌-◌, ◌^◌, ◌&&◌, ◌||◌, ◌==◌, is_some, nat_le, Bool, false, true, List, [], ◌∷◌, if◌then◌else◌, length, map, codes}
 use Rattle.std.specs.Prelude.{Option, Some, None, option_and_then, Result, Ok, Err}
-use Rattle.std.specs.List.{list_all, list_any}
+use Rattle.std.specs.List.{list_all, list_any, slice_split}
 use Rattle.std.specs.Option.{option_map_or}
 use Rattle.std.specs.Str.{bytes_eq}
 use Rattle.clap.specs.Kinds.{Kinds}
@@ -15,19 +15,23 @@ use Rattle.row_types.specs.Canon.{canon}
 use Rattle.row_types.specs.declared.build_id.TheConstants.{SHORTEST_ID, LONGEST_ID}
 use Rattle.row_types.specs.declared.limits.TheConstants.{PATH_LIMIT}
 use Rattle.dbgd_words.specs.Numbers.{is_between, spelled_number}
-use Rattle.dbgd_words.specs.Options.{query_faults, query_rows, scan_faults, scan_rows}
+use Rattle.dbgd_words.specs.Options.{query_faults, query_rows, scan_faults, scan_rows, serve_faults, serve_rows}
 use Rattle.dbgd_words.specs.declared.scan.TheConstants.{MOST_WORKERS}
+use Rattle.dbgd_words.specs.declared.serve.TheConstants.{MOST_PORT, MOST_SECS}
 use Rattle.dbgd_words.specs.declared.trial.TheConstants.{MOST_FILES}
 
 -- what a line asks: the identity of the file at a path, its source paths, the section of a name of it, the rows that a
--- store holds of an id, a scan of folders into a store by so many workers, one of so many generated files of a seed, the
--- help or version of the program or of a command, a command that isn't built yet, or nothing that can be read
+-- store holds of an id, a scan of folders into a store by so many workers, a server of a store by so many workers on a port,
+-- with so many seconds from one scan of its folders to the next, and further folders for sources, a scan of so many generated
+-- files of a seed, the help or version of the program or of a command, what isn't built yet, or nothing that can be read
 pub data Line : Type 0 where
   asks_ident : (path : List ℕ) → Line
   asks_sources : (path : List ℕ) → Line
   asks_section : (path : List ℕ) (name : List ℕ) → Line
   asks_query : (store : List ℕ) (id : List ℕ) → Line
   asks_scan : (store : List ℕ) (workers : ℕ) (roots : List (List ℕ)) → Line
+  asks_serve : (store : List ℕ) (workers : ℕ) (port : ℕ) (secs : ℕ) (sources : List (List ℕ))
+      (roots : List (List ℕ)) → Line
   asks_trial : (seed : ℕ) (files : ℕ) (workers : ℕ) → Line
   asks_help : Line
   unbuilt : Line
@@ -84,6 +88,32 @@ scan_asked store number folders = option_map_or (λ store.
     if list_all is_root folders then asks_scan store workers (map canon folders) else unreadable)
     folders unreadable) (option_and_then (spelled_number 1 MOST_WORKERS) number) unreadable) store unreadable
 
+-- the folders that a text names, with colons between them; none without a text
+abbrev pub source_folders : Option (List ℕ) → List (List ℕ)
+source_folders None = []
+source_folders (Some text) = slice_split (λ b. b == 58) text
+
+-- the number that an argument's text spells, where it is one of these
+abbrev pub number_given : ℕ → ℕ → List ℕ → List Row → Option ℕ
+number_given least most name rows = option_and_then (spelled_number least most) (first_of name rows)
+
+-- a server that is to ask no others: each of its folders, and each one for sources, has a canonical path
+abbrev pub served_by : List ℕ → ℕ → ℕ → ℕ → List (List ℕ) → Bool → List (List ℕ) → Line
+served_by store workers port secs sources others folders =
+    if list_all is_root folders
+    then (if list_all is_root sources
+    then (if others then unbuilt else asks_serve store workers port secs (map canon sources) (map canon folders))
+    else unreadable) else unreadable
+
+-- a store, a number of workers, a port, a number of seconds and folders, each where it can be read
+abbrev pub serve_asked : Option (List ℕ) → Option ℕ → Option ℕ → Option ℕ → List (List ℕ) → Bool → Option (List (List ℕ)) → Line
+serve_asked store workers port secs sources others folders = option_map_or (λ store.
+    option_map_or (λ workers.
+    option_map_or (λ port.
+    option_map_or (λ secs.
+    option_map_or (λ folders. served_by store workers port secs sources others folders)
+    folders unreadable) secs unreadable) port unreadable) workers unreadable) store unreadable
+
 -- a line of `query`, by why it is refused and by the texts of its arguments
 abbrev pub query_said : Kinds → List Row → Line
 query_said [] rows = query_asked (first_of (codes "database") rows) (first_of (codes "ID") rows)
@@ -96,6 +126,15 @@ scan_said [] rows =
     (all_of (codes "DIR") rows)
 scan_said (kind ∷ more) rows = refused_line kind
 
+-- a line of `serve`, by the same: 1 to 64 workers, a port from 1 to 65535, and 0 to 86400 seconds
+abbrev pub serve_said : Kinds → List Row → Line
+serve_said [] rows =
+    serve_asked (first_of (codes "database") rows) (number_given 1 MOST_WORKERS (codes "concurrency") rows)
+    (number_given 1 MOST_PORT (codes "port") rows) (number_given 0 MOST_SECS (codes "rescan-time") rows)
+    (source_folders (first_of (codes "sources") rows)) (is_some (first_of (codes "upstream") rows))
+    (all_of (codes "DIR") rows)
+serve_said (kind ∷ more) rows = refused_line kind
+
 -- the line of `query`, its name among the words
 abbrev pub query_line : List (List ℕ) → Line
 query_line words = query_said (query_faults words) (query_rows words)
@@ -103,6 +142,10 @@ query_line words = query_said (query_faults words) (query_rows words)
 -- the line of `scan`, its name among the words
 abbrev pub scan_line : List (List ℕ) → Line
 scan_line words = scan_said (scan_faults words) (scan_rows words)
+
+-- the line of `serve`, its name among the words
+abbrev pub serve_line : List (List ℕ) → Line
+serve_line words = serve_said (serve_faults words) (serve_rows words)
 
 -- a seed below 2^64, a number of files, 1 to 100,000, and one of workers, 1 to 64
 abbrev pub trial_asked : List ℕ → List ℕ → List ℕ → Line
@@ -124,10 +167,6 @@ abbrev pub program_line : List (List ℕ) → Line
 program_line [] = asks_help
 program_line _ = unreadable
 
--- the commands that aren't built yet, whatever follows them
-abbrev pub unbuilt_commands : List (List ℕ)
-unbuilt_commands = codes "serve" ∷ []
-
 -- what the words ask: the first one names the command
 abbrev pub line_of : List (List ℕ) → Line
 line_of [] = unreadable
@@ -137,11 +176,12 @@ line_of (command ∷ rest) =
     else (if bytes_eq command (codes "section") then section_line rest
     else (if bytes_eq command (codes "query") then query_line (command ∷ rest)
     else (if bytes_eq command (codes "scan") then scan_line (command ∷ rest)
+    else (if bytes_eq command (codes "serve") then serve_line (command ∷ rest)
     else (if bytes_eq command (codes "trial") then trial_words rest
-    else (if list_any (bytes_eq command) program_words then program_line rest
-    else (if list_any (bytes_eq command) unbuilt_commands then unbuilt else unreadable)))))))
+    else (if list_any (bytes_eq command) program_words then program_line rest else unreadable)))))))
 
 -- whether the words are read as options, which takes memory
 abbrev pub has_options : List (List ℕ) → Bool
 has_options [] = false
-has_options (command ∷ rest) = bytes_eq command (codes "query") || bytes_eq command (codes "scan")
+has_options (command ∷ rest) =
+    bytes_eq command (codes "query") || (bytes_eq command (codes "scan") || bytes_eq command (codes "serve"))

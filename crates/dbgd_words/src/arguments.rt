@@ -1,11 +1,12 @@
-//! The arguments of `query` and `scan`.
+//! The arguments of `query`, `scan` and `serve`.
 
 ghost use Rattle.std.specs.Prelude.{◌≡◌, false, map, option_map, IfOk};
 ghost use Rattle.clap.specs.Matches.{found_of};
 ghost use Rattle.clap.specs.Walk.{all_of, first_of, rows_of, rule_of};
 ghost use Rattle.clap.specs.Simple.{app_of};
 ghost use Rattle.dbgd_words.specs.Options.{command_app, concurrency_rule, database_rule};
-ghost use Rattle.dbgd_words.specs.Options.{folders_rule, id_rule, scan_file_dir_rule};
+ghost use Rattle.dbgd_words.specs.Options.{folders_rule, id_rule, port_rule, rescan_time_rule};
+ghost use Rattle.dbgd_words.specs.Options.{scan_file_dir_rule, sources_rule, upstream_rule};
 
 use clap::{Arg, ArgAction, ArgMatches, Command};
 use std::alloc::{AllocError, Global};
@@ -45,8 +46,8 @@ pub fn database<'a>(alloc: Global) -> Arg<'a>
         .action(ArgAction::Set)
 }
 
-/// `-c N`.
-pub fn concurrency<'a>(alloc: Global) -> Arg<'a>
+/// `-c N`, of which the help says what it is the number of.
+pub fn concurrency<'a>(alloc: Global, help: &'a str) -> Arg<'a>
     ensures rule { rule_of result ≡ concurrency_rule }
     ensures local { result.global ≡ false }
 {
@@ -54,8 +55,60 @@ pub fn concurrency<'a>(alloc: Global) -> Arg<'a>
         .short('c')
         .long("concurrency")
         .value_name("N")
-        .help("How many files are read at a time, 1 to 64")
+        .help(help)
         .default_value("4")
+        .action(ArgAction::Set)
+}
+
+/// `-p PORT`.
+pub fn port<'a>(alloc: Global) -> Arg<'a>
+    ensures rule { rule_of result ≡ port_rule }
+    ensures local { result.global ≡ false }
+{
+    Arg::new(alloc, "port")
+        .short('p')
+        .long("port")
+        .value_name("PORT")
+        .help("The port, 1 to 65535, on which requests are answered")
+        .default_value("8002")
+        .action(ArgAction::Set)
+}
+
+/// `-t SECS`.
+pub fn rescan_time<'a>(alloc: Global) -> Arg<'a>
+    ensures rule { rule_of result ≡ rescan_time_rule }
+    ensures local { result.global ≡ false }
+{
+    Arg::new(alloc, "rescan-time")
+        .short('t')
+        .long("rescan-time")
+        .value_name("SECS")
+        .help("Seconds between scans, 0 to 86400; 0 for one scan alone")
+        .default_value("300")
+        .action(ArgAction::Set)
+}
+
+/// `--sources DIRS`.
+pub fn sources<'a>(alloc: Global) -> Arg<'a>
+    ensures rule { rule_of result ≡ sources_rule }
+    ensures local { result.global ≡ false }
+{
+    Arg::new(alloc, "sources")
+        .long("sources")
+        .value_name("DIRS")
+        .help("Folders that sources are served from, too, with colons between them")
+        .action(ArgAction::Set)
+}
+
+/// `--upstream URLS`.
+pub fn upstream<'a>(alloc: Global) -> Arg<'a>
+    ensures rule { rule_of result ≡ upstream_rule }
+    ensures local { result.global ≡ false }
+{
+    Arg::new(alloc, "upstream")
+        .long("upstream")
+        .value_name("URLS")
+        .help("Servers to ask for what isn't here, with spaces between them")
         .action(ArgAction::Set)
 }
 

@@ -11,6 +11,7 @@ mod reading;
 mod refusal;
 mod roots;
 mod scan;
+mod serve;
 mod trial;
 
 pub use line::Line;

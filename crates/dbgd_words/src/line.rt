@@ -29,6 +29,17 @@ pub enum Line<'a> {
         workers: u64,
         roots: Vec<CanonPath>,
     },
+    /// A server of the index in the store of a path: 1 to 64 workers, a port from 1 on, seconds from
+    /// one scan of the folders to the next, up to 86,400, and folders that sources are served from
+    /// beside those that are scanned.
+    Serve {
+        store: &'a str,
+        workers: u64,
+        port: u64,
+        secs: u64,
+        sources: Vec<CanonPath>,
+        roots: Vec<CanonPath>,
+    },
     /// A scan of generated files: the seed of their bytes, how many they are, and by how many
     /// workers.
     Trial {
@@ -44,7 +55,7 @@ pub enum Line<'a> {
     Help {
         text: String,
     },
-    /// A command that isn't built yet.
+    /// What isn't built yet: a server that asks other ones.
     NotBuilt,
     /// No command, or one with other words than it takes.
     Usage,

@@ -11,6 +11,7 @@ use crate::line::Line;
 use crate::program::{HELP, VERSION, program};
 use crate::query::read_query;
 use crate::scan::read_scan;
+use crate::serve::read_serve;
 use crate::trial::trial;
 use std::alloc::{AllocError, Global};
 
@@ -30,10 +31,10 @@ pub fn read_line(alloc: Global, words: &[String]) -> Result<Line<'_>, AllocError
         "section" => Ok(section(rest)),
         "query" => read_query(alloc, words),
         "scan" => read_scan(alloc, words),
+        "serve" => read_serve(alloc, words),
         "trial" => Ok(trial(rest)),
         "--help" | "-h" => Ok(program(rest, HELP)),
         "--version" | "-V" => Ok(program(rest, VERSION)),
-        "serve" => Ok(Line::NotBuilt),
         _ => Ok(Line::Usage),
     }
 }

@@ -1,4 +1,4 @@
-//! The folders of a scan.
+//! The folders of a scan or a server.
 
 ghost use Rattle.std.specs.Prelude.{◌≡◌, true, map, IfOk};
 ghost use Rattle.std.specs.List.{list_all};

@@ -44,7 +44,7 @@ fn scan_command<'a>(alloc: Global) -> Result<Command<'a>, AllocError>
         AFTER,
     )?
     .arg(database(alloc))?
-    .arg(concurrency(alloc))?
+    .arg(concurrency(alloc, "How many files are read at a time, 1 to 64"))?
     .arg(scan_file_dir(alloc))?
     .arg(folders(alloc))
 }

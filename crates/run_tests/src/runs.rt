@@ -7,6 +7,7 @@ mod files;
 mod hands;
 mod queries;
 mod rig;
+mod rounds;
 mod rows;
 mod scans;
 mod trials;

@@ -5,9 +5,10 @@ mod helps;
 mod lines;
 
 use crate::words::helps::{
-    PROGRAM_HELP, PROGRAM_HELPS, QUERY_HELP, QUERY_HELPS, SCAN_HELP, SCAN_HELPS, VERSIONS,
+    PROGRAM_HELP, PROGRAM_HELPS, QUERY_HELP, QUERY_HELPS, SCAN_HELP, SCAN_HELPS, SERVE_HELP,
+    SERVE_HELPS, VERSIONS,
 };
-use crate::words::lines::{FILES, OPTIONS, QUERIES, SCANS, TRIALS};
+use crate::words::lines::{FILES, OPTIONS, QUERIES, SCANS, SERVE_OPTIONS, SERVERS, TRIALS};
 use dbgd_words::{Line, read_line};
 use row_types::{BuildId, CanonPath};
 use std::alloc::Global;
@@ -45,6 +46,30 @@ fn said_of_scan(
     text
 }
 
+/// Adds folders to a text, each behind this mark.
+fn push_folders(rt: &impl Abort, text: &mut String, mark: &str, folders: &[CanonPath]) {
+    for folder in folders {
+        text.push_str(mark).expect(rt, "memory");
+        text.push_str(folder.text()).expect(rt, "memory");
+    }
+}
+
+/// What a server says: its numbers, its folders, and those for sources behind a colon each.
+fn said_of_server(
+    rt: &impl Abort,
+    alloc: Global,
+    store: &str,
+    numbers: (u64, u64, u64),
+    sources: &[CanonPath],
+    roots: &[CanonPath],
+) -> String {
+    let (workers, port, secs) = numbers;
+    let mut text = format!(in alloc; "serve {store} {workers} {port} {secs}").expect(rt, "memory");
+    push_folders(rt, &mut text, " ", roots);
+    push_folders(rt, &mut text, ":", sources);
+    text
+}
+
 /// What a line says, in a word and its texts.
 fn said(rt: &impl Abort, alloc: Global, line: &Line<'_>) -> String {
     let text = match line {
@@ -57,6 +82,21 @@ fn said(rt: &impl Abort, alloc: Global, line: &Line<'_>) -> String {
             workers,
             roots,
         } => Ok(said_of_scan(rt, alloc, store, *workers, roots.as_slice())),
+        Line::Serve {
+            store,
+            workers,
+            port,
+            secs,
+            sources,
+            roots,
+        } => Ok(said_of_server(
+            rt,
+            alloc,
+            store,
+            (*workers, *port, *secs),
+            sources.as_slice(),
+            roots.as_slice(),
+        )),
         Line::Trial {
             seed,
             files,
@@ -104,10 +144,13 @@ fn words_ask_what_they_say(rt: HostRuntime) {
     each_says(&rt, alloc, &QUERIES);
     each_says(&rt, alloc, &SCANS);
     each_says(&rt, alloc, &OPTIONS);
+    each_says(&rt, alloc, &SERVERS);
+    each_says(&rt, alloc, &SERVE_OPTIONS);
     each_says(&rt, alloc, &VERSIONS);
     all_say(&rt, alloc, &PROGRAM_HELPS, PROGRAM_HELP);
     all_say(&rt, alloc, &SCAN_HELPS, SCAN_HELP);
     all_say(&rt, alloc, &QUERY_HELPS, QUERY_HELP);
+    all_say(&rt, alloc, &SERVE_HELPS, SERVE_HELP);
 }
 
 /// A text, and behind it a character so many times.

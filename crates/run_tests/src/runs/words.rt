@@ -11,7 +11,7 @@ static USAGE: &str = "usage: dbgd ident FILE, sources FILE, section FILE NAME, q
     scan -d DB DIR, serve -d DB DIR, trial SEED FILES WORKERS\n";
 
 /// Lines that can't be read.
-static UNREADABLE: [&[&str]; 27] = [
+static UNREADABLE: [&[&str]; 29] = [
     &[],
     &[""],
     &["frobnicate"],
@@ -32,6 +32,8 @@ static UNREADABLE: [&[&str]; 27] = [
     &["scan", "-d", "m", "/w", "./w"],
     &["scan", "-d", "m", "-c", "0", "/w"],
     &["scan", "-d", "m", "-d", "m", "/w"],
+    &["serve"],
+    &["serve", "-d", "m", "-p", "0", "/w"],
     &["trial"],
     &["trial", "--help"],
     &["trial", "7", "40"],
@@ -41,8 +43,11 @@ static UNREADABLE: [&[&str]; 27] = [
     &["trial", "18446744073709551616", "40", "1"],
 ];
 
-/// Lines of commands that aren't built yet, whatever follows.
-static UNBUILT: [&[&str]; 2] = [&["serve"], &["serve", "--help", ""]];
+/// Lines of `serve` that can be read.
+static UNBUILT: [&[&str]; 2] = [
+    &["serve", "-d", "m", "/w"],
+    &["serve", "-d", "m", "--upstream", "http://h", "/w"],
+];
 
 /// Runs alone, over a file without bytes.
 fn run_alone<Rt: Threads + Wait + Sync + Abort>(

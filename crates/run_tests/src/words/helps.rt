@@ -87,10 +87,44 @@ Exit status: 0 done, 1 a call of the store or the output failed, 2 words that ca
 Example: dbgd query -d index.db 15dfff3239aa7c3b16a71e6b2e3b6e4009dab998
 ";
 
+/// Lines that ask for the help of `serve`.
+pub static SERVE_HELPS: [&[&str]; 2] = [&["serve", "--help"], &["serve", "-h", ""]];
+
+/// The help of `serve`.
+pub static SERVE_HELP: &str = "Serves the files under folders by build-id
+
+Usage: dbgd serve [OPTIONS] --database <FILE> <DIR>...
+
+Arguments:
+  <DIR>...  The folders, each from / on and of at most 4096 bytes
+
+Options:
+  -d, --database <FILE>     The store of the index; it is made where it isn't there
+  -c, --concurrency <N>     Files read, and connections served, at a time, 1 to 64 [default: 4]
+  -p, --port <PORT>         The port, 1 to 65535, on which requests are answered [default: 8002]
+  -t, --rescan-time <SECS>  Seconds between scans, 0 to 86400; 0 for one scan alone [default: 300]
+  -F, --scan-file-dir       Changes nothing: files in folders are what is scanned
+      --sources <DIRS>      Folders that sources are served from, too, with colons between them
+      --upstream <URLS>     Servers to ask for what isn't here, with spaces between them
+  -h, --help                Print help
+  -V, --version             Print version
+
+This isn't built yet: words that can be read end with 8. It is to keep a row for each file under the
+folders, as dbgd scan does, at its start and again after each wait, and to answer HTTP requests
+meanwhile: executables, debug files, sections and source files by build-id, and its counters.
+
+Exit status: 0 done, 1 a call of the store, the port or the output failed, 2 words that can't be read,
+5 too many rows, 6 memory was refused, 7 a value that is no row, 8 this isn't built yet.
+
+Example: dbgd serve -d index.db -p 8002 /usr/bin /usr/lib/debug
+and then: DEBUGINFOD_URLS=http://localhost:8002 gdb /usr/bin/ls
+";
+
 /// Lines that ask for a version.
-pub static VERSIONS: [Case; 4] = [
+pub static VERSIONS: [Case; 5] = [
     Case(&["--version"], "dbgd 0.1.0\n"),
     Case(&["-V"], "dbgd 0.1.0\n"),
     Case(&["query", "--version"], "dbgd query 0.1.0\n"),
     Case(&["scan", "-V"], "dbgd scan 0.1.0\n"),
+    Case(&["serve", "-V"], "dbgd serve 0.1.0\n"),
 ];

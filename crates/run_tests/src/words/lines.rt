@@ -3,7 +3,7 @@
 use crate::words::Case;
 
 /// Lines of one file.
-pub static FILES: [Case; 10] = [
+pub static FILES: [Case; 9] = [
     Case(&["ident", "/w/a"], "ident /w/a"),
     Case(&["ident", "--help"], "ident --help"),
     Case(&["sources", "/w/a"], "sources /w/a"),
@@ -13,7 +13,6 @@ pub static FILES: [Case; 10] = [
     Case(&["--help", "ident"], "usage"),
     Case(&["ident"], "usage"),
     Case(&["sources", "/w/a", "/w/a"], "usage"),
-    Case(&["serve", "--help"], "not built"),
 ];
 
 /// Lines of `trial`. A number has 1 to 20 digits.
@@ -132,4 +131,97 @@ pub static OPTIONS: [Case; 15] = [
     Case(&["scan", "-d", "m", "-F=1", "/w"], "usage"),
     Case(&["scan", "-d", "m", "-R", "/w"], "usage"),
     Case(&["scan", "-d", "m", "--port", "80", "/w"], "usage"),
+];
+
+/// Lines of `serve`. What follows the number of workers is the port, the seconds from one scan to the
+/// next, the folders, and those for sources.
+pub static SERVERS: [Case; 15] = [
+    Case(&["serve", "-d", "m", "/w"], "serve m 4 8002 300 /w"),
+    Case(
+        &[
+            "serve", "-d", "m", "-c", "64", "-p", "65535", "-t", "86400", "/w/", "/a",
+        ],
+        "serve m 64 65535 86400 /w /a",
+    ),
+    Case(
+        &[
+            "serve",
+            "/w",
+            "--port=1",
+            "--rescan-time",
+            "0",
+            "--database=m",
+            "-c1",
+        ],
+        "serve m 1 1 0 /w",
+    ),
+    Case(&["serve", "-Fdm", "-p080", "/w"], "serve m 4 80 300 /w"),
+    Case(
+        &["serve", "-d", "m", "--sources", "/usr/src", "/w"],
+        "serve m 4 8002 300 /w:/usr/src",
+    ),
+    Case(
+        &["serve", "-d", "m", "--sources=/b/../c:/:/a//b", "/w"],
+        "serve m 4 8002 300 /w:/c:/:/a/b",
+    ),
+    Case(
+        &["serve", "-d", "m", "--upstream", "http://h", "/w"],
+        "not built",
+    ),
+    Case(
+        &["serve", "-d", "m", "--upstream", "http://h", "w"],
+        "usage",
+    ),
+    Case(&["serve"], "usage"),
+    Case(&["serve", "/w"], "usage"),
+    Case(&["serve", "-d", "m"], "usage"),
+    Case(&["serve", "-d", "m", "w"], "usage"),
+    Case(&["serve", "-d", "m", "-d", "m", "/w"], "usage"),
+    Case(&["serve", "-d", "m", "/w", "--bad"], "usage"),
+    Case(&["serve", "-d", "m", "-R", "/w"], "usage"),
+];
+
+/// Lines of `serve` with an option that can't be read.
+pub static SERVE_OPTIONS: [Case; 17] = [
+    Case(&["serve", "-d", "m", "-c", "0", "/w"], "usage"),
+    Case(&["serve", "-d", "m", "-c", "65", "/w"], "usage"),
+    Case(&["serve", "-d", "m", "-p", "0", "/w"], "usage"),
+    Case(&["serve", "-d", "m", "-p", "65536", "/w"], "usage"),
+    Case(&["serve", "-d", "m", "-p", "http", "/w"], "usage"),
+    Case(&["serve", "-d", "m", "-p", "80", "-p", "80", "/w"], "usage"),
+    Case(&["serve", "-d", "m", "-t", "86401", "/w"], "usage"),
+    Case(&["serve", "-d", "m", "-t", "-1", "/w"], "usage"),
+    Case(&["serve", "-d", "m", "-t", "1h", "/w"], "usage"),
+    Case(&["serve", "-d", "m", "-t", "", "/w"], "usage"),
+    Case(&["serve", "-d", "m", "--sources", "", "/w"], "usage"),
+    Case(&["serve", "-d", "m", "--sources", "src", "/w"], "usage"),
+    Case(&["serve", "-d", "m", "--sources", "/a::/b", "/w"], "usage"),
+    Case(&["serve", "-d", "m", "--sources", "/a:", "/w"], "usage"),
+    Case(&["serve", "-d", "m", "/w", "--sources"], "usage"),
+    Case(
+        &[
+            "serve",
+            "-d",
+            "m",
+            "--sources",
+            "/a",
+            "--sources",
+            "/a",
+            "/w",
+        ],
+        "usage",
+    ),
+    Case(
+        &[
+            "serve",
+            "-d",
+            "m",
+            "--upstream",
+            "h",
+            "--upstream",
+            "h",
+            "/w",
+        ],
+        "usage",
+    ),
 ];
