@@ -2,6 +2,12 @@
 #![tactic(auto)]
 
 #[cfg(test)]
+mod events;
+#[cfg(test)]
+mod rig;
+#[cfg(test)]
+mod stopping;
+#[cfg(test)]
 mod stops;
 #[cfg(test)]
 mod stores;

@@ -1,24 +1,21 @@
-//! Scans into a database in memory that stops at one of its calls.
+//! Scans into a database in memory, which tells its tables and stops at one of its calls.
 
-mod stopping;
-
+use crate::rig::{after, kept_paths};
+use crate::stopping::StoppingStore;
 use dbgd_run::{MemSink, Outside, Sink, run};
 use row_types::OpenWorld;
 use sample_world::open_script;
-use sqlite::Connection;
 use std::alloc::Global;
 use std::marker::PhantomData;
 use std::process::Abort;
 use std::sync::Wait;
 use std::thread::Threads;
-use stopping::StoppingStore;
 use tree_trait::{MemTree, NoGate};
 
 /// The objects of a run.
 type Memory = Outside<OpenWorld, MemTree<OpenWorld>, StoppingStore, MemSink, NoGate>;
 
-/// A scan of three debug files and two sources, which makes seven calls of the store: it is opened,
-/// its rows are read, and five are put.
+/// A scan of three debug files and two sources.
 static SCAN: [&str; 5] = ["scan", "-d", "m", "/srv/debug", "/w/src"];
 
 /// The words as the program gets them.
@@ -42,17 +39,16 @@ fn hands(rt: &impl Abort, alloc: Global) -> Vec<MemTree<OpenWorld>> {
     vec![in alloc; MemTree::new(alloc, script)].expect(rt, "memory")
 }
 
-/// The store that stops at the call of this number.
-fn store(rt: &impl Abort, alloc: Global, stop_at: u64) -> StoppingStore {
-    let connection = Connection::open_in_memory(alloc).expect(rt, "a connection");
-    StoppingStore::new(connection, stop_at)
+/// The store of a database that these statements made, which stops at the call of this number.
+fn store(rt: &impl Abort, alloc: Global, sql: &str, stop_at: u64) -> StoppingStore {
+    StoppingStore::new(after(rt, alloc, sql), stop_at)
 }
 
-/// What is around a store that stops at the call of this number.
-fn stopping_at(rt: &impl Abort, alloc: Global, stop_at: u64) -> Memory {
+/// What is around such a store.
+fn stopping_at(rt: &impl Abort, alloc: Global, sql: &str, stop_at: u64) -> Memory {
     Outside {
         hands: hands(rt, alloc),
-        store: store(rt, alloc, stop_at),
+        store: store(rt, alloc, sql, stop_at),
         out: sink(alloc),
         err: sink(alloc),
         gate: NoGate,
@@ -109,20 +105,83 @@ fn goes_on<Rt: Threads + Wait + Sync + Abort>(
     compare(rt, alloc, outside, line(rt, alloc, kept).as_str(), "", 0);
 }
 
-/// A scan that stops at a call, one that goes on from the rows that were put before, and one that
-/// finds all five.
-fn stops_and_goes_on<Rt: Threads + Wait + Sync + Abort>(rt: &Rt, alloc: Global, stop_at: u64) {
-    let mut outside = stopping_at(rt, alloc, stop_at);
-    compare(rt, alloc, &mut outside, "", "dbgd: fault store\n", 1);
-    goes_on(rt, alloc, &mut outside, stop_at.saturating_sub(2));
-    goes_on(rt, alloc, &mut outside, 5);
+/// Two rows of edition 2, which isn't this program's.
+static STALE: &str = "CREATE TABLE kept(path TEXT PRIMARY KEY NOT NULL, body BLOB NOT NULL) STRICT;
+    INSERT INTO kept VALUES
+    ('/a', x'02020000002f6100000000000000006400000000000000000000000001'),
+    ('/b', x'02020000002f6200000000000000006400000000000000000000000001')";
+
+/// The paths of the changes that a scan makes, in order: such rows are removed as the index opens,
+/// and then the row of each file is put.
+static CHANGES: [&str; 7] = [
+    "/a",
+    "/b",
+    "/srv/debug/notes.txt",
+    "/srv/debug/ppc.debug",
+    "/srv/debug/tool.debug",
+    "/w/src/inc/util.h",
+    "/w/src/main.c",
+];
+
+/// How many of them are removals.
+const REMOVALS: usize = 2;
+
+/// The paths that are kept once the first changes were made, so many, each with a space behind it.
+fn left(rt: &impl Abort, alloc: Global, made: usize) -> String {
+    let mut text = String::new(alloc);
+    let paths = CHANGES
+        .as_slice()
+        .get(made.min(REMOVALS)..made.max(REMOVALS))
+        .expect(rt, "so many changes");
+    for path in paths {
+        text.push_str(*path).expect(rt, "memory");
+        text.push_str(" ").expect(rt, "memory");
+    }
+    text
+}
+
+/// A scan that stops behind the first changes, so many; one that goes on from what they left; and
+/// one that finds all five rows.
+fn stops_and_goes_on<Rt: Threads + Wait + Sync + Abort>(
+    rt: &Rt,
+    alloc: Global,
+    outside: &mut Memory,
+    made: usize,
+) {
+    compare(rt, alloc, outside, "", "dbgd: fault store\n", 1);
+    let paths = kept_paths(rt, alloc, &mut outside.store);
+    assert!(rt;
+        paths.as_str() == left(rt, alloc, made).as_str(),
+        "{made}: {paths}"
+    );
+    goes_on(rt, alloc, outside, made.saturating_sub(REMOVALS) as u64);
+    goes_on(rt, alloc, outside, 5);
+}
+
+/// Scans of a database that these statements made, one for each call: its opening, the reading of
+/// its rows, and the changes from this one on. Then one that doesn't stop.
+fn stops_at_each_call<Rt: Threads + Wait + Sync + Abort>(
+    rt: &Rt,
+    alloc: Global,
+    sql: &str,
+    first: usize,
+) {
+    let calls = CHANGES.len().saturating_sub(first).saturating_add(2);
+    for stop_at in 0..calls {
+        let made = first.saturating_add(stop_at.saturating_sub(2));
+        let mut outside = stopping_at(rt, alloc, sql, stop_at as u64);
+        stops_and_goes_on(rt, alloc, &mut outside, made);
+    }
+    let mut outside = stopping_at(rt, alloc, sql, calls as u64);
+    goes_on(rt, alloc, &mut outside, 0);
 }
 
 #[test]
 fn a_scan_goes_on_where_the_database_stopped(rt: HostRuntime) {
-    let alloc = rt.alloc();
-    for stop_at in 0..7 {
-        stops_and_goes_on(&rt, alloc, stop_at);
-    }
-    goes_on(&rt, alloc, &mut stopping_at(&rt, alloc, 7), 0);
+    stops_at_each_call(&rt, rt.alloc(), "", REMOVALS);
+}
+
+#[test]
+fn an_opening_goes_on_where_the_database_stopped(rt: HostRuntime) {
+    stops_at_each_call(&rt, rt.alloc(), STALE, 0);
 }

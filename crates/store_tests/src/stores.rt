@@ -1,7 +1,7 @@
 //! What no clause says: that memory suffices, and which rows come back.
 
 mod file;
+mod left;
 mod openings;
 mod refusals;
-mod rig;
 mod rows;

@@ -1,6 +1,6 @@
 //! A file of the system, which is opened again by another store.
 
-use crate::stores::rig::{Call, is_refused, make_calls, opened, session};
+use crate::rig::{Call, is_refused, make_calls, opened, session};
 use index_keeper::{KeepAnswer, Keeper, Store};
 use row_types::OpenWorld;
 use sqlite_keeper::SqliteStore;

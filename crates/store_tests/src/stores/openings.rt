@@ -1,6 +1,6 @@
 //! Connections that are taken over, or not, and what comes back.
 
-use crate::stores::rig::{after, is_refused, number, opened, session};
+use crate::rig::{after, is_refused, not_adopted, not_opened, number, opened, session};
 use index_keeper::{Keeper, Store};
 use sqlite::{Connection, MemStore};
 use sqlite_keeper::{AdoptAnswer, HeldStore, SqliteKeeper};
@@ -47,14 +47,6 @@ fn a_number_goes_on_or_is_refused(rt: HostRuntime) {
     }
 }
 
-/// The connection that a refused adoption gives back.
-fn refused(rt: &impl Abort, connection: Connection<MemStore>) -> Connection<MemStore> {
-    match SqliteKeeper::adopt(connection) {
-        AdoptAnswer::Failed(connection) => connection,
-        _ => panic!(rt; "the connection was taken over"),
-    }
-}
-
 /// Looks at what a refusal left of a store of two rows: both, this number, and no transaction.
 fn compare_left(rt: &impl Abort, connection: &mut Connection<MemStore>, n: i64) {
     assert!(rt; connection.is_autocommit(), "a transaction is open");
@@ -80,24 +72,39 @@ static LEFT: [(i64, i64); 3] = [(-1, 0), (-7, -6), (i64::MAX, i64::MAX)];
 fn a_refused_adoption_leaves_the_rows(rt: HostRuntime) {
     let alloc = rt.alloc();
     for (n, left) in LEFT {
-        let mut back = refused(&rt, numbered(&rt, alloc, n));
+        let mut back = not_adopted(&rt, numbered(&rt, alloc, n));
         compare_left(&rt, &mut back, left);
     }
-}
-
-/// The connection of a store that couldn't be opened.
-fn turned_back(rt: &impl Abort, alloc: Global, n: i64) -> Connection<MemStore> {
-    let mut store = HeldStore::new(numbered(rt, alloc, n));
-    assert!(rt; is_refused(alloc, &mut store, "m"), "after {n}");
-    store.into_connection().expect(rt, "a connection")
 }
 
 #[test]
 fn a_refused_opening_leaves_the_rows(rt: HostRuntime) {
     let alloc = rt.alloc();
     for (n, left) in LEFT {
-        compare_left(&rt, &mut turned_back(&rt, alloc, n), left);
+        let mut back = not_opened(&rt, alloc, numbered(&rt, alloc, n));
+        compare_left(&rt, &mut back, left);
     }
+}
+
+/// Such a connection, on which a statement visits no row.
+fn limited(rt: &impl Abort, alloc: Global) -> Connection<MemStore> {
+    let mut connection = numbered(rt, alloc, 4);
+    connection.set_step_limit(Some(1));
+    connection
+}
+
+/// Looks at what a refusal left of it.
+fn compare_limited(rt: &impl Abort, connection: &mut Connection<MemStore>) {
+    connection.set_step_limit(None);
+    compare_left(rt, connection, 4);
+}
+
+// The last statement of an opening visits the row of the number.
+#[test]
+fn an_opening_that_ends_at_its_last_statement_leaves_the_rows(rt: HostRuntime) {
+    let alloc = rt.alloc();
+    compare_limited(&rt, &mut not_adopted(&rt, limited(&rt, alloc)));
+    compare_limited(&rt, &mut not_opened(&rt, alloc, limited(&rt, alloc)));
 }
 
 /// Ends the transaction, in which there is one table of one row and nothing else.
@@ -113,16 +120,14 @@ fn leave(rt: &impl Abort, connection: &mut Connection<MemStore>) {
 #[test]
 fn a_connection_inside_a_transaction_comes_back_as_it_was(rt: HostRuntime) {
     let sql = "BEGIN; CREATE TABLE t(a INTEGER); INSERT INTO t VALUES (7)";
-    let mut back = refused(&rt, after(&rt, rt.alloc(), sql));
+    let mut back = not_adopted(&rt, after(&rt, rt.alloc(), sql));
     leave(&rt, &mut back);
     assert!(rt; number_of(&rt, back) == 1);
 }
 
 /// The connection of a store that couldn't be opened inside a transaction, outside it.
 fn kept(rt: &impl Abort, alloc: Global) -> Connection<MemStore> {
-    let mut store = HeldStore::new(after(rt, alloc, "BEGIN"));
-    assert!(rt; is_refused(alloc, &mut store, "m"), "inside a transaction");
-    let mut connection = store.into_connection().expect(rt, "a connection");
+    let mut connection = not_opened(rt, alloc, after(rt, alloc, "BEGIN"));
     connection
         .execute_batch("COMMIT")
         .expect(rt, "the end of the transaction");

@@ -1,8 +1,8 @@
 //! Statements that the database refuses.
 
-use crate::stores::rig::{Call, after, is_refused, make_call, number, opened};
+use crate::rig::{Call, after, make_call, opened};
 use index_keeper::{KeepAnswer, Keeper, Store};
-use sqlite::{Connection, MemStore};
+use sqlite::MemStore;
 use sqlite_keeper::HeldStore;
 use std::alloc::Global;
 use std::process::Abort;
@@ -53,45 +53,4 @@ fn a_refused_statement_counts_and_changes_nothing(rt: HostRuntime) {
     let mut store = HeldStore::new(connection);
     count(&rt, alloc, &mut store, 1, REFUSED.as_slice());
     count(&rt, alloc, &mut store, 2, &[]);
-}
-
-/// Tables that aren't the store's, each of which has one entry in the list of tables, or more: by
-/// another column, another order, a condition, a type that isn't strict, another name, in another
-/// order, with an index, and a view.
-static OTHERS: [&str; 8] = [
-    "CREATE TABLE kept(name TEXT) STRICT",
-    "CREATE TABLE kept(path TEXT PRIMARY KEY NOT NULL COLLATE NOCASE, body BLOB NOT NULL) STRICT",
-    "CREATE TABLE kept(path TEXT PRIMARY KEY NOT NULL, body BLOB NOT NULL CHECK (body <> x'01')) \
-    STRICT",
-    "CREATE TABLE kept(path TEXT PRIMARY KEY NOT NULL, body BLOB NOT NULL)",
-    "CREATE TABLE t(a INTEGER)",
-    "CREATE TABLE epoch(one INTEGER PRIMARY KEY CHECK (one = 1), n INTEGER NOT NULL) STRICT; \
-    CREATE TABLE kept(path TEXT PRIMARY KEY NOT NULL, body BLOB NOT NULL) STRICT",
-    "CREATE TABLE kept(path TEXT PRIMARY KEY NOT NULL, body BLOB NOT NULL) STRICT; \
-    CREATE INDEX bodies ON kept(body)",
-    "CREATE VIEW v AS SELECT 1",
-];
-
-/// How many entries the list of tables has.
-fn entries(rt: &impl Abort, connection: &mut Connection<MemStore>) -> i64 {
-    number(rt, connection, "SELECT count(*) FROM sqlite_schema")
-}
-
-/// The connection of a store that couldn't be opened.
-fn turned_back(rt: &impl Abort, alloc: Global, sql: &str) -> Connection<MemStore> {
-    let mut store = HeldStore::new(after(rt, alloc, sql));
-    assert!(rt; is_refused(alloc, &mut store, "m"), "{sql}");
-    store.into_connection().expect(rt, "a connection")
-}
-
-#[test]
-fn other_tables_are_refused_and_stay(rt: HostRuntime) {
-    let alloc = rt.alloc();
-    for sql in OTHERS {
-        let listed = entries(&rt, &mut after(&rt, alloc, sql));
-        assert!(rt;
-            entries(&rt, &mut turned_back(&rt, alloc, sql)) == listed,
-            "{sql}"
-        );
-    }
 }

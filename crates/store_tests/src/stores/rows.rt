@@ -1,6 +1,6 @@
 //! Rows that are put, replaced, removed and read again.
 
-use crate::stores::rig::{Call, after, number, session};
+use crate::rig::{Call, after, number, session};
 use index_keeper::KeepAnswer;
 use sqlite_keeper::HeldStore;
 

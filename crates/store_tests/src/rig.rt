@@ -1,11 +1,12 @@
-//! What the tests share: connections, calls of a keeper with what they are to answer, and the bytes
-//! of rows.
+//! What the tests share: connections, calls of a keeper with what they are to answer, the bytes of
+//! rows, and what a store keeps.
 
 use index_keeper::{KeepAnswer, Keeper, Kept, KeptAnswer, Store, StoreAnswer};
 use row_codec::write_row;
 use row_types::OpenWorld;
 use sample_rows::plain;
 use sqlite::{Alter, Connection, MemStore};
+use sqlite_keeper::{AdoptAnswer, HeldStore, SqliteKeeper};
 use std::alloc::Global;
 use std::process::Abort;
 
@@ -140,6 +141,25 @@ pub fn is_refused<S: Store<OpenWorld>>(alloc: Global, store: &mut S, path: &str)
     matches!(store.open_store(alloc, path), StoreAnswer::Failed)
 }
 
+/// The connection that a refused adoption gives back.
+pub fn not_adopted(rt: &impl Abort, connection: Connection<MemStore>) -> Connection<MemStore> {
+    match SqliteKeeper::adopt(connection) {
+        AdoptAnswer::Failed(connection) => connection,
+        _ => panic!(rt; "the connection was taken over"),
+    }
+}
+
+/// The connection of a store that could not be opened.
+pub fn not_opened(
+    rt: &impl Abort,
+    alloc: Global,
+    connection: Connection<MemStore>,
+) -> Connection<MemStore> {
+    let mut store = HeldStore::new(connection);
+    assert!(rt; is_refused(alloc, &mut store, "m"), "the store opens");
+    store.into_connection().expect(rt, "a connection")
+}
+
 /// Makes the calls on a keeper of the store, whose opening is to have this number, and gives it
 /// back.
 pub fn session<S: Store<OpenWorld>>(
@@ -154,4 +174,26 @@ pub fn session<S: Store<OpenWorld>>(
     assert!(rt; keeper.epoch() == epoch, "the number of the opening");
     make_calls(rt, alloc, &mut keeper, calls);
     store.give_back(keeper);
+}
+
+/// The paths of these rows, in order, each with a space behind it.
+fn paths_text(rt: &impl Abort, alloc: Global, answer: KeptAnswer) -> String {
+    let mut text = String::new(alloc);
+    if let KeptAnswer::All(rows) = answer {
+        for row in &rows {
+            text.push_str(row.path.as_str()).expect(rt, "memory");
+            text.push_str(" ").expect(rt, "memory");
+        }
+    } else {
+        text.push_str("unread").expect(rt, "memory");
+    }
+    text
+}
+
+/// The paths that a store keeps, in order, each with a space behind it.
+pub fn kept_paths<S: Store<OpenWorld>>(rt: &impl Abort, alloc: Global, store: &mut S) -> String {
+    let mut keeper = opened(rt, alloc, store, "m");
+    let answer = keeper.rows(alloc);
+    store.give_back(keeper);
+    paths_text(rt, alloc, answer)
 }

@@ -1,4 +1,9 @@
-//! A store over a database in memory that stops at one of its calls.
+//! A store over a database in memory, which tells its tables and stops at one of its calls.
+
+ghost use Rattle.std.specs.Prelude.{◌≡◌};
+ghost use Rattle.index_keeper.specs.Answers.{for_change, for_rows, keeper_failed};
+ghost use Rattle.index_keeper.specs.Tables.{EditFacts};
+ghost use Rattle.sqlite_keeper.specs.Keeper.{IsCounted};
 
 use index_keeper::{KeepAnswer, Keeper, KeptAnswer, Store, StoreAnswer};
 use row_types::{Faults, OpenWorld};
@@ -29,7 +34,8 @@ impl Fuse {
 const ENOUGH: Fuse = Fuse { left: u64::MAX };
 
 /// A store over a database in memory. Its openings and the calls of its keepers are numbered from
-/// 0; it stops at one of them, until it is opened again, and then never more.
+/// 0; it stops at one of them, until it is opened again, and then never more. A call at which it
+/// stops changes nothing.
 #[derive(Drop)]
 pub struct StoppingStore {
     held: HeldStore<MemStore>,
@@ -38,7 +44,7 @@ pub struct StoppingStore {
 }
 
 impl StoppingStore {
-    /// The store of an empty database, which stops at the call of this number.
+    /// The store of a database, which stops at the call of this number.
     pub fn new(connection: Connection<MemStore>, stop_at: u64) -> StoppingStore {
         StoppingStore {
             held: HeldStore::new(connection),
@@ -49,23 +55,19 @@ impl StoppingStore {
 }
 
 impl Store<OpenWorld> for StoppingStore {
-    ghost use Rattle.std.specs.Prelude.{None, []};
+    ghost use Rattle.std.specs.Prelude.{true};
+    ghost use Rattle.sqlite.specs.Steps.{over_memory};
+    ghost use Rattle.sqlite_keeper.specs.HeldStore.{held_shown};
 
     type K = StoppingKeeper;
 
-    ghost shows = { λ s. record {
-      tables = [];
-      made = None;
-      epoch = s.held.epoch;
-      faults = s.faults;
-      paths = None;
-    } };
+    ghost shows = { λ s. record (held_shown true over_memory s.held) { faults = s.faults } };
 
     fn open_store(&mut self, alloc: Global, path: &str) -> StoreAnswer<StoppingKeeper> {
         let mut fuse = self.fuse;
         if fuse.blows() {
             self.fuse = ENOUGH;
-            self.faults.raise();
+            count(&mut self.faults, true);
             return StoreAnswer::Failed;
         }
         match self.held.open_store(alloc, path) {
@@ -78,7 +80,7 @@ impl Store<OpenWorld> for StoppingStore {
                 })
             }
             StoreAnswer::Failed => {
-                self.faults.raise();
+                count(&mut self.faults, true);
                 StoreAnswer::Failed
             }
             StoreAnswer::OutOfMemory => StoreAnswer::OutOfMemory,
@@ -104,52 +106,65 @@ pub struct StoppingKeeper {
     faults: Faults,
 }
 
+/// Whether rows could not be read.
+fn is_unread(answer: &KeptAnswer) -> bool
+    ensures { result ≡ keeper_failed (for_rows answer.now) }
+{
+    matches!(answer, KeptAnswer::Failed)
+}
+
+/// Whether a change failed.
+fn is_unmade(answer: KeepAnswer) -> bool
+    ensures { (edit : EditFacts) → result ≡ keeper_failed (for_change edit answer) }
+{
+    answer == KeepAnswer::Failed
+}
+
+/// Counts a call that failed.
+fn count(faults: &mut Faults, failed: bool)
+    ensures { IsCounted failed faults.old faults.new }
+{
+    if failed {
+        faults.raise();
+    }
+}
+
 impl Keeper<OpenWorld> for StoppingKeeper {
-    ghost use Rattle.std.specs.Prelude.{false, None, []};
+    ghost use Rattle.std.specs.Prelude.{true};
+    ghost use Rattle.sqlite.specs.Steps.{over_memory};
+    ghost use Rattle.sqlite_keeper.specs.Keeper.{keeper_shown};
 
-    ghost told = { false };
+    ghost told = { true };
 
-    ghost shows = { λ k. record {
-      tables = [];
-      images = λ _. Unit {0};
-      made = None;
-      faults = k.faults;
-      epoch = k.keeper.epoch;
-    } };
+    ghost shows = { λ k. record (keeper_shown over_memory k.keeper) { faults = k.faults } };
 
     fn rows(&mut self, alloc: Global) -> KeptAnswer {
         if self.fuse.blows() {
-            self.faults.raise();
+            count(&mut self.faults, true);
             return KeptAnswer::Failed;
         }
         let answer = self.keeper.rows(alloc);
-        if let KeptAnswer::Failed = &answer {
-            self.faults.raise();
-        }
+        count(&mut self.faults, is_unread(&answer));
         answer
     }
 
     fn put(&mut self, alloc: Global, path: &str, bytes: &[u8]) -> KeepAnswer {
         if self.fuse.blows() {
-            self.faults.raise();
+            count(&mut self.faults, true);
             return KeepAnswer::Failed;
         }
         let answer = self.keeper.put(alloc, path, bytes);
-        if let KeepAnswer::Failed = &answer {
-            self.faults.raise();
-        }
+        count(&mut self.faults, is_unmade(answer));
         answer
     }
 
     fn remove(&mut self, alloc: Global, path: &str) -> KeepAnswer {
         if self.fuse.blows() {
-            self.faults.raise();
+            count(&mut self.faults, true);
             return KeepAnswer::Failed;
         }
         let answer = self.keeper.remove(alloc, path);
-        if let KeepAnswer::Failed = &answer {
-            self.faults.raise();
-        }
+        count(&mut self.faults, is_unmade(answer));
         answer
     }
 
