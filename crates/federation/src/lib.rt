@@ -7,8 +7,10 @@ mod http_link;
 mod judging;
 mod link;
 mod link_row;
+mod mem_link;
 mod one_link;
 
 pub use asking::{HOP_LIMIT, Upstream, ask_all};
 pub use http_link::HttpLink;
 pub use link::{Link, LinkAnswer};
+pub use mem_link::{LinkQuestion, MemLink};

@@ -1,6 +1,6 @@
 //! Questions to other servers over a dial in memory: what is written, and what comes of the answers.
 
-use federation::{HttpLink, Link, LinkAnswer, Upstream, ask_all};
+use federation::{HttpLink, Link, LinkAnswer, MemLink, Upstream, ask_all};
 use http_wire::MemConn;
 use row_types::{BuildId, CanonPath};
 use sample_files::{ID_C, both_classes, debug_companion, executable};
@@ -229,15 +229,11 @@ fn the_first_answer_that_passes_is_told(rt: HostRuntime) {
 static REQUEST: &[u8] =
     b"GET /up/buildid/404142434445464748494a4b4c4d4e4f50515253/executable HTTP/1.1\r\nHost: h.example:8002\r\nAccept-Encoding: identity\r\nX-Forwarded-For: unknown, unknown, unknown\r\nConnection: close\r\n\r\n";
 
-/// Whether the link answers with a response, and its count of faults.
-fn ask_once<R: Abort + Wait + Sync>(
-    rt: &R,
-    alloc: Global,
-    link: &mut HttpLink<MemDial>,
-) -> (bool, u64) {
+/// Whether a link answers a question for the program with a response.
+fn replies<L: Link, R: Abort + Wait + Sync>(rt: &R, alloc: Global, link: &mut L) -> bool {
     let route = route_of(rt, alloc, Wanted::Executable);
     let answer = link.ask(rt, alloc, &route, 2);
-    (matches!(answer, LinkAnswer::Reply { .. }), link.count())
+    matches!(answer, LinkAnswer::Reply { .. })
 }
 
 /// What was written to the connection that ended, and whether there is one alone.
@@ -250,8 +246,8 @@ fn is_written(rt: &impl Abort, link: &HttpLink<MemDial>, wanted: &[u8]) {
 #[test]
 fn a_link_writes_exactly_its_request(rt: HostRuntime) {
     let mut link = link_of(&rt, rt.alloc(), &[Held::Program], 9);
-    let (replied, faults) = ask_once(&rt, rt.alloc(), &mut link);
-    assert!(rt; replied && faults == 0, "a reply");
+    assert!(rt; replies(&rt, rt.alloc(), &mut link), "a reply");
+    assert!(rt; link.count() == 0, "no fault");
     is_written(&rt, &link, REQUEST);
     let asked = link.dial().asked();
     assert!(rt; asked.len() == 1, "one host");
@@ -264,8 +260,33 @@ fn a_link_writes_exactly_its_request(rt: HostRuntime) {
 #[test]
 fn a_failed_write_gives_the_connection_back(rt: HostRuntime) {
     let mut link = link_of(&rt, rt.alloc(), &[Held::Program], 0);
-    let (replied, faults) = ask_once(&rt, rt.alloc(), &mut link);
-    assert!(rt; !replied && faults == 1, "a fault of the link");
+    assert!(rt; !replies(&rt, rt.alloc(), &mut link), "no reply");
+    assert!(rt; link.count() == 1, "a fault of the link");
     is_written(&rt, &link, b"");
     assert!(rt; link.dial().count() == 1, "a fault of the dial");
+}
+
+/// A link in memory that answers one question.
+fn mem_link(rt: &impl Abort, alloc: Global) -> MemLink {
+    let mut answers = Vec::new(alloc);
+    let pushed = answers.push(LinkAnswer::Reply {
+        status: 404,
+        body: Vec::new(alloc),
+    });
+    assert!(rt; pushed.is_ok(), "memory");
+    MemLink::new(alloc, answers)
+}
+
+#[test]
+fn a_link_in_memory_tells_its_questions(rt: HostRuntime) {
+    let mut link = mem_link(&rt, rt.alloc());
+    assert!(rt; replies(&rt, rt.alloc(), &mut link), "its answer");
+    assert!(rt; !replies(&rt, rt.alloc(), &mut link), "then it fails");
+    let asked = link.asked();
+    assert!(rt; asked.len() == 2, "two questions");
+    let target = b"/buildid/404142434445464748494a4b4c4d4e4f50515253/executable";
+    assert!(rt;
+        asked[1].target() == target.as_slice() && asked[1].hops() == 2,
+        "the second"
+    );
 }
