@@ -2,6 +2,7 @@ mod CarriesLemmas
 pub mod CaseLemmas
 pub mod CountLemmas
 mod DecideLemmas
+pub mod DoorLemmas
 mod EndLemmas
 pub mod JoinLemmas
 mod SentLemmas

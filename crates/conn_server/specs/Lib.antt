@@ -1,3 +1,4 @@
+pub use Rattle.http_wire.specs.Door
 pub use Rattle.http_wire.specs.Fields
 pub use Rattle.http_wire.specs.Heads
 pub use Rattle.http_wire.specs.Reader
@@ -5,6 +6,7 @@ pub use Rattle.http_wire.specs.Reply
 pub use Rattle.http_wire.specs.Sink
 pub use Rattle.http_wire.specs.Source
 pub use Rattle.http_wire.specs.Stream
+pub use Rattle.http_wire.specs.Told
 pub use Rattle.answer_core.specs.Complete
 pub use Rattle.answer_core.specs.Local
 pub use Rattle.dbgd_metrics.specs.Counts
@@ -16,6 +18,7 @@ pub mod Asked
 pub mod Cases
 pub mod Connection
 pub mod Decided
+pub mod Doors
 pub mod Exchange
 pub mod Lawful
 pub mod PassedOver

@@ -1,11 +1,13 @@
-//! One connection: its requests, each with the reply that the rules name. Heads are cut from the
-//! stream, routes are read and local answers are found in the crates below.
+//! One connection: its requests, each with the reply that the rules name; and the connections of a
+//! door, one after the other. Heads are cut from the stream, routes are read and local answers are
+//! found in the crates below.
 #![tactic(auto)]
 
 mod body;
 mod connection;
 mod counting;
 mod decide;
+mod door;
 mod method;
 mod reason;
 mod report;
@@ -14,5 +16,6 @@ mod service;
 mod turn;
 
 pub use connection::{REQUESTS, serve_connection};
+pub use door::{DoorEnd, serve_door};
 pub use reason::Reason;
 pub use report::{Asked, ConnEnd, ConnReport, Served};

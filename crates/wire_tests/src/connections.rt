@@ -3,7 +3,7 @@
 mod cut;
 mod edges;
 mod gates;
-mod helpers;
+pub mod helpers;
 mod metrics;
 mod replies;
-mod texts;
+pub mod texts;

@@ -1,5 +1,5 @@
-//! The tests of the crates that serve: streams and heads, routes, local answers, connections and
-//! counters. They use what is public alone, and no code stands on them.
+//! The tests of the crates that serve: streams and heads, routes, local answers, connections, doors
+//! and counters. They use what is public alone, and no code stands on them.
 #![tactic(auto)]
 
 #[cfg(test)]
@@ -8,6 +8,8 @@ mod answers;
 mod connections;
 #[cfg(test)]
 mod counters;
+#[cfg(test)]
+mod doors;
 #[cfg(test)]
 mod routes;
 #[cfg(test)]

@@ -3,9 +3,9 @@
 ghost use Rattle.std.specs.Prelude.{◌≡◌, ◌<◌, All, IsSome};
 
 use crate::counters::shares::one_drawn;
-use conn_server::{ConnEnd, ConnReport, serve_connection};
+use conn_server::{ConnEnd, ConnReport, DoorEnd, serve_connection, serve_door};
 use dbgd_metrics::{Book, Share};
-use http_wire::{MemConn, Sink, Source};
+use http_wire::{Door, MemConn, Sink, Source};
 use row_types::CanonPath;
 use sample_index::{Index, Lock, Shared, Token, empty_index, put_behind, reference_index};
 use sample_rows::paths;
@@ -132,6 +132,42 @@ pub fn report_of<N: Source + Sink, G: Gate, R: Abort + Wait + Sync>(
     let mut hand = hand(rt, alloc, bad_loads);
     let index = reference_index(alloc).expect(rt, "an index");
     serve_by(rt, alloc, index, &mut hand, folders.as_slice(), conn, gate)
+}
+
+/// How the serving of a door ends by the reference tree and its index, past a gate. Its connections are
+/// numbered from the first of two numbers on, by the second.
+pub fn serve_at<D: Door, G: Gate, R: Abort + Wait + Sync>(
+    rt: &R,
+    alloc: Global,
+    book: &Book,
+    share: &mut Share,
+    door: &mut D,
+    numbers: (u64, u64),
+    gate: &G,
+) -> DoorEnd
+    requires book { share.old.book ≡ book.now.id }
+    requires row { IsSome share.old.row }
+{
+    let folders = folders(rt, alloc);
+    let mut hand = hand(rt, alloc, &[]);
+    let index = reference_index(alloc).expect(rt, "an index");
+    let Shared { lock, seat } = put_behind(alloc, index).expect(rt, "memory");
+    let (first, step) = numbers;
+    let (_seat, end) = serve_door(
+        rt,
+        alloc,
+        &lock,
+        seat,
+        &mut hand,
+        folders.as_slice(),
+        book,
+        share,
+        door,
+        first,
+        step,
+        gate,
+    );
+    end
 }
 
 /// What comes of a connection of this number by the reference tree and an index behind a lock, past a
