@@ -33,7 +33,11 @@ pub fn begin<D: Disk + Drop>(
     ensures { IfOk result (λ keeper. BeginsKeeper over_files last connection keeper) }
 {
     match prepare(&mut connection, last) {
-        Ok(epoch) => Ok(SqliteKeeper::new(connection, epoch)),
+        Ok(epoch) => Ok(SqliteKeeper {
+            connection,
+            faults: Faults::new(),
+            epoch,
+        }),
         Err(fault) => {
             let _copied = connection.close();
             Err(fault)
@@ -69,11 +73,7 @@ pub fn rows<D: Disk>(keeper: &mut SqliteKeeper<FileStore<D>>, alloc: Global) -> 
 }
 
 /// Keeps the bytes under the path, in place of those that were kept there.
-pub fn put<D: Disk>(
-    keeper: &mut SqliteKeeper<FileStore<D>>,
-    path: &str,
-    bytes: &[u8],
-) -> KeepAnswer
+pub fn put<D: Disk>(keeper: &mut SqliteKeeper<FileStore<D>>, path: &str, bytes: &[u8]) -> KeepAnswer
     ensures asks { AsksKeeper false (keeper_shown over_files keeper.old)
         (keeper_shown over_files keeper.new) (for_change (put_bytes path.now bytes.now) result) }
     ensures changes { Changes over_files put_text (Text path.now ∷ Blob bytes.now ∷ [])
