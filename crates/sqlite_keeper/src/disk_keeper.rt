@@ -1,6 +1,6 @@
-//! The keeper over files, on any disk. The keeper of a file goes through these functions: a call that
-//! names a database's store of bytes and its disk at once is proved again for each law of the one
-//! over each call of the other, and here they come one after the other.
+//! The keeper over files, on any disk. A call that names a store of bytes is proved for all laws and
+//! calls of that store, and where it names the disk below as well, for those of the disk in each of
+//! them. The keeper of a file calls these functions, and so names the disk alone.
 
 ghost use Rattle.std.specs.Prelude.{◌≡◌, [], ◌∷◌, false, IfOk, IfSome};
 ghost use Rattle.row_types.specs.declared.limits.TheConstants.{EDITION};
