@@ -13,7 +13,7 @@ ghost use Rattle.sqlite_keeper.specs.Reading.{LooksUpRows};
 ghost use Rattle.sqlite_keeper.specs.Statements.{Changes, put_text, remove_text};
 ghost use Rattle.sqlite_keeper.specs.Told.{TellsQueriedRows, TellsChange};
 
-use crate::adopt::prepare;
+use crate::disk_keeper;
 use crate::fault::SqlFault;
 use crate::keeper::SqliteKeeper;
 use index_keeper::{KeepAnswer, Keeper, KeptAnswer};
@@ -41,15 +41,10 @@ impl FileKeeper {
     pub(crate) fn open(rt: &HostRuntime, path: &str, last: u64) -> Result<FileKeeper, SqlFault>
         ensures { IfOk result (λ it. BeginsAnew over_files last it.keeper) }
     {
-        let mut connection = Connection::open(rt, path)?;
-        match prepare(&mut connection, last) {
-            Ok(epoch) => Ok(FileKeeper {
-                keeper: SqliteKeeper::new(connection, epoch),
-            }),
-            Err(fault) => {
-                let _copied = connection.close();
-                Err(fault)
-            }
+        let connection = Connection::open(rt, path)?;
+        match disk_keeper::begin(connection, last) {
+            Ok(keeper) => Ok(FileKeeper { keeper }),
+            Err(fault) => Err(fault),
         }
     }
 
@@ -59,13 +54,7 @@ impl FileKeeper {
         ensures { result ≡ self.keeper.faults }
     {
         let FileKeeper { keeper } = self;
-        let SqliteKeeper {
-            connection,
-            faults,
-            epoch: _,
-        } = keeper;
-        let _copied = connection.close();
-        faults
+        disk_keeper::end(keeper)
     }
 }
 
@@ -87,7 +76,7 @@ impl Keeper<OpenWorld> for FileKeeper {
         ensures tells { TellsQueriedRows over_files self.old.keeper.connection self.new.keeper.connection
             (rows_given result) }
     {
-        self.keeper.read(alloc)
+        disk_keeper::rows(&mut self.keeper, alloc)
     }
 
     fn put(&mut self, _alloc: Global, path: &str, bytes: &[u8]) -> KeepAnswer
@@ -99,7 +88,7 @@ impl Keeper<OpenWorld> for FileKeeper {
         ensures tells { TellsChange over_files (put_bytes path.now bytes.now)
             self.old.keeper.connection self.new.keeper.connection result }
     {
-        self.keeper.keep(path, bytes)
+        disk_keeper::put(&mut self.keeper, path, bytes)
     }
 
     fn remove(&mut self, _alloc: Global, path: &str) -> KeepAnswer
@@ -110,7 +99,7 @@ impl Keeper<OpenWorld> for FileKeeper {
         ensures tells { TellsChange over_files (removal_of path.now)
             self.old.keeper.connection self.new.keeper.connection result }
     {
-        self.keeper.forget(path)
+        disk_keeper::remove(&mut self.keeper, path)
     }
 
     fn epoch(&self) -> u64

@@ -4,6 +4,7 @@
 #![tactic(auto)]
 
 mod adopt;
+mod disk_keeper;
 mod fault;
 mod file_keeper;
 mod file_store;

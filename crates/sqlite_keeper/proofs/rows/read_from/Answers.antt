@@ -3,7 +3,7 @@ use Rattle.sqlite.specs.Held.{state}
 use Rattle.sqlite.proofs.Callers.{unchanged_then}
 use Rattle.index_keeper.specs.Tables.{AscendsByPath}
 use Rattle.sqlite_keeper.specs.Reading.{GivesRow}
-use Rattle.sqlite_keeper.proofs.ReadingLemmas.{gave_all, given_rests, one_more}
+use Rattle.sqlite_keeper.proofs.ReadingLemmas.{gave_all, given_rests, left_after, left_unchanged, one_more}
 use Rattle.sqlite_keeper.proofs.SurvivesLemmas.{survives_both, survives_same}
 use Rattle.sqlite_keeper.proofs.rows.read_from.Goals as goal
 
@@ -43,3 +43,44 @@ returns-in-None-clause-gives g c clean none =
     let was = c.rows.invariant.4 (omega (arith, c.next_of.ensures.survives.clean, clean)) none in
     let ends = subst (GivesRow g.F.Store now last) c.in-None.is (c.in_ok-row.ensures.gives clean) in
     gave_all g.F.Store first now last was.1.0 c.rows.kept.items was.0 was.1.1 ends (c.in_ok-row.ensures.same clean) was.1.2
+
+-- wherever the reading ends, the database was as it was before the last step
+pub returns-in-None-clause-leaves : goal.returns-in-None-clause-leaves
+returns-in-None-clause-leaves g c clean none =
+    let first = state g.F.Store c.args.rows.now.conn.now in
+    let now = state g.F.Store c.rows.rows.conn.now in
+    let last = state g.F.Store c.next_of.new.rows.conn.now in
+    let was = c.rows.invariant.4 (omega (arith, c.next_of.ensures.survives.clean, clean)) none in
+    left_after first now last was.0 (c.next_of.ensures.leaves clean)
+
+pub returns-in_err-row-clause-leaves : goal.returns-in_err-row-clause-leaves
+returns-in_err-row-clause-leaves g c clean none =
+    let first = state g.F.Store c.args.rows.now.conn.now in
+    let now = state g.F.Store c.rows.rows.conn.now in
+    let last = state g.F.Store c.next_of.new.rows.conn.now in
+    let was = c.rows.invariant.4 (omega (arith, c.next_of.ensures.survives.clean, clean)) none in
+    left_after first now last was.0 (c.next_of.ensures.leaves clean)
+
+pub returns-in_err-add-in-Some-clause-leaves : goal.returns-in_err-add-in-Some-clause-leaves
+returns-in_err-add-in-Some-clause-leaves g c clean none =
+    let first = state g.F.Store c.args.rows.now.conn.now in
+    let now = state g.F.Store c.rows.rows.conn.now in
+    let last = state g.F.Store c.next_of.new.rows.conn.now in
+    let was = c.rows.invariant.4 (omega (arith, c.next_of.ensures.survives.clean, clean)) none in
+    left_after first now last was.0 (c.next_of.ensures.leaves clean)
+
+pub returns-clause-leaves : goal.returns-clause-leaves
+returns-clause-leaves g c clean none = left_unchanged (state g.F.Store c.args.rows.now.conn.now) (state g.F.Store c.rows.rows.conn.now) (c.rows.invariant.4 clean none).0
+
+-- and a crash leaves what it could before
+pub returns-in-None-clause-survives : goal.returns-in-None-clause-survives
+returns-in-None-clause-survives g c =
+    survives_both (state g.F.Store c.args.rows.now.conn.now) (state g.F.Store c.rows.rows.conn.now) (state g.F.Store c.next_of.new.rows.conn.now) c.rows.invariant.2 c.next_of.ensures.survives
+
+pub returns-in_err-row-clause-survives : goal.returns-in_err-row-clause-survives
+returns-in_err-row-clause-survives g c =
+    survives_both (state g.F.Store c.args.rows.now.conn.now) (state g.F.Store c.rows.rows.conn.now) (state g.F.Store c.next_of.new.rows.conn.now) c.rows.invariant.2 c.next_of.ensures.survives
+
+pub returns-in_err-add-in-Some-clause-survives : goal.returns-in_err-add-in-Some-clause-survives
+returns-in_err-add-in-Some-clause-survives g c =
+    survives_both (state g.F.Store c.args.rows.now.conn.now) (state g.F.Store c.rows.rows.conn.now) (state g.F.Store c.next_of.new.rows.conn.now) c.rows.invariant.2 c.next_of.ensures.survives

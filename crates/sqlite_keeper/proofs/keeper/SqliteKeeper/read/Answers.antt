@@ -63,3 +63,20 @@ returns-clause-asks g c =
     (asks_rows g.F.Store (record { connection = before; faults = c.self.inside.faults; epoch = c.self.inside.epoch }) (record { connection = after; faults = c.raise.new.self; epoch = c.self.inside.epoch })
     g.F.Telling.tells Failed told
     (record { cause = record { later = c.raise.ensures.later; rose = λ _. omega (arith, c.raise.ensures.value) }; faultless = λ e. absurd (false≢true (sym e)) }) refl)
+
+-- it tells the same
+pub returns-in-Err-OutOfMemory-clause-tells : goal.returns-in-Err-OutOfMemory-clause-tells
+returns-in-Err-OutOfMemory-clause-tells g c =
+    let before = c.self.inside.connection in
+    let after = c.read_all.new.connection in
+    let looks : LooksUpRows g.F.Store before after None =
+    record { gives = λ clean. tt; leaves = c.read_all.ensures.leaves; outside = c.read_all.ensures.outside; survives = c.read_all.ensures.survives } in
+    rw (← c.self.view_is) (rows_told g.F.Store before after None tt looks)
+
+pub returns-clause-tells : goal.returns-clause-tells
+returns-clause-tells g c =
+    let before = c.self.inside.connection in
+    let after = c.read_all.new.connection in
+    let looks : LooksUpRows g.F.Store before after None =
+    record { gives = λ clean. tt; leaves = c.read_all.ensures.leaves; outside = c.read_all.ensures.outside; survives = c.read_all.ensures.survives } in
+    rw (← c.self.view_is) (rows_told g.F.Store before after None tt looks)
