@@ -49,3 +49,10 @@ returns-in-Err-Failed-clause-opens g c =
       cause = search rules;
       paths = refl;
     })
+
+-- the connection goes to the keeper, and comes back where it is refused
+pub returns-in-Err-Failed-clause-hands : goal.returns-in-Err-Failed-clause-hands
+returns-in-Err-Failed-clause-hands g c =
+    let held = c.in-Some.connection in
+    let was : c.self.inside.connection ≡ Some held = search rules in
+    rw (← c.self.view_is, was) c.in-Err-Failed.ensures.err.back

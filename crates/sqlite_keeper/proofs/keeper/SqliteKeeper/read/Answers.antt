@@ -80,3 +80,24 @@ returns-clause-tells g c =
     let looks : LooksUpRows g.F.Store before after None =
     record { gives = λ clean. tt; leaves = c.read_all.ensures.leaves; outside = c.read_all.ensures.outside; survives = c.read_all.ensures.survives } in
     rw (← c.self.view_is) (rows_told g.F.Store before after None tt looks)
+
+-- and the database is told after rows that were given
+pub invariant_of-self : goal.invariant_of-self
+invariant_of-self g c is =
+    let before = c.self.inside.connection in
+    let after = c.read_all.new.connection in
+    let looks : LooksUpRows g.F.Store before after (Some c.read_all.new.kept.items) =
+    record { gives = c.in-Ok.ensures.gives; leaves = c.read_all.ensures.leaves; outside = c.read_all.ensures.outside; survives = c.read_all.ensures.survives } in
+    (by_laws g.F.Store g.F.Telling.tells (record { clean = g.met.F.Telling.clean; opened = g.met.F.Telling.opened; numbered = g.met.F.Telling.numbered }) before after _ c.self.invariant (rows_told g.F.Store before after (Some c.read_all.new.kept.items) c.read_all.ensures.ascends looks) is).stays.told
+
+pub returns-in-Ok-clause-looks : goal.returns-in-Ok-clause-looks
+returns-in-Ok-clause-looks g c =
+    rw (← c.self.view_is) (record { gives = c.in-Ok.ensures.gives; leaves = c.read_all.ensures.leaves; outside = c.read_all.ensures.outside; survives = c.read_all.ensures.survives })
+
+pub returns-in-Err-OutOfMemory-clause-looks : goal.returns-in-Err-OutOfMemory-clause-looks
+returns-in-Err-OutOfMemory-clause-looks g c =
+    rw (← c.self.view_is) (record { gives = λ clean. tt; leaves = c.read_all.ensures.leaves; outside = c.read_all.ensures.outside; survives = c.read_all.ensures.survives })
+
+pub returns-clause-looks : goal.returns-clause-looks
+returns-clause-looks g c =
+    rw (← c.self.view_is) (record { gives = λ clean. tt; leaves = c.read_all.ensures.leaves; outside = c.read_all.ensures.outside; survives = c.read_all.ensures.survives })
