@@ -1,3 +1,4 @@
+pub mod BaseLemmas
 pub mod JudgeLemmas
 pub mod LinkLemmas
 pub mod MemLinkLemmas

@@ -1,3 +1,4 @@
+pub mod Address
 pub mod AskAll
 pub mod Heard
 pub mod HttpLink
@@ -6,3 +7,4 @@ pub mod Link
 pub mod MemLink
 pub mod Replies
 pub mod Rows
+pub mod Server

@@ -1,7 +1,8 @@
 //! Upstream servers: what another server says is certified before it is given. Links that are asked in
-//! order, and the first of their answers that passes. Nothing here looks at the local index.
+//! order, the first of their answers that passes, and their addresses. Nothing here looks at the local index.
 #![tactic(auto)]
 
+mod address;
 mod asking;
 mod http_link;
 mod judging;
@@ -10,6 +11,7 @@ mod link_row;
 mod mem_link;
 mod one_link;
 
+pub use address::{HTTP_PORT, UpstreamAt, read_address};
 pub use asking::{HOP_LIMIT, Upstream, ask_all};
 pub use http_link::HttpLink;
 pub use link::{Link, LinkAnswer};
