@@ -149,24 +149,32 @@ fn one_share<R: Abort + Wait>(rt: &R, alloc: Global) -> (Book, Share)
     (book, share)
 }
 
-/// Keeps passing over a new index with these hands, and says how that ended.
+/// What the passes write to.
+#[derive(Drop)]
+struct Written {
+    /// The standard output.
+    out: MemSink,
+    /// The standard error.
+    err: MemSink,
+}
+
+/// Keeps passing over a new index with a hand, and says how that ended.
 fn pass_on<T: Tree<OpenWorld>, Rt: Abort + Threads + Wait + Sync>(
     rt: &Rt,
     alloc: Global,
-    index: Unspared<OpenWorld>,
-    hands: Vec<T>,
+    start: (Unspared<OpenWorld>, T),
     clock: &mut MemClock,
     book: &Book,
     share: &mut Share,
-    out: &mut MemSink,
-    err: &mut MemSink,
+    written: &mut Written,
 ) -> PassesEnd
     requires book { share.old.book ≡ book.now.id }
     requires row { IsSome share.old.row }
     ensures { (share.new.book ≡ book.now.id) × IsSome share.new.row }
 {
+    let (Unspared { lock, seat }, hand) = start;
+    let hands = one_hand(rt, alloc, hand);
     assert!(rt; !hands.is_empty(), "a hand");
-    let Unspared { lock, seat } = index;
     let roots = paths(alloc, &["/srv"]).expect(rt, "paths");
     let (_, _, end) = keep_passing(
         rt,
@@ -180,8 +188,8 @@ fn pass_on<T: Tree<OpenWorld>, Rt: Abort + Threads + Wait + Sync>(
         300,
         book,
         share,
-        out,
-        err,
+        &mut written.out,
+        &mut written.err,
         &NoGate,
     );
     end
@@ -208,15 +216,14 @@ fn pass_and_compare<T: Tree<OpenWorld>, Rt: Abort + Threads + Wait + Sync>(
     ensures { (share.new.book ≡ book.now.id) × IsSome share.new.row }
 {
     let bad_writes = Vec::from_slice(alloc, case.bad_out).expect(rt, "memory");
-    let mut out = MemSink::new(alloc, bad_writes);
-    let mut err = MemSink::new(alloc, Vec::new(alloc));
+    let mut written = Written {
+        out: MemSink::new(alloc, bad_writes),
+        err: MemSink::new(alloc, Vec::new(alloc)),
+    };
     let index = empty_shared(alloc, case.stop_at).expect(rt, "an index");
-    let hands = one_hand(rt, alloc, hand);
-    let end = pass_on(
-        rt, alloc, index, hands, clock, book, share, &mut out, &mut err,
-    );
-    compare(rt, &out, case.out, case.shows);
-    compare(rt, &err, case.err.as_bytes(), case.shows);
+    let end = pass_on(rt, alloc, (index, hand), clock, book, share, &mut written);
+    compare(rt, &written.out, case.out, case.shows);
+    compare(rt, &written.err, case.err.as_bytes(), case.shows);
     end
 }
 
