@@ -1,0 +1,63 @@
+-- What a server says, and how it ends (this project's rule): its first line, a line for each door that failed, and the
+-- status.
+use Rattle.std.specs.Prelude.{◌≡◌, ℕ, ◌||◌, Bool, true, false, List, [], ◌++◌, codes, decimal, Option, Some}
+use Rattle.std.specs.List.{flat_map, list_any}
+use Rattle.http_wire.specs.Door.{ShownDoor}
+use Rattle.http_wire.specs.declared.door.DoorSaid.{DoorSaid}
+use Rattle.http_wire.specs.declared.door.DoorSaid.TheVariants as said
+use Rattle.dbgd_run.specs.Endings.{Saying, fault_saying, out_saying}
+use Rattle.dbgd_run.specs.RoundSaid.{is_cut, is_unmade}
+use Rattle.dbgd_run.specs.Texts.{fed_line}
+use Rattle.dbgd_run.specs.declared.line_fate.LineFate.{LineFate}
+use Rattle.dbgd_run.specs.declared.passes_end.PassesEnd.{PassesEnd}
+use Rattle.dbgd_run.specs.declared.passes_end.PassesEnd.TheVariants.{OutFailed, OutOfMemory}
+use Rattle.dbgd_run.specs.declared.status.Status.{Status}
+use Rattle.dbgd_run.specs.declared.status.Status.TheVariants as status
+
+-- the first line of a server
+abbrev pub serving_line : ℕ → ℕ → List ℕ
+serving_line port workers =
+    fed_line (codes "serving on " ++ decimal port ++ codes " with " ++ decimal workers ++ codes " workers")
+
+-- what is said with it
+abbrev pub serving_saying : ℕ → ℕ → Saying
+serving_saying port workers = out_saying (serving_line port workers) status.Done
+
+-- whether the door failed at its last answer
+abbrev pub has_failed : Option DoorSaid → Bool
+has_failed (Some said.Failed) = true
+has_failed _ = false
+
+-- what is said of a door, by its last answer
+abbrev pub door_line : Option DoorSaid → List ℕ
+door_line (Some said.Failed) = (fault_saying (codes "door")).err
+door_line _ = []
+
+-- the lines of the doors that failed, in order
+abbrev pub door_lines : List ShownDoor → List ℕ
+door_lines doors = flat_map (λ door. door_line door.last) doors
+
+-- whether some door failed
+abbrev pub is_any_failed : List ShownDoor → Bool
+is_any_failed doors = list_any (λ door. has_failed door.last) doors
+
+-- whether memory was refused for the line of a pass: of the first one, or of one of those behind it, if there were any
+abbrev pub wants_line : LineFate → Option PassesEnd → Bool
+wants_line fate (Some OutOfMemory) = true
+wants_line fate _ = is_unmade fate
+
+-- whether the standard output refused the line of a pass
+abbrev pub has_cut : LineFate → Option PassesEnd → Bool
+has_cut fate (Some OutFailed) = true
+has_cut fate _ = is_cut fate
+
+-- a fault, or none
+abbrev pub fault_or_done : Bool → Status
+fault_or_done true = status.Fault
+fault_or_done false = status.Done
+
+-- the status of a server that served: want of memory for a line, or a fault where the standard output, a door or the store
+-- failed, or none of these
+abbrev pub served_status : Bool → Bool → Status
+served_status true failed = status.OutOfMemory
+served_status false failed = fault_or_done failed
