@@ -32,7 +32,7 @@ use Rattle.dbgd_run.specs.declared.line_fate.LineFate.TheVariants.{Unmade}
 use Rattle.dbgd_run.specs.declared.passes_end.PassesEnd.{PassesEnd}
 use Rattle.dbgd_run.specs.declared.scan_end.ScanEnd.TheVariants.{Refused}
 use Rattle.dbgd_run.specs.declared.status.Status.{Status}
-use Rattle.dbgd_run.specs.declared.status.Status.TheVariants as status
+use Rattle.dbgd_run.specs.declared.status.Status.TheVariants.{Done}
 
 -- what the words of a server ask
 pub record ServeWords : Type 0 where
@@ -68,10 +68,16 @@ pub record StoreServes (path : List ℕ) (broken : Bool) (old new : ShownStore) 
   pub opened : Rose old.epoch new.epoch
   pub opens : new.paths ≡ with_opened_path path old.paths
 
--- before anything was served: memory was refused, or the standard output refused the first line
+-- the first line was said, and then that memory was refused
+pub record SaysUnlocked (words : ServeWords) (old new : Streams) (status : Status) : Type 0 where
+  pub told : Streams
+  pub line : EndsWhole (serving_saying words.port words.workers) old told Done
+  pub wants : SaysMemory told new status
+
+-- before anything was served: the standard output refused the first line, or behind it memory was refused
 abbrev pub SaysUnserved : ServeWords → Streams → Streams → Status → Type 0
 SaysUnserved words old new status =
-    SaysMemory old new status ⊎ EndsCut (serving_saying words.port words.workers) old new status
+    EndsCut (serving_saying words.port words.workers) old new status ⊎ SaysUnlocked words old new status
 
 -- an index was opened on the store, and nothing was served: the store has the rows of the edition that it held, and no hand, no
 -- door and no wait was asked for
@@ -130,7 +136,7 @@ pub record IsServed {T : Type 0} (s : Setting T) (words : ServeWords) (before af
       HasServedLog s.world.true_row s.tells_tables found before.scene.store after.scene.store broken log
   pub store : StoreServes words.path broken before.scene.store after.scene.store
   pub told : Streams
-  pub line : EndsWhole (serving_saying words.port words.workers) before.scene.streams told status.Done
+  pub line : EndsWhole (serving_saying words.port words.workers) before.scene.streams told Done
   pub share : ShareFacts
   pub fresh : HasCountedNothing share
   pub first : Round T

@@ -1,11 +1,13 @@
 -- What a server says, and how it ends (this project's rule): its first line, a line for each door that failed, and the
 -- status.
-use Rattle.std.specs.Prelude.{◌≡◌, ℕ, ◌||◌, Bool, true, false, List, [], ◌++◌, codes, decimal, Option, Some}
+use Rattle.std.specs.Prelude.{ℕ, Bool, true, false, List, [], ◌++◌, codes, decimal, Option, Some}
 use Rattle.std.specs.List.{flat_map, list_any}
 use Rattle.http_wire.specs.Door.{ShownDoor}
 use Rattle.http_wire.specs.declared.door.DoorSaid.{DoorSaid}
 use Rattle.http_wire.specs.declared.door.DoorSaid.TheVariants as said
-use Rattle.dbgd_run.specs.Endings.{Saying, fault_saying, out_saying}
+use Rattle.conn_server.specs.declared.door.DoorEnd.{DoorEnd}
+use Rattle.conn_server.specs.declared.door.DoorEnd.TheVariants as end
+use Rattle.dbgd_run.specs.Endings.{EndsCut, EndsWhole, Saying, Streams, fault_saying, out_saying}
 use Rattle.dbgd_run.specs.RoundSaid.{is_cut, is_unmade}
 use Rattle.dbgd_run.specs.Texts.{fed_line}
 use Rattle.dbgd_run.specs.declared.line_fate.LineFate.{LineFate}
@@ -22,6 +24,21 @@ serving_line port workers =
 -- what is said with it
 abbrev pub serving_saying : ℕ → ℕ → Saying
 serving_saying port workers = out_saying (serving_line port workers) status.Done
+
+-- a line was written on the standard output, or refused
+abbrev pub Announces : List ℕ → Bool → Streams → Streams → Type 0
+Announces line true old new = EndsWhole (out_saying line status.Done) old new status.Done
+Announces line false old new = EndsCut (out_saying line status.Done) old new status.Fault
+
+-- whether the serving of a door ended since the door failed
+abbrev pub ended_badly : Option DoorEnd → Bool
+ended_badly (Some end.Failed) = true
+ended_badly _ = false
+
+-- what is said of the end of a door's serving
+abbrev pub end_line : Option DoorEnd → List ℕ
+end_line (Some end.Failed) = (fault_saying (codes "door")).err
+end_line _ = []
 
 -- whether the door failed at its last answer
 abbrev pub has_failed : Option DoorSaid → Bool

@@ -1,13 +1,13 @@
 -- The workers of a server (this project's rule): each serves one door, with a hand, a share of the counter table and a token
 -- of its own.
-use Rattle.std.specs.Prelude.{◌≡◌, ℕ, ◌≤◌, Bool, true, false, List, All, length, map, Option, Some, IsSome, IsTrue}
+use Rattle.std.specs.Prelude.{◌≡◌, ◌≤◌, Bool, true, false, List, All, length, map, Option, Some, IsSome, IsTrue}
 use mathlib.Core.List.{IsPrefix}
 use Rattle.index_lock.specs.Tokens.{SeatFacts}
 use Rattle.index_rows.specs.declared.change.Change.{Change}
 use Rattle.index_state.specs.State.{Origin}
 use Rattle.http_wire.specs.Door.{ShownDoor}
 use Rattle.dbgd_metrics.specs.Numbers.{zeros}
-use Rattle.dbgd_metrics.specs.Shares.{ShareFacts}
+use Rattle.dbgd_metrics.specs.Shares.{BookFacts, ShareFacts}
 use Rattle.pass_runner.specs.SharedPass.{IsBetween}
 use Rattle.conn_server.specs.Doors.{ServesDoor, all_exchanges}
 use Rattle.conn_server.specs.Exchange.{Exchange}
@@ -33,6 +33,11 @@ pub record HasCountedNothing (share : ShareFacts) : Type 0 where
   pub row : IsSome share.row
   pub nothing : share.numbers ≡ zeros
   pub unmarked : share.marked ≡ false
+
+-- a share of this counter table that has a row and has counted nothing
+pub record IsFreshShare (book : BookFacts) (share : ShareFacts) : Type 0 where
+  pub of_book : share.book ≡ book.id
+  pub fresh : HasCountedNothing share
 
 -- by the reason of a reply, whether the index was asked for it and answered
 abbrev pub rests_on_index : Reason → Bool
@@ -82,3 +87,17 @@ pub record PlaceServed {T D : Type 0} (scene : Scene T) (sees : D → ShownDoor)
     (before after : DoorPlace T D) : Type 0 where
   pub by : ServedBy scene first last (worker_in sees before) (worker_in sees after)
   pub kept : after.end ≡ Some by.ran.end
+
+-- the hands, the doors and the ends of places, in order
+abbrev pub hands_at : {T D : Type 0} → List (DoorPlace T D) → List T
+hands_at places = map (λ place. place.hand) places
+
+abbrev pub doors_at : {T D : Type 0} → List (DoorPlace T D) → List D
+doors_at places = map (λ place. place.door) places
+
+abbrev pub shares_at : {T D : Type 0} → List (DoorPlace T D) → List ShareFacts
+shares_at places = map (λ place. place.share) places
+
+-- the workers of places
+abbrev pub workers_at : {T D : Type 0} → (D → ShownDoor) → List (DoorPlace T D) → List (WorkerFacts T)
+workers_at sees places = map (λ place. worker_in sees place) places
