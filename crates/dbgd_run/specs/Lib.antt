@@ -19,6 +19,7 @@ pub mod Section
 pub mod Serve
 pub mod ServeCauses
 pub mod ServeSaid
+pub mod Serving
 pub mod Sources
 pub mod Stage
 pub mod Statuses

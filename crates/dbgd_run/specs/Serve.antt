@@ -117,9 +117,9 @@ pub record MakesRound {T : Type 0} (s : Setting T) (roots : List (List ℕ)) (be
 
 -- the passes behind the first one: none where no time between them is given, or where the line of the first one could not be
 -- made; else those of the clock
-abbrev pub PassesOn : {T : Type 0} → Setting T → ServeWords → Round T → Option PassesEnd → PassingScene T → Type 0
-PassesOn s words first None after = ((words.secs ≡ 0) ⊎ (first.fate ≡ Unmade)) × (after ≡ first.after)
-PassesOn s words first (Some end) after = (0 < words.secs) × KeepsPassing s words.roots words.secs first.after end after
+abbrev pub PassesOn : {T : Type 0} → Setting T → List (List ℕ) → ℕ → Round T → Option PassesEnd → PassingScene T → Type 0
+PassesOn s roots secs first None after = ((secs ≡ 0) ⊎ (first.fate ≡ Unmade)) × (after ≡ first.after)
+PassesOn s roots secs first (Some end) after = (0 < secs) × KeepsPassing s roots secs first.after end after
 
 -- the doors were served beside the passes. The first line was written whole, a first pass was made with the first hands, two and
 -- one for each worker, and what it was is said of the log of the opening and of the one that its token had seen then. Each door
@@ -154,7 +154,7 @@ pub record IsServed {T : Type 0} (s : Setting T) (words : ServeWords) (before af
   pub doors : AllZip (ServedBy (served_scene s words) first.after.log log) workers left
   pub how : Option PassesEnd
   pub last : PassingScene T
-  pub passes : PassesOn s words first how last
+  pub passes : PassesOn s words.roots words.secs first how last
   pub within : IsPrefix last.log log
   pub hands : take (words.workers + 2) after.scene.hands ≡ last.hands
   pub others : drop (words.workers * 2 + 2) after.scene.hands ≡ drop (words.workers * 2 + 2) before.scene.hands

@@ -23,10 +23,10 @@ SomeDoorRose (before ∷ more) (after ∷ rest) = Rose before.faults after.fault
 SomeDoorRose _ _ = ⊥
 
 -- the lines of the whole passes behind the first one, in order
-abbrev pub lines_behind : {T : Type 0} (s : Setting T) (words : ServeWords) (first : Round T) (how : Option PassesEnd)
-    (last : PassingScene T) → PassesOn s words first how last → List ℕ
-lines_behind s words first None last none = []
-lines_behind s words first (Some end) last kept = out_lines kept.1.rounds
+abbrev pub lines_behind : {T : Type 0} (s : Setting T) (roots : List (List ℕ)) (secs : ℕ) (first : Round T)
+    (how : Option PassesEnd) (last : PassingScene T) → PassesOn s roots secs first how last → List ℕ
+lines_behind s roots secs first None last none = []
+lines_behind s roots secs first (Some end) last kept = out_lines kept.1.rounds
 
 -- the doors were served until each of them closed; the store made each change; and the standard output got exactly the first line
 -- and then the whole line of each whole pass, in order
@@ -37,7 +37,7 @@ pub record IsServedWell {T : Type 0} (s : Setting T) (words : ServeWords) (befor
   pub out :
       GetsAll
       (serving_line words.port words.workers ++ (pass_saying serves.first.end).out
-      ++ lines_behind s words serves.first serves.how serves.last serves.passes)
+      ++ lines_behind s words.roots words.secs serves.first serves.how serves.last serves.passes)
       before.scene.streams.out after.scene.streams.out
 
 -- of a server: no path is missing and no file is altered, and the words were read
