@@ -2,15 +2,12 @@
 
 ghost use Rattle.std.specs.Prelude.{◌≡◌};
 
-use crate::hall::Hall;
 use crate::places::DoorPlace;
 use crate::posts::Posts;
 use crate::serve_end::ServeEnd;
 use dbgd_metrics::{Book, Share};
 use http_wire::Door;
 use index_keeper::Keeper;
-use index_lock::TurnLock;
-use index_state::State;
 use row_types::{CanonPath, Truth};
 use std::alloc::Global;
 use tree_trait::Gate;
@@ -73,28 +70,4 @@ pub(crate) fn unserved<W: Truth, K: Keeper<W>, T: Drop, D: Door>(
         back: _,
     } = posts;
     Back { hands, places, end }
-}
-
-/// The site with the lock of its index.
-pub(crate) fn hall_of<'a, W: Truth, K: Keeper<W>, G: Gate, Rt>(
-    site: &Site<'a, G, Rt>,
-    lock: &'a TurnLock<State<W, K>>,
-) -> Hall<'a, W, K, G, Rt>
-    ensures lock { result.lock.now ≡ lock.now }
-    ensures roots { result.roots.now ≡ site.now.roots.now }
-    ensures folders { result.folders.now ≡ site.now.folders.now }
-    ensures book { result.book.now ≡ site.now.book.now }
-    ensures secs { result.secs ≡ site.now.secs }
-{
-    Hall {
-        rt: site.rt,
-        alloc: site.alloc,
-        lock,
-        roots: site.roots,
-        folders: site.folders,
-        book: site.book,
-        secs: site.secs,
-        doors: site.doors,
-        gate: site.gate,
-    }
 }
