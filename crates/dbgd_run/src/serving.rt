@@ -1,6 +1,6 @@
 //! A server on a store: its index is opened, served and let go, and the store has its keeper back.
 
-ghost use Rattle.std.specs.Prelude.{◌≡◌, ◌<◌, ◌≤◌, [], false, All, None, vec_capacity, vec_len};
+ghost use Rattle.std.specs.Prelude.{◌≡◌, ◌<◌, ◌≤◌, [], All, None, vec_capacity, vec_len};
 ghost use Rattle.row_types.specs.Rules.{rules};
 ghost use Rattle.index_lock.specs.Tokens.{IsLater};
 ghost use Rattle.index_state.specs.Opening.{CanOpen};
@@ -9,8 +9,10 @@ ghost use Rattle.conn_server.specs.Tallied.{HasRowIn};
 ghost use Rattle.dbgd_run.specs.Endings.{streams};
 ghost use Rattle.dbgd_run.specs.Rounds.{passing_scene};
 ghost use Rattle.dbgd_run.specs.Scene.{setting};
-ghost use Rattle.dbgd_run.specs.Serving.{ServesFrom, ServesIndex, ServesKeeper, ServesStore, crew_of, serve_rules};
+ghost use Rattle.dbgd_run.specs.Serving.{ServesFrom, ServesIndex, ServesKeeper};
+ghost use Rattle.dbgd_run.specs.Serving.{ServesStore, crew_of, serve_rules};
 
+use crate::first_pass::serve_from;
 use crate::hall::{Hall, Lead};
 use crate::line_fate::LineFate;
 use crate::passes_end::PassesEnd;
@@ -18,7 +20,6 @@ use crate::places::DoorPlace;
 use crate::posts::Posts;
 use crate::serve_end::ServeEnd;
 use crate::serve_said::announce;
-use crate::server::serve_from;
 use crate::site::{Back, Crew, Site, unserved};
 use elf_reading::ElfTruth;
 use http_wire::{Door, Sink};
