@@ -1,18 +1,22 @@
 -- What a server says, and how it ends (this project's rule): its first line, a line for each door that failed, and the
 -- status.
-use Rattle.std.specs.Prelude.{ℕ, Bool, true, false, List, [], ◌++◌, codes, decimal, Option, Some}
+use Rattle.std.specs.Prelude.{◌≡◌, ℕ, ◌||◌, Bool, true, false, List, [], ◌++◌, codes, decimal, Option, Some}
 use Rattle.std.specs.List.{flat_map, list_any}
 use Rattle.http_wire.specs.Door.{ShownDoor}
 use Rattle.http_wire.specs.declared.door.DoorSaid.{DoorSaid}
 use Rattle.http_wire.specs.declared.door.DoorSaid.TheVariants as said
 use Rattle.conn_server.specs.declared.door.DoorEnd.{DoorEnd}
 use Rattle.conn_server.specs.declared.door.DoorEnd.TheVariants as end
-use Rattle.dbgd_run.specs.Endings.{EndsCut, EndsWhole, Saying, Streams, fault_saying, out_saying}
+use Rattle.dbgd_run.specs.Endings.{EndsCut, EndsWhole, Saying, SaysMemory, Streams, fault_saying, out_saying}
 use Rattle.dbgd_run.specs.RoundSaid.{is_cut, is_unmade}
+use Rattle.dbgd_run.specs.Rounds.{GetsLines}
+use Rattle.dbgd_run.specs.ScanSaid.{refusal_saying}
 use Rattle.dbgd_run.specs.Texts.{fed_line}
 use Rattle.dbgd_run.specs.declared.line_fate.LineFate.{LineFate}
 use Rattle.dbgd_run.specs.declared.passes_end.PassesEnd.{PassesEnd}
 use Rattle.dbgd_run.specs.declared.passes_end.PassesEnd.TheVariants.{OutFailed, OutOfMemory}
+use Rattle.dbgd_run.specs.declared.serve_end.ServeEnd.{ServeEnd}
+use Rattle.dbgd_run.specs.declared.serve_end.ServeEnd.TheVariants.{Refused, Unannounced, Unlocked, Served}
 use Rattle.dbgd_run.specs.declared.status.Status.{Status}
 use Rattle.dbgd_run.specs.declared.status.Status.TheVariants as status
 
@@ -78,3 +82,17 @@ fault_or_done false = status.Done
 abbrev pub served_status : Bool → Bool → Status
 served_status true failed = status.OutOfMemory
 served_status false failed = fault_or_done failed
+
+-- what is said behind a serving, by the ends of the doors in order: a line for each that failed, and the status
+pub record SaysServed (fate : LineFate) (how : Option PassesEnd) (broken : Bool) (ends : List (Option DoorEnd))
+    (old new : Streams) (code : Status) : Type 0 where
+  pub out : new.out ≡ old.out
+  pub err : GetsLines (flat_map end_line ends) old.err new.err
+  pub status_is : code ≡ served_status (wants_line fate how) (has_cut fate how || (list_any ended_badly ends || broken))
+
+-- what is said of the end of a server, and its status
+abbrev pub SaysServeEnd : ServeEnd → List (Option DoorEnd) → Streams → Streams → Status → Type 0
+SaysServeEnd (Refused fault) ends old new code = EndsWhole (refusal_saying fault) old new code
+SaysServeEnd Unannounced ends old new code = (new ≡ old) × (code ≡ status.Fault)
+SaysServeEnd Unlocked ends old new code = SaysMemory old new code
+SaysServeEnd (Served fate how broken) ends old new code = SaysServed fate how broken ends old new code

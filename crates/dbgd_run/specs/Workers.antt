@@ -88,7 +88,7 @@ pub record PlaceServed {T D : Type 0} (scene : Scene T) (sees : D → ShownDoor)
   pub by : ServedBy scene first last (worker_in sees before) (worker_in sees after)
   pub kept : after.end ≡ Some by.ran.end
 
--- the hands, the doors and the ends of places, in order
+-- the hands, the doors, the shares and the ends of places, in order
 abbrev pub hands_at : {T D : Type 0} → List (DoorPlace T D) → List T
 hands_at places = map (λ place. place.hand) places
 
@@ -97,6 +97,9 @@ doors_at places = map (λ place. place.door) places
 
 abbrev pub shares_at : {T D : Type 0} → List (DoorPlace T D) → List ShareFacts
 shares_at places = map (λ place. place.share) places
+
+abbrev pub ends_at : {T D : Type 0} → List (DoorPlace T D) → List (Option DoorEnd)
+ends_at places = map (λ place. place.end) places
 
 -- the workers of places
 abbrev pub workers_at : {T D : Type 0} → (D → ShownDoor) → List (DoorPlace T D) → List (WorkerFacts T)

@@ -6,13 +6,16 @@ ghost use Rattle.std.specs.String.{string_bytes};
 ghost use Rattle.dbgd_run.specs.Endings.{streams};
 ghost use Rattle.dbgd_run.specs.Rounds.{GetsLines};
 ghost use Rattle.dbgd_run.specs.ServeSaid.{Announces, end_line, ended_badly, has_cut, served_status};
-ghost use Rattle.dbgd_run.specs.ServeSaid.{serving_line, wants_line};
+ghost use Rattle.dbgd_run.specs.ServeSaid.{SaysServeEnd, serving_line, wants_line};
+ghost use Rattle.dbgd_run.specs.Workers.{ends_at};
 
 use crate::line_fate::LineFate;
 use crate::passes_end::PassesEnd;
 use crate::places::DoorPlace;
+use crate::scan_sayings::say_refusal;
 use crate::scan_texts::push_count;
-use crate::speech::{say, tell};
+use crate::serve_end::ServeEnd;
+use crate::speech::{say, say_no_memory, tell};
 use crate::status::Status;
 use conn_server::DoorEnd;
 use http_wire::Sink;
@@ -69,12 +72,12 @@ fn either(one: bool, other: bool) -> bool
 }
 
 /// Says of each door that failed, in order, and tells whether one did.
-pub(crate) fn say_doors<T: Drop, D: Drop, O: Sink>(
+fn say_doors<T: Drop, D: Drop, O: Sink>(
     places: &[DoorPlace<T, D>],
     err: &mut O,
 ) -> bool
-    ensures failed { result ≡ list_any (λ place. ended_badly place.end) places.now }
-    ensures err { GetsLines (flat_map (λ place. end_line place.end) places.now)
+    ensures failed { result ≡ list_any ended_badly (ends_at places.now) }
+    ensures err { GetsLines (flat_map end_line (ends_at places.now))
         (O.shows err.old) (O.shows err.new) }
 {
     let mut failed = false;
@@ -85,7 +88,7 @@ pub(crate) fn say_doors<T: Drop, D: Drop, O: Sink>(
 }
 
 /// Whether memory was refused for the line of a pass.
-pub(crate) fn wants_line(fate: LineFate, how: Option<PassesEnd>) -> bool
+fn wants_line(fate: LineFate, how: Option<PassesEnd>) -> bool
     ensures { result ≡ wants_line fate how }
 {
     match (how, fate) {
@@ -96,7 +99,7 @@ pub(crate) fn wants_line(fate: LineFate, how: Option<PassesEnd>) -> bool
 }
 
 /// Whether the standard output refused the line of a pass.
-pub(crate) fn has_cut(fate: LineFate, how: Option<PassesEnd>) -> bool
+fn has_cut(fate: LineFate, how: Option<PassesEnd>) -> bool
     ensures { result ≡ has_cut fate how }
 {
     match (how, fate) {
@@ -107,7 +110,7 @@ pub(crate) fn has_cut(fate: LineFate, how: Option<PassesEnd>) -> bool
 }
 
 /// The status of a server that served.
-pub(crate) fn served_status(wants: bool, failed: bool) -> Status
+fn served_status(wants: bool, failed: bool) -> Status
     ensures { result ≡ served_status wants failed }
 {
     if wants {
@@ -116,5 +119,29 @@ pub(crate) fn served_status(wants: bool, failed: bool) -> Status
         Status::Fault
     } else {
         Status::Done
+    }
+}
+
+/// Says how a server ended: of each door that failed a line, in order, and the status.
+pub(crate) fn say_serve_end<T: Drop, D: Drop, O: Sink>(
+    end: &ServeEnd,
+    places: &[DoorPlace<T, D>],
+    out: &mut O,
+    err: &mut O,
+) -> Status
+    ensures { SaysServeEnd end.now (ends_at places.now)
+        (streams O.shows out.old err.old) (streams O.shows out.new err.new) result }
+{
+    match end {
+        ServeEnd::Refused(fault) => say_refusal(fault, out, err),
+        ServeEnd::Unannounced => Status::Fault,
+        ServeEnd::Unlocked => say_no_memory(out, err),
+        ServeEnd::Served { fate, how, broken } => {
+            let failed = either(say_doors(places, err), *broken);
+            served_status(
+                wants_line(*fate, *how),
+                either(has_cut(*fate, *how), failed),
+            )
+        }
     }
 }
