@@ -2,6 +2,7 @@
 
 ghost use Rattle.std.specs.Prelude.{◌≡◌, map, IfOk};
 ghost use Rattle.std.specs.String.{string_bytes};
+ghost use Rattle.dbgd_words.specs.Limits.{FitsLimits};
 ghost use Rattle.dbgd_words.specs.Lines.{asked_by};
 ghost use Rattle.dbgd_words.specs.Words.{line_of};
 ghost use Rattle.dbgd_run.specs.Needs.{doors_of, hands_of, port_of};
@@ -44,12 +45,13 @@ fn hands_for(line: &Line<'_>) -> u64
 }
 
 /// How many doors a line needs, and their port: one for each worker of a server.
-fn doors_for(line: &Line<'_>) -> (u64, u64)
+fn doors_for(line: &Line<'_>) -> (u64, u16)
+    requires { FitsLimits (asked_by line.now) }
     ensures doors { result.0 ≡ doors_of (asked_by line.now) }
     ensures port { result.1 ≡ port_of (asked_by line.now) }
 {
     match line {
-        Line::Serve { workers, port, .. } => (*workers, *port),
+        Line::Serve { workers, port, .. } => (*workers, *port as u16),
         Line::Ident { .. }
         | Line::Sources { .. }
         | Line::Section { .. }

@@ -117,6 +117,7 @@ fn run_line<
         (streams O.shows outside.new.out outside.new.err))
         (map D.shows outside.new.doors.items) (C.woke outside.new.clock)) result }
     ensures hands { vec_len outside.new.hands ≡ vec_len outside.old.hands }
+    ensures doors { vec_len outside.new.doors ≡ vec_len outside.old.doors }
 {
     match line {
         Line::Scan {
@@ -175,6 +176,7 @@ fn run_words<
         (streams O.shows outside.new.out outside.new.err))
         (map D.shows outside.new.doors.items) (C.woke outside.new.clock)) result }
     ensures hands { vec_len outside.new.hands ≡ vec_len outside.old.hands }
+    ensures doors { vec_len outside.new.doors ≡ vec_len outside.old.doors }
 {
     match read_line(alloc, words) {
         Ok(line) => run_line(rt, alloc, line, outside),
@@ -245,6 +247,7 @@ pub fn run<
         (streams O.shows outside.new.out outside.new.err))
         (map D.shows outside.new.doors.items) (C.woke outside.new.clock)) result }
     ensures hands { vec_len outside.new.hands ≡ vec_len outside.old.hands }
+    ensures doors { vec_len outside.new.doors ≡ vec_len outside.old.doors }
 {
     run_words(rt, alloc, words, outside).code()
 }

@@ -9,5 +9,5 @@ pub struct Needs {
     /// The doors of a server, one for each worker.
     pub doors: u64,
     /// Their port; 0 without doors.
-    pub port: u64,
+    pub port: u16,
 }
