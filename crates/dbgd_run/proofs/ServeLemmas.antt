@@ -1,24 +1,18 @@
 -- What the status of a server says, by what it did.
 use Rattle.std.proofs.Common.{◌≡◌, inl, inr, ℕ, ◌≤◌, Bool, true, false, ◌||◌, List, [], ◌∷◌, ◌++◌, All, map, Option, Some, None, refl, sym, ap, subst, arith, IsTrue}
-use Rattle.std.specs.List.{AllZip}
-use Rattle.std.proofs.lemmas.Bool.{false≢true, true≢false}
-use Rattle.std.proofs.lemmas.List.Elements.{All-nil, All-cons}
+use Rattle.std.proofs.lemmas.Bool.{true≢false}
 use Rattle.row_types.specs.Faults.{Rose}
 use Rattle.row_types.specs.Row.{RowFacts}
 use Rattle.http_wire.specs.Door.{ShownDoor}
 use Rattle.http_wire.specs.Sink.{GetsAll}
-use Rattle.http_wire.specs.declared.door.DoorSaid.{DoorSaid}
 use Rattle.http_wire.specs.declared.door.DoorSaid.TheVariants as said
 use Rattle.http_wire.proofs.Pieces.{gets_both, gets_none}
-use Rattle.index_rows.specs.declared.change.Change.{Change}
 use Rattle.index_state.specs.Changes.{EndsVoid, VoidWhere}
 use Rattle.index_state.specs.Opening.{AreRows}
+use Rattle.index_rows.specs.declared.change.Change.{Change}
+use Rattle.index_state.proofs.VoidEnds.{never_both}
 use Rattle.index_state.specs.declared.open_fault.OpenFault.{OpenFault}
 use Rattle.index_state.specs.declared.open_fault.OpenFault.TheVariants as refusal
-use Rattle.conn_server.specs.Doors.{said_at}
-use Rattle.conn_server.specs.Scene.{Scene}
-use Rattle.conn_server.specs.declared.door.DoorEnd.{DoorEnd}
-use Rattle.conn_server.specs.declared.door.DoorEnd.TheVariants as end
 use Rattle.dbgd_run.specs.Kept.{StoreHoldsRows}
 use Rattle.dbgd_run.specs.Opened.{EndsOnlyWith}
 use Rattle.dbgd_run.specs.RoundSaid.{is_cut, is_unmade}
@@ -27,67 +21,19 @@ use Rattle.dbgd_run.specs.ScanSaid.{pass_saying}
 use Rattle.dbgd_run.specs.Scene.{Setting}
 use Rattle.dbgd_run.specs.Serve.{IsServed, IsUnopened, PassesOn, RunsServe, SaysUnserved, ServeWords, served, served_scene, unopened, unserved}
 use Rattle.dbgd_run.specs.ServeCauses.{IsServedWell, ServeEnds, ServeStatus, SomeDoorRose, lines_behind}
-use Rattle.dbgd_run.specs.ServeSaid.{has_cut, has_failed, is_any_failed, served_status, serving_line, wants_line}
+use Rattle.dbgd_run.specs.ServeSaid.{has_cut, is_any_failed, served_status, serving_line, wants_line}
 use Rattle.dbgd_run.specs.Stage.{ProgramStage}
-use Rattle.dbgd_run.specs.Workers.{ServedBy, WorkerFacts}
 use Rattle.dbgd_run.specs.declared.line_fate.LineFate.{LineFate}
 use Rattle.dbgd_run.specs.declared.passes_end.PassesEnd.{PassesEnd}
 use Rattle.dbgd_run.specs.declared.passes_end.PassesEnd.TheVariants.{Stopped, OutFailed, OutOfMemory}
 use Rattle.dbgd_run.specs.declared.scan_end.ScanEnd.TheVariants as scanned
 use Rattle.dbgd_run.specs.declared.status.Status.{Status}
 use Rattle.dbgd_run.specs.declared.status.Status.TheVariants as status
-use Rattle.dbgd_run.proofs.RoundLemmas.{later_out, neither}
+use Rattle.dbgd_run.proofs.FailedDoors.{all_closed, some_rose}
+use Rattle.dbgd_run.proofs.RoundLemmas.{later_out}
 use Rattle.dbgd_run.proofs.RowLemmas.{none_bad, none_overfull}
 use Rattle.dbgd_run.proofs.ScanLemmas.{bad_end, full_end}
 use Rattle.dbgd_run.proofs.TellLemmas.{out_later, out_rose, out_whole}
-
--- Doors
-
--- a door that was served failed or closed, as it said last; it failed only where its count rose
-module _ {T : Type 0} (scene : Scene T) (first last : List Change) where
-  rose_if : (before after : WorkerFacts T) → ServedBy scene first last before after → has_failed after.door.last ≡ true
-      → Rose before.door.faults after.door.faults
-  rose_if before after by failed = by_end by.ran.end by.ran.serves.ends.last by.ran.serves.ends.cause.rose
-    where
-      by_end : (why : DoorEnd) → after.door.last ≡ Some (said_at why) → (why ≡ end.Failed → Rose before.door.faults after.door.faults)
-          → Rose before.door.faults after.door.faults
-      by_end end.Failed is rose = rose refl
-      by_end end.Closed is rose = absurd (false≢true (subst (λ (o : Option DoorSaid). has_failed o ≡ true) is failed))
-
-  closed_if : (before after : WorkerFacts T) → ServedBy scene first last before after → has_failed after.door.last ≡ false
-      → after.door.last ≡ Some said.Closed
-  closed_if before after by failed = by_end by.ran.end by.ran.serves.ends.last
-    where
-      by_end : (why : DoorEnd) → after.door.last ≡ Some (said_at why) → after.door.last ≡ Some said.Closed
-      by_end end.Failed is = absurd (true≢false (subst (λ (o : Option DoorSaid). has_failed o ≡ false) is failed))
-      by_end end.Closed is = is
-
-  some_rose : (workers left : List (WorkerFacts T)) → AllZip (ServedBy scene first last) workers left
-      → is_any_failed (map (λ worker. worker.door) left) ≡ true
-      → SomeDoorRose (map (λ worker. worker.door) workers) (map (λ worker. worker.door) left)
-  some_rose [] [] all failed = absurd (false≢true failed)
-  some_rose [] (after ∷ left) all failed = absurd all
-  some_rose (before ∷ workers) [] all failed = absurd all
-  some_rose (before ∷ workers) (after ∷ left) all failed = which (has_failed after.door.last) refl failed
-    where
-      which : (b : Bool) → has_failed after.door.last ≡ b
-          → (has_failed after.door.last || is_any_failed (map (λ worker. worker.door) left)) ≡ true
-          → SomeDoorRose (map (λ worker. worker.door) (before ∷ workers)) (map (λ worker. worker.door) (after ∷ left))
-      which true is some = inl (rose_if before after all.0 is)
-      which false is some =
-          inr (some_rose workers left all.1
-          (subst (λ (b : Bool). (b || is_any_failed (map (λ worker. worker.door) left)) ≡ true) is some))
-
-  all_closed : (workers left : List (WorkerFacts T)) → AllZip (ServedBy scene first last) workers left
-      → is_any_failed (map (λ worker. worker.door) left) ≡ false
-      → All (λ (door : ShownDoor). door.last ≡ Some said.Closed) (map (λ worker. worker.door) left)
-  all_closed [] [] all none = All-nil (λ (door : ShownDoor). door.last ≡ Some said.Closed)
-  all_closed [] (after ∷ left) all none = absurd all
-  all_closed (before ∷ workers) [] all none = absurd all
-  all_closed (before ∷ workers) (after ∷ left) all none =
-      let both = neither (has_failed after.door.last) (is_any_failed (map (λ worker. worker.door) left)) none in
-      All-cons (λ (door : ShownDoor). door.last ≡ Some said.Closed) after.door (map (λ worker. worker.door) left)
-      (closed_if before after all.0 both.0) (all_closed workers left all.1 both.1)
 
 -- The standard output
 
@@ -167,7 +113,7 @@ module _ {T : Type 0} (s : Setting T) (roots : List (List ℕ)) (secs : ℕ) whe
 -- a log whose changes all change something doesn't end in a void one
 not_void : (broken : Bool) (log : List Change) → VoidWhere broken log → broken ≡ false → ¬ EndsVoid log
 not_void true log void is = absurd (true≢false is)
-not_void false log void is = λ ends. apart_void log void ends
+not_void false log void is = λ ends. never_both void ends
 
 module _ {T : Type 0} (s : Setting T) (words : ServeWords) (before after : ProgramStage T) where
   module _ (code : Status) (run : IsServed s words before after code) where
