@@ -1,5 +1,5 @@
 -- What serving makes of an index, of hands and of places (this crate's bookkeeping, which no public clause cites).
-use Rattle.std.specs.Prelude.{◌≡◌, ℕ, nat_lt, Bool, true, false, List, Option, Some, None}
+use Rattle.std.specs.Prelude.{◌≡◌, ℕ, ◌<◌, nat_lt, Bool, true, false, List, Option, Some, None}
 use Rattle.std.specs.List.{AllZip}
 use mathlib.Core.List.{IsPrefix}
 use Rattle.http_wire.specs.Door.{ShownDoor}
@@ -8,9 +8,10 @@ use Rattle.index_keeper.specs.Keeper.{ShownKeeper}
 use Rattle.index_keeper.specs.Store.{ShownStore}
 use Rattle.index_rows.specs.declared.change.Change.{Change}
 use Rattle.index_state.specs.Invariant.{IndexInvariant}
-use Rattle.index_state.specs.Opening.{Opens, RefusesOpening, current, made_swept, puts_of}
+use Rattle.index_state.specs.Opening.{LeavesRows, Opens, RefusesOpening, current, made_swept, puts_of}
 use Rattle.index_state.specs.State.{StateFacts}
 use Rattle.index_state.specs.declared.open_fault.OpenFault.{OpenFault}
+use Rattle.index_state.specs.declared.open_fault.OpenFault.TheVariants as refusal
 use Rattle.conn_server.specs.Scene.{Scene}
 use Rattle.tree_trait.specs.declared.clock.Waited.{Waited}
 use Rattle.dbgd_run.specs.Endings.{Streams}
@@ -104,11 +105,17 @@ pub record ServesLog {K T D : Type 0} (r : ServeRules T D) (shows : K → ShownK
   pub begins : IsPrefix old.log new.log
   pub serves : ServesFrom r before places fate how new.log after
 
+-- memory for the lock of the index was refused, and nothing was done
+pub record StopsUnlocked {K T D : Type 0} (r : ServeRules T D) (shows : K → ShownKeeper) (old : StateFacts K)
+    (before : PassingScene T) (places : List (DoorPlace T D)) (keeper : K) (after : CrewFacts T D) : Type 0 where
+  pub value : keeper ≡ old.keeper
+  pub holds : IndexInvariant r.setting.world.true_row r.setting.tells_tables shows old
+  pub same : after ≡ crew_of before.hands before.woke before.streams places
+
 -- what came of an index that was opened, by how the server ended
 abbrev pub ServesIndex : {K T D : Type 0} → ServeRules T D → (K → ShownKeeper) → StateFacts K → PassingScene T
     → List (DoorPlace T D) → ServeEnd → K → CrewFacts T D → Type 0
-ServesIndex r shows old before places Unlocked keeper after =
-    (keeper ≡ old.keeper) × (after ≡ crew_of before.hands before.woke before.streams places)
+ServesIndex r shows old before places Unlocked keeper after = StopsUnlocked r shows old before places keeper after
 ServesIndex r shows old before places (Served fate how broken) keeper after =
     ServesLog r shows old before places fate how broken keeper after
 ServesIndex r shows old before places _ keeper after = ⊥
@@ -134,12 +141,19 @@ pub record StopsUnannounced {K T D : Type 0} (r : ServeRules T D) (shows : K →
   pub says : Announces line false before.streams after.streams
   pub same : after ≡ record (crew_of before.hands before.woke before.streams places) { streams = after.streams }
 
+-- no index was opened on the keeper: why, what a crash may leave of what it had, and that a fault was counted where it failed
+pub record RefusesKeeper {K T D : Type 0} (r : ServeRules T D) (shows : K → ShownKeeper) (opened : K) (before : PassingScene T)
+    (places : List (DoorPlace T D)) (fault : OpenFault) (keeper : K) (after : CrewFacts T D) : Type 0 where
+  pub refuses : RefusesOpening r.setting.tells_tables shows opened fault keeper
+  pub left : LeavesRows r.setting.tells_tables (shows opened) (shows keeper)
+  pub counted : fault ≡ refusal.KeeperFault → 0 < (shows keeper).faults
+  pub same : after ≡ crew_of before.hands before.woke before.streams places
+
 -- what came of a keeper, by how the server ended
 abbrev pub ServesKeeper : {K T D : Type 0} → ServeRules T D → (K → ShownKeeper) → List ℕ → K → PassingScene T
     → List (DoorPlace T D) → ServeEnd → K → CrewFacts T D → Type 0
 ServesKeeper r shows line opened before places (Refused fault) keeper after =
-    RefusesOpening r.setting.tells_tables shows opened fault keeper
-    × (after ≡ crew_of before.hands before.woke before.streams places)
+    RefusesKeeper r shows opened before places fault keeper after
 ServesKeeper r shows line opened before places Unannounced keeper after =
     StopsUnannounced r shows line opened before places keeper after
 ServesKeeper r shows line opened before places end keeper after =
