@@ -2,9 +2,12 @@ pub mod CauseLemmas
 pub mod ChangedLemmas
 pub mod Codes
 pub mod CountLemmas
+pub mod FailedDoors
 pub mod ForgedLemmas
 pub mod GainLemmas
+pub mod GenerationLemmas
 pub mod HandLemmas
+pub mod JoinedLemmas
 pub mod LimitInstances
 pub mod OtherHands
 pub mod PassLemmas
@@ -13,8 +16,13 @@ pub mod RoundLemmas
 pub mod RowLemmas
 pub mod RunLemmas
 pub mod ScanLemmas
+pub mod ServeLemmas
+pub mod ServeRuns
+pub mod ServeSteps
 pub mod ShareLemmas
 pub mod StoreLemmas
+pub mod StoreServed
 pub mod TellLemmas
 pub mod TrialEnds
 pub mod TrialLemmas
+pub mod WorkerLemmas

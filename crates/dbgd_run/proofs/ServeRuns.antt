@@ -1,35 +1,49 @@
 -- A server on all that it is handed: the hands of its passes stand first, those of its workers behind them, and the others last.
-use Rattle.std.proofs.Common.{◌≡◌, inl, inr, ℕ, ◌+◌, ◌*◌, ◌<◌, Bool, true, false, ◌||◌, List, [], ◌∷◌, ◌++◌, All, map, drop, take, length, length-append, Some, refl, sym, ◌∙◌, ap, subst, arith}
+use Rattle.std.proofs.Common.{◌≡◌, inl, inr, ℕ, ◌+◌, ◌*◌, ◌<◌, Bool, ◌||◌, List, [], ◌∷◌, ◌++◌, All, map, drop, take, length, length-append, append_assoc, Option, Some, refl, sym, ◌∙◌, ap, subst, arith}
 use Rattle.std.specs.List.{AllZip, flat_map, list_any}
-use Rattle.std.proofs.lemmas.List.{map-map, take-append-all, drop-append-all}
+use Rattle.std.proofs.lemmas.List.{length-map}
 use Rattle.std.proofs.lemmas.List.Elements.{All-nil, All-cons, All-head, All-tail}
 use Rattle.http_wire.specs.Door.{ShownDoor}
-use Rattle.http_wire.specs.declared.door.DoorSaid.TheVariants as said
 use Rattle.index_keeper.specs.Store.{ShownStore}
 use Rattle.index_rows.specs.declared.change.Change.{Change}
 use Rattle.index_state.specs.declared.open_fault.OpenFault.{OpenFault}
 use Rattle.dbgd_metrics.specs.Shares.{BookFacts, ShareFacts}
-use Rattle.lock_crew.proofs.Zips.{zip_weaker}
+use Rattle.lock_crew.proofs.Zips.{front_all}
 use Rattle.conn_server.specs.Doors.{said_at}
 use Rattle.conn_server.specs.Scene.{Scene}
 use Rattle.conn_server.specs.declared.door.DoorEnd.{DoorEnd}
 use Rattle.conn_server.specs.declared.door.DoorEnd.TheVariants as end
 use Rattle.tree_trait.specs.declared.clock.Waited.{Waited}
-use Rattle.dbgd_run.specs.Endings.{Streams}
+use Rattle.dbgd_run.specs.Endings.{EndsCut, EndsWhole, Streams}
 use Rattle.dbgd_run.specs.Rounds.{GetsLines, passing_scene}
 use Rattle.dbgd_run.specs.Scan.{Scans}
+use Rattle.dbgd_run.specs.ScanSaid.{refusal_saying}
 use Rattle.dbgd_run.specs.Scene.{Setting, scene}
-use Rattle.dbgd_run.specs.Serve.{RunsServe, ServeWords, served, served_scene, unopened, unserved}
-use Rattle.dbgd_run.specs.ServeSaid.{SaysServeEnd, door_line, door_lines, end_line, ended_badly, has_failed, is_any_failed, serving_line}
-use Rattle.dbgd_run.specs.Serving.{CrewFacts, ServesStore, serve_rules}
-use Rattle.dbgd_run.specs.Stage.{LeavesRest, stage}
+use Rattle.dbgd_run.specs.Serve.{IsUnopened, MakesRound, RunsServe, ServeWords, served, served_scene, unopened, unserved}
+use Rattle.dbgd_run.specs.ServeSaid.{SaysServeEnd, door_line, door_lines, end_line, ended_badly, has_cut, has_failed, is_any_failed, served_status, serving_line, wants_line}
+use Rattle.dbgd_run.specs.Serving.{CrewFacts, RefusesStore, ServesStore, serve_rules}
+use Rattle.dbgd_run.specs.Stage.{stage}
 use Rattle.dbgd_run.specs.Workers.{AreWorkers, HasCountedNothing, IsFreshShare, PlaceServed, ServedBy, WorkerFacts, doors_at, ends_at, hands_at, shares_at, worker_in, workers_at}
 use Rattle.dbgd_run.specs.declared.places.DoorPlace.{DoorPlace}
 use Rattle.dbgd_run.specs.declared.scan_end.ScanEnd.TheVariants as scanned
 use Rattle.dbgd_run.specs.declared.serve_end.ServeEnd.{ServeEnd}
 use Rattle.dbgd_run.specs.declared.serve_end.ServeEnd.TheVariants.{Refused, Unannounced, Unlocked, Served}
 use Rattle.dbgd_run.specs.declared.status.Status.{Status}
+use Rattle.dbgd_run.specs.declared.status.Status.TheVariants as status
 use Rattle.dbgd_run.proofs.HandLemmas.{hands_stay}
+
+-- lists
+
+map_twice : {A B C : Type 0} (f : B → C) (g : A → B) (xs : List A) → map f (map g xs) ≡ map (λ x. f (g x)) xs
+map_twice f g [] = refl
+map_twice f g (x ∷ xs) = ap (λ ys. f (g x) ∷ ys) (map_twice f g xs)
+
+front_all_of : {A : Type 0} (xs ys : List A) → take (length xs) (xs ++ ys) ≡ xs
+front_all_of xs ys = front_all (length xs) xs ys refl
+
+behind_front : {A : Type 0} (xs ys : List A) → drop (length xs) (xs ++ ys) ≡ ys
+behind_front [] ys = refl
+behind_front (x ∷ xs) ys = behind_front xs ys
 
 -- the line of a door and whether it failed are those of the end of its serving
 line_at : (why : DoorEnd) → end_line (Some why) ≡ door_line (Some (said_at why))
@@ -74,10 +88,10 @@ module _ {T D : Type 0} (sees : D → ShownDoor) where
   pub are_workers : (hands : List T) (doors : List D) (places : List (DoorPlace T D)) → hands_at places ≡ hands → doors_at places ≡ doors
       → AreWorkers hands (map sees doors) (workers_at sees places)
   are_workers hands doors places h d = record {
-    hands = map-map (λ worker. worker.hand) (worker_in sees) places ∙ h;
+    hands = map_twice (λ worker. worker.hand) (worker_in sees) places ∙ h;
     doors =
-        map-map (λ worker. worker.door) (worker_in sees) places
-        ∙ (sym (map-map sees (λ place. place.door) places) ∙ ap (map sees) d);
+        map_twice (λ worker. worker.door) (worker_in sees) places
+        ∙ (sym (map_twice sees (λ place. place.door) places) ∙ ap (map sees) d);
   }
 
   fresh_workers : (book : BookFacts) (places : List (DoorPlace T D)) → All (IsFreshShare book) (shares_at places)
@@ -91,23 +105,29 @@ module _ {T D : Type 0} (sees : D → ShownDoor) where
 -- the hands at a place of the whole list
 module _ {T : Type 0} (n : ℕ) (front mid rest : List T) (long : length front ≡ n + 2) (many : length mid ≡ n) where
   first_hands : take (n + 2) (front ++ (mid ++ rest)) ≡ front
-  first_hands = ap (λ k. take k (front ++ (mid ++ rest))) (sym long) ∙ take-append-all front (mid ++ rest)
+  first_hands = ap (λ k. take k (front ++ (mid ++ rest))) (sym long) ∙ front_all_of front (mid ++ rest)
 
   behind_first : drop (n + 2) (front ++ (mid ++ rest)) ≡ mid ++ rest
-  behind_first = ap (λ k. drop k (front ++ (mid ++ rest))) (sym long) ∙ drop-append-all front (mid ++ rest)
+  behind_first = ap (λ k. drop k (front ++ (mid ++ rest))) (sym long) ∙ behind_front front (mid ++ rest)
 
   worker_hands : take n (drop (n + 2) (front ++ (mid ++ rest))) ≡ mid
   worker_hands =
-      ap (take n) behind_first ∙ (ap (λ k. take k (mid ++ rest)) (sym many) ∙ take-append-all mid rest)
+      ap (take n) behind_first ∙ (ap (λ k. take k (mid ++ rest)) (sym many) ∙ front_all_of mid rest)
 
-  -- OPEN: drop (n * 2 + 2) of the whole is rest: by (n * 2 + 2 ≡ length (front ++ mid)) and append_assoc
   other_hands : drop (n * 2 + 2) (front ++ (mid ++ rest)) ≡ rest
   other_hands =
       let sum = length-append front mid in
       ap (λ k. drop k (front ++ (mid ++ rest))) (omega (arith, sum, long, many))
-      ∙ (ap (drop (length (front ++ mid))) (sym (append_assoc front mid rest)) ∙ drop-append-all (front ++ mid) rest)
+      ∙ (ap (drop (length (front ++ mid))) (sym (append_assoc front mid rest)) ∙ behind_front (front ++ mid) rest)
 
-module _ {T D : Type 0} (s : Setting T) (words : ServeWords) (sees : D → ShownDoor) (front mid rest : List T) (doors : List D) (old new : ShownStore) (woke : _) (before after_streams : Streams) (share : ShareFacts) (book : BookFacts) (places : List (DoorPlace T D)) (after : CrewFacts T D) (code : Status) where
+module _ {T D : Type 0} (s : Setting T) (words : ServeWords) (sees : D → ShownDoor) (front mid rest : List T) (doors : List D) (old new : ShownStore) (woke : Option (List Waited)) (before after_streams : Streams) (share : ShareFacts) (book : BookFacts) (places : List (DoorPlace T D)) (after : CrewFacts T D) (code : Status) where
+  -- hands that came back as they were
+  hands_back : hands_at places ≡ mid → after.hands ≡ front → after.places ≡ places
+      → after.hands ++ (hands_at after.places ++ rest) ≡ front ++ (mid ++ rest)
+  hands_back h first same =
+      ap (λ (hands : List T). hands ++ (hands_at after.places ++ rest)) first
+      ∙ ap (λ (hands : List T). front ++ (hands ++ rest)) (ap hands_at same ∙ h)
+
   pub runs_serve : (how : ServeEnd) → length front ≡ words.workers + 2 → length mid ≡ words.workers
       → length after.hands ≡ words.workers + 2 → length after.places ≡ words.workers
       → hands_at places ≡ mid → doors_at places ≡ doors → All (IsFreshShare book) (shares_at places) → IsFreshShare book share
@@ -119,15 +139,41 @@ module _ {T D : Type 0} (s : Setting T) (words : ServeWords) (sees : D → Shown
   runs_serve (Refused fault) long many back count h d fresh own store said =
       unopened fault (whole_refused fault store said)
     where
-      -- OPEN: `store.scans` is of the first hands; of all hands it is the same record with `hands_stay` over the whole list
-      whole_refused : _
+      whole_refused : (fault : OpenFault) → RefusesStore (serve_rules s words.roots words.secs (served_scene s words) sees) words.path old new
+          (passing_scene [] front woke before share) places fault after
+          → EndsWhole (refusal_saying fault) after.streams after_streams code
+          → IsUnopened s words (stage (scene (front ++ (mid ++ rest)) old before) (map sees doors) woke)
+          (stage (scene (after.hands ++ (hands_at after.places ++ rest)) new after_streams) (map sees (doors_at after.places)) after.woke) fault code
+      whole_refused fault store said =
+          let sum = length-append front (mid ++ rest) in
+          let some : 0 < length (front ++ (mid ++ rest)) = omega (arith, sum, long) in record {
+            scans =
+                subst (λ (hands : List T). Scans s words.path words.roots (front ++ (mid ++ rest)) hands old new (scanned.Refused fault))
+                (sym (hands_back h (ap (λ (c : CrewFacts T D). c.hands) store.same) (ap (λ (c : CrewFacts T D). c.places) store.same)))
+                (record {
+                  ends = record { hands = refl; store = store.scans.ends.store };
+                  loads = tt;
+                  hands = hands_stay s.tells_files s.world.version s.sees (front ++ (mid ++ rest)) some (λ e. absurd (cc));
+                  store = store.scans.store;
+                  later = store.scans.later;
+                  opened = store.scans.opened;
+                  opens = store.scans.opens;
+                });
+            said =
+                subst (λ (shown : Streams). EndsWhole (refusal_saying fault) shown after_streams code)
+                (ap (λ (c : CrewFacts T D). c.streams) store.same) said;
+            rest = record {
+              doors = ap (λ ps. map sees (doors_at ps)) (ap (λ (c : CrewFacts T D). c.places) store.same) ∙ ap (map sees) d;
+              woke = ap (λ (c : CrewFacts T D). c.woke) store.same;
+            };
+          }
   runs_serve Unannounced long many back count h d fresh own store said = unserved (record {
     found = store.found;
     held = store.held;
     has = store.has;
     made = store.made;
     store = store.store;
-    hands = hands_back store.hands store.same;
+    hands = hands_back h store.hands store.same;
     said = inl (subst (λ e. EndsCut _ before after_streams e) (sym said.1) (subst (λ shown. EndsCut _ before shown status.Fault) (sym said.0) store.says));
     rest = record { doors = ap (λ ps. map sees (doors_at ps)) store.same ∙ ap (map sees) d; woke = store.woke };
   })
@@ -137,14 +183,14 @@ module _ {T D : Type 0} (s : Setting T) (words : ServeWords) (sees : D → Shown
     has = store.has;
     made = store.made;
     store = store.store;
-    hands = hands_back store.hands store.same;
+    hands = hands_back h store.hands store.same;
     said = inr (record { told = after.streams; line = store.says; wants = said });
     rest = record { doors = ap (λ ps. map sees (doors_at ps)) store.same ∙ ap (map sees) d; woke = store.woke };
   })
   runs_serve (Served fate how broken) long many back count h d fresh own store said =
       let from = store.serves in
       let n = words.workers in
-      let end_hands = length_of_hands after.places count in served (record {
+      let end_hands = length-map (λ place. place.hand) after.places ∙ count in served (record {
         found = store.found;
         held = store.held;
         broken = broken;
