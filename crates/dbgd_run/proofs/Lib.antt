@@ -8,6 +8,7 @@ pub mod GainLemmas
 pub mod GenerationLemmas
 pub mod HandLemmas
 pub mod JoinedLemmas
+pub mod KeeperServed
 pub mod LimitInstances
 pub mod OtherHands
 pub mod PassLemmas

@@ -11,7 +11,7 @@ use Rattle.dbgd_run.specs.Query.{RunsQuery}
 use Rattle.dbgd_run.specs.Runs.{DoesLine, DoesWords, IsRun, LacksRoom, Runs, SaysHelp, takes_threads}
 use Rattle.dbgd_run.specs.Scan.{RunsScan, Scans}
 use Rattle.dbgd_run.specs.Scene.{ProgramScene, Setting}
-use Rattle.dbgd_run.specs.Serve.{RunsServe, ServeWords, serve_words, unopened}
+use Rattle.dbgd_run.specs.Serve.{RunsServe, ServeWords, serve_words}
 use Rattle.dbgd_run.specs.Stage.{LeavesRest, ProgramStage}
 use Rattle.dbgd_run.specs.Statuses.{code_of}
 use Rattle.dbgd_run.specs.Trial.{RunsTrial, SaysTrial, trial_end_line}
@@ -22,7 +22,7 @@ use Rattle.dbgd_run.specs.declared.status.Status.TheVariants as status
 use Rattle.dbgd_run.proofs.CauseLemmas.{by_ends, ident_status, section_status, sources_status}
 use Rattle.dbgd_run.proofs.QueryLemmas.{queries_wanting, query_ends, query_status}
 use Rattle.dbgd_run.proofs.ScanLemmas.{scan_ends, scan_status}
-use Rattle.dbgd_run.proofs.ServeLemmas.{serve_ends, serve_status}
+use Rattle.dbgd_run.proofs.ServeLemmas.{serve_ends, serve_status, serve_wanting}
 use Rattle.dbgd_run.proofs.StoreLemmas.{scans_wanting}
 
 module _ {T : Type 0} (s : Setting T) (words : List (List ℕ)) (before after : ProgramScene T) (end : Status) where
@@ -147,15 +147,7 @@ module _ {T : Type 0} (s : Setting T) (words : List (List ℕ)) (before after : 
     }
 
     serve_lacks : (w : ServeWords) → RunsServe s w before after end
-    serve_lacks w =
-        unopened refusal.OutOfMemory (record {
-          scans =
-              subst
-              (λ (hands : List T). Scans s w.path w.roots before.scene.hands hands before.scene.store after.scene.store (scanned.Refused refusal.OutOfMemory))
-              (sym lacks.alone.hands) (scans_wanting s w.path some lacks.alone.store);
-          said = lacks.alone.says;
-          rest = lacks.rest;
-        })
+    serve_lacks w = serve_wanting s w before after end some lacks.alone.hands lacks.alone.store lacks.alone.says lacks.rest
 
     asks : (line : Line) → line_of words ≡ line → AsksByOptions line
     asks line is = subst AsksByOptions is (options_ask words lacks.options)

@@ -1,5 +1,5 @@
 -- What the status of a server says, by what it did.
-use Rattle.std.proofs.Common.{◌≡◌, inl, inr, ℕ, ◌≤◌, Bool, true, false, ◌||◌, List, [], ◌∷◌, ◌++◌, All, map, Option, Some, None, refl, sym, ap, subst, arith, IsTrue}
+use Rattle.std.proofs.Common.{◌≡◌, inl, inr, ℕ, ◌<◌, ◌≤◌, Bool, true, false, ◌||◌, List, [], ◌∷◌, ◌++◌, All, map, Option, Some, None, length, refl, sym, ap, subst, arith, IsTrue}
 use Rattle.std.proofs.lemmas.Bool.{true≢false}
 use Rattle.row_types.specs.Faults.{Rose}
 use Rattle.row_types.specs.Row.{RowFacts}
@@ -13,16 +13,18 @@ use Rattle.index_rows.specs.declared.change.Change.{Change}
 use Rattle.index_state.proofs.VoidEnds.{never_both}
 use Rattle.index_state.specs.declared.open_fault.OpenFault.{OpenFault}
 use Rattle.index_state.specs.declared.open_fault.OpenFault.TheVariants as refusal
+use Rattle.dbgd_run.specs.Endings.{SaysMemory}
 use Rattle.dbgd_run.specs.Kept.{StoreHoldsRows}
 use Rattle.dbgd_run.specs.Opened.{EndsOnlyWith}
 use Rattle.dbgd_run.specs.RoundSaid.{is_cut, is_unmade}
 use Rattle.dbgd_run.specs.Rounds.{KeepsPassing, PassingScene, Round}
+use Rattle.dbgd_run.specs.Scan.{Scans}
 use Rattle.dbgd_run.specs.ScanSaid.{pass_saying}
 use Rattle.dbgd_run.specs.Scene.{Setting}
 use Rattle.dbgd_run.specs.Serve.{IsServed, IsUnopened, PassesOn, RunsServe, SaysUnserved, ServeWords, served, served_scene, unopened, unserved}
 use Rattle.dbgd_run.specs.ServeCauses.{IsServedWell, ServeEnds, ServeStatus, SomeDoorRose, lines_behind}
 use Rattle.dbgd_run.specs.ServeSaid.{has_cut, is_any_failed, served_status, serving_line, wants_line}
-use Rattle.dbgd_run.specs.Stage.{ProgramStage}
+use Rattle.dbgd_run.specs.Stage.{LeavesRest, ProgramStage}
 use Rattle.dbgd_run.specs.declared.line_fate.LineFate.{LineFate}
 use Rattle.dbgd_run.specs.declared.passes_end.PassesEnd.{PassesEnd}
 use Rattle.dbgd_run.specs.declared.passes_end.PassesEnd.TheVariants.{Stopped, OutFailed, OutOfMemory}
@@ -33,6 +35,7 @@ use Rattle.dbgd_run.proofs.FailedDoors.{all_closed, some_rose}
 use Rattle.dbgd_run.proofs.RoundLemmas.{later_out}
 use Rattle.dbgd_run.proofs.RowLemmas.{none_bad, none_overfull}
 use Rattle.dbgd_run.proofs.ScanLemmas.{bad_end, full_end}
+use Rattle.dbgd_run.proofs.StoreLemmas.{scans_wanting}
 use Rattle.dbgd_run.proofs.TellLemmas.{out_later, out_rose, out_whole}
 
 -- The standard output
@@ -243,3 +246,17 @@ module _ {T : Type 0} (s : Setting T) (words : ServeWords) (before after : Progr
     bad = λ tells bad. absurd (none_bad bad.fault (told_rows run.found tells run.held) bad.held bad.bad);
     overfull = λ tells full. absurd (none_overfull (told_rows run.found tells run.held) run.held.few full);
   }
+
+  -- memory was refused before the store was opened, and nothing was asked for
+  pub serve_wanting : (code : Status) → 0 < length before.scene.hands → after.scene.hands ≡ before.scene.hands
+      → after.scene.store ≡ before.scene.store → SaysMemory before.scene.streams after.scene.streams code → LeavesRest before after
+      → RunsServe s words before after code
+  serve_wanting code some hands store said rest =
+      unopened refusal.OutOfMemory (record {
+        scans =
+            subst
+            (λ (left : List T). Scans s words.path words.roots before.scene.hands left before.scene.store after.scene.store (scanned.Refused refusal.OutOfMemory))
+            (sym hands) (scans_wanting s words.path some store);
+        said = said;
+        rest = rest;
+      })
