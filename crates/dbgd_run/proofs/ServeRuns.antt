@@ -1,7 +1,7 @@
 -- A server on all that it is handed: the hands of its passes stand first, those of its workers behind them, and the others last.
 use Rattle.std.proofs.Common.{◌≡◌, inl, inr, ℕ, ◌+◌, ◌*◌, ◌<◌, Bool, ◌||◌, List, [], ◌∷◌, ◌++◌, All, map, drop, take, length, length-append, append_assoc, Option, Some, refl, sym, ◌∙◌, ap, subst, arith}
 use Rattle.std.specs.List.{AllZip, flat_map, list_any}
-use Rattle.std.proofs.lemmas.List.{length-map}
+use Rattle.std.proofs.lemmas.List.{length-map, take-append-drop}
 use Rattle.std.proofs.lemmas.List.Elements.{All-nil, All-cons, All-head, All-tail}
 use Rattle.http_wire.specs.Door.{ShownDoor}
 use Rattle.index_keeper.specs.Store.{ShownStore}
@@ -11,6 +11,7 @@ use Rattle.dbgd_metrics.specs.Shares.{BookFacts, ShareFacts}
 use Rattle.lock_crew.proofs.Zips.{front_all}
 use Rattle.conn_server.specs.Doors.{said_at}
 use Rattle.conn_server.specs.Scene.{Scene}
+use Rattle.conn_server.specs.Tallied.{HasRowIn}
 use Rattle.conn_server.specs.declared.door.DoorEnd.{DoorEnd}
 use Rattle.conn_server.specs.declared.door.DoorEnd.TheVariants as end
 use Rattle.tree_trait.specs.declared.clock.Waited.{Waited}
@@ -38,12 +39,28 @@ map_twice : {A B C : Type 0} (f : B → C) (g : A → B) (xs : List A) → map f
 map_twice f g [] = refl
 map_twice f g (x ∷ xs) = ap (λ ys. f (g x) ∷ ys) (map_twice f g xs)
 
-front_all_of : {A : Type 0} (xs ys : List A) → take (length xs) (xs ++ ys) ≡ xs
+pub front_all_of : {A : Type 0} (xs ys : List A) → take (length xs) (xs ++ ys) ≡ xs
 front_all_of xs ys = front_all (length xs) xs ys refl
 
 behind_front : {A : Type 0} (xs ys : List A) → drop (length xs) (xs ++ ys) ≡ ys
 behind_front [] ys = refl
 behind_front (x ∷ xs) ys = behind_front xs ys
+
+-- a list in three parts
+pub three_parts : {A : Type 0} (f n : ℕ) (xs : List A) → take f xs ++ (take n (drop f xs) ++ drop n (drop f xs)) ≡ xs
+three_parts f n xs = ap (λ rest. take f xs ++ rest) (take-append-drop n (drop f xs)) ∙ take-append-drop f xs
+
+-- a fresh share has its row
+pub has_row : (book : BookFacts) (share : ShareFacts) → IsFreshShare book share → HasRowIn book share
+has_row book share is = (is.of_book, is.fresh.row)
+
+pub places_have_rows : {T D : Type 0} (book : BookFacts) (places : List (DoorPlace T D)) → All (IsFreshShare book) (shares_at places)
+    → All (λ (place : DoorPlace T D). HasRowIn book place.share) places
+places_have_rows {T} {D} book [] all = All-nil (λ (place : DoorPlace T D). HasRowIn book place.share)
+places_have_rows {T} {D} book (p ∷ places) all =
+    All-cons (λ (place : DoorPlace T D). HasRowIn book place.share) p places
+    (has_row book p.share (All-head (IsFreshShare book) p.share (shares_at places) all))
+    (places_have_rows book places (All-tail (IsFreshShare book) p.share (shares_at places) all))
 
 -- the line of a door and whether it failed are those of the end of its serving
 line_at : (why : DoorEnd) → end_line (Some why) ≡ door_line (Some (said_at why))
