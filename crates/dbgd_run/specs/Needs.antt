@@ -1,5 +1,5 @@
 -- What a run needs of the outside (this project's rule), by what its words ask.
-use Rattle.std.specs.Prelude.{◌≡◌, ℕ, ◌+◌, ◌-◌, ◌*◌, ◌≤◌, ◌^◌, Bool, true, false, min}
+use Rattle.std.specs.Prelude.{◌≡◌, ℕ, ◌+◌, ◌-◌, ◌*◌, ◌<◌, ◌≤◌, ◌^◌, Bool, true, false, min}
 use Rattle.dbgd_words.specs.Words.{Line, asks_ident, asks_scan, asks_section, asks_serve, asks_sources}
 
 -- the hands: one for a file; two and one for each worker for a scan; two and two for each worker for a server
@@ -26,6 +26,6 @@ abbrev pub is_serve : Line → Bool
 is_serve (asks_serve path workers port secs sources roots) = true
 is_serve _ = false
 
--- for a server there are the hands that it needs, or more, and exactly the doors
+-- where doors are needed, which a server alone does, there are exactly these, and the hands that are needed, or more
 abbrev pub HasEnough : Line → ℕ → ℕ → Type 0
-HasEnough line hands doors = is_serve line ≡ true → (hands_of line ≤ hands) × (doors ≡ doors_of line)
+HasEnough line hands doors = 0 < doors_of line → (hands_of line ≤ hands) × (doors ≡ doors_of line)

@@ -223,8 +223,8 @@ pub fn run_local<
     }
 }
 
-/// Does all that the program does, and gives the exit status. For a server there are the hands that it
-/// needs, or more, and exactly the doors.
+/// Does all that the program does, and gives the exit status. Where doors are needed there are
+/// exactly these, and the hands that are needed, or more.
 pub fn run<
     W: ElfTruth + Send + Sync,
     T: Tree<W>,

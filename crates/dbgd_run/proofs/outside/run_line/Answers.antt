@@ -1,5 +1,5 @@
 -- What a line of words asks was done; doors and clock are as they were unless it asks for a server.
-use Rattle.std.proofs.Common.{◌≡◌, ◌+◌, ◌*◌, ◌≤◌, ◌-◌, ◌^◌, min, refl, ap, arith}
+use Rattle.std.proofs.Common.{ap, arith}
 use Rattle.std.specs.Prelude.{map}
 use Rattle.dbgd_run.proofs.RunLemmas.{runs_apart}
 use Rattle.dbgd_run.proofs.outside.run_line.Goals as goal
@@ -42,9 +42,13 @@ returns-clause-law g c =
 pub run_serve-requires-clause-hands : goal.run_serve-requires-clause-hands
 run_serve-requires-clause-hands g c = λ κs within.
     let enough = rw c.in-Serve.is at c.requires.enough in
-    let hands = (enough refl).0 in
-    let most = (rw c.in-Serve.is at c.requires.fits).most in
+    let fits = rw c.in-Serve.is at c.requires.fits in
+    let one = fits.one in
+    let most = fits.most in
+    let hands = (enough (omega (arith, one))).0 in
     omega (arith, hands, most)
 
 pub run_serve-requires-clause-doors : goal.run_serve-requires-clause-doors
-run_serve-requires-clause-doors g c = λ κs within. ((rw c.in-Serve.is at c.requires.enough) refl).1
+run_serve-requires-clause-doors g c = λ κs within.
+    let one = (rw c.in-Serve.is at c.requires.fits).one in
+    ((rw c.in-Serve.is at c.requires.enough) (omega (arith, one))).1
