@@ -27,7 +27,6 @@ use Rattle.dbgd_run.specs.Scene.{Setting}
 use Rattle.dbgd_run.specs.ServeSaid.{door_lines, has_cut, is_any_failed, served_status, serving_saying, wants_line}
 use Rattle.dbgd_run.specs.Stage.{LeavesRest, ProgramStage}
 use Rattle.dbgd_run.specs.Workers.{AreWorkers, HasCountedNothing, ServedBy, WorkerFacts}
-use Rattle.dbgd_run.specs.declared.line_fate.LineFate.{LineFate}
 use Rattle.dbgd_run.specs.declared.line_fate.LineFate.TheVariants.{Unmade}
 use Rattle.dbgd_run.specs.declared.passes_end.PassesEnd.{PassesEnd}
 use Rattle.dbgd_run.specs.declared.scan_end.ScanEnd.TheVariants.{Refused}

@@ -1,6 +1,6 @@
 //! The counters of a server.
 
-ghost use Rattle.std.specs.Prelude.{◌≡◌, ◌+◌, ◌≤◌, All, vec_len, IfOk};
+ghost use Rattle.std.specs.Prelude.{◌≡◌, ◌+◌, All, vec_len, IfOk};
 ghost use Rattle.dbgd_metrics.specs.Shares.{IsNewShare};
 ghost use Rattle.dbgd_words.specs.Limits.{IsScanFit};
 ghost use Rattle.dbgd_run.specs.Workers.{IsFreshShare};

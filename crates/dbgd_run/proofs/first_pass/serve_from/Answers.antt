@@ -1,5 +1,4 @@
 -- The first pass, and then the doors with or without passes beside them.
-use Rattle.std.proofs.Common.{sym, subst}
 use Rattle.row_types.specs.Rules.{rules}
 use Rattle.conn_server.specs.Scene.{scene_of}
 use Rattle.dbgd_run.specs.Endings.{streams}

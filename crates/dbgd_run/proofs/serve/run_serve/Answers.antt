@@ -1,5 +1,5 @@
 -- Memory was refused before the store was opened: hands, store, doors and clock are as they were.
-use Rattle.std.proofs.Common.{◌<◌, length, refl, ap, arith}
+use Rattle.std.proofs.Common.{◌<◌, length, ap, arith}
 use Rattle.std.specs.Prelude.{map}
 use Rattle.dbgd_run.proofs.ServeLemmas.{serve_wanting}
 use Rattle.dbgd_run.proofs.serve.run_serve.Goals as goal

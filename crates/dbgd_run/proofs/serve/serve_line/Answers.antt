@@ -1,5 +1,5 @@
 -- The hands that were left, those of the workers, and the others are all of them.
-use Rattle.std.proofs.Common.{◌≡◌, ◌+◌, ◌*◌, ◌≤◌, length, refl, subst, arith}
+use Rattle.std.proofs.Common.{◌+◌, refl, subst, arith}
 use Rattle.row_types.specs.Rules.{rules}
 use Rattle.dbgd_run.specs.Endings.{streams}
 use Rattle.dbgd_run.specs.Scene.{scene, setting}

@@ -1,5 +1,5 @@
 -- The index was served, and its log goes on from all that any token had seen.
-use Rattle.std.proofs.Common.{◌≡◌, ◌∙◌, List, refl, sym, ap, subst}
+use Rattle.std.proofs.Common.{◌∙◌, List, refl, sym, ap, subst}
 use mathlib.Core.List.{IsPrefix}
 use Rattle.index_lock.proofs.Prefixes.{prefix_trans}
 use Rattle.index_rows.specs.declared.change.Change.{Change}

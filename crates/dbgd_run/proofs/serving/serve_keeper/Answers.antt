@@ -1,13 +1,7 @@
 -- What came of a keeper, by how the server ended.
 use Rattle.std.proofs.Common.{refl, subst}
-use Rattle.row_types.specs.Rules.{rules}
-use Rattle.conn_server.specs.Scene.{scene_of}
-use Rattle.dbgd_run.specs.Endings.{streams}
-use Rattle.dbgd_run.specs.Rounds.{passing_scene}
-use Rattle.dbgd_run.specs.Scene.{setting}
 use Rattle.dbgd_run.specs.ServeSaid.{Announces}
-use Rattle.dbgd_run.specs.Serving.{serve_rules}
-use Rattle.dbgd_run.proofs.StoreLemmas.{refused_fault, rose_some}
+use Rattle.dbgd_run.proofs.StoreLemmas.{rose_some}
 use Rattle.dbgd_run.proofs.KeeperServed.{keeper_opened}
 use Rattle.dbgd_run.proofs.serving.serve_keeper.Goals as goal
 

@@ -2,8 +2,6 @@
 use Rattle.std.proofs.Common.{◌<◌, length, refl, arith}
 use Rattle.row_types.specs.Rules.{rules}
 use Rattle.conn_server.specs.Scene.{scene_of}
-use Rattle.dbgd_run.specs.Endings.{streams}
-use Rattle.dbgd_run.specs.Rounds.{passing_scene}
 use Rattle.dbgd_run.specs.Scene.{setting}
 use Rattle.dbgd_run.specs.Serving.{serve_rules}
 use Rattle.dbgd_run.proofs.StoreLemmas.{scans_closed, scans_wanting}
