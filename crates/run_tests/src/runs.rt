@@ -10,6 +10,7 @@ mod rig;
 mod rounds;
 mod rows;
 mod scans;
+mod serves;
 mod trials;
 mod words;
 mod workers;
