@@ -46,7 +46,7 @@ static CASES: [Case; 4] = [
         hands: 4,
         rounds: 0,
         bad_out: &[],
-        asks: &["GET /buildid/aa/debuginfo HTTP/1.1\r\n\r\n"],
+        asks: &["GET /buildid/aaaaaaaaaaaaaaaaaaaaaaaaaaaaaaaaaaaaaaaa/debuginfo HTTP/1.1\r\n\r\n"],
         answers: &["HTTP/1.1 404 "],
         out: b"serving on 8003 with 1 workers\n\
             scan: 2 files, 2 added, 0 replaced, 0 dropped, 0 kept, 1 executables, 1 debuginfo\n",
@@ -138,7 +138,7 @@ fn around(rt: &impl Abort, alloc: Global, case: &Case) -> Memory {
 /// Whether what was written on the connection of each door begins as it should.
 fn compare_answers(rt: &impl Abort, doors: &[MemDoor], case: &Case) {
     for (door, begins) in doors.iter().zip(case.answers) {
-        let ended = door.ended().expect(rt, "told");
+        let ended = door.ended_conns().expect(rt, "told");
         let conn = ended.first().expect(rt, "a connection");
         let written = conn.written().expect(rt, "told");
         assert!(rt; written.starts_with(begins.as_bytes()), "{:?}", case.words);

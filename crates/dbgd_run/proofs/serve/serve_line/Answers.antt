@@ -25,3 +25,6 @@ returns-clause-runs g c =
 
 pub lend_crew-requires : goal.lend_crew-requires
 lend_crew-requires g c = omega (arith, c.requires.hands, c.requires.fits.most)
+
+pub new_gear-requires : goal.new_gear-requires
+new_gear-requires g c = record { one = c.requires.fits.one; most = c.requires.fits.most }
