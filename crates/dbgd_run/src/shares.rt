@@ -39,6 +39,29 @@ fn split(book: &Book, share: Share) -> (Share, Share)
     }
 }
 
+/// Shares with rows of their own, so many, split off from one that has none, and that one.
+fn split_shares<R: Wait>(
+    rt: &R,
+    alloc: Global,
+    book: &Book,
+    share: Share,
+    count: u64,
+) -> Result<(Share, Vec<Share>), AllocError>
+    requires { IsNewShare book.now.id share }
+    ensures own { IfOk result (λ shares. IsNewShare book.now.id shares.0) }
+    ensures others { IfOk result (λ shares. All (IsFreshShare book.now) shares.1.items) }
+    ensures count { IfOk result (λ shares. vec_len shares.1 ≡ count) }
+{
+    let mut own = share;
+    let mut others = Vec::new(alloc);
+    for _ in 0..count {
+        let (first, second) = split(book, own);
+        own = first;
+        others.push(drawn(rt, book, second)?)?;
+    }
+    Ok((own, others))
+}
+
 /// A new counter table for so many workers, with the shares, each of which has its row.
 pub(crate) fn new_shares<R: Wait>(
     rt: &R,
@@ -51,13 +74,8 @@ pub(crate) fn new_shares<R: Wait>(
     ensures others { IfOk result (λ shares. All (IsFreshShare shares.book) shares.others.items) }
     ensures count { IfOk result (λ shares. vec_len shares.others ≡ workers) }
 {
-    let mut others = Vec::new(alloc);
-    let (book, mut own) = Book::make(alloc, workers + 1)?;
-    for _ in 0..workers {
-        let (first, second) = split(&book, own);
-        own = first;
-        others.push(drawn(rt, &book, second)?)?;
-    }
+    let (book, share) = Book::make(alloc, workers + 1)?;
+    let (own, others) = split_shares(rt, alloc, &book, share, workers)?;
     let own = drawn(rt, &book, own)?;
     Ok(Shares { book, own, others })
 }
