@@ -4,6 +4,7 @@ pub mod Codes
 pub mod CountLemmas
 pub mod FailedDoors
 pub mod ForgedLemmas
+pub mod FreeHands
 pub mod GainLemmas
 pub mod GenerationLemmas
 pub mod HandLemmas
@@ -17,6 +18,7 @@ pub mod RoundLemmas
 pub mod RowLemmas
 pub mod RunLemmas
 pub mod ScanLemmas
+pub mod ServeComplete
 pub mod ServeLemmas
 pub mod ServeRuns
 pub mod ServeSteps

@@ -22,6 +22,7 @@ use Rattle.dbgd_run.specs.declared.status.Status.TheVariants as status
 use Rattle.dbgd_run.proofs.CauseLemmas.{by_ends, ident_status, section_status, sources_status}
 use Rattle.dbgd_run.proofs.QueryLemmas.{queries_wanting, query_ends, query_status}
 use Rattle.dbgd_run.proofs.ScanLemmas.{scan_ends, scan_status}
+use Rattle.dbgd_run.proofs.ServeComplete.{serve_complete}
 use Rattle.dbgd_run.proofs.ServeLemmas.{serve_ends, serve_status, serve_wanting}
 use Rattle.dbgd_run.proofs.StoreLemmas.{scans_wanting}
 
@@ -117,6 +118,7 @@ module _ {T : Type 0} (s : Setting T) (words : List (List ℕ)) (before after : 
         record {
           does = does;
           ends = serve_ends s (serve_words path workers port secs sources roots) before after end does;
+          complete = serve_complete s (serve_words path workers port secs sources roots) before after end does;
         };
     not_built = λ is. inl (subst (λ (l : Line). DoesLine s l before after end) is run).runs;
     usage = λ is. inl (subst (λ (l : Line). DoesLine s l before after end) is run).runs;
@@ -183,6 +185,9 @@ module _ {T : Type 0} (s : Setting T) (words : List (List ℕ)) (before after : 
         does = serve_lacks (serve_words path workers port secs sources roots);
         ends =
             serve_ends s (serve_words path workers port secs sources roots) before after end
+            (serve_lacks (serve_words path workers port secs sources roots));
+        complete =
+            serve_complete s (serve_words path workers port secs sources roots) before after end
             (serve_lacks (serve_words path workers port secs sources roots));
       };
       not_built = λ is. inr lacks;

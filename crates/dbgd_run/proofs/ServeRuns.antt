@@ -207,7 +207,7 @@ module _ {T D : Type 0} (s : Setting T) (words : ServeWords) (sees : D → Shown
   runs_serve (Served fate how broken) long many back count h d fresh own store said =
       let from = store.serves in
       let n = words.workers in
-      let end_hands = length-map (λ place. place.hand) after.places ∙ count in served (record {
+      let end_hands = length-map after.places (λ (place : DoorPlace T D). place.hand) ∙ count in served (record {
         found = store.found;
         held = store.held;
         broken = broken;

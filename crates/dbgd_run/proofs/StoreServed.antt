@@ -6,6 +6,8 @@ use mathlib.Core.List.{IsPrefix}
 use Rattle.index_keeper.specs.Keeper.{ShownKeeper}
 use Rattle.index_keeper.specs.Store.{IsOpened, ShownStore, TakesKeeperBack}
 use Rattle.index_lock.proofs.Prefixes.{prefix_self, prefix_shorter, prefix_trans}
+use Rattle.row_types.specs.Row.{RowFacts}
+use Rattle.index_rows.specs.Log.{put_of}
 use Rattle.index_rows.specs.declared.change.Change.{Change}
 use Rattle.index_state.specs.Invariant.{IndexInvariant}
 use Rattle.index_state.specs.Opening.{Opens, current, puts_of}
@@ -77,7 +79,7 @@ module _ {K T D : Type 0} (r : ServeRules T D) (shows : K → ShownKeeper) (path
       (prefix_trans since.first (lasting new.broken new.log) new.log (since.since, sym since.parts) (lasting_into new.broken new.log))
       (subst (λ (log : List Change). IsPrefix log new.log) (ap (λ (st : StateFacts K). st.log) lent.opens.opened.value) begins)
       (since.count ∙ ap (λ o. o.puts) same ∙ ap (λ (st : StateFacts K). st.origin.puts) lent.opens.opened.value
-      ∙ sym (length-map _ (current lent.opens.opened.rows))) in
+      ∙ sym (length-map (current lent.opens.opened.rows) (λ (r : RowFacts). put_of r.name))) in
       let made = made_since r.setting lent holds same in record {
         since = since.since;
         parts = subst (λ (log : List Change). lasting new.broken new.log ≡ log ++ since.since) first since.parts;

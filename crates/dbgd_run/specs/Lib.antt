@@ -18,6 +18,7 @@ pub mod Scene
 pub mod Section
 pub mod Serve
 pub mod ServeCauses
+pub mod ServeComplete
 pub mod ServeSaid
 pub mod Serving
 pub mod Sources

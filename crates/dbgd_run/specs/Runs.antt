@@ -13,8 +13,9 @@ use Rattle.dbgd_run.specs.QueryCauses.{QueryEnds}
 use Rattle.dbgd_run.specs.Scan.{RunsScan}
 use Rattle.dbgd_run.specs.Scene.{ProgramScene, Setting}
 use Rattle.dbgd_run.specs.Section.{SaysSection}
-use Rattle.dbgd_run.specs.Serve.{RunsServe, serve_words}
-use Rattle.dbgd_run.specs.ServeCauses.{IsServeRun}
+use Rattle.dbgd_run.specs.Serve.{RunsServe, ServeWords, serve_words}
+use Rattle.dbgd_run.specs.ServeCauses.{ServeEnds}
+use Rattle.dbgd_run.specs.ServeComplete.{CompletesServe, IsFreeServe}
 use Rattle.dbgd_run.specs.Sources.{SaysSources}
 use Rattle.dbgd_run.specs.Stage.{LeavesRest, ProgramStage}
 use Rattle.dbgd_run.specs.Statuses.{code_of}
@@ -54,6 +55,13 @@ pub record IsScanRun {T : Type 0} (s : Setting T) (path : List ℕ) (workers : �
     (before after : ProgramScene T) (status : Status) : Type 0 where
   pub does : RunsScan s path workers roots before after status
   pub ends : ScanEnds s roots before after status
+
+-- a server: what it does, how it ends when, and that each of its passes writes its line where nothing stands against it
+pub record IsServeRun {T : Type 0} (s : Setting T) (words : ServeWords) (before after : ProgramStage T) (status : Status)
+    : Type 0 where
+  pub does : RunsServe s words before after status
+  pub ends : ServeEnds s before after status
+  pub complete : IsFreeServe s words.roots before after → CompletesServe s words before after status does
 
 -- whether a line asks for what threads do: a scan, of folders or of generated files, or a server
 abbrev pub takes_threads : Line → Bool

@@ -22,11 +22,16 @@ abbrev pub SomeDoorRose : List ShownDoor → List ShownDoor → Type 0
 SomeDoorRose (before ∷ more) (after ∷ rest) = Rose before.faults after.faults ⊎ SomeDoorRose more rest
 SomeDoorRose _ _ = ⊥
 
--- the lines of the whole passes behind the first one, in order
+-- the passes behind the first one, in order
+abbrev pub rounds_behind : {T : Type 0} (s : Setting T) (roots : List (List ℕ)) (secs : ℕ) (first : Round T)
+    (how : Option PassesEnd) (last : PassingScene T) → PassesOn s roots secs first how last → List (Round T)
+rounds_behind s roots secs first None last none = []
+rounds_behind s roots secs first (Some end) last kept = kept.1.rounds
+
+-- the lines of the whole ones of them, in order
 abbrev pub lines_behind : {T : Type 0} (s : Setting T) (roots : List (List ℕ)) (secs : ℕ) (first : Round T)
     (how : Option PassesEnd) (last : PassingScene T) → PassesOn s roots secs first how last → List ℕ
-lines_behind s roots secs first None last none = []
-lines_behind s roots secs first (Some end) last kept = out_lines kept.1.rounds
+lines_behind s roots secs first how last passes = out_lines (rounds_behind s roots secs first how last passes)
 
 -- the doors were served until each of them closed; the store made each change; and the standard output got exactly the first line
 -- and then the whole line of each whole pass, in order
@@ -63,9 +68,3 @@ pub record ServeEnds {T : Type 0} (s : Setting T) (before after : ProgramStage T
   pub overfull :
       IsTrue s.tells_tables → IsOverfull before.scene.store.tables
       → EndsOnlyWith Limit before.scene.store after.scene.store status
-
--- a server: what it does, and how it ends when
-pub record IsServeRun {T : Type 0} (s : Setting T) (words : ServeWords) (before after : ProgramStage T) (status : Status)
-    : Type 0 where
-  pub does : RunsServe s words before after status
-  pub ends : ServeEnds s before after status
