@@ -8,7 +8,7 @@ use Rattle.dbgd_run.specs.Causes.{HasStatus, HelpStatus, TrialStatus}
 use Rattle.dbgd_run.specs.Endings.{EndsSaying, SaysMemory, out_saying}
 use Rattle.dbgd_run.specs.Needs.{is_serve}
 use Rattle.dbgd_run.specs.Query.{RunsQuery}
-use Rattle.dbgd_run.specs.Runs.{DoesLine, DoesWords, IsRun, LacksRoom, Runs, SaysHelp, takes_threads}
+use Rattle.dbgd_run.specs.Runs.{DoesLine, DoesWords, IsRun, LacksRoom, Runs, SaysHelp}
 use Rattle.dbgd_run.specs.Scan.{RunsScan, Scans}
 use Rattle.dbgd_run.specs.Scene.{ProgramScene, Setting}
 use Rattle.dbgd_run.specs.Serve.{RunsServe, ServeWords, serve_words}
@@ -51,19 +51,19 @@ module _ {T : Type 0} (s : Setting T) (words : List (List ℕ)) (before after : 
           said (inr cut) = subst (TrialStatus seed files before after) (sym cut.ends) cut.out.rose
       go (inr wants) = subst (TrialStatus seed files before after) (sym wants.ends) tt
 
--- a line that takes no threads is none of a server
-pub runs_apart : {T : Type 0} (s : Setting T) (line : Line) (before after : ProgramStage T) (end : Status) → takes_threads line ≡ false
+-- what a line does on the scene, where doors and clock are as they were; nothing is said so of a server
+pub runs_apart : {T : Type 0} (s : Setting T) (line : Line) (before after : ProgramStage T) (end : Status)
     → Runs s line before.scene after.scene end → LeavesRest before after → DoesLine s line before after end
-runs_apart s (asks_ident path) before after end alone runs rest = record { runs = runs; rest = rest }
-runs_apart s (asks_sources path) before after end alone runs rest = record { runs = runs; rest = rest }
-runs_apart s (asks_section path name) before after end alone runs rest = record { runs = runs; rest = rest }
-runs_apart s (asks_query path id) before after end alone runs rest = record { runs = runs; rest = rest }
-runs_apart s (asks_scan path workers roots) before after end alone runs rest = record { runs = runs; rest = rest }
-runs_apart s (asks_trial seed files workers) before after end alone runs rest = record { runs = runs; rest = rest }
-runs_apart s asks_help before after end alone runs rest = record { runs = runs; rest = rest }
-runs_apart s (asks_serve path workers port secs sources roots) before after end alone runs rest = absurd runs
-runs_apart s unbuilt before after end alone runs rest = record { runs = runs; rest = rest }
-runs_apart s unreadable before after end alone runs rest = record { runs = runs; rest = rest }
+runs_apart s (asks_ident path) before after end runs rest = record { runs = runs; rest = rest }
+runs_apart s (asks_sources path) before after end runs rest = record { runs = runs; rest = rest }
+runs_apart s (asks_section path name) before after end runs rest = record { runs = runs; rest = rest }
+runs_apart s (asks_query path id) before after end runs rest = record { runs = runs; rest = rest }
+runs_apart s (asks_scan path workers roots) before after end runs rest = record { runs = runs; rest = rest }
+runs_apart s (asks_trial seed files workers) before after end runs rest = record { runs = runs; rest = rest }
+runs_apart s asks_help before after end runs rest = record { runs = runs; rest = rest }
+runs_apart s (asks_serve path workers port secs sources roots) before after end runs rest = absurd runs
+runs_apart s unbuilt before after end runs rest = record { runs = runs; rest = rest }
+runs_apart s unreadable before after end runs rest = record { runs = runs; rest = rest }
 
 -- the same of all that there is: a line that asks for no server, and one that does
 module _ {T : Type 0} (s : Setting T) (words : List (List ℕ)) (before after : ProgramStage T) (end : Status) where

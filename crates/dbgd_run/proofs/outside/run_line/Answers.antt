@@ -32,7 +32,7 @@ returns-in-Trial-clause-law g c =
 -- the last arm: any line that takes no threads
 pub returns-clause-law : goal.returns-clause-law
 returns-clause-law g c =
-    runs_apart _ _ _ _ _ c.run_alone.requires.alone c.run_alone.ensures.law
+    runs_apart _ _ _ _ _ c.run_alone.ensures.law
     (record {
       doors = ap (λ doors. map g.D.Door.shows doors.items) c.run_alone.ensures.rest.0;
       woke = ap g.C.Clock.woke c.run_alone.ensures.rest.1;

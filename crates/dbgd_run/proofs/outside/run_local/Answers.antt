@@ -9,7 +9,7 @@ returns-in-Ok-clause-run g c =
     let some : 0 < length c.args.outside.now.hands.items = omega arith in
     runs_words _ _ _ _ c.run_alone.result _ c.code.ensures.code some
     (inl (rw (← c.in-Ok.ensures.line)
-    (runs_apart _ _ _ _ _ c.run_alone.requires.alone c.run_alone.ensures.law
+    (runs_apart _ _ _ _ _ c.run_alone.ensures.law
     (record {
       doors = ap (λ doors. map g.D.Door.shows doors.items) c.run_alone.ensures.rest.0;
       woke = ap g.C.Clock.woke c.run_alone.ensures.rest.1;
