@@ -37,28 +37,28 @@ module _ {T : Type 0} (scene : Scene T) (first last : List Change) where
       by_end end.Closed is = is
 
   pub some_rose : (workers left : List (WorkerFacts T)) → AllZip (ServedBy scene first last) workers left
-      → is_any_failed (map (λ worker. worker.door) left) ≡ true
-      → SomeDoorRose (map (λ worker. worker.door) workers) (map (λ worker. worker.door) left)
+      → is_any_failed (map (λ (worker : WorkerFacts T). worker.door) left) ≡ true
+      → SomeDoorRose (map (λ (worker : WorkerFacts T). worker.door) workers) (map (λ (worker : WorkerFacts T). worker.door) left)
   some_rose [] [] all failed = absurd (false≢true failed)
   some_rose [] (after ∷ left) all failed = absurd all
   some_rose (before ∷ workers) [] all failed = absurd all
   some_rose (before ∷ workers) (after ∷ left) all failed = which (has_failed after.door.last) refl failed
     where
       which : (b : Bool) → has_failed after.door.last ≡ b
-          → (has_failed after.door.last || is_any_failed (map (λ worker. worker.door) left)) ≡ true
-          → SomeDoorRose (map (λ worker. worker.door) (before ∷ workers)) (map (λ worker. worker.door) (after ∷ left))
+          → (has_failed after.door.last || is_any_failed (map (λ (worker : WorkerFacts T). worker.door) left)) ≡ true
+          → SomeDoorRose (map (λ (worker : WorkerFacts T). worker.door) (before ∷ workers)) (map (λ (worker : WorkerFacts T). worker.door) (after ∷ left))
       which true is some = inl (rose_if before after all.0 is)
       which false is some =
           inr (some_rose workers left all.1
-          (subst (λ (b : Bool). (b || is_any_failed (map (λ worker. worker.door) left)) ≡ true) is some))
+          (subst (λ (b : Bool). (b || is_any_failed (map (λ (worker : WorkerFacts T). worker.door) left)) ≡ true) is some))
 
   pub all_closed : (workers left : List (WorkerFacts T)) → AllZip (ServedBy scene first last) workers left
-      → is_any_failed (map (λ worker. worker.door) left) ≡ false
-      → All (λ (door : ShownDoor). door.last ≡ Some said.Closed) (map (λ worker. worker.door) left)
+      → is_any_failed (map (λ (worker : WorkerFacts T). worker.door) left) ≡ false
+      → All (λ (door : ShownDoor). door.last ≡ Some said.Closed) (map (λ (worker : WorkerFacts T). worker.door) left)
   all_closed [] [] all none = All-nil (λ (door : ShownDoor). door.last ≡ Some said.Closed)
   all_closed [] (after ∷ left) all none = absurd all
   all_closed (before ∷ workers) [] all none = absurd all
   all_closed (before ∷ workers) (after ∷ left) all none =
-      let both = neither (has_failed after.door.last) (is_any_failed (map (λ worker. worker.door) left)) none in
-      All-cons (λ (door : ShownDoor). door.last ≡ Some said.Closed) after.door (map (λ worker. worker.door) left)
+      let both = neither (has_failed after.door.last) (is_any_failed (map (λ (worker : WorkerFacts T). worker.door) left)) none in
+      All-cons (λ (door : ShownDoor). door.last ≡ Some said.Closed) after.door (map (λ (worker : WorkerFacts T). worker.door) left)
       (closed_if before after all.0 both.0) (all_closed workers left all.1 both.1)

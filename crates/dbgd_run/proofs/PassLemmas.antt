@@ -84,16 +84,17 @@ module _ {K T : Type 0} (s : Setting T) {shows : K → ShownKeeper} {from into :
   old_made : old.origin.made ≡ made_swept lent.opens.opened.rows from.made
   old_made = ap (λ (st : StateFacts K). st.origin.made) lent.opens.opened.value ∙ swept_made
 
+  -- the changes behind the opening are those that the store made since
+  pub told_since : new.origin.made ≡ old.origin.made
+      → TellsSince s.world.true_row holds.store_agrees_with_rows.since.since (made_swept lent.opens.opened.rows from.made) into.made
+  told_since same =
+      let since = holds.store_agrees_with_rows.since in
+      subst (λ after. TellsSince s.world.true_row since.since (made_swept lent.opens.opened.rows from.made) after) (sym lent.back.made)
+      (subst (λ first. TellsSince s.world.true_row since.since first (shows new.keeper).made) (same ∙ old_made) since.told)
+
   pub made_since : new.origin.made ≡ old.origin.made
       → MakesChanges s.world.true_row lent.opens.opened.rows from.made into.made
-  made_since same =
-      let since = holds.store_agrees_with_rows.since in
-      record {
-        changes = since.since;
-        each =
-            subst (λ after. TellsSince s.world.true_row since.since (made_swept lent.opens.opened.rows from.made) after) (sym lent.back.made)
-            (subst (λ first. TellsSince s.world.true_row since.since first (shows new.keeper).made) (same ∙ old_made) since.told);
-      }
+  made_since same = record { changes = holds.store_agrees_with_rows.since.since; each = told_since same }
 
   pub has_rows : new.broken ≡ false → HasRows s.tells_tables into new.rows
   has_rows sound = λ t.

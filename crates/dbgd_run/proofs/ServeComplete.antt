@@ -6,6 +6,8 @@ use mathlib.Core.List.{IsPrefix}
 use Rattle.row_types.specs.Faults.{Rose}
 use Rattle.tree_trait.specs.Shown.{HandsOn}
 use Rattle.tree_walk.specs.declared.fault.WalkFault.TheVariants as stop
+use Rattle.http_wire.specs.Stream.{ShownStream}
+use Rattle.index_keeper.specs.Tables.{KeptFacts}
 use Rattle.index_lock.proofs.Prefixes.{prefix_of_same, prefix_self, prefix_trans}
 use Rattle.index_rows.specs.Log.{after_change}
 use Rattle.index_rows.specs.declared.change.Change.{Change}
@@ -215,7 +217,7 @@ module _ {T : Type 0} (s : Setting T) (words : ServeWords) (before after : Progr
       let one_line = out_later run.first.end run.told run.first.after.streams run.first.fate run.made.tells in
       let more = later_out s words.roots words.secs run.first.after on.mid rounds on.go in
       let last : after.scene.streams.out.write_faults ≡ on.mid.streams.out.write_faults
-      = ap (λ shown. shown.write_faults) run.out ∙ ap (λ (x : Streams). x.out.write_faults) on.ends.streams in
+      = ap (λ (shown : ShownStream). shown.write_faults) run.out ∙ ap (λ (x : Streams). x.out.write_faults) on.ends.streams in
       All-cons (λ (round : Round T). WritesPassLine round.end round.fate) run.first rounds
       (pass_done s words.roots run.log _ run.first.after run.first.end run.first.fate run.made.passes run.made.tells parts.0 run.passed room
       each (λ rose. free.out (omega (arith, rose, line, more, last))))
@@ -227,11 +229,11 @@ module _ {T : Type 0} (s : Setting T) (words : ServeWords) (before after : Progr
   refused_wants refusal.KeeperFault code run free = absurd (free.store (run.scans.store.rose refl))
   refused_wants (refusal.BadRow kept fault) code run free =
       absurd (none_bad fault
-      (subst (λ values. AreRows free.rows values) (sym (run.scans.ends.store.gave.tells free.tells)) free.held)
+      (subst (λ (values : List KeptFacts). AreRows free.rows values) (sym (run.scans.ends.store.gave.tells free.tells)) free.held)
       (first_held run.scans.ends.store.why) run.scans.ends.store.why.bad)
   refused_wants refusal.LogFull code run free =
       absurd (none_overfull free.held free.few
-      (subst (λ values. IsOverfull values) (run.scans.ends.store.gave.tells free.tells) run.scans.ends.store.why))
+      (subst (λ (values : List KeptFacts). IsOverfull values) (run.scans.ends.store.gave.tells free.tells) run.scans.ends.store.why))
   refused_wants refusal.OutOfMemory code run free = refl
 
   -- what comes of a server that nothing stands against

@@ -5,8 +5,10 @@ use Rattle.row_types.specs.Faults.{Rose}
 use Rattle.row_types.specs.Row.{RowFacts}
 use Rattle.http_wire.specs.Door.{ShownDoor}
 use Rattle.http_wire.specs.Sink.{GetsAll}
+use Rattle.http_wire.specs.Stream.{ShownStream}
 use Rattle.http_wire.specs.declared.door.DoorSaid.TheVariants as said
 use Rattle.http_wire.proofs.Pieces.{gets_both, gets_none}
+use Rattle.index_keeper.specs.Tables.{KeptFacts}
 use Rattle.index_state.specs.Changes.{EndsVoid, VoidWhere}
 use Rattle.index_state.specs.Opening.{AreRows}
 use Rattle.index_rows.specs.declared.change.Change.{Change}
@@ -25,6 +27,7 @@ use Rattle.dbgd_run.specs.Serve.{IsServed, IsUnopened, PassesOn, RunsServe, Says
 use Rattle.dbgd_run.specs.ServeCauses.{IsServedWell, ServeEnds, ServeStatus, SomeDoorRose, lines_behind}
 use Rattle.dbgd_run.specs.ServeSaid.{has_cut, is_any_failed, served_status, serving_line, wants_line}
 use Rattle.dbgd_run.specs.Stage.{LeavesRest, ProgramStage}
+use Rattle.dbgd_run.specs.Workers.{WorkerFacts}
 use Rattle.dbgd_run.specs.declared.line_fate.LineFate.{LineFate}
 use Rattle.dbgd_run.specs.declared.passes_end.PassesEnd.{PassesEnd}
 use Rattle.dbgd_run.specs.declared.passes_end.PassesEnd.TheVariants.{Stopped, OutFailed, OutOfMemory}
@@ -136,13 +139,13 @@ module _ {T : Type 0} (s : Setting T) (words : ServeWords) (before after : Progr
         let line = run.line.out.later in
         let pass = out_rose run.first.end run.told run.first.after.streams run.first.fate run.made.tells one in
         omega (arith, line, pass)) cut in
-        let same : after.scene.streams.out.write_faults ≡ run.last.streams.out.write_faults = ap (λ shown. shown.write_faults) run.out in
+        let same : after.scene.streams.out.write_faults ≡ run.last.streams.out.write_faults = ap (λ (shown : ShownStream). shown.write_faults) run.out in
         omega (arith, rose, same)
 
     failed_rose : is_any_failed after.doors ≡ true → SomeDoorRose before.doors after.doors
     failed_rose failed =
         subst (λ (doors : List ShownDoor). SomeDoorRose doors after.doors) run.workers_are.doors
-        (subst (λ (doors : List ShownDoor). SomeDoorRose (map (λ worker. worker.door) run.workers) doors) run.left_are.doors
+        (subst (λ (doors : List ShownDoor). SomeDoorRose (map (λ (worker : WorkerFacts T). worker.door) run.workers) doors) run.left_are.doors
         (some_rose (served_scene s words) run.first.after.log run.log run.workers run.left run.doors
         (subst (λ (doors : List ShownDoor). is_any_failed doors ≡ true) (sym run.left_are.doors) failed)))
 
@@ -154,7 +157,7 @@ module _ {T : Type 0} (s : Setting T) (words : ServeWords) (before after : Progr
     all_out wants cut =
         let made = first_made s words.roots words.secs run.first.fate run.how wants in
         let whole = first_whole s words.roots words.secs run.first.fate run.how cut in
-        subst (λ shown. GetsAll _ before.scene.streams.out shown) (sym run.out)
+        subst (λ (shown : ShownStream). GetsAll _ before.scene.streams.out shown) (sym run.out)
         (gets_both run.line.out
         (gets_both (out_whole run.first.end run.told run.first.after.streams run.first.fate run.made.tells whole made)
         (on_out s words.roots words.secs run.first run.how run.last run.passes wants cut)))
@@ -227,7 +230,7 @@ module _ {T : Type 0} (s : Setting T) (words : ServeWords) (before after : Progr
   -- the rows that were found are those of the store, where it tells
   told_rows : (found : List RowFacts) → IsTrue s.tells_tables → StoreHoldsRows s.tells_tables before.scene.store found
       → AreRows found before.scene.store.tables
-  told_rows found tells held = subst (λ values. AreRows found values) (held.gave.tells tells) held.sound
+  told_rows found tells held = subst (λ (values : List KeptFacts). AreRows found values) (held.gave.tells tells) held.sound
 
   pub serve_ends : (code : Status) → RunsServe s words before after code → ServeEnds s before after code
   serve_ends code (unopened fault run) = record {

@@ -1,11 +1,13 @@
 -- A server on all that it is handed: the hands of its passes stand first, those of its workers behind them, and the others last.
-use Rattle.std.proofs.Common.{◌≡◌, inl, inr, ℕ, ◌+◌, ◌*◌, ◌<◌, ◌||◌, List, [], ◌∷◌, ◌++◌, All, map, drop, take, length, length-append, append_assoc, Option, Some, refl, sym, ◌∙◌, ap, subst, arith}
+use Rattle.std.proofs.Common.{◌≡◌, inl, inr, ℕ, ◌+◌, ◌*◌, ◌<◌, ◌||◌, Bool, List, [], ◌∷◌, ◌++◌, All, map, drop, take, length, length-append, append_assoc, Option, Some, refl, sym, ◌∙◌, ap, subst, arith}
 use Rattle.std.specs.List.{AllZip, flat_map, list_any}
 use Rattle.std.proofs.lemmas.List.{length-map, take-append-drop}
 use Rattle.std.proofs.lemmas.List.Elements.{All-nil, All-cons, All-head, All-tail}
 use Rattle.http_wire.specs.Door.{ShownDoor}
+use Rattle.http_wire.specs.Stream.{ShownStream}
 use Rattle.index_keeper.specs.Store.{ShownStore}
 use Rattle.index_rows.specs.declared.change.Change.{Change}
+use Rattle.index_state.specs.Opening.{current, puts_of}
 use Rattle.index_state.specs.declared.open_fault.OpenFault.{OpenFault}
 use Rattle.dbgd_metrics.specs.Shares.{BookFacts, ShareFacts}
 use Rattle.lock_crew.proofs.Zips.{front_all}
@@ -21,10 +23,11 @@ use Rattle.dbgd_run.specs.Scan.{Scans}
 use Rattle.dbgd_run.specs.ScanSaid.{refusal_saying}
 use Rattle.dbgd_run.specs.Scene.{Setting, scene}
 use Rattle.dbgd_run.specs.Serve.{IsUnopened, MakesRound, RunsServe, ServeWords, served, served_scene, unopened, unserved}
-use Rattle.dbgd_run.specs.ServeSaid.{SaysServeEnd, door_line, door_lines, end_line, ended_badly, has_cut, has_failed, is_any_failed, served_status, serving_line, wants_line}
+use Rattle.dbgd_run.specs.ServeSaid.{SaysServeEnd, door_line, door_lines, end_line, ended_badly, has_cut, has_failed, is_any_failed, served_status, serving_line, serving_saying, wants_line}
 use Rattle.dbgd_run.specs.Serving.{CrewFacts, RefusesStore, ServesStore, serve_rules}
 use Rattle.dbgd_run.specs.Stage.{stage}
 use Rattle.dbgd_run.specs.Workers.{AreWorkers, HasCountedNothing, IsFreshShare, PlaceServed, ServedBy, WorkerFacts, doors_at, ends_at, hands_at, shares_at, worker_in, workers_at}
+use Rattle.dbgd_run.specs.declared.line_fate.LineFate.{LineFate}
 use Rattle.dbgd_run.specs.declared.places.DoorPlace.{DoorPlace}
 use Rattle.dbgd_run.specs.declared.scan_end.ScanEnd.TheVariants as scanned
 use Rattle.dbgd_run.specs.declared.serve_end.ServeEnd.{ServeEnd}
@@ -85,10 +88,10 @@ module _ {T D : Type 0} (sc : Scene T) (sees : D → ShownDoor) (first last : Li
   lines_of_doors [] (p ∷ left) all = absurd all
   lines_of_doors (p ∷ places) [] all = absurd all
   lines_of_doors (p ∷ places) (q ∷ left) all =
-      ap (λ o. end_line o ++ flat_map end_line (ends_at left)) all.0.kept
-      ∙ ap (λ line. line ++ flat_map end_line (ends_at left))
+      ap (λ (o : Option DoorEnd). end_line o ++ flat_map end_line (ends_at left)) all.0.kept
+      ∙ ap (λ (line : List ℕ). line ++ flat_map end_line (ends_at left))
       (line_at all.0.by.ran.end ∙ ap door_line (sym all.0.by.ran.serves.ends.last))
-      ∙ ap (λ rest. door_line (sees q.door).last ++ rest) (lines_of_doors places left all.1)
+      ∙ ap (λ (rest : List ℕ). door_line (sees q.door).last ++ rest) (lines_of_doors places left all.1)
 
   failed_of_doors : (places left : List (DoorPlace T D)) → AllZip (PlaceServed sc sees first last) places left
       → list_any ended_badly (ends_at left) ≡ is_any_failed (map sees (doors_at left))
@@ -96,23 +99,23 @@ module _ {T D : Type 0} (sc : Scene T) (sees : D → ShownDoor) (first last : Li
   failed_of_doors [] (p ∷ left) all = absurd all
   failed_of_doors (p ∷ places) [] all = absurd all
   failed_of_doors (p ∷ places) (q ∷ left) all =
-      ap (λ o. ended_badly o || list_any ended_badly (ends_at left)) all.0.kept
-      ∙ ap (λ b. b || list_any ended_badly (ends_at left)) (bad_at all.0.by.ran.end ∙ ap has_failed (sym all.0.by.ran.serves.ends.last))
-      ∙ ap (λ b. has_failed (sees q.door).last || b) (failed_of_doors places left all.1)
+      ap (λ (o : Option DoorEnd). ended_badly o || list_any ended_badly (ends_at left)) all.0.kept
+      ∙ ap (λ (b : Bool). b || list_any ended_badly (ends_at left)) (bad_at all.0.by.ran.end ∙ ap has_failed (sym all.0.by.ran.serves.ends.last))
+      ∙ ap (λ (b : Bool). has_failed (sees q.door).last || b) (failed_of_doors places left all.1)
 
 module _ {T D : Type 0} (sees : D → ShownDoor) where
   -- the workers of places have their hands and their doors
   pub are_workers : (hands : List T) (doors : List D) (places : List (DoorPlace T D)) → hands_at places ≡ hands → doors_at places ≡ doors
       → AreWorkers hands (map sees doors) (workers_at sees places)
   are_workers hands doors places h d = record {
-    hands = map_twice (λ worker. worker.hand) (worker_in sees) places ∙ h;
+    hands = map_twice (λ (worker : WorkerFacts T). worker.hand) (worker_in sees) places ∙ h;
     doors =
-        map_twice (λ worker. worker.door) (worker_in sees) places
-        ∙ (sym (map_twice sees (λ place. place.door) places) ∙ ap (map sees) d);
+        map_twice (λ (worker : WorkerFacts T). worker.door) (worker_in sees) places
+        ∙ (sym (map_twice sees (λ (place : DoorPlace T D). place.door) places) ∙ ap (map sees) d);
   }
 
   fresh_workers : (book : BookFacts) (places : List (DoorPlace T D)) → All (IsFreshShare book) (shares_at places)
-      → All (λ worker. HasCountedNothing worker.share) (workers_at sees places)
+      → All (λ (worker : WorkerFacts T). HasCountedNothing worker.share) (workers_at sees places)
   fresh_workers book [] all = All-nil (λ (worker : WorkerFacts T). HasCountedNothing worker.share)
   fresh_workers book (p ∷ places) all =
       All-cons (λ (worker : WorkerFacts T). HasCountedNothing worker.share) (worker_in sees p) (workers_at sees places)
@@ -122,19 +125,19 @@ module _ {T D : Type 0} (sees : D → ShownDoor) where
 -- the hands at a place of the whole list
 module _ {T : Type 0} (n : ℕ) (front mid rest : List T) (long : length front ≡ n + 2) (many : length mid ≡ n) where
   first_hands : take (n + 2) (front ++ (mid ++ rest)) ≡ front
-  first_hands = ap (λ k. take k (front ++ (mid ++ rest))) (sym long) ∙ front_all_of front (mid ++ rest)
+  first_hands = ap (λ (k : ℕ). take k (front ++ (mid ++ rest))) (sym long) ∙ front_all_of front (mid ++ rest)
 
   behind_first : drop (n + 2) (front ++ (mid ++ rest)) ≡ mid ++ rest
-  behind_first = ap (λ k. drop k (front ++ (mid ++ rest))) (sym long) ∙ behind_front front (mid ++ rest)
+  behind_first = ap (λ (k : ℕ). drop k (front ++ (mid ++ rest))) (sym long) ∙ behind_front front (mid ++ rest)
 
   worker_hands : take n (drop (n + 2) (front ++ (mid ++ rest))) ≡ mid
   worker_hands =
-      ap (take n) behind_first ∙ (ap (λ k. take k (mid ++ rest)) (sym many) ∙ front_all_of mid rest)
+      ap (take n) behind_first ∙ (ap (λ (k : ℕ). take k (mid ++ rest)) (sym many) ∙ front_all_of mid rest)
 
   other_hands : drop (n * 2 + 2) (front ++ (mid ++ rest)) ≡ rest
   other_hands =
       let sum = length-append front mid in
-      ap (λ k. drop k (front ++ (mid ++ rest))) (omega (arith, sum, long, many))
+      ap (λ (k : ℕ). drop k (front ++ (mid ++ rest))) (omega (arith, sum, long, many))
       ∙ (ap (drop (length (front ++ mid))) (sym (append_assoc front mid rest)) ∙ behind_front (front ++ mid) rest)
 
 module _ {T D : Type 0} (s : Setting T) (words : ServeWords) (sees : D → ShownDoor) (front mid rest : List T) (doors : List D) (old new : ShownStore) (woke : Option (List Waited)) (before after_streams : Streams) (share : ShareFacts) (book : BookFacts) (places : List (DoorPlace T D)) (after : CrewFacts T D) (code : Status) where
@@ -180,7 +183,7 @@ module _ {T D : Type 0} (s : Setting T) (words : ServeWords) (sees : D → Shown
                 subst (λ (shown : Streams). EndsWhole (refusal_saying fault) shown after_streams code)
                 (ap (λ (c : CrewFacts T D). c.streams) store.same) said;
             rest = record {
-              doors = ap (λ ps. map sees (doors_at ps)) (ap (λ (c : CrewFacts T D). c.places) store.same) ∙ ap (map sees) d;
+              doors = ap (λ (ps : List (DoorPlace T D)). map sees (doors_at ps)) (ap (λ (c : CrewFacts T D). c.places) store.same) ∙ ap (map sees) d;
               woke = ap (λ (c : CrewFacts T D). c.woke) store.same;
             };
           }
@@ -191,8 +194,8 @@ module _ {T D : Type 0} (s : Setting T) (words : ServeWords) (sees : D → Shown
     made = store.made;
     store = store.store;
     hands = hands_back h store.hands store.same;
-    said = inl (subst (λ e. EndsCut _ before after_streams e) (sym said.1) (subst (λ shown. EndsCut _ before shown status.Fault) (sym said.0) store.says));
-    rest = record { doors = ap (λ ps. map sees (doors_at ps)) store.same ∙ ap (map sees) d; woke = store.woke };
+    said = inl (subst (λ (e : Status). EndsCut (serving_saying words.port words.workers) before after_streams e) (sym said.1) (subst (λ (shown : Streams). EndsCut (serving_saying words.port words.workers) before shown status.Fault) (sym said.0) store.says));
+    rest = record { doors = ap (λ (ps : List (DoorPlace T D)). map sees (doors_at ps)) store.same ∙ ap (map sees) d; woke = store.woke };
   })
   runs_serve Unlocked long many back count h d fresh own store said = unserved (record {
     found = store.found;
@@ -202,7 +205,7 @@ module _ {T D : Type 0} (s : Setting T) (words : ServeWords) (sees : D → Shown
     store = store.store;
     hands = hands_back h store.hands store.same;
     said = inr (record { told = after.streams; line = store.says; wants = said });
-    rest = record { doors = ap (λ ps. map sees (doors_at ps)) store.same ∙ ap (map sees) d; woke = store.woke };
+    rest = record { doors = ap (λ (ps : List (DoorPlace T D)). map sees (doors_at ps)) store.same ∙ ap (map sees) d; woke = store.woke };
   })
   runs_serve (Served fate how broken) long many back count h d fresh own store said =
       let from = store.serves in
@@ -220,17 +223,17 @@ module _ {T D : Type 0} (s : Setting T) (words : ServeWords) (sees : D → Shown
         fresh = own.fresh;
         first = from.first;
         made =
-            subst (λ hands. MakesRound s words.roots (passing_scene _ hands woke store.told share) from.first)
+            subst (λ (hands : List T). MakesRound s words.roots (passing_scene (puts_of (current store.found)) hands woke store.told share) from.first)
             (sym (first_hands n front mid rest long many)) from.made;
         passed = from.passed;
         workers = workers_at sees places;
         workers_are =
-            subst (λ hands. AreWorkers hands (map sees doors) (workers_at sees places)) (sym (worker_hands n front mid rest long many))
+            subst (λ (hands : List T). AreWorkers hands (map sees doors) (workers_at sees places)) (sym (worker_hands n front mid rest long many))
             (are_workers sees mid doors places h d);
         shares = fresh_workers sees book places fresh;
         left = workers_at sees after.places;
         left_are =
-            subst (λ hands. AreWorkers hands (map sees (doors_at after.places)) (workers_at sees after.places))
+            subst (λ (hands : List T). AreWorkers hands (map sees (doors_at after.places)) (workers_at sees after.places))
             (sym (worker_hands n after.hands (hands_at after.places) rest back end_hands))
             (are_workers sees (hands_at after.places) (doors_at after.places) after.places refl refl);
         doors = served_workers (served_scene s words) sees from.first.after.log store.log places after.places from.doors;
@@ -245,14 +248,14 @@ module _ {T D : Type 0} (s : Setting T) (words : ServeWords) (sees : D → Shown
         woke = from.woke;
         out = said.out ∙ ap (λ (x : Streams). x.out) from.streams;
         err =
-            subst (λ shown. GetsLines (door_lines (map sees (doors_at after.places))) shown after_streams.err)
+            subst (λ (shown : ShownStream). GetsLines (door_lines (map sees (doors_at after.places))) shown after_streams.err)
             (ap (λ (x : Streams). x.err) from.streams)
-            (subst (λ bytes. GetsLines bytes after.streams.err after_streams.err)
+            (subst (λ (bytes : List ℕ). GetsLines bytes after.streams.err after_streams.err)
             (lines_of_doors (served_scene s words) sees from.first.after.log store.log places after.places from.doors) said.err);
         ends =
             said.status_is
-            ∙ (ap (λ b. served_status (wants_line fate how) (has_cut fate how || (b || broken)))
+            ∙ (ap (λ (b : Bool). served_status (wants_line fate how) (has_cut fate how || (b || broken)))
             (failed_of_doors (served_scene s words) sees from.first.after.log store.log places after.places from.doors)
-            ∙ ap (λ f. served_status (wants_line f how) (has_cut f how || (is_any_failed (map sees (doors_at after.places)) || broken)))
+            ∙ ap (λ (f : LineFate). served_status (wants_line f how) (has_cut f how || (is_any_failed (map sees (doors_at after.places)) || broken)))
             (sym from.fate_is));
       })

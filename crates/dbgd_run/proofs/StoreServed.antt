@@ -11,7 +11,8 @@ use Rattle.index_rows.specs.Log.{put_of}
 use Rattle.index_rows.specs.declared.change.Change.{Change}
 use Rattle.index_state.specs.Invariant.{IndexInvariant}
 use Rattle.index_state.specs.Opening.{Opens, current, puts_of}
-use Rattle.index_state.specs.State.{StateFacts, lasting}
+use Rattle.index_state.specs.State.{Origin, StateFacts, lasting}
+use Rattle.dbgd_run.specs.Endings.{Streams}
 use Rattle.dbgd_run.specs.Passing.{IsLent}
 use Rattle.dbgd_run.specs.Rounds.{PassingScene}
 use Rattle.dbgd_run.specs.Scan.{Scans}
@@ -23,7 +24,7 @@ use Rattle.dbgd_run.specs.declared.scan_end.ScanEnd.TheVariants as scanned
 use Rattle.dbgd_run.specs.declared.serve_end.ServeEnd.{ServeEnd}
 use Rattle.dbgd_run.specs.declared.serve_end.ServeEnd.TheVariants.{Refused, Unannounced, Unlocked, Served}
 use Rattle.dbgd_run.proofs.HandLemmas.{hands_stay}
-use Rattle.dbgd_run.proofs.PassLemmas.{has_found, has_rows, held, made_found, made_since, may_have}
+use Rattle.dbgd_run.proofs.PassLemmas.{has_found, has_rows, held, made_found, may_have, told_since}
 use Rattle.dbgd_run.proofs.StoreLemmas.{refused_by, refused_fault, rose_counted, scans_opened}
 
 -- two beginnings of one list that are as long are the same
@@ -78,22 +79,19 @@ module _ {K T D : Type 0} (r : ServeRules T D) (shows : K → ShownKeeper) (path
       = same_front since.first (puts_of (current lent.opens.opened.rows)) new.log
       (prefix_trans since.first (lasting new.broken new.log) new.log (since.since, sym since.parts) (lasting_into new.broken new.log))
       (subst (λ (log : List Change). IsPrefix log new.log) (ap (λ (st : StateFacts K). st.log) lent.opens.opened.value) begins)
-      (since.count ∙ ap (λ o. o.puts) same ∙ ap (λ (st : StateFacts K). st.origin.puts) lent.opens.opened.value
+      (since.count ∙ ap (λ (o : Origin). o.puts) same ∙ ap (λ (st : StateFacts K). st.origin.puts) lent.opens.opened.value
       ∙ sym (length-map (current lent.opens.opened.rows) (λ (r : RowFacts). put_of r.name))) in
-      let made = made_since r.setting lent holds same in record {
+      record {
         since = since.since;
         parts = subst (λ (log : List Change). lasting new.broken new.log ≡ log ++ since.since) first since.parts;
         void = holds.broken_means_a_void_last_change.void;
-        made = made.each;
+        made = told_since r.setting lent holds (ap (λ (o : Origin). o.made) same);
         rows = new.rows;
         names = holds.rows_replay_the_log.names;
         sound = holds.rows_sorted_and_true;
         has = has_rows r.setting lent holds;
         may_have = may_have r.setting lent holds;
       }
-
-  -- OPEN: `made.each` is about `made.changes`, which made_since builds as `since.since`; both unfold to the same list, if not,
-  -- state made_since as TellsSince of `holds.store_agrees_with_rows.since.since`.
 
   pub store_opened : (end : ServeEnd) (after : CrewFacts T D) → IsOpened r.setting.tells_tables path from mid (shows keeper)
       → TakesKeeperBack r.setting.tells_tables (shows given) mid into → 0 < length before.hands
@@ -129,7 +127,7 @@ module _ {K T D : Type 0} (r : ServeRules T D) (shows : K → ShownKeeper) (path
         made = made_found r.setting lent run.serves.holds refl;
         store = store_serves false opened back (λ e. absurd (false≢true e));
         says =
-            subst (λ shown. Announces line true before.streams shown) (sym (ap (λ (c : CrewFacts T D). c.streams) run.serves.same)) run.says;
+            subst (λ (shown : Streams). Announces line true before.streams shown) (sym (ap (λ (c : CrewFacts T D). c.streams) run.serves.same)) run.says;
         hands = ap (λ (c : CrewFacts T D). c.hands) run.serves.same;
         woke = ap (λ (c : CrewFacts T D). c.woke) run.serves.same;
         same = ap (λ (c : CrewFacts T D). c.places) run.serves.same;
@@ -143,7 +141,7 @@ module _ {K T D : Type 0} (r : ServeRules T D) (shows : K → ShownKeeper) (path
         log = one.new.log;
         logs =
             subst
-            (λ b. HasServedLog r.setting.world.true_row r.setting.tells_tables lent.opens.opened.rows from into b one.new.log)
+            (λ (b : Bool). HasServedLog r.setting.world.true_row r.setting.tells_tables lent.opens.opened.rows from into b one.new.log)
             one.broken_is logs;
         store =
             store_serves broken opened back
