@@ -3,6 +3,8 @@ use Rattle.std.proofs.Common.{◌∙◌, List, refl, sym, ap, subst}
 use mathlib.Core.List.{IsPrefix}
 use Rattle.index_lock.proofs.Prefixes.{prefix_trans}
 use Rattle.index_rows.specs.declared.change.Change.{Change}
+use Rattle.index_state.specs.State.{StateFacts}
+use Rattle.index_state.specs.declared.answer.Standing.{Standing}
 use Rattle.dbgd_run.proofs.JoinedLemmas.{serves_later}
 use Rattle.dbgd_run.proofs.serving.serve_index.Goals as goal
 
@@ -12,14 +14,14 @@ pub returns-in-Ok-clause-serves : goal.returns-in-Ok-clause-serves
 returns-in-Ok-clause-serves g c =
     let joined : List Change = c.serve_locked-lead.result.0.seat.seen in
     let last : List Change = c.into_value-state.result.log in
-    let ended : IsPrefix joined last = subst (λ xs. IsPrefix joined xs) (sym (ap (λ i. i.log) c.into_value-state.ensures)) c.enter-held.ensures.begins in
+    let ended : IsPrefix joined last = subst (λ (xs : List Change). IsPrefix joined xs) (sym (ap (λ (i : StateFacts g.row.K.Denot). i.log) c.into_value-state.ensures)) c.enter-held.ensures.begins in
     let later = c.serve_locked-lead.ensures.later in record {
       new = c.into_value-state.result;
       value = c.into_keeper.ensures.value;
       holds = c.into_keeper.ensures.holds;
       origin =
-          ap (λ i. i.origin) c.into_value-state.ensures ∙ c.enter-held.ensures.origin ∙ later.origin ∙ c.in-Ok.ensures.seen.1;
-      broken_is = sym (ap (λ standing. standing.broken) c.standing.ensures.value);
+          ap (λ (i : StateFacts g.row.K.Denot). i.origin) c.into_value-state.ensures ∙ c.enter-held.ensures.origin ∙ later.origin ∙ c.in-Ok.ensures.seen.1;
+      broken_is = sym (ap (λ (standing : Standing). standing.broken) c.standing.ensures.value);
       begins =
           subst (λ (xs : List Change). IsPrefix xs last) c.in-Ok.ensures.seen.0
           (prefix_trans c.in-Ok.seat.seen joined last later.log ended);
