@@ -1,5 +1,5 @@
 -- Doors in slots: what each run made of its place, at beginnings of what the token of all has seen.
-use Rattle.std.proofs.Common.{◌≡◌, ℕ, ◌+◌, ◌≤◌, List, [], ◌∷◌, ◌++◌, All, length, length-append, Option, Some, None, sym, ap, subst, arith}
+use Rattle.std.proofs.Common.{◌≡◌, ℕ, ◌+◌, ◌≤◌, List, [], ◌∷◌, ◌++◌, All, length, length-append, Option, Some, None, sym, ap, subst, ◌∙◌, arith}
 use Rattle.std.specs.List.{AllZip}
 use Rattle.std.proofs.lemmas.List.Elements.{All-nil, All-cons, All-head, All-tail, All-append}
 use mathlib.Core.List.{IsPrefix}
@@ -104,22 +104,26 @@ module _ {T D : Type 0} (scene : Scene T) (sees : D → ShownDoor) where
       zip_weaker (λ b a one. later_one first mid last more b a one) before after all
 
 -- the slots that were filled with places have the lock's tokens, and shares of which the same holds as of those of the places
-module _ {C P : Type 0} (seat_of : C → SeatFacts Change Origin) (place_of : C → P) (Has : P → Type 0) where
-  ready_one : (start : SeatFacts Change Origin) (place : P) (slot : Option C) → Has place
-      → IsSlotReady seat_of place_of start place slot
-      → SlotHas (λ slot. ((seat_of slot).lock ≡ start.lock) × Has (place_of slot)) slot
-  ready_one start place None has ready = ready
-  ready_one start place (Some slot) has ready = (ap (λ (s : SeatFacts Change Origin). s.lock) ready.0, subst Has (sym ready.1) has)
+module _ {C P : Type 0} (seat_of : C → SeatFacts Change Origin) (place_of : C → P) (Has : P → Type 0) (lock : TableId) where
+  -- what is so of a slot that is ready
+  abbrev IsFit : C → Type 0
+  IsFit slot = ((seat_of slot).lock ≡ lock) × Has (place_of slot)
 
-  pub ready_all : (start : SeatFacts Change Origin) (places : List P) (slots : List (Option C)) → All Has places
-      → AllZip (IsSlotReady seat_of place_of start) places slots
-      → All (SlotHas (λ slot. ((seat_of slot).lock ≡ start.lock) × Has (place_of slot))) slots
-  ready_all start [] [] has ready = All-nil (SlotHas (λ slot. ((seat_of slot).lock ≡ start.lock) × Has (place_of slot)))
-  ready_all start [] (s ∷ ss) has ready = absurd ready
-  ready_all start (p ∷ ps) [] has ready = absurd ready
-  ready_all start (p ∷ ps) (s ∷ ss) has ready =
-      All-cons (SlotHas (λ slot. ((seat_of slot).lock ≡ start.lock) × Has (place_of slot))) s ss
-      (ready_one start p s (All-head Has p ps has) ready.0) (ready_all start ps ss (All-tail Has p ps has) ready.1)
+  ready_one : (start : SeatFacts Change Origin) → start.lock ≡ lock → (place : P) (slot : Option C) → Has place
+      → IsSlotReady seat_of place_of start place slot → SlotHas IsFit slot
+  ready_one start locked place None has ready = ready
+  ready_one start locked place (Some slot) has ready =
+      (ap (λ (s : SeatFacts Change Origin). s.lock) ready.0 ∙ locked, subst Has (sym ready.1) has)
+
+  pub ready_all : (start : SeatFacts Change Origin) → start.lock ≡ lock → (places : List P) (slots : List (Option C))
+      → All Has places → AllZip (IsSlotReady seat_of place_of start) places slots
+      → All (SlotHas (λ slot. ((seat_of slot).lock ≡ lock) × Has (place_of slot))) slots
+  ready_all start locked [] [] has ready = All-nil (SlotHas IsFit)
+  ready_all start locked [] (s ∷ ss) has ready = absurd ready
+  ready_all start locked (p ∷ ps) [] has ready = absurd ready
+  ready_all start locked (p ∷ ps) (s ∷ ss) has ready =
+      All-cons (SlotHas IsFit) s ss (ready_one start locked p s (All-head Has p ps has) ready.0)
+      (ready_all start locked ps ss (All-tail Has p ps has) ready.1)
 
 -- of the slots' tokens alone
 module _ {C : Type 0} (seat_of : C → SeatFacts Change Origin) (Other : C → Type 0) (lock : TableId) where

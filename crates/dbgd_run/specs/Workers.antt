@@ -24,9 +24,9 @@ pub record WorkerFacts (T : Type 0) : Type 0 where
   pub door : ShownDoor
 
 -- the workers have these hands and these doors, in order
-pub record AreWorkers {T : Type 0} (hands : List T) (doors : List ShownDoor) (workers : List (WorkerFacts T)) : Type 0 where
-  pub hands : map (λ worker. worker.hand) workers ≡ hands
-  pub doors : map (λ worker. worker.door) workers ≡ doors
+pub record AreWorkers {T : Type 0} (held : List T) (served : List ShownDoor) (workers : List (WorkerFacts T)) : Type 0 where
+  pub hands : map (λ worker. worker.hand) workers ≡ held
+  pub doors : map (λ worker. worker.door) workers ≡ served
 
 -- a share that has a row and has counted nothing
 pub record HasCountedNothing (share : ShareFacts) : Type 0 where

@@ -15,7 +15,7 @@ use Rattle.dbgd_run.proofs.server.serve_beside.Goals as goal
 pub run_beside-requires-clause-slots : goal.run_beside-requires-clause-slots
 run_beside-requires-clause-slots g c =
     ready_all {C = Slot (State g.row.W.Denot g.row.K.Denot) (DoorPlace g.row.T.Denot g.row.D.Denot) Change Opening} (λ slot. slot.seat) (λ slot. slot.place) (λ place. HasRowIn c.args.hall.now.book.now place.share)
-    c.args.lead.seat c.args.posts.places.items _ c.requires.shares c.seats_out-seat.ensures.slots
+    c.args.hall.now.lock.now c.args.lead.seat c.requires.lock c.args.posts.places.items _ c.requires.shares c.seats_out-seat.ensures.slots
 
 pub returns-clause-doors : goal.returns-clause-doors
 returns-clause-doors g c =
