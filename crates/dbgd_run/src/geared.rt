@@ -78,10 +78,10 @@ pub(crate) fn serve_geared<
         × (order.workers + 2 + (order.workers + vec_len lent.others.hands)
         ≤ vec_capacity lent.room) }
     ensures runs { (port : ℕ) (sources roots : List (List ℕ))
-        → string_bytes gear.line ≡ serving_line port order.workers
-        → order.folders.items ≡ roots ++ sources → order.scanned ≡ length roots → RunsServe
+        → string_bytes gear.line ≡ serving_line port order.entry.workers
+        → order.entry.folders.items ≡ roots ++ sources → order.entry.scanned ≡ length roots → RunsServe
         (setting (rules W.version W.true_row W.told) T.told T.shows S.K.told)
-        (serve_words order.store.now order.workers port order.secs sources roots)
+        (serve_words order.entry.store.now order.entry.workers port order.entry.secs sources roots)
         (stage (scene (outside.old.hands.items ++ (lent.workers.items ++ lent.others.hands.items))
         (S.shows outside.old.store) (streams O.shows outside.old.out outside.old.err))
         (map D.shows outside.old.doors.items) (C.woke outside.old.clock))
@@ -89,8 +89,8 @@ pub(crate) fn serve_geared<
         (streams O.shows outside.new.out outside.new.err))
         (map D.shows outside.new.doors.items) (C.woke outside.new.clock)) result }
     ensures count { vec_len outside.new.hands
-        ≡ order.workers + 2 + (order.workers + vec_len lent.others.hands) }
-    ensures doors { vec_len outside.new.doors ≡ order.workers }
+        ≡ order.entry.workers + 2 + (order.entry.workers + vec_len lent.others.hands) }
+    ensures doors { vec_len outside.new.doors ≡ order.entry.workers }
 {
     let Gear {
         line,

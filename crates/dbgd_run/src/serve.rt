@@ -55,8 +55,8 @@ fn serve_line<
     requires fits { IsServeFit line.workers line.port line.secs }
     ensures runs { IfOk result (λ status. RunsServe
         (setting (rules W.version W.true_row W.told) T.told T.shows S.K.told)
-        (serve_words line.store.now line.workers line.port line.secs line.sources.items
-        line.roots.items)
+        (serve_words line.entry.store.now line.entry.workers line.entry.port line.entry.secs line.entry.sources.items
+        line.entry.roots.items)
         (stage (scene outside.old.hands.items (S.shows outside.old.store)
         (streams O.shows outside.old.out outside.old.err))
         (map D.shows outside.old.doors.items) (C.woke outside.old.clock))
@@ -114,8 +114,8 @@ pub(crate) fn run_serve<
     requires fits { IsServeFit line.workers line.port line.secs }
     ensures runs { RunsServe
         (setting (rules W.version W.true_row W.told) T.told T.shows S.K.told)
-        (serve_words line.store.now line.workers line.port line.secs line.sources.items
-        line.roots.items)
+        (serve_words line.entry.store.now line.entry.workers line.entry.port line.entry.secs line.entry.sources.items
+        line.entry.roots.items)
         (stage (scene outside.old.hands.items (S.shows outside.old.store)
         (streams O.shows outside.old.out outside.old.err))
         (map D.shows outside.old.doors.items) (C.woke outside.old.clock))
