@@ -77,7 +77,7 @@ pub fn words_of(rt: &impl Abort, alloc: Global, words: &[&str]) -> Vec<String> {
 }
 
 /// A sink of a plan.
-fn sink_of(rt: &impl Abort, alloc: Global, bad_writes: &[u64], width: usize) -> Narrow {
+pub fn sink_of(rt: &impl Abort, alloc: Global, bad_writes: &[u64], width: usize) -> Narrow {
     let bad_writes = Vec::from_slice(alloc, bad_writes).expect(rt, "memory");
     Narrow {
         sink: MemSink::new(alloc, bad_writes),

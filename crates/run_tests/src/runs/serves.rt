@@ -1,168 +1,239 @@
-//! Servers over doors and a clock in memory: what they say and answer, and how they end.
+//! What servers say over doors and a clock in memory, and how they end.
 
 use crate::runs::hands::Files::Two;
-use crate::runs::hands::hand_of;
-use crate::runs::rig::words_of;
-use dbgd_run::{Outside, needs, run};
-use http_wire::{MemConn, MemDoor, MemSink};
-use index_keeper::MemStore;
+use crate::runs::rig::{Plan, Run, SOUND};
+use crate::runs::serves_replies::NO_ROUTE;
+use crate::runs::serves_rig::{Server, around, doors, hands, has_ended, is_answered, serve};
+use http_wire::MemDoor;
 use row_types::OpenWorld;
 use std::alloc::Global;
-use std::marker::PhantomData;
 use std::process::Abort;
 use std::sync::Wait;
 use std::thread::Threads;
-use tree_trait::{MemClock, MemTree, NoGate};
+use tree_trait::{MemTree, NoGate};
 
-/// The objects of a server.
-type Memory = Outside<OpenWorld, MemTree<OpenWorld>, MemStore<OpenWorld>, MemDoor, MemClock, MemSink, NoGate>;
-
-/// A server, and what comes of it.
+/// A server over two files that never change: what fails around it, its doors, at each of which a
+/// connection asks for no route, how often the clock says Again, whether the doors are served, what is
+/// said, and the waits.
 struct Case {
-    /// Its words.
-    words: &'static [&'static str],
-    /// How many hands it is handed.
-    hands: u64,
-    /// How often the clock says Again.
+    plan: Plan<'static>,
+    doors: usize,
     rounds: u64,
-    /// The writes to out that fail.
-    bad_out: &'static [u64],
-    /// What comes on the one connection of each door.
-    asks: &'static [&'static str],
-    /// How what is answered there begins.
-    answers: &'static [&'static str],
-    /// What out got.
-    out: &'static [u8],
-    /// What err got.
-    err: &'static [u8],
-    /// The status.
-    status: u8,
+    serves: bool,
+    run: Run<'static>,
+    waits: &'static [u64],
 }
 
-/// Servers over two files that never change.
-static CASES: [Case; 4] = [
+/// By the minute, with one worker.
+const MINUTES: &[&str] = &[
+    "serve", "-d", "m", "-c", "1", "-p", "8003", "-t", "60", "/srv",
+];
+
+static CASES: [Case; 11] = [
+    // With no time between passes there is one, and the clock isn't asked.
     Case {
-        words: &["serve", "-d", "m", "-c", "1", "-p", "8003", "-t", "0", "/srv"],
-        hands: 4,
+        plan: SOUND,
+        doors: 1,
+        rounds: 5,
+        serves: true,
+        run: Run(
+            &[
+                "serve", "-d", "m", "-c", "1", "-p", "8003", "-t", "0", "/srv",
+            ],
+            b"serving on 8003 with 1 workers\n\
+                scan: 2 files, 2 added, 0 replaced, 0 dropped, 0 kept, 1 executables, 1 debuginfo\n",
+            "",
+            0,
+        ),
+        waits: &[],
+    },
+    // Four workers, port 8002 and five minutes where nothing else is said.
+    Case {
+        plan: SOUND,
+        doors: 4,
         rounds: 0,
-        bad_out: &[],
-        asks: &["GET /buildid/aaaaaaaaaaaaaaaaaaaaaaaaaaaaaaaaaaaaaaaa/debuginfo HTTP/1.1\r\n\r\n"],
-        answers: &["HTTP/1.1 404 "],
-        out: b"serving on 8003 with 1 workers\n\
-            scan: 2 files, 2 added, 0 replaced, 0 dropped, 0 kept, 1 executables, 1 debuginfo\n",
-        err: b"",
-        status: 0,
+        serves: true,
+        run: Run(
+            &["serve", "-d", "m", "/srv"],
+            b"serving on 8002 with 4 workers\n\
+                scan: 2 files, 2 added, 0 replaced, 0 dropped, 0 kept, 1 executables, 1 debuginfo\n",
+            "",
+            0,
+        ),
+        waits: &[300],
     },
     Case {
-        words: &["serve", "-d", "m", "-c", "2", "-p", "8003", "-t", "9", "/srv"],
-        hands: 7,
+        plan: SOUND,
+        doors: 2,
+        rounds: 2,
+        serves: true,
+        run: Run(
+            &[
+                "serve", "-d", "m", "-c", "2", "-p", "8003", "-t", "86400", "-F", "/srv",
+            ],
+            b"serving on 8003 with 2 workers\n\
+                scan: 2 files, 2 added, 0 replaced, 0 dropped, 0 kept, 1 executables, 1 debuginfo\n\
+                scan: 2 files, 0 added, 0 replaced, 0 dropped, 2 kept, 1 executables, 1 debuginfo\n\
+                scan: 2 files, 0 added, 0 replaced, 0 dropped, 2 kept, 1 executables, 1 debuginfo\n",
+            "",
+            0,
+        ),
+        waits: &[86400, 86400, 86400],
+    },
+    // A folder that isn't there ends no server.
+    Case {
+        plan: SOUND,
+        doors: 1,
         rounds: 1,
-        bad_out: &[],
-        asks: &["GET /metrics HTTP/1.0\r\n\r\n", "GET /a HTTP/1.1\r\n\r\n"],
-        answers: &["HTTP/1.1 200 ", "HTTP/1.1 404 "],
-        out: b"serving on 8003 with 2 workers\n\
-            scan: 2 files, 2 added, 0 replaced, 0 dropped, 0 kept, 1 executables, 1 debuginfo\n\
-            scan: 2 files, 0 added, 0 replaced, 0 dropped, 2 kept, 1 executables, 1 debuginfo\n",
-        err: b"",
-        status: 0,
+        serves: true,
+        run: Run(
+            &[
+                "serve", "-d", "m", "-c", "1", "-p", "8003", "-t", "60", "/none",
+            ],
+            b"serving on 8003 with 1 workers\n",
+            "dbgd: gone /none\ndbgd: gone /none\n",
+            0,
+        ),
+        waits: &[60, 60],
     },
+    // The first line is refused, at once or in its midst.
     Case {
-        words: &["serve", "-d", "m", "-c", "1", "-p", "8003", "/srv"],
-        hands: 4,
+        plan: Plan {
+            bad_out: &[0],
+            ..SOUND
+        },
+        doors: 1,
         rounds: 1,
-        bad_out: &[0],
-        asks: &["GET /a HTTP/1.1\r\n\r\n"],
-        answers: &[],
-        out: b"",
-        err: b"dbgd: fault output\n",
-        status: 1,
+        serves: false,
+        run: Run(MINUTES, b"", "dbgd: fault output\n", 1),
+        waits: &[],
     },
     Case {
-        words: &["serve", "-d", "m", "-c", "1", "-p", "8003", "-t", "0", "/none"],
-        hands: 4,
-        rounds: 0,
-        bad_out: &[],
-        asks: &["GET /a HTTP/1.1\r\n\r\n"],
-        answers: &["HTTP/1.1 404 "],
-        out: b"serving on 8003 with 1 workers\n",
-        err: b"dbgd: gone /none\n",
-        status: 0,
+        plan: Plan {
+            bad_out: &[4],
+            width: 3,
+            ..SOUND
+        },
+        doors: 1,
+        rounds: 1,
+        serves: false,
+        run: Run(MINUTES, b"serving on 8", "dbgd: fault output\n", 1),
+        waits: &[],
+    },
+    // The line of the first pass is refused, and that of the second is written.
+    Case {
+        plan: Plan {
+            bad_out: &[1],
+            ..SOUND
+        },
+        doors: 1,
+        rounds: 1,
+        serves: true,
+        run: Run(
+            MINUTES,
+            b"serving on 8003 with 1 workers\n\
+                scan: 2 files, 0 added, 0 replaced, 0 dropped, 2 kept, 1 executables, 1 debuginfo\n",
+            "dbgd: fault output\n",
+            1,
+        ),
+        waits: &[60, 60],
+    },
+    // The line of the second pass is refused.
+    Case {
+        plan: Plan {
+            bad_out: &[2],
+            ..SOUND
+        },
+        doors: 1,
+        rounds: 1,
+        serves: true,
+        run: Run(
+            MINUTES,
+            b"serving on 8003 with 1 workers\n\
+                scan: 2 files, 2 added, 0 replaced, 0 dropped, 0 kept, 1 executables, 1 debuginfo\n",
+            "dbgd: fault output\n",
+            1,
+        ),
+        waits: &[60, 60],
+    },
+    // The store can't be opened, or its rows can't be read.
+    Case {
+        plan: Plan {
+            stop_at: Some(0),
+            ..SOUND
+        },
+        doors: 1,
+        rounds: 1,
+        serves: false,
+        run: Run(MINUTES, b"", "dbgd: fault store\n", 1),
+        waits: &[],
+    },
+    Case {
+        plan: Plan {
+            stop_at: Some(1),
+            ..SOUND
+        },
+        doors: 1,
+        rounds: 1,
+        serves: false,
+        run: Run(MINUTES, b"", "dbgd: fault store\n", 1),
+        waits: &[],
+    },
+    // The store fails at the first row. The second pass finds a broken index.
+    Case {
+        plan: Plan {
+            bad_calls: &[2],
+            ..SOUND
+        },
+        doors: 1,
+        rounds: 1,
+        serves: true,
+        run: Run(
+            MINUTES,
+            b"serving on 8003 with 1 workers\n",
+            "dbgd: fault store\ndbgd: fault store\n",
+            1,
+        ),
+        waits: &[60, 60],
     },
 ];
 
-/// A door with one connection, on which this comes.
-fn door_of(rt: &impl Abort, alloc: Global, asks: &str) -> MemDoor {
-    let conn = MemConn::new(
+/// A server with so many doors, at each of which a connection asks for no route.
+fn server(
+    rt: &impl Abort,
+    alloc: Global,
+    plan: &Plan<'_>,
+    count: usize,
+    rounds: u64,
+) -> Server<MemTree<OpenWorld>, MemDoor, NoGate> {
+    let inputs: [&[&str]; 4] = [&["GET /a HTTP/1.1\r\n\r\n"]; 4];
+    let doors = doors(rt, alloc, inputs.get(..count).expect(rt, "at most four"));
+    around(
+        rt,
         alloc,
-        Vec::from_slice(alloc, asks.as_bytes()).expect(rt, "memory"),
-        Vec::new(alloc),
-        Vec::new(alloc),
-        Vec::new(alloc),
-    );
-    MemDoor::new(alloc, vec![in alloc; conn].expect(rt, "memory"))
-}
-
-/// So many hands that have the two files.
-fn hands(rt: &impl Abort, alloc: Global, count: u64) -> Vec<MemTree<OpenWorld>> {
-    let mut hands = Vec::new(alloc);
-    for _ in 0..count {
-        hands.push(hand_of(rt, alloc, &Two, &[])).expect(rt, "memory");
-    }
-    hands
-}
-
-/// The doors of a case.
-fn doors(rt: &impl Abort, alloc: Global, case: &Case) -> Vec<MemDoor> {
-    let mut doors = Vec::new(alloc);
-    for asks in case.asks {
-        doors.push(door_of(rt, alloc, asks)).expect(rt, "memory");
-    }
-    doors
-}
-
-/// What is around the server of a case.
-fn around(rt: &impl Abort, alloc: Global, case: &Case) -> Memory {
-    let bad_out = Vec::from_slice(alloc, case.bad_out).expect(rt, "memory");
-    Outside {
-        hands: hands(rt, alloc, case.hands),
-        store: MemStore::new(alloc, Vec::new(alloc), None, Vec::new(alloc)),
-        doors: doors(rt, alloc, case),
-        clock: MemClock::new(alloc, case.rounds),
-        out: MemSink::new(alloc, bad_out),
-        err: MemSink::new(alloc, Vec::new(alloc)),
-        gate: NoGate,
-        of: PhantomData::<OpenWorld>,
-    }
-}
-
-/// Whether what was written on the connection of each door begins as it should.
-fn compare_answers(rt: &impl Abort, doors: &[MemDoor], case: &Case) {
-    for (door, begins) in doors.iter().zip(case.answers) {
-        let ended = door.ended_conns().expect(rt, "told");
-        let conn = ended.first().expect(rt, "a connection");
-        let written = conn.written().expect(rt, "told");
-        assert!(rt; written.starts_with(begins.as_bytes()), "{:?}", case.words);
-    }
+        hands(rt, alloc, &Two, 10),
+        doors,
+        NoGate,
+        plan,
+        rounds,
+    )
 }
 
 /// Runs a server, and compares what comes of it.
-fn serve<Rt: Threads + Wait + Sync + Abort>(rt: &Rt, alloc: Global, case: &Case) {
-    let mut outside = around(rt, alloc, case);
-    let words = words_of(rt, alloc, case.words);
-    let needs = needs(alloc, words.as_slice()).expect(rt, "memory");
-    assert!(rt; !outside.hands.is_empty(), "a hand");
-    assert!(rt; needs.hands <= outside.hands.len() as u64, "hands");
-    assert!(rt; needs.doors == outside.doors.len() as u64, "doors");
-    let status = run(rt, alloc, words.as_slice(), &mut outside);
-    assert!(rt; outside.out.written() == Some(case.out), "out of {:?}", case.words);
-    assert!(rt; outside.err.written() == Some(case.err), "err of {:?}", case.words);
-    assert!(rt; status == case.status, "status of {:?}: {status}", case.words);
-    compare_answers(rt, outside.doors.as_slice(), case);
+fn serve_case<Rt: Threads + Wait + Sync + Abort>(rt: &Rt, alloc: Global, case: &Case) {
+    let mut server = server(rt, alloc, &case.plan, case.doors, case.rounds);
+    serve(rt, alloc, &mut server, &case.run, case.waits);
+    for door in &server.doors {
+        has_ended(rt, door, usize::from(case.serves));
+        if case.serves {
+            is_answered(rt, door, 0, NO_ROUTE);
+        }
+    }
 }
 
 #[test]
-fn servers_say_what_they_do_and_answer(rt: HostRuntime) {
+fn a_server_says_what_it_does_and_how_it_ends(rt: HostRuntime) {
     for case in &CASES {
-        serve(&rt, rt.alloc(), case);
+        serve_case(&rt, rt.alloc(), case);
     }
 }
