@@ -111,9 +111,10 @@ pub(crate) fn serve_geared<
         room: all_room,
     } = lent;
     let doors = mem::replace(&mut outside.doors, Vec::new(alloc));
+    let first = mem::replace(&mut outside.hands, Vec::new(alloc));
     let places = places_of(workers, others, doors, room);
     let crew = Crew {
-        hands: mem::replace(&mut outside.hands, Vec::new(alloc)),
+        hands: first,
         share: own,
         posts: Posts {
             places,
@@ -121,19 +122,22 @@ pub(crate) fn serve_geared<
             back,
         },
     };
+    let text = line.as_str();
+    let folders = order.folders.as_slice();
+    let roots = &folders[..order.scanned];
     let site = Site {
         rt,
         alloc,
         path: order.store,
-        line: line.as_str(),
-        roots: &order.folders[..order.scanned],
-        folders: order.folders.as_slice(),
+        line: text,
+        roots,
+        folders,
         book: &book,
         secs: order.secs,
         doors: order.workers,
         gate: &outside.gate,
     };
-    let Back { hands, places, end } = serve_store(
+    let left = serve_store(
         &site,
         &mut outside.store,
         crew,
@@ -141,7 +145,9 @@ pub(crate) fn serve_geared<
         &mut outside.out,
         &mut outside.err,
     );
-    let status = say_serve_end(&end, places.as_slice(), &mut outside.out, &mut outside.err);
+    let Back { hands, places, end } = left;
+    let ended = places.as_slice();
+    let status = say_serve_end(&end, ended, &mut outside.out, &mut outside.err);
     let (workers, doors) = parts_of(places, hands_room, doors_room);
     outside.hands = hands;
     outside.doors = doors;
