@@ -73,7 +73,7 @@ scanned 1
 exec {reader}<>"/dev/tcp/127.0.0.1/$port"
 printf 'GET /buildid/%s/executable HTTP/1.1\r\n\r\n' "$id" >&"$reader"
 sleep 0.5
-curl -s -m 80 --noproxy '*' -o "$work/behind" -w '%{http_code} %{time_total}' "$stopped_at/none" >"$work/behind.status" &
+curl -s -m "${SERVE_SECONDS:-115}" --noproxy '*' -o "$work/behind" -w '%{http_code} %{time_total}' "$stopped_at/none" >"$work/behind.status" &
 behind=$!
 children+=("$behind")
 
@@ -280,7 +280,7 @@ is 'a request behind a reader that stopped' 404 "$status"
 timeout 20 cat <&"$reader" >"$work/got"
 exec {reader}>&-
 [ "$(stat -c %s "$work/got")" -lt $((16 * 1024 * 1024)) ] || differs 'a reader that stopped got all'
-for turn in {1..8}; do
+for turn in 1 2 3; do
   exec {conn}<>"/dev/tcp/127.0.0.1/${stopped_at##*:}" || differs "client $turn that goes away"
   printf 'GET /buildid/%s/executable HTTP/1.1\r\n\r\n' "$id" >&"$conn"
   head -c 1000 <&"$conn" >/dev/null
