@@ -205,7 +205,7 @@ fn server(
     plan: &Plan<'_>,
     count: usize,
     rounds: u64,
-) -> Server<MemTree<OpenWorld>, MemDoor, NoGate> {
+) -> Server<OpenWorld, MemTree<OpenWorld>, MemDoor, NoGate> {
     let inputs: [&[&str]; 4] = [&["GET /a HTTP/1.1\r\n\r\n"]; 4];
     let doors = doors(rt, alloc, inputs.get(..count).expect(rt, "at most four"));
     around(

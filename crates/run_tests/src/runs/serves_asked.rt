@@ -3,13 +3,16 @@
 use crate::runs::rig::{Run, SOUND};
 use crate::runs::serves_replies::{Ask, NOT_FOUND, TABLE, replies, requests};
 use crate::runs::serves_rig::{around, door, has_ended, is_answered, serve};
+use crate::runs::told::told_reference;
 use crate::runs::workers::references;
+use elf_reading::ElfTruth;
 use http_wire::MemDoor;
+use sample_world::SampleWorld;
 use std::alloc::Global;
 use std::process::Abort;
 use std::sync::Wait;
 use std::thread::Threads;
-use tree_trait::NoGate;
+use tree_trait::{MemTree, NoGate, Tree};
 
 /// A server by so many workers, each of which is asked all of the table.
 struct Case {
@@ -112,6 +115,23 @@ fn all_answered(rt: &impl Abort, doors: &[MemDoor], wanted: &[u8]) {
     }
 }
 
+/// Asks these at each door of a server with these hands, by so many workers, and compares what comes of
+/// it.
+fn ask_by<W: ElfTruth + Send + Sync, T: Tree<W>, Rt: Threads + Wait + Sync + Abort>(
+    rt: &Rt,
+    alloc: Global,
+    hands: Vec<T>,
+    asks: &[Ask],
+    workers: u64,
+    case: &Run<'_>,
+    wanted: &[u8],
+) {
+    let doors = all_asking(rt, alloc, asks, workers);
+    let mut server = around(rt, alloc, hands, doors, NoGate, &SOUND, 0);
+    serve(rt, alloc, &mut server, case, &[]);
+    all_answered(rt, server.doors.as_slice(), wanted);
+}
+
 /// Asks these at each door of a server by so many workers, and compares what comes of it.
 fn ask<Rt: Threads + Wait + Sync + Abort>(
     rt: &Rt,
@@ -122,10 +142,7 @@ fn ask<Rt: Threads + Wait + Sync + Abort>(
     wanted: &[u8],
 ) {
     let hands = references(rt, alloc, workers.saturating_mul(2).saturating_add(2));
-    let doors = all_asking(rt, alloc, asks, workers);
-    let mut server = around(rt, alloc, hands, doors, NoGate, &SOUND, 0);
-    serve(rt, alloc, &mut server, case, &[]);
-    all_answered(rt, server.doors.as_slice(), wanted);
+    ask_by(rt, alloc, hands, asks, workers, case, wanted);
 }
 
 #[test]
@@ -135,6 +152,28 @@ fn each_of_any_number_of_workers_answers_all(rt: HostRuntime) {
     for case in &CASES {
         let run = Run(case.words, case.out, "", 0);
         ask(&rt, alloc, &TABLE, case.workers, &run, wanted.as_slice());
+    }
+}
+
+/// Six hands of the told world, each of which has the reference tree.
+fn told_references(rt: &impl Abort, alloc: Global) -> Vec<MemTree<SampleWorld>> {
+    let mut hands = Vec::new(alloc);
+    for _ in 0..6 {
+        hands
+            .push(told_reference(rt, alloc, &[]))
+            .expect(rt, "memory");
+    }
+    hands
+}
+
+#[test]
+fn a_told_world_is_served(rt: HostRuntime) {
+    let alloc = rt.alloc();
+    let wanted = replies(&rt, alloc, &TABLE);
+    for case in CASES.iter().skip(1).take(1) {
+        let run = Run(case.words, case.out, "", 0);
+        let hands = told_references(&rt, alloc);
+        ask_by(&rt, alloc, hands, &TABLE, 2, &run, wanted.as_slice());
     }
 }
 

@@ -78,7 +78,7 @@ fn server(
     rt: &impl Abort,
     alloc: Global,
     bad_accepts: &[u64; 2],
-) -> Server<MemTree<OpenWorld>, Failing, NoGate> {
+) -> Server<OpenWorld, MemTree<OpenWorld>, Failing, NoGate> {
     let mut doors = Vec::new(alloc);
     for bad_accept in bad_accepts {
         doors

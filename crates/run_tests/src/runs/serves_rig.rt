@@ -5,6 +5,7 @@ use crate::runs::hands::{Files, hand_of};
 use crate::runs::rig::{Narrow, Plan, Run, compare, empty_store, sink_of, words_of};
 use crate::runs::serves_replies::{Ask, replies};
 use dbgd_run::{Outside, needs, run};
+use elf_reading::ElfTruth;
 use http_wire::{Door, MemConn, MemDoor};
 use index_keeper::MemStore;
 use row_types::OpenWorld;
@@ -16,7 +17,7 @@ use std::thread::Threads;
 use tree_trait::{Gate, MemClock, MemTree, Tree};
 
 /// The objects of a server.
-pub type Server<T, D, G> = Outside<OpenWorld, T, MemStore<OpenWorld>, D, MemClock, Narrow, G>;
+pub type Server<W, T, D, G> = Outside<W, T, MemStore<W>, D, MemClock, Narrow, G>;
 
 /// A connection on which this comes.
 fn conn(rt: &impl Abort, alloc: Global, input: &str) -> MemConn {
@@ -72,7 +73,7 @@ pub fn hands(rt: &impl Abort, alloc: Global, files: &Files, count: u64) -> Vec<M
 
 /// What is around a server: its store and its sinks are those of a plan, and the clock says Again so
 /// often.
-pub fn around<T: Tree<OpenWorld>, D: Door, G: Gate + Drop>(
+pub fn around<W: ElfTruth + Send + Sync, T: Tree<W>, D: Door, G: Gate + Drop>(
     rt: &impl Abort,
     alloc: Global,
     hands: Vec<T>,
@@ -80,7 +81,7 @@ pub fn around<T: Tree<OpenWorld>, D: Door, G: Gate + Drop>(
     gate: G,
     plan: &Plan<'_>,
     rounds: u64,
-) -> Server<T, D, G> {
+) -> Server<W, T, D, G> {
     Outside {
         hands,
         store: empty_store(rt, alloc, plan),
@@ -89,17 +90,18 @@ pub fn around<T: Tree<OpenWorld>, D: Door, G: Gate + Drop>(
         out: sink_of(rt, alloc, plan.bad_out, plan.width),
         err: sink_of(rt, alloc, plan.bad_err, plan.width),
         gate,
-        of: PhantomData::<OpenWorld>,
+        of: PhantomData::<W>,
     }
 }
 
 /// The status of a server.
-fn status_of<T: Tree<OpenWorld>, D: Door, G: Gate + Drop, Rt: Threads + Wait + Sync + Abort>(
-    rt: &Rt,
-    alloc: Global,
-    server: &mut Server<T, D, G>,
-    words: &[&str],
-) -> u8 {
+fn status_of<
+    W: ElfTruth + Send + Sync,
+    T: Tree<W>,
+    D: Door,
+    G: Gate + Drop,
+    Rt: Threads + Wait + Sync + Abort,
+>(rt: &Rt, alloc: Global, server: &mut Server<W, T, D, G>, words: &[&str]) -> u8 {
     let texts = words_of(rt, alloc, words);
     let needs = needs(alloc, texts.as_slice()).expect(rt, "memory");
     assert!(rt; !server.hands.is_empty(), "a hand");
@@ -128,13 +130,13 @@ fn compare_waits(rt: &impl Abort, clock: &MemClock, waits: &[u64], words: &[&str
 }
 
 /// Runs a server, and compares what it says, how it ends, and the waits between its passes.
-pub fn serve<T: Tree<OpenWorld>, D: Door, G: Gate + Drop, Rt: Threads + Wait + Sync + Abort>(
-    rt: &Rt,
-    alloc: Global,
-    server: &mut Server<T, D, G>,
-    case: &Run<'_>,
-    waits: &[u64],
-) {
+pub fn serve<
+    W: ElfTruth + Send + Sync,
+    T: Tree<W>,
+    D: Door,
+    G: Gate + Drop,
+    Rt: Threads + Wait + Sync + Abort,
+>(rt: &Rt, alloc: Global, server: &mut Server<W, T, D, G>, case: &Run<'_>, waits: &[u64]) {
     let Run(words, out, err, status) = case;
     let ended = status_of(rt, alloc, server, words);
     compare(rt, &server.out.sink, out, "out", words);

@@ -66,7 +66,7 @@ fn server(
     rt: &impl Abort,
     alloc: Global,
     plan: &Plan<'_>,
-) -> Server<MemTree<OpenWorld>, MemDoor, Both> {
+) -> Server<OpenWorld, MemTree<OpenWorld>, MemDoor, Both> {
     let inputs = [Ask::Tool.request(), STAYS, STAYS];
     let doors = vec![in alloc; door(rt, alloc, &inputs)].expect(rt, "memory");
     let gate = within_a_pass(rt, alloc);
