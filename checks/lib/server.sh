@@ -13,10 +13,8 @@ trap 'say "cut off"; exit 1' INT TERM HUP
 # Ends the script after so many seconds, whatever it waits for.
 end_after() { # SECONDS
   (
-    trap - EXIT
-    sleep "$1" &
-    trap 'kill $!; exit 0' TERM
-    wait $!
+    trap - EXIT INT TERM HUP
+    read -r -t "$1" _ <> <(:)
     kill -TERM $$
   ) &
   children+=($!)
@@ -65,8 +63,11 @@ scanned() { # COUNT
 
 # Ends a server by a signal, whose status it has then.
 stop() { # SERVER
+  local status child left=()
   kill -TERM "$1" 2>/dev/null
   wait "$1"
-  local status=$?
+  status=$?
   [ "$status" = 143 ] || differs "a server that was ended has status $status"
+  for child in "${children[@]}"; do [ "$child" = "$1" ] || left+=("$child"); done
+  children=("${left[@]}")
 }
