@@ -1,7 +1,7 @@
 #!/usr/bin/env bash
 # Looks at what is written for people beside the code: the manual page by mandoc's lint and the unit by systemd-analyze, each
-# where it is installed; and that every option and default which the program's helps name stands in the manual page and in
-# docs/COMMANDS.md.
+# where it is installed; that every option and default which the program's helps name stands in the manual page and in
+# docs/COMMANDS.md; and that docs/SERVING.md has the values of the constants that it names.
 #
 # usage: checks/manual.sh [PROGRAM]      PROGRAM is ./dbgd of the repository's top unless given
 source "$(dirname -- "$(readlink -f -- "${BASH_SOURCE[0]}")")/lib/head.sh" || exit 1
@@ -45,5 +45,17 @@ for command in query scan serve; do
 done
 [ "$options" != 0 ] || differs 'the helps name no option'
 
-say "$looked of 2 tools looked, $options options compared; $differing differ"
+# The limits: a line that names constants has their values.
+limits=0
+while IFS='|' read -r _ _ text names _; do
+  for constant in $(grep -o -E '`[A-Z]+(_[A-Z]+)+`|`REQUESTS`' <<<"$names" | tr -d '`'); do
+    value=$(grep -h -o -E "const $constant: [a-z0-9]+ = [0-9_]+;" crates/*/src/*.rt | sed 's/.* = //; s/;//; s/_/,/g')
+    [ -n "$value" ] || continue
+    limits=$((limits + 1))
+    grep -q -E "(^|[^0-9,])$value([^0-9,]|\$)" <<<"$text" || differs "docs/SERVING.md: $constant is $value, and not$text"
+  done
+done < <(grep '^|' docs/SERVING.md)
+[ "$limits" -ge 8 ] || differs "docs/SERVING.md names $limits constants"
+
+say "$looked of 2 tools looked, $options options and $limits limits compared; $differing differ"
 [ "$differing" = 0 ]
