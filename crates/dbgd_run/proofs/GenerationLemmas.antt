@@ -16,7 +16,6 @@ use Rattle.conn_server.specs.Cases.{bad_head, too_long, too_many, method, has_bo
 use Rattle.conn_server.specs.Exchange.{Exchange, IsExchange}
 use Rattle.conn_server.specs.Replies.{reason_of_route}
 use Rattle.conn_server.specs.Scene.{Scene, Stand, sight_at}
-use Rattle.conn_server.specs.declared.body.Body.{Body}
 use Rattle.conn_server.specs.declared.reason.Reason.{Reason}
 use Rattle.conn_server.specs.declared.report.Asked as given
 use Rattle.dbgd_run.specs.Workers.{rests_on_index}
@@ -40,7 +39,7 @@ passed_at sight route (local.Fault n) is files = absurd files
 passed_at sight route local.OutOfMemory is files = absurd files
 
 module _ {T : Type 0} (scene : Scene T) (at : Stand T) (own noted : ShareFacts) (log : List Change) (request : Request) where
-  at_log : {what : given.Asked} {why : Reason} {n : ℕ} {carried : Body} {answers : List Heard}
+  at_log : {what : given.Asked} {why : Reason} {n : ℕ} {carried : _} {answers : List Heard}
       → IsCase scene at own noted log request what why n carried answers → IsTrue (rests_on_index why) → n ≡ length log
   at_log (bad_head len e) h = absurd (false≢true h)
   at_log (too_long e) h = absurd (false≢true h)

@@ -1,7 +1,8 @@
 -- A first pass, and what goes on behind it.
-use Rattle.std.proofs.Common.{◌≡◌, ◌⊎◌, inl, inr, ℕ, zero, suc, ◌<◌, Bool, true, false, List, Option, Some, None, refl, sym, ◌∙◌, arith}
+use Rattle.std.proofs.Common.{◌≡◌, ◌⊎◌, inl, inr, ℕ, ◌<◌, nat_lt, Bool, true, false, List, Option, Some, None, refl, sym, ◌∙◌, arith}
 use Rattle.std.specs.List.{AllZip}
-use Rattle.std.proofs.lemmas.Bool.{false≢true, true≢false}
+use Rattle.std.proofs.lemmas.Bool.{false≢true}
+use Rattle.std.proofs.lemmas.Bool.Decides.{nat_tests}
 use mathlib.Core.List.{IsPrefix}
 use Rattle.index_rows.specs.declared.change.Change.{Change}
 use Rattle.dbgd_run.specs.Rounds.{PassingScene, Round}
@@ -13,21 +14,24 @@ use Rattle.dbgd_run.specs.declared.line_fate.LineFate.TheVariants.{Written, Cut,
 use Rattle.dbgd_run.specs.declared.passes_end.PassesEnd.{PassesEnd}
 use Rattle.dbgd_run.specs.declared.places.DoorPlace.{DoorPlace}
 
+-- a number is 0, or greater, as the test says
+none_more : (n : ℕ) → nat_lt 0 n ≡ false → n ≡ 0
+none_more n no = grind (arith, nat_tests)
+
+some_more : (n : ℕ) → nat_lt 0 n ≡ true → 0 < n
+some_more n yes = grind (arith, nat_tests)
+
 -- no passes behind the first one: there is no time between them, or its line could not be made
 none_on : (secs : ℕ) (fate : LineFate) → goes_on secs fate ≡ false → (secs ≡ 0) ⊎ (fate ≡ Unmade)
-none_on secs Unmade is = inr refl
-none_on zero Written is = inl refl
-none_on (suc n) Written is = absurd (true≢false is)
-none_on zero Cut is = inl refl
-none_on (suc n) Cut is = absurd (true≢false is)
+none_on secs Unmade no = inr refl
+none_on secs Written no = inl (none_more secs no)
+none_on secs Cut no = inl (none_more secs no)
 
 -- passes behind it: there is time between them
 some_on : (secs : ℕ) (fate : LineFate) → goes_on secs fate ≡ true → 0 < secs
-some_on secs Unmade is = absurd (false≢true is)
-some_on zero Written is = absurd (false≢true is)
-some_on (suc n) Written is = omega arith
-some_on zero Cut is = absurd (false≢true is)
-some_on (suc n) Cut is = omega arith
+some_on secs Unmade yes = absurd (false≢true yes)
+some_on secs Written yes = some_more secs yes
+some_on secs Cut yes = some_more secs yes
 
 module _ {T D : Type 0} (r : ServeRules T D) (before : PassingScene T) (places : List (DoorPlace T D)) (first : Round T) where
   pub serves_from : (how : Option PassesEnd) (joined : List Change) (after : CrewFacts T D) (passing : Bool)
