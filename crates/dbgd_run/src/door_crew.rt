@@ -90,7 +90,7 @@ pub(crate) fn run_doors<
     hall: &Hall<'_, W, K, G, Rt>,
     slots: &mut Vec<Option<Slot<State<W, K>, DoorPlace<T, D>>>>,
 )
-    requires { All (SlotHas (λ slot. (slot.seat.lock ≡ hall.now.lock.now)
+    requires filled { All (SlotHas (λ slot. (slot.seat.lock ≡ hall.now.lock.now)
         × HasRowIn hall.now.book.now slot.place.share)) slots.old.items }
     ensures ran { AllZip (SlotRan (λ before after. IsLater before.seat after.seat
         × RunsPlace

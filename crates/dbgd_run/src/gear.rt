@@ -32,7 +32,7 @@ pub(crate) fn new_gear<W: Truth, K: Keeper<W>, T: Drop, D: Door, R: Wait>(
     workers: u64,
     port: u64,
 ) -> Result<Gear<W, K, T, D>, AllocError>
-    requires { IsScanFit workers }
+    requires fits { IsScanFit workers }
     ensures line { IfOk result (λ gear. string_bytes gear.line ≡ serving_line port workers) }
     ensures rows { IfOk result (λ gear. gear.shares.book.rows ≡ workers + 1) }
     ensures own { IfOk result (λ gear. IsFreshShare gear.shares.book gear.shares.own) }

@@ -35,6 +35,6 @@ returns g c =
           (λ slot. slot.seat.lock ≡ c.args.hall.now.lock.now))) same
           (ran_locks (λ slot. slot.seat) (λ slot. slot.place) (RunsPlace (scene_of g.W.Truth.true_row g.T.Tree.told g.W.Truth.version g.T.Tree.shows c.args.hall.now.folders.now c.args.hall.now.book.now.rows) g.D.Door.shows) c.args.hall.now.lock.now
           c.args.slots.now.items c.run_each.new.slots (locks_of {C = Slot (State g.row.W.Denot g.row.K.Denot) (DoorPlace g.row.T.Denot g.row.D.Denot) Change Opening} (λ slot. slot.seat)
-          (λ slot. HasRowIn c.args.hall.now.book.now slot.place.share) c.args.hall.now.lock.now c.args.slots.now.items c.requires) ran);
+          (λ slot. HasRowIn c.args.hall.now.book.now slot.place.share) c.args.hall.now.lock.now c.args.slots.now.items c.requires.filled) ran);
       count = refl;
     }

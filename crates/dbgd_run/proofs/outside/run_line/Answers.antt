@@ -8,7 +8,7 @@ pub returns-in-Scan-clause-law : goal.returns-in-Scan-clause-law
 returns-in-Scan-clause-law g c =
     rw c.in-Scan.is
     (record {
-      runs = c.run_scan.ensures.runs;
+      runs = rw c.as_slice.ensures.value at c.run_scan.ensures.runs;
       rest = record {
         doors = ap (λ doors. map g.D.Door.shows doors.items) c.run_scan.ensures.rest.0;
         woke = ap g.C.Clock.woke c.run_scan.ensures.rest.1;

@@ -12,8 +12,8 @@ use Rattle.dbgd_run.proofs.WorkerLemmas.{all_served, ready_all}
 use Rattle.dbgd_run.proofs.server.serve_beside.Goals as goal
 
 -- the slots have the shares of the places
-pub run_beside-requires-clause-slots : goal.run_beside-requires-clause-slots
-run_beside-requires-clause-slots g c =
+pub run_beside-end-requires-clause-slots : goal.run_beside-end-requires-clause-slots
+run_beside-end-requires-clause-slots g c = λ κs within.
     ready_all {C = Slot (State g.row.W.Denot g.row.K.Denot) (DoorPlace g.row.T.Denot g.row.D.Denot) Change Opening} (λ slot. slot.seat) (λ slot. slot.place) (λ place. HasRowIn c.args.hall.now.book.now place.share)
     c.args.hall.now.lock.now c.args.lead.seat c.requires.lock c.args.posts.places.items _ c.requires.shares c.seats_out-seat.ensures.slots
 

@@ -21,7 +21,7 @@ returns-in-Ok-clause-serves g c =
       holds = c.into_keeper.ensures.holds;
       origin =
           ap (λ (i : StateFacts g.row.K.Denot). i.origin) c.into_value-state.ensures ∙ c.enter-held.ensures.origin ∙ later.origin ∙ c.in-Ok.ensures.seen.1;
-      broken_is = sym (ap (λ (standing : Standing). standing.broken) c.standing.ensures.value);
+      broken_is = sym (ap (λ (standing : Standing). standing.broken) c.standing-broken.ensures.value);
       begins =
           subst (λ (xs : List Change). IsPrefix xs last) c.in-Ok.ensures.seen.0
           (prefix_trans c.in-Ok.seat.seen joined last later.log ended);
@@ -29,5 +29,5 @@ returns-in-Ok-clause-serves g c =
     }
 
 pub returns-in-Err-clause-serves : goal.returns-in-Err-clause-serves
-returns-in-Err-clause-serves g c = rw (c.unserved.ensures.hands, c.unserved.ensures.places, c.unserved.ensures.end, c.in-Err.ensures.memory)
+returns-in-Err-clause-serves g c = rw (c.unserved.ensures.hands, c.unserved.ensures.places, c.unserved.ensures.end, ← c.in-Err.ensures.memory)
     (record { value = c.into_keeper-in-Err.ensures.value; holds = c.into_keeper-in-Err.ensures.holds; same = refl })

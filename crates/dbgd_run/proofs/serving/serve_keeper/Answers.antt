@@ -1,25 +1,45 @@
 -- What came of a keeper, by how the server ended.
-use Rattle.std.proofs.Common.{Bool, ap, refl, subst}
+use Rattle.std.proofs.Common.{Bool, [], ap, refl, subst}
+use Rattle.row_types.specs.Rules.{rules}
 use Rattle.index_state.specs.State.{StateFacts}
+use Rattle.conn_server.specs.Scene.{scene_of}
+use Rattle.dbgd_run.specs.Endings.{streams}
+use Rattle.dbgd_run.specs.Rounds.{passing_scene}
+use Rattle.dbgd_run.specs.Scene.{setting}
 use Rattle.dbgd_run.specs.ServeSaid.{Announces}
+use Rattle.dbgd_run.specs.Serving.{crew_of, serve_rules}
 use Rattle.dbgd_run.proofs.StoreLemmas.{rose_some}
 use Rattle.dbgd_run.proofs.KeeperServed.{keeper_opened}
 use Rattle.dbgd_run.proofs.serving.serve_keeper.Goals as goal
 
-pub returns-in-Ok-then-announce-clause-serves : goal.returns-in-Ok-then-announce-clause-serves
-returns-in-Ok-then-announce-clause-serves g c =
-    keeper_opened _ g.K.Keeper.shows c.args.site.now.line.now _ _ _ _ c.serve_index.result.1.end _ c.in-Ok.ensures.ok
-    (subst (λ (told : Bool). Announces c.args.site.now.line.now told _ _) c.then-announce.is c.announce.ensures)
+pub returns-then-announce-clause-serves : goal.returns-then-announce-clause-serves
+returns-then-announce-clause-serves g c =
+    keeper_opened
+    (serve_rules
+    (setting (rules g.W.Truth.version g.W.Truth.true_row g.W.Truth.told) g.T.Tree.told g.T.Tree.shows g.K.Keeper.told)
+    c.args.site.now.roots.now c.args.site.now.secs
+    (scene_of g.W.Truth.true_row g.T.Tree.told g.W.Truth.version g.T.Tree.shows c.args.site.now.folders.now c.args.site.now.book.now.rows)
+    g.D.Door.shows)
+    g.K.Keeper.shows c.args.site.now.line.now c.args.keeper c.serve_index.result.0
+    (passing_scene [] c.args.crew.hands.items (g.C.Clock.woke c.args.clock.now)
+    (streams g.O.Stream.shows c.args.out.now c.args.err.now) c.args.crew.share)
+    c.args.crew.posts.places.items c.serve_index.result.1.end
+    (crew_of c.serve_index.result.1.hands.items (g.C.Clock.woke c.serve_index.new.clock)
+    (streams g.O.Stream.shows c.serve_index.new.out c.serve_index.new.err) c.serve_index.result.1.places.items)
+    c.in-Ok.ensures.ok
+    (subst (λ (told : Bool). Announces c.args.site.now.line.now told (streams g.O.Stream.shows c.args.out.now c.args.err.now)
+    (streams g.O.Stream.shows c.announce.new.out c.announce.new.err)) c.if-announce.true c.announce.ensures)
     c.serve_index.ensures.serves
 
-pub returns-in-Ok-else-branch-clause-serves : goal.returns-in-Ok-else-branch-clause-serves
-returns-in-Ok-else-branch-clause-serves g c = rw (c.unserved.ensures.hands, c.unserved.ensures.places, c.unserved.ensures.end)
+pub returns-else-announce-clause-serves : goal.returns-else-announce-clause-serves
+returns-else-announce-clause-serves g c = rw (c.unserved.ensures.hands, c.unserved.ensures.places, c.unserved.ensures.end)
     (record {
       old = c.in-Ok.state;
       opens = c.in-Ok.ensures.ok;
       holds = c.into_keeper.ensures.holds;
       value = c.into_keeper.ensures.value;
-      says = subst (λ (told : Bool). Announces c.args.site.now.line.now told _ _) c.else-branch.is c.announce.ensures;
+      says = subst (λ (told : Bool). Announces c.args.site.now.line.now told (streams g.O.Stream.shows c.args.out.now c.args.err.now)
+    (streams g.O.Stream.shows c.announce.new.out c.announce.new.err)) c.if-announce.false c.announce.ensures;
       same = refl;
     })
 
@@ -36,4 +56,4 @@ returns-in-Err-clause-serves g c =
 
 -- no name was spared of an index as it is opened
 pub serve_index-requires-clause-spared : goal.serve_index-requires-clause-spared
-serve_index-requires-clause-spared g c = ap (λ (st : StateFacts g.row.K.Denot). st.origin.sparing) c.in-Ok.ensures.ok.opened.value
+serve_index-requires-clause-spared g c = λ κs within. ap (λ (st : StateFacts g.row.K.Denot). st.origin.sparing) c.in-Ok.ensures.ok.opened.value
