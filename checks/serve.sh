@@ -1,17 +1,18 @@
 #!/usr/bin/env bash
 # Asks real servers over sockets, and compares each reply to its last byte: the files of checks/data by id, requests in one
 # write, connections that stand idle, ask at once or stop to read, files that are replaced, passes beside requests, and
-# what a scan finds in the store of a server that was ended in the middle of a pass. Ends within two minutes.
+# what a scan finds in the store of a server that was ended in the middle of a pass. Ends within two minutes where nothing else
+# keeps the machine busy.
 #
 # usage: checks/serve.sh [PROGRAM]      PROGRAM is ./dbgd of the repository's top unless given
 #
-# It is cut off after SERVE_SECONDS (118 unless set), and fails then. SERVE_FILES (2000 unless set) are scanned as a server is
+# It is cut off after SERVE_SECONDS (175 unless set), and fails then. SERVE_FILES (2000 unless set) are scanned as a server is
 # ended.
 source "$(dirname -- "$(readlink -f -- "${BASH_SOURCE[0]}")")/lib/head.sh" || exit 1
 source "$top/checks/lib/server.sh" || exit 1
 
 command -v curl >/dev/null || { say "skipped: there is no curl"; exit 0; }
-end_after "${SERVE_SECONDS:-118}"
+end_after "${SERVE_SECONDS:-175}"
 compared=0
 
 # Compares a file with what is wanted, byte for byte.
@@ -74,7 +75,7 @@ scanned 1
 exec {reader}<>"/dev/tcp/127.0.0.1/$port"
 printf 'GET /buildid/%s/executable HTTP/1.1\r\n\r\n' "$id" >&"$reader"
 sleep 0.5
-curl -s -m "${SERVE_SECONDS:-118}" --noproxy '*' -o "$work/behind" -w '%{http_code} %{time_total}' "$stopped_at/none" >"$work/behind.status" &
+curl -s -m "${SERVE_SECONDS:-175}" --noproxy '*' -o "$work/behind" -w '%{http_code} %{time_total}' "$stopped_at/none" >"$work/behind.status" &
 behind=$!
 children+=("$behind")
 
