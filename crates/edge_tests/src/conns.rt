@@ -8,7 +8,7 @@ use std::alloc::Global;
 use std::io::Write;
 use std::net::TcpStream;
 use std::process::Abort;
-use std::time::{Clock, Duration};
+use std::time::Duration;
 
 // Numbers of Linux (asm-generic/errno-base.h and errno.h), with a sign.
 const EINTR: i32 = -4;
@@ -127,15 +127,6 @@ fn held(rt: &impl Abort, stream: &TcpStream) -> RealConn<TcpStream> {
     RealConn::new(another).expect(rt, "a connection")
 }
 
-/// Another hold of a stream, as a connection that was dialled.
-fn held_dialled<'a, R: Clock + Abort>(
-    rt: &'a R,
-    stream: &TcpStream,
-) -> DialledConn<&'a R, TcpStream> {
-    let another = stream.try_clone().expect(rt, "another hold");
-    DialledConn::new(rt, another).expect(rt, "a connection")
-}
-
 #[test]
 fn a_connection_has_its_time_limits(rt: HostRuntime) {
     let (_listener, port) = bound(&rt);
@@ -144,17 +135,6 @@ fn a_connection_has_its_time_limits(rt: HostRuntime) {
     let (read, write, at_once) = limits_of(&rt, &stream);
     assert!(rt; read == Some(Duration::from_secs(5)), "reads");
     assert!(rt; write == Some(Duration::from_secs(30)), "writes");
-    assert!(rt; at_once, "small writes");
-}
-
-#[test]
-fn a_connection_that_was_dialled_has_its_own(rt: HostRuntime) {
-    let (_listener, port) = bound(&rt);
-    let stream = client_of(&rt, port);
-    let _conn = held_dialled(&rt, &stream);
-    let (read, write, at_once) = limits_of(&rt, &stream);
-    assert!(rt; read == Some(Duration::from_secs(10)), "reads");
-    assert!(rt; write == Some(Duration::from_secs(10)), "writes");
     assert!(rt; at_once, "small writes");
 }
 
