@@ -8,7 +8,7 @@ use std::alloc::Global;
 use std::io::Write;
 use std::net::TcpStream;
 use std::process::Abort;
-use std::time::Duration;
+use std::time::{Clock, Duration};
 
 // Numbers of Linux (asm-generic/errno-base.h and errno.h), with a sign.
 const EINTR: i32 = -4;
