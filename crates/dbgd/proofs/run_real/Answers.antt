@@ -10,6 +10,6 @@ run-requires-send-S-K c κs = search (file_keeper_sends, sendable)
 -- the hands and the doors are those that the words need
 pub run-requires-clause-enough : goal.run-requires-clause-enough
 run-requires-clause-enough g c = λ κs within serve.
-    let hands = c.in_ok-needs.ensures.hands in
-    let made = c.in_ok-hands.ensures in
-    let doors = c.in_ok-doors.ensures in (omega (arith, hands, made), doors ∙ c.in_ok-needs.ensures.doors)
+    let hands = c.in-Ok-needs.ensures.hands in
+    let made = c.in-Ok-real_hands.ensures in
+    let doors = c.in_ok-doors.ensures in (omega (arith, hands, made), doors ∙ c.in-Ok-needs.ensures.doors)
