@@ -52,7 +52,8 @@ fn run_real<Rt: Threads + Wait + Sync>(rt: &HostRuntime, threads: &Rt) -> Result
     let Ok(words) = words(rt) else {
         return Err(Early::OutOfMemory);
     };
-    let Ok(needs) = needs(alloc, words.as_slice()) else {
+    let asked = words.as_slice();
+    let Ok(needs) = needs(alloc, asked) else {
         return Err(Early::OutOfMemory);
     };
     let Ok(hands) = real_hands(rt, needs.hands) else {
@@ -69,7 +70,7 @@ fn run_real<Rt: Threads + Wait + Sync>(rt: &HostRuntime, threads: &Rt) -> Result
         gate: NoGate,
         of: PhantomData::<OpenWorld>,
     };
-    Ok(run(threads, alloc, words.as_slice(), &mut outside))
+    Ok(run(threads, alloc, asked, &mut outside))
 }
 
 /// Says a line on the standard error. A write that fails changes nothing.
