@@ -64,7 +64,7 @@ module _ {K T : Type 0} (s : Setting T) {shows : K → ShownKeeper} {from into :
   old_names : row_names old.rows ≡ row_names (current lent.opens.opened.rows)
   old_names = ap row_names old_rows
 
-  held : StoreHoldsRows s.tells_tables from lent.opens.opened.rows
+  pub held : StoreHoldsRows s.tells_tables from lent.opens.opened.rows
   held = record {
     values = lent.opens.values;
     gave = record {
@@ -77,35 +77,45 @@ module _ {K T : Type 0} (s : Setting T) {shows : K → ShownKeeper} {from into :
     few = lent.opens.opened.few;
   }
 
-  swept_made : (shows old.keeper).made ≡ made_swept lent.opens.opened.rows from.made
+  pub swept_made : (shows old.keeper).made ≡ made_swept lent.opens.opened.rows from.made
   swept_made =
       lent.opens.opened.swept.made ∙ ap (made_swept lent.opens.opened.rows) (lent.opens.gave.heard.grows ∙ lent.has.made)
 
   old_made : old.origin.made ≡ made_swept lent.opens.opened.rows from.made
   old_made = ap (λ (st : StateFacts K). st.origin.made) lent.opens.opened.value ∙ swept_made
 
-  made_since : new.origin.made ≡ old.origin.made
-      → MakesChanges s.world.true_row lent.opens.opened.rows from.made into.made
-  made_since same =
+  -- the changes behind the opening are those that the store made since
+  pub told_since : new.origin.made ≡ old.origin.made
+      → TellsSince s.world.true_row holds.store_agrees_with_rows.since.since (made_swept lent.opens.opened.rows from.made) into.made
+  told_since same =
       let since = holds.store_agrees_with_rows.since in
-      record {
-        changes = since.since;
-        each =
-            subst (λ after. TellsSince s.world.true_row since.since (made_swept lent.opens.opened.rows from.made) after) (sym lent.back.made)
-            (subst (λ first. TellsSince s.world.true_row since.since first (shows new.keeper).made) (same ∙ old_made) since.told);
-      }
+      subst (λ after. TellsSince s.world.true_row since.since (made_swept lent.opens.opened.rows from.made) after) (sym lent.back.made)
+      (subst (λ first. TellsSince s.world.true_row since.since first (shows new.keeper).made) (same ∙ old_made) since.told)
 
-  has_rows : new.broken ≡ false → HasRows s.tells_tables into new.rows
+  pub made_since : new.origin.made ≡ old.origin.made
+      → MakesChanges s.world.true_row lent.opens.opened.rows from.made into.made
+  made_since same = record { changes = holds.store_agrees_with_rows.since.since; each = told_since same }
+
+  pub has_rows : new.broken ≡ false → HasRows s.tells_tables into new.rows
   has_rows sound = λ t.
       let stands : IsInStore new.rows (shows new.keeper)
       = subst (λ b. AgreesOrInDoubt s.world.true_row b new.log new.rows (shows new.keeper)) sound (holds.store_agrees_with_rows.tables t) in
       stands.settled.only into.tables (lent.back.image t) ∙ stands.same
 
-  may_have : new.broken ≡ true → MayHaveRows s.world.true_row s.tells_tables into new.rows
+  pub may_have : new.broken ≡ true → MayHaveRows s.world.true_row s.tells_tables into new.rows
   may_have broken = λ t.
       let doubt : IsInDoubt s.world.true_row new.log new.rows (shows new.keeper)
       = subst (λ b. AgreesOrInDoubt s.world.true_row b new.log new.rows (shows new.keeper)) broken (holds.store_agrees_with_rows.tables t) in
       one_change (doubt.each into.tables (lent.back.image t))
+
+  -- an index that stands as it was opened leaves the rows of the edition that the store held
+  pub has_found : new ≡ old → HasRows s.tells_tables into (current lent.opens.opened.rows)
+  has_found same = λ t.
+      has_rows (ap (λ (st : StateFacts K). st.broken) (same ∙ lent.opens.opened.value)) t
+      ∙ ap (λ (st : StateFacts K). tables_of_rows st.rows) same ∙ ap tables_of_rows old_rows
+
+  pub made_found : new ≡ old → into.made ≡ made_swept lent.opens.opened.rows from.made
+  made_found same = lent.back.made ∙ ap (λ (st : StateFacts K). (shows st.keeper).made) same ∙ swept_made
 
   in_walk : {Walked : ShownTree → ShownTree → Type 0} {before after : List T} → new ≡ old
       → FirstGoes (λ hand later. Walked (s.sees hand) (s.sees later)) before after

@@ -28,7 +28,7 @@ use Rattle.dbgd_run.proofs.TellLemmas.{err_gets, out_later, out_rose, out_whole}
 
 -- Tests of lists
 
-or_false : (b : Bool) → (b || false) ≡ b
+pub or_false : (b : Bool) → (b || false) ≡ b
 or_false true = refl
 or_false false = refl
 
@@ -36,11 +36,11 @@ or_true : (b : Bool) → (b || true) ≡ true
 or_true true = refl
 or_true false = refl
 
-neither : (a b : Bool) → (a || b) ≡ false → (a ≡ false) × (b ≡ false)
+pub neither : (a b : Bool) → (a || b) ≡ false → (a ≡ false) × (b ≡ false)
 neither true b none = (none, absurd (false≢true (sym none)))
 neither false b none = (refl, none)
 
-either : (a b : Bool) → (a || b) ≡ true → (a ≡ true) ⊎ (b ≡ true)
+pub either : (a b : Bool) → (a || b) ≡ true → (a ≡ true) ⊎ (b ≡ true)
 either true b some = inl refl
 either false b some = inr some
 
@@ -53,14 +53,14 @@ any_more test xs x a b some one =
 
 -- Sinks
 
-lines_none : (shown : ShownStream) → GetsLines [] shown shown
+pub lines_none : (shown : ShownStream) → GetsLines [] shown shown
 lines_none shown = record { whole = inl (gets_none shown); later = omega arith }
 
-lines_of : (bytes : List ℕ) (old new : ShownStream) → Gets bytes old new → GetsLines bytes old new
+pub lines_of : (bytes : List ℕ) (old new : ShownStream) → Gets bytes old new → GetsLines bytes old new
 lines_of bytes old new (inl all) = record { whole = inl all; later = all.later }
 lines_of bytes old new (inr part) = record { whole = inr part.rose; later = part.later }
 
-lines_both : (first rest : List ℕ) (old mid new : ShownStream) → GetsLines first old mid → GetsLines rest mid new
+pub lines_both : (first rest : List ℕ) (old mid new : ShownStream) → GetsLines first old mid → GetsLines rest mid new
     → GetsLines (first ++ rest) old new
 lines_both first rest old mid new one two =
     let early = one.later in
@@ -125,7 +125,7 @@ module _ {T : Type 0} (s : Setting T) (roots : List (List ℕ)) (secs : ℕ) whe
       (all_out first.after after rounds go.1 whole.1 made.1)
 
   -- the count of the standard output never falls
-  later_out : (before after : PassingScene T) (rounds : List (Round T)) → RoundsGo s roots secs before rounds after
+  pub later_out : (before after : PassingScene T) (rounds : List (Round T)) → RoundsGo s roots secs before rounds after
       → before.streams.out.write_faults ≤ after.streams.out.write_faults
   later_out before after [] same =
       let count : after.streams.out.write_faults ≡ before.streams.out.write_faults

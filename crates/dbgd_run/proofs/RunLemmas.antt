@@ -1,14 +1,18 @@
 -- A run, by what its words ask.
-use Rattle.std.proofs.Common.{◌≡◌, ◌⊎◌, ℕ, ◌+◌, ◌<◌, List, [], drop, length, inl, inr, refl, sym, ap, subst}
+use Rattle.std.proofs.Common.{◌≡◌, ◌⊎◌, ℕ, ◌+◌, ◌<◌, false, List, [], drop, length, inl, inr, refl, sym, ap, subst}
+use Rattle.std.proofs.lemmas.Bool.{true≢false}
 use Rattle.index_state.specs.declared.open_fault.OpenFault.TheVariants as refusal
 use Rattle.dbgd_words.specs.Words.{Line, asks_help, asks_ident, asks_query, asks_scan, asks_section, asks_serve, asks_sources, asks_trial, line_of, unbuilt, unreadable}
 use Rattle.dbgd_words.proofs.OptionLemmas.{AsksByOptions, options_ask}
 use Rattle.dbgd_run.specs.Causes.{HasStatus, HelpStatus, TrialStatus}
 use Rattle.dbgd_run.specs.Endings.{EndsSaying, SaysMemory, out_saying}
+use Rattle.dbgd_run.specs.Needs.{is_serve}
 use Rattle.dbgd_run.specs.Query.{RunsQuery}
-use Rattle.dbgd_run.specs.Runs.{DoesWords, IsRun, LacksRoom, Runs, SaysHelp}
+use Rattle.dbgd_run.specs.Runs.{DoesLine, DoesWords, IsRun, LacksRoom, Runs, SaysHelp}
 use Rattle.dbgd_run.specs.Scan.{RunsScan, Scans}
 use Rattle.dbgd_run.specs.Scene.{ProgramScene, Setting}
+use Rattle.dbgd_run.specs.Serve.{RunsServe, ServeWords, serve_words}
+use Rattle.dbgd_run.specs.Stage.{LeavesRest, ProgramStage}
 use Rattle.dbgd_run.specs.Statuses.{code_of}
 use Rattle.dbgd_run.specs.Trial.{RunsTrial, SaysTrial, trial_end_line}
 use Rattle.dbgd_run.specs.declared.query_end.QueryEnd.TheVariants as looked
@@ -18,6 +22,8 @@ use Rattle.dbgd_run.specs.declared.status.Status.TheVariants as status
 use Rattle.dbgd_run.proofs.CauseLemmas.{by_ends, ident_status, section_status, sources_status}
 use Rattle.dbgd_run.proofs.QueryLemmas.{queries_wanting, query_ends, query_status}
 use Rattle.dbgd_run.proofs.ScanLemmas.{scan_ends, scan_status}
+use Rattle.dbgd_run.proofs.ServeComplete.{serve_complete}
+use Rattle.dbgd_run.proofs.ServeLemmas.{serve_ends, serve_status, serve_wanting}
 use Rattle.dbgd_run.proofs.StoreLemmas.{scans_wanting}
 
 module _ {T : Type 0} (s : Setting T) (words : List (List ℕ)) (before after : ProgramScene T) (end : Status) where
@@ -45,45 +51,84 @@ module _ {T : Type 0} (s : Setting T) (words : List (List ℕ)) (before after : 
           said (inr cut) = subst (TrialStatus seed files before after) (sym cut.ends) cut.out.rose
       go (inr wants) = subst (TrialStatus seed files before after) (sym wants.ends) tt
 
+-- what a line does on the scene, where doors and clock are as they were; nothing is said so of a server
+pub runs_apart : {T : Type 0} (s : Setting T) (line : Line) (before after : ProgramStage T) (end : Status)
+    → Runs s line before.scene after.scene end → LeavesRest before after → DoesLine s line before after end
+runs_apart s (asks_ident path) before after end runs rest = record { runs = runs; rest = rest }
+runs_apart s (asks_sources path) before after end runs rest = record { runs = runs; rest = rest }
+runs_apart s (asks_section path name) before after end runs rest = record { runs = runs; rest = rest }
+runs_apart s (asks_query path id) before after end runs rest = record { runs = runs; rest = rest }
+runs_apart s (asks_scan path workers roots) before after end runs rest = record { runs = runs; rest = rest }
+runs_apart s (asks_trial seed files workers) before after end runs rest = record { runs = runs; rest = rest }
+runs_apart s asks_help before after end runs rest = record { runs = runs; rest = rest }
+runs_apart s (asks_serve path workers port secs sources roots) before after end runs rest = absurd runs
+runs_apart s unbuilt before after end runs rest = record { runs = runs; rest = rest }
+runs_apart s unreadable before after end runs rest = record { runs = runs; rest = rest }
+
+-- the same of all that there is: a line that asks for no server, and one that does
+module _ {T : Type 0} (s : Setting T) (words : List (List ℕ)) (before after : ProgramStage T) (end : Status) where
   -- what the status says
-  has_status : (line : Line) → Runs s line before after end → HasStatus s words line before after end
-  has_status (asks_ident path) run = ident_status s before after end path run
-  has_status (asks_sources path) run = sources_status s before after end path run
-  has_status (asks_section path name) run = section_status s before after end path name run
-  has_status (asks_query path id) run = query_status s path id before after end run
-  has_status (asks_scan path workers roots) run = scan_status s path roots before after workers end run
-  has_status (asks_trial seed files workers) run = trial_status seed files run
-  has_status asks_help run = help_status run
+  has_status : (line : Line) → DoesLine s line before after end → HasStatus s words line before after end
+  has_status (asks_ident path) run = ident_status s before.scene after.scene end path run.runs
+  has_status (asks_sources path) run = sources_status s before.scene after.scene end path run.runs
+  has_status (asks_section path name) run = section_status s before.scene after.scene end path name run.runs
+  has_status (asks_query path id) run = query_status s path id before.scene after.scene end run.runs
+  has_status (asks_scan path workers roots) run = scan_status s path roots before.scene after.scene workers end run.runs
+  has_status (asks_trial seed files workers) run = trial_status s words before.scene after.scene end seed files run.runs
+  has_status asks_help run = help_status s words before.scene after.scene end run.runs
   has_status (asks_serve path workers port secs sources roots) run =
-      subst (λ e. HasStatus s words (asks_serve path workers port secs sources roots) before after e) (sym run.says.ends) tt
-  has_status unbuilt run = subst (λ e. HasStatus s words unbuilt before after e) (sym run.says.ends) tt
-  has_status unreadable run = subst (λ e. HasStatus s words unreadable before after e) (sym run.says.ends) tt
+      serve_status s (serve_words path workers port secs sources roots) before after end run
+  has_status unbuilt run = subst (λ e. HasStatus s words unbuilt before after e) (sym run.runs.says.ends) tt
+  has_status unreadable run = subst (λ e. HasStatus s words unreadable before after e) (sym run.runs.says.ends) tt
+
+  -- doors and clock are as they were, unless a server is asked for
+  leaves_rest : (line : Line) → DoesLine s line before after end → is_serve line ≡ false → LeavesRest before after
+  leaves_rest (asks_ident path) run none = run.rest
+  leaves_rest (asks_sources path) run none = run.rest
+  leaves_rest (asks_section path name) run none = run.rest
+  leaves_rest (asks_query path id) run none = run.rest
+  leaves_rest (asks_scan path workers roots) run none = run.rest
+  leaves_rest (asks_trial seed files workers) run none = run.rest
+  leaves_rest asks_help run none = run.rest
+  leaves_rest (asks_serve path workers port secs sources roots) run none = absurd (true≢false none)
+  leaves_rest unbuilt run none = run.rest
+  leaves_rest unreadable run none = run.rest
 
   -- a part for each command
-  pub is_run : (code : ℕ) → code ≡ code_of end → Runs s (line_of words) before after end → IsRun s words before after code
+  pub is_run : (code : ℕ) → code ≡ code_of end → DoesLine s (line_of words) before after end → IsRun s words before after code
   is_run code number run = record {
     status = end;
     number = number;
-    ident = λ path is. subst (λ (l : Line). Runs s l before after end) is run;
-    sources = λ path is. subst (λ (l : Line). Runs s l before after end) is run;
-    section = λ path name is. subst (λ (l : Line). Runs s l before after end) is run;
+    ident = λ path is. (subst (λ (l : Line). DoesLine s l before after end) is run).runs;
+    sources = λ path is. (subst (λ (l : Line). DoesLine s l before after end) is run).runs;
+    section = λ path name is. (subst (λ (l : Line). DoesLine s l before after end) is run).runs;
     query = λ path id is.
-        let does : RunsQuery s path id before after end = subst (λ (l : Line). Runs s l before after end) is run in
-        record { does = does; ends = query_ends s path id before after end does };
+        let does : RunsQuery s path id before.scene after.scene end
+        = (subst (λ (l : Line). DoesLine s l before after end) is run).runs in
+        record { does = does; ends = query_ends s path id before.scene after.scene end does };
     scan = λ path workers roots is.
-        let does : RunsScan s path workers roots before after end = subst (λ (l : Line). Runs s l before after end) is run in
-        record { does = does; ends = scan_ends s path roots before after workers end does };
-    trial = λ seed files workers is. subst (λ (l : Line). Runs s l before after end) is run;
-    help = λ is. subst (λ (l : Line). Runs s l before after end) is run;
-    serve = λ path workers port secs sources roots is. inl (subst (λ (l : Line). Runs s l before after end) is run);
-    not_built = λ is. inl (subst (λ (l : Line). Runs s l before after end) is run);
-    usage = λ is. inl (subst (λ (l : Line). Runs s l before after end) is run);
+        let does : RunsScan s path workers roots before.scene after.scene end
+        = (subst (λ (l : Line). DoesLine s l before after end) is run).runs in
+        record { does = does; ends = scan_ends s path roots before.scene after.scene workers end does };
+    trial = λ seed files workers is. (subst (λ (l : Line). DoesLine s l before after end) is run).runs;
+    help = λ is. (subst (λ (l : Line). DoesLine s l before after end) is run).runs;
+    serve = λ path workers port secs sources roots is.
+        let does : RunsServe s (serve_words path workers port secs sources roots) before after end
+        = subst (λ (l : Line). DoesLine s l before after end) is run in
+        record {
+          does = does;
+          ends = serve_ends s (serve_words path workers port secs sources roots) before after end does;
+          complete = serve_complete s (serve_words path workers port secs sources roots) before after end does;
+        };
+    not_built = λ is. inl (subst (λ (l : Line). DoesLine s l before after end) is run).runs;
+    usage = λ is. inl (subst (λ (l : Line). DoesLine s l before after end) is run).runs;
     causes = has_status (line_of words) run;
+    rest = leaves_rest (line_of words) run;
   }
 
   -- of words that are read as options, where memory was refused
-  module _ (some : 0 < length before.hands) (lacks : LacksRoom words before after end) where
-    query_lacks : (path id : List ℕ) → RunsQuery s path id before after end
+  module _ (some : 0 < length before.scene.hands) (lacks : LacksRoom words before after end) where
+    query_lacks : (path id : List ℕ) → RunsQuery s path id before.scene after.scene end
     query_lacks path id = record {
       answers = record {
         end = looked.Refused refusal.OutOfMemory;
@@ -93,15 +138,18 @@ module _ {T : Type 0} (s : Setting T) (words : List (List ℕ)) (before after : 
       hands = lacks.alone.hands;
     }
 
-    scan_lacks : (path : List ℕ) (workers : ℕ) (roots : List (List ℕ)) → RunsScan s path workers roots before after end
+    scan_lacks : (path : List ℕ) (workers : ℕ) (roots : List (List ℕ)) → RunsScan s path workers roots before.scene after.scene end
     scan_lacks path workers roots = record {
       end = scanned.Refused refusal.OutOfMemory;
       scans =
-          subst (λ (hands : List T). Scans s path roots before.hands hands before.store after.store (scanned.Refused refusal.OutOfMemory))
+          subst (λ (hands : List T). Scans s path roots before.scene.hands hands before.scene.store after.scene.store (scanned.Refused refusal.OutOfMemory))
           (sym lacks.alone.hands) (scans_wanting s path some lacks.alone.store);
       others = ap (λ (hands : List T). drop (workers + 2) hands) lacks.alone.hands;
       said = lacks.alone.says;
     }
+
+    serve_lacks : (w : ServeWords) → RunsServe s w before after end
+    serve_lacks w = serve_wanting s w before after end some lacks.alone.hands lacks.alone.store lacks.alone.says lacks.rest
 
     asks : (line : Line) → line_of words ≡ line → AsksByOptions line
     asks line is = subst AsksByOptions is (options_ask words lacks.options)
@@ -114,7 +162,7 @@ module _ {T : Type 0} (s : Setting T) (words : List (List ℕ)) (before after : 
     lacks_status (asks_scan path workers roots) asked = tt
     lacks_status (asks_trial seed files workers) never = absurd never
     lacks_status asks_help asked = tt
-    lacks_status (asks_serve path workers port secs sources roots) asked = lacks.options
+    lacks_status (asks_serve path workers port secs sources roots) asked = tt
     lacks_status unbuilt asked = lacks.options
     lacks_status unreadable asked = lacks.options
 
@@ -125,24 +173,33 @@ module _ {T : Type 0} (s : Setting T) (words : List (List ℕ)) (before after : 
       ident = λ path is. absurd (asks (asks_ident path) is);
       sources = λ path is. absurd (asks (asks_sources path) is);
       section = λ path name is. absurd (asks (asks_section path name) is);
-      query = λ path id is. record { does = query_lacks path id; ends = query_ends s path id before after end (query_lacks path id) };
+      query = λ path id is. record { does = query_lacks path id; ends = query_ends s path id before.scene after.scene end (query_lacks path id) };
       scan = λ path workers roots is.
           record {
             does = scan_lacks path workers roots;
-            ends = scan_ends s path roots before after workers end (scan_lacks path workers roots);
+            ends = scan_ends s path roots before.scene after.scene workers end (scan_lacks path workers roots);
           };
       trial = λ seed files workers is. absurd (asks (asks_trial seed files workers) is);
       help = λ is. record { text = []; says = inr lacks.alone.says; hands = lacks.alone.hands; store = lacks.alone.store };
-      serve = λ path workers port secs sources roots is. inr lacks;
+      serve = λ path workers port secs sources roots is. record {
+        does = serve_lacks (serve_words path workers port secs sources roots);
+        ends =
+            serve_ends s (serve_words path workers port secs sources roots) before after end
+            (serve_lacks (serve_words path workers port secs sources roots));
+        complete =
+            serve_complete s (serve_words path workers port secs sources roots) before after end
+            (serve_lacks (serve_words path workers port secs sources roots));
+      };
       not_built = λ is. inr lacks;
       usage = λ is. inr lacks;
       causes =
           subst (λ e. HasStatus s words (line_of words) before after e) (sym lacks.alone.says.ends)
           (lacks_status (line_of words) (asks (line_of words) refl));
+      rest = λ none. lacks.rest;
     }
 
 -- a run of words
-pub runs_words : {T : Type 0} (s : Setting T) (words : List (List ℕ)) (before after : ProgramScene T) (end : Status) (code : ℕ)
-    → code ≡ code_of end → 0 < length before.hands → DoesWords s words before after end → IsRun s words before after code
+pub runs_words : {T : Type 0} (s : Setting T) (words : List (List ℕ)) (before after : ProgramStage T) (end : Status) (code : ℕ)
+    → code ≡ code_of end → 0 < length before.scene.hands → DoesWords s words before after end → IsRun s words before after code
 runs_words s words before after end code number some (inl run) = is_run s words before after end code number run
 runs_words s words before after end code number some (inr lacks) = lacks_room s words before after end some lacks code number

@@ -224,7 +224,7 @@ module _ {T : Type 0} (s : Setting T) (path : List ℕ) (roots : List (List ℕ)
       subst (λ values. AreRows (found_rows end ends).0 values) ((found_rows end ends).1.gave.tells tells) (found_rows end ends).1.sound
 
   -- a store that tells a bad value ends the scan so
-  bad_end : (end : ScanEnd) → IsTrue s.tells_tables → HasSomeBad before.store.tables → ScansTo end
+  pub bad_end : (end : ScanEnd) → IsTrue s.tells_tables → HasSomeBad before.store.tables → ScansTo end
       → EndsOnlyWith status.BadRow before.store after.store (scan_saying end).status
   bad_end (Refused refusal.KeeperFault) tells bad scans = inr (inl (refl, scans.store.rose refl))
   bad_end (Refused (refusal.BadRow kept fault)) tells bad scans = inl refl
@@ -235,7 +235,7 @@ module _ {T : Type 0} (s : Setting T) (path : List ℕ) (roots : List (List ℕ)
   bad_end (Passed end) tells bad scans = absurd (none_bad bad.fault (told_rows end tells scans.ends) bad.held bad.bad)
 
   -- one that tells too many rows ends it so
-  full_end : (end : ScanEnd) → IsTrue s.tells_tables → IsOverfull before.store.tables → ScansTo end
+  pub full_end : (end : ScanEnd) → IsTrue s.tells_tables → IsOverfull before.store.tables → ScansTo end
       → EndsOnlyWith status.Limit before.store after.store (scan_saying end).status
   full_end (Refused refusal.KeeperFault) tells full scans = inr (inl (refl, scans.store.rose refl))
   full_end (Refused (refusal.BadRow kept fault)) tells full scans =

@@ -25,6 +25,9 @@ use Rattle.dbgd_run.specs.Opened.{EndsOnlyWith, HasBad, HasSomeBad, StoreOpensOn
 use Rattle.dbgd_run.specs.QueryCauses.{QueryStatus}
 use Rattle.dbgd_run.specs.Scan.{EndsPassed}
 use Rattle.dbgd_run.specs.Scene.{FirstRose, OfFirst, ProgramScene, Setting}
+use Rattle.dbgd_run.specs.Serve.{serve_words}
+use Rattle.dbgd_run.specs.ServeCauses.{ServeStatus}
+use Rattle.dbgd_run.specs.Stage.{ProgramStage}
 use Rattle.dbgd_run.specs.Texts.{summary_line}
 use Rattle.dbgd_words.specs.Words.{Line, asks_help, asks_ident, asks_query, asks_scan, asks_section, asks_serve}
 use Rattle.dbgd_run.specs.Trial.{AreForgedRows, trial_end_line}
@@ -161,19 +164,19 @@ UnbuiltStatus words NotBuilt = Unit {0}
 UnbuiltStatus words OutOfMemory = IsTrue (has_options words)
 UnbuiltStatus words _ = ⊥
 
--- what the status says, by the line; words that can't be read alone end with the usage, and a server isn't built yet
-abbrev pub HasStatus : {T : Type 0} → Setting T → List (List ℕ) → Line → ProgramScene T → ProgramScene T → Status → Type 0
-HasStatus s words (asks_ident path) before after status = FileStatus s before after status
-HasStatus s words (asks_sources path) before after status = FileStatus s before after status
-HasStatus s words (asks_section path name) before after status = FileStatus s before after status
-HasStatus s words (asks_query path id) before after status = QueryStatus s id before after status
+-- what the status says, by the line; words that can't be read alone end with the usage
+abbrev pub HasStatus : {T : Type 0} → Setting T → List (List ℕ) → Line → ProgramStage T → ProgramStage T → Status → Type 0
+HasStatus s words (asks_ident path) before after status = FileStatus s before.scene after.scene status
+HasStatus s words (asks_sources path) before after status = FileStatus s before.scene after.scene status
+HasStatus s words (asks_section path name) before after status = FileStatus s before.scene after.scene status
+HasStatus s words (asks_query path id) before after status = QueryStatus s id before.scene after.scene status
 HasStatus s words (asks_scan path workers roots) before after status =
-    ScanStatus s roots before after status
+    ScanStatus s roots before.scene after.scene status
 HasStatus s words (asks_trial seed files workers) before after status =
-    TrialStatus seed files before after status
-HasStatus s words asks_help before after status = HelpStatus before after status
+    TrialStatus seed files before.scene after.scene status
+HasStatus s words asks_help before after status = HelpStatus before.scene after.scene status
 HasStatus s words (asks_serve path workers port secs sources roots) before after status =
-    UnbuiltStatus words status
+    ServeStatus s (serve_words path workers port secs sources roots) before after status
 HasStatus s words unbuilt before after status = UnbuiltStatus words status
 HasStatus s words unreadable before after status = UsageStatus words status
 

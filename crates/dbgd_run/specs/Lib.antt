@@ -1,3 +1,4 @@
+pub mod Beside
 pub mod Causes
 pub mod Endings
 pub mod File
@@ -15,9 +16,16 @@ pub mod Scan
 pub mod ScanSaid
 pub mod Scene
 pub mod Section
+pub mod Serve
+pub mod ServeCauses
+pub mod ServeComplete
+pub mod ServeSaid
+pub mod Serving
 pub mod Sources
+pub mod Stage
 pub mod Statuses
 pub mod Texts
 pub mod Trial
 pub mod TrialKeeper
 pub mod TrialPass
+pub mod Workers

@@ -7,12 +7,17 @@ use Rattle.dbgd_run.specs.Endings.{EndsSaying, EndsWhole, Saying, SaysMemory, er
 use Rattle.dbgd_run.specs.Endings.{no_memory_saying, not_built_saying, out_saying}
 use Rattle.dbgd_run.specs.File.{RunsFile}
 use Rattle.dbgd_run.specs.Ident.{SaysIdent}
+use Rattle.dbgd_run.specs.Needs.{is_serve}
 use Rattle.dbgd_run.specs.Query.{RunsQuery}
 use Rattle.dbgd_run.specs.QueryCauses.{QueryEnds}
 use Rattle.dbgd_run.specs.Scan.{RunsScan}
 use Rattle.dbgd_run.specs.Scene.{ProgramScene, Setting}
 use Rattle.dbgd_run.specs.Section.{SaysSection}
+use Rattle.dbgd_run.specs.Serve.{RunsServe, ServeWords, serve_words}
+use Rattle.dbgd_run.specs.ServeCauses.{ServeEnds}
+use Rattle.dbgd_run.specs.ServeComplete.{CompletesServe, IsFreeServe}
 use Rattle.dbgd_run.specs.Sources.{SaysSources}
+use Rattle.dbgd_run.specs.Stage.{LeavesRest, ProgramStage}
 use Rattle.dbgd_run.specs.Statuses.{code_of}
 use Rattle.dbgd_run.specs.Texts.{usage_text}
 use Rattle.dbgd_run.specs.Trial.{RunsTrial}
@@ -51,13 +56,21 @@ pub record IsScanRun {T : Type 0} (s : Setting T) (path : List ℕ) (workers : �
   pub does : RunsScan s path workers roots before after status
   pub ends : ScanEnds s roots before after status
 
--- whether a line asks for a scan, of folders or of generated files
-abbrev pub is_scan : Line → Bool
-is_scan (asks_scan path workers roots) = true
-is_scan (asks_trial seed files workers) = true
-is_scan _ = false
+-- a server: what it does, how it ends when, and that each of its passes writes its line where nothing stands against it
+pub record IsServeRun {T : Type 0} (s : Setting T) (words : ServeWords) (before after : ProgramStage T) (status : Status)
+    : Type 0 where
+  pub does : RunsServe s words before after status
+  pub ends : ServeEnds s before after status
+  pub complete : IsFreeServe s words.roots before after → CompletesServe s words before after status does
 
--- what a line of words does, by what it asks
+-- whether a line asks for what threads do: a scan, of folders or of generated files, or a server
+abbrev pub takes_threads : Line → Bool
+takes_threads (asks_scan path workers roots) = true
+takes_threads (asks_serve path workers port secs sources roots) = true
+takes_threads (asks_trial seed files workers) = true
+takes_threads _ = false
+
+-- what a line of words does that asks for no server, by what it asks
 abbrev pub Runs : {T : Type 0} → Setting T → Line → ProgramScene T → ProgramScene T → Status → Type 0
 Runs s (asks_ident path) before after status =
     RunsFile s path (SaysIdent path) before after status
@@ -70,47 +83,60 @@ Runs s (asks_scan path workers roots) before after status =
     RunsScan s path workers roots before after status
 Runs s (asks_trial seed files workers) before after status = RunsTrial seed files before after status
 Runs s asks_help before after status = SaysHelp before after status
-Runs s (asks_serve path workers port secs sources roots) before after status =
-    SaysAlone not_built_saying before after status
+Runs s (asks_serve path workers port secs sources roots) before after status = ⊥
 Runs s unbuilt before after status = SaysAlone not_built_saying before after status
 Runs s unreadable before after status = SaysAlone usage_saying before after status
 
+-- a line that asks for no server, on all that there is: doors and clock are as they were
+pub record RunsApart {T : Type 0} (s : Setting T) (line : Line) (before after : ProgramStage T) (status : Status)
+    : Type 0 where
+  pub runs : Runs s line before.scene after.scene status
+  pub rest : LeavesRest before after
+
+-- what a line of words does, by what it asks
+abbrev pub DoesLine : {T : Type 0} → Setting T → Line → ProgramStage T → ProgramStage T → Status → Type 0
+DoesLine s (asks_serve path workers port secs sources roots) before after status =
+    RunsServe s (serve_words path workers port secs sources roots) before after status
+DoesLine s line before after status = RunsApart s line before after status
+
 -- the words are read as options, and memory was refused for that
-pub record LacksRoom {T : Type 0} (words : List (List ℕ)) (before after : ProgramScene T)
+pub record LacksRoom {T : Type 0} (words : List (List ℕ)) (before after : ProgramStage T)
     (status : Status) : Type 0 where
   pub options : IsTrue (has_options words)
-  pub alone : SaysAlone no_memory_saying before after status
+  pub alone : SaysAlone no_memory_saying before.scene after.scene status
+  pub rest : LeavesRest before after
 
 -- what words do: as their line says, or there was no room for their options
-abbrev pub DoesWords : {T : Type 0} → Setting T → List (List ℕ) → ProgramScene T → ProgramScene T → Status → Type 0
+abbrev pub DoesWords : {T : Type 0} → Setting T → List (List ℕ) → ProgramStage T → ProgramStage T → Status → Type 0
 DoesWords s words before after status =
-    Runs s (line_of words) before after status ⊎ LacksRoom words before after status
+    DoesLine s (line_of words) before after status ⊎ LacksRoom words before after status
 
 -- all that is promised of a run: the status and its number, what it does, a part for each command, and what its status
 -- says
-pub record IsRun {T : Type 0} (s : Setting T) (words : List (List ℕ)) (before after : ProgramScene T)
+pub record IsRun {T : Type 0} (s : Setting T) (words : List (List ℕ)) (before after : ProgramStage T)
     (code : ℕ) : Type 0 where
   pub status : Status
   pub number : code ≡ code_of status
   pub ident : (path : List ℕ) → line_of words ≡ asks_ident path
-      → RunsFile s path (SaysIdent path) before after status
+      → RunsFile s path (SaysIdent path) before.scene after.scene status
   pub sources : (path : List ℕ) → line_of words ≡ asks_sources path
-      → RunsFile s path (SaysSources path) before after status
+      → RunsFile s path (SaysSources path) before.scene after.scene status
   pub section : (path name : List ℕ) → line_of words ≡ asks_section path name
-      → RunsFile s path (SaysSection path name) before after status
+      → RunsFile s path (SaysSection path name) before.scene after.scene status
   pub query : (path id : List ℕ) → line_of words ≡ asks_query path id
-      → IsQueryRun s path id before after status
+      → IsQueryRun s path id before.scene after.scene status
   pub scan : (path : List ℕ) (workers : ℕ) (roots : List (List ℕ))
       → line_of words ≡ asks_scan path workers roots
-      → IsScanRun s path workers roots before after status
+      → IsScanRun s path workers roots before.scene after.scene status
   pub trial : (seed files workers : ℕ) → line_of words ≡ asks_trial seed files workers
-      → RunsTrial seed files before after status
-  pub help : line_of words ≡ asks_help → SaysHelp before after status
+      → RunsTrial seed files before.scene after.scene status
+  pub help : line_of words ≡ asks_help → SaysHelp before.scene after.scene status
   pub serve : (path : List ℕ) (workers port secs : ℕ) (sources roots : List (List ℕ))
       → line_of words ≡ asks_serve path workers port secs sources roots
-      → SaysAlone not_built_saying before after status ⊎ LacksRoom words before after status
+      → IsServeRun s (serve_words path workers port secs sources roots) before after status
   pub not_built : line_of words ≡ unbuilt
-      → SaysAlone not_built_saying before after status ⊎ LacksRoom words before after status
+      → SaysAlone not_built_saying before.scene after.scene status ⊎ LacksRoom words before after status
   pub usage : line_of words ≡ unreadable
-      → SaysAlone usage_saying before after status ⊎ LacksRoom words before after status
+      → SaysAlone usage_saying before.scene after.scene status ⊎ LacksRoom words before after status
   pub causes : HasStatus s words (line_of words) before after status
+  pub rest : is_serve (line_of words) ≡ false → LeavesRest before after

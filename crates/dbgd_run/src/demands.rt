@@ -2,9 +2,10 @@
 
 ghost use Rattle.std.specs.Prelude.{◌≡◌, map, IfOk};
 ghost use Rattle.std.specs.String.{string_bytes};
+ghost use Rattle.dbgd_words.specs.Limits.{FitsLimits};
 ghost use Rattle.dbgd_words.specs.Lines.{asked_by};
 ghost use Rattle.dbgd_words.specs.Words.{line_of};
-ghost use Rattle.dbgd_run.specs.Needs.{hands_of};
+ghost use Rattle.dbgd_run.specs.Needs.{doors_of, hands_of, port_of};
 
 use crate::wants::Needs;
 use dbgd_words::{Line, read_line};
@@ -12,28 +13,54 @@ use std::alloc::{AllocError, Global};
 
 /// What a run of these words needs.
 pub fn needs(alloc: Global, words: &[String]) -> Result<Needs, AllocError>
-    ensures { IfOk result (λ needs. needs.hands ≡ hands_of (line_of (map string_bytes words.now))) }
+    ensures hands { IfOk result (λ needs. needs.hands ≡ hands_of (line_of (map string_bytes words.now))) }
+    ensures doors { IfOk result (λ needs. needs.doors ≡ doors_of (line_of (map string_bytes words.now))) }
+    ensures port { IfOk result (λ needs. needs.port ≡ port_of (line_of (map string_bytes words.now))) }
 {
     let line = read_line(alloc, words)?;
+    let (doors, port) = doors_for(&line);
     Ok(Needs {
         hands: hands_for(&line),
+        doors,
+        port,
     })
 }
 
-/// How many hands a line needs: one for a file, none for rows or generated files, and two and one
-/// for each worker for a scan of folders.
+/// How many hands a line needs: one for a file, none for rows or generated files, two and one for each
+/// worker for a scan of folders, and two and two for each worker for a server.
 fn hands_for(line: &Line<'_>) -> u64
     ensures { result ≡ hands_of (asked_by line.now) }
 {
     match line {
         Line::Ident { .. } | Line::Sources { .. } | Line::Section { .. } => 1,
         Line::Scan { workers, .. } => workers.saturating_add(2),
+        Line::Serve { workers, .. } => workers.saturating_mul(2).saturating_add(2),
         Line::Query { .. }
-        | Line::Serve { .. }
         | Line::Trial { .. }
         | Line::Program { .. }
         | Line::Help { .. }
         | Line::NotBuilt
         | Line::Usage => 0,
+    }
+}
+
+/// How many doors a line needs, and their port: one for each worker of a server.
+fn doors_for(line: &Line<'_>) -> (u64, u16)
+    requires { FitsLimits (asked_by line.now) }
+    ensures doors { result.0 ≡ doors_of (asked_by line.now) }
+    ensures port { result.1 ≡ port_of (asked_by line.now) }
+{
+    match line {
+        Line::Serve { workers, port, .. } => (*workers, *port as u16),
+        Line::Ident { .. }
+        | Line::Sources { .. }
+        | Line::Section { .. }
+        | Line::Query { .. }
+        | Line::Scan { .. }
+        | Line::Trial { .. }
+        | Line::Program { .. }
+        | Line::Help { .. }
+        | Line::NotBuilt
+        | Line::Usage => (0, 0),
     }
 }

@@ -2,13 +2,22 @@
 //! are handed in. Real files and streams stand in the program's own crate.
 #![tactic(auto)]
 
+mod beside;
 mod demands;
+mod door_crew;
+mod first_pass;
+mod gear;
+mod geared;
+mod hall;
 mod handed;
 mod ident;
 mod lent;
+mod lent_crew;
 mod line_fate;
 mod outside;
 mod passes_end;
+mod places;
+mod posts;
 mod query;
 mod query_end;
 mod rounds;
@@ -17,6 +26,13 @@ mod scan_end;
 mod scan_sayings;
 mod scan_texts;
 mod section;
+mod serve;
+mod serve_end;
+mod serve_said;
+mod server;
+mod serving;
+mod shares;
+mod site;
 mod sources;
 mod speech;
 mod status;

@@ -7,8 +7,10 @@ ghost use Rattle.dbgd_words.specs.Limits.{FitsLimits};
 ghost use Rattle.dbgd_words.specs.Lines.{asked_by};
 ghost use Rattle.dbgd_words.specs.Words.{line_of};
 ghost use Rattle.dbgd_run.specs.Endings.{EndsWhole, streams};
-ghost use Rattle.dbgd_run.specs.Runs.{DoesWords, IsRun, Runs, is_scan, usage_saying};
+ghost use Rattle.dbgd_run.specs.Needs.{HasEnough};
+ghost use Rattle.dbgd_run.specs.Runs.{DoesLine, DoesWords, IsRun, Runs, takes_threads, usage_saying};
 ghost use Rattle.dbgd_run.specs.Scene.{scene, setting};
+ghost use Rattle.dbgd_run.specs.Stage.{stage};
 ghost use Rattle.dbgd_run.specs.Statuses.{code_of};
 ghost use Rattle.dbgd_run.specs.declared.status.Status.TheVariants.{OutOfMemory};
 
@@ -17,18 +19,19 @@ use crate::ident::run_ident;
 use crate::query::run_query;
 use crate::scan::run_scan;
 use crate::section::run_section;
+use crate::serve::{ServeLine, run_serve};
 use crate::sources::run_sources;
 use crate::speech::{say, say_error, say_no_memory, say_not_built};
 use crate::status::Status;
 use crate::trial::run_trial;
 use dbgd_words::{Line, read_line};
 use elf_reading::ElfTruth;
-use http_wire::Sink;
+use http_wire::{Door, Sink};
 use index_keeper::Store;
 use std::alloc::Global;
 use std::sync::Wait;
 use std::thread::Threads;
-use tree_trait::{Gate, Tree};
+use tree_trait::{Clock, Gate, Tree};
 
 /// Says how the words of each command read.
 fn say_usage<O: Sink>(out: &mut O, err: &mut O) -> Status
@@ -44,14 +47,23 @@ fn say_usage<O: Sink>(out: &mut O, err: &mut O) -> Status
     )
 }
 
-/// Does what a line of words asks that is no scan, of folders or of generated files.
-fn run_alone<W: ElfTruth + Send + Sync, T: Tree<W>, S: Store<W>, O: Sink, G: Gate + Drop>(
+/// Does what a line of words asks that is neither a scan, of folders or of generated files, nor a
+/// server.
+fn run_alone<
+    W: ElfTruth + Send + Sync,
+    T: Tree<W>,
+    S: Store<W>,
+    D: Door,
+    C: Clock + Drop,
+    O: Sink,
+    G: Gate + Drop,
+>(
     alloc: Global,
     line: Line<'_>,
-    outside: &mut Outside<W, T, S, O, G>,
+    outside: &mut Outside<W, T, S, D, C, O, G>,
 ) -> Status
     requires hand { 0 < vec_len outside.old.hands }
-    requires alone { is_scan (asked_by line) ≡ false }
+    requires alone { takes_threads (asked_by line) ≡ false }
     ensures law { Runs
         (setting (rules W.version W.true_row W.told) T.told T.shows S.K.told)
         (asked_by line.entry)
@@ -61,6 +73,7 @@ fn run_alone<W: ElfTruth + Send + Sync, T: Tree<W>, S: Store<W>, O: Sink, G: Gat
         (streams O.shows outside.new.out outside.new.err)) result }
     ensures hands { vec_len outside.new.hands ≡ vec_len outside.old.hands }
     ensures others { drop 1 outside.new.hands.items ≡ drop 1 outside.old.hands.items }
+    ensures rest { (outside.new.doors ≡ outside.old.doors) × (outside.new.clock ≡ outside.old.clock) }
 {
     let out = &mut outside.out;
     let err = &mut outside.err;
@@ -71,10 +84,9 @@ fn run_alone<W: ElfTruth + Send + Sync, T: Tree<W>, S: Store<W>, O: Sink, G: Gat
             run_section(alloc, path, name, &mut outside.hands[0], out, err)
         }
         Line::Query { store, id } => { run_query(alloc, store, &id, &mut outside.store, out, err) }
-        Line::Scan { .. } | Line::Trial { .. } => unreachable!(),
+        Line::Scan { .. } | Line::Serve { .. } | Line::Trial { .. } => unreachable!(),
         Line::Program { text } => say(text.as_bytes(), Status::Done, out, err),
         Line::Help { text } => say(text.as_bytes(), Status::Done, out, err),
-        Line::Serve { .. } => say_not_built(out, err),
         Line::NotBuilt => say_not_built(out, err),
         Line::Usage => say_usage(out, err),
     }
@@ -85,20 +97,27 @@ fn run_line<
     W: ElfTruth + Send + Sync,
     T: Tree<W>,
     S: Store<W>,
+    D: Door,
+    C: Clock + Drop,
     O: Sink,
     G: Gate + Drop,
     Rt: Threads + Wait + Sync,
->(rt: &Rt, alloc: Global, line: Line<'_>, outside: &mut Outside<W, T, S, O, G>) -> Status
+>(rt: &Rt, alloc: Global, line: Line<'_>, outside: &mut Outside<W, T, S, D, C, O, G>) -> Status
     requires hand { 0 < vec_len outside.old.hands }
     requires fits { FitsLimits (asked_by line) }
-    ensures law { Runs
+    requires enough { HasEnough (asked_by line) (vec_len outside.old.hands)
+        (vec_len outside.old.doors) }
+    ensures law { DoesLine
         (setting (rules W.version W.true_row W.told) T.told T.shows S.K.told)
         (asked_by line.entry)
-        (scene outside.old.hands.items (S.shows outside.old.store)
+        (stage (scene outside.old.hands.items (S.shows outside.old.store)
         (streams O.shows outside.old.out outside.old.err))
-        (scene outside.new.hands.items (S.shows outside.new.store)
-        (streams O.shows outside.new.out outside.new.err)) result }
+        (map D.shows outside.old.doors.items) (C.woke outside.old.clock))
+        (stage (scene outside.new.hands.items (S.shows outside.new.store)
+        (streams O.shows outside.new.out outside.new.err))
+        (map D.shows outside.new.doors.items) (C.woke outside.new.clock)) result }
     ensures hands { vec_len outside.new.hands ≡ vec_len outside.old.hands }
+    ensures doors { vec_len outside.new.doors ≡ vec_len outside.old.doors }
 {
     match line {
         Line::Scan {
@@ -106,6 +125,24 @@ fn run_line<
             workers,
             roots,
         } => run_scan(rt, alloc, store, workers, roots.as_slice(), outside),
+        Line::Serve {
+            store,
+            workers,
+            port,
+            secs,
+            sources,
+            roots,
+        } => {
+            let line = ServeLine {
+                store,
+                workers,
+                port,
+                secs,
+                sources,
+                roots,
+            };
+            run_serve(rt, alloc, line, outside)
+        }
         Line::Trial {
             seed,
             files,
@@ -120,19 +157,26 @@ fn run_words<
     W: ElfTruth + Send + Sync,
     T: Tree<W>,
     S: Store<W>,
+    D: Door,
+    C: Clock + Drop,
     O: Sink,
     G: Gate + Drop,
     Rt: Threads + Wait + Sync,
->(rt: &Rt, alloc: Global, words: &[String], outside: &mut Outside<W, T, S, O, G>) -> Status
-    requires { 0 < vec_len outside.old.hands }
+>(rt: &Rt, alloc: Global, words: &[String], outside: &mut Outside<W, T, S, D, C, O, G>) -> Status
+    requires hand { 0 < vec_len outside.old.hands }
+    requires enough { HasEnough (line_of (map string_bytes words.now))
+        (vec_len outside.old.hands) (vec_len outside.old.doors) }
     ensures law { DoesWords
         (setting (rules W.version W.true_row W.told) T.told T.shows S.K.told)
         (map string_bytes words.now)
-        (scene outside.old.hands.items (S.shows outside.old.store)
+        (stage (scene outside.old.hands.items (S.shows outside.old.store)
         (streams O.shows outside.old.out outside.old.err))
-        (scene outside.new.hands.items (S.shows outside.new.store)
-        (streams O.shows outside.new.out outside.new.err)) result }
+        (map D.shows outside.old.doors.items) (C.woke outside.old.clock))
+        (stage (scene outside.new.hands.items (S.shows outside.new.store)
+        (streams O.shows outside.new.out outside.new.err))
+        (map D.shows outside.new.doors.items) (C.woke outside.new.clock)) result }
     ensures hands { vec_len outside.new.hands ≡ vec_len outside.old.hands }
+    ensures doors { vec_len outside.new.doors ≡ vec_len outside.old.doors }
 {
     match read_line(alloc, words) {
         Ok(line) => run_line(rt, alloc, line, outside),
@@ -141,51 +185,69 @@ fn run_words<
 }
 
 /// Does what the words after the program's name ask, and gives the exit status, unless they ask for
-/// a scan, of folders or of generated files. Then nothing was read or written.
-pub fn run_local<W: ElfTruth + Send + Sync, T: Tree<W>, S: Store<W>, O: Sink, G: Gate + Drop>(
+/// a scan, of folders or of generated files, or for a server. Then nothing was read or written.
+pub fn run_local<
+    W: ElfTruth + Send + Sync,
+    T: Tree<W>,
+    S: Store<W>,
+    D: Door,
+    C: Clock + Drop,
+    O: Sink,
+    G: Gate + Drop,
+>(
     alloc: Global,
     words: &[String],
-    outside: &mut Outside<W, T, S, O, G>,
+    outside: &mut Outside<W, T, S, D, C, O, G>,
 ) -> Option<u8>
     requires { 0 < vec_len outside.old.hands }
-    ensures none { IfNone result (is_scan (line_of (map string_bytes words.now)) ≡ true) }
-    ensures some { IfSome result (λ code. (is_scan (line_of (map string_bytes words.now)) ≡ false)
+    ensures none { IfNone result (takes_threads (line_of (map string_bytes words.now)) ≡ true) }
+    ensures some { IfSome result (λ code. (takes_threads (line_of (map string_bytes words.now)) ≡ false)
         ⊎ (code ≡ code_of OutOfMemory)) }
     ensures idle { IfNone result (outside.new ≡ outside.old) }
     ensures run { IfSome result (IsRun
         (setting (rules W.version W.true_row W.told) T.told T.shows S.K.told)
         (map string_bytes words.now)
-        (scene outside.old.hands.items (S.shows outside.old.store)
+        (stage (scene outside.old.hands.items (S.shows outside.old.store)
         (streams O.shows outside.old.out outside.old.err))
-        (scene outside.new.hands.items (S.shows outside.new.store)
-        (streams O.shows outside.new.out outside.new.err))) }
+        (map D.shows outside.old.doors.items) (C.woke outside.old.clock))
+        (stage (scene outside.new.hands.items (S.shows outside.new.store)
+        (streams O.shows outside.new.out outside.new.err))
+        (map D.shows outside.new.doors.items) (C.woke outside.new.clock))) }
     ensures hands { vec_len outside.new.hands ≡ vec_len outside.old.hands }
     ensures others { drop 1 outside.new.hands.items ≡ drop 1 outside.old.hands.items }
 {
     match read_line(alloc, words) {
-        Ok(Line::Scan { .. } | Line::Trial { .. }) => None,
+        Ok(Line::Scan { .. } | Line::Serve { .. } | Line::Trial { .. }) => None,
         Ok(line) => Some(run_alone(alloc, line, outside).code()),
         Err(_) => Some(say_no_memory(&mut outside.out, &mut outside.err).code()),
     }
 }
 
-/// Does all that the program does, and gives the exit status.
+/// Does all that the program does, and gives the exit status. Where doors are needed there are
+/// exactly these, and the hands that are needed, or more.
 pub fn run<
     W: ElfTruth + Send + Sync,
     T: Tree<W>,
     S: Store<W>,
+    D: Door,
+    C: Clock + Drop,
     O: Sink,
     G: Gate + Drop,
     Rt: Threads + Wait + Sync,
->(rt: &Rt, alloc: Global, words: &[String], outside: &mut Outside<W, T, S, O, G>) -> u8
-    requires { 0 < vec_len outside.old.hands }
+>(rt: &Rt, alloc: Global, words: &[String], outside: &mut Outside<W, T, S, D, C, O, G>) -> u8
+    requires hand { 0 < vec_len outside.old.hands }
+    requires enough { HasEnough (line_of (map string_bytes words.now))
+        (vec_len outside.old.hands) (vec_len outside.old.doors) }
     ensures run { IsRun (setting (rules W.version W.true_row W.told) T.told T.shows S.K.told)
         (map string_bytes words.now)
-        (scene outside.old.hands.items (S.shows outside.old.store)
+        (stage (scene outside.old.hands.items (S.shows outside.old.store)
         (streams O.shows outside.old.out outside.old.err))
-        (scene outside.new.hands.items (S.shows outside.new.store)
-        (streams O.shows outside.new.out outside.new.err)) result }
+        (map D.shows outside.old.doors.items) (C.woke outside.old.clock))
+        (stage (scene outside.new.hands.items (S.shows outside.new.store)
+        (streams O.shows outside.new.out outside.new.err))
+        (map D.shows outside.new.doors.items) (C.woke outside.new.clock)) result }
     ensures hands { vec_len outside.new.hands ≡ vec_len outside.old.hands }
+    ensures doors { vec_len outside.new.doors ≡ vec_len outside.old.doors }
 {
     run_words(rt, alloc, words, outside).code()
 }

@@ -59,7 +59,7 @@ fn count_pass(book: &Book, share: &mut Share, end: &PassEnd)
 }
 
 /// Says how a pass ended, and counts it. Tells what came of its line.
-fn note_pass<O: Sink>(
+pub fn note_pass<O: Sink>(
     alloc: Global,
     end: PassEnd,
     book: &Book,

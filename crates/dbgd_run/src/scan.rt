@@ -20,7 +20,7 @@ use crate::scan_end::ScanEnd;
 use crate::scan_sayings::say_end;
 use crate::status::Status;
 use elf_reading::{ElfReader, ElfTruth};
-use http_wire::Sink;
+use http_wire::{Door, Sink};
 use index_keeper::{Keeper, Store, StoreAnswer};
 use index_state::{OpenFault, State, open_state};
 use pass_runner::{PassEnd, scan_state};
@@ -29,7 +29,7 @@ use std::alloc::Global;
 use std::mem;
 use std::sync::Wait;
 use std::thread::Threads;
-use tree_trait::{Gate, Tree};
+use tree_trait::{Clock, Gate, Tree};
 
 /// Shows that a path is one that is kept. It is called for its clause alone.
 fn show_path(path: &CanonPath)
@@ -156,6 +156,8 @@ fn scan_by<
     W: ElfTruth + Send + Sync,
     T: Tree<W>,
     S: Store<W>,
+    D: Door,
+    C: Clock + Drop,
     O: Sink,
     G: Gate + Drop,
     Rt: Threads + Wait + Sync,
@@ -165,7 +167,7 @@ fn scan_by<
     path: &str,
     workers: u64,
     roots: &[CanonPath],
-    outside: &mut Outside<W, T, S, O, G>,
+    outside: &mut Outside<W, T, S, D, C, O, G>,
 ) -> ScanEnd
     requires hand { 0 < vec_len outside.old.hands }
     requires fits { IsScanFit workers }
@@ -176,6 +178,7 @@ fn scan_by<
         ≡ drop (workers + 2) outside.old.hands.items }
     ensures count { vec_len outside.new.hands ≡ vec_len outside.old.hands }
     ensures sinks { (outside.new.out ≡ outside.old.out) × (outside.new.err ≡ outside.old.err) }
+    ensures rest { (outside.new.doors ≡ outside.old.doors) × (outside.new.clock ≡ outside.old.clock) }
 {
     let hands = &mut outside.hands;
     let count = asked(workers, hands.len());
@@ -202,6 +205,8 @@ pub fn run_scan<
     W: ElfTruth + Send + Sync,
     T: Tree<W>,
     S: Store<W>,
+    D: Door,
+    C: Clock + Drop,
     O: Sink,
     G: Gate + Drop,
     Rt: Threads + Wait + Sync,
@@ -211,7 +216,7 @@ pub fn run_scan<
     path: &str,
     workers: u64,
     roots: &[CanonPath],
-    outside: &mut Outside<W, T, S, O, G>,
+    outside: &mut Outside<W, T, S, D, C, O, G>,
 ) -> Status
     requires hand { 0 < vec_len outside.old.hands }
     requires fits { IsScanFit workers }
@@ -222,6 +227,7 @@ pub fn run_scan<
         (scene outside.new.hands.items (S.shows outside.new.store)
         (streams O.shows outside.new.out outside.new.err)) result }
     ensures count { vec_len outside.new.hands ≡ vec_len outside.old.hands }
+    ensures rest { (outside.new.doors ≡ outside.old.doors) × (outside.new.clock ≡ outside.old.clock) }
 {
     let end = scan_by(rt, alloc, path, workers, roots, outside);
     say_end(alloc, &end, &mut outside.out, &mut outside.err)

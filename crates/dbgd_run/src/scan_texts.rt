@@ -89,7 +89,7 @@ pub fn appeared_text(alloc: Global, name: &Name) -> Result<String, AllocError>
 }
 
 /// Adds a number and what it counts to a text.
-fn push_count(text: &mut String, number: u64, what: &str) -> Result<(), AllocError>
+pub fn push_count(text: &mut String, number: u64, what: &str) -> Result<(), AllocError>
     ensures { OnOk result
         (string_bytes text.new ≡ string_bytes text.old ++ decimal number ++ what.now) }
 {

@@ -36,7 +36,7 @@ fn write_line<S: Sink>(sink: &mut S, text: &str, object: &str) -> Result<(), Wri
 }
 
 /// Says a line of two pieces. A write that fails changes nothing else.
-fn tell<S: Sink>(sink: &mut S, text: &str, object: &str)
+pub fn tell<S: Sink>(sink: &mut S, text: &str, object: &str)
     ensures { Gets (fed_line (text.now ++ object.now)) (S.shows sink.old) (S.shows sink.new) }
 {
     let _ = write_line(sink, text, object);

@@ -19,7 +19,7 @@ use crate::trial_sum::{Totals, totals_in};
 use crate::trial_text::totals_line;
 use elf_forge::ForgeTree;
 use elf_reading::{ElfReader, ElfTruth};
-use http_wire::Sink;
+use http_wire::{Door, Sink};
 use index_keeper::Store;
 use index_state::{OpenFault, State, open_state, show_index};
 use pass_runner::{PassEnd, Summary, scan_state};
@@ -27,7 +27,7 @@ use row_types::{CanonPath, OpenWorld};
 use std::alloc::{AllocError, Global};
 use std::sync::Wait;
 use std::thread::Threads;
-use tree_trait::{Gate, Tree};
+use tree_trait::{Clock, Gate, Tree};
 use tree_walk::WalkFault;
 
 /// The index of a trial.
@@ -141,6 +141,8 @@ pub fn run_trial<
     W: ElfTruth + Send + Sync,
     T: Tree<W>,
     S: Store<W>,
+    D: Door,
+    C: Clock + Drop,
     O: Sink,
     G: Gate + Drop,
     Rt: Threads + Wait + Sync,
@@ -150,7 +152,7 @@ pub fn run_trial<
     seed: u64,
     files: u64,
     workers: u64,
-    outside: &mut Outside<W, T, S, O, G>,
+    outside: &mut Outside<W, T, S, D, C, O, G>,
 ) -> Status
     requires { IsTrialFit files workers }
     ensures says { SaysTrial seed files (streams O.shows outside.old.out outside.old.err)
@@ -158,6 +160,7 @@ pub fn run_trial<
     ensures hands { outside.new.hands.items ≡ outside.old.hands.items }
     ensures count { vec_len outside.new.hands ≡ vec_len outside.old.hands }
     ensures store { S.shows outside.new.store ≡ S.shows outside.old.store }
+    ensures rest { (outside.new.doors ≡ outside.old.doors) × (outside.new.clock ≡ outside.old.clock) }
 {
     match line_of(rt, alloc, seed, files, workers, &outside.gate) {
         Ok(line) => say(

@@ -23,16 +23,17 @@ Commands:
   scan -d DB [-c N] DIR..     Keeps a row for each file under folders in a store
   query -d DB ID              Prints the rows of a build-id that a store holds
   trial SEED FILES WORKERS    Scans generated files in memory, and prints what it has then
-  serve -d DB DIR..           Isn't built yet
+  serve -d DB DIR..           Serves the files under folders to debuggers, over HTTP
 
 Options:
   -h, --help       Print help
   -V, --version    Print version
 
-`dbgd scan --help` and `dbgd query --help` have the options of these two, and their exit statuses.
-The manual is docs/COMMANDS.md.
+`dbgd serve --help`, `dbgd scan --help` and `dbgd query --help` have the options of these three with
+their defaults, and their exit statuses. The manual is docs/COMMANDS.md, of the server docs/SERVING.md.
 
-Example: dbgd scan -d index.db /usr/bin /usr/lib/debug
+Example: dbgd serve -d index.db -p 8002 /usr/bin /usr/lib/debug
+and then: DEBUGINFOD_URLS=http://localhost:8002 gdb /usr/bin/ls
 ";
 
 /// Reads the words behind one that asks for the help or the version of the program: there are none.

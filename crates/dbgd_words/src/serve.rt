@@ -33,12 +33,21 @@ pub const MOST_SECS: u64 = 86_400;
 
 /// What stands below the arguments in the help.
 const AFTER: &str = "\
-This isn't built yet: words that can be read end with 8. It is to keep a row for each file under the
-folders, as dbgd scan does, at its start and again after each wait, and to answer HTTP requests
-meanwhile: executables, debug files, sections and source files by build-id, and its counters.
+Keeps a row for each file under the folders in the store, as dbgd scan does, at its start and again
+after each wait, and answers HTTP requests by what the scans have found: executables, debug files,
+sections and source files by build-id, and its counters at /metrics. Requests that come during the
+first scan wait for its end, later ones for none. A source file is served where a debug file names it
+and it lies under one of the folders or of those of --sources.
+
+Prints on standard output that it serves, on which port and with how many workers, and then a line of
+counts for each scan; a scan that is cut short says why on standard error, and the next one goes on.
+It runs until a signal ends it: each row is on the disk before the next one is kept, so that none is
+lost. While it runs nothing else can open the store. A connection is ended after 100 requests, and
+where nothing comes from the client for 5 seconds or it takes nothing for 30. DEBUGINFOD_URLS tells
+debuggers where the server is.
 
 Exit status: 0 done, 1 a call of the store, the port or the output failed, 2 words that can't be read,
-5 too many rows, 6 memory was refused, 7 a value that is no row, 8 this isn't built yet.
+5 too many rows, 6 memory was refused, 7 a value that is no row, 8 --upstream, which isn't built yet.
 
 Example: dbgd serve -d index.db -p 8002 /usr/bin /usr/lib/debug
 and then: DEBUGINFOD_URLS=http://localhost:8002 gdb /usr/bin/ls";

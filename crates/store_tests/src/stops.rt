@@ -2,7 +2,8 @@
 
 use crate::rig::{after, kept_paths};
 use crate::stopping::StoppingStore;
-use dbgd_run::{MemSink, Outside, Sink, run};
+use dbgd_run::{MemSink, Outside, Sink, needs, run};
+use http_wire::MemDoor;
 use row_types::OpenWorld;
 use sample_world::open_script;
 use std::alloc::Global;
@@ -10,10 +11,10 @@ use std::marker::PhantomData;
 use std::process::Abort;
 use std::sync::Wait;
 use std::thread::Threads;
-use tree_trait::{MemTree, NoGate};
+use tree_trait::{MemClock, MemTree, NoGate};
 
 /// The objects of a run.
-type Memory = Outside<OpenWorld, MemTree<OpenWorld>, StoppingStore, MemSink, NoGate>;
+type Memory = Outside<OpenWorld, MemTree<OpenWorld>, StoppingStore, MemDoor, MemClock, MemSink, NoGate>;
 
 /// A scan of three debug files and two sources.
 static SCAN: [&str; 5] = ["scan", "-d", "m", "/srv/debug", "/w/src"];
@@ -51,6 +52,8 @@ fn stopping_at(rt: &impl Abort, alloc: Global, sql: &str, stop_at: u64) -> Memor
         store: store(rt, alloc, sql, stop_at),
         out: sink(alloc),
         err: sink(alloc),
+        doors: Vec::new(alloc),
+        clock: MemClock::new(alloc, 0),
         gate: NoGate,
         of: PhantomData::<OpenWorld>,
     }
@@ -59,9 +62,12 @@ fn stopping_at(rt: &impl Abort, alloc: Global, sql: &str, stop_at: u64) -> Memor
 /// Scans into empty sinks, and gives the status.
 fn scan<Rt: Threads + Wait + Sync + Abort>(rt: &Rt, alloc: Global, outside: &mut Memory) -> u8 {
     assert!(rt; !outside.hands.is_empty(), "a hand");
+    let words = scan_words(rt, alloc);
+    let needs = needs(alloc, words.as_slice()).expect(rt, "memory");
+    assert!(rt; needs.doors == 0, "a server");
     outside.out = sink(alloc);
     outside.err = sink(alloc);
-    run(rt, alloc, scan_words(rt, alloc).as_slice(), outside)
+    run(rt, alloc, words.as_slice(), outside)
 }
 
 /// Scans, and compares what is said and the status.

@@ -1,6 +1,6 @@
 //! The hands of the tests.
 
-ghost use Rattle.std.specs.Prelude.{◌≡◌, codes, IsTrue};
+ghost use Rattle.std.specs.Prelude.{◌≡◌, IsTrue};
 ghost use Rattle.tree_trait.specs.Script.{is_stage};
 
 use row_types::{OpenWorld, Stamp};
@@ -8,10 +8,10 @@ use sample_files::{
     ID_A, ID_B, big_endian_debug, both_classes, chosen_ids, debug_companion, dwarf_five,
     eight_aligned_notes, executable, extended_counts,
 };
-use sample_world::{SampleWorld, changed_file_script, open_script, reference_script};
+use sample_world::open_script;
 use std::alloc::Global;
 use std::process::Abort;
-use tree_trait::{Found, MemTree, Script, TwoWorld};
+use tree_trait::{Found, MemTree, Script};
 
 /// What a file holds.
 #[derive(Clone, Copy)]
@@ -19,6 +19,8 @@ pub enum File {
     Empty,
     /// `hello` and the end of the line.
     Text,
+    /// The first line of a shell script.
+    Script,
     /// That text, one byte longer.
     LongText,
     /// An ELF header that is one byte short.
@@ -61,6 +63,14 @@ pub enum Files {
     Later,
     /// Those two, and `/w/a` without bytes.
     Wide,
+    /// `/srv/run.sh`, a script.
+    Alone,
+    /// That script, and `/srv/tool`, code.
+    WithTool,
+    /// `/srv/b`, a text, `/srv/c` without bytes, and `/srv/lib` of both classes.
+    Early,
+    /// Of these `/srv/b` is longer by now, `/srv/c` is gone, and `/srv/a`, code, came.
+    Late,
 }
 
 /// A file's bytes.
@@ -68,6 +78,7 @@ fn bytes_of(rt: &impl Abort, alloc: Global, file: &File) -> Vec<u8> {
     let bytes = match file {
         File::Empty => Ok(Vec::new(alloc)),
         File::Text => Vec::from_slice(alloc, b"hello\n"),
+        File::Script => Vec::from_slice(alloc, b"#!/bin/sh\n"),
         File::LongText => Vec::from_slice(alloc, b"hello!\n"),
         File::Cut => Ok(cut_header(rt, alloc)),
         File::Both => both_classes(alloc),
@@ -162,6 +173,26 @@ fn files_of(rt: &impl Abort, alloc: Global, files: &Files) -> Vec<Found<OpenWorl
             found(rt, alloc, "/w/a", &File::Empty),
         ]
         .expect(rt, "memory"),
+        Files::Alone => {
+            vec![in alloc; found(rt, alloc, "/srv/run.sh", &File::Script)].expect(rt, "memory")
+        }
+        Files::WithTool => vec![in alloc;
+            found(rt, alloc, "/srv/run.sh", &File::Script),
+            found(rt, alloc, "/srv/tool", &File::Executable),
+        ]
+        .expect(rt, "memory"),
+        Files::Early => vec![in alloc;
+            found(rt, alloc, "/srv/b", &File::Text),
+            found(rt, alloc, "/srv/c", &File::Empty),
+            found(rt, alloc, "/srv/lib", &File::Both),
+        ]
+        .expect(rt, "memory"),
+        Files::Late => vec![in alloc;
+            found(rt, alloc, "/srv/a", &File::Executable),
+            found(rt, alloc, "/srv/b", &File::LongText),
+            found(rt, alloc, "/srv/lib", &File::Both),
+        ]
+        .expect(rt, "memory"),
     }
 }
 
@@ -199,41 +230,4 @@ pub fn turning(
 /// A hand of the open world that has the reference tree.
 pub fn reference(rt: &impl Abort, alloc: Global) -> MemTree<OpenWorld> {
     MemTree::new(alloc, open_script(alloc).expect(rt, "memory"))
-}
-
-/// A hand of the told world that has the reference tree, and fails at these calls.
-pub fn told_reference(rt: &impl Abort, alloc: Global, bad: &[u64]) -> MemTree<SampleWorld> {
-    let bad_calls = Vec::from_slice(alloc, bad).expect(rt, "memory");
-    let script = reference_script(alloc, bad_calls).expect(rt, "memory");
-    MemTree::new(alloc, script)
-}
-
-/// A hand of the told world that has the file which changes before this call.
-pub fn changed_file(rt: &impl Abort, alloc: Global, call: u64) -> MemTree<SampleWorld> {
-    MemTree::new(alloc, changed_file_script(alloc, call).expect(rt, "memory"))
-}
-
-/// The file of one byte, in its told world.
-fn byte_file(rt: &impl Abort, alloc: Global) -> Found<TwoWorld>
-    ensures { result.path ≡ codes "/w/a" }
-{
-    let path = String::from_str(alloc, "/w/a").expect(rt, "memory");
-    let bytes = vec![in alloc; b'x'].expect(rt, "memory");
-    let stamp = Stamp {
-        size: 1,
-        secs: 1,
-        nanos: 0,
-    };
-    Found::new(path, stamp, bytes)
-}
-
-/// A hand of the told world of one byte a file, which has `/w/a`.
-pub fn one_byte(rt: &impl Abort, alloc: Global) -> MemTree<TwoWorld> {
-    let files = vec![in alloc; byte_file(rt, alloc)].expect(rt, "memory");
-    let script = Script {
-        stages: vec![in alloc; files].expect(rt, "memory"),
-        moves: Vec::new(alloc),
-        bad_calls: Vec::new(alloc),
-    };
-    MemTree::new(alloc, script)
 }

@@ -1,8 +1,9 @@
 //! What `query` says, by what the store holds.
 
 use crate::runs::hands::Files::{One, Two};
-use crate::runs::hands::{File, reference, told_reference};
+use crate::runs::hands::{File, reference};
 use crate::runs::rig::{Case, Plan, Run, SOUND, run_all, run_cases, run_kept};
+use crate::runs::told::told_reference;
 
 const SCAN: &[&str] = &["scan", "-d", "m", "-c", "2", "/srv/bin", "/srv/debug", "/w"];
 

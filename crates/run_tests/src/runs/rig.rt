@@ -2,9 +2,9 @@
 //! compared.
 
 use crate::runs::hands::{Files, hand_of};
-use dbgd_run::{Outside, run, run_local};
+use dbgd_run::{Outside, needs, run, run_local};
 use elf_reading::ElfTruth;
-use http_wire::{MemSink, Sink, Stream, WriteAnswer};
+use http_wire::{MemDoor, MemSink, Sink, Stream, WriteAnswer};
 use index_keeper::{Kept, MemStore};
 use row_types::OpenWorld;
 use std::alloc::Global;
@@ -12,7 +12,7 @@ use std::marker::PhantomData;
 use std::process::Abort;
 use std::sync::Wait;
 use std::thread::Threads;
-use tree_trait::{LoadAnswer, NoGate, Tree};
+use tree_trait::{LoadAnswer, MemClock, NoGate, Tree};
 
 /// When the objects around a hand fail: the call of the store from which on it fails, until it is
 /// opened again, those of its calls that fail once, the writes that fail on out and on err, and how
@@ -64,7 +64,7 @@ impl Sink for Narrow {
 }
 
 /// The objects of a run.
-type Memory<W, T> = Outside<W, T, MemStore<W>, Narrow, NoGate>;
+type Memory<W, T> = Outside<W, T, MemStore<W>, MemDoor, MemClock, Narrow, NoGate>;
 
 /// The words as the program gets them.
 pub fn words_of(rt: &impl Abort, alloc: Global, words: &[&str]) -> Vec<String> {
@@ -77,7 +77,7 @@ pub fn words_of(rt: &impl Abort, alloc: Global, words: &[&str]) -> Vec<String> {
 }
 
 /// A sink of a plan.
-fn sink_of(rt: &impl Abort, alloc: Global, bad_writes: &[u64], width: usize) -> Narrow {
+pub fn sink_of(rt: &impl Abort, alloc: Global, bad_writes: &[u64], width: usize) -> Narrow {
     let bad_writes = Vec::from_slice(alloc, bad_writes).expect(rt, "memory");
     Narrow {
         sink: MemSink::new(alloc, bad_writes),
@@ -113,6 +113,8 @@ fn outside_of<W: ElfTruth + Send + Sync, T: Tree<W>>(
     Outside {
         hands,
         store,
+        doors: Vec::new(alloc),
+        clock: MemClock::new(alloc, 0),
         out: sink_of(rt, alloc, plan.bad_out, plan.width),
         err: sink_of(rt, alloc, plan.bad_err, plan.width),
         gate: NoGate,
@@ -135,6 +137,8 @@ fn status_of<W: ElfTruth + Send + Sync, T: Tree<W>, Rt: Threads + Wait + Sync + 
 ) -> u8 {
     assert!(rt; !outside.hands.is_empty(), "a hand");
     let texts = words_of(rt, alloc, words);
+    let needs = needs(alloc, texts.as_slice()).expect(rt, "memory");
+    assert!(rt; needs.doors == 0, "a server");
     run(rt, alloc, texts.as_slice(), outside)
 }
 

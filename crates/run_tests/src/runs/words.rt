@@ -43,11 +43,8 @@ static UNREADABLE: [&[&str]; 29] = [
     &["trial", "18446744073709551616", "40", "1"],
 ];
 
-/// Lines of `serve` that can be read.
-static UNBUILT: [&[&str]; 2] = [
-    &["serve", "-d", "m", "/w"],
-    &["serve", "-d", "m", "--upstream", "http://h", "/w"],
-];
+/// A line of `serve` that asks other servers.
+static UNBUILT: [&[&str]; 1] = [&["serve", "-d", "m", "--upstream", "http://h", "/w"]];
 
 /// Runs alone, over a file without bytes.
 fn run_alone<Rt: Threads + Wait + Sync + Abort>(
@@ -129,15 +126,16 @@ fn help_and_version_go_to_the_standard_output(rt: HostRuntime) {
 }
 
 /// Lines, and what the local part answers.
-static LOCAL: [(&[&str], Option<u8>); 4] = [
+static LOCAL: [(&[&str], Option<u8>); 5] = [
     (&["ident", "/w/a"], Some(3)),
     (&[], Some(2)),
     (&["scan", "-d", "m", "/w"], None),
+    (&["serve", "-d", "m", "/w"], None),
     (&["trial", "7", "40", "1"], None),
 ];
 
 #[test]
-fn the_local_part_answers_every_line_but_scans_and_trials(rt: HostRuntime) {
+fn the_local_part_answers_every_line_but_those_that_take_threads(rt: HostRuntime) {
     let alloc = rt.alloc();
     let hand = hand_of(&rt, alloc, &Files::One(File::Empty), &[]);
     answer_locally(&rt, alloc, hand, &LOCAL);

@@ -3,7 +3,7 @@
 use crate::runs::hands::Files::{BothAltered, Two};
 use crate::runs::hands::{hand_of, reference, turning};
 use crate::runs::rig::{Run, SOUND, empty_store, fails_after, run_over, words_of};
-use dbgd_run::needs;
+use dbgd_run::{Needs, needs};
 use row_types::OpenWorld;
 use std::alloc::Global;
 use std::process::Abort;
@@ -18,7 +18,7 @@ static LINES: [&[u8]; 2] = [
 ];
 
 /// So many hands, each of which has the reference tree.
-fn references(rt: &impl Abort, alloc: Global, count: u64) -> Vec<MemTree<OpenWorld>> {
+pub fn references(rt: &impl Abort, alloc: Global, count: u64) -> Vec<MemTree<OpenWorld>> {
     let mut hands = Vec::new(alloc);
     for _ in 0..count {
         hands.push(reference(rt, alloc)).expect(rt, "memory");
@@ -148,28 +148,44 @@ fn hands_behind_those_of_the_workers_are_not_asked(rt: HostRuntime) {
     }
 }
 
-/// Words, and how many hands they need.
-static NEEDS: [(&[&str], u64); 8] = [
-    (&["scan", "-d", "m", "-c", "1", "/srv"], 3),
-    (&["scan", "-d", "m", "-c", "64", "/srv"], 66),
-    (&["scan", "-d", "m", "/srv"], 6),
-    (&["scan", "-d", "m", "-c", "65", "/srv"], 0),
-    (&["ident", "/srv/a"], 1),
-    (&["section", "/srv/a", ".text"], 1),
-    (&["query", "-d", "m", "ffff"], 0),
-    (&[], 0),
+/// Words, how many hands and doors they need, and the doors' port.
+static NEEDS: [(&[&str], u64, u64, u16); 12] = [
+    (&["scan", "-d", "m", "-c", "1", "/srv"], 3, 0, 0),
+    (&["scan", "-d", "m", "-c", "64", "/srv"], 66, 0, 0),
+    (&["scan", "-d", "m", "/srv"], 6, 0, 0),
+    (&["scan", "-d", "m", "-c", "65", "/srv"], 0, 0, 0),
+    (&["serve", "-d", "m", "/srv"], 10, 4, 8002),
+    (
+        &["serve", "-d", "m", "-c", "1", "-p", "65535", "/srv"],
+        4,
+        1,
+        65535,
+    ),
+    (
+        &["serve", "-d", "m", "-c", "64", "-p", "1", "/srv"],
+        130,
+        64,
+        1,
+    ),
+    (&["serve", "-d", "m", "-c", "65", "/srv"], 0, 0, 0),
+    (&["ident", "/srv/a"], 1, 0, 0),
+    (&["section", "/srv/a", ".text"], 1, 0, 0),
+    (&["query", "-d", "m", "ffff"], 0, 0, 0),
+    (&[], 0, 0, 0),
 ];
 
-/// How many hands these words need.
-fn hands_for(rt: &impl Abort, alloc: Global, words: &[&str]) -> u64 {
+/// What these words need.
+fn needs_of(rt: &impl Abort, alloc: Global, words: &[&str]) -> Needs {
     let texts = words_of(rt, alloc, words);
-    needs(alloc, texts.as_slice()).expect(rt, "memory").hands
+    needs(alloc, texts.as_slice()).expect(rt, "memory")
 }
 
 #[test]
-fn words_need_hands(rt: HostRuntime) {
-    for (words, hands) in &NEEDS {
-        let needed = hands_for(&rt, rt.alloc(), words);
-        assert!(rt; needed == *hands, "{words:?}: {needed}");
+fn words_need_hands_and_doors(rt: HostRuntime) {
+    for (words, hands, doors, port) in &NEEDS {
+        let needed = needs_of(&rt, rt.alloc(), words);
+        assert!(rt; needed.hands == *hands, "{words:?}: {}", needed.hands);
+        assert!(rt; needed.doors == *doors, "{words:?}: {}", needed.doors);
+        assert!(rt; needed.port == *port, "{words:?}: {}", needed.port);
     }
 }

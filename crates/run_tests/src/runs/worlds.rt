@@ -1,8 +1,8 @@
 //! Runs over told worlds, and over trees of one answer.
 
 use crate::runs::crowded::Crowded;
-use crate::runs::hands::{changed_file, one_byte, told_reference};
 use crate::runs::rig::{Plan, Run, SOUND, run_all};
+use crate::runs::told::{changed_file, one_byte, told_reference};
 
 const IDENT: &[&str] = &["ident", "/w/a"];
 

@@ -43,6 +43,3 @@ pub returns-in-Help-clause-law : goal.returns-in-Help-clause-law
 returns-in-Help-clause-law g c =
     rw c.in-Help.is
     (record { text = c.as_bytes-in-Help.result.now; says = inl c.say-in-Help.ensures; hands = refl; store = refl })
-
-pub returns-in-Serve-clause-law : goal.returns-in-Serve-clause-law
-returns-in-Serve-clause-law g c = rw c.in-Serve.is (record { says = c.say_not_built.ensures; hands = refl; store = refl })

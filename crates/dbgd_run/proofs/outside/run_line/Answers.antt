@@ -1,6 +1,54 @@
+-- What a line of words asks was done; doors and clock are as they were unless it asks for a server.
+use Rattle.std.proofs.Common.{ap, arith}
+use Rattle.std.specs.Prelude.{map}
+use Rattle.dbgd_run.proofs.RunLemmas.{runs_apart}
 use Rattle.dbgd_run.proofs.outside.run_line.Goals as goal
+
+pub returns-in-Scan-clause-law : goal.returns-in-Scan-clause-law
+returns-in-Scan-clause-law g c =
+    rw c.in-Scan.is
+    (record {
+      runs = rw c.as_slice.ensures.value at c.run_scan.ensures.runs;
+      rest = record {
+        doors = ap (λ doors. map g.D.Door.shows doors.items) c.run_scan.ensures.rest.0;
+        woke = ap g.C.Clock.woke c.run_scan.ensures.rest.1;
+      };
+    })
+
+pub returns-in-Serve-clause-law : goal.returns-in-Serve-clause-law
+returns-in-Serve-clause-law g c = rw c.in-Serve.is c.run_serve.ensures.runs
 
 pub returns-in-Trial-clause-law : goal.returns-in-Trial-clause-law
 returns-in-Trial-clause-law g c =
     rw c.in-Trial.is
-    (record { says = c.run_trial.ensures.says; hands = c.run_trial.ensures.hands; store = c.run_trial.ensures.store })
+    (record {
+      runs = record { says = c.run_trial.ensures.says; hands = c.run_trial.ensures.hands; store = c.run_trial.ensures.store };
+      rest = record {
+        doors = ap (λ doors. map g.D.Door.shows doors.items) c.run_trial.ensures.rest.0;
+        woke = ap g.C.Clock.woke c.run_trial.ensures.rest.1;
+      };
+    })
+
+-- the last arm: any line that takes no threads
+pub returns-in_default-clause-law : goal.returns-in_default-clause-law
+returns-in_default-clause-law g c =
+    runs_apart _ _ _ _ _ c.run_alone.ensures.law
+    (record {
+      doors = ap (λ doors. map g.D.Door.shows doors.items) c.run_alone.ensures.rest.0;
+      woke = ap g.C.Clock.woke c.run_alone.ensures.rest.1;
+    })
+
+-- a server's hands are enough by what it needs
+pub run_serve-requires-clause-hands : goal.run_serve-requires-clause-hands
+run_serve-requires-clause-hands g c = λ κs within.
+    let enough = rw c.in-Serve.is at c.requires.enough in
+    let fits = rw c.in-Serve.is at c.requires.fits in
+    let one = fits.one in
+    let most = fits.most in
+    let hands = (enough (omega (arith, one))).0 in
+    omega (arith, hands, most)
+
+pub run_serve-requires-clause-doors : goal.run_serve-requires-clause-doors
+run_serve-requires-clause-doors g c = λ κs within.
+    let one = (rw c.in-Serve.is at c.requires.fits).one in
+    ((rw c.in-Serve.is at c.requires.enough) (omega (arith, one))).1

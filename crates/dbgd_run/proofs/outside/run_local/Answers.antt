@@ -1,13 +1,19 @@
--- What the words that are no scan ask was done.
-use Rattle.std.proofs.Common.{◌<◌, length, inl, inr, refl, arith}
-use Rattle.dbgd_run.proofs.RunLemmas.{runs_words}
+-- What the words that are neither a scan nor a server ask was done.
+use Rattle.std.proofs.Common.{◌<◌, length, inl, inr, refl, ap, arith}
+use Rattle.std.specs.Prelude.{map}
+use Rattle.dbgd_run.proofs.RunLemmas.{runs_apart, runs_words}
 use Rattle.dbgd_run.proofs.outside.run_local.Goals as goal
 
 pub returns-in-Ok-clause-run : goal.returns-in-Ok-clause-run
 returns-in-Ok-clause-run g c =
     let some : 0 < length c.args.outside.now.hands.items = omega arith in
     runs_words _ _ _ _ c.run_alone.result _ c.code.ensures.code some
-    (inl (rw (← c.in-Ok.ensures.line) c.run_alone.ensures.law))
+    (inl (rw (← c.in-Ok.ensures.line)
+    (runs_apart _ _ _ _ _ c.run_alone.ensures.law
+    (record {
+      doors = ap (λ doors. map g.D.Door.shows doors.items) c.run_alone.ensures.rest.0;
+      woke = ap g.C.Clock.woke c.run_alone.ensures.rest.1;
+    }))))
 
 pub returns-in-Err-clause-run : goal.returns-in-Err-clause-run
 returns-in-Err-clause-run g c =
@@ -16,4 +22,5 @@ returns-in-Err-clause-run g c =
     (inr (record {
       options = c.in-Err.ensures.memory;
       alone = record { says = c.say_no_memory.ensures; hands = refl; store = refl };
+      rest = record { doors = refl; woke = refl };
     }))

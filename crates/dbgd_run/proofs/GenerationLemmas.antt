@@ -1,0 +1,59 @@
+-- The generation that is told of a reply for which the index was asked: the length of the log.
+use Rattle.std.proofs.Common.{◌≡◌, ℕ, Bool, List, length, IsTrue}
+use Rattle.std.proofs.lemmas.Bool.{false≢true}
+use Rattle.index_rows.specs.declared.change.Change.{Change}
+use Rattle.tree_trait.specs.Heard.{Heard}
+use Rattle.webapi_routes.specs.declared.fault.RouteFault.{RouteFault}
+use Rattle.webapi_routes.specs.declared.fault.RouteFault.TheVariants as route_fault
+use Rattle.webapi_routes.specs.declared.route.Route.{Route}
+use Rattle.answer_core.specs.Local.{IsLocal, Sight}
+use Rattle.answer_core.specs.declared.local.Local.{Local}
+use Rattle.answer_core.specs.declared.local.Local.TheVariants as local
+use Rattle.dbgd_metrics.specs.Shares.{ShareFacts}
+use Rattle.conn_server.specs.Asked.{Request}
+use Rattle.conn_server.specs.Cases.{IsCase, IsPassed, generation_of}
+use Rattle.conn_server.specs.Cases.{bad_head, too_long, too_many, method, has_body, no_route, metrics, no_page, passed, read_fault, not_found, no_memory}
+use Rattle.conn_server.specs.Exchange.{Exchange, IsExchange}
+use Rattle.conn_server.specs.Replies.{reason_of_route}
+use Rattle.conn_server.specs.Scene.{Scene, Stand, sight_at}
+use Rattle.conn_server.specs.declared.reason.Reason.{Reason}
+use Rattle.conn_server.specs.declared.report.Asked as given
+use Rattle.dbgd_run.specs.Workers.{rests_on_index}
+
+-- a target that is none of a route doesn't rest on the index
+no_route_asks : (fault : RouteFault) → IsTrue (rests_on_index (reason_of_route fault)) → ⊥
+no_route_asks route_fault.BadEscape h = false≢true h
+no_route_asks route_fault.NoRoute h = false≢true h
+no_route_asks route_fault.BadId h = false≢true h
+no_route_asks route_fault.BadPath h = false≢true h
+no_route_asks route_fault.OutOfMemory h = false≢true h
+
+-- of an answer that passed
+passed_at : (sight : Sight) (route : Route) (answer : Local) → IsLocal sight route answer → IsPassed answer
+    → generation_of answer ≡ length sight.log
+passed_at sight route (local.File from path n) is files = is.1
+passed_at sight route (local.Section from path n) is files = is.1
+passed_at sight route (local.Source bytes path n) is files = is.1
+passed_at sight route (local.Nothing n) is files = absurd files
+passed_at sight route (local.Fault n) is files = absurd files
+passed_at sight route local.OutOfMemory is files = absurd files
+
+module _ {T : Type 0} (scene : Scene T) (at : Stand T) (own noted : ShareFacts) (log : List Change) (request : Request) where
+  at_log : {what : given.Asked} {why : Reason} {n : ℕ} {carried : _} {answers : List Heard}
+      → IsCase scene at own noted log request what why n carried answers → IsTrue (rests_on_index why) → n ≡ length log
+  at_log (bad_head len e) h = absurd (false≢true h)
+  at_log (too_long e) h = absurd (false≢true h)
+  at_log (too_many e) h = absurd (false≢true h)
+  at_log (method head e served) h = absurd (false≢true h)
+  at_log (has_body head e served body) h = absurd (false≢true h)
+  at_log (no_route head fault e taken said) h = absurd (no_route_asks fault h)
+  at_log (passed head route answer heard e asks file rests is) h = passed_at (sight_at scene at log heard) route answer rests is
+  at_log (read_fault head route m heard e asks file rests) h = rests.1
+  at_log (not_found head route m heard e asks file rests) h = rests.1
+  at_log (no_memory head route heard e asks files) h = absurd (false≢true h)
+  at_log (metrics head text e asks page) h = absurd (false≢true h)
+  at_log (no_page head e asks) h = absurd (false≢true h)
+
+pub generation_is : {T : Type 0} (scene : Scene T) (last : Bool) (at : Stand T) (x : Exchange) → IsExchange scene last at x
+    → IsTrue (rests_on_index x.served.reason) → x.served.gen_ ≡ length x.log
+generation_is scene last at x is asked = at_log scene at x.own x.noted x.log x.request is.lawful.is asked

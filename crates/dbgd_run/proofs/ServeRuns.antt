@@ -1,0 +1,261 @@
+-- A server on all that it is handed: the hands of its passes stand first, those of its workers behind them, and the others last.
+use Rattle.std.proofs.Common.{◌≡◌, inl, inr, ℕ, ◌+◌, ◌*◌, ◌<◌, ◌||◌, Bool, List, [], ◌∷◌, ◌++◌, All, map, drop, take, length, length-append, append_assoc, Option, Some, refl, sym, ◌∙◌, ap, subst, arith}
+use Rattle.std.specs.List.{AllZip, flat_map, list_any}
+use Rattle.std.proofs.lemmas.List.{length-map, take-append-drop}
+use Rattle.std.proofs.lemmas.List.Elements.{All-nil, All-cons, All-head, All-tail}
+use Rattle.http_wire.specs.Door.{ShownDoor}
+use Rattle.http_wire.specs.Stream.{ShownStream}
+use Rattle.index_keeper.specs.Store.{ShownStore}
+use Rattle.index_rows.specs.declared.change.Change.{Change}
+use Rattle.index_state.specs.Opening.{current, puts_of}
+use Rattle.index_state.specs.declared.open_fault.OpenFault.{OpenFault}
+use Rattle.dbgd_metrics.specs.Shares.{BookFacts, ShareFacts}
+use Rattle.lock_crew.proofs.Zips.{front_all}
+use Rattle.conn_server.specs.Doors.{said_at}
+use Rattle.conn_server.specs.Scene.{Scene}
+use Rattle.conn_server.specs.Tallied.{HasRowIn}
+use Rattle.conn_server.specs.declared.door.DoorEnd.{DoorEnd}
+use Rattle.conn_server.specs.declared.door.DoorEnd.TheVariants as end
+use Rattle.tree_trait.specs.declared.clock.Waited.{Waited}
+use Rattle.dbgd_run.specs.Endings.{EndsCut, EndsWhole, Streams}
+use Rattle.dbgd_run.specs.Rounds.{GetsLines, passing_scene}
+use Rattle.dbgd_run.specs.Scan.{Scans}
+use Rattle.dbgd_run.specs.ScanSaid.{refusal_saying}
+use Rattle.dbgd_run.specs.Scene.{Setting, scene}
+use Rattle.dbgd_run.specs.Serve.{IsUnopened, MakesRound, RunsServe, ServeWords, served, served_scene, unopened, unserved}
+use Rattle.dbgd_run.specs.ServeSaid.{SaysServeEnd, door_line, door_lines, end_line, ended_badly, has_cut, has_failed, is_any_failed, served_status, serving_line, serving_saying, wants_line}
+use Rattle.dbgd_run.specs.Serving.{CrewFacts, RefusesStore, ServesStore, serve_rules}
+use Rattle.dbgd_run.specs.Stage.{stage}
+use Rattle.dbgd_run.specs.Workers.{AreWorkers, HasCountedNothing, IsFreshShare, PlaceServed, ServedBy, WorkerFacts, doors_at, ends_at, hands_at, shares_at, worker_in, workers_at}
+use Rattle.dbgd_run.specs.declared.line_fate.LineFate.{LineFate}
+use Rattle.dbgd_run.specs.declared.places.DoorPlace.{DoorPlace}
+use Rattle.dbgd_run.specs.declared.scan_end.ScanEnd.TheVariants as scanned
+use Rattle.dbgd_run.specs.declared.serve_end.ServeEnd.{ServeEnd}
+use Rattle.dbgd_run.specs.declared.serve_end.ServeEnd.TheVariants.{Refused, Unannounced, Unlocked, Served}
+use Rattle.dbgd_run.specs.declared.status.Status.{Status}
+use Rattle.dbgd_run.specs.declared.status.Status.TheVariants as status
+use Rattle.dbgd_run.proofs.HandLemmas.{hands_stay}
+
+-- lists
+
+map_twice : {A B C : Type 0} (f : B → C) (g : A → B) (xs : List A) → map f (map g xs) ≡ map (λ x. f (g x)) xs
+map_twice f g [] = refl
+map_twice f g (x ∷ xs) = ap (λ ys. f (g x) ∷ ys) (map_twice f g xs)
+
+pub front_all_of : {A : Type 0} (xs ys : List A) → take (length xs) (xs ++ ys) ≡ xs
+front_all_of xs ys = front_all (length xs) xs ys refl
+
+behind_front : {A : Type 0} (xs ys : List A) → drop (length xs) (xs ++ ys) ≡ ys
+behind_front [] ys = refl
+behind_front (x ∷ xs) ys = behind_front xs ys
+
+-- a list in three parts
+pub three_parts : {A : Type 0} (f n : ℕ) (xs : List A) → take f xs ++ (take n (drop f xs) ++ drop n (drop f xs)) ≡ xs
+three_parts f n xs = ap (λ rest. take f xs ++ rest) (take-append-drop n (drop f xs)) ∙ take-append-drop f xs
+
+-- a fresh share has its row
+pub has_row : (book : BookFacts) (share : ShareFacts) → IsFreshShare book share → HasRowIn book share
+has_row book share is = (is.of_book, is.fresh.row)
+
+pub places_have_rows : {T D : Type 0} (book : BookFacts) (places : List (DoorPlace T D)) → All (IsFreshShare book) (shares_at places)
+    → All (λ (place : DoorPlace T D). HasRowIn book place.share) places
+places_have_rows {T} {D} book [] all = All-nil (λ (place : DoorPlace T D). HasRowIn book place.share)
+places_have_rows {T} {D} book (p ∷ places) all =
+    All-cons (λ (place : DoorPlace T D). HasRowIn book place.share) p places
+    (has_row book p.share (All-head (IsFreshShare book) p.share (shares_at places) all))
+    (places_have_rows book places (All-tail (IsFreshShare book) p.share (shares_at places) all))
+
+-- the line of a door and whether it failed are those of the end of its serving
+line_at : (why : DoorEnd) → end_line (Some why) ≡ door_line (Some (said_at why))
+line_at end.Closed = refl
+line_at end.Failed = refl
+
+bad_at : (why : DoorEnd) → ended_badly (Some why) ≡ has_failed (Some (said_at why))
+bad_at end.Closed = refl
+bad_at end.Failed = refl
+
+module _ {T D : Type 0} (sc : Scene T) (sees : D → ShownDoor) (first last : List Change) where
+  served_workers : (places left : List (DoorPlace T D)) → AllZip (PlaceServed sc sees first last) places left
+      → AllZip (ServedBy sc first last) (workers_at sees places) (workers_at sees left)
+  served_workers [] [] all = tt
+  served_workers [] (p ∷ left) all = absurd all
+  served_workers (p ∷ places) [] all = absurd all
+  served_workers (p ∷ places) (q ∷ left) all = (all.0.by, served_workers places left all.1)
+
+  lines_of_doors : (places left : List (DoorPlace T D)) → AllZip (PlaceServed sc sees first last) places left
+      → flat_map end_line (ends_at left) ≡ door_lines (map sees (doors_at left))
+  lines_of_doors [] [] all = refl
+  lines_of_doors [] (p ∷ left) all = absurd all
+  lines_of_doors (p ∷ places) [] all = absurd all
+  lines_of_doors (p ∷ places) (q ∷ left) all =
+      ap (λ (o : Option DoorEnd). end_line o ++ flat_map end_line (ends_at left)) all.0.kept
+      ∙ ap (λ (line : List ℕ). line ++ flat_map end_line (ends_at left))
+      (line_at all.0.by.ran.end ∙ ap door_line (sym all.0.by.ran.serves.ends.last))
+      ∙ ap (λ (rest : List ℕ). door_line (sees q.door).last ++ rest) (lines_of_doors places left all.1)
+
+  failed_of_doors : (places left : List (DoorPlace T D)) → AllZip (PlaceServed sc sees first last) places left
+      → list_any ended_badly (ends_at left) ≡ is_any_failed (map sees (doors_at left))
+  failed_of_doors [] [] all = refl
+  failed_of_doors [] (p ∷ left) all = absurd all
+  failed_of_doors (p ∷ places) [] all = absurd all
+  failed_of_doors (p ∷ places) (q ∷ left) all =
+      ap (λ (o : Option DoorEnd). ended_badly o || list_any ended_badly (ends_at left)) all.0.kept
+      ∙ ap (λ (b : Bool). b || list_any ended_badly (ends_at left)) (bad_at all.0.by.ran.end ∙ ap has_failed (sym all.0.by.ran.serves.ends.last))
+      ∙ ap (λ (b : Bool). has_failed (sees q.door).last || b) (failed_of_doors places left all.1)
+
+module _ {T D : Type 0} (sees : D → ShownDoor) where
+  -- the workers of places have their hands and their doors
+  pub are_workers : (hands : List T) (doors : List D) (places : List (DoorPlace T D)) → hands_at places ≡ hands → doors_at places ≡ doors
+      → AreWorkers hands (map sees doors) (workers_at sees places)
+  are_workers hands doors places h d = record {
+    hands = map_twice (λ (worker : WorkerFacts T). worker.hand) (worker_in sees) places ∙ h;
+    doors =
+        map_twice (λ (worker : WorkerFacts T). worker.door) (worker_in sees) places
+        ∙ (sym (map_twice sees (λ (place : DoorPlace T D). place.door) places) ∙ ap (map sees) d);
+  }
+
+  fresh_workers : (book : BookFacts) (places : List (DoorPlace T D)) → All (IsFreshShare book) (shares_at places)
+      → All (λ (worker : WorkerFacts T). HasCountedNothing worker.share) (workers_at sees places)
+  fresh_workers book [] all = All-nil (λ (worker : WorkerFacts T). HasCountedNothing worker.share)
+  fresh_workers book (p ∷ places) all =
+      All-cons (λ (worker : WorkerFacts T). HasCountedNothing worker.share) (worker_in sees p) (workers_at sees places)
+      (All-head (IsFreshShare book) p.share (shares_at places) all).fresh
+      (fresh_workers book places (All-tail (IsFreshShare book) p.share (shares_at places) all))
+
+-- the hands at a place of the whole list
+module _ {T : Type 0} (n : ℕ) (front mid rest : List T) (long : length front ≡ n + 2) (many : length mid ≡ n) where
+  first_hands : take (n + 2) (front ++ (mid ++ rest)) ≡ front
+  first_hands = ap (λ (k : ℕ). take k (front ++ (mid ++ rest))) (sym long) ∙ front_all_of front (mid ++ rest)
+
+  behind_first : drop (n + 2) (front ++ (mid ++ rest)) ≡ mid ++ rest
+  behind_first = ap (λ (k : ℕ). drop k (front ++ (mid ++ rest))) (sym long) ∙ behind_front front (mid ++ rest)
+
+  worker_hands : take n (drop (n + 2) (front ++ (mid ++ rest))) ≡ mid
+  worker_hands =
+      ap (take n) behind_first ∙ (ap (λ (k : ℕ). take k (mid ++ rest)) (sym many) ∙ front_all_of mid rest)
+
+  other_hands : drop (n * 2 + 2) (front ++ (mid ++ rest)) ≡ rest
+  other_hands =
+      let sum = length-append front mid in
+      ap (λ (k : ℕ). drop k (front ++ (mid ++ rest))) (omega (arith, sum, long, many))
+      ∙ (ap (drop (length (front ++ mid))) (sym (append_assoc front mid rest)) ∙ behind_front (front ++ mid) rest)
+
+module _ {T D : Type 0} (s : Setting T) (words : ServeWords) (sees : D → ShownDoor) (front mid rest : List T) (doors : List D) (old new : ShownStore) (woke : Option (List Waited)) (before after_streams : Streams) (share : ShareFacts) (book : BookFacts) (places : List (DoorPlace T D)) (after : CrewFacts T D) (code : Status) where
+  -- hands that came back as they were
+  hands_back : hands_at places ≡ mid → after.hands ≡ front → after.places ≡ places
+      → after.hands ++ (hands_at after.places ++ rest) ≡ front ++ (mid ++ rest)
+  hands_back h first same =
+      ap (λ (hands : List T). hands ++ (hands_at after.places ++ rest)) first
+      ∙ ap (λ (hands : List T). front ++ (hands ++ rest)) (ap hands_at same ∙ h)
+
+  pub runs_serve : (how : ServeEnd) → length front ≡ words.workers + 2 → length mid ≡ words.workers
+      → length after.hands ≡ words.workers + 2 → length after.places ≡ words.workers
+      → hands_at places ≡ mid → doors_at places ≡ doors → All (IsFreshShare book) (shares_at places) → IsFreshShare book share
+      → ServesStore (serve_rules s words.roots words.secs (served_scene s words) sees) words.path
+      (serving_line words.port words.workers) old new (passing_scene [] front woke before share) places how after
+      → SaysServeEnd how (ends_at after.places) after.streams after_streams code
+      → RunsServe s words (stage (scene (front ++ (mid ++ rest)) old before) (map sees doors) woke)
+      (stage (scene (after.hands ++ (hands_at after.places ++ rest)) new after_streams) (map sees (doors_at after.places)) after.woke) code
+  runs_serve (Refused fault) long many back count h d fresh own store said =
+      unopened fault (whole_refused fault store said)
+    where
+      whole_refused : (fault : OpenFault) → RefusesStore (serve_rules s words.roots words.secs (served_scene s words) sees) words.path old new
+          (passing_scene [] front woke before share) places fault after
+          → EndsWhole (refusal_saying fault) after.streams after_streams code
+          → IsUnopened s words (stage (scene (front ++ (mid ++ rest)) old before) (map sees doors) woke)
+          (stage (scene (after.hands ++ (hands_at after.places ++ rest)) new after_streams) (map sees (doors_at after.places)) after.woke) fault code
+      whole_refused fault store said =
+          let sum = length-append front (mid ++ rest) in
+          let some : 0 < length (front ++ (mid ++ rest)) = omega (arith, sum, long) in record {
+            scans =
+                subst (λ (hands : List T). Scans s words.path words.roots (front ++ (mid ++ rest)) hands old new (scanned.Refused fault))
+                (sym (hands_back h (ap (λ (c : CrewFacts T D). c.hands) store.same) (ap (λ (c : CrewFacts T D). c.places) store.same)))
+                (record {
+                  ends = record { hands = refl; store = store.scans.ends.store };
+                  loads = tt;
+                  hands = hands_stay s.tells_files s.world.version s.sees (front ++ (mid ++ rest)) some (λ e. absurd (cc));
+                  store = store.scans.store;
+                  later = store.scans.later;
+                  opened = store.scans.opened;
+                  opens = store.scans.opens;
+                });
+            said =
+                subst (λ (shown : Streams). EndsWhole (refusal_saying fault) shown after_streams code)
+                (ap (λ (c : CrewFacts T D). c.streams) store.same) said;
+            rest = record {
+              doors = ap (λ (ps : List (DoorPlace T D)). map sees (doors_at ps)) (ap (λ (c : CrewFacts T D). c.places) store.same) ∙ ap (map sees) d;
+              woke = ap (λ (c : CrewFacts T D). c.woke) store.same;
+            };
+          }
+  runs_serve Unannounced long many back count h d fresh own store said = unserved (record {
+    found = store.found;
+    held = store.held;
+    has = store.has;
+    made = store.made;
+    store = store.store;
+    hands = hands_back h store.hands store.same;
+    said = inl (subst (λ (e : Status). EndsCut (serving_saying words.port words.workers) before after_streams e) (sym said.1) (subst (λ (shown : Streams). EndsCut (serving_saying words.port words.workers) before shown status.Fault) (sym said.0) store.says));
+    rest = record { doors = ap (λ (ps : List (DoorPlace T D)). map sees (doors_at ps)) store.same ∙ ap (map sees) d; woke = store.woke };
+  })
+  runs_serve Unlocked long many back count h d fresh own store said = unserved (record {
+    found = store.found;
+    held = store.held;
+    has = store.has;
+    made = store.made;
+    store = store.store;
+    hands = hands_back h store.hands store.same;
+    said = inr (record { told = after.streams; line = store.says; wants = said });
+    rest = record { doors = ap (λ (ps : List (DoorPlace T D)). map sees (doors_at ps)) store.same ∙ ap (map sees) d; woke = store.woke };
+  })
+  runs_serve (Served fate how broken) long many back count h d fresh own store said =
+      let from = store.serves in
+      let n = words.workers in
+      let end_hands = length-map after.places (λ (place : DoorPlace T D). place.hand) ∙ count in served (record {
+        found = store.found;
+        held = store.held;
+        broken = broken;
+        log = store.log;
+        logs = store.logs;
+        store = store.store;
+        told = store.told;
+        line = store.says;
+        share = share;
+        fresh = own.fresh;
+        first = from.first;
+        made =
+            subst (λ (hands : List T). MakesRound s words.roots (passing_scene (puts_of (current store.found)) hands woke store.told share) from.first)
+            (sym (first_hands n front mid rest long many)) from.made;
+        passed = from.passed;
+        workers = workers_at sees places;
+        workers_are =
+            subst (λ (hands : List T). AreWorkers hands (map sees doors) (workers_at sees places)) (sym (worker_hands n front mid rest long many))
+            (are_workers sees mid doors places h d);
+        shares = fresh_workers sees book places fresh;
+        left = workers_at sees after.places;
+        left_are =
+            subst (λ (hands : List T). AreWorkers hands (map sees (doors_at after.places)) (workers_at sees after.places))
+            (sym (worker_hands n after.hands (hands_at after.places) rest back end_hands))
+            (are_workers sees (hands_at after.places) (doors_at after.places) after.places refl refl);
+        doors = served_workers (served_scene s words) sees from.first.after.log store.log places after.places from.doors;
+        how = how;
+        last = from.last;
+        passes = from.passes;
+        within = from.within;
+        hands = first_hands n after.hands (hands_at after.places) rest back end_hands ∙ from.hands;
+        others =
+            other_hands n after.hands (hands_at after.places) rest back end_hands
+            ∙ sym (other_hands n front mid rest long many);
+        woke = from.woke;
+        out = said.out ∙ ap (λ (x : Streams). x.out) from.streams;
+        err =
+            subst (λ (shown : ShownStream). GetsLines (door_lines (map sees (doors_at after.places))) shown after_streams.err)
+            (ap (λ (x : Streams). x.err) from.streams)
+            (subst (λ (bytes : List ℕ). GetsLines bytes after.streams.err after_streams.err)
+            (lines_of_doors (served_scene s words) sees from.first.after.log store.log places after.places from.doors) said.err);
+        ends =
+            said.status_is
+            ∙ (ap (λ (b : Bool). served_status (wants_line fate how) (has_cut fate how || (b || broken)))
+            (failed_of_doors (served_scene s words) sees from.first.after.log store.log places after.places from.doors)
+            ∙ ap (λ (f : LineFate). served_status (wants_line f how) (has_cut f how || (is_any_failed (map sees (doors_at after.places)) || broken)))
+            (sym from.fate_is));
+      })

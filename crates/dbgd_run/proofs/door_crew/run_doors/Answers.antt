@@ -1,0 +1,40 @@
+-- What each run made of its slot, as of the lists.
+use Rattle.std.proofs.Common.{◌≡◌, All, length, drop, refl, sym, subst, ◌∙◌}
+use Rattle.std.specs.List.{AllZip}
+use Rattle.index_rows.specs.declared.change.Change.{Change}
+use Rattle.index_state.specs.declared.spare.Opening.{Opening}
+use Rattle.index_state.specs.declared.state.State.{State}
+use Rattle.lock_crew.specs.Runs.{SlotHas, SlotRan}
+use Rattle.lock_crew.specs.declared.crew.Slot.{Slot}
+use Rattle.lock_crew.proofs.Slots.{RanSlot, ran_locks}
+use Rattle.lock_crew.proofs.Zips.{front_all, zip_by_index}
+use Rattle.conn_server.specs.Scene.{scene_of}
+use Rattle.conn_server.specs.Tallied.{HasRowIn}
+use Rattle.dbgd_run.specs.Workers.{RunsPlace}
+use Rattle.dbgd_run.specs.declared.places.DoorPlace.{DoorPlace}
+use Rattle.dbgd_run.proofs.WorkerLemmas.{locks_of}
+use Rattle.dbgd_run.proofs.door_crew.run_doors.Goals as goal
+
+pub returns : goal.returns
+returns g c =
+    let before = c.as_mut_slice.ensures in
+    let each = c.run_each.ensures in
+    let long : c.args.slots.now.len ≡ length c.run_each.new.slots = sym (each.length ∙ before.len) in
+    let ran = subst (λ xs. AllZip (SlotRan (RanSlot {C = Slot (State g.row.W.Denot g.row.K.Denot) (DoorPlace g.row.T.Denot g.row.D.Denot) Change Opening}
+    (λ slot. slot.seat) (λ slot. slot.place) (RunsPlace (scene_of g.W.Truth.true_row g.T.Tree.told g.W.Truth.version g.T.Tree.shows c.args.hall.now.folders.now c.args.hall.now.book.now.rows) g.D.Door.shows)))
+    xs c.run_each.new.slots) before.value
+    (zip_by_index (SlotRan (RanSlot {C = Slot (State g.row.W.Denot g.row.K.Denot) (DoorPlace g.row.T.Denot g.row.D.Denot) Change Opening}
+    (λ slot. slot.seat) (λ slot. slot.place) (RunsPlace (scene_of g.W.Truth.true_row g.T.Tree.told g.W.Truth.version g.T.Tree.shows c.args.hall.now.folders.now c.args.hall.now.book.now.rows) g.D.Door.shows)))
+    c.as_mut_slice.result.now c.run_each.new.slots each.length each.each) in
+    let same = sym (front_all c.args.slots.now.len c.run_each.new.slots
+    (drop (length c.run_each.new.slots) c.args.slots.now.items) long) in record {
+      ran = subst (AllZip (SlotRan (RanSlot {C = Slot (State g.row.W.Denot g.row.K.Denot) (DoorPlace g.row.T.Denot g.row.D.Denot) Change Opening}
+          (λ slot. slot.seat) (λ slot. slot.place) (RunsPlace (scene_of g.W.Truth.true_row g.T.Tree.told g.W.Truth.version g.T.Tree.shows c.args.hall.now.folders.now c.args.hall.now.book.now.rows) g.D.Door.shows)))
+          c.args.slots.now.items) same ran;
+      locks = subst (All (SlotHas {C = Slot (State g.row.W.Denot g.row.K.Denot) (DoorPlace g.row.T.Denot g.row.D.Denot) Change Opening}
+          (λ slot. slot.seat.lock ≡ c.args.hall.now.lock.now))) same
+          (ran_locks (λ slot. slot.seat) (λ slot. slot.place) (RunsPlace (scene_of g.W.Truth.true_row g.T.Tree.told g.W.Truth.version g.T.Tree.shows c.args.hall.now.folders.now c.args.hall.now.book.now.rows) g.D.Door.shows) c.args.hall.now.lock.now
+          c.args.slots.now.items c.run_each.new.slots (locks_of {C = Slot (State g.row.W.Denot g.row.K.Denot) (DoorPlace g.row.T.Denot g.row.D.Denot) Change Opening} (λ slot. slot.seat)
+          (λ slot. HasRowIn c.args.hall.now.book.now slot.place.share) c.args.hall.now.lock.now c.args.slots.now.items c.requires.filled) ran);
+      count = refl;
+    }

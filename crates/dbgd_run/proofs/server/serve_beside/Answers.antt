@@ -1,0 +1,29 @@
+-- Each door was served by a token that was split off, at beginnings of what the token of all has seen.
+use Rattle.index_rows.specs.declared.change.Change.{Change}
+use Rattle.index_state.specs.declared.spare.Opening.{Opening}
+use Rattle.index_state.specs.declared.state.State.{State}
+use Rattle.lock_crew.specs.declared.crew.Slot.{Slot}
+use Rattle.lock_crew.proofs.Slots.{run_places}
+use Rattle.conn_server.specs.Scene.{scene_of}
+use Rattle.conn_server.specs.Tallied.{HasRowIn}
+use Rattle.dbgd_run.specs.Workers.{RunsPlace}
+use Rattle.dbgd_run.specs.declared.places.DoorPlace.{DoorPlace}
+use Rattle.dbgd_run.proofs.WorkerLemmas.{all_served, ready_all}
+use Rattle.dbgd_run.proofs.server.serve_beside.Goals as goal
+
+-- the slots have the shares of the places
+pub run_beside-end-requires-clause-slots : goal.run_beside-end-requires-clause-slots
+run_beside-end-requires-clause-slots g c = λ κs within.
+    ready_all {C = Slot (State g.row.W.Denot g.row.K.Denot) (DoorPlace g.row.T.Denot g.row.D.Denot) Change Opening} (λ slot. slot.seat) (λ slot. slot.place) (λ place. HasRowIn c.args.hall.now.book.now place.share)
+    c.args.hall.now.lock.now c.args.lead.seat c.requires.lock c.args.posts.places.items _ c.requires.shares c.seats_out-seat.ensures.slots
+
+pub returns-clause-doors : goal.returns-clause-doors
+returns-clause-doors g c =
+    all_served (scene_of g.W.Truth.true_row g.T.Tree.told g.W.Truth.version g.T.Tree.shows c.args.hall.now.folders.now c.args.hall.now.book.now.rows) g.D.Door.shows c.args.lead.seat c.seats_in-seat.result.0
+    c.args.posts.places.items c.seats_in-seat.result.1.items
+    (run_places {C = Slot (State g.row.W.Denot g.row.K.Denot) (DoorPlace g.row.T.Denot g.row.D.Denot) Change Opening} (λ slot. slot.seat) (λ slot. slot.place)
+    (RunsPlace (scene_of g.W.Truth.true_row g.T.Tree.told g.W.Truth.version g.T.Tree.shows c.args.hall.now.folders.now c.args.hall.now.book.now.rows) g.D.Door.shows) c.args.lead.seat c.seats_in-seat.result.0
+    _ _ _ _ c.seats_out-seat.ensures.slots c.run_beside-end.ensures.ran c.seats_in-seat.ensures.places)
+
+-- what the passes did, by the slot that their token was in: a beginning of what the token of all has seen
+-- (the clause `passes` is `(log, prefix, keeps)` of c.run_beside-end.ensures.lead; auto found it in the small crown)

@@ -1,0 +1,32 @@
+-- What came of the store, by how the server ended.
+use Rattle.std.proofs.Common.{◌<◌, length, refl, arith}
+use Rattle.row_types.specs.Rules.{rules}
+use Rattle.conn_server.specs.Scene.{scene_of}
+use Rattle.dbgd_run.specs.Scene.{setting}
+use Rattle.dbgd_run.specs.Serving.{serve_rules}
+use Rattle.dbgd_run.proofs.StoreLemmas.{scans_closed, scans_wanting}
+use Rattle.dbgd_run.proofs.StoreServed.{store_opened}
+use Rattle.dbgd_run.proofs.serving.serve_store.Goals as goal
+
+pub returns-in-Opened-clause-serves : goal.returns-in-Opened-clause-serves
+returns-in-Opened-clause-serves g c =
+    let some : 0 < length c.args.crew.hands.items = omega arith in
+    store_opened (serve_rules
+    (setting (rules g.W.Truth.version g.W.Truth.true_row g.W.Truth.told) g.T.Tree.told g.T.Tree.shows g.S.K.Keeper.told)
+    c.args.site.now.roots.now c.args.site.now.secs
+    (scene_of g.W.Truth.true_row g.T.Tree.told g.W.Truth.version g.T.Tree.shows c.args.site.now.folders.now c.args.site.now.book.now.rows)
+    g.D.Door.shows)
+    g.S.K.Keeper.shows c.args.site.now.path.now c.args.site.now.line.now _ _ _ _ _ _ _ _ _ c.in-Opened.ensures c.give_back.ensures some
+    c.serve_keeper-keeper.ensures.serves
+
+pub returns-in-Failed-clause-serves : goal.returns-in-Failed-clause-serves
+returns-in-Failed-clause-serves g c =
+    let some : 0 < length c.args.crew.hands.items = omega arith in
+    rw (c.unserved.ensures.hands, c.unserved.ensures.places, c.unserved.ensures.end)
+    (record { scans = scans_closed _ c.args.site.now.path.now some c.in-Failed.ensures; same = refl })
+
+pub returns-in-OutOfMemory-clause-serves : goal.returns-in-OutOfMemory-clause-serves
+returns-in-OutOfMemory-clause-serves g c =
+    let some : 0 < length c.args.crew.hands.items = omega arith in
+    rw (c.unserved-in-OutOfMemory.ensures.hands, c.unserved-in-OutOfMemory.ensures.places, c.unserved-in-OutOfMemory.ensures.end)
+    (record { scans = scans_wanting _ c.args.site.now.path.now some c.in-OutOfMemory.ensures; same = refl })

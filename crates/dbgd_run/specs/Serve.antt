@@ -1,0 +1,173 @@
+-- The command `serve` (this project's rule): the store is opened, the index on it makes a first pass, and then the doors are
+-- served while passes are made between waits. What each door and the passes did is said at beginnings of the one log that the
+-- index has in the end.
+use Rattle.std.specs.Prelude.{◌≡◌, ◌⊎◌, ℕ, ◌+◌, ◌*◌, ◌<◌, ◌||◌, Bool, true, false, List, ◌++◌, All, drop, take, Option, Some, None}
+use Rattle.std.specs.List.{AllZip}
+use mathlib.Core.List.{IsPrefix}
+use Rattle.row_types.specs.Faults.{HasCause, Rose}
+use Rattle.row_types.specs.Row.{RowFacts}
+use Rattle.index_keeper.specs.Store.{ShownStore, with_opened_path}
+use Rattle.index_rows.specs.Log.{replay}
+use Rattle.index_rows.specs.Rows.{row_names}
+use Rattle.index_rows.specs.declared.change.Change.{Change}
+use Rattle.index_state.specs.Changes.{TellsSince, VoidWhere}
+use Rattle.index_state.specs.Invariant.{AreTrueRows}
+use Rattle.index_state.specs.Opening.{current, made_swept, puts_of}
+use Rattle.index_state.specs.State.{lasting}
+use Rattle.index_state.specs.declared.open_fault.OpenFault.{OpenFault}
+use Rattle.dbgd_metrics.specs.Shares.{ShareFacts}
+use Rattle.conn_server.specs.Scene.{Scene, scene_of}
+use Rattle.dbgd_run.specs.Endings.{EndsCut, EndsWhole, Streams, SaysMemory}
+use Rattle.dbgd_run.specs.Kept.{HasRows, MayHaveRows, StoreHoldsRows}
+use Rattle.dbgd_run.specs.RoundSaid.{CountsPass, TellsPass}
+use Rattle.dbgd_run.specs.Rounds.{GetsLines, KeepsPassing, PassesShared, PassingScene, Round, passing_scene}
+use Rattle.dbgd_run.specs.Scan.{Scans}
+use Rattle.dbgd_run.specs.ScanSaid.{refusal_saying}
+use Rattle.dbgd_run.specs.Scene.{Setting}
+use Rattle.dbgd_run.specs.ServeSaid.{door_lines, has_cut, is_any_failed, served_status, serving_saying, wants_line}
+use Rattle.dbgd_run.specs.Stage.{LeavesRest, ProgramStage}
+use Rattle.dbgd_run.specs.Workers.{AreWorkers, HasCountedNothing, ServedBy, WorkerFacts}
+use Rattle.dbgd_run.specs.declared.line_fate.LineFate.TheVariants.{Unmade}
+use Rattle.dbgd_run.specs.declared.passes_end.PassesEnd.{PassesEnd}
+use Rattle.dbgd_run.specs.declared.scan_end.ScanEnd.TheVariants.{Refused}
+use Rattle.dbgd_run.specs.declared.status.Status.{Status}
+use Rattle.dbgd_run.specs.declared.status.Status.TheVariants.{Done}
+
+-- what the words of a server ask
+pub record ServeWords : Type 0 where
+  pub path : List ℕ
+  pub workers : ℕ
+  pub port : ℕ
+  pub secs : ℕ
+  pub sources : List (List ℕ)
+  pub roots : List (List ℕ)
+
+-- the words of these
+abbrev pub serve_words : List ℕ → ℕ → ℕ → ℕ → List (List ℕ) → List (List ℕ) → ServeWords
+serve_words path workers port secs sources roots =
+    record { path = path; workers = workers; port = port; secs = secs; sources = sources; roots = roots }
+
+-- what stays while doors are served: sources come from the folders that are scanned and from those for sources alone, and the
+-- counter table has a row for each worker and one for the passes
+abbrev pub served_scene : {T : Type 0} → Setting T → ServeWords → Scene T
+served_scene s words =
+    scene_of s.world.true_row s.tells_files s.world.version s.sees (words.roots ++ words.sources) (words.workers + 1)
+
+-- no index was opened on the store, which is said as a scan says it; no door and no wait was asked for
+pub record IsUnopened {T : Type 0} (s : Setting T) (words : ServeWords) (before after : ProgramStage T) (fault : OpenFault)
+    (status : Status) : Type 0 where
+  pub scans :
+      Scans s words.path words.roots before.scene.hands after.scene.hands before.scene.store after.scene.store (Refused fault)
+  pub said : EndsWhole (refusal_saying fault) before.scene.streams after.scene.streams status
+  pub rest : LeavesRest before after
+
+-- the store was opened once, by the path, and had its keeper back; its count rose where the index that was opened on it broke
+pub record StoreServes (path : List ℕ) (broken : Bool) (old new : ShownStore) : Type 0 where
+  pub cause : HasCause old.faults new.faults (broken ≡ true)
+  pub opened : Rose old.epoch new.epoch
+  pub opens : new.paths ≡ with_opened_path path old.paths
+
+-- the first line was said, and then that memory was refused
+pub record SaysUnlocked (words : ServeWords) (old new : Streams) (status : Status) : Type 0 where
+  pub told : Streams
+  pub line : EndsWhole (serving_saying words.port words.workers) old told Done
+  pub wants : SaysMemory told new status
+
+-- before anything was served: the standard output refused the first line, or behind it memory was refused
+abbrev pub SaysUnserved : ServeWords → Streams → Streams → Status → Type 0
+SaysUnserved words old new status =
+    EndsCut (serving_saying words.port words.workers) old new status ⊎ SaysUnlocked words old new status
+
+-- an index was opened on the store, and nothing was served: the store has the rows of the edition that it held, and no hand, no
+-- door and no wait was asked for
+pub record IsUnserved {T : Type 0} (s : Setting T) (words : ServeWords) (before after : ProgramStage T) (status : Status)
+    : Type 0 where
+  pub found : List RowFacts
+  pub held : StoreHoldsRows s.tells_tables before.scene.store found
+  pub has : HasRows s.tells_tables after.scene.store (current found)
+  pub made : after.scene.store.made ≡ made_swept found before.scene.store.made
+  pub store : StoreServes words.path false before.scene.store after.scene.store
+  pub hands : after.scene.hands ≡ before.scene.hands
+  pub said : SaysUnserved words before.scene.streams after.scene.streams status
+  pub rest : LeavesRest before after
+
+-- the log that the index has in the end, and what the store has then: first the puts of the rows of the edition that it held, by
+-- path; then one change for each that it made since; and then a void one where a put or a removal failed, else nothing. The rows
+-- that the log leaves are true, and the store has them and nothing else, but for what the void change stands for
+pub record HasServedLog (true_row : RowFacts → Type 0) (told : Bool) (found : List RowFacts) (old new : ShownStore)
+    (broken : Bool) (log : List Change) : Type 0 where
+  pub since : List Change
+  pub parts : lasting broken log ≡ puts_of (current found) ++ since
+  pub void : VoidWhere broken log
+  pub made : TellsSince true_row since (made_swept found old.made) new.made
+  pub rows : List RowFacts
+  pub names : row_names rows ≡ replay log
+  pub sound : AreTrueRows true_row rows
+  pub has : broken ≡ false → HasRows told new rows
+  pub may_have : broken ≡ true → MayHaveRows true_row told new rows
+
+-- one pass was made, said and counted, without a wait
+pub record MakesRound {T : Type 0} (s : Setting T) (roots : List (List ℕ)) (before : PassingScene T) (round : Round T)
+    : Type 0 where
+  pub passes : PassesShared s roots round.end before round.after
+  pub tells : TellsPass round.end before.streams round.after.streams round.fate
+  pub counts : CountsPass round.end before.share round.after.share
+  pub woke : round.after.woke ≡ before.woke
+
+-- the passes behind the first one: none where no time between them is given, or where the line of the first one could not be
+-- made; else those of the clock
+abbrev pub PassesOn : {T : Type 0} → Setting T → List (List ℕ) → ℕ → Round T → Option PassesEnd → PassingScene T → Type 0
+PassesOn s roots secs first None after = ((secs ≡ 0) ⊎ (first.fate ≡ Unmade)) × (after ≡ first.after)
+PassesOn s roots secs first (Some end) after = (0 < secs) × KeepsPassing s roots secs first.after end after
+
+-- the doors were served beside the passes. The first line was written whole, a first pass was made with the first hands, two and
+-- one for each worker, and what it was is said of the log of the opening and of the one that its token had seen then. Each door
+-- was served once, with the hand behind those, by a token that had seen that log; the passes behind the first one go on from it;
+-- and all of them ended at beginnings of the log that the index has in the end. The lines of the doors that failed stand behind
+-- all others
+pub record IsServed {T : Type 0} (s : Setting T) (words : ServeWords) (before after : ProgramStage T) (status : Status)
+    : Type 0 where
+  pub found : List RowFacts
+  pub held : StoreHoldsRows s.tells_tables before.scene.store found
+  pub broken : Bool
+  pub log : List Change
+  pub logs :
+      HasServedLog s.world.true_row s.tells_tables found before.scene.store after.scene.store broken log
+  pub store : StoreServes words.path broken before.scene.store after.scene.store
+  pub told : Streams
+  pub line : EndsWhole (serving_saying words.port words.workers) before.scene.streams told Done
+  pub share : ShareFacts
+  pub fresh : HasCountedNothing share
+  pub first : Round T
+  pub made :
+      MakesRound s words.roots
+      (passing_scene (puts_of (current found)) (take (words.workers + 2) before.scene.hands) before.woke told share) first
+  pub passed : IsPrefix first.after.log log
+  pub workers : List (WorkerFacts T)
+  pub workers_are :
+      AreWorkers (take words.workers (drop (words.workers + 2) before.scene.hands)) before.doors workers
+  pub shares : All (λ worker. HasCountedNothing worker.share) workers
+  pub left : List (WorkerFacts T)
+  pub left_are :
+      AreWorkers (take words.workers (drop (words.workers + 2) after.scene.hands)) after.doors left
+  pub doors : AllZip (ServedBy (served_scene s words) first.after.log log) workers left
+  pub how : Option PassesEnd
+  pub last : PassingScene T
+  pub passes : PassesOn s words.roots words.secs first how last
+  pub within : IsPrefix last.log log
+  pub hands : take (words.workers + 2) after.scene.hands ≡ last.hands
+  pub others : drop (words.workers * 2 + 2) after.scene.hands ≡ drop (words.workers * 2 + 2) before.scene.hands
+  pub woke : after.woke ≡ last.woke
+  pub out : after.scene.streams.out ≡ last.streams.out
+  pub err : GetsLines (door_lines after.doors) last.streams.err after.scene.streams.err
+  pub ends :
+      status
+      ≡ served_status (wants_line first.fate how)
+      (has_cut first.fate how || (is_any_failed after.doors || broken))
+
+-- what a server does, by how far it comes
+pub data RunsServe {T : Type 0} (s : Setting T) (words : ServeWords) (before after : ProgramStage T) (status : Status)
+    : Type 0 where
+  unopened : (fault : OpenFault) → IsUnopened s words before after fault status → RunsServe s words before after status
+  unserved : IsUnserved s words before after status → RunsServe s words before after status
+  served : IsServed s words before after status → RunsServe s words before after status

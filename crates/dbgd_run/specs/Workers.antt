@@ -1,0 +1,106 @@
+-- The workers of a server (this project's rule): each serves one door, with a hand, a share of the counter table and a token
+-- of its own.
+use Rattle.std.specs.Prelude.{◌≡◌, ◌≤◌, Bool, true, false, List, All, length, map, Option, Some, IsSome, IsTrue}
+use mathlib.Core.List.{IsPrefix}
+use Rattle.index_lock.specs.Tokens.{SeatFacts}
+use Rattle.index_rows.specs.declared.change.Change.{Change}
+use Rattle.index_state.specs.State.{Origin}
+use Rattle.http_wire.specs.Door.{ShownDoor}
+use Rattle.dbgd_metrics.specs.Numbers.{zeros}
+use Rattle.dbgd_metrics.specs.Shares.{BookFacts, ShareFacts}
+use Rattle.pass_runner.specs.SharedPass.{IsBetween}
+use Rattle.conn_server.specs.Doors.{ServesDoor, all_exchanges}
+use Rattle.conn_server.specs.Exchange.{Exchange}
+use Rattle.conn_server.specs.Scene.{Scene, stand_of}
+use Rattle.conn_server.specs.declared.door.DoorEnd.{DoorEnd}
+use Rattle.conn_server.specs.declared.reason.Reason.{Reason}
+use Rattle.conn_server.specs.declared.reason.Reason.TheVariants as reason
+use Rattle.dbgd_run.specs.declared.places.DoorPlace.{DoorPlace}
+
+-- a worker at a moment: its hand, its share of the counter table, and what its door shows
+pub record WorkerFacts (T : Type 0) : Type 0 where
+  pub hand : T
+  pub share : ShareFacts
+  pub door : ShownDoor
+
+-- the workers have these hands and these doors, in order
+pub record AreWorkers {T : Type 0} (held : List T) (served : List ShownDoor) (workers : List (WorkerFacts T)) : Type 0 where
+  pub hands : map (λ worker. worker.hand) workers ≡ held
+  pub doors : map (λ worker. worker.door) workers ≡ served
+
+-- a share that has a row and has counted nothing
+pub record HasCountedNothing (share : ShareFacts) : Type 0 where
+  pub row : IsSome share.row
+  pub nothing : share.numbers ≡ zeros
+  pub unmarked : share.marked ≡ false
+
+-- a share of this counter table that has a row and has counted nothing
+pub record IsFreshShare (book : BookFacts) (share : ShareFacts) : Type 0 where
+  pub of_book : share.book ≡ book.id
+  pub fresh : HasCountedNothing share
+
+-- by the reason of a reply, whether the index was asked for it and answered
+abbrev pub rests_on_index : Reason → Bool
+rests_on_index reason.Local = true
+rests_on_index reason.ReadFault = true
+rests_on_index reason.NotFound = true
+rests_on_index _ = false
+
+-- a request was answered by a log between the two; where the index was asked for it, the generation that is told of it is the
+-- length of such a log
+pub record IsServedBetween (first last : List Change) (x : Exchange) : Type 0 where
+  pub logs : IsBetween first last x.log
+  pub least : IsTrue (rests_on_index x.served.reason) → length first ≤ x.served.gen_
+  pub most : IsTrue (rests_on_index x.served.reason) → x.served.gen_ ≤ length last
+
+-- a worker's door was served once, by a token that had seen the first log and then the second one
+pub record ServesOnce {T : Type 0} (scene : Scene T) (first : List Change) (before : WorkerFacts T) (log : List Change)
+    (after : WorkerFacts T) : Type 0 where
+  pub end : DoorEnd
+  pub serves :
+      ServesDoor scene (stand_of first before.hand before.share) before.door end
+      (stand_of log after.hand after.share) after.door
+
+-- a worker's door was served once, at beginnings of the last log, and each of its requests at one that goes on from the first
+pub record ServedBy {T : Type 0} (scene : Scene T) (first last : List Change) (before after : WorkerFacts T) : Type 0 where
+  pub log : List Change
+  pub into : IsPrefix log last
+  pub ran : ServesOnce scene first before log after
+  pub between : All (IsServedBetween first last) (all_exchanges ran.serves.serves.visits)
+
+-- the worker of a place
+abbrev pub worker_in : {T D : Type 0} → (D → ShownDoor) → DoorPlace T D → WorkerFacts T
+worker_in sees place = record { hand = place.hand; share = place.share; door = sees place.door }
+
+-- what a run makes of a place: its door was served once, and how that ended is kept
+pub record PlaceRan {T D : Type 0} (scene : Scene T) (sees : D → ShownDoor) (first : List Change) (before : DoorPlace T D)
+    (log : List Change) (after : DoorPlace T D) : Type 0 where
+  pub ran : ServesOnce scene first (worker_in sees before) log (worker_in sees after)
+  pub kept : after.end ≡ Some ran.end
+
+abbrev pub RunsPlace : {T D : Type 0} → Scene T → (D → ShownDoor) → SeatFacts Change Origin → DoorPlace T D
+    → SeatFacts Change Origin → DoorPlace T D → Type 0
+RunsPlace scene sees start before later after = PlaceRan scene sees start.seen before later.seen after
+
+-- the same of a place, at beginnings of the last log
+pub record PlaceServed {T D : Type 0} (scene : Scene T) (sees : D → ShownDoor) (first last : List Change)
+    (before after : DoorPlace T D) : Type 0 where
+  pub by : ServedBy scene first last (worker_in sees before) (worker_in sees after)
+  pub kept : after.end ≡ Some by.ran.end
+
+-- the hands, the doors, the shares and the ends of places, in order
+abbrev pub hands_at : {T D : Type 0} → List (DoorPlace T D) → List T
+hands_at places = map (λ place. place.hand) places
+
+abbrev pub doors_at : {T D : Type 0} → List (DoorPlace T D) → List D
+doors_at places = map (λ place. place.door) places
+
+abbrev pub shares_at : {T D : Type 0} → List (DoorPlace T D) → List ShareFacts
+shares_at places = map (λ place. place.share) places
+
+abbrev pub ends_at : {T D : Type 0} → List (DoorPlace T D) → List (Option DoorEnd)
+ends_at places = map (λ place. place.end) places
+
+-- the workers of places
+abbrev pub workers_at : {T D : Type 0} → (D → ShownDoor) → List (DoorPlace T D) → List (WorkerFacts T)
+workers_at sees places = map (λ place. worker_in sees place) places
