@@ -51,6 +51,7 @@ pub fn build_id(file: &ElfView<'_>) -> Result<Option<BuildId>, Need>
     requires { file.now.table.e_type ≢ ET_CORE }
     ensures { MatchResult result (Finds file.now) (Needs file.now.file) }
 {
+    // For its clause: what is known of each file whose table can be read.
     file.knows();
     for index in 1..file.count() {
         match id_at(file, index)? {

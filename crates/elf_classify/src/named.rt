@@ -55,6 +55,7 @@ pub fn section_in<'a>(file: &ElfView<'a>, name: &[u8]) -> Result<Option<&'a [u8]
         (λ found. SeesSection file.now name.now (option_copied found))
         (NeedsSection file.now.file name.now) }
 {
+    // For its clause: what is known of each file whose table can be read.
     file.knows();
     let Some(at) = first_named(file, name) else {
         return Ok(None);
@@ -110,6 +111,7 @@ fn needs<'a>(need: Need) -> SectionView<'a>
 fn windows(file: &ElfView<'_>) -> Result<(), Need>
     ensures { MatchResult result (λ _. (n : ℕ) → AllHere file.now.file n) (Needs file.now.file) }
 {
+    // For its clause: what is known of each file whose table can be read.
     file.knows();
     if file.kind() == ET_CORE {
         return Ok(());

@@ -48,6 +48,7 @@ fn debug_in<'a>(file: &ElfView<'a>) -> Result<Option<DebugParts<'a>>, Need>
     ensures { MatchResult result (λ parts. IsDebugSeen file.now.file (option_map sections_of parts))
         (NeedsDebug file.now.file) }
 {
+    // For its clause: what is known of each file whose table can be read.
     file.knows();
     if file.kind() == ET_REL {
         return Ok(None);

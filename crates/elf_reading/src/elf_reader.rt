@@ -49,6 +49,7 @@ fn small_row<W: ElfTruth>(
     requires small { name.stamp.size ≤ FILE_LIMIT }
     ensures { IfOk result (IsRowOf name found.now.bytes) }
 {
+    // For its clause: these are the bytes of the file's version.
     found.is_version();
     let reading = reading_of(alloc, found.bytes.as_slice())?;
     Ok(row_of(name, reading))

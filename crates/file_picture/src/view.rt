@@ -61,6 +61,7 @@ impl<'a> View<'a> {
         ensures value { result ≡ picture.now }
         ensures holds { IsPicture picture.now }
     {
+        // For its clause: what is known of each picture.
         let _size = picture.size();
         View {
             lent: Lent::Part(picture),

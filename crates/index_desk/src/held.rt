@@ -27,8 +27,10 @@ pub(crate) fn begin_held<W: Truth, K: Keeper<W>>(
     ensures goes_on { LogGoesOn state.old state.new }
     ensures holds { IndexInvariant W.true_row K.told K.shows state.new }
 {
+    // For its clause: the index invariant, before the pass begins.
     let _rows = state.rows();
     let begun = state.begin(alloc, listing, roots);
+    // For its clause: the index invariant.
     show_index(state);
     begun
 }
@@ -41,6 +43,7 @@ pub(crate) fn take_held<W: Truth, K: Keeper<W>>(state: &mut State<W, K>) -> Opti
     ensures spares { IfSome result (λ name. stamp_at state.old.origin.spared name.path ≡ None) }
 {
     let name = state.take();
+    // For its clause: the index invariant.
     show_index(state);
     name
 }
@@ -57,6 +60,7 @@ pub(crate) fn publish_held<W: Truth, K: Keeper<W>>(
     ensures holds { IndexInvariant W.true_row K.told K.shows state.new }
 {
     let answer = state.publish(alloc, row);
+    // For its clause: the index invariant.
     show_index(state);
     answer
 }
@@ -68,6 +72,7 @@ pub(crate) fn groom_held<W: Truth, K: Keeper<W>>(state: &mut State<W, K>) -> Opt
     ensures holds { IndexInvariant W.true_row K.told K.shows state.new }
 {
     let task = state.groom_take();
+    // For its clause: the index invariant.
     show_index(state);
     task
 }
@@ -85,6 +90,7 @@ pub(crate) fn judge_held<W: Truth, K: Keeper<W>>(
     ensures holds { IndexInvariant W.true_row K.told K.shows state.new }
 {
     let answer = state.judge(alloc, name, seen);
+    // For its clause: the index invariant.
     show_index(state);
     answer
 }
@@ -101,6 +107,7 @@ pub(crate) fn miss_held<W: Truth, K: Keeper<W>>(
     ensures holds { IndexInvariant W.true_row K.told K.shows state.new }
 {
     let was_out = state.miss(name, cause);
+    // For its clause: the index invariant.
     show_index(state);
     was_out
 }
@@ -112,6 +119,7 @@ pub(crate) fn retry_held<W: Truth, K: Keeper<W>>(state: &mut State<W, K>) -> Res
     ensures holds { IndexInvariant W.true_row K.told K.shows state.new }
 {
     let answer = retry_all(state);
+    // For its clause: the index invariant.
     show_index(state);
     answer
 }

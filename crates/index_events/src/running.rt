@@ -42,6 +42,7 @@ pub fn run_events<W: Truth, S: Store<W>>(
         (MeetsFault result) }
     ensures lasts { EndLasts S.K.told S.K.shows events.items result }
 {
+    // For its clause: the index invariant.
     show_index(&state);
     let Ok(mut answers) = Vec::with_capacity(alloc, events.len()) else {
         return EventsEnd::Stopped { state, done: 0 };
@@ -77,6 +78,7 @@ fn run_event<W: Truth, S: Store<W>>(
     match event {
         Event::Reopen => match reopen(alloc, state, store, path) {
             Ok(state) => {
+                // For its clause: the index invariant.
                 show_index(&state);
                 Came::Answer(state, EventAnswer::Opened)
             }
@@ -98,6 +100,7 @@ fn call_owned<W: Truth, K: Keeper<W>>(
     let mut state = state;
     match call_event(alloc, &mut state, event) {
         Ok(answer) => {
+            // For its clause: the index invariant.
             show_index(&state);
             Came::Answer(state, answer)
         }

@@ -46,6 +46,7 @@ fn know_files<W: Truth>(files: &[Found<W>])
     ensures { All (IsFound W.version) files.now }
 {
     for file in files {
+        // For its clause: these are the bytes of the file's version.
         file.is_version();
     }
 }
