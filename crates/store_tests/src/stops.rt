@@ -14,7 +14,15 @@ use std::thread::Threads;
 use tree_trait::{MemClock, MemTree, NoGate};
 
 /// The objects of a run.
-type Memory = Outside<OpenWorld, MemTree<OpenWorld>, StoppingStore, MemDoor, MemClock, MemSink, NoGate>;
+type Memory = Outside<
+    OpenWorld,
+    MemTree<OpenWorld>,
+    StoppingStore,
+    MemDoor,
+    MemClock,
+    MemSink,
+    NoGate,
+>;
 
 /// A scan of three debug files and two sources.
 static SCAN: [&str; 5] = ["scan", "-d", "m", "/srv/debug", "/w/src"];
