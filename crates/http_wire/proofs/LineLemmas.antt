@@ -12,10 +12,7 @@ use Rattle.std.proofs.Math.Bool.{or-true}
 use Rattle.httparse.specs.Grammar.{Field, HasNoRequest, IsRequestHead, LineEnd, ReadsRequest, RequestHead, crlf, lf, print_blank, print_end, print_field, print_request, print_section, print_version}
 use Rattle.httparse.specs.Spans.{RequestExceeds, RequestOverflows}
 use Rattle.http_wire.specs.Heads.{HasTooMany}
-
--- whether a byte is a line feed
-abbrev is_feed : ℕ → Bool
-is_feed b = b == 10
+use Rattle.http_wire.specs.Room.{is_feed}
 
 -- how many line feeds there are
 abbrev feeds : List ℕ → ℕ
