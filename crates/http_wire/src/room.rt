@@ -119,6 +119,9 @@ fn move_to_front(room: &mut [u8], start: usize, end: usize) -> usize
     ensures count { result ≡ end - start }
     ensures front { take result room.new ≡ drop start (take end room.old) }
 {
+    if start == 0 {
+        return end;
+    }
     room.copy_within(start..end, 0);
     end - start
 }
