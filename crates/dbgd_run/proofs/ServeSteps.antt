@@ -16,22 +16,22 @@ use Rattle.dbgd_run.specs.declared.places.DoorPlace.{DoorPlace}
 
 -- a number is 0, or greater, as the test says
 none_more : (n : ℕ) → nat_lt 0 n ≡ false → n ≡ 0
-none_more n no = grind (arith, nat_tests)
+none_more n e = grind (arith, nat_tests)
 
 some_more : (n : ℕ) → nat_lt 0 n ≡ true → 0 < n
-some_more n yes = grind (arith, nat_tests)
+some_more n e = grind (arith, nat_tests)
 
 -- no passes behind the first one: there is no time between them, or its line could not be made
 none_on : (secs : ℕ) (fate : LineFate) → goes_on secs fate ≡ false → (secs ≡ 0) ⊎ (fate ≡ Unmade)
-none_on secs Unmade no = inr refl
-none_on secs Written no = inl (none_more secs no)
-none_on secs Cut no = inl (none_more secs no)
+none_on secs Unmade e = inr refl
+none_on secs Written e = inl (none_more secs e)
+none_on secs Cut e = inl (none_more secs e)
 
 -- passes behind it: there is time between them
 some_on : (secs : ℕ) (fate : LineFate) → goes_on secs fate ≡ true → 0 < secs
-some_on secs Unmade yes = absurd (false≢true yes)
-some_on secs Written yes = some_more secs yes
-some_on secs Cut yes = some_more secs yes
+some_on secs Unmade e = absurd (false≢true e)
+some_on secs Written e = some_more secs e
+some_on secs Cut e = some_more secs e
 
 module _ {T D : Type 0} (r : ServeRules T D) (before : PassingScene T) (places : List (DoorPlace T D)) (first : Round T) where
   pub serves_from : (how : Option PassesEnd) (joined : List Change) (after : CrewFacts T D) (passing : Bool)
