@@ -1,5 +1,6 @@
 -- The statements of the store (this project's format): their texts, and what came of running one.
-use Rattle.std.specs.Prelude.{◌≡◌, ℕ, pos, Bool, true, false, List, [], Result, Ok, Err, codes, IsTrue}
+use Rattle.std.specs.Prelude.{◌≡◌, ℕ, pos, Bool, true, false, List, [], ◌∷◌, Option, Some, None, Result, Ok, Err, codes, IsTrue}
+use Rattle.index_keeper.specs.Tables.{EditFacts}
 use Rattle.index_keeper.specs.declared.answer.KeepAnswer.{KeepAnswer}
 use Rattle.index_keeper.specs.declared.answer.KeepAnswer.TheVariants as answer
 use Rattle.sqlite.specs.Held.{Held, state}
@@ -7,7 +8,7 @@ use Rattle.sqlite.specs.Order.{Row, column}
 use Rattle.sqlite.specs.State.{State, HasCleanDisk, Executes, Survives, CommitsBy, CommitsShowing, QueriesRow}
 use Rattle.sqlite.specs.Store.{Ghosts}
 use Rattle.sqlite.specs.declared.error.Error.{Error}
-use Rattle.sqlite.specs.declared.types.Value.TheVariants.{Int}
+use Rattle.sqlite.specs.declared.types.Value.TheVariants.{Blob, Int, Text}
 use Rattle.sqlite_keeper.specs.Faults.{sql_fault}
 use Rattle.sqlite_keeper.specs.declared.fault.SqlFault.{SqlFault}
 use Rattle.sqlite_keeper.specs.declared.fault.SqlFault.TheVariants.{Failed, OutOfMemory}
@@ -31,6 +32,20 @@ put_text = codes "INSERT INTO kept(path, body) VALUES (?1, ?2) ON CONFLICT(path)
 -- the change after which nothing is kept under the path of the parameter
 abbrev pub remove_text : List ℕ
 remove_text = codes "DELETE FROM kept WHERE path = ?1"
+
+-- the change of the tables that keeps these bytes under the path, or nothing
+abbrev pub edit_of : List ℕ → Option (List ℕ) → EditFacts
+edit_of path bytes = record { path = path; bytes = bytes }
+
+-- the statement that makes it
+abbrev pub edit_text : Option (List ℕ) → List ℕ
+edit_text (Some bytes) = put_text
+edit_text None = remove_text
+
+-- the parameters of that statement
+abbrev pub edit_values : List ℕ → Option (List ℕ) → Row
+edit_values path (Some bytes) = Text path ∷ Blob bytes ∷ []
+edit_values path None = Text path ∷ []
 
 -- the change that makes the number of openings one greater, or 1, and shows it
 abbrev pub raise_text : List ℕ

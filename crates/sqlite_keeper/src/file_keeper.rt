@@ -54,7 +54,13 @@ impl FileKeeper {
         ensures { result ≡ self.keeper.faults }
     {
         let FileKeeper { keeper } = self;
-        disk_keeper::end(keeper)
+        let SqliteKeeper {
+            connection,
+            faults,
+            epoch: _,
+        } = keeper;
+        let _copied = connection.close();
+        faults
     }
 }
 
@@ -88,7 +94,7 @@ impl Keeper<OpenWorld> for FileKeeper {
         ensures tells { TellsChange over_files (put_bytes path.now bytes.now)
             self.old.keeper.connection self.new.keeper.connection result }
     {
-        disk_keeper::put(&mut self.keeper, path, bytes)
+        disk_keeper::edit(&mut self.keeper, path, Some(bytes))
     }
 
     fn remove(&mut self, _alloc: Global, path: &str) -> KeepAnswer
@@ -99,7 +105,7 @@ impl Keeper<OpenWorld> for FileKeeper {
         ensures tells { TellsChange over_files (removal_of path.now)
             self.old.keeper.connection self.new.keeper.connection result }
     {
-        disk_keeper::remove(&mut self.keeper, path)
+        disk_keeper::edit(&mut self.keeper, path, None)
     }
 
     fn epoch(&self) -> u64

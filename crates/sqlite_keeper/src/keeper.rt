@@ -1,6 +1,6 @@
 //! The keeper over a connection.
 
-ghost use Rattle.std.specs.Prelude.{◌≡◌, [], ◌∷◌, IfSome, IsTrue};
+ghost use Rattle.std.specs.Prelude.{◌≡◌, [], ◌∷◌, IfSome, IsTrue, option_copied};
 ghost use Rattle.sqlite.specs.Held.{state};
 ghost use Rattle.sqlite.specs.declared.types.Value.TheVariants.{Blob, Text};
 ghost use Rattle.row_types.specs.declared.limits.TheConstants.{EDITION};
@@ -9,7 +9,8 @@ ghost use Rattle.index_keeper.specs.Keeper.{AreRowsKept, AsksKeeper};
 ghost use Rattle.index_keeper.specs.Tables.{EditFacts, put_bytes, removal_of};
 ghost use Rattle.sqlite_keeper.specs.Keeper.{IsCounted, keeper_shown, opened_connection};
 ghost use Rattle.sqlite_keeper.specs.Reading.{LooksUpRows};
-ghost use Rattle.sqlite_keeper.specs.Statements.{Changes, put_text, remove_text};
+ghost use Rattle.sqlite_keeper.specs.Statements.{Changes, edit_of, edit_text, edit_values, put_text};
+ghost use Rattle.sqlite_keeper.specs.Statements.{remove_text};
 ghost use Rattle.sqlite_keeper.specs.Told.{IsDatabaseTold, TellsQueriedRows, TellsChange};
 
 use crate::fault::SqlFault;
@@ -91,30 +92,18 @@ impl<F: Telling> SqliteKeeper<F> {
         }
     }
 
-    /// Keeps the bytes under the path, in place of those that were kept there.
-    pub(crate) fn keep(&mut self, path: &str, bytes: &[u8]) -> KeepAnswer
+    /// Keeps the bytes under the path, in place of those that were kept there, or nothing.
+    pub(crate) fn edit(&mut self, path: &str, bytes: Option<&[u8]>) -> KeepAnswer
         ensures asks { AsksKeeper F.tells (keeper_shown F.Store self.old)
-            (keeper_shown F.Store self.new) (for_change (put_bytes path.now bytes.now) result) }
-        ensures changes { Changes F.Store put_text (Text path.now ∷ Blob bytes.now ∷ [])
+            (keeper_shown F.Store self.new)
+            (for_change (edit_of path.now (option_copied bytes.entry)) result) }
+        ensures changes { Changes F.Store (edit_text (option_copied bytes.entry))
+            (edit_values path.now (option_copied bytes.entry))
             self.old.connection self.new.connection result }
-        ensures tells { TellsChange F.Store (put_bytes path.now bytes.now)
+        ensures tells { TellsChange F.Store (edit_of path.now (option_copied bytes.entry))
             self.old.connection self.new.connection result }
     {
-        let answer = sql::put(&mut self.connection, path, bytes);
-        count(&mut self.faults, answer);
-        answer
-    }
-
-    /// Keeps nothing under the path.
-    pub(crate) fn forget(&mut self, path: &str) -> KeepAnswer
-        ensures asks { AsksKeeper F.tells (keeper_shown F.Store self.old)
-            (keeper_shown F.Store self.new) (for_change (removal_of path.now) result) }
-        ensures changes { Changes F.Store remove_text (Text path.now ∷ [])
-            self.old.connection self.new.connection result }
-        ensures tells { TellsChange F.Store (removal_of path.now)
-            self.old.connection self.new.connection result }
-    {
-        let answer = sql::remove(&mut self.connection, path);
+        let answer = sql::edit(&mut self.connection, path, bytes);
         count(&mut self.faults, answer);
         answer
     }
@@ -157,7 +146,7 @@ impl<F: Telling + Send + Drop> Keeper<OpenWorld> for SqliteKeeper<F> {
         ensures tells { TellsChange F.Store (put_bytes path.now bytes.now)
             self.old.connection self.new.connection result }
     {
-        self.keep(path, bytes)
+        self.edit(path, Some(bytes))
     }
 
     fn remove(&mut self, _alloc: Global, path: &str) -> KeepAnswer
@@ -168,7 +157,7 @@ impl<F: Telling + Send + Drop> Keeper<OpenWorld> for SqliteKeeper<F> {
         ensures tells { TellsChange F.Store (removal_of path.now)
             self.old.connection self.new.connection result }
     {
-        self.forget(path)
+        self.edit(path, None)
     }
 
     fn epoch(&self) -> u64

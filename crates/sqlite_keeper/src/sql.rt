@@ -1,7 +1,7 @@
 //! The texts of the store, and the functions that run them. A file keeps the texts of its tables as
 //! they were written, so these and their order stay.
 
-ghost use Rattle.std.specs.Prelude.{◌≡◌, [], ◌∷◌, IfOk};
+ghost use Rattle.std.specs.Prelude.{◌≡◌, [], ◌∷◌, IfOk, option_copied};
 ghost use Rattle.sqlite.specs.Held.{state};
 ghost use Rattle.sqlite.specs.State.{CommitsBy, HasCleanDisk, Survives};
 ghost use Rattle.sqlite.specs.Values.{bound};
@@ -9,7 +9,7 @@ ghost use Rattle.sqlite.specs.declared.types.Value.TheVariants.{Blob, Text};
 ghost use Rattle.index_keeper.specs.Tables.{put_bytes, removal_of};
 ghost use Rattle.index_keeper.specs.declared.answer.KeepAnswer.TheVariants.{Done};
 ghost use Rattle.sqlite_keeper.specs.Statements.{Changes, HasRun, IsCommitted, IsShown, Raises};
-ghost use Rattle.sqlite_keeper.specs.Statements.{WasRaised, put_text, remove_text};
+ghost use Rattle.sqlite_keeper.specs.Statements.{WasRaised, edit_of, edit_text, edit_values, put_text, remove_text};
 ghost use Rattle.sqlite_keeper.specs.Told.{TellsChange};
 
 use crate::fault::SqlFault;
@@ -86,7 +86,7 @@ fn change<F: Alter>(
 }
 
 /// Keeps the bytes under the path, in place of those that were kept there.
-pub fn put<F: Alter>(connection: &mut Connection<F>, path: &str, bytes: &[u8]) -> KeepAnswer
+fn put<F: Alter>(connection: &mut Connection<F>, path: &str, bytes: &[u8]) -> KeepAnswer
     ensures changes { Changes F.Store put_text (Text path.now ∷ Blob bytes.now ∷ [])
         connection.old connection.new result }
     ensures tells { TellsChange F.Store (put_bytes path.now bytes.now)
@@ -97,11 +97,28 @@ pub fn put<F: Alter>(connection: &mut Connection<F>, path: &str, bytes: &[u8]) -
 }
 
 /// Keeps nothing under the path.
-pub fn remove<F: Alter>(connection: &mut Connection<F>, path: &str) -> KeepAnswer
+fn remove<F: Alter>(connection: &mut Connection<F>, path: &str) -> KeepAnswer
     ensures changes { Changes F.Store remove_text (Text path.now ∷ [])
         connection.old connection.new result }
     ensures tells { TellsChange F.Store (removal_of path.now)
         connection.old connection.new result }
 {
     change(connection, REMOVE, &[ValueRef::Text(path.as_bytes())])
+}
+
+/// Keeps the bytes under the path, in place of those that were kept there, or nothing.
+pub fn edit<F: Alter>(
+    connection: &mut Connection<F>,
+    path: &str,
+    bytes: Option<&[u8]>,
+) -> KeepAnswer
+    ensures changes { Changes F.Store (edit_text (option_copied bytes.entry))
+        (edit_values path.now (option_copied bytes.entry)) connection.old connection.new result }
+    ensures tells { TellsChange F.Store (edit_of path.now (option_copied bytes.entry))
+        connection.old connection.new result }
+{
+    match bytes {
+        Some(bytes) => put(connection, path, bytes),
+        None => remove(connection, path),
+    }
 }
