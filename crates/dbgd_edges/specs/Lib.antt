@@ -1,7 +1,9 @@
 pub mod Accepts
 pub mod Answered
+pub mod Dials
 pub mod Errors
 pub mod FolderRead
+pub mod Listens
 pub mod Numbers
 pub mod Stamped
 pub mod Streams

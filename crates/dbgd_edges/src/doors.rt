@@ -1,10 +1,25 @@
 //! The doors of a run.
 
 ghost use Rattle.std.specs.Prelude.{◌≡◌, vec_len, IfOk};
+ghost use Rattle.dbgd_edges.specs.Listens.{IsEveryIpv4, IsEveryIpv6};
 
 use crate::real_door::RealDoor;
 use std::io;
-use std::net::{Ipv4Addr, Ipv6Addr, Net, SocketAddr, TcpListener, TcpStream};
+use std::net::{IpAddr, Ipv4Addr, Ipv6Addr, Net, SocketAddr, TcpListener, TcpStream};
+
+/// A port at every address of IPv6, and by that also of IPv4 where the system doesn't part them.
+pub fn every_ipv6(port: u16) -> SocketAddr
+    ensures { IsEveryIpv6 port result }
+{
+    SocketAddr::new(IpAddr::V6(Ipv6Addr::new(0, 0, 0, 0, 0, 0, 0, 0)), port)
+}
+
+/// A port at every address of IPv4.
+pub fn every_ipv4(port: u16) -> SocketAddr
+    ensures { IsEveryIpv4 port result }
+{
+    SocketAddr::new(IpAddr::V4(Ipv4Addr::new(0, 0, 0, 0)), port)
+}
 
 /// Listens on a port for IPv6 and IPv4, or for IPv4 alone where there is no IPv6. The port is taken
 /// again at once after another process ended that had it.
@@ -12,11 +27,8 @@ pub fn listen<R>(net: &R, port: u16) -> io::Result<TcpListener>
 where
     R: Net<Listener = TcpListener, Stream = TcpStream>,
 {
-    let both = SocketAddr::from((Ipv6Addr::UNSPECIFIED, port));
-    match TcpListener::bind(net, both) {
-        Ok(listener) => Ok(listener),
-        Err(_) => TcpListener::bind(net, SocketAddr::from((Ipv4Addr::UNSPECIFIED, port))),
-    }
+    let addrs = [every_ipv6(port), every_ipv4(port)];
+    TcpListener::bind(net, addrs.as_slice())
 }
 
 /// So many doors on one port, which share one socket. Where none are asked for, none is opened.

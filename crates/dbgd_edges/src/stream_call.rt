@@ -5,21 +5,30 @@ ghost use Rattle.http_wire.specs.Sink.{TakesSome};
 ghost use Rattle.http_wire.specs.Source.{GivesBytes};
 ghost use Rattle.dbgd_edges.specs.Numbers.{ArePinnedSignals};
 
-use crate::stream_fault::{read_answer, write_answer};
+use crate::stream_fault::{Lateness, read_answer, write_answer};
 use http_wire::{ReadAnswer, WriteAnswer};
-use std::io::{Read, Write};
+use std::io::{self, Read, Write};
+use std::net::OpenStream;
+use std::time::Duration;
 
 /// How often a read or a write is tried that signals interrupt.
 pub const SIGNAL_TRIES: u32 = 1000;
 
+/// Gives a stream its time limits, in seconds, and has small writes sent at once.
+pub fn make_ready<S: OpenStream>(stream: &S, read_secs: u64, write_secs: u64) -> io::Result<()> {
+    stream.set_nodelay(true)?;
+    stream.set_read_timeout(Some(Duration::from_secs(read_secs)))?;
+    stream.set_write_timeout(Some(Duration::from_secs(write_secs)))
+}
+
 /// Reads some bytes.
-pub fn read_some<S: Read>(stream: &mut S, room: &mut [u8]) -> ReadAnswer
+pub fn read_some<S: Read>(stream: &mut S, room: &mut [u8], late: Lateness) -> ReadAnswer
     requires { 0 < length room.old }
     ensures gives { GivesBytes room.new None None result }
     ensures tries { ArePinnedSignals }
 {
     for _ in 0..SIGNAL_TRIES {
-        if let Some(answer) = read_answer(stream.read(room)) {
+        if let Some(answer) = read_answer(stream.read(room), late) {
             return answer;
         }
     }

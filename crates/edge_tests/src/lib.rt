@@ -14,6 +14,8 @@ mod closed;
 #[cfg(test)]
 mod conns;
 #[cfg(test)]
+mod dials;
+#[cfg(test)]
 mod doors;
 #[cfg(test)]
 mod folders;

@@ -1,10 +1,10 @@
 //! What stands in the system's place: a listening socket whose first accepts fail, a stream that
-//! answers by a list, and a clock whose time goes on in its sleeps alone.
+//! answers by a list, a clock whose time goes on in its sleeps alone, and names with addresses.
 
-ghost use Rattle.std.specs.Prelude.{◌≤◌, IfOk};
+ghost use Rattle.std.specs.Prelude.{◌≤◌, IfOk, length};
 
 use std::io::{Error, Read, Result, Write};
-use std::net::{OpenListener, OpenStream, SocketAddr, TcpListener, TcpStream};
+use std::net::{Ipv4Addr, Net, OpenListener, OpenStream, SocketAddr, TcpListener, TcpStream};
 use std::sync::atomic::{AtomicU64, Ordering};
 use std::time::{Clock, Duration};
 
@@ -119,5 +119,54 @@ impl Clock for Napping {
     fn sleep(&self, duration: Duration) {
         let time = u64::try_from(duration.as_millis()).unwrap_or(u64::MAX);
         self.slept.fetch_add(time.min(self.most), Ordering::SeqCst);
+    }
+}
+
+/// The sockets of this machine, where each name leads to these ports of it, in order, or a look-up
+/// fails with the error of this number.
+#[derive(Clone, Copy)]
+pub struct Named<'a> {
+    pub rt: HostRuntime,
+    pub ports: &'a [u16],
+    pub refusal: Option<i32>,
+}
+
+impl<'a> Net for Named<'a> {
+    type Stream = TcpStream;
+
+    type Listener = TcpListener;
+
+    fn bind(&self, addr: SocketAddr) -> Result<TcpListener> {
+        self.rt.bind(addr)
+    }
+
+    fn connect(&self, addr: SocketAddr) -> Result<TcpStream> {
+        self.rt.connect(addr)
+    }
+
+    fn connect_timeout(&self, addr: SocketAddr, timeout: Duration) -> Result<TcpStream> {
+        self.rt.connect_timeout(addr, timeout)
+    }
+
+    fn lookup_host(&self, _host: &str, _port: u16, found: &mut [SocketAddr]) -> Result<usize>
+        ensures in_bounds { IfOk result (λ n. n ≤ length found.new) }
+    {
+        if let Some(number) = self.refusal {
+            return Err(Error::from_raw_os_error(number));
+        }
+        for (slot, port) in found.iter_mut().zip(self.ports) {
+            *slot = SocketAddr::from((Ipv4Addr::LOCALHOST, *port));
+        }
+        Ok(found.len().min(self.ports.len()))
+    }
+}
+
+impl<'a> Clock for Named<'a> {
+    fn monotonic(&self) -> Result<Duration> {
+        self.rt.monotonic()
+    }
+
+    fn since_1970(&self) -> Result<Duration> {
+        self.rt.since_1970()
     }
 }
