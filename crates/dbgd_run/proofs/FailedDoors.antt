@@ -42,14 +42,17 @@ module _ {T : Type 0} (scene : Scene T) (first last : List Change) where
   some_rose [] [] all failed = absurd (false≢true failed)
   some_rose [] (after ∷ left) all failed = absurd all
   some_rose (before ∷ workers) [] all failed = absurd all
-  some_rose (before ∷ workers) (after ∷ left) all failed = which (has_failed after.door.last) refl failed
+  some_rose (before ∷ workers) (after ∷ left) all failed =
+      which (has_failed after.door.last) refl failed (λ rest. some_rose workers left all.1 rest)
     where
       which : (b : Bool) → has_failed after.door.last ≡ b
           → (has_failed after.door.last || is_any_failed (map (λ (worker : WorkerFacts T). worker.door) left)) ≡ true
+          → (is_any_failed (map (λ (worker : WorkerFacts T). worker.door) left) ≡ true
+          → SomeDoorRose (map (λ (worker : WorkerFacts T). worker.door) workers) (map (λ (worker : WorkerFacts T). worker.door) left))
           → SomeDoorRose (map (λ (worker : WorkerFacts T). worker.door) (before ∷ workers)) (map (λ (worker : WorkerFacts T). worker.door) (after ∷ left))
-      which true is some = inl (rose_if before after all.0 is)
-      which false is some =
-          inr (some_rose workers left all.1
+      which true is some below = inl (rose_if before after all.0 is)
+      which false is some below =
+          inr (below
           (subst (λ (b : Bool). (b || is_any_failed (map (λ (worker : WorkerFacts T). worker.door) left)) ≡ true) is some))
 
   pub all_closed : (workers left : List (WorkerFacts T)) → AllZip (ServedBy scene first last) workers left

@@ -4,6 +4,7 @@ use Rattle.std.proofs.lemmas.Bool.{false≢true, true≢false}
 use Rattle.std.proofs.lemmas.List.Elements.{All-nil, All-cons}
 use mathlib.Core.List.{IsPrefix}
 use Rattle.row_types.specs.Faults.{Rose}
+use Rattle.row_types.specs.Name.{NameFacts}
 use Rattle.tree_trait.specs.Shown.{HandsOn}
 use Rattle.tree_walk.specs.declared.fault.WalkFault.TheVariants as stop
 use Rattle.http_wire.specs.Stream.{ShownStream}

@@ -157,7 +157,11 @@ module _ {T : Type 0} (s : Setting T) (words : ServeWords) (before after : Progr
     all_out wants cut =
         let made = first_made s words.roots words.secs run.first.fate run.how wants in
         let whole = first_whole s words.roots words.secs run.first.fate run.how cut in
-        subst (λ (shown : ShownStream). GetsAll _ before.scene.streams.out shown) (sym run.out)
+        subst
+        (λ (shown : ShownStream). GetsAll
+        (serving_line words.port words.workers ++ (pass_saying run.first.end).out
+        ++ lines_behind s words.roots words.secs run.first run.how run.last run.passes)
+        before.scene.streams.out shown) (sym run.out)
         (gets_both run.line.out
         (gets_both (out_whole run.first.end run.told run.first.after.streams run.first.fate run.made.tells whole made)
         (on_out s words.roots words.secs run.first run.how run.last run.passes wants cut)))

@@ -112,7 +112,7 @@ pub rose_given : {old mid new keeper given : ℕ} → mid ≡ old → keeper ≡
     → new ≡ summed mid given → Rose old new
 rose_given same none rose sum = omega arith
 
-rose_counted : {old mid new given : ℕ} → mid ≡ old → 0 < given → new ≡ summed mid given → Rose old new
+pub rose_counted : {old mid new given : ℕ} → mid ≡ old → 0 < given → new ≡ summed mid given → Rose old new
 rose_counted same some sum = omega arith
 
 -- a count that rose isn't 0
