@@ -167,7 +167,8 @@ if command -v python3 >/dev/null; then
 subprocess.run(sys.argv[1:], stdout=subprocess.DEVNULL, stderr=subprocess.DEVNULL)
 print(resource.getrusage(resource.RUSAGE_CHILDREN).ru_maxrss)' "$program" query -d "$1" 00ff
   }
-  opened=$((($(largest "$work/all.db") - $(largest "$work/none.db")) * 1024 / rows))
+  opened=$(largest "$work/all.db") empty=$(largest "$work/none.db")
+  opened=$(((opened - empty) * 1024 / rows))
   say "of these, $opened bytes a file are rows and log, with what an opening takes: a query of the same store has them at most"
 else
   say "rows and log alone: skipped, there is no python3"

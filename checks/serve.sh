@@ -5,13 +5,13 @@
 #
 # usage: checks/serve.sh [PROGRAM]      PROGRAM is ./dbgd of the repository's top unless given
 #
-# It is cut off after SERVE_SECONDS (115 unless set), and fails then. SERVE_FILES (2000 unless set) are scanned as a server is
+# It is cut off after SERVE_SECONDS (118 unless set), and fails then. SERVE_FILES (2000 unless set) are scanned as a server is
 # ended.
 source "$(dirname -- "$(readlink -f -- "${BASH_SOURCE[0]}")")/lib/head.sh" || exit 1
 source "$top/checks/lib/server.sh" || exit 1
 
 command -v curl >/dev/null || { say "skipped: there is no curl"; exit 0; }
-end_after "${SERVE_SECONDS:-115}"
+end_after "${SERVE_SECONDS:-118}"
 compared=0
 
 # Compares a file with what is wanted, byte for byte.
@@ -66,14 +66,15 @@ mkdir "$large"
 cp "$file" "$large/large.elf"
 truncate -s 16M "$large/large.elf"
 
-# One worker, whose client stops to read in the middle of 16 MiB: the request behind it is answered once the server gave up.
+# One worker, whose client stops to read in the middle of 16 MiB: the request behind it is answered once the server gave up, which
+# takes up to three of its writes, of 30 seconds each.
 start stopped -c 1 -t 0 "$large" || exit 1
 stopped=$server stopped_at=$at
 scanned 1
 exec {reader}<>"/dev/tcp/127.0.0.1/$port"
 printf 'GET /buildid/%s/executable HTTP/1.1\r\n\r\n' "$id" >&"$reader"
 sleep 0.5
-curl -s -m "${SERVE_SECONDS:-115}" --noproxy '*' -o "$work/behind" -w '%{http_code} %{time_total}' "$stopped_at/none" >"$work/behind.status" &
+curl -s -m "${SERVE_SECONDS:-118}" --noproxy '*' -o "$work/behind" -w '%{http_code} %{time_total}' "$stopped_at/none" >"$work/behind.status" &
 behind=$!
 children+=("$behind")
 
@@ -232,9 +233,10 @@ wait "$swapping" 2>/dev/null
 stop "$server"
 
 # Passes beside requests: a file that comes is answered, one that goes isn't, and a folder that is gone ends no server.
-start passes -t 1 "$work/growing" 2>/dev/null
-mkdir "$work/growing"
+start passes -t 1 "$work/growing" || exit 1
 within 100 grep -q "^dbgd: gone $work/growing\$" "$work/passes.err" || differs 'no pass told that its folder is gone'
+mkdir "$work/growing"
+scanned 1
 answered() { [ "$(ask "/buildid/$id/executable")" = "$1" ]; }
 is 'a file that is not there yet' 404 "$(ask "/buildid/$id/executable")"
 cp "$file" "$work/growing/tool"

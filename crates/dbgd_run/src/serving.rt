@@ -48,7 +48,12 @@ fn serve_locked<
     clock: &mut C,
     out: &mut O,
     err: &mut O,
-) -> (Lead<W, K, T>, Vec<DoorPlace<T, D>>, LineFate, Option<PassesEnd>)
+) -> (
+    Lead<W, K, T>,
+    Vec<DoorPlace<T, D>>,
+    LineFate,
+    Option<PassesEnd>,
+)
     requires lock { lead.seat.lock ≡ lock.now }
     requires hand { 0 < vec_len lead.hands }
     requires spared { lead.seat.origin.sparing ≡ None }

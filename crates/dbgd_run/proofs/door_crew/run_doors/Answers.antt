@@ -9,6 +9,7 @@ use Rattle.lock_crew.specs.declared.crew.Slot.{Slot}
 use Rattle.lock_crew.proofs.Slots.{RanSlot, ran_locks}
 use Rattle.lock_crew.proofs.Zips.{front_all, zip_by_index}
 use Rattle.conn_server.specs.Scene.{scene_of}
+use Rattle.conn_server.specs.Tallied.{HasRowIn}
 use Rattle.dbgd_run.specs.Workers.{RunsPlace}
 use Rattle.dbgd_run.specs.declared.places.DoorPlace.{DoorPlace}
 use Rattle.dbgd_run.proofs.WorkerLemmas.{locks_of}
@@ -33,6 +34,7 @@ returns g c =
       locks = subst (All (SlotHas {C = Slot (State g.row.W.Denot g.row.K.Denot) (DoorPlace g.row.T.Denot g.row.D.Denot) Change Opening}
           (λ slot. slot.seat.lock ≡ c.args.hall.now.lock.now))) same
           (ran_locks (λ slot. slot.seat) (λ slot. slot.place) (RunsPlace (scene_of g.W.Truth.true_row g.T.Tree.told g.W.Truth.version g.T.Tree.shows c.args.hall.now.folders.now c.args.hall.now.book.now.rows) g.D.Door.shows) c.args.hall.now.lock.now
-          c.args.slots.now.items c.run_each.new.slots (locks_of (λ slot. slot.seat) _ _ _ c.requires) ran);
+          c.args.slots.now.items c.run_each.new.slots (locks_of {C = Slot (State g.row.W.Denot g.row.K.Denot) (DoorPlace g.row.T.Denot g.row.D.Denot) Change Opening} (λ slot. slot.seat)
+          (λ slot. HasRowIn c.args.hall.now.book.now slot.place.share) c.args.hall.now.lock.now c.args.slots.now.items c.requires) ran);
       count = refl;
     }

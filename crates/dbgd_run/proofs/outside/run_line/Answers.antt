@@ -30,8 +30,8 @@ returns-in-Trial-clause-law g c =
     })
 
 -- the last arm: any line that takes no threads
-pub returns-clause-law : goal.returns-clause-law
-returns-clause-law g c =
+pub returns-in_default-clause-law : goal.returns-in_default-clause-law
+returns-in_default-clause-law g c =
     runs_apart _ _ _ _ _ c.run_alone.ensures.law
     (record {
       doors = ap (λ doors. map g.D.Door.shows doors.items) c.run_alone.ensures.rest.0;
