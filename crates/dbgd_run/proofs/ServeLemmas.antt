@@ -162,9 +162,9 @@ module _ {T : Type 0} (s : Setting T) (words : ServeWords) (before after : Progr
         (serving_line words.port words.workers ++ (pass_saying run.first.end).out
         ++ lines_behind s words.roots words.secs run.first run.how run.last run.passes)
         before.scene.streams.out shown) (sym run.out)
-        (gets_both run.line.out
-        (gets_both (out_whole run.first.end run.told run.first.after.streams run.first.fate run.made.tells whole made)
-        (on_out s words.roots words.secs run.first run.how run.last run.passes wants cut)))
+        (gets_both
+        (gets_both run.line.out (out_whole run.first.end run.told run.first.after.streams run.first.fate run.made.tells whole made))
+        (on_out s words.roots words.secs run.first run.how run.last run.passes wants cut))
 
   -- where none of the four things came, all went well
   abbrev IsWellFrom : Status → Type 0
