@@ -83,7 +83,7 @@ module _ {T : Type 0} (scene : Scene T) (at : Stand T) (own noted : ShareFacts) 
   -- a body that passed is certified for what is asked
   pub carries : {what : given.Asked} {why : Reason} {n : ℕ} {carried : Body} {answers : List Heard} {told : Option Upstream}
       (links : ℕ) (parts : List (List LinkHeard)) (bytes : List ℕ) (file : Option (List ℕ))
-      → IsCase scene at own noted log request what why n carried answers told → AsksLinksFor links request what told parts
+      → IsCase scene at own noted log request what why n carried answers told → AsksLinksFor told links request what parts
       → Shows why carried bytes file → status_of why ≡ 200 → Carries what bytes
   carries links parts bytes file (bad_head len e) a shows is = tt
   carries links parts bytes file (too_long e) a shows is = tt
@@ -163,7 +163,7 @@ module _ {T : Type 0} (scene : Scene T) (at : Stand T) (own noted : ShareFacts) 
   -- where the reply says that a link failed, one did
   pub a_link_failed : {what : given.Asked} {why : Reason} {n : ℕ} {carried : Body} {answers : List Heard} {told : Option Upstream}
       (links : ℕ) (parts : List (List LinkHeard)) → IsCase scene at own noted log request what why n carried answers told
-      → AsksLinksFor links request what told parts → says_upstream_fault why ≡ true → 1 ≤ count_by link_failed (all_heard parts)
+      → AsksLinksFor told links request what parts → says_upstream_fault why ≡ true → 1 ≤ count_by link_failed (all_heard parts)
   a_link_failed links parts (bad_head len e) a is = absurd (false≢true is)
   a_link_failed links parts (too_long e) a is = absurd (false≢true is)
   a_link_failed links parts (too_many e) a is = absurd (false≢true is)

@@ -85,7 +85,7 @@ module _ {T : Type 0} (scene : Scene T) (a b : Stand T) (route : Route) (other :
         told = Some said;
         hears = hears_as fails given.hears;
         links = inl asks.hears;
-        asks = subst (λ w. AsksLinksFor (length a.links) (readable head) w (Some said) asks.parts) (sym what)
+        asks = subst (λ w. AsksLinksFor (Some said) (length a.links) (readable head) w asks.parts) (sym what)
             (subst (λ (h : ℕ). AsksEachLink (length a.links) route h asks.parts said) (sym same_hops) each);
         notes = notes;
         is = case_;

@@ -31,7 +31,7 @@ use Rattle.conn_server.specs.declared.reason.Reason.{Reason}
 use Rattle.conn_server.specs.declared.reason.Reason.TheVariants as reason
 use Rattle.conn_server.proofs.CaseLemmas.{a_link_failed, case_at, finds_all}
 use Rattle.conn_server.proofs.CountLemmas.{notes_none}
-use Rattle.conn_server.proofs.LinksLemmas.{all_more, both_none, failed_later, failed_then, links_failed, links_none, links_then, same_links}
+use Rattle.conn_server.proofs.LinksLemmas.{all_more, both_none, counts_rose, failed_later, failed_then, links_none, links_then, same_links}
 use Rattle.conn_server.proofs.SinceLemmas.{StillTo, since}
 
 -- Places and logs
@@ -136,7 +136,7 @@ counted_link : {T : Type 0} (scene : Scene T) (last : Bool) (at : Stand T) (x : 
     → IsExchange scene last at x → LinksHear now x.links later
     → LinksFailed now (count_by (λ y. says_upstream_fault y.served.reason) (x ∷ [])) later
 counted_link scene last at x now later is hears =
-    links_failed now later x.links (count_by (λ y. says_upstream_fault y.served.reason) (x ∷ [])) hears
+    counts_rose now later x.links (count_by (λ y. says_upstream_fault y.served.reason) (x ∷ [])) hears
     (by_test (says_upstream_fault x.served.reason) refl)
   where
     by_test : (b : Bool) → says_upstream_fault x.served.reason ≡ b → 0 + cond b 1 0 ≤ count_by link_failed (all_heard x.links)
@@ -226,7 +226,7 @@ exchange_at scene last a b x keeps same is =
         carried = is.lawful.carried;
         told = is.lawful.told;
         is = case_;
-        asks = subst (λ (links : ℕ). AsksLinksFor links x.request x.served.asked is.lawful.told x.links) same is.lawful.asks;
+        asks = subst (λ (links : ℕ). AsksLinksFor is.lawful.told links x.request x.served.asked x.links) same is.lawful.asks;
         replied = is.lawful.replied;
       };
       complete = finds_all scene a x.own x.noted x.log x.request case_;

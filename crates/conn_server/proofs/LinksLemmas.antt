@@ -139,14 +139,14 @@ each_failed (o ∷ a) (n ∷ b) (p ∷ ps) h =
         inr (omega (arith, first, second, fails))
 
 -- at most as many failures were heard as the counts rose
-pub links_failed : (a b : List ShownLink) (ps : List (List LinkHeard)) (n : ℕ) → LinksHear a ps b
+pub counts_rose : (a b : List ShownLink) (ps : List (List LinkHeard)) (n : ℕ) → LinksHear a ps b
     → n ≤ count_by link_failed (all_heard ps) → LinksFailed a n b
-links_failed a b ps n (inl each) most = by_each (each_failed a b ps each)
+counts_rose a b ps n (inl each) most = by_each (each_failed a b ps each)
   where
     by_each : LinksFailed a (count_by link_failed (all_heard ps)) b → LinksFailed a n b
     by_each (inl some) = inl some
     by_each (inr rose) = inr (omega (arith, rose, most))
-links_failed a b ps n (inr none) most =
+counts_rose a b ps n (inr none) most =
     let zero : n ≤ count_by link_failed (all_heard []) =
     subst (λ (parts : List (List LinkHeard)). n ≤ count_by link_failed (all_heard parts)) none.0 most in
     subst (λ (links : List ShownLink). LinksFailed a n links) (sym none.1) (inr (omega (arith, zero)))
@@ -179,4 +179,4 @@ failed_later a b c ps n hears one =
     let none : 0 ≤ count_by link_failed (all_heard ps) = omega arith in
     let same : n + 0 ≡ n = omega arith in
     subst (λ (count : ℕ). LinksFailed a count c) same
-    (failed_then a b c ps n 0 hears one (links_failed b c ps 0 hears none))
+    (failed_then a b c ps n 0 hears one (counts_rose b c ps 0 hears none))

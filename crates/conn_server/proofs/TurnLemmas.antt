@@ -69,7 +69,7 @@ exchange_of request front decided body file last heard log own noted = record {
 exchange_is : {T : Type 0} (scene : Scene T) (a : Stand T) (noted : ShareFacts) (log : List Change) (request : Request) (front : List ℕ)
     (decided : Decided) (body : List ℕ) (file : Option (List ℕ)) (last : Bool) (heard : HeardFor) (told : Option Upstream)
     → IsCase scene a a.share noted log request decided.asked decided.reason decided.generation decided.body heard.answers told
-    → AsksLinksFor (length a.links) request decided.asked told heard.links
+    → AsksLinksFor told (length a.links) request decided.asked heard.links
     → Shows decided.reason decided.body body file → IsFrontOf request front
     → IsExchange scene last a (exchange_of request front decided body file last heard log a.share noted)
 exchange_is scene a noted log request front decided body file last heard told case_ asks shows fronts = record {

@@ -88,7 +88,7 @@ pub record Decides
   pub told : Option Upstream
   pub hears : Hears (hand_at scene before) (scene.shows after.hand) answers (LoadFailed decided.reason answers)
   pub links : LinksHear before.links parts after.links
-  pub asks : AsksLinksFor (length before.links) request decided.asked told parts
+  pub asks : AsksLinksFor told (length before.links) request decided.asked parts
   pub notes : OnlyNotes before.share after.share
   pub is : IsCase scene before before.share after.share after.log request decided.asked decided.reason decided.generation decided.body
       answers told

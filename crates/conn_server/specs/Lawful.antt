@@ -57,9 +57,9 @@ pub record IsReplied (request : Request) (last : Bool) (served : Served) (bytes 
   pub spelled : bytes ≡ bytes_of served.reason body file (closes_after request last) (sends_body request)
 
 -- what so many links were asked for a request: nothing, or each what its route asks, with the hops of its head
-abbrev pub AsksLinksFor : ℕ → Request → declared.Asked → Option Upstream → List (List LinkHeard) → Type 0
-AsksLinksFor links request what None parts = parts ≡ []
-AsksLinksFor links (readable head) (asked.Route given) (Some told) parts = AsksEachLink links given head.hops parts told
+abbrev pub AsksLinksFor : Option Upstream → ℕ → Request → declared.Asked → List (List LinkHeard) → Type 0
+AsksLinksFor None links request what parts = parts ≡ []
+AsksLinksFor (Some told) links (readable head) (asked.Route given) parts = AsksEachLink links given head.hops parts told
 AsksLinksFor _ _ _ _ _ = ⊥
 
 -- the reply to a request is lawful: a case of the table, by the hand and the own share as they stood, and by what the hand and the
@@ -70,7 +70,7 @@ pub record IsLawful
   pub carried : Body
   pub told : Option Upstream
   pub is : IsCase scene at own noted log request served.asked served.reason served.gen_ carried answers told
-  pub asks : AsksLinksFor (length at.links) request served.asked told parts
+  pub asks : AsksLinksFor told (length at.links) request served.asked parts
   pub replied : IsReplied request last served bytes carried
 
 -- the local answer to a route of files is this one, by what was seen and heard; where none is asked the hand isn't either

@@ -6,27 +6,24 @@ ghost use Rattle.index_lock.specs.Tokens.{IsLater};
 ghost use Rattle.webapi_routes.specs.declared.route.Route.TheVariants.{Metrics};
 ghost use Rattle.conn_server.specs.Asked.{readable, told_facts};
 ghost use Rattle.conn_server.specs.Tallied.{HasRowIn};
-ghost use Rattle.conn_server.specs.Decided.{Decides, DecidesRoute, FollowsLinks, FollowsLocal};
-ghost use Rattle.conn_server.specs.Decided.{by_links, by_page, for_route, missed, plain};
+ghost use Rattle.conn_server.specs.Decided.{Decides, DecidesRoute, by_page, for_route, plain};
 ghost use Rattle.conn_server.specs.Scene.{scene_of, stand_of};
-ghost use Rattle.conn_server.specs.declared.body.Body.TheVariants as bodies;
-ghost use Rattle.conn_server.specs.declared.reason.Reason.TheVariants as reason;
 
 use crate::body::Body;
+use crate::follow::follow_local;
 use crate::method::is_served;
 use crate::reason::{Reason, reason_of_route};
 use crate::report::Asked;
 use crate::service::Service;
-use answer_check::Passed;
-use answer_core::{Local, answer_local};
+use answer_core::answer_local;
 use dbgd_metrics::Share;
-use federation::{Link, Upstream, ask_all};
+use federation::Link;
 use http_wire::Head;
 use index_keeper::Keeper;
 use index_lock::Seat;
 use index_state::State;
 use row_types::Truth;
-use std::alloc::{AllocError, Global};
+use std::alloc::AllocError;
 use std::sync::Wait;
 use tree_trait::{Gate, Point, Tree};
 use webapi_routes::{Route, parse};
@@ -135,47 +132,6 @@ fn decide_file<W: Truth, K: Keeper<W>, T: Tree<W>, L: Link, G: Gate, R: Wait + S
     (seat, decided)
 }
 
-/// Decides by a local answer, and where no candidate passed by the links.
-fn follow_local<L: Link, R: Wait + Sync>(
-    rt: &R,
-    alloc: Global,
-    links: &mut [L],
-    route: Route,
-    hops: u64,
-    local: Local,
-) -> Decided
-    ensures { FollowsLocal (map L.shows links.old) route hops local result (map L.shows links.new) }
-{
-    match local {
-        Local::File { from, path, gen_ } => passed(route, gen_, Local::File { from, path, gen_ }),
-        Local::Section { from, path, gen_ } => {
-            passed(route, gen_, Local::Section { from, path, gen_ })
-        }
-        Local::Source { bytes, path, gen_ } => {
-            passed(route, gen_, Local::Source { bytes, path, gen_ })
-        }
-        Local::Nothing { gen_ } => follow_links(rt, alloc, links, route, hops, gen_, false),
-        Local::Fault { gen_ } => follow_links(rt, alloc, links, route, hops, gen_, true),
-        Local::OutOfMemory => plain(Asked::Route(route), Reason::OutOfMemory),
-    }
-}
-
-/// Decides by the links, where no candidate passed at a generation, and perhaps a load failed.
-fn follow_links<L: Link, R: Wait + Sync>(
-    rt: &R,
-    alloc: Global,
-    links: &mut [L],
-    route: Route,
-    hops: u64,
-    generation: u64,
-    failed: bool,
-) -> Decided
-    ensures { FollowsLinks (map L.shows links.old) route hops generation failed result (map L.shows links.new) }
-{
-    let told = ask_all(rt, alloc, links, &route, hops);
-    by_links(route, generation, failed, told)
-}
-
 /// What is decided without the index.
 pub(crate) fn plain(asked: Asked, why: Reason) -> Decided
     ensures { result ≡ plain asked why }
@@ -188,42 +144,6 @@ pub(crate) fn plain(asked: Asked, why: Reason) -> Decided
     }
 }
 
-/// What is decided by what is told of the links.
-fn by_links(route: Route, generation: u64, failed: bool, told: Upstream) -> Decided
-    ensures { result ≡ by_links route generation failed told }
-{
-    match told {
-        Upstream::File(file) => forwarded(route, generation, Passed::File(file)),
-        Upstream::Section(section) => forwarded(route, generation, Passed::Section(section)),
-        Upstream::Source(bytes) => forwarded(route, generation, Passed::Source(bytes)),
-        Upstream::Nobody { failed: faults, .. } => {
-            let why = if faults == 0 {
-                Reason::NotFound
-            } else {
-                Reason::UpstreamFault
-            };
-            missed(route, generation, failed, why)
-        }
-        Upstream::HopLimit => missed(route, generation, failed, Reason::HopLimit),
-        Upstream::OutOfMemory => plain(Asked::Route(route), Reason::OutOfMemory),
-    }
-}
-
-/// What is decided where nothing passed: a load that failed comes before what is said of the links.
-fn missed(route: Route, generation: u64, failed: bool, why: Reason) -> Decided
-    ensures { result ≡ missed route generation failed why }
-{
-    let said = if failed { Reason::ReadFault } else { why };
-    for_route(route, said, generation, Body::Line)
-}
-
-/// What is decided where the answer of a link passed.
-fn forwarded(route: Route, generation: u64, given: Passed) -> Decided
-    ensures { result ≡ for_route route reason.Upstream generation (bodies.Upstream given) }
-{
-    for_route(route, Reason::Upstream, generation, Body::Upstream(given))
-}
-
 /// What is decided by the page of the counters.
 fn by_page(page: Result<String, AllocError>) -> Decided
     ensures { result ≡ by_page page }
@@ -234,15 +154,8 @@ fn by_page(page: Result<String, AllocError>) -> Decided
     }
 }
 
-/// What is decided where a candidate passed.
-fn passed(route: Route, generation: u64, local: Local) -> Decided
-    ensures { result ≡ for_route route reason.Local generation (bodies.Found local) }
-{
-    for_route(route, Reason::Local, generation, Body::Found(local))
-}
-
 /// What is decided for a route.
-fn for_route(route: Route, why: Reason, generation: u64, body: Body) -> Decided
+pub(crate) fn for_route(route: Route, why: Reason, generation: u64, body: Body) -> Decided
     ensures { result ≡ for_route route why generation body }
 {
     Decided {

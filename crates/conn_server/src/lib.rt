@@ -8,6 +8,7 @@ mod connection;
 mod counting;
 mod decide;
 mod door;
+mod follow;
 mod method;
 mod reason;
 mod report;
