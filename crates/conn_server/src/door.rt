@@ -32,15 +32,7 @@ pub enum DoorEnd {
 /// of them back. The first one has the first number, and each later one a number that is greater by
 /// the step, up to 2^64 - 1. A connection that ends by want of memory ends alone. The links are those of
 /// each of them.
-pub fn serve_door<
-    W: Truth,
-    K: Keeper<W>,
-    T: Tree<W>,
-    L: Link,
-    D: Door,
-    G: Gate,
-    R: Wait + Sync,
->(
+pub fn serve_door<W: Truth, K: Keeper<W>, T: Tree<W>, L: Link, D: Door, G: Gate, R: Wait + Sync>(
     rt: &R,
     alloc: Global,
     lock: &TurnLock<State<W, K>>,

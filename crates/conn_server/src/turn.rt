@@ -127,7 +127,10 @@ fn take_turn<W: Truth, K: Keeper<W>, T: Tree<W>, L: Link, N: Sink, G: Gate, R: W
     match answer {
         HeadAnswer::Head(head) => {
             let (seat, decided) = decide(service, seat, hand, links, share, head);
-            (seat, reply(alloc, book, share, conn, decided, head, service.last))
+            (
+                seat,
+                reply(alloc, book, share, conn, decided, head, service.last),
+            )
         }
         HeadAnswer::Closed => (seat, Turn::Ended(ConnEnd::Closed)),
         HeadAnswer::Refused(fault) => (seat, refuse(alloc, book, share, conn, *fault)),

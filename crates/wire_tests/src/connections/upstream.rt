@@ -226,7 +226,7 @@ fn bytes_of(rt: &impl Abort, alloc: Global, wanted: Wanted) -> Vec<u8> {
 
 /// Each link was asked so often, with these hops.
 fn are_asked(rt: &impl Abort, links: &[MemLink], counts: &[usize], hops: u64) {
-    for (link, count) in links.iter().zip(counts) {
+    for (link, count) in links.iter().zip(counts.iter()) {
         let asked = link.asked();
         assert!(rt; asked.len() == *count, "{count} questions");
         assert!(rt; asked.iter().all(|one| one.hops() == hops), "{hops} hops");
@@ -264,7 +264,10 @@ fn is_replied<R: Abort + Wait + Sync>(
     let conn = served(rt, alloc, input.as_str(), links.as_mut_slice(), bad_loads);
     are_asked(rt, links.as_slice(), asked, *hops);
     let wanted = bytes_of(rt, alloc, *wanted);
-    assert!(rt; conn.written() == Some(wanted.as_slice()), "{path} {fields}");
+    assert!(rt;
+        conn.written() == Some(wanted.as_slice()),
+        "{path} {fields}"
+    );
 }
 
 #[test]
@@ -302,10 +305,7 @@ static BESIDE_FILES: [(&[u64], Case); 5] = [
         &[0],
         Case(PROGRAM, "", &[&[Said::Missing]], Wanted::ReadFault, &[1], 0),
     ),
-    (
-        &[0],
-        Case(PROGRAM, "", &[&[]], Wanted::ReadFault, &[1], 0),
-    ),
+    (&[0], Case(PROGRAM, "", &[&[]], Wanted::ReadFault, &[1], 0)),
     (
         &[0],
         Case(
@@ -322,6 +322,6 @@ static BESIDE_FILES: [(&[u64], Case); 5] = [
 #[test]
 fn a_file_here_comes_first_and_a_failed_load_before_what_links_say(rt: HostRuntime) {
     for (bad_loads, case) in &BESIDE_FILES {
-        is_replied(&rt, rt.alloc(), case, Some(bad_loads));
+        is_replied(&rt, rt.alloc(), case, Some(*bad_loads));
     }
 }
