@@ -43,7 +43,7 @@ IsUnfound _ = ⊥
 
 -- no answer of a link passed
 abbrev pub NothingPassed : Upstream → Type 0
-NothingPassed (links.Nobody refused failed) = Unit {0}
+NothingPassed (links.Nobody others failed) = Unit {0}
 NothingPassed links.HopLimit = Unit {0}
 NothingPassed _ = ⊥
 
@@ -107,14 +107,14 @@ pub data IsCase {T : Type 0} (scene : Scene T) (at : Stand T) (own noted : Share
   hop_limit : (head : HeadFacts) (route : Route) (n : ℕ) (answers : List Heard) → request ≡ readable head
       → AsksForRoute head route → IsFileRoute route → IsLocal (sight_at scene at log answers) route (local.Nothing n)
       → IsCase scene at own noted log request (asked.Route route) reason.HopLimit n bodies.Line answers (Some links.HopLimit)
-  upstream_fault : (head : HeadFacts) (route : Route) (n : ℕ) (answers : List Heard) (refused failed : ℕ) → request ≡ readable head
+  upstream_fault : (head : HeadFacts) (route : Route) (n : ℕ) (answers : List Heard) (others failed : ℕ) → request ≡ readable head
       → AsksForRoute head route → IsFileRoute route → IsLocal (sight_at scene at log answers) route (local.Nothing n) → 0 < failed
       → IsCase scene at own noted log request (asked.Route route) reason.UpstreamFault n bodies.Line answers
-      (Some (links.Nobody refused failed))
-  not_found : (head : HeadFacts) (route : Route) (n : ℕ) (answers : List Heard) (refused : ℕ) → request ≡ readable head
+      (Some (links.Nobody others failed))
+  not_found : (head : HeadFacts) (route : Route) (n : ℕ) (answers : List Heard) (others : ℕ) → request ≡ readable head
       → AsksForRoute head route → IsFileRoute route → IsLocal (sight_at scene at log answers) route (local.Nothing n)
       → IsCase scene at own noted log request (asked.Route route) reason.NotFound n bodies.Line answers
-      (Some (links.Nobody refused 0))
+      (Some (links.Nobody others 0))
   no_memory : (head : HeadFacts) (route : Route) (answers : List Heard) (told : Option Upstream) → request ≡ readable head
       → AsksForRoute head route → IsFileRoute route → GivesUp told
       → IsCase scene at own noted log request (asked.Route route) reason.OutOfMemory 0 bodies.Line answers told
