@@ -20,7 +20,7 @@ use Rattle.dbgd_words.specs.declared.serve.TheConstants.{MOST_PORT, MOST_SECS}
 abbrev pub AsksByOptions : Line → Type 0
 AsksByOptions (asks_query store id) = Unit {0}
 AsksByOptions (asks_scan store workers roots) = Unit {0}
-AsksByOptions (asks_serve store workers port secs sources roots) = Unit {0}
+AsksByOptions (asks_serve store workers port secs sources upstream roots) = Unit {0}
 AsksByOptions asks_help = Unit {0}
 AsksByOptions unbuilt = Unit {0}
 AsksByOptions unreadable = Unit {0}

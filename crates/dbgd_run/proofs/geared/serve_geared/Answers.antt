@@ -1,4 +1,4 @@
--- The run of a server, of all hands and doors.
+-- The run of a server, of all hands, doors and rows of links.
 use Rattle.std.proofs.Common.{◌∙◌, All, length, take, sym, ap, subst, arith}
 use Rattle.row_types.specs.Rules.{rules}
 use Rattle.dbgd_run.specs.Endings.{streams}
@@ -17,19 +17,22 @@ returns-clause-runs g c = λ port sources roots line folders scanned.
     crew_of c.serve_store-left.result.hands.items (g.C.Clock.woke c.serve_store-left.new.clock)
     (streams g.O.Stream.shows c.serve_store-left.new.out c.serve_store-left.new.err) c.serve_store-left.result.places.items in
     let roots_are = ap (λ k. take k c.args.order.folders.items) scanned ∙ ap (take (length roots)) folders ∙ front_all_of roots sources in
-    rw (c.rejoin_crew.ensures.all, c.parts_of-workers.ensures.hands, c.parts_of-workers.ensures.doors)
-    (runs_serve s (serve_words c.args.order.store.now c.args.order.workers port c.args.order.secs sources roots) g.D.Door.shows
-    c.args.outside.now.hands.items c.args.lent.workers.items c.args.lent.others.hands.items c.args.outside.now.doors.items
+    rw (c.rejoin_crew.ensures.all, c.rejoin.ensures.all, c.parts_of-workers.ensures.hands, c.parts_of-workers.ensures.doors, c.parts_of-workers.ensures.rows)
+    (runs_serve s (serve_words c.args.order.store.now c.args.order.workers port c.args.order.secs sources roots) g.D.Door.shows g.L.Link.shows
+    c.args.outside.now.hands.items c.args.loan.crew.workers.items c.args.loan.crew.others.rest.items c.args.outside.now.doors.items
+    c.args.outside.now.links.items c.args.loan.rows.rest.items
     (g.S.Store.shows c.args.outside.now.store) (g.S.Store.shows c.serve_store-left.new.store) (g.C.Clock.woke c.args.outside.now.clock)
     (streams g.O.Stream.shows c.args.outside.now.out c.args.outside.now.err)
     (streams g.O.Stream.shows c.say_serve_end-status.new.out c.say_serve_end-status.new.err)
     c.args.gear.shares.own c.args.gear.shares.book c.places_of-places.result.items after c.say_serve_end-status.result
     c.serve_store-left.result.end
     (omega (arith, c.requires.hands, c.args.outside.now.hands.ok.0))
-    (omega (arith, c.requires.workers, c.args.lent.workers.ok.0))
+    (omega (arith, c.requires.workers, c.args.loan.crew.workers.ok.0))
+    (omega (arith, c.requires.links, c.args.outside.now.links.ok.0))
     (omega (arith, c.requires.hands, c.serve_store-left.ensures.hands, c.serve_store-left.result.hands.ok.0))
     (omega (arith, c.requires.doors, c.serve_store-left.ensures.count, c.places_of-places.ensures.count, c.serve_store-left.result.places.ok.0))
     c.places_of-places.ensures.hands (rw c.replace-doors.ensures.value at c.places_of-places.ensures.doors)
+    (rw c.replace-rows.ensures.value at c.places_of-places.ensures.rows)
     (subst (All (IsFreshShare c.args.gear.shares.book)) (sym c.places_of-places.ensures.shares) c.requires.shares) c.requires.own
     (rw (roots_are, folders, c.requires.rows, line) at c.serve_store-left.ensures.serves) c.say_serve_end-status.ensures)
 
