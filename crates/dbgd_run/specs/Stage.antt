@@ -1,6 +1,7 @@
 -- All that a server is handed, at a moment (this project's rule): beside the hands, the store and the sinks of every
 -- command there are the doors, the rows of links to other servers, and the clock.
-use Rattle.std.specs.Prelude.{◌≡◌, List, map, Option, Vec}
+use Rattle.std.specs.Prelude.{◌≡◌, List, map, Option}
+use Rattle.std.specs.Global.{Vec}
 use Rattle.federation.specs.Link.{ShownLink}
 use Rattle.http_wire.specs.Door.{ShownDoor}
 use Rattle.tree_trait.specs.declared.clock.Waited.{Waited}

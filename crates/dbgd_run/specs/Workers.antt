@@ -1,6 +1,7 @@
 -- The workers of a server (this project's rule): each serves one door, with a hand, a share of the counter table, a row of links
 -- to other servers and a token of its own.
-use Rattle.std.specs.Prelude.{◌≡◌, ◌≤◌, Bool, true, false, List, All, length, map, Option, Some, IsSome, IsTrue, Vec}
+use Rattle.std.specs.Prelude.{◌≡◌, ◌≤◌, Bool, true, false, List, All, length, map, Option, Some, IsSome, IsTrue}
+use Rattle.std.specs.Global.{Vec}
 use mathlib.Core.List.{IsPrefix}
 use Rattle.index_lock.specs.Tokens.{SeatFacts}
 use Rattle.index_rows.specs.declared.change.Change.{Change}
