@@ -29,7 +29,7 @@ use Rattle.dbgd_run.specs.Serve.{IsUnopened, MakesRound, RunsServe, ServeWords, 
 use Rattle.dbgd_run.specs.ServeSaid.{SaysServeEnd, door_line, door_lines, end_line, ended_badly, has_cut, has_failed, is_any_failed, served_status, serving_line, serving_saying, wants_line}
 use Rattle.dbgd_run.specs.Serving.{CrewFacts, RefusesStore, ServesStore, serve_rules}
 use Rattle.dbgd_run.specs.Stage.{rows_shown, stage}
-use Rattle.dbgd_run.specs.Workers.{AreWorkers, HasCountedNothing, IsFreshShare, PlaceServed, ServedBy, WorkerFacts, doors_at, ends_at, hands_at, rows_at, shares_at, worker_in, workers_at}
+use Rattle.dbgd_run.specs.Workers.{AreWorkers, HasCountedNothing, IsFreshShare, PlaceServed, ServedBy, WorkerFacts, doors_at, ends_at, hands_at, links_at, shares_at, worker_in, workers_at}
 use Rattle.dbgd_run.specs.declared.line_fate.LineFate.{LineFate}
 use Rattle.dbgd_run.specs.declared.places.DoorPlace.{DoorPlace}
 use Rattle.dbgd_run.specs.declared.scan_end.ScanEnd.TheVariants as scanned
@@ -118,7 +118,7 @@ module _ {T D L : Type 0} (sc : Scene T) (sees : D → ShownDoor) (views : L →
 module _ {T D L : Type 0} (sees : D → ShownDoor) (views : L → ShownLink) where
   -- the workers of places have their hands, their doors and their rows of links
   pub are_workers : (hands : List T) (doors : List D) (rows : List (Vec L)) (places : List (DoorPlace T D L))
-      → hands_at places ≡ hands → doors_at places ≡ doors → rows_at places ≡ rows
+      → hands_at places ≡ hands → doors_at places ≡ doors → links_at places ≡ rows
       → AreWorkers hands (map sees doors) (rows_shown views rows) (workers_at sees views places)
   are_workers hands doors rows places h d l = record {
     hands = map_twice (λ (worker : WorkerFacts T). worker.hand) (worker_in sees views) places ∙ h;
@@ -178,20 +178,20 @@ module _ {T D L : Type 0} (s : Setting T) (words : ServeWords) (sees : D → Sho
       ∙ ap (λ (hands : List T). front ++ (hands ++ rest)) (ap hands_at same ∙ h)
 
   -- rows of links that came back as they were
-  rows_back : rows_at places ≡ rows → after.places ≡ places
-      → rows_shown views (rows_at after.places ++ others) ≡ rows_shown views (rows ++ others)
+  rows_back : links_at places ≡ rows → after.places ≡ places
+      → rows_shown views (links_at after.places ++ others) ≡ rows_shown views (rows ++ others)
   rows_back l same =
-      ap (λ (ps : List (DoorPlace T D L)). rows_shown views (rows_at ps ++ others)) same
+      ap (λ (ps : List (DoorPlace T D L)). rows_shown views (links_at ps ++ others)) same
       ∙ ap (λ (all : List (Vec L)). rows_shown views (all ++ others)) l
 
   pub runs_serve : (how : ServeEnd) → length front ≡ words.workers + 2 → length mid ≡ words.workers
       → length rows ≡ words.workers → length after.hands ≡ words.workers + 2 → length after.places ≡ words.workers
-      → hands_at places ≡ mid → doors_at places ≡ doors → rows_at places ≡ rows → All (IsFreshShare book) (shares_at places) → IsFreshShare book share
+      → hands_at places ≡ mid → doors_at places ≡ doors → links_at places ≡ rows → All (IsFreshShare book) (shares_at places) → IsFreshShare book share
       → ServesStore (serve_rules s words.roots words.secs (served_scene s words) sees views) words.path
       (serving_line words.port words.workers) old new (passing_scene [] front woke before share) places how after
       → SaysServeEnd how (ends_at after.places) after.streams after_streams code
       → RunsServe s words (stage (scene (front ++ (mid ++ rest)) old before) (map sees doors) (rows_shown views (rows ++ others)) woke)
-      (stage (scene (after.hands ++ (hands_at after.places ++ rest)) new after_streams) (map sees (doors_at after.places)) (rows_shown views (rows_at after.places ++ others)) after.woke) code
+      (stage (scene (after.hands ++ (hands_at after.places ++ rest)) new after_streams) (map sees (doors_at after.places)) (rows_shown views (links_at after.places ++ others)) after.woke) code
   runs_serve (Refused fault) long many wide back count h d l fresh own store said =
       unopened fault (whole_refused fault store said)
     where
@@ -199,7 +199,7 @@ module _ {T D L : Type 0} (s : Setting T) (words : ServeWords) (sees : D → Sho
           (passing_scene [] front woke before share) places fault after
           → EndsWhole (refusal_saying fault) after.streams after_streams code
           → IsUnopened s words (stage (scene (front ++ (mid ++ rest)) old before) (map sees doors) (rows_shown views (rows ++ others)) woke)
-          (stage (scene (after.hands ++ (hands_at after.places ++ rest)) new after_streams) (map sees (doors_at after.places)) (rows_shown views (rows_at after.places ++ others)) after.woke) fault code
+          (stage (scene (after.hands ++ (hands_at after.places ++ rest)) new after_streams) (map sees (doors_at after.places)) (rows_shown views (links_at after.places ++ others)) after.woke) fault code
       whole_refused fault store said =
           let sum = length-append front (mid ++ rest) in
           let some : 0 < length (front ++ (mid ++ rest)) = omega (arith, sum, long) in record {
@@ -284,10 +284,10 @@ module _ {T D L : Type 0} (s : Setting T) (words : ServeWords) (sees : D → Sho
         left_are =
             subst
             (λ (shown : List (List ShownLink)). AreWorkers (take n (drop (n + 2) (after.hands ++ (hands_at after.places ++ rest)))) (map sees (doors_at after.places)) shown (workers_at sees views after.places))
-            (sym (worker_rows views n (rows_at after.places) others end_rows))
-            (subst (λ (hands : List T). AreWorkers hands (map sees (doors_at after.places)) (rows_shown views (rows_at after.places)) (workers_at sees views after.places))
+            (sym (worker_rows views n (links_at after.places) others end_rows))
+            (subst (λ (hands : List T). AreWorkers hands (map sees (doors_at after.places)) (rows_shown views (links_at after.places)) (workers_at sees views after.places))
             (sym (worker_hands n after.hands (hands_at after.places) rest back end_hands))
-            (are_workers sees views (hands_at after.places) (doors_at after.places) (rows_at after.places) after.places refl refl refl));
+            (are_workers sees views (hands_at after.places) (doors_at after.places) (links_at after.places) after.places refl refl refl));
         doors = served_workers (served_scene s words) sees views from.first.after.log store.log places after.places from.doors;
         how = how;
         last = from.last;
@@ -298,7 +298,7 @@ module _ {T D L : Type 0} (s : Setting T) (words : ServeWords) (sees : D → Sho
             other_hands n after.hands (hands_at after.places) rest back end_hands
             ∙ sym (other_hands n front mid rest long many);
         other_links =
-            other_rows views n (rows_at after.places) others end_rows
+            other_rows views n (links_at after.places) others end_rows
             ∙ sym (other_rows views n rows others wide);
         woke = from.woke;
         out = said.out ∙ ap (λ (x : Streams). x.out) from.streams;

@@ -107,8 +107,8 @@ hands_at places = map (λ place. place.hand) places
 abbrev pub doors_at : {T D L : Type 0} → List (DoorPlace T D L) → List D
 doors_at places = map (λ place. place.door) places
 
-abbrev pub rows_at : {T D L : Type 0} → List (DoorPlace T D L) → List (Vec L)
-rows_at places = map (λ place. place.links) places
+abbrev pub links_at : {T D L : Type 0} → List (DoorPlace T D L) → List (Vec L)
+links_at places = map (λ place. place.links) places
 
 abbrev pub shares_at : {T D L : Type 0} → List (DoorPlace T D L) → List ShareFacts
 shares_at places = map (λ place. place.share) places

@@ -1,7 +1,7 @@
 //! Hands, shares, doors and rows of links as the places of workers, and back.
 
 ghost use Rattle.std.specs.Prelude.{◌≡◌, ◌≤◌, [], All, IfOk, vec_capacity, vec_len};
-ghost use Rattle.dbgd_run.specs.Workers.{doors_at, hands_at, rows_at, shares_at};
+ghost use Rattle.dbgd_run.specs.Workers.{doors_at, hands_at, links_at, shares_at};
 
 use crate::places::DoorPlace;
 use dbgd_metrics::Share;
@@ -55,7 +55,7 @@ pub(crate) fn places_of<T: Drop, D: Drop, L: Drop>(
     ensures hands { hands_at result.items ≡ hands.items }
     ensures shares { shares_at result.items ≡ shares.items }
     ensures doors { doors_at result.items ≡ doors.items }
-    ensures rows { rows_at result.items ≡ rows.items }
+    ensures rows { links_at result.items ≡ rows.items }
     ensures count { vec_len result ≡ vec_len doors }
 {
     let mut hands = hands.into_iter();
@@ -90,7 +90,7 @@ pub(crate) fn parts_of<T: Drop, D: Drop, L: Drop>(
         × (vec_len places ≤ vec_capacity rows) }
     ensures hands { result.0.items ≡ hands_at places.items }
     ensures doors { result.1.items ≡ doors_at places.items }
-    ensures rows { result.2.items ≡ rows_at places.items }
+    ensures rows { result.2.items ≡ links_at places.items }
     ensures count { (vec_len result.0 ≡ vec_len places) × (vec_len result.1 ≡ vec_len places)
         × (vec_len result.2 ≡ vec_len places) }
 {

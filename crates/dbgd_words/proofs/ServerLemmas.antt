@@ -6,17 +6,17 @@ use Rattle.federation.specs.Server.{ServerFacts}
 use Rattle.dbgd_words.specs.Words.{servers_in}
 
 -- these servers, and those behind them, if there are such
-abbrev pub with_more : List ServerFacts → Option (List ServerFacts) → Option (List ServerFacts)
-with_more before servers = option_map (λ more. before ++ more) servers
+abbrev pub servers_behind : List ServerFacts → Option (List ServerFacts) → Option (List ServerFacts)
+servers_behind before servers = option_map (λ more. before ++ more) servers
 
 -- nothing stands before them
-pub none_before : (servers : Option (List ServerFacts)) → with_more [] servers ≡ servers
+pub none_before : (servers : Option (List ServerFacts)) → servers_behind [] servers ≡ servers
 none_before None = refl
 none_before (Some all) = refl
 
 -- of two lists of servers before others
 more_again : (before : List ServerFacts) (at : ServerFacts) (servers : Option (List ServerFacts))
-    → with_more (before ++ at ∷ []) servers ≡ with_more before (option_map (λ more. at ∷ more) servers)
+    → servers_behind (before ++ at ∷ []) servers ≡ servers_behind before (option_map (λ more. at ∷ more) servers)
 more_again before at None = refl
 more_again before at (Some all) = ap (λ (xs : List ServerFacts). Some xs) (append_assoc before (at ∷ []) all)
 
@@ -27,23 +27,23 @@ Reads texts server = option_and_then (λ at. option_map (λ more. at ∷ more) (
 -- one more text, which is an address
 pub one_read : {left : Option (List ServerFacts)} {whole : Option (List ServerFacts)} (before after : List ServerFacts)
     (at : ServerFacts) (text : List ℕ) (texts : List (List ℕ)) → after ≡ before ++ at ∷ [] → server_of_text text ≡ Some at
-    → left ≡ servers_in (text ∷ texts) → with_more before left ≡ whole → with_more after (servers_in texts) ≡ whole
+    → left ≡ servers_in (text ∷ texts) → servers_behind before left ≡ whole → servers_behind after (servers_in texts) ≡ whole
 one_read {left} {whole} before after at text texts pushed is steps so =
-    ap (λ (xs : List ServerFacts). with_more xs (servers_in texts)) pushed
+    ap (λ (xs : List ServerFacts). servers_behind xs (servers_in texts)) pushed
     ∙ (more_again before at (servers_in texts)
-    ∙ (ap (with_more before) (sym (ap (Reads texts) is)) ∙ (ap (with_more before) (sym steps) ∙ so)))
+    ∙ (ap (servers_behind before) (sym (ap (Reads texts) is)) ∙ (ap (servers_behind before) (sym steps) ∙ so)))
 
 -- one that is none
 pub none_read : {left : Option (List ServerFacts)} {whole : Option (List ServerFacts)} (before : List ServerFacts)
     (text : List ℕ) (texts : List (List ℕ)) → server_of_text text ≡ None → left ≡ servers_in (text ∷ texts)
-    → with_more before left ≡ whole → None ≡ whole
+    → servers_behind before left ≡ whole → None ≡ whole
 none_read {left} {whole} before text texts is steps so =
-    sym (ap (with_more before) (ap (Reads texts) is)) ∙ (ap (with_more before) (sym steps) ∙ so)
+    sym (ap (servers_behind before) (ap (Reads texts) is)) ∙ (ap (servers_behind before) (sym steps) ∙ so)
 
 -- no text is left
 pub all_read : {left : Option (List ServerFacts)} {whole : Option (List ServerFacts)} (before : List ServerFacts)
-    → left ≡ servers_in [] → with_more before left ≡ whole → Some before ≡ whole
-all_read {left} {whole} before none so = sym (ap (λ (xs : List ServerFacts). Some xs) (append_nil before)) ∙ (ap (with_more before) (sym none) ∙ so)
+    → left ≡ servers_in [] → servers_behind before left ≡ whole → Some before ≡ whole
+all_read {left} {whole} before none so = sym (ap (λ (xs : List ServerFacts). Some xs) (append_nil before)) ∙ (ap (servers_behind before) (sym none) ∙ so)
   where
     append_nil : (xs : List ServerFacts) → xs ++ [] ≡ xs
     append_nil [] = refl
