@@ -1,10 +1,11 @@
 //! Servers that ask other ones for what their index doesn't have.
 
 use crate::runs::hands::Files::Alone;
-use crate::runs::rig::{Run, SOUND};
+use crate::runs::rig::{Run, SOUND, words_of};
 use crate::runs::serves_replies::{NOT_FOUND, reply_with};
 use crate::runs::serves_rig::{Server, around, doors, hands, has_ended, is_answered, serve};
-use federation::{LinkAnswer, MemLink};
+use dbgd_run::needs;
+use federation::{LinkAnswer, MemLink, UpstreamAt};
 use http_wire::MemDoor;
 use row_types::OpenWorld;
 use sample_world::Sample;
@@ -287,7 +288,7 @@ fn each_worker_asks_by_its_own_row(rt: HostRuntime) {
         has_reply(&rt, door, wanted);
     }
     let rows = server.links.as_slice();
-    assert!(&rt; rows.len() == COUNTS.len(), "{} rows", rows.len());
+    assert!(rt; rows.len() == COUNTS.len(), "{} rows", rows.len());
     for (row, counts) in rows.iter().zip(COUNTS.iter()) {
         are_asked(&rt, row.as_slice(), counts);
     }
@@ -315,5 +316,30 @@ fn a_question_has_the_route_and_the_hops(rt: HostRuntime) {
         for link in row.as_slice() {
             is_asked_for_the_tool(&rt, link);
         }
+    }
+}
+
+/// The servers of the words that ask two: host, port and base.
+static SERVERS: [(&str, u16, &str); 2] = [("a", 8002, ""), ("b", 80, "")];
+
+/// A server is there.
+fn is_at(rt: &impl Abort, at: &UpstreamAt, wanted: (&str, u16, &str)) {
+    let got = (at.host.as_str(), at.port, at.base.as_str());
+    assert!(rt; got == wanted, "{got:?}");
+}
+
+#[test]
+fn the_words_say_which_servers_are_asked(rt: HostRuntime) {
+    let alloc = rt.alloc();
+    let Run(words, ..) = &ASKING;
+    let texts = words_of(&rt, alloc, words);
+    let needs = needs(alloc, texts.as_slice()).expect(&rt, "memory");
+    assert!(rt;
+        needs.upstream.len() == SERVERS.len(),
+        "{} servers",
+        needs.upstream.len()
+    );
+    for (at, wanted) in needs.upstream.as_slice().iter().zip(SERVERS.iter()) {
+        is_at(&rt, at, *wanted);
     }
 }
