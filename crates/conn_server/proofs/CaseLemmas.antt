@@ -193,7 +193,8 @@ module _ {T : Type 0} (scene : Scene T) (at : Stand T) (own noted : ShareFacts) 
   -- the local answer earns it, or the own share does
   pub earned_of : {what : given.Asked} {why : Reason} {n : ℕ} {carried : Body} {answers : List Heard}
       {told : Option Upstream}
-      → IsCase scene at own noted log request what why n carried answers told → IsEarned scene.rows own noted (sight_at scene at log answers) told what why carried n
+      → IsCase scene at own noted log request what why n carried answers told
+      → IsEarned scene.rows own noted (sight_at scene at log answers) told what why carried n
   earned_of (bad_head len e) = record { answer = local.OutOfMemory; rests = refl; earns = refl }
   earned_of (too_long e) = record { answer = local.OutOfMemory; rests = refl; earns = refl }
   earned_of (too_many e) = record { answer = local.OutOfMemory; rests = refl; earns = refl }

@@ -36,7 +36,8 @@ loop-entry-preserved g c =
     let base = c.loop-entry.invariant in
     let b = stand_of c.loop-entry.seat.seen c.loop-entry.hand c.loop-entry.share (map g.L.Link.shows c.loop-entry.links) in
     let w = wire_of (g.N.Stream.shows c.loop-entry.conn) c.loop-entry.reader in
-    let next = stand_of c.next_turn-next.result.0.seen c.next_turn-next.new.hand c.next_turn-next.new.share (map g.L.Link.shows c.next_turn-next.new.links) in
+    let next = stand_of c.next_turn-next.result.0.seen c.next_turn-next.new.hand c.next_turn-next.new.share
+    (map g.L.Link.shows c.next_turn-next.new.links) in
     let u = wire_of (g.N.Stream.shows c.next_turn-next.new.conn) c.next_turn-next.new.reader in
     let later = c.next_turn-next.ensures.later in
     let count : c.len.result ≡ length c.loop-entry.served.items =
@@ -64,13 +65,15 @@ returns-in-Last-clause-serves g c =
     c.args.service.now.book.now.rows in
     let b = stand_of c.loop-entry.seat.seen c.loop-entry.hand c.loop-entry.share (map g.L.Link.shows c.loop-entry.links) in
     let w = wire_of (g.N.Stream.shows c.loop-entry.conn) c.loop-entry.reader in
-    let next = stand_of c.next_turn-next.result.0.seen c.next_turn-next.new.hand c.next_turn-next.new.share (map g.L.Link.shows c.next_turn-next.new.links) in
+    let next = stand_of c.next_turn-next.result.0.seen c.next_turn-next.new.hand c.next_turn-next.new.share
+    (map g.L.Link.shows c.next_turn-next.new.links) in
     let u = wire_of (g.N.Stream.shows c.next_turn-next.new.conn) c.next_turn-next.new.reader in
     let base = c.loop-entry.invariant in
     let count : c.len.result ≡ length c.loop-entry.served.items =
     omega (arith, c.len.ensures, c.loop-entry.served.ok.0) in
     let turned = turn_as scene _ _ b w _ _ next u (ap (λ (n : ℕ). n + 1 == REQUESTS) count) c.in-Last.is c.next_turn-next.ensures.turn in
-    ends_last scene (stand_of c.args.seat.seen c.args.hand.now c.args.share.now (map g.L.Link.shows c.args.links.now)) (fresh_wire (g.N.Stream.shows c.args.conn.now))
+    ends_last scene (stand_of c.args.seat.seen c.args.hand.now c.args.share.now
+    (map g.L.Link.shows c.args.links.now)) (fresh_wire (g.N.Stream.shows c.args.conn.now))
     c.loop-entry.served.items b w base.0 c.in-Last.entry c.in-Last.end
     (record { served = c.push_reserved-in-Last.new.self; end = c.in-Last.end })
     next (g.N.Stream.shows c.next_turn-next.new.conn) base.3 turned
@@ -82,13 +85,15 @@ returns-in-Ended-clause-serves g c =
     c.args.service.now.book.now.rows in
     let b = stand_of c.loop-entry.seat.seen c.loop-entry.hand c.loop-entry.share (map g.L.Link.shows c.loop-entry.links) in
     let w = wire_of (g.N.Stream.shows c.loop-entry.conn) c.loop-entry.reader in
-    let next = stand_of c.next_turn-next.result.0.seen c.next_turn-next.new.hand c.next_turn-next.new.share (map g.L.Link.shows c.next_turn-next.new.links) in
+    let next = stand_of c.next_turn-next.result.0.seen c.next_turn-next.new.hand c.next_turn-next.new.share
+    (map g.L.Link.shows c.next_turn-next.new.links) in
     let u = wire_of (g.N.Stream.shows c.next_turn-next.new.conn) c.next_turn-next.new.reader in
     let base = c.loop-entry.invariant in
     let count : c.len.result ≡ length c.loop-entry.served.items =
     omega (arith, c.len.ensures, c.loop-entry.served.ok.0) in
     let turned = turn_as scene _ _ b w _ _ next u (ap (λ (n : ℕ). n + 1 == REQUESTS) count) c.in-Ended.is c.next_turn-next.ensures.turn in
-    ends_by scene (stand_of c.args.seat.seen c.args.hand.now c.args.share.now (map g.L.Link.shows c.args.links.now)) (fresh_wire (g.N.Stream.shows c.args.conn.now))
+    ends_by scene (stand_of c.args.seat.seen c.args.hand.now c.args.share.now
+    (map g.L.Link.shows c.args.links.now)) (fresh_wire (g.N.Stream.shows c.args.conn.now))
     c.loop-entry.served.items b w base.0 c.in-Ended.end
     (record { served = c.loop-entry.served; end = c.in-Ended.end })
     next (g.N.Stream.shows c.next_turn-next.new.conn) base.3 turned

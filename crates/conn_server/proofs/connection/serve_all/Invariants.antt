@@ -11,7 +11,8 @@ use Rattle.conn_server.proofs.connection.serve_all.Given as goal
 abbrev pub invariant-loop-entry : goal.invariant-loop-entry
 invariant-loop-entry g l =
     IsOpen (scene_of g.W.Truth.true_row g.T.Tree.told g.W.Truth.version g.T.Tree.shows l.service.folders.now
-    l.service.book.now.rows) (stand_of l.fn.seat.seen l.fn.hand l.fn.share (map g.L.Link.shows l.fn.links)) (fresh_wire (g.N.Stream.shows l.fn.conn)) l.served.items
+    l.service.book.now.rows) (stand_of l.fn.seat.seen l.fn.hand l.fn.share
+    (map g.L.Link.shows l.fn.links)) (fresh_wire (g.N.Stream.shows l.fn.conn)) l.served.items
     (stand_of l.seat.seen l.hand l.share (map g.L.Link.shows l.links))
     (wire_of (g.N.Stream.shows l.conn) l.reader)
     × IsLater l.fn.seat l.seat

@@ -9,7 +9,8 @@ use Rattle.conn_server.proofs.door.serve_door.Given as goal
 abbrev pub invariant-loop : goal.invariant-loop
 invariant-loop g l =
     ServesVisits (scene_of g.W.Truth.true_row g.T.Tree.told g.W.Truth.version g.T.Tree.shows l.folders l.book.rows)
-    (stand_of l.fn.seat.seen l.fn.hand l.fn.share (map g.L.Link.shows l.fn.links)) (g.D.Door.shows l.fn.door) (stand_of l.seat.seen l.hand l.share (map g.L.Link.shows l.links))
+    (stand_of l.fn.seat.seen l.fn.hand l.fn.share (map g.L.Link.shows l.fn.links)) (g.D.Door.shows l.fn.door)
+    (stand_of l.seat.seen l.hand l.share (map g.L.Link.shows l.links))
     (g.D.Door.shows l.door)
     × IsLater l.fn.seat l.seat
     × (l.seat.lock ≡ l.lock)
