@@ -1,10 +1,10 @@
 //! Servers that ask other ones for what their index doesn't have.
 
 use crate::runs::hands::Files::Alone;
-use crate::runs::rig::{Run, SOUND, words_of};
+use crate::runs::rig::{Run, SOUND};
 use crate::runs::serves_replies::{NOT_FOUND, reply_with};
 use crate::runs::serves_rig::{Server, around, doors, hands, has_ended, is_answered, serve};
-use dbgd_run::needs;
+use crate::runs::workers::needs_of;
 use federation::{LinkAnswer, MemLink, UpstreamAt};
 use http_wire::MemDoor;
 use row_types::OpenWorld;
@@ -332,8 +332,7 @@ fn is_at(rt: &impl Abort, at: &UpstreamAt, wanted: (&str, u16, &str)) {
 fn the_words_say_which_servers_are_asked(rt: HostRuntime) {
     let alloc = rt.alloc();
     let Run(words, ..) = &ASKING;
-    let texts = words_of(&rt, alloc, words);
-    let needs = needs(alloc, texts.as_slice()).expect(&rt, "memory");
+    let needs = needs_of(&rt, alloc, words);
     assert!(rt;
         needs.upstream.len() == SERVERS.len(),
         "{} servers",
