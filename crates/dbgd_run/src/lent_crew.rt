@@ -124,8 +124,10 @@ pub(crate) fn lend_all<T: Drop, L: Drop>(
     ensures size { IfOk result (λ loan. vec_len loan.rows.rest + next ≡ vec_len rows.old) }
     ensures blank { IfOk result (λ loan. (loan.rows.room.items ≡ []) × (vec_len loan.rows.room ≡ 0)
         × (vec_len rows.old ≤ vec_capacity loan.rows.room)) }
-    ensures err { OnErr result ((hands.new.items ≡ hands.old.items) × (rows.new.items ≡ rows.old.items)) }
-    ensures same { OnErr result ((vec_len hands.new ≡ vec_len hands.old) × (vec_len rows.new ≡ vec_len rows.old)) }
+    ensures err { OnErr result (hands.new.items ≡ hands.old.items) }
+    ensures same { OnErr result (vec_len hands.new ≡ vec_len hands.old) }
+    ensures kept { OnErr result (rows.new.items ≡ rows.old.items) }
+    ensures wide { OnErr result (vec_len rows.new ≡ vec_len rows.old) }
 {
     let others = lend(alloc, rows, next)?;
     match lend_crew(alloc, hands, first, next) {

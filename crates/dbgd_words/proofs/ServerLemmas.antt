@@ -1,5 +1,5 @@
 -- Addresses that are read one after the other: what was read stands before what the texts that are left name.
-use Rattle.std.proofs.Common.{◌≡◌, ℕ, List, [], ◌∷◌, ◌++◌, Option, Some, None, append_assoc, refl, sym, ◌∙◌, ap, subst, option_map}
+use Rattle.std.proofs.Common.{◌≡◌, ℕ, List, [], ◌∷◌, ◌++◌, Option, Some, None, append_assoc, refl, sym, ◌∙◌, ap, option_map}
 use Rattle.std.specs.Prelude.{option_and_then}
 use Rattle.federation.specs.Address.{server_of_text}
 use Rattle.federation.specs.Server.{ServerFacts}

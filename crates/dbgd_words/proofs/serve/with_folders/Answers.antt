@@ -1,5 +1,5 @@
 -- The folders, those for sources, and the addresses, by their tests.
-use Rattle.std.proofs.Common.{rules, ◌≡◌, ◌∙◌, ap, option_map, sym, false, true}
+use Rattle.std.proofs.Common.{rules, ◌≡◌, ◌∙◌, sym, false, true}
 use Rattle.dbgd_words.proofs.ServeLemmas.{no_folder, no_server, no_source, serves_all}
 use Rattle.dbgd_words.proofs.serve.with_folders.Goals as goal
 
@@ -20,7 +20,7 @@ returns-in-Some c =
     let all : c.are_roots.result ≡ true = search rules in
     let each : c.are_roots-2.result ≡ true = search rules in
     serves_all _ _ _ _ c.args.sources.now c.args.others.now c.args.folders.now (sym c.are_roots.ensures ∙ all)
-    (sym c.are_roots-2.ensures ∙ each) (sym (ap (option_map (λ servers. servers.items)) c.in-Some.is) ∙ c.in_ok-servers.ensures)
+    (sym c.are_roots-2.ensures ∙ each) (rw c.in-Some.is at c.in_ok-servers.ensures)
     c.in_ok-sources.ensures c.in_ok-roots.ensures
 
 pub returns-in-None : goal.returns-in-None
@@ -28,4 +28,4 @@ returns-in-None c =
     let all : c.are_roots.result ≡ true = search rules in
     let each : c.are_roots-2.result ≡ true = search rules in
     no_server _ _ _ _ c.args.sources.now c.args.others.now c.args.folders.now (sym c.are_roots.ensures ∙ all)
-    (sym c.are_roots-2.ensures ∙ each) (sym (ap (option_map (λ servers. servers.items)) c.in-None.is) ∙ c.in_ok-servers.ensures)
+    (sym c.are_roots-2.ensures ∙ each) (rw c.in-None.is at c.in_ok-servers.ensures)
