@@ -1,5 +1,5 @@
 -- Addresses that are read one after the other: what was read stands before what the texts that are left name.
-use Rattle.std.proofs.Common.{◌≡◌, ℕ, List, [], ◌∷◌, ◌++◌, Option, Some, None, append_assoc, refl, sym, ◌∙◌, ap, option_map}
+use Rattle.std.proofs.Common.{◌≡◌, ℕ, List, [], ◌∷◌, ◌++◌, Option, Some, None, append-nil, append_assoc, refl, sym, ◌∙◌, ap, option_map}
 use Rattle.std.specs.Prelude.{option_and_then}
 use Rattle.federation.specs.Address.{server_of_text}
 use Rattle.federation.specs.Server.{ServerFacts}
@@ -43,8 +43,4 @@ none_read {left} {whole} before text texts is steps so =
 -- no text is left
 pub all_read : {left : Option (List ServerFacts)} {whole : Option (List ServerFacts)} (before : List ServerFacts)
     → left ≡ servers_in [] → servers_behind before left ≡ whole → Some before ≡ whole
-all_read {left} {whole} before none so = sym (ap (λ (xs : List ServerFacts). Some xs) (append_nil before)) ∙ (ap (servers_behind before) (sym none) ∙ so)
-  where
-    append_nil : (xs : List ServerFacts) → xs ++ [] ≡ xs
-    append_nil [] = refl
-    append_nil (x ∷ xs) = ap (λ (ys : List ServerFacts). x ∷ ys) (append_nil xs)
+all_read {left} {whole} before none so = sym (ap (λ (xs : List ServerFacts). Some xs) (append-nil before)) ∙ (ap (servers_behind before) (sym none) ∙ so)
