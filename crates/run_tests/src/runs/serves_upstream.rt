@@ -241,8 +241,8 @@ fn has_reply(rt: &impl Abort, door: &MemDoor, wanted: &[u8]) {
 fn wanted_of(rt: &impl Abort, alloc: Global, case: &Case) -> Vec<u8> {
     let Case(_, _, _, front, file) = case;
     match file {
-        Some(sample) => reply_with(rt, alloc, front, *sample),
-        None => Vec::from_slice(alloc, front).expect(rt, "memory"),
+        Some(sample) => reply_with(rt, alloc, *front, *sample),
+        None => Vec::from_slice(alloc, *front).expect(rt, "memory"),
     }
 }
 
@@ -256,7 +256,7 @@ fn ask<Rt: Threads + Wait + Sync + Abort>(rt: &Rt, alloc: Global, case: &Case) {
         has_reply(rt, door, wanted.as_slice());
     }
     for row in server.links.as_slice() {
-        are_asked(rt, row.as_slice(), counts);
+        are_asked(rt, row.as_slice(), *counts);
     }
 }
 
@@ -290,7 +290,7 @@ fn each_worker_asks_by_its_own_row(rt: HostRuntime) {
     let rows = server.links.as_slice();
     assert!(rt; rows.len() == COUNTS.len(), "{} rows", rows.len());
     for (row, counts) in rows.iter().zip(COUNTS.iter()) {
-        are_asked(&rt, row.as_slice(), counts);
+        are_asked(&rt, row.as_slice(), *counts);
     }
 }
 
