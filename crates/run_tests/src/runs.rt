@@ -18,6 +18,7 @@ mod serves_hands;
 mod serves_replies;
 mod serves_rig;
 mod serves_stops;
+mod serves_upstream;
 mod told;
 mod trials;
 mod words;

@@ -3,6 +3,7 @@
 use crate::rig::{after, kept_paths};
 use crate::stopping::StoppingStore;
 use dbgd_run::{MemSink, Outside, Sink, needs, run};
+use federation::MemLink;
 use http_wire::MemDoor;
 use row_types::OpenWorld;
 use sample_world::open_script;
@@ -14,7 +15,16 @@ use std::thread::Threads;
 use tree_trait::{MemClock, MemTree, NoGate};
 
 /// The objects of a run.
-type Memory = Outside<OpenWorld, MemTree<OpenWorld>, StoppingStore, MemDoor, MemClock, MemSink, NoGate>;
+type Memory = Outside<
+    OpenWorld,
+    MemTree<OpenWorld>,
+    StoppingStore,
+    MemDoor,
+    MemLink,
+    MemClock,
+    MemSink,
+    NoGate,
+>;
 
 /// A scan of three debug files and two sources.
 static SCAN: [&str; 5] = ["scan", "-d", "m", "/srv/debug", "/w/src"];
@@ -53,6 +63,7 @@ fn stopping_at(rt: &impl Abort, alloc: Global, sql: &str, stop_at: u64) -> Memor
         out: sink(alloc),
         err: sink(alloc),
         doors: Vec::new(alloc),
+        links: Vec::new(alloc),
         clock: MemClock::new(alloc, 0),
         gate: NoGate,
         of: PhantomData::<OpenWorld>,
