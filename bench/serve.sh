@@ -4,7 +4,8 @@
 # requests a second is told; by 4 connections it is to be at least 100 of 100 for the small file and the miss, and 80 for the
 # large one. nginx's logs are off, and each of its connections ends after as many requests as dbgd's do.
 #
-# Then what one hop to another server costs: 14 KB, a miss and 117 MB, beside the direct answer and beside debuginfod's own hop.
+# Then what one hop to another server costs: 14 KB, a miss and 117 MB, beside the direct answer and beside debuginfod's own hop. For
+# the small file the direct answer is to be at least 50 of 100, and the hop no slower than debuginfod's.
 #
 # Then how long the first answer takes after a start on a store of 2,700 files, which a scan filled before, beside a start on an
 # empty store; and what memory an idle server over 18,000 files with paths of 212 bytes takes beyond one over an empty folder: what
@@ -139,7 +140,9 @@ hop() { # WHAT TARGET COUNT LEAST
   ratio=$(awk -v d="$direct" -v o="$own" 'BEGIN { printf "%d", d * 100 / (o > 0 ? o : 0.01) }')
   say "$(printf 'one hop, %-7s: %s ms, direct %s ms, ratio %d of 100%s' "$1" "$own" "$direct" "$ratio" "$real")"
   [ "$ratio" -ge "$4" ] || { say "less than $4 of 100"; failed=1; }
-  [ -z "$real" ] || awk -v o="$own" -v r="$(median <"$work/real")" 'BEGIN { exit !(o <= r) }' || { say "slower than debuginfod's hop"; failed=1; }
+  if [ "$4" != 0 ] && [ -n "$real" ]; then
+    awk -v o="$own" -v r="$(median <"$work/real")" 'BEGIN { exit !(o <= r) }' || { say "slower than debuginfod's hop"; failed=1; }
+  fi
 }
 mkdir "$work/nothing" "$work/far"
 cp "$work/tree/small" "$work/far/small"

@@ -2,16 +2,16 @@
 # Asks real servers that ask other ones over sockets: a chain of two for each file of checks/data by id and class, its heads, a
 # section, the hop limit, a server that is its own upstream, and one whose upstreams nobody is, hang, end in the middle, answer
 # another file under the asked id, or send chunks; then a real debuginfod behind a server and one before it, and gdb and
-# debuginfod-find through a chain, each where it is installed. Ends within two minutes.
+# debuginfod-find through a chain, each where it is installed. Ends within two minutes where nothing else keeps the machine busy.
 #
 # usage: checks/upstream.sh [PROGRAM]      PROGRAM is ./dbgd of the repository's top unless given
 #
-# It is cut off after UPSTREAM_SECONDS (118 unless set), and fails then.
+# It is cut off after UPSTREAM_SECONDS (175 unless set), and fails then.
 source "$(dirname -- "$(readlink -f -- "${BASH_SOURCE[0]}")")/lib/head.sh" || exit 1
 source "$top/checks/lib/server.sh" || exit 1
 
 command -v curl >/dev/null || { say "skipped: there is no curl"; exit 0; }
-end_after "${UPSTREAM_SECONDS:-118}"
+end_after "${UPSTREAM_SECONDS:-175}"
 compared=0
 
 # Compares two files, byte for byte.

@@ -53,8 +53,7 @@ abbrev pub served_scene : {T : Type 0} → Setting T → ServeWords → Scene T
 served_scene s words =
     scene_of s.world.true_row s.tells_files s.world.version s.sees (words.roots ++ words.sources) (words.workers + 1)
 
--- no index was opened on the store, which is said as a scan says it; no door, no link and no wait was
--- asked for
+-- no index was opened on the store, which is said as a scan says it; no door, no link and no wait was asked for
 pub record IsUnopened {T : Type 0} (s : Setting T) (words : ServeWords) (before after : ProgramStage T) (fault : OpenFault)
     (status : Status) : Type 0 where
   pub scans :
@@ -124,9 +123,8 @@ PassesOn s roots secs first (Some end) after = (0 < secs) × KeepsPassing s root
 -- the doors were served beside the passes. The first line was written whole, a first pass was made with the first hands, two and
 -- one for each worker, and what it was is said of the log of the opening and of the one that its token had seen then. Each door
 -- was served once, with the hand behind those and the row of links at its place, by a token that had seen that log; the passes
--- behind the first one go on from it;
--- and all of them ended at beginnings of the log that the index has in the end. The lines of the doors that failed stand behind
--- all others
+-- behind the first one go on from it; and all of them ended at beginnings of the log that the index has in the end. The lines of
+-- the doors that failed stand behind all others
 pub record IsServed {T : Type 0} (s : Setting T) (words : ServeWords) (before after : ProgramStage T) (status : Status)
     : Type 0 where
   pub found : List RowFacts
