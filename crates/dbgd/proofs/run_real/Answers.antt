@@ -14,4 +14,4 @@ run-requires-clause-enough g c = λ κs within serve.
     let made = c.in-Ok-real_hands.ensures in
     let rows = c.in-Ok-rows.ensures in
     let many = c.in-Ok-needs.ensures.doors in
-    let doors = c.in_ok-doors.ensures in (omega (arith, hands, made), (doors ∙ many, omega (arith, rows, many)))
+    let doors = c.in_ok-doors.ensures in (omega (arith, hands, made), doors ∙ many, omega (arith, rows, many))

@@ -55,9 +55,9 @@ run_serve-requires-clause-hands g c = λ κs within.
 pub run_serve-requires-clause-doors : goal.run_serve-requires-clause-doors
 run_serve-requires-clause-doors g c = λ κs within.
     let one = (rw c.in-Serve.is at c.requires.fits).one in
-    ((rw c.in-Serve.is at c.requires.enough) (omega (arith, one))).1.0
+    ((rw c.in-Serve.is at c.requires.enough) (omega (arith, one))).1
 
 pub run_serve-requires-clause-links : goal.run_serve-requires-clause-links
 run_serve-requires-clause-links g c = λ κs within.
     let one = (rw c.in-Serve.is at c.requires.fits).one in
-    ((rw c.in-Serve.is at c.requires.enough) (omega (arith, one))).1.1
+    ((rw c.in-Serve.is at c.requires.enough) (omega (arith, one))).2
