@@ -114,6 +114,8 @@ else
   done
   stop "$server"
   kill "$nginx"
+  wait "$nginx"
+  forget "$nginx"
 fi
 
 # One hop: a server over an empty folder that asks the one with the files, each request on a connection of its own, in turns with a
@@ -181,21 +183,24 @@ fill() { # FOLDER COUNT NAME_LENGTH
   done
 }
 
-# How long a server takes from its start to its first answer, in milliseconds: the median of five.
+# How long a server takes from its start to its first answer, in milliseconds: sets `took`, the median of five.
 first_answer() { # NAME FOLDER [NEW]
-  local turn begun
+  local turn begun times=()
   for turn in 1 2 3 4 5; do
     [ -z "${3:-}" ] || rm -f "$work/$1.db" "$work/$1.db-wal"
     begun=$(date +%s%N)
     start "$1" -t 300 "$2" || exit 1
     within 600 curl -s -f --noproxy '*' -m 60 -o "$work/body" "$at/buildid/$small_id/executable" || { say 'no first answer'; exit 1; }
-    echo $((($(date +%s%N) - begun) / 1000000))
+    times+=($((($(date +%s%N) - begun) / 1000000)))
     stop "$server"
-  done | median
+  done
+  took=$(printf '%s\n' "${times[@]}" | median)
 }
 fill "$work/some" "$files" 1
-new=$(first_answer some "$work/some" new) || exit 1
-again=$(first_answer some "$work/some") || exit 1
+first_answer some "$work/some" new
+new=$took
+first_answer some "$work/some"
+again=$took
 say "first answer after a start over $files files: $again ms on the store of a scan, $new ms on an empty one"
 
 # What of a process is in memory, in kB: now, or at most.

@@ -65,9 +65,9 @@ file=$tree/aarch64_little.elf
 large=$work/large
 mkdir "$large"
 cp "$file" "$large/large.elf"
-truncate -s 16M "$large/large.elf"
+truncate -s 64M "$large/large.elf"
 
-# One worker, whose client stops to read in the middle of 16 MiB: the request behind it is answered once the server gave up, which
+# One worker, whose client stops to read in the middle of 64 MiB: the request behind it is answered once the server gave up, which
 # takes up to three of its writes, of 30 seconds each.
 start stopped -c 1 -t 0 "$large" || exit 1
 stopped=$server stopped_at=$at
@@ -231,6 +231,7 @@ for turn in {1..300}; do
 done
 kill "$swapping"
 wait "$swapping" 2>/dev/null
+forget "$swapping"
 stop "$server"
 
 # Passes beside requests: a file that comes is answered, one that goes isn't, and a folder that is gone ends no server.
@@ -252,10 +253,18 @@ stop "$server"
 many=$work/many count=${SERVE_FILES:-2000}
 mkdir "$many"
 (cd "$many" && seq -f 'text %05.0f' 1 "$count" | xargs -d '\n' touch)
+if command -v sqlite3 >/dev/null; then
+  count_rows() { sqlite3 "$1" 'SELECT count(*) FROM kept'; }
+elif python3 -c 'import sqlite3' 2>/dev/null; then
+  count_rows() { python3 -c 'import sqlite3, sys
+print(sqlite3.connect(sys.argv[1]).execute("SELECT count(*) FROM kept").fetchone()[0])' "$1"; }
+else
+  say 'the rows of a store that was left: not counted, there is no sqlite3 and no python3 with it'
+fi
 stored() { # FILE
   cp "$1" "$work/copy.db"
   [ ! -e "$1-wal" ] || cp "$1-wal" "$work/copy.db-wal"
-  sqlite3 "$work/copy.db" 'SELECT count(*) FROM kept'
+  count_rows "$work/copy.db"
 }
 middle=0
 for delay in 0.03 0.1 0.3 1; do
@@ -264,7 +273,7 @@ for delay in 0.03 0.1 0.3 1; do
   sleep "$delay"
   stop "$server"
   rows=
-  ! command -v sqlite3 >/dev/null || rows=$(stored "$work/ended.db" 2>&1)
+  ! declare -F count_rows >/dev/null || rows=$(stored "$work/ended.db" 2>&1)
   line=$("$program" scan -d "$work/ended.db" "$many" 2>&1)
   kept=$(sed -n 's/.* 0 dropped, \([0-9]*\) kept, .*/\1/p' <<<"$line")
   rows=${rows:-$kept}
@@ -272,15 +281,16 @@ for delay in 0.03 0.1 0.3 1; do
     "scan: $count files, $((count - rows)) added, 0 replaced, 0 dropped, $rows kept, 0 executables, 0 debuginfo" "$line"
   [ "${kept:-0}" = 0 ] || [ "$kept" = "$count" ] || middle=$((middle + 1))
 done
-[ "$middle" != 0 ] || say 'no server was ended in the middle of a pass'
+[ "$middle" != 0 ] || differs 'no server was ended in the middle of a pass'
 
 # The reader that stopped, and clients that go away in the middle of their reply.
 wait "$behind"
+forget "$behind"
 read -r status seconds <"$work/behind.status"
 is 'a request behind a reader that stopped' 404 "$status"
 timeout 20 cat <&"$reader" >"$work/got"
 exec {reader}>&-
-[ "$(stat -c %s "$work/got")" -lt $((16 * 1024 * 1024)) ] || differs 'a reader that stopped got all'
+[ "$(stat -c %s "$work/got")" -lt $((64 * 1024 * 1024)) ] || differs 'a reader that stopped got all'
 for turn in 1 2 3; do
   exec {conn}<>"/dev/tcp/127.0.0.1/${stopped_at##*:}" || differs "client $turn that goes away"
   printf 'GET /buildid/%s/executable HTTP/1.1\r\n\r\n' "$id" >&"$conn"

@@ -96,7 +96,8 @@ if has eu-stack; then
   "$own/tool" wait &
   waiting=$!
   children+=("$waiting")
-  sleep 0.2
+  waits() { grep -q '^State:.S' "/proc/$waiting/status" && grep -q -x tool "/proc/$waiting/comm"; }
+  within 100 waits || differs 'the program does not wait'
   if [ "$(id -u)" = 0 ] || [ "$(cat /proc/sys/kernel/yama/ptrace_scope 2>/dev/null || echo 0)" = 0 ]; then
     prints eu-stack -s -p "$waiting" -- inner outer main part.h:2 main.c:3
   else
@@ -104,6 +105,7 @@ if has eu-stack; then
   fi
   kill "$waiting"
   wait "$waiting" 2>/dev/null
+  forget "$waiting"
 fi
 
 stop "$server"

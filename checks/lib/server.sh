@@ -2,8 +2,25 @@
 # ends with the script.
 
 children=()
+
+# Lets go of a process that was waited for: its number may be another's from then on.
+forget() { # PROCESS
+  local child left=()
+  for child in "${children[@]}"; do [ "$child" = "$1" ] || left+=("$child"); done
+  children=("${left[@]}")
+}
+
+# Ends those that are left. They are asked to first, since one may have processes of its own that go with it, as nginx.
 end_children() {
-  [ "${#children[@]}" = 0 ] || kill -9 "${children[@]}" 2>/dev/null
+  local turn
+  if [ "${#children[@]}" != 0 ]; then
+    kill "${children[@]}" 2>/dev/null
+    for ((turn = 0; turn < 20; turn++)); do
+      kill -0 "${children[@]}" 2>/dev/null || break
+      sleep 0.1
+    done
+    kill -9 "${children[@]}" 2>/dev/null
+  fi
   wait 2>/dev/null
   rm -rf "$work"
 }
@@ -50,6 +67,7 @@ start() { # NAME WORDS..
     within 300 is_up_or_over || { say "$name: no line after 30 s"; return 1; }
     [ ! -s "$work/$name.out" ] || return 0
     wait "$server"
+    forget "$server"
     [ "$(cat "$work/$name.err")" = 'dbgd: fault door' ] || { say "$name: $(cat "$work/$name.err")"; return 1; }
   done
   say "$name: no port is free"
@@ -63,11 +81,10 @@ scanned() { # COUNT
 
 # Ends a server by a signal, whose status it has then.
 stop() { # SERVER
-  local status child left=()
+  local status
   kill -TERM "$1" 2>/dev/null
   wait "$1"
   status=$?
   [ "$status" = 143 ] || differs "a server that was ended has status $status"
-  for child in "${children[@]}"; do [ "$child" = "$1" ] || left+=("$child"); done
-  children=("${left[@]}")
+  forget "$1"
 }
