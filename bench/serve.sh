@@ -170,7 +170,11 @@ hop 'a miss' /buildid/00ff00ff00ff00ff00ff00ff00ff00ff00ff00ff/executable 40 0
 hop '117 MB' "/buildid/$large_id/executable" 5 0
 stop "$server"
 stop "$back"
-[ -z "${real_at:-}" ] || kill "$real"
+if [ -n "${real_at:-}" ]; then
+  kill "$real"
+  wait "$real"
+  forget "$real"
+fi
 
 # Files in folders of a hundred, each third of them an ELF file.
 fill() { # FOLDER COUNT NAME_LENGTH

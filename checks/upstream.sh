@@ -186,6 +186,7 @@ through() { # WAY FILE SECONDS WANTED [OTHERS]
   stop "$server"
   kill "$fake"
   wait "$fake" 2>/dev/null
+  forget "$fake"
 }
 if command -v python3 >/dev/null; then
   through answers "$file" 5 200
@@ -225,6 +226,7 @@ if command -v debuginfod >/dev/null; then
     stop "$server"
     kill "$behind"
     wait "$behind" 2>/dev/null
+    forget "$behind"
   else
     differs "debuginfod doesn't answer: $(tail -n 3 "$work/behind.out")"
   fi
@@ -236,6 +238,7 @@ if command -v debuginfod >/dev/null; then
   fi
   kill "$real"
   wait "$real" 2>/dev/null
+  forget "$real"
 else
   say 'debuginfod: skipped, it is not installed'
 fi

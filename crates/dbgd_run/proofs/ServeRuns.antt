@@ -29,7 +29,7 @@ use Rattle.dbgd_run.specs.Serve.{IsUnopened, MakesRound, RunsServe, ServeWords, 
 use Rattle.dbgd_run.specs.ServeSaid.{SaysServeEnd, door_line, door_lines, end_line, ended_badly, has_cut, has_failed, is_any_failed, served_status, serving_line, serving_saying, wants_line}
 use Rattle.dbgd_run.specs.Serving.{CrewFacts, RefusesStore, ServesStore, serve_rules}
 use Rattle.dbgd_run.specs.Stage.{rows_shown, stage}
-use Rattle.dbgd_run.specs.Workers.{AreWorkers, HasCountedNothing, IsFreshShare, PlaceServed, ServedBy, WorkerFacts, doors_at, ends_at, hands_at, links_at, shares_at, worker_in, workers_at}
+use Rattle.dbgd_run.specs.Workers.{AreWorkers, IsFreshShare, PlaceServed, ServedBy, WorkerFacts, doors_at, ends_at, hands_at, links_at, shares_at, worker_in, workers_at}
 use Rattle.dbgd_run.specs.declared.line_fate.LineFate.{LineFate}
 use Rattle.dbgd_run.specs.declared.places.DoorPlace.{DoorPlace}
 use Rattle.dbgd_run.specs.declared.scan_end.ScanEnd.TheVariants as scanned
@@ -132,11 +132,11 @@ module _ {T D L : Type 0} (sees : D → ShownDoor) (views : L → ShownLink) whe
   }
 
   fresh_workers : (book : BookFacts) (places : List (DoorPlace T D L)) → All (IsFreshShare book) (shares_at places)
-      → All (λ (worker : WorkerFacts T). HasCountedNothing worker.share) (workers_at sees views places)
-  fresh_workers book [] all = All-nil (λ (worker : WorkerFacts T). HasCountedNothing worker.share)
+      → All (λ (worker : WorkerFacts T). IsFreshShare book worker.share) (workers_at sees views places)
+  fresh_workers book [] all = All-nil (λ (worker : WorkerFacts T). IsFreshShare book worker.share)
   fresh_workers book (p ∷ places) all =
-      All-cons (λ (worker : WorkerFacts T). HasCountedNothing worker.share) (worker_in sees views p) (workers_at sees views places)
-      (All-head (IsFreshShare book) p.share (shares_at places) all).fresh
+      All-cons (λ (worker : WorkerFacts T). IsFreshShare book worker.share) (worker_in sees views p) (workers_at sees views places)
+      (All-head (IsFreshShare book) p.share (shares_at places) all)
       (fresh_workers book places (All-tail (IsFreshShare book) p.share (shares_at places) all))
 
 -- the hands at a place of the whole list
@@ -187,12 +187,13 @@ module _ {T D L : Type 0} (s : Setting T) (words : ServeWords) (sees : D → Sho
   pub runs_serve : (how : ServeEnd) → length front ≡ words.workers + 2 → length mid ≡ words.workers
       → length rows ≡ words.workers → length after.hands ≡ words.workers + 2 → length after.places ≡ words.workers
       → hands_at places ≡ mid → doors_at places ≡ doors → links_at places ≡ rows → All (IsFreshShare book) (shares_at places) → IsFreshShare book share
+      → book.rows ≡ words.workers + 1
       → ServesStore (serve_rules s words.roots words.secs (served_scene s words) sees views) words.path
       (serving_line words.port words.workers) old new (passing_scene [] front woke before share) places how after
       → SaysServeEnd how (ends_at after.places) after.streams after_streams code
       → RunsServe s words (stage (scene (front ++ (mid ++ rest)) old before) (map sees doors) (rows_shown views (rows ++ others)) woke)
       (stage (scene (after.hands ++ (hands_at after.places ++ rest)) new after_streams) (map sees (doors_at after.places)) (rows_shown views (links_at after.places ++ others)) after.woke) code
-  runs_serve (Refused fault) long many wide back count h d l fresh own store said =
+  runs_serve (Refused fault) long many wide back count h d l fresh own sized store said =
       unopened fault (whole_refused fault store said)
     where
       whole_refused : (fault : OpenFault) → RefusesStore (serve_rules s words.roots words.secs (served_scene s words) sees views) words.path old new
@@ -224,7 +225,7 @@ module _ {T D L : Type 0} (s : Setting T) (words : ServeWords) (sees : D → Sho
               woke = ap (λ (c : CrewFacts T D L). c.woke) store.same;
             };
           }
-  runs_serve Unannounced long many wide back count h d l fresh own store said = unserved (record {
+  runs_serve Unannounced long many wide back count h d l fresh own sized store said = unserved (record {
     found = store.found;
     held = store.held;
     has = store.has;
@@ -238,7 +239,7 @@ module _ {T D L : Type 0} (s : Setting T) (words : ServeWords) (sees : D → Sho
       woke = store.woke;
     };
   })
-  runs_serve Unlocked long many wide back count h d l fresh own store said = unserved (record {
+  runs_serve Unlocked long many wide back count h d l fresh own sized store said = unserved (record {
     found = store.found;
     held = store.held;
     has = store.has;
@@ -252,7 +253,7 @@ module _ {T D L : Type 0} (s : Setting T) (words : ServeWords) (sees : D → Sho
       woke = store.woke;
     };
   })
-  runs_serve (Served fate how broken) long many wide back count h d l fresh own store said =
+  runs_serve (Served fate how broken) long many wide back count h d l fresh own sized store said =
       let from = store.serves in
       let n = words.workers in
       let end_hands = length-map after.places (λ (place : DoorPlace T D L). place.hand) ∙ count in
@@ -265,8 +266,10 @@ module _ {T D L : Type 0} (s : Setting T) (words : ServeWords) (sees : D → Sho
         store = store.store;
         told = store.told;
         line = store.says;
+        book = book;
+        sized = sized;
         share = share;
-        fresh = own.fresh;
+        fresh = own;
         first = from.first;
         made =
             subst (λ (hands : List T). MakesRound s words.roots (passing_scene (puts_of (current store.found)) hands woke store.told share) from.first)

@@ -15,7 +15,7 @@ use Rattle.index_state.specs.Invariant.{AreTrueRows}
 use Rattle.index_state.specs.Opening.{current, made_swept, puts_of}
 use Rattle.index_state.specs.State.{lasting}
 use Rattle.index_state.specs.declared.open_fault.OpenFault.{OpenFault}
-use Rattle.dbgd_metrics.specs.Shares.{ShareFacts}
+use Rattle.dbgd_metrics.specs.Shares.{BookFacts, ShareFacts}
 use Rattle.conn_server.specs.Scene.{Scene, scene_of}
 use Rattle.dbgd_run.specs.Endings.{EndsCut, EndsWhole, Streams, SaysMemory}
 use Rattle.dbgd_run.specs.Kept.{HasRows, MayHaveRows, StoreHoldsRows}
@@ -26,7 +26,7 @@ use Rattle.dbgd_run.specs.ScanSaid.{refusal_saying}
 use Rattle.dbgd_run.specs.Scene.{Setting}
 use Rattle.dbgd_run.specs.ServeSaid.{door_lines, has_cut, is_any_failed, served_status, serving_saying, wants_line}
 use Rattle.dbgd_run.specs.Stage.{LeavesRest, ProgramStage}
-use Rattle.dbgd_run.specs.Workers.{AreWorkers, HasCountedNothing, ServedBy, WorkerFacts}
+use Rattle.dbgd_run.specs.Workers.{AreWorkers, IsFreshShare, ServedBy, WorkerFacts}
 use Rattle.dbgd_run.specs.declared.line_fate.LineFate.TheVariants.{Unmade}
 use Rattle.dbgd_run.specs.declared.passes_end.PassesEnd.{PassesEnd}
 use Rattle.dbgd_run.specs.declared.scan_end.ScanEnd.TheVariants.{Refused}
@@ -123,8 +123,8 @@ PassesOn s roots secs first (Some end) after = (0 < secs) × KeepsPassing s root
 -- the doors were served beside the passes. The first line was written whole, a first pass was made with the first hands, two and
 -- one for each worker, and what it was is said of the log of the opening and of the one that its token had seen then. Each door
 -- was served once, with the hand behind those and the row of links at its place, by a token that had seen that log; the passes
--- behind the first one go on from it; and all of them ended at beginnings of the log that the index has in the end. The lines of
--- the doors that failed stand behind all others
+-- behind the first one go on from it; and all of them ended at beginnings of the log that the index has in the end. The passes and
+-- the workers count in one table, which has a row for each of them. The lines of the doors that failed stand behind all others
 pub record IsServed {T : Type 0} (s : Setting T) (words : ServeWords) (before after : ProgramStage T) (status : Status)
     : Type 0 where
   pub found : List RowFacts
@@ -136,8 +136,10 @@ pub record IsServed {T : Type 0} (s : Setting T) (words : ServeWords) (before af
   pub store : StoreServes words.path broken before.scene.store after.scene.store
   pub told : Streams
   pub line : EndsWhole (serving_saying words.port words.workers) before.scene.streams told Done
+  pub book : BookFacts
+  pub sized : book.rows ≡ words.workers + 1
   pub share : ShareFacts
-  pub fresh : HasCountedNothing share
+  pub fresh : IsFreshShare book share
   pub first : Round T
   pub made :
       MakesRound s words.roots
@@ -147,7 +149,7 @@ pub record IsServed {T : Type 0} (s : Setting T) (words : ServeWords) (before af
   pub workers_are :
       AreWorkers (take words.workers (drop (words.workers + 2) before.scene.hands)) before.doors
       (take words.workers before.links) workers
-  pub shares : All (λ worker. HasCountedNothing worker.share) workers
+  pub shares : All (λ worker. IsFreshShare book worker.share) workers
   pub left : List (WorkerFacts T)
   pub left_are :
       AreWorkers (take words.workers (drop (words.workers + 2) after.scene.hands)) after.doors

@@ -38,7 +38,7 @@ returns-clause-runs g c = λ port sources roots line folders scanned.
     (omega (arith, c.requires.doors, doors_are, c.serve_store-left.result.places.ok.0))
     c.places_of-places.ensures.hands (rw c.replace-doors.ensures.value at c.places_of-places.ensures.doors)
     (rw c.replace-rows.ensures.value at c.places_of-places.ensures.rows)
-    (subst (All (IsFreshShare c.args.gear.shares.book)) (sym c.places_of-places.ensures.shares) c.requires.shares) c.requires.own
+    (subst (All (IsFreshShare c.args.gear.shares.book)) (sym c.places_of-places.ensures.shares) c.requires.shares) c.requires.own c.requires.rows
     (rw (c.as_slice-folders.ensures.value, c.as_str-text.ensures.value, c.replace-first.ensures.value, roots_are, folders, c.requires.rows, line) at c.serve_store-left.ensures.serves)
     (rw c.as_slice-ended.ensures.value at c.say_serve_end-status.ensures))
 
