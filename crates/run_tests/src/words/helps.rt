@@ -120,9 +120,9 @@ servers of --upstream, in order.
 Prints on standard output that it serves, on which port and with how many workers, and then a line of
 counts for each scan; a scan that is cut short says why on standard error, and the next one goes on.
 It runs until a signal ends it: each row is on the disk before the next one is kept, so that at most
-the one in flight is lost. While it runs nothing else can open the store. A connection is ended after
-100 requests, and where nothing comes from the client for 5 seconds or it takes nothing for 30.
-DEBUGINFOD_URLS tells debuggers where the server is.
+the one in flight is lost. While it runs nothing else can open the store. A connection is ended
+after 100 requests, and where nothing comes from the client for 5 seconds or it takes nothing for
+30. DEBUGINFOD_URLS tells debuggers where the server is.
 
 Exit status: 0 done, 1 a call of the store, the port or the output failed, 2 words that can't be read,
 5 too many rows, 6 memory was refused, 7 a value that is no row.
