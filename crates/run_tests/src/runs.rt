@@ -12,6 +12,7 @@ mod rows;
 mod scans;
 mod serves;
 mod serves_asked;
+mod serves_counters;
 mod serves_doors;
 mod serves_gates;
 mod serves_hands;
