@@ -18,7 +18,7 @@ use Rattle.federation.specs.Heard.{LinkHeard, link_failed}
 use Rattle.federation.specs.declared.asking.Upstream.{Upstream}
 use Rattle.conn_server.specs.Asked.{IsAsked, Request}
 use Rattle.dbgd_metrics.specs.Shares.{ShareFacts}
-use Rattle.conn_server.specs.Cases.{IsCase, IsFileRoute, IsUnfound, bad_head, too_long, too_many, method, has_body, no_route, metrics, no_page}
+use Rattle.conn_server.specs.Cases.{GivesUp, IsCase, IsFileRoute, IsUnfound, bad_head, too_long, too_many, method, has_body, no_route, metrics, no_page}
 use Rattle.conn_server.specs.Cases.{passed, upstream, read_fault, hop_limit, upstream_fault, not_found, no_memory}
 use Rattle.conn_server.specs.Exchange.{LoadFailed}
 use Rattle.conn_server.specs.Lawful.{AsksLinksFor, Carries, EarnsText, IsEarned, RestsOn}
@@ -190,6 +190,12 @@ module _ {T : Type 0} (scene : Scene T) (at : Stand T) (own noted : ShareFacts) 
   earns_fault route_fault.BadPath = refl
   earns_fault route_fault.OutOfMemory = refl
 
+  -- memory was refused before the links were to be asked, or as they were
+  earns_memory : (route : Route) (told : Option Upstream) → GivesUp told
+      → EarnsText (asked.Route route) local.OutOfMemory told reason.OutOfMemory 0
+  earns_memory route None gives_up = (refl, refl, gives_up)
+  earns_memory route (Some said) gives_up = (refl, refl, gives_up)
+
   -- the local answer earns it, or the own share does
   pub earned_of : {what : given.Asked} {why : Reason} {n : ℕ} {carried : Body} {answers : List Heard}
       {told : Option Upstream}
@@ -237,7 +243,7 @@ module _ {T : Type 0} (scene : Scene T) (at : Stand T) (own noted : ShareFacts) 
   earned_of (no_memory head route heard said e asks files gives_up) = record {
     answer = local.OutOfMemory;
     rests = rests_on (sight_at scene at log heard) route local.OutOfMemory files tt;
-    earns = (refl, refl, gives_up);
+    earns = earns_memory route said gives_up;
   }
   earned_of (metrics head text e asks page) = record {
     answer = local.OutOfMemory;
