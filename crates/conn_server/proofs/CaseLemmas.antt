@@ -1,5 +1,5 @@
 -- What follows of each case of the table, a line a case.
-use Rattle.std.proofs.Common.{◌≡◌, ℕ, ◌<◌, ◌≤◌, ◌⊎◌, inl, inr, true, List, [], Option, Some, None, refl, arith}
+use Rattle.std.proofs.Common.{◌≡◌, ℕ, ◌≤◌, inl, inr, true, List, [], Option, Some, None, refl, arith}
 use Rattle.std.proofs.lemmas.Bool.{false≢true}
 use Rattle.std.specs.Prelude.{count_by}
 use Rattle.index_rows.specs.declared.change.Change.{Change}
@@ -12,7 +12,6 @@ use Rattle.answer_core.specs.Local.{IsLocal, Sight}
 use Rattle.answer_core.specs.declared.local.Local.{Local}
 use Rattle.answer_core.specs.declared.local.Local.TheVariants as local
 use Rattle.answer_core.proofs.RowsLemmas.{none_is_there}
-use Rattle.answer_check.specs.declared.passed.Passed.{Passed}
 use Rattle.federation.specs.AskAll.{all_heard}
 use Rattle.federation.specs.Heard.{LinkHeard, link_failed}
 use Rattle.federation.specs.declared.asking.Upstream.{Upstream}
@@ -22,7 +21,7 @@ use Rattle.conn_server.specs.Cases.{GivesUp, IsCase, IsFileRoute, IsUnfound, bad
 use Rattle.conn_server.specs.Cases.{passed, upstream, read_fault, hop_limit, upstream_fault, not_found, no_memory}
 use Rattle.conn_server.specs.Exchange.{LoadFailed}
 use Rattle.conn_server.specs.Lawful.{AsksLinksFor, Carries, EarnsText, IsEarned, RestsOn}
-use Rattle.conn_server.specs.PassedOver.{FindsAll, PassesOver}
+use Rattle.conn_server.specs.PassedOver.{FindsAll}
 use Rattle.conn_server.specs.Replies.{Shows, reason_of_route, says_upstream_fault, status_of}
 use Rattle.conn_server.specs.Scene.{Scene, Stand, hand_at, sight_at}
 use Rattle.conn_server.specs.Sent.{CanCarry}

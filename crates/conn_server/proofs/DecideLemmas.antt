@@ -1,22 +1,19 @@
 -- What is decided for a route by the local answer and the links, or by the page of the counters.
-use Rattle.std.proofs.Common.{◌≡◌, ◌≢◌, ℕ, ◌<◌, Bool, true, false, inl, List, [], length, Option, Some, None, Result, Ok, Err, IfOk, refl, sym, ◌∙◌, subst, arith}
+use Rattle.std.proofs.Common.{◌≡◌, ◌≢◌, ℕ, ◌<◌, Bool, true, false, inl, [], length, Some, None, Result, Ok, Err, IfOk, refl, sym, ◌∙◌, subst, arith}
 use Rattle.std.specs.Prelude.{◌==◌, String, string_bytes, if◌then◌else◌}
 use Rattle.std.specs.Global.{Global}
 use Rattle.std.proofs.lemmas.Bool.{false≢true}
 use Rattle.std.proofs.lemmas.Bool.Decides.{nat_tests}
-use Rattle.tree_trait.specs.Heard.{Heard}
 use Rattle.webapi_routes.specs.declared.route.Route.{Route}
 use Rattle.webapi_routes.specs.declared.route.Route.TheVariants.{Debuginfo, Executable, Source, Section, Metrics}
 use Rattle.answer_check.specs.declared.passed.Passed.TheVariants as passing
-use Rattle.answer_core.specs.Loads.{Hears}
-use Rattle.answer_core.specs.Local.{AnswersRoute, IsFault, IsLocal}
+use Rattle.answer_core.specs.Local.{AnswersRoute, IsFault}
 use Rattle.answer_core.specs.declared.local.Local.{Local}
 use Rattle.answer_core.specs.declared.local.Local.TheVariants as local
 use Rattle.answer_core.proofs.HearLemmas.{hears_as, hears_none}
 use Rattle.dbgd_metrics.specs.Shares.{ShareFacts}
 use Rattle.dbgd_metrics.specs.Totals.{IsPage, OnlyNotes}
 use Rattle.federation.specs.AskAll.{AsksLinks}
-use Rattle.federation.specs.Heard.{LinkHeard}
 use Rattle.federation.specs.declared.asking.Upstream.{Upstream}
 use Rattle.federation.specs.declared.asking.Upstream.TheVariants as told
 use Rattle.conn_server.specs.Asked.{AsksForRoute, HeadFacts, readable}
@@ -25,10 +22,9 @@ use Rattle.conn_server.specs.Decided.{Decides, DecidesRoute, FollowsLocal, by_li
 use Rattle.conn_server.specs.Exchange.{LoadFailed}
 use Rattle.conn_server.specs.Lawful.{AsksLinksFor}
 use Rattle.conn_server.specs.Links.{AsksEachLink, LinksHear}
-use Rattle.conn_server.specs.Scene.{Scene, Stand, hand_at, sight_at, with_share}
+use Rattle.conn_server.specs.Scene.{Scene, Stand, hand_at, with_share}
 use Rattle.conn_server.specs.declared.body.Body.TheVariants as bodies
 use Rattle.conn_server.specs.declared.decide.Decided.{Decided}
-use Rattle.conn_server.specs.declared.reason.Reason.{Reason}
 use Rattle.conn_server.specs.declared.reason.Reason.TheVariants as reason
 use Rattle.conn_server.specs.declared.report.Asked.TheVariants as asked
 use Rattle.conn_server.proofs.LinksLemmas.{asks_each, links_none}

@@ -1,5 +1,5 @@
 -- What links heard, one request behind the other.
-use Rattle.std.proofs.Common.{◌≡◌, ◌≢◌, ℕ, ◌+◌, ◌-◌, ◌^◌, ◌<◌, ◌≤◌, ◌⊎◌, inl, inr, List, [], ◌∷◌, ◌++◌, map, length, refl, sym, ◌∙◌, ap, subst, append_assoc, arith}
+use Rattle.std.proofs.Common.{◌≡◌, ℕ, ◌+◌, ◌-◌, ◌^◌, ◌<◌, ◌≤◌, ◌⊎◌, inl, inr, List, [], ◌∷◌, ◌++◌, length, refl, sym, ◌∙◌, ap, subst, append_assoc, arith}
 use Rattle.std.specs.Prelude.{min, count_by}
 use Rattle.std.proofs.lemmas.Bool.{cases_lt}
 use Rattle.std.proofs.lemmas.List.Sums.{sum_by-append}
@@ -9,9 +9,8 @@ use Rattle.federation.specs.Heard.{LinkHeard, link_failed}
 use Rattle.federation.specs.Link.{ShownLink}
 use Rattle.federation.specs.declared.asking.TheConstants.{HOP_LIMIT}
 use Rattle.federation.specs.declared.asking.Upstream.{Upstream}
-use Rattle.federation.specs.declared.asking.Upstream.TheVariants.{HopLimit}
 use Rattle.federation.proofs.LinkLemmas.{gains_both}
-use Rattle.conn_server.specs.Links.{AsksEachLink, LinksFailed, LinksHear, SomeIsFull, all_parts, both_parts, faults_summed}
+use Rattle.conn_server.specs.Links.{AsksEachLink, LinksFailed, LinksHear, SomeIsFull, all_parts, both_parts}
 
 -- Parts
 

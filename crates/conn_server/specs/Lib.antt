@@ -16,7 +16,8 @@ pub use Rattle.dbgd_metrics.specs.Totals
 pub use Rattle.federation.specs.AskAll
 pub use Rattle.federation.specs.Heard
 pub use Rattle.federation.specs.Link
-pub use Rattle.federation.specs.Replies
+pub use Rattle.federation.specs.Replies as LinkReplies
+pub use Rattle.federation.specs.Rows
 pub use Rattle.webapi_routes.specs.Targets
 pub mod Asked
 pub mod Cases
