@@ -76,29 +76,19 @@ fn lead_passes<
         (streams O.shows out.new err.new) after.share)
         × (vec_len after.hands ≡ vec_len before.hands)) lead.old lead.new }
 {
-    let Some(Lead {
-        seat,
-        hands,
-        mut share,
-    }) = lead.take()
+    let Some(
+        Lead {
+            seat,
+            hands,
+            mut share,
+        },
+    ) = lead.take()
     else {
         unreachable!()
     };
     let (seat, hands, end) = keep_passing(
-        hall.rt,
-        hall.alloc,
-        hall.lock,
-        seat,
-        hands,
-        hall.roots,
-        &ElfReader,
-        clock,
-        hall.secs,
-        hall.book,
-        &mut share,
-        out,
-        err,
-        hall.gate,
+        hall.rt, hall.alloc, hall.lock, seat, hands, hall.roots, &ElfReader, clock, hall.secs,
+        hall.book, &mut share, out, err, hall.gate,
     );
     *lead = Some(Lead { seat, hands, share });
     end

@@ -89,10 +89,7 @@ pub(crate) fn run_doors<
     L: Link,
     G: Gate,
     Rt: Threads + Wait + Sync,
->(
-    hall: &Hall<'_, W, K, G, Rt>,
-    slots: &mut Vec<Option<Slot<State<W, K>, DoorPlace<T, D, L>>>>,
-)
+>(hall: &Hall<'_, W, K, G, Rt>, slots: &mut Vec<Option<Slot<State<W, K>, DoorPlace<T, D, L>>>>)
     requires filled { All (SlotHas (λ slot. (slot.seat.lock ≡ hall.now.lock.now)
         × HasRowIn hall.now.book.now slot.place.share)) slots.old.items }
     ensures ran { AllZip (SlotRan (λ before after. IsLater before.seat after.seat

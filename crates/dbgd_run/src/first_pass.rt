@@ -52,8 +52,12 @@ fn pass_first<
         (setting (rules W.version W.true_row W.told) T.told T.shows K.told) hall.now.roots.now
         (passing_scene lead.seat.seen lead.hands.items woke
         (streams O.shows out.old err.old) lead.share)
-        (record { end = end; fate = result.1; after = passing_scene result.0.seat.seen
-        result.0.hands.items woke (streams O.shows out.new err.new) result.0.share })) }
+        (record {
+          end = end;
+          fate = result.1;
+          after = passing_scene result.0.seat.seen
+              result.0.hands.items woke (streams O.shows out.new err.new) result.0.share;
+        })) }
     ensures hands { vec_len result.0.hands ≡ vec_len lead.hands }
     ensures share { HasRowIn hall.now.book.now result.0.share }
 {
@@ -63,14 +67,7 @@ fn pass_first<
         mut share,
     } = lead;
     let (seat, hands, end) = run_pass(
-        hall.rt,
-        hall.alloc,
-        hall.lock,
-        seat,
-        hands,
-        hall.roots,
-        &ElfReader,
-        hall.gate,
+        hall.rt, hall.alloc, hall.lock, seat, hands, hall.roots, &ElfReader, hall.gate,
     );
     let fate = note_pass(hall.alloc, end, hall.book, &mut share, out, err);
     (Lead { seat, hands, share }, fate)
@@ -106,7 +103,12 @@ pub(crate) fn serve_from<
     clock: &mut C,
     out: &mut O,
     err: &mut O,
-) -> (Lead<W, K, T>, Vec<DoorPlace<T, D, L>>, LineFate, Option<PassesEnd>)
+) -> (
+    Lead<W, K, T>,
+    Vec<DoorPlace<T, D, L>>,
+    LineFate,
+    Option<PassesEnd>,
+)
     requires lock { lead.seat.lock ≡ hall.now.lock.now }
     requires hand { 0 < vec_len lead.hands }
     requires spared { lead.seat.origin.sparing ≡ None }

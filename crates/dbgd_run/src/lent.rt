@@ -40,10 +40,7 @@ pub fn lend<T: Drop>(
 {
     let room = Vec::with_capacity(alloc, hands.len())?;
     let others = hands.split_off(count)?;
-    Ok(Others {
-        rest: others,
-        room,
-    })
+    Ok(Others { rest: others, room })
 }
 
 /// All in their order again: those that were lent, and behind them the others.

@@ -59,11 +59,7 @@ fn run_alone<
     C: Clock + Drop,
     O: Sink,
     G: Gate + Drop,
->(
-    alloc: Global,
-    line: Line<'_>,
-    outside: &mut Outside<W, T, S, D, L, C, O, G>,
-) -> Status
+>(alloc: Global, line: Line<'_>, outside: &mut Outside<W, T, S, D, L, C, O, G>) -> Status
     requires hand { 0 < vec_len outside.old.hands }
     requires alone { takes_threads (asked_by line) ≡ false }
     ensures law { Runs
@@ -206,11 +202,7 @@ pub fn run_local<
     C: Clock + Drop,
     O: Sink,
     G: Gate + Drop,
->(
-    alloc: Global,
-    words: &[String],
-    outside: &mut Outside<W, T, S, D, L, C, O, G>,
-) -> Option<u8>
+>(alloc: Global, words: &[String], outside: &mut Outside<W, T, S, D, L, C, O, G>) -> Option<u8>
     requires { 0 < vec_len outside.old.hands }
     ensures none { IfNone result (takes_threads (line_of (map string_bytes words.now)) ≡ true) }
     ensures some { IfSome result (λ code. (takes_threads (line_of (map string_bytes words.now)) ≡ false)

@@ -81,7 +81,15 @@ fn run_place<W: Truth, K: Keeper<W>, T: Tree<W>, D: Door, L: Link, G: Gate, Rt: 
 }
 
 /// Serves the door of a slot.
-pub(crate) fn run_slot<W: Truth, K: Keeper<W>, T: Tree<W>, D: Door, L: Link, G: Gate, Rt: Wait + Sync>(
+pub(crate) fn run_slot<
+    W: Truth,
+    K: Keeper<W>,
+    T: Tree<W>,
+    D: Door,
+    L: Link,
+    G: Gate,
+    Rt: Wait + Sync,
+>(
     hall: &Hall<'_, W, K, G, Rt>,
     number: u64,
     slot: &mut Option<Slot<State<W, K>, DoorPlace<T, D, L>>>,

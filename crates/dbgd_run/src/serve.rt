@@ -117,7 +117,12 @@ pub(crate) fn run_serve<
     O: Sink,
     G: Gate + Drop,
     Rt: Threads + Wait + Sync,
->(rt: &Rt, alloc: Global, line: ServeLine<'_>, outside: &mut Outside<W, T, S, D, L, C, O, G>) -> Status
+>(
+    rt: &Rt,
+    alloc: Global,
+    line: ServeLine<'_>,
+    outside: &mut Outside<W, T, S, D, L, C, O, G>,
+) -> Status
     requires hands { line.workers * 2 + 2 ≤ vec_len outside.old.hands }
     requires doors { vec_len outside.old.doors ≡ line.workers }
     requires links { line.workers ≤ vec_len outside.old.links }

@@ -71,10 +71,7 @@ fn either(one: bool, other: bool) -> bool
 }
 
 /// Says of each door that failed, in order, and tells whether one did.
-fn say_doors<T: Drop, D: Drop, L: Drop, O: Sink>(
-    places: &[DoorPlace<T, D, L>],
-    err: &mut O,
-) -> bool
+fn say_doors<T: Drop, D: Drop, L: Drop, O: Sink>(places: &[DoorPlace<T, D, L>], err: &mut O) -> bool
     ensures failed { result ≡ list_any ended_badly (ends_at places.now) }
     ensures err { GetsLines (flat_map end_line (ends_at places.now))
         (O.shows err.old) (O.shows err.new) }

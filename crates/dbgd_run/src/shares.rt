@@ -63,11 +63,7 @@ fn split_shares<R: Wait>(
 }
 
 /// A new counter table for so many workers, with the shares, each of which has its row.
-pub(crate) fn new_shares<R: Wait>(
-    rt: &R,
-    alloc: Global,
-    workers: u64,
-) -> Result<Shares, AllocError>
+pub(crate) fn new_shares<R: Wait>(rt: &R, alloc: Global, workers: u64) -> Result<Shares, AllocError>
     requires { IsScanFit workers }
     ensures rows { IfOk result (λ shares. shares.book.rows ≡ workers + 1) }
     ensures own { IfOk result (λ shares. IsFreshShare shares.book shares.own) }

@@ -56,7 +56,13 @@ fn push_folders(rt: &impl Abort, text: &mut String, mark: &str, folders: &[Canon
 }
 
 /// Adds servers to a text, each behind this mark.
-fn push_servers(rt: &impl Abort, alloc: Global, text: &mut String, mark: &str, servers: &[UpstreamAt]) {
+fn push_servers(
+    rt: &impl Abort,
+    alloc: Global,
+    text: &mut String,
+    mark: &str,
+    servers: &[UpstreamAt],
+) {
     for server in servers {
         let (host, port, base) = (server.host.as_str(), server.port, server.base.as_str());
         let at = format!(in alloc; "{mark}{host}:{port}{base}").expect(rt, "memory");

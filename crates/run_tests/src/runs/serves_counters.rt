@@ -43,7 +43,15 @@ fn a_worker_s_page_has_what_the_others_and_the_passes_counted(rt: HostRuntime) {
     // The second connection is held until the first was answered.
     let gate = TurnGate::new(Hold::Asking(1), Hold::Answered(0), 1_000_000);
     let doors = doors(&rt, alloc, &INPUTS);
-    let mut server = around(&rt, alloc, hands(&rt, alloc, &Two, 6), doors, gate, &SOUND, 0);
+    let mut server = around(
+        &rt,
+        alloc,
+        hands(&rt, alloc, &Two, 6),
+        doors,
+        gate,
+        &SOUND,
+        0,
+    );
     serve(&rt, alloc, &mut server, &SERVE, &[]);
     assert!(rt; server.gate.met());
     for (door, wanted) in server.doors.as_slice().iter().zip(REPLIES.iter()) {

@@ -86,15 +86,7 @@ fn server(
             .push(failing_at(rt, alloc, *bad_accept))
             .expect(rt, "memory");
     }
-    around(
-        rt,
-        alloc,
-        hands(rt, alloc, &Two, 6),
-        doors,
-        NoGate,
-        plan,
-        1,
-    )
+    around(rt, alloc, hands(rt, alloc, &Two, 6), doors, NoGate, plan, 1)
 }
 
 /// The accepts of two doors that fail, how many connections of each are answered, what err gets, and the

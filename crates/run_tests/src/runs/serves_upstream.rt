@@ -73,7 +73,10 @@ struct Case(
 static CASES: [Case; 9] = [
     Case(
         TOOL,
-        &[&[Said::File(Sample::FirstLibrary)], &[Said::File(Sample::Tool)]],
+        &[
+            &[Said::File(Sample::FirstLibrary)],
+            &[Said::File(Sample::Tool)],
+        ],
         &[1, 1],
         FOUND,
         Some(Sample::Tool),
@@ -92,9 +95,27 @@ static CASES: [Case; 9] = [
         HOP_LIMIT,
         None,
     ),
-    Case(TOOL, &[&[Said::Missing], &[Said::Missing]], &[1, 1], NOT_FOUND, None),
-    Case(TOOL, &[&[Said::Missing], &[Said::Failed]], &[1, 1], UPSTREAM_FAULT, None),
-    Case(TOOL, &[&[Said::Failed], &[Said::Failed]], &[1, 1], UPSTREAM_FAULT, None),
+    Case(
+        TOOL,
+        &[&[Said::Missing], &[Said::Missing]],
+        &[1, 1],
+        NOT_FOUND,
+        None,
+    ),
+    Case(
+        TOOL,
+        &[&[Said::Missing], &[Said::Failed]],
+        &[1, 1],
+        UPSTREAM_FAULT,
+        None,
+    ),
+    Case(
+        TOOL,
+        &[&[Said::Failed], &[Said::Failed]],
+        &[1, 1],
+        UPSTREAM_FAULT,
+        None,
+    ),
     Case(
         TOOL,
         &[&[Said::Failed], &[Said::File(Sample::Tool)]],
@@ -284,7 +305,11 @@ fn each_worker_asks_by_its_own_row(rt: HostRuntime) {
     serve(&rt, alloc, &mut server, &BOTH_ASKING, &[]);
     let found = reply_with(&rt, alloc, FOUND, Sample::Tool);
     for (place, door) in server.doors.as_slice().iter().enumerate() {
-        let wanted = if place == 0 { found.as_slice() } else { NOT_FOUND };
+        let wanted = if place == 0 {
+            found.as_slice()
+        } else {
+            NOT_FOUND
+        };
         has_reply(&rt, door, wanted);
     }
     let rows = server.links.as_slice();

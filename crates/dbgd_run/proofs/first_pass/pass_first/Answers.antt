@@ -6,18 +6,21 @@ use Rattle.dbgd_run.proofs.first_pass.pass_first.Goals as goal
 pub returns-clause-made : goal.returns-clause-made
 returns-clause-made g c =
     let ran = c.run_pass-seat.ensures in
-    let noted = c.note_pass-fate.ensures in (c.run_pass-seat.result.2, λ woke. record {
-      passes = record {
-        later = ran.later.log;
-        ends = ran.pass;
-        goes = ran.hands;
-        idle = ran.idle;
-        complete = ran.complete;
-      };
-      tells = noted.tells;
-      counts = noted.counts;
-      woke = refl;
-    })
+    let noted = c.note_pass-fate.ensures in (
+      c.run_pass-seat.result.2,
+      λ woke. record {
+        passes = record {
+          later = ran.later.log;
+          ends = ran.pass;
+          goes = ran.hands;
+          idle = ran.idle;
+          complete = ran.complete;
+        };
+        tells = noted.tells;
+        counts = noted.counts;
+        woke = refl;
+      },
+    )
 
 pub returns-clause-hands : goal.returns-clause-hands
 returns-clause-hands g c =

@@ -23,13 +23,13 @@ loop-place-preserved g c =
     let steps : drop at.place-index places ≡ x ∷ rest
     = drop_more places at.place-index x below ∙ ap (λ y. y ∷ rest) (sym c.place-item.is) in (
       ap (λ b. b || list_any ended_badly (ends_at rest)) (c.either-failed.ensures ∙ ap (λ b. at.failed || b) c.say_door.ensures.failed)
-      ∙ (or_again at.failed (ended_badly x.end) (list_any ended_badly (ends_at rest))
-      ∙ (ap (λ left. at.failed || list_any ended_badly (ends_at left)) (sym steps) ∙ at.invariant.0)),
+          ∙ (or_again at.failed (ended_badly x.end) (list_any ended_badly (ends_at rest))
+          ∙ (ap (λ left. at.failed || list_any ended_badly (ends_at left)) (sym steps) ∙ at.invariant.0)),
       λ new gets.
-      at.invariant.1 new
-      (subst (λ left. GetsLines (flat_map end_line (ends_at left)) (g.O.Stream.shows at.err) new) (sym steps)
-      (lines_both (end_line x.end) (flat_map end_line (ends_at rest)) (g.O.Stream.shows at.err) (g.O.Stream.shows c.say_door.new.err) new
-      c.say_door.ensures.err gets)),
+          at.invariant.1 new
+          (subst (λ left. GetsLines (flat_map end_line (ends_at left)) (g.O.Stream.shows at.err) new) (sym steps)
+          (lines_both (end_line x.end) (flat_map end_line (ends_at rest)) (g.O.Stream.shows at.err) (g.O.Stream.shows c.say_door.new.err) new
+          c.say_door.ensures.err gets)),
     )
 
 pub returns-clause-err : goal.returns-clause-err

@@ -39,7 +39,7 @@ returns-else-announce-clause-serves g c = rw (c.unserved.ensures.hands, c.unserv
       holds = c.into_keeper.ensures.holds;
       value = c.into_keeper.ensures.value;
       says = subst (λ (told : Bool). Announces c.args.site.now.line.now told (streams g.O.Stream.shows c.args.out.now c.args.err.now)
-    (streams g.O.Stream.shows c.announce.new.out c.announce.new.err)) c.if-announce.false c.announce.ensures;
+          (streams g.O.Stream.shows c.announce.new.out c.announce.new.err)) c.if-announce.false c.announce.ensures;
       same = refl;
     })
 
