@@ -10,9 +10,9 @@ abbrev pub servers_behind : List ServerFacts → Option (List ServerFacts) → O
 servers_behind before servers = option_map (λ more. before ++ more) servers
 
 -- nothing stands before them
-pub none_before : (servers : Option (List ServerFacts)) → servers_behind [] servers ≡ servers
-none_before None = refl
-none_before (Some all) = refl
+pub nothing_in_front : (servers : Option (List ServerFacts)) → servers_behind [] servers ≡ servers
+nothing_in_front None = refl
+nothing_in_front (Some all) = refl
 
 -- of two lists of servers before others
 more_again : (before : List ServerFacts) (at : ServerFacts) (servers : Option (List ServerFacts))
@@ -25,22 +25,22 @@ abbrev Reads : List (List ℕ) → Option ServerFacts → Option (List ServerFac
 Reads texts server = option_and_then (λ at. option_map (λ more. at ∷ more) (servers_in texts)) server
 
 -- one more text, which is an address
-pub one_read : {left : Option (List ServerFacts)} {whole : Option (List ServerFacts)} (before after : List ServerFacts)
+pub one_more_server : {left : Option (List ServerFacts)} {whole : Option (List ServerFacts)} (before after : List ServerFacts)
     (at : ServerFacts) (text : List ℕ) (texts : List (List ℕ)) → after ≡ before ++ at ∷ [] → server_of_text text ≡ Some at
     → left ≡ servers_in (text ∷ texts) → servers_behind before left ≡ whole → servers_behind after (servers_in texts) ≡ whole
-one_read {left} {whole} before after at text texts pushed is steps so =
+one_more_server {left} {whole} before after at text texts pushed is steps so =
     ap (λ (xs : List ServerFacts). servers_behind xs (servers_in texts)) pushed
     ∙ (more_again before at (servers_in texts)
     ∙ (ap (servers_behind before) (sym (ap (Reads texts) is)) ∙ (ap (servers_behind before) (sym steps) ∙ so)))
 
 -- one that is none
-pub none_read : {left : Option (List ServerFacts)} {whole : Option (List ServerFacts)} (before : List ServerFacts)
+pub not_a_server : {left : Option (List ServerFacts)} {whole : Option (List ServerFacts)} (before : List ServerFacts)
     (text : List ℕ) (texts : List (List ℕ)) → server_of_text text ≡ None → left ≡ servers_in (text ∷ texts)
     → servers_behind before left ≡ whole → None ≡ whole
-none_read {left} {whole} before text texts is steps so =
+not_a_server {left} {whole} before text texts is steps so =
     sym (ap (servers_behind before) (ap (Reads texts) is)) ∙ (ap (servers_behind before) (sym steps) ∙ so)
 
 -- no text is left
-pub all_read : {left : Option (List ServerFacts)} {whole : Option (List ServerFacts)} (before : List ServerFacts)
+pub all_servers : {left : Option (List ServerFacts)} {whole : Option (List ServerFacts)} (before : List ServerFacts)
     → left ≡ servers_in [] → servers_behind before left ≡ whole → Some before ≡ whole
-all_read {left} {whole} before none so = sym (ap (λ (xs : List ServerFacts). Some xs) (append-nil before)) ∙ (ap (servers_behind before) (sym none) ∙ so)
+all_servers {left} {whole} before none so = sym (ap (λ (xs : List ServerFacts). Some xs) (append-nil before)) ∙ (ap (servers_behind before) (sym none) ∙ so)
