@@ -37,8 +37,8 @@ abbrev pub for_route : Route → Reason → ℕ → Body → declared.Decided
 for_route route why n carried = record { asked = asked.Route route; reason = why; generation = n; body = carried }
 
 -- what is decided where nothing passed: a load that failed comes before what is said of the links
-abbrev pub missed : Route → ℕ → Bool → Reason → declared.Decided
-missed route n failed why = for_route route (if failed then reason.ReadFault else why) n bodies.Line
+abbrev pub for_unfound : Route → ℕ → Bool → Reason → declared.Decided
+for_unfound route n failed why = for_route route (if failed then reason.ReadFault else why) n bodies.Line
 
 -- what is decided by what is told of the links, where no candidate passed at a generation, and perhaps a load failed
 abbrev pub by_links : Route → ℕ → Bool → Upstream → declared.Decided
@@ -46,8 +46,8 @@ by_links route n failed (upstream.File file) = for_route route reason.Upstream n
 by_links route n failed (upstream.Section section) = for_route route reason.Upstream n (bodies.Upstream (passing.Section section))
 by_links route n failed (upstream.Source bytes) = for_route route reason.Upstream n (bodies.Upstream (passing.Source bytes))
 by_links route n failed (upstream.Nobody refused faults) =
-    missed route n failed (if faults == 0 then reason.NotFound else reason.UpstreamFault)
-by_links route n failed upstream.HopLimit = missed route n failed reason.HopLimit
+    for_unfound route n failed (if faults == 0 then reason.NotFound else reason.UpstreamFault)
+by_links route n failed upstream.HopLimit = for_unfound route n failed reason.HopLimit
 by_links route n failed upstream.OutOfMemory = plain (asked.Route route) reason.OutOfMemory
 
 -- the links are asked, and what is told of them decides

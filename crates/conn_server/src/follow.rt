@@ -1,7 +1,7 @@
 //! What a route is answered by its local answer, and by the links where no candidate passed.
 
 ghost use Rattle.std.specs.Prelude.{◌≡◌, map};
-ghost use Rattle.conn_server.specs.Decided.{FollowsLinks, FollowsLocal, by_links, for_route, missed};
+ghost use Rattle.conn_server.specs.Decided.{FollowsLinks, FollowsLocal, by_links, for_route, for_unfound};
 ghost use Rattle.conn_server.specs.declared.body.Body.TheVariants as bodies;
 ghost use Rattle.conn_server.specs.declared.reason.Reason.TheVariants as reason;
 
@@ -71,16 +71,16 @@ fn by_links(route: Route, generation: u64, failed: bool, told: Upstream) -> Deci
             } else {
                 Reason::UpstreamFault
             };
-            missed(route, generation, failed, why)
+            for_unfound(route, generation, failed, why)
         }
-        Upstream::HopLimit => missed(route, generation, failed, Reason::HopLimit),
+        Upstream::HopLimit => for_unfound(route, generation, failed, Reason::HopLimit),
         Upstream::OutOfMemory => plain(Asked::Route(route), Reason::OutOfMemory),
     }
 }
 
 /// What is decided where nothing passed: a load that failed comes before what is said of the links.
-fn missed(route: Route, generation: u64, failed: bool, why: Reason) -> Decided
-    ensures { result ≡ missed route generation failed why }
+fn for_unfound(route: Route, generation: u64, failed: bool, why: Reason) -> Decided
+    ensures { result ≡ for_unfound route generation failed why }
 {
     let said = if failed { Reason::ReadFault } else { why };
     for_route(route, said, generation, Body::Line)
