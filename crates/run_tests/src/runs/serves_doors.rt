@@ -22,19 +22,6 @@ struct Failing {
     faults: u64,
 }
 
-impl Failing {
-    /// What the accept answers.
-    fn next<Rt: Wait + Sync>(&mut self, rt: &Rt) -> DoorAnswer<MemConn> {
-        let is_bad = self.accepts == self.bad_accept;
-        self.accepts = self.accepts.saturating_add(1);
-        if is_bad {
-            DoorAnswer::Failed
-        } else {
-            self.door.accept(rt)
-        }
-    }
-}
-
 impl Door for Failing {
     ghost use Rattle.std.specs.Prelude.{None};
 
@@ -44,7 +31,13 @@ impl Door for Failing {
 
     fn accept<Rt: Wait + Sync>(&mut self, rt: &Rt) -> DoorAnswer<MemConn> {
         let faults = self.faults;
-        let answer = self.next(rt);
+        let is_bad = self.accepts == self.bad_accept;
+        self.accepts = self.accepts.saturating_add(1);
+        let answer = if is_bad {
+            DoorAnswer::Failed
+        } else {
+            self.door.accept(rt)
+        };
         self.last = Some(answer.said());
         self.faults = match &answer {
             DoorAnswer::Failed => faults.saturating_add(1),

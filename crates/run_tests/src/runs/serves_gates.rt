@@ -82,14 +82,10 @@ static CROSSINGS: [Crossing; 3] = [
     },
 ];
 
-/// The gate of a crossing.
-fn gate_of(rt: &impl Abort, alloc: Global, crossing: &Crossing) -> TurnGate {
-    let held = String::from_str(alloc, crossing.held).expect(rt, "memory");
-    TurnGate::new(
-        Hold::Loading(held),
-        Hold::Answered(crossing.until),
-        1_000_000,
-    )
+/// The gate that holds the load of a file until the connection of a number is answered.
+fn gate_of(rt: &impl Abort, alloc: Global, held: &str, until: u64) -> TurnGate {
+    let held = String::from_str(alloc, held).expect(rt, "memory");
+    TurnGate::new(Hold::Loading(held), Hold::Answered(until), 1_000_000)
 }
 
 /// The doors of a crossing.
@@ -110,7 +106,7 @@ fn all_answered(rt: &impl Abort, alloc: Global, doors: &[MemDoor], crossing: &Cr
 
 /// Runs the server of a crossing, and compares what comes of it.
 fn cross<Rt: Threads + Wait + Sync + Abort>(rt: &Rt, alloc: Global, crossing: &Crossing) {
-    let gate = gate_of(rt, alloc, crossing);
+    let gate = gate_of(rt, alloc, crossing.held, crossing.until);
     let doors = doors_of(rt, alloc, crossing);
     let mut server = around(rt, alloc, references(rt, alloc, 6), doors, gate, &SOUND, 0);
     server.store = scanned(rt, alloc);

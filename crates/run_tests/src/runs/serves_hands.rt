@@ -1,13 +1,19 @@
 //! The hands of a server: which of them is asked, and one that wants memory.
 
+use crate::runs::crowded::Crowded;
 use crate::runs::hands::Files::Two;
 use crate::runs::hands::hand_of;
 use crate::runs::rig::{Run, SOUND};
-use crate::runs::serves_rig::{around, door, doors, has_ended, is_answered, serve};
+use crate::runs::serves_rig::{around, door, doors, hands, has_ended, is_answered, serve};
+use dbgd_run::Outside;
+use http_wire::MemDoor;
+use index_keeper::MemStore;
 use row_types::OpenWorld;
 use std::alloc::Global;
 use std::process::Abort;
-use tree_trait::{DirAnswer, LoadAnswer, MemTree, NoGate, StatAnswer, Tree};
+use std::sync::Wait;
+use std::thread::Threads;
+use tree_trait::{LoadAnswer, MemTree, NoGate, Tree};
 
 /// A server by one worker over two files, and what it says.
 static SERVE: Run = Run(
@@ -22,45 +28,37 @@ static SERVE: Run = Run(
 static LIBRARY: &str =
     "GET /buildid/000102030405060708090a0b0c0d0e0f10111213/debuginfo HTTP/1.1\r\n\r\n";
 
-/// A tree in memory, or one whose loads want memory that isn't there.
-#[derive(Drop)]
-struct Poor {
-    tree: MemTree<OpenWorld>,
-    is_poor: bool,
+/// A scan of the two files.
+static SCAN: Run = Run(
+    &["scan", "-d", "m", "-c", "1", "/srv"],
+    b"scan: 2 files, 2 added, 0 replaced, 0 dropped, 0 kept, 1 executables, 1 debuginfo\n",
+    "",
+    0,
+);
+
+/// The store after that scan.
+fn scanned<Rt: Threads + Wait + Sync + Abort>(rt: &Rt, alloc: Global) -> MemStore<OpenWorld> {
+    let doors: Vec<MemDoor> = Vec::new(alloc);
+    let hands = hands(rt, alloc, &Two, 3);
+    let mut around = around(rt, alloc, hands, doors, NoGate, &SOUND, 0);
+    serve(rt, alloc, &mut around, &SCAN, &[]);
+    let Outside { store, .. } = around;
+    store
 }
 
-impl Tree<OpenWorld> for Poor {
-    ghost use Rattle.std.specs.Prelude.{true};
-    ghost use Rattle.tree_trait.specs.MemTree.{tree_shows};
+/// A server on that store whose hands want memory that isn't there: its pass keeps the rows.
+static WANTING: Run = Run(
+    &["serve", "-d", "m", "-c", "1", "-t", "0", "/srv"],
+    b"serving on 8002 with 1 workers\n",
+    "dbgd: out of memory\n",
+    0,
+);
 
-    ghost told = { true };
-
-    ghost shows = { λ p. tree_shows p.tree };
-
-    fn load(&mut self, alloc: Global, path: &str, limit: u64) -> LoadAnswer<OpenWorld> {
-        if self.is_poor {
-            LoadAnswer::OutOfMemory
-        } else {
-            self.tree.load(alloc, path, limit)
-        }
-    }
-
-    fn stat(&mut self, alloc: Global, path: &str) -> StatAnswer {
-        self.tree.stat(alloc, path)
-    }
-
-    fn read_dir(&mut self, alloc: Global, path: &str) -> DirAnswer {
-        self.tree.read_dir(alloc, path)
-    }
-}
-
-/// Four hands, of which the one that serves the door is poor.
-fn poor_at_the_door(rt: &impl Abort, alloc: Global) -> Vec<Poor> {
+/// So many hands that have no memory for any file.
+fn poor(rt: &impl Abort, alloc: Global, count: u64) -> Vec<Crowded> {
     let mut hands = Vec::new(alloc);
-    for place in 0..4 {
-        let tree = hand_of(rt, alloc, &Two, &[]);
-        let is_poor = place == 3;
-        hands.push(Poor { tree, is_poor }).expect(rt, "memory");
+    for _ in 0..count {
+        hands.push(Crowded::NoMemory).expect(rt, "memory");
     }
     hands
 }
@@ -77,10 +75,10 @@ static COUNTERS: &[u8] = b"HTTP/1.1 200 OK\r\nContent-Type: text/plain\r\nConten
     dbgd_requests_total{route=\"debuginfo\",status=\"507\"} 1\n\
     dbgd_requests_total{route=\"other\",status=\"404\"} 1\n\
     dbgd_body_bytes_total 23\n\
-    dbgd_rows_added_total 2\n\
+    dbgd_rows_added_total 0\n\
     dbgd_rows_replaced_total 0\n\
     dbgd_rows_dropped_total 0\n\
-    dbgd_passes_total 1\n";
+    dbgd_passes_total 0\n";
 
 #[test]
 fn a_request_that_wants_memory_ends_nothing_else(rt: HostRuntime) {
@@ -95,9 +93,10 @@ fn a_request_that_wants_memory_ends_nothing_else(rt: HostRuntime) {
         &[wanting.as_str(), "GET /metrics HTTP/1.0\r\n\r\n"],
     );
     let doors = vec![in alloc; door].expect(&rt, "memory");
-    let hands = poor_at_the_door(&rt, alloc);
+    let hands = poor(&rt, alloc, 4);
     let mut server = around(&rt, alloc, hands, doors, NoGate, &SOUND, 0);
-    serve(&rt, alloc, &mut server, &SERVE, &[]);
+    server.store = scanned(&rt, alloc);
+    serve(&rt, alloc, &mut server, &WANTING, &[]);
     for door in &server.doors {
         has_ended(&rt, door, 2);
         is_answered(&rt, door, 0, WANTS);
