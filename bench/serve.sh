@@ -4,6 +4,9 @@
 # requests a second is told; by 4 connections it is to be at least 100 of 100 for the small file and the miss, and 80 for the
 # large one. nginx's logs are off, and each of its connections ends after as many requests as dbgd's do.
 #
+# Then what one hop to another server costs: 14 KB, a miss and 117 MB, beside the direct answer and beside debuginfod's own hop. For
+# the small file the direct answer is to be at least 50 of 100, and the hop no slower than debuginfod's.
+#
 # Then how long the first answer takes after a start on a store of 2,700 files, which a scan filled before, beside a start on an
 # empty store; and what memory an idle server over 18,000 files with paths of 212 bytes takes beyond one over an empty folder: what
 # of it rows and log are, a query of the same store tells, the rest is the listing of the last scan and what the system keeps back.
@@ -113,6 +116,64 @@ else
   kill "$nginx"
   wait "$nginx"
   forget "$nginx"
+fi
+
+# One hop: a server over an empty folder that asks the one with the files, each request on a connection of its own, in turns with a
+# direct request, and with a debuginfod before the same server, whose cache is emptied each time. Milliseconds, medians.
+took() { # URL
+  curl -s -m 60 --noproxy '*' -o /dev/null -w '%{time_total}\n' "$1" | awk '{ printf "%.2f\n", $1 * 1000 }'
+}
+turns() { # FILE URL [COUNT]
+  local turn
+  for ((turn = 0; turn < ${3:-40}; turn++)); do
+    [ -z "${cache:-}" ] || rm -rf "$cache"
+    took "$2"
+  done >"$work/$1"
+}
+hop() { # WHAT TARGET COUNT LEAST
+  local direct own ratio real=
+  turns direct "$back_at$2" "$3"
+  turns own "$at$2" "$3"
+  direct=$(median <"$work/direct") own=$(median <"$work/own")
+  if [ -n "${real_at:-}" ]; then
+    cache=$work/real_cache turns real "$real_at$2" "$3"
+    real=", debuginfod's hop $(median <"$work/real") ms"
+  fi
+  ratio=$(awk -v d="$direct" -v o="$own" 'BEGIN { printf "%d", d * 100 / (o > 0 ? o : 0.01) }')
+  say "$(printf 'one hop, %-7s: %s ms, direct %s ms, ratio %d of 100%s' "$1" "$own" "$direct" "$ratio" "$real")"
+  [ "$ratio" -ge "$4" ] || { say "less than $4 of 100"; failed=1; }
+  if [ "$4" != 0 ] && [ -n "$real" ]; then
+    awk -v o="$own" -v r="$(median <"$work/real")" 'BEGIN { exit !(o <= r) }' || { say "slower than debuginfod's hop"; failed=1; }
+  fi
+}
+mkdir "$work/nothing" "$work/far"
+cp "$work/tree/small" "$work/far/small"
+cp "$work/tree/large" "$work/far/large"
+truncate -s 122683392 "$work/far/large"
+start back -c 4 -t 0 "$work/far" || exit 1
+scanned 1
+back=$server back_at=$at
+if command -v debuginfod >/dev/null; then
+  real_port=$((port + 2)) real_at=http://127.0.0.1:$((port + 2))
+  HOME=$work DEBUGINFOD_CACHE_PATH=$work/real_cache DEBUGINFOD_URLS=$back_at debuginfod -d "$work/real.db" -p "$real_port" -F "$work/nothing" \
+    >"$work/real.out" 2>&1 </dev/null &
+  real=$!
+  children+=("$real")
+  within 200 curl -s -f --noproxy '*' -o /dev/null "$real_at/buildid/$small_id/executable" || { say "debuginfod doesn't answer: its hop is skipped"; real_at=; }
+else
+  say "debuginfod's hop: skipped, it is not installed"
+fi
+start front -c 4 -t 0 --upstream "$back_at" "$work/nothing" || exit 1
+scanned 1
+hop '14 KB' "/buildid/$small_id/executable" 40 50
+hop 'a miss' /buildid/00ff00ff00ff00ff00ff00ff00ff00ff00ff00ff/executable 40 0
+hop '117 MB' "/buildid/$large_id/executable" 5 0
+stop "$server"
+stop "$back"
+if [ -n "${real_at:-}" ]; then
+  kill "$real"
+  wait "$real"
+  forget "$real"
 fi
 
 # Files in folders of a hundred, each third of them an ELF file.

@@ -27,16 +27,18 @@ judge() { # WANTED STATUS OUT ERR WHAT
     differs "${5@Q}: wanted status $1, $(cat "$work/wanted_out" "$work/wanted_err"); got $2, $(cat "$work/out" "$work/err")"
 }
 
-# Words that can't be read, and an option that isn't built yet.
+# Words that can't be read.
 for words in '' 'frobnicate' '--help ident' '-V --version' '--helping' 'ident' 'ident a b' 'sources' 'sources a b' 'section a' 'section a b c' 'scan' \
   'scan -d m usr' 'scan -d m /usr usr' 'scan /usr' 'scan -d m' 'scan -d m /usr -c 0' 'scan -d m -d m /usr' 'query' \
-  'query -d m' 'query -d m 00f' 'query -d m -c 2 00ff' 'serve' 'serve -d m' 'serve -d m -p 0 /usr' 'serve -d m --sources usr /usr' 'trial' 'trial 7 40' 'trial 7 0 1' 'trial 7 40 65'; do
+  'query -d m' 'query -d m 00f' 'query -d m -c 2 00ff' 'serve' 'serve -d m' 'serve -d m -p 0 /usr' 'serve -d m --sources usr /usr' 'serve -d m --upstream h /usr' 'serve -d m --upstream https://h /usr' 'trial' 'trial 7 40' 'trial 7 0 1' 'trial 7 40 65'; do
   # shellcheck disable=SC2086
   ends 2 '' "$usage"$'\n' "$program" $words
 done
 ends 2 '' "$usage"$'\n' "$program" ident $'a\xffb'
 ends 2 '' "$usage"$'\n' "$program" $'ident\xff' a
-ends 8 '' $'dbgd: not built yet\n' "$program" serve -d m --upstream http://h /usr
+for urls in '' 'http://a  http://b' 'http://a ' 'http://a b' 'http://u@a' 'http://a?q' 'http://a#f'; do
+  ends 2 '' "$usage"$'\n' "$program" serve -d m --upstream "$urls" /usr
+done
 
 # Files that are read, and files that aren't there.
 printf 'text\n' >"$work/text"

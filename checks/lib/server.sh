@@ -51,8 +51,8 @@ within() { # TENTHS COMMAND..
 is_up_or_over() { [ -s "$work/$name.out" ] || ! kill -0 "$server"; }
 lines_are() { [ "$(grep -c "$1" "$work/$name.$3")" -ge "$2" ]; }
 
-# Starts a server with these words: sets `name`, `port`, `server` (its process) and `at` (where it answers). A port that is
-# taken is passed over. What it prints is in NAME.out and NAME.err, its store NAME.db.
+# Starts a server with these words, in which @PORT@ is its port: sets `name`, `port`, `server` (its process) and `at` (where it
+# answers). A port that is taken is passed over. What it prints is in NAME.out and NAME.err, its store NAME.db.
 start() { # NAME WORDS..
   local try
   name=$1
@@ -61,7 +61,7 @@ start() { # NAME WORDS..
     port=$((20000 + RANDOM % 12000))
     at=http://127.0.0.1:$port
     : >"$work/$name.out"
-    "$program" serve -d "$work/$name.db" -p "$port" "$@" >"$work/$name.out" 2>"$work/$name.err" </dev/null &
+    "$program" serve -d "$work/$name.db" -p "$port" "${@//@PORT@/$port}" >"$work/$name.out" 2>"$work/$name.err" </dev/null &
     server=$!
     children+=("$server")
     within 300 is_up_or_over || { say "$name: no line after 30 s"; return 1; }

@@ -1,5 +1,7 @@
 -- What follows of each case of the table, a line a case.
-use Rattle.std.proofs.Common.{◌≡◌, ℕ, List, Option, refl}
+use Rattle.std.proofs.Common.{◌≡◌, ℕ, ◌≤◌, inl, inr, true, List, [], Option, Some, None, refl, arith}
+use Rattle.std.proofs.lemmas.Bool.{false≢true}
+use Rattle.std.specs.Prelude.{count_by}
 use Rattle.index_rows.specs.declared.change.Change.{Change}
 use Rattle.tree_trait.specs.Heard.{Heard}
 use Rattle.webapi_routes.specs.declared.fault.RouteFault.{RouteFault}
@@ -10,12 +12,17 @@ use Rattle.answer_core.specs.Local.{IsLocal, Sight}
 use Rattle.answer_core.specs.declared.local.Local.{Local}
 use Rattle.answer_core.specs.declared.local.Local.TheVariants as local
 use Rattle.answer_core.proofs.RowsLemmas.{none_is_there}
+use Rattle.federation.specs.AskAll.{all_heard}
+use Rattle.federation.specs.Heard.{LinkHeard, link_failed}
+use Rattle.federation.specs.declared.asking.Upstream.{Upstream}
 use Rattle.conn_server.specs.Asked.{IsAsked, Request}
 use Rattle.dbgd_metrics.specs.Shares.{ShareFacts}
-use Rattle.conn_server.specs.Cases.{IsCase, IsFileRoute, bad_head, too_long, too_many, method, has_body, no_route, metrics, no_page, passed, read_fault, not_found, no_memory}
-use Rattle.conn_server.specs.Lawful.{Carries, EarnsText, IsEarned, RestsOn}
+use Rattle.conn_server.specs.Cases.{GivesUp, IsCase, IsFileRoute, IsUnfound, bad_head, too_long, too_many, method, has_body, no_route, metrics, no_page}
+use Rattle.conn_server.specs.Cases.{passed, upstream, read_fault, hop_limit, upstream_fault, not_found, no_memory}
+use Rattle.conn_server.specs.Exchange.{LoadFailed}
+use Rattle.conn_server.specs.Lawful.{AsksLinksFor, Carries, EarnsText, IsEarned, RestsOn}
 use Rattle.conn_server.specs.PassedOver.{FindsAll}
-use Rattle.conn_server.specs.Replies.{Shows, reason_of_route}
+use Rattle.conn_server.specs.Replies.{Shows, reason_of_route, says_upstream_fault, status_of}
 use Rattle.conn_server.specs.Scene.{Scene, Stand, hand_at, sight_at}
 use Rattle.conn_server.specs.Sent.{CanCarry}
 use Rattle.conn_server.specs.declared.body.Body.{Body}
@@ -23,16 +30,24 @@ use Rattle.conn_server.specs.declared.reason.Reason.{Reason}
 use Rattle.conn_server.specs.declared.reason.Reason.TheVariants as reason
 use Rattle.conn_server.specs.declared.report.Asked as given
 use Rattle.conn_server.specs.declared.report.Asked.TheVariants as asked
-use Rattle.conn_server.proofs.CarriesLemmas.{carries_local}
+use Rattle.conn_server.proofs.CarriesLemmas.{carries_local, carries_upstream}
 use Rattle.conn_server.proofs.SinceLemmas.{StillTo, local_at}
 
 -- a target that is none of a route is no failed load
-pub no_fault : (fault : RouteFault) → reason_of_route fault ≡ reason.ReadFault → ⊥
-no_fault route_fault.BadEscape e = absurd (cc)
-no_fault route_fault.NoRoute e = absurd (cc)
-no_fault route_fault.BadId e = absurd (cc)
-no_fault route_fault.BadPath e = absurd (cc)
-no_fault route_fault.OutOfMemory e = absurd (cc)
+pub no_fault : (fault : RouteFault) → LoadFailed (reason_of_route fault) [] → ⊥
+no_fault route_fault.BadEscape f = f
+no_fault route_fault.NoRoute f = f
+no_fault route_fault.BadId f = f
+no_fault route_fault.BadPath f = f
+no_fault route_fault.OutOfMemory f = f
+
+-- and no link that failed
+no_link : (fault : RouteFault) → says_upstream_fault (reason_of_route fault) ≡ true → ⊥
+no_link route_fault.BadEscape e = false≢true e
+no_link route_fault.NoRoute e = false≢true e
+no_link route_fault.BadId e = false≢true e
+no_link route_fault.BadPath e = false≢true e
+no_link route_fault.OutOfMemory e = false≢true e
 
 -- the local answer to a route of files
 rests_on : (sight : Sight) (route : Route) (answer : Local) → IsFileRoute route → IsLocal sight route answer
@@ -46,7 +61,8 @@ rests_on sight Metrics answer files rests = absurd files
 module _ {T : Type 0} (scene : Scene T) (at : Stand T) (own noted : ShareFacts) (log : List Change) (request : Request) where
   -- what is carried can be written
   pub can_send : {what : given.Asked} {why : Reason} {n : ℕ} {carried : Body} {answers : List Heard}
-      → IsCase scene at own noted log request what why n carried answers → CanCarry carried
+      {told : Option Upstream}
+      → IsCase scene at own noted log request what why n carried answers told → CanCarry carried
   can_send (bad_head len e) = tt
   can_send (too_long e) = tt
   can_send (too_many e) = tt
@@ -54,33 +70,55 @@ module _ {T : Type 0} (scene : Scene T) (at : Stand T) (own noted : ShareFacts) 
   can_send (has_body head e served body) = tt
   can_send (no_route head fault e taken said) = tt
   can_send (passed head route answer heard e asks file rests is) = is
-  can_send (read_fault head route m heard e asks file rests) = tt
-  can_send (not_found head route m heard e asks file rests) = tt
-  can_send (no_memory head route heard e asks files) = tt
+  can_send (upstream head route answer heard given e asks file rests unfound) = tt
+  can_send (read_fault head route m heard said e asks file rests none) = tt
+  can_send (hop_limit head route m heard e asks file rests) = tt
+  can_send (upstream_fault head route m heard refused failed e asks file rests some) = tt
+  can_send (not_found head route m heard refused e asks file rests) = tt
+  can_send (no_memory head route heard said e asks files gives_up) = tt
   can_send (metrics head text e asks page) = tt
   can_send (no_page head e asks) = tt
 
   -- a body that passed is certified for what is asked
-  pub carries : {what : given.Asked} {why : Reason} {n : ℕ} {carried : Body} {answers : List Heard} (bytes : List ℕ)
-      (file : Option (List ℕ)) → IsCase scene at own noted log request what why n carried answers → Shows why carried bytes file
-      → why ≡ reason.Local → Carries what bytes
-  carries bytes file (bad_head len e) shows is = tt
-  carries bytes file (too_long e) shows is = tt
-  carries bytes file (too_many e) shows is = tt
-  carries bytes file (method head e served) shows is = tt
-  carries bytes file (has_body head e served body) shows is = tt
-  carries bytes file (no_route head fault e taken said) shows is = tt
-  carries bytes file (passed head route answer heard e asks routed rests is_passed) shows is =
+  pub carries : {what : given.Asked} {why : Reason} {n : ℕ} {carried : Body} {answers : List Heard} {told : Option Upstream}
+      (links : ℕ) (parts : List (List LinkHeard)) (bytes : List ℕ) (file : Option (List ℕ))
+      → IsCase scene at own noted log request what why n carried answers told → AsksLinksFor told links request what parts
+      → Shows why carried bytes file → status_of why ≡ 200 → Carries what bytes
+  carries links parts bytes file (bad_head len e) a shows is = tt
+  carries links parts bytes file (too_long e) a shows is = tt
+  carries links parts bytes file (too_many e) a shows is = tt
+  carries links parts bytes file (method head e served) a shows is = tt
+  carries links parts bytes file (has_body head e served body) a shows is = tt
+  carries links parts bytes file (no_route head fault e taken said) a shows is = tt
+  carries links parts bytes file (passed head route answer heard e asks routed rests is_passed) a shows is =
       carries_local (sight_at scene at log heard) route answer reason.Local bytes file rests is_passed shows
-  carries bytes file (read_fault head route m heard e asks routed rests) shows is = absurd (cc)
-  carries bytes file (not_found head route m heard e asks routed rests) shows is = absurd (cc)
-  carries bytes file (no_memory head route heard e asks files) shows is = absurd (cc)
-  carries bytes file (metrics head text e asks page) shows is = absurd (cc)
-  carries bytes file (no_page head e asks) shows is = absurd (cc)
+  carries links parts bytes file (upstream head route answer heard passing e asks routed rests unfound) a shows is =
+      let each = rw e at a in
+      carries_upstream route head.hops parts passing bytes each.tells shows.0
+  carries links parts bytes file (read_fault head route m heard said e asks routed rests none) a shows is = absurd (omega (arith, is))
+  carries links parts bytes file (hop_limit head route m heard e asks routed rests) a shows is = absurd (omega (arith, is))
+  carries links parts bytes file (upstream_fault head route m heard refused failed e asks routed rests some) a shows is =
+      absurd (omega (arith, is))
+  carries links parts bytes file (not_found head route m heard refused e asks routed rests) a shows is = absurd (omega (arith, is))
+  carries links parts bytes file (no_memory head route heard said e asks files gives_up) a shows is = absurd (omega (arith, is))
+  carries links parts bytes file (metrics head text e asks page) a shows is = tt
+  carries links parts bytes file (no_page head e asks) a shows is = tt
+
+  -- before what a link's answer gave
+  found_before : (heard : List Heard) (route : Route) (answer : Local) → IsLocal (sight_at scene at log heard) route answer
+      → IsUnfound answer → FindsAll (sight_at scene at log heard) (asked.Route route) reason.Upstream
+  found_before heard route (local.Nothing m) rests unfound told still =
+      inr (none_is_there (sight_at scene at log heard) route rests.0.all rests.0.stood told still rests.0.are)
+  found_before heard route (local.Fault m) rests unfound told still = inl rests.0.are.failed
+  found_before heard route (local.File from path m) rests unfound told still = absurd unfound
+  found_before heard route (local.Section from path m) rests unfound told still = absurd unfound
+  found_before heard route (local.Source source path m) rests unfound told still = absurd unfound
+  found_before heard route local.OutOfMemory rests unfound told still = absurd unfound
 
   -- no candidate is passed over
   pub finds_all : {what : given.Asked} {why : Reason} {n : ℕ} {carried : Body} {answers : List Heard}
-      → IsCase scene at own noted log request what why n carried answers → FindsAll (sight_at scene at log answers) what why
+      {told : Option Upstream}
+      → IsCase scene at own noted log request what why n carried answers told → FindsAll (sight_at scene at log answers) what why
   finds_all (bad_head len e) told still = tt
   finds_all (too_long e) told still = tt
   finds_all (too_many e) told still = tt
@@ -88,16 +126,23 @@ module _ {T : Type 0} (scene : Scene T) (at : Stand T) (own noted : ShareFacts) 
   finds_all (has_body head e served body) told still = tt
   finds_all (no_route head fault e taken said) told still = tt
   finds_all (passed head route answer heard e asks file rests is) told still = tt
-  finds_all (read_fault head route m heard e asks file rests) told still = tt
-  finds_all (not_found head route m heard e asks file rests) told still =
+  finds_all (upstream head route answer heard given e asks file rests unfound) told still =
+      found_before heard route answer rests unfound told still
+  finds_all (read_fault head route m heard said e asks file rests none) told still = tt
+  finds_all (hop_limit head route m heard e asks file rests) told still =
       none_is_there (sight_at scene at log heard) route rests.0.all rests.0.stood told still rests.0.are
-  finds_all (no_memory head route heard e asks files) told still = tt
+  finds_all (upstream_fault head route m heard refused failed e asks file rests some) told still =
+      none_is_there (sight_at scene at log heard) route rests.0.all rests.0.stood told still rests.0.are
+  finds_all (not_found head route m heard refused e asks file rests) told still =
+      none_is_there (sight_at scene at log heard) route rests.0.all rests.0.stood told still rests.0.are
+  finds_all (no_memory head route heard said e asks files gives_up) told still = tt
   finds_all (metrics head text e asks page) told still = tt
   finds_all (no_page head e asks) told still = tt
 
   -- what is asked is what the request asks
   pub asked_of : {what : given.Asked} {why : Reason} {n : ℕ} {carried : Body} {answers : List Heard}
-      → IsCase scene at own noted log request what why n carried answers → IsAsked request what
+      {told : Option Upstream}
+      → IsCase scene at own noted log request what why n carried answers told → IsAsked request what
   asked_of (bad_head len e) = rw e refl
   asked_of (too_long e) = rw e refl
   asked_of (too_many e) = rw e refl
@@ -105,22 +150,56 @@ module _ {T : Type 0} (scene : Scene T) (at : Stand T) (own noted : ShareFacts) 
   asked_of (has_body head e served body) = rw e (served, body)
   asked_of (no_route head fault e taken said) = rw e (taken, said)
   asked_of (passed head route answer heard e asks file rests is) = rw e (asks.taken, asks.says)
-  asked_of (read_fault head route m heard e asks file rests) = rw e (asks.taken, asks.says)
-  asked_of (not_found head route m heard e asks file rests) = rw e (asks.taken, asks.says)
-  asked_of (no_memory head route heard e asks files) = rw e (asks.taken, asks.says)
+  asked_of (upstream head route answer heard given e asks file rests unfound) = rw e (asks.taken, asks.says)
+  asked_of (read_fault head route m heard said e asks file rests none) = rw e (asks.taken, asks.says)
+  asked_of (hop_limit head route m heard e asks file rests) = rw e (asks.taken, asks.says)
+  asked_of (upstream_fault head route m heard refused failed e asks file rests some) = rw e (asks.taken, asks.says)
+  asked_of (not_found head route m heard refused e asks file rests) = rw e (asks.taken, asks.says)
+  asked_of (no_memory head route heard said e asks files gives_up) = rw e (asks.taken, asks.says)
   asked_of (metrics head text e asks page) = rw e (asks.taken, asks.says)
   asked_of (no_page head e asks) = rw e (asks.taken, asks.says)
 
-  earns_fault : (fault : RouteFault) → EarnsText (asked.NotRoute fault) local.OutOfMemory (reason_of_route fault) 0
+  -- where the reply says that a link failed, one did
+  pub a_link_failed : {what : given.Asked} {why : Reason} {n : ℕ} {carried : Body} {answers : List Heard} {told : Option Upstream}
+      (links : ℕ) (parts : List (List LinkHeard)) → IsCase scene at own noted log request what why n carried answers told
+      → AsksLinksFor told links request what parts → says_upstream_fault why ≡ true → 1 ≤ count_by link_failed (all_heard parts)
+  a_link_failed links parts (bad_head len e) a is = absurd (false≢true is)
+  a_link_failed links parts (too_long e) a is = absurd (false≢true is)
+  a_link_failed links parts (too_many e) a is = absurd (false≢true is)
+  a_link_failed links parts (method head e served) a is = absurd (false≢true is)
+  a_link_failed links parts (has_body head e served body) a is = absurd (false≢true is)
+  a_link_failed links parts (no_route head fault e taken said) a is = absurd (no_link fault is)
+  a_link_failed links parts (passed head route answer heard e asks file rests found) a is = absurd (false≢true is)
+  a_link_failed links parts (upstream head route answer heard given e asks file rests unfound) a is = absurd (false≢true is)
+  a_link_failed links parts (read_fault head route m heard said e asks file rests none) a is = absurd (false≢true is)
+  a_link_failed links parts (hop_limit head route m heard e asks file rests) a is = absurd (false≢true is)
+  a_link_failed links parts (upstream_fault head route m heard refused failed e asks file rests some) a is =
+      let each = rw e at a in
+      let counted = each.tells.3 in
+      omega (arith, counted, some)
+  a_link_failed links parts (not_found head route m heard refused e asks file rests) a is = absurd (false≢true is)
+  a_link_failed links parts (no_memory head route heard said e asks files gives_up) a is = absurd (false≢true is)
+  a_link_failed links parts (metrics head text e asks page) a is = absurd (false≢true is)
+  a_link_failed links parts (no_page head e asks) a is = absurd (false≢true is)
+
+  earns_fault : (fault : RouteFault) → EarnsText (asked.NotRoute fault) local.OutOfMemory None (reason_of_route fault) 0
   earns_fault route_fault.BadEscape = refl
   earns_fault route_fault.NoRoute = refl
   earns_fault route_fault.BadId = refl
   earns_fault route_fault.BadPath = refl
   earns_fault route_fault.OutOfMemory = refl
 
+  -- memory was refused before the links were to be asked, or as they were
+  earns_memory : (route : Route) (told : Option Upstream) → GivesUp told
+      → EarnsText (asked.Route route) local.OutOfMemory told reason.OutOfMemory 0
+  earns_memory route None gives_up = (refl, refl, gives_up)
+  earns_memory route (Some said) gives_up = (refl, refl, gives_up)
+
   -- the local answer earns it, or the own share does
   pub earned_of : {what : given.Asked} {why : Reason} {n : ℕ} {carried : Body} {answers : List Heard}
-      → IsCase scene at own noted log request what why n carried answers → IsEarned scene.rows own noted (sight_at scene at log answers) what why carried n
+      {told : Option Upstream}
+      → IsCase scene at own noted log request what why n carried answers told
+      → IsEarned scene.rows own noted (sight_at scene at log answers) told what why carried n
   earned_of (bad_head len e) = record { answer = local.OutOfMemory; rests = refl; earns = refl }
   earned_of (too_long e) = record { answer = local.OutOfMemory; rests = refl; earns = refl }
   earned_of (too_many e) = record { answer = local.OutOfMemory; rests = refl; earns = refl }
@@ -133,29 +212,50 @@ module _ {T : Type 0} (scene : Scene T) (at : Stand T) (own noted : ShareFacts) 
   earned_of (passed head route answer heard e asks file rests is) = record {
     answer = answer;
     rests = rests_on (sight_at scene at log heard) route answer file rests;
-    earns = record { files = file; local = refl; is = is; answered = refl; at = refl };
+    earns = record { files = file; local = refl; is = is; answered = refl; unasked = refl; at = refl };
   }
-  earned_of (read_fault head route m heard e asks file rests) =
-      record { answer = local.Fault m; rests = rests_on (sight_at scene at log heard) route (local.Fault m) file rests; earns = (file, refl) }
-  earned_of (not_found head route m heard e asks file rests) =
-      record { answer = local.Nothing m; rests = rests_on (sight_at scene at log heard) route (local.Nothing m) file rests; earns = (file, refl) }
-  earned_of (no_memory head route heard e asks files) = record {
+  earned_of (upstream head route answer heard given e asks file rests unfound) = record {
+    answer = answer;
+    rests = rests_on (sight_at scene at log heard) route answer file rests;
+    earns = record { files = file; upstream = refl; unfound = unfound; gives = refl; at = refl };
+  }
+  earned_of (read_fault head route m heard said e asks file rests none) = record {
+    answer = local.Fault m;
+    rests = rests_on (sight_at scene at log heard) route (local.Fault m) file rests;
+    earns = (file, refl, none);
+  }
+  earned_of (hop_limit head route m heard e asks file rests) = record {
+    answer = local.Nothing m;
+    rests = rests_on (sight_at scene at log heard) route (local.Nothing m) file rests;
+    earns = (file, refl);
+  }
+  earned_of (upstream_fault head route m heard refused failed e asks file rests some) = record {
+    answer = local.Nothing m;
+    rests = rests_on (sight_at scene at log heard) route (local.Nothing m) file rests;
+    earns = (file, refl, some);
+  }
+  earned_of (not_found head route m heard refused e asks file rests) = record {
+    answer = local.Nothing m;
+    rests = rests_on (sight_at scene at log heard) route (local.Nothing m) file rests;
+    earns = (file, refl, refl);
+  }
+  earned_of (no_memory head route heard said e asks files gives_up) = record {
     answer = local.OutOfMemory;
     rests = rests_on (sight_at scene at log heard) route local.OutOfMemory files tt;
-    earns = (refl, refl);
+    earns = earns_memory route said gives_up;
   }
   earned_of (metrics head text e asks page) = record {
     answer = local.OutOfMemory;
     rests = refl;
     earns = record { asks = refl; page = refl; at = refl; is = page };
   }
-  earned_of (no_page head e asks) = record { answer = local.OutOfMemory; rests = refl; earns = (refl, refl) }
+  earned_of (no_page head e asks) = record { answer = local.OutOfMemory; rests = refl; earns = (refl, refl, tt) }
 
 -- the same case, as seen from an earlier stand
 pub case_at : {T : Type 0} (scene : Scene T) (a b : Stand T) → StillTo (hand_at scene a) (scene.shows b.hand)
     → (log : List Change) {own noted : ShareFacts} {request : Request} {what : given.Asked} {why : Reason} {n : ℕ} {carried : Body}
-    {answers : List Heard} → IsCase scene b own noted log request what why n carried answers
-    → IsCase scene a own noted log request what why n carried answers
+    {answers : List Heard} {told : Option Upstream} → IsCase scene b own noted log request what why n carried answers told
+    → IsCase scene a own noted log request what why n carried answers told
 case_at scene a b keeps log (bad_head len e) = bad_head len e
 case_at scene a b keeps log (too_long e) = too_long e
 case_at scene a b keeps log (too_many e) = too_many e
@@ -164,11 +264,17 @@ case_at scene a b keeps log (has_body head e served body) = has_body head e serv
 case_at scene a b keeps log (no_route head fault e taken said) = no_route head fault e taken said
 case_at scene a b keeps log (passed head route answer heard e asks file rests is) =
     passed head route answer heard e asks file (local_at scene a b keeps log heard route answer rests) is
-case_at scene a b keeps log (read_fault head route m heard e asks file rests) =
-    read_fault head route m heard e asks file (local_at scene a b keeps log heard route (local.Fault m) rests)
-case_at scene a b keeps log (not_found head route m heard e asks file rests) =
-    not_found head route m heard e asks file (local_at scene a b keeps log heard route (local.Nothing m) rests)
-case_at scene a b keeps log (no_memory head route heard e asks files) =
-    no_memory head route heard e asks files
+case_at scene a b keeps log (upstream head route answer heard given e asks file rests unfound) =
+    upstream head route answer heard given e asks file (local_at scene a b keeps log heard route answer rests) unfound
+case_at scene a b keeps log (read_fault head route m heard said e asks file rests none) =
+    read_fault head route m heard said e asks file (local_at scene a b keeps log heard route (local.Fault m) rests) none
+case_at scene a b keeps log (hop_limit head route m heard e asks file rests) =
+    hop_limit head route m heard e asks file (local_at scene a b keeps log heard route (local.Nothing m) rests)
+case_at scene a b keeps log (upstream_fault head route m heard refused failed e asks file rests some) =
+    upstream_fault head route m heard refused failed e asks file (local_at scene a b keeps log heard route (local.Nothing m) rests) some
+case_at scene a b keeps log (not_found head route m heard refused e asks file rests) =
+    not_found head route m heard refused e asks file (local_at scene a b keeps log heard route (local.Nothing m) rests)
+case_at scene a b keeps log (no_memory head route heard said e asks files gives_up) =
+    no_memory head route heard said e asks files gives_up
 case_at scene a b keeps log (metrics head text e asks page) = metrics head text e asks page
 case_at scene a b keeps log (no_page head e asks) = no_page head e asks

@@ -1,18 +1,33 @@
--- What is decided for a route by the local answer, or by the page of the counters.
-use Rattle.std.proofs.Common.{◌≢◌, [], Result, Ok, Err, IfOk, refl}
-use Rattle.std.specs.Prelude.{String, string_bytes}
+-- What is decided for a route by the local answer and the links, or by the page of the counters.
+use Rattle.std.proofs.Common.{◌≡◌, ◌≢◌, ℕ, ◌<◌, Bool, true, false, inl, [], length, Some, None, Result, Ok, Err, IfOk, refl, sym, ◌∙◌, subst, arith}
+use Rattle.std.specs.Prelude.{◌==◌, String, string_bytes, if◌then◌else◌}
 use Rattle.std.specs.Global.{Global}
+use Rattle.std.proofs.lemmas.Bool.{false≢true}
+use Rattle.std.proofs.lemmas.Bool.Decides.{nat_tests}
 use Rattle.webapi_routes.specs.declared.route.Route.{Route}
 use Rattle.webapi_routes.specs.declared.route.Route.TheVariants.{Debuginfo, Executable, Source, Section, Metrics}
-use Rattle.answer_core.specs.Local.{AnswersRoute}
+use Rattle.answer_check.specs.declared.passed.Passed.TheVariants as passing
+use Rattle.answer_core.specs.Local.{AnswersRoute, IsFault}
 use Rattle.answer_core.specs.declared.local.Local.{Local}
 use Rattle.answer_core.specs.declared.local.Local.TheVariants as local
 use Rattle.answer_core.proofs.HearLemmas.{hears_as, hears_none}
 use Rattle.dbgd_metrics.specs.Shares.{ShareFacts}
 use Rattle.dbgd_metrics.specs.Totals.{IsPage, OnlyNotes}
-use Rattle.conn_server.specs.Cases.{IsFileRoute, metrics, no_page, passed, read_fault, not_found, no_memory}
-use Rattle.conn_server.specs.Decided.{DecidesRoute, by_local, by_page}
+use Rattle.federation.specs.AskAll.{AsksLinks}
+use Rattle.federation.specs.declared.asking.Upstream.{Upstream}
+use Rattle.federation.specs.declared.asking.Upstream.TheVariants as told
+use Rattle.conn_server.specs.Asked.{AsksForRoute, HeadFacts, readable}
+use Rattle.conn_server.specs.Cases.{IsCase, IsFileRoute, metrics, no_page, passed, upstream, read_fault, hop_limit, upstream_fault, not_found, no_memory}
+use Rattle.conn_server.specs.Decided.{Decides, DecidesRoute, FollowsLocal, by_links, by_page, for_route, plain}
+use Rattle.conn_server.specs.Exchange.{LoadFailed}
+use Rattle.conn_server.specs.Lawful.{AsksLinksFor}
+use Rattle.conn_server.specs.Links.{AsksEachLink, LinksHear}
 use Rattle.conn_server.specs.Scene.{Scene, Stand, hand_at, with_share}
+use Rattle.conn_server.specs.declared.body.Body.TheVariants as bodies
+use Rattle.conn_server.specs.declared.decide.Decided.{Decided}
+use Rattle.conn_server.specs.declared.reason.Reason.TheVariants as reason
+use Rattle.conn_server.specs.declared.report.Asked.TheVariants as asked
+use Rattle.conn_server.proofs.LinksLemmas.{asks_each, links_none}
 
 is_file : (route : Route) → route ≢ Metrics → IsFileRoute route
 is_file (Debuginfo id) other = tt
@@ -21,60 +36,171 @@ is_file (Section id name) other = tt
 is_file (Source id path) other = tt
 is_file Metrics other = absurd (other refl)
 
-pub decides_local : {T : Type 0} (scene : Scene T) (a b : Stand T) (route : Route) (answer : Local) → route ≢ Metrics
-    → OnlyNotes a.share b.share
-    → AnswersRoute scene.true_row b.log scene.folders (hand_at scene a) route answer (scene.shows b.hand)
-    → DecidesRoute scene a route (by_local route answer) b
-decides_local scene a b route (local.File from path n) other notes given head asks = record {
-  answers = given.answers;
-  hears = hears_as (λ e. absurd (cc)) given.hears;
-  notes = notes;
-  is = passed head route (local.File from path n) given.answers refl asks (is_file route other) given.says tt;
-}
-decides_local scene a b route (local.Section from path n) other notes given head asks = record {
-  answers = given.answers;
-  hears = hears_as (λ e. absurd (cc)) given.hears;
-  notes = notes;
-  is = passed head route (local.Section from path n) given.answers refl asks (is_file route other) given.says tt;
-}
-decides_local scene a b route (local.Source bytes path n) other notes given head asks = record {
-  answers = given.answers;
-  hears = hears_as (λ e. absurd (cc)) given.hears;
-  notes = notes;
-  is = passed head route (local.Source bytes path n) given.answers refl asks (is_file route other) given.says tt;
-}
-decides_local scene a b route (local.Nothing n) other notes given head asks = record {
-  answers = given.answers;
-  hears = hears_as (λ e. absurd (cc)) given.hears;
-  notes = notes;
-  is = not_found head route n given.answers refl asks (is_file route other) given.says;
-}
-decides_local scene a b route (local.Fault n) other notes given head asks = record {
-  answers = given.answers;
-  hears = hears_as (λ e. tt) given.hears;
-  notes = notes;
-  is = read_fault head route n given.answers refl asks (is_file route other) given.says;
-}
-decides_local scene a b route local.OutOfMemory other notes given head asks = record {
-  answers = given.answers;
-  hears = hears_as (λ e. absurd (cc)) given.hears;
-  notes = notes;
-  is = no_memory head route given.answers refl asks (is_file route other);
-}
+-- where the links are asked for a route behind the local answer, or aren't
+module _ {T : Type 0} (scene : Scene T) (a b : Stand T) (route : Route) (other : route ≢ Metrics)
+    (notes : OnlyNotes a.share b.share) where
+  -- no link is asked
+  unasked : (answer : Local) (decided : Decided) (head : HeadFacts)
+      → (given : AnswersRoute scene.true_row b.log scene.folders (hand_at scene a) route answer (scene.shows b.hand))
+      → (LoadFailed decided.reason given.answers → IsFault answer) → b.links ≡ a.links
+      → IsCase scene a a.share b.share b.log (readable head) decided.asked decided.reason decided.generation decided.body given.answers None
+      → Decides scene a (readable head) decided b
+  unasked answer decided head given fails same case_ = record {
+    answers = given.answers;
+    parts = [];
+    told = None;
+    hears = hears_as fails given.hears;
+    links = subst (λ links. LinksHear a.links [] links) (sym same) (links_none a.links);
+    asks = refl;
+    notes = notes;
+    is = case_;
+  }
 
--- by the page of the counters, for which the hand isn't asked
-pub decides_page : {T E : Type 0} (scene : Scene T) (a : Stand T) (later : ShareFacts) (page : Result (String Global) E)
+  -- what passed here is sent
+  found : (answer : Local) (n : ℕ) (head : HeadFacts)
+      → (given : AnswersRoute scene.true_row b.log scene.folders (hand_at scene a) route answer (scene.shows b.hand))
+      → (decided : Decided) → decided ≡ for_route route reason.Local n (bodies.Found answer) → b.links ≡ a.links
+      → IsCase scene a a.share b.share b.log (readable head) (asked.Route route) reason.Local n (bodies.Found answer) given.answers None
+      → Decides scene a (readable head) decided b
+  found answer n head given decided is same case_ =
+      subst (λ (d : Decided). Decides scene a (readable head) d b) (sym is)
+      (unasked answer (for_route route reason.Local n (bodies.Found answer)) head given (λ f. absurd f) same case_)
+
+  -- the links are asked, and this is told of them
+  asked_them : (answer : Local) (decided : Decided) (hops : ℕ) (head : HeadFacts)
+      → (given : AnswersRoute scene.true_row b.log scene.folders (hand_at scene a) route answer (scene.shows b.hand))
+      → (said : Upstream) → AsksLinks a.links route hops b.links said → head.hops ≡ hops → decided.asked ≡ asked.Route route
+      → (LoadFailed decided.reason given.answers → IsFault answer)
+      → IsCase scene a a.share b.share b.log (readable head) decided.asked decided.reason decided.generation decided.body given.answers (Some said)
+      → Decides scene a (readable head) decided b
+  asked_them answer decided hops head given said asks same_hops what fails case_ =
+      let each = asks_each a.links b.links route hops said asks in
+      record {
+        answers = given.answers;
+        parts = asks.parts;
+        told = Some said;
+        hears = hears_as fails given.hears;
+        links = inl asks.hears;
+        asks = subst (λ w. AsksLinksFor (Some said) (length a.links) (readable head) w asks.parts) (sym what)
+            (subst (λ (h : ℕ). AsksEachLink (length a.links) route h asks.parts said) (sym same_hops) each);
+        notes = notes;
+        is = case_;
+      }
+
+  -- of what was told, where no candidate passed and no load failed
+  module _ (n hops : ℕ) (head : HeadFacts) (asks : AsksForRoute head route) (same_hops : head.hops ≡ hops)
+      (given : AnswersRoute scene.true_row b.log scene.folders (hand_at scene a) route (local.Nothing n) (scene.shows b.hand)) where
+    none_failed : LoadFailed reason.Upstream given.answers → ⊥
+    none_failed failed = false≢true (sym given.says.0.are.failed ∙ failed)
+
+    behind_nothing : (said : Upstream) → AsksLinks a.links route hops b.links said
+        → Decides scene a (readable head) (by_links route n false said) b
+    behind_nothing (told.File file) links =
+        asked_them (local.Nothing n) (by_links route n false (told.File file)) hops head given (told.File file) links same_hops refl
+        none_failed (upstream head route (local.Nothing n) given.answers (passing.File file) refl asks (is_file route other) given.says tt)
+    behind_nothing (told.Section section) links =
+        asked_them (local.Nothing n) (by_links route n false (told.Section section)) hops head given (told.Section section) links
+        same_hops refl none_failed
+        (upstream head route (local.Nothing n) given.answers (passing.Section section) refl asks (is_file route other) given.says tt)
+    behind_nothing (told.Source bytes) links =
+        asked_them (local.Nothing n) (by_links route n false (told.Source bytes)) hops head given (told.Source bytes) links same_hops
+        refl none_failed
+        (upstream head route (local.Nothing n) given.answers (passing.Source bytes) refl asks (is_file route other) given.says tt)
+    behind_nothing told.HopLimit links =
+        asked_them (local.Nothing n) (by_links route n false told.HopLimit) hops head given told.HopLimit links same_hops refl
+        (λ f. f) (hop_limit head route n given.answers refl asks (is_file route other) given.says)
+    behind_nothing told.OutOfMemory links =
+        asked_them (local.Nothing n) (by_links route n false told.OutOfMemory) hops head given told.OutOfMemory links same_hops refl
+        (λ f. f) (no_memory head route given.answers (Some told.OutOfMemory) refl asks (is_file route other) tt)
+    behind_nothing (told.Nobody refused failed) links = by_count (failed == 0) refl
+      where
+        by_count : (is : Bool) → (failed == 0) ≡ is
+            → Decides scene a (readable head)
+            (for_route route (if is then reason.NotFound else reason.UpstreamFault) n bodies.Line) b
+        by_count true e =
+            let zero : failed ≡ 0 = grind (arith, nat_tests, e) in
+            asked_them (local.Nothing n) (for_route route reason.NotFound n bodies.Line) hops head given (told.Nobody refused failed)
+            links same_hops refl (λ f. f)
+            (subst (λ (count : ℕ). IsCase scene a a.share b.share b.log (readable head) (asked.Route route) reason.NotFound n bodies.Line
+            given.answers (Some (told.Nobody refused count))) (sym zero)
+            (not_found head route n given.answers refused refl asks (is_file route other) given.says))
+        by_count false e =
+            let some : 0 < failed = grind (arith, nat_tests, e) in
+            asked_them (local.Nothing n) (for_route route reason.UpstreamFault n bodies.Line) hops head given
+            (told.Nobody refused failed) links same_hops refl (λ f. f)
+            (upstream_fault head route n given.answers refused failed refl asks (is_file route other) given.says some)
+
+  -- and where a load failed
+  module _ (n hops : ℕ) (head : HeadFacts) (asks : AsksForRoute head route) (same_hops : head.hops ≡ hops)
+      (given : AnswersRoute scene.true_row b.log scene.folders (hand_at scene a) route (local.Fault n) (scene.shows b.hand)) where
+    behind_fault : (said : Upstream) → AsksLinks a.links route hops b.links said
+        → Decides scene a (readable head) (by_links route n true said) b
+    behind_fault (told.File file) links =
+        asked_them (local.Fault n) (by_links route n true (told.File file)) hops head given (told.File file) links same_hops refl
+        (λ f. tt) (upstream head route (local.Fault n) given.answers (passing.File file) refl asks (is_file route other) given.says tt)
+    behind_fault (told.Section section) links =
+        asked_them (local.Fault n) (by_links route n true (told.Section section)) hops head given (told.Section section) links
+        same_hops refl (λ f. tt)
+        (upstream head route (local.Fault n) given.answers (passing.Section section) refl asks (is_file route other) given.says tt)
+    behind_fault (told.Source bytes) links =
+        asked_them (local.Fault n) (by_links route n true (told.Source bytes)) hops head given (told.Source bytes) links same_hops
+        refl (λ f. tt)
+        (upstream head route (local.Fault n) given.answers (passing.Source bytes) refl asks (is_file route other) given.says tt)
+    behind_fault told.HopLimit links =
+        asked_them (local.Fault n) (by_links route n true told.HopLimit) hops head given told.HopLimit links same_hops refl (λ f. tt)
+        (read_fault head route n given.answers told.HopLimit refl asks (is_file route other) given.says tt)
+    behind_fault told.OutOfMemory links =
+        asked_them (local.Fault n) (by_links route n true told.OutOfMemory) hops head given told.OutOfMemory links same_hops refl
+        (λ f. tt) (no_memory head route given.answers (Some told.OutOfMemory) refl asks (is_file route other) tt)
+    behind_fault (told.Nobody refused failed) links =
+        asked_them (local.Fault n) (by_links route n true (told.Nobody refused failed)) hops head given (told.Nobody refused failed)
+        links same_hops refl (λ f. tt)
+        (read_fault head route n given.answers (told.Nobody refused failed) refl asks (is_file route other) given.says tt)
+
+  pub decides_local : (answer : Local) (hops : ℕ) (decided : Decided)
+      → AnswersRoute scene.true_row b.log scene.folders (hand_at scene a) route answer (scene.shows b.hand)
+      → FollowsLocal a.links route hops answer decided b.links → DecidesRoute scene a route hops decided b
+  decides_local (local.File from path n) hops decided given follows head asks same_hops =
+      found (local.File from path n) n head given decided follows.0 follows.1
+      (passed head route (local.File from path n) given.answers refl asks (is_file route other) given.says tt)
+  decides_local (local.Section from path n) hops decided given follows head asks same_hops =
+      found (local.Section from path n) n head given decided follows.0 follows.1
+      (passed head route (local.Section from path n) given.answers refl asks (is_file route other) given.says tt)
+  decides_local (local.Source bytes path n) hops decided given follows head asks same_hops =
+      found (local.Source bytes path n) n head given decided follows.0 follows.1
+      (passed head route (local.Source bytes path n) given.answers refl asks (is_file route other) given.says tt)
+  decides_local (local.Nothing n) hops decided given follows head asks same_hops =
+      subst (λ (d : Decided). Decides scene a (readable head) d b) (sym follows.by)
+      (behind_nothing n hops head asks same_hops given follows.told follows.asks)
+  decides_local (local.Fault n) hops decided given follows head asks same_hops =
+      subst (λ (d : Decided). Decides scene a (readable head) d b) (sym follows.by)
+      (behind_fault n hops head asks same_hops given follows.told follows.asks)
+  decides_local local.OutOfMemory hops decided given follows head asks same_hops =
+      subst (λ (d : Decided). Decides scene a (readable head) d b) (sym follows.0)
+      (unasked local.OutOfMemory (plain (asked.Route route) reason.OutOfMemory) head given (λ f. absurd f) follows.1
+      (no_memory head route given.answers None refl asks (is_file route other) tt))
+
+-- by the page of the counters, for which neither the hand nor a link is asked
+pub decides_page : {T E : Type 0} (scene : Scene T) (a : Stand T) (later : ShareFacts) (page : Result (String Global) E) (hops : ℕ)
     → OnlyNotes a.share later → IfOk page (λ text. IsPage scene.rows a.share later (string_bytes text))
-    → DecidesRoute scene a Metrics (by_page page) (with_share a later)
-decides_page scene a later (Ok text) notes is head asks = record {
+    → DecidesRoute scene a Metrics hops (by_page page) (with_share a later)
+decides_page scene a later (Ok text) hops notes is head asks same_hops = record {
   answers = [];
-  hears = hears_as (λ e. absurd (cc)) (hears_none (hand_at scene a));
+  parts = [];
+  told = None;
+  hears = hears_as (λ f. absurd f) (hears_none (hand_at scene a));
+  links = links_none a.links;
+  asks = refl;
   notes = notes;
   is = metrics head text refl asks is;
 }
-decides_page scene a later (Err fault) notes is head asks = record {
+decides_page scene a later (Err fault) hops notes is head asks same_hops = record {
   answers = [];
-  hears = hears_as (λ e. absurd (cc)) (hears_none (hand_at scene a));
+  parts = [];
+  told = None;
+  hears = hears_as (λ f. absurd f) (hears_none (hand_at scene a));
+  links = links_none a.links;
+  asks = refl;
   notes = notes;
   is = no_page head refl asks;
 }

@@ -1,5 +1,5 @@
 -- The connections of a door, one after the other.
-use Rattle.std.proofs.Common.{◌≡◌, ℕ, ◌+◌, ◌≤◌, List, [], ◌∷◌, ◌++◌, map, Option, Some, None, refl, sym, ◌∙◌, ap, subst, append_assoc, append-nil, arith, cond}
+use Rattle.std.proofs.Common.{◌≡◌, ℕ, ◌+◌, ◌≤◌, List, inr, [], ◌∷◌, ◌++◌, map, length, Option, Some, None, refl, sym, ◌∙◌, ap, subst, append_assoc, append-nil, arith, cond}
 use Rattle.std.proofs.lemmas.Bool.{false≢true}
 use Rattle.std.proofs.lemmas.Grind.{flat_map-append}
 use Rattle.std.proofs.lemmas.List.{map-append}
@@ -19,11 +19,13 @@ use Rattle.http_wire.specs.declared.door.DoorAnswer.TheVariants.{Came}
 use Rattle.http_wire.specs.declared.door.DoorSaid.TheVariants as said
 use Rattle.answer_core.specs.Loads.{Hears}
 use Rattle.answer_core.proofs.HearLemmas.{hears_none}
-use Rattle.conn_server.specs.Connection.{AreExchanges, LogsGrow, Serves, is_last_request}
+use Rattle.federation.specs.Heard.{LinkHeard}
+use Rattle.conn_server.specs.Connection.{AreExchanges, LogsGrow, Serves, is_last_request, links_heard}
 use Rattle.conn_server.specs.Tallied.{TalliesServed}
-use Rattle.conn_server.specs.Doors.{AreVisits, ServesDoor, ServesVisits, TakesNobody, TakesVisit, Visit, all_exchanges, another, nobody, said_at, visit_answers}
+use Rattle.conn_server.specs.Doors.{AreVisits, ServesDoor, ServesVisits, TakesNobody, TakesVisit, Visit, all_exchanges, another, nobody, said_at, visit_answers, visit_parts}
 use Rattle.conn_server.specs.Exchange.{Exchange}
-use Rattle.conn_server.specs.Replies.{says_read_fault}
+use Rattle.conn_server.specs.Links.{HeardFor, LinksFailed, LinksHear, all_parts, both_parts}
+use Rattle.conn_server.specs.Replies.{says_read_fault, says_upstream_fault}
 use Rattle.conn_server.specs.Scene.{Scene, Stand, hand_at}
 use Rattle.conn_server.specs.declared.door.DoorEnd.{DoorEnd}
 use Rattle.conn_server.specs.declared.door.DoorEnd.TheVariants as end
@@ -31,6 +33,7 @@ use Rattle.conn_server.specs.declared.report.ConnReport.{ConnReport}
 use Rattle.conn_server.specs.declared.report.Served.{Served}
 use Rattle.conn_server.proofs.CountLemmas.{notes_none, tallies_append, tallies_notes}
 use Rattle.conn_server.proofs.JoinLemmas.{exchange_at, hears_append}
+use Rattle.conn_server.proofs.LinksLemmas.{all_more, failed_then, links_none, links_then, same_links}
 use Rattle.conn_server.proofs.SinceLemmas.{StillTo}
 
 -- Lists that are told
@@ -69,11 +72,11 @@ logs_append first log after [] ys one two = logs_earlier first log after ys one 
 logs_append first log after (x ∷ xs) ys one two = (one.0, logs_append x.log log after xs ys one.1 two)
 
 -- exchanges, as seen from an earlier moment
-exchanges_at : {T : Type 0} (scene : Scene T) (a b : Stand T) → StillTo (hand_at scene a) (scene.shows b.hand) → (place : ℕ)
-    (xs : List Exchange) → AreExchanges scene b place xs → AreExchanges scene a place xs
-exchanges_at scene a b keeps place [] are = tt
-exchanges_at scene a b keeps place (x ∷ xs) are =
-    (exchange_at scene (is_last_request place) a b x keeps are.0, exchanges_at scene a b keeps (place + 1) xs are.1)
+exchanges_at : {T : Type 0} (scene : Scene T) (a b : Stand T) → StillTo (hand_at scene a) (scene.shows b.hand)
+    → length b.links ≡ length a.links → (place : ℕ) (xs : List Exchange) → AreExchanges scene b place xs → AreExchanges scene a place xs
+exchanges_at scene a b keeps same place [] are = tt
+exchanges_at scene a b keeps same place (x ∷ xs) are =
+    (exchange_at scene (is_last_request place) a b x keeps same are.0, exchanges_at scene a b keeps same (place + 1) xs are.1)
 
 visits_more : {T : Type 0} (scene : Scene T) (a : Stand T) (visits : List Visit) (one : Visit) → AreVisits scene a visits
     → AreExchanges scene a 0 one.xs → AreVisits scene a (visits ++ one ∷ [])
@@ -93,7 +96,9 @@ visits_none scene a door = record {
   are = tt;
   logs = prefix_self a.log;
   hears = hears_none (hand_at scene a);
+  asks = links_none a.links;
   failed = omega arith;
+  links_failed = inr (omega arith);
   tallies = tallies_notes a.share a.share (notes_none a.share);
 }
 
@@ -118,7 +123,8 @@ visits_then scene a b c before mid after some next =
       faults = omega (arith, early, late);
       are = visits_more scene a some.visits one some.are
           (subst (λ (xs : List Exchange). AreExchanges scene a 0 xs) (sym next.is.are)
-          (exchanges_at scene a b (λ still. some.hears.hands.still still) 0 next.is.serves.2.xs flat.are));
+          (exchanges_at scene a b (λ still. some.hears.hands.still still)
+          (same_links a.links b.links (all_parts (map visit_parts some.visits)) some.asks) 0 next.is.serves.2.xs flat.are));
       logs = subst (λ (xs : List Exchange). LogsGrow a.log xs c.log) (flat_last (λ v. v.xs) some.visits one)
           (logs_append a.log b.log c.log (all_exchanges some.visits) one.xs some.logs
           (subst (λ (xs : List Exchange). LogsGrow b.log xs c.log) (sym next.is.are) flat.logs));
@@ -126,9 +132,15 @@ visits_then scene a b c before mid after some next =
           (flat_last visit_answers some.visits one)
           (hears_append (hand_at scene a) (scene.shows b.hand) (scene.shows c.hand) (flat_map visit_answers some.visits)
           (visit_answers one) some.hears heard);
+      asks = subst (λ (parts : List (List LinkHeard)). LinksHear a.links parts c.links)
+          (all_more (map visit_parts some.visits) (visit_parts one)
+          ∙ ap (λ (all : List (List (List LinkHeard))). all_parts all) (sym (map-append visit_parts some.visits (one ∷ []))))
+          (links_then a.links b.links c.links (all_parts (map visit_parts some.visits)) (visit_parts one) some.asks asked);
       failed = subst (λ (xs : List Exchange). summed (scene.shows a.hand).faults
           (count_by (λ x. says_read_fault x.served.reason) xs) ≤ (scene.shows c.hand).faults)
           (flat_last (λ v. v.xs) some.visits one) failed_all;
+      links_failed = subst (λ (xs : List Exchange). LinksFailed a.links (count_by (λ x. says_upstream_fault x.served.reason) xs) c.links)
+          (flat_last (λ v. v.xs) some.visits one) links_failed_all;
       tallies = subst (λ (told : List Served). TalliesServed told a.share c.share)
           (flat_last (λ v. v.report.served.items) some.visits one)
           (tallies_append (flat_map (λ v. v.report.served.items) some.visits) one.report.served.items a.share b.share c.share
@@ -137,10 +149,29 @@ visits_then scene a b c before mid after some next =
   where
     heard : Hears (hand_at scene b) (scene.shows c.hand) (visit_answers next.one) ⊥
     heard =
-        subst (λ (xs : List Exchange). Hears (hand_at scene b) (scene.shows c.hand) (flat_map (λ x. x.answers) xs ++ next.one.rest) ⊥)
+        subst (λ (xs : List Exchange). Hears (hand_at scene b) (scene.shows c.hand) (flat_map (λ x. x.answers) xs ++ next.one.rest.answers) ⊥)
         (sym next.is.are)
-        (subst (λ (rest : List Heard). Hears (hand_at scene b) (scene.shows c.hand)
-        (flat_map (λ x. x.answers) next.is.serves.2.xs ++ rest) ⊥) (sym next.is.left) next.is.serves.2.flat.hears)
+        (subst (λ (rest : HeardFor). Hears (hand_at scene b) (scene.shows c.hand)
+        (flat_map (λ x. x.answers) next.is.serves.2.xs ++ rest.answers) ⊥) (sym next.is.left) next.is.serves.2.flat.hears)
+
+    asked : LinksHear b.links (visit_parts next.one) c.links
+    asked =
+        subst (λ (xs : List Exchange). LinksHear b.links (both_parts (links_heard xs) next.one.rest.links) c.links) (sym next.is.are)
+        (subst (λ (rest : HeardFor). LinksHear b.links (both_parts (links_heard next.is.serves.2.xs) rest.links) c.links)
+        (sym next.is.left) next.is.serves.2.flat.asks)
+
+    more_links : LinksFailed b.links (count_by (λ x. says_upstream_fault x.served.reason) next.one.xs) c.links
+    more_links =
+        subst (λ (xs : List Exchange). LinksFailed b.links (count_by (λ x. says_upstream_fault x.served.reason) xs) c.links)
+        (sym next.is.are) next.is.serves.2.flat.links_failed
+
+    links_failed_all : LinksFailed a.links
+        (count_by (λ x. says_upstream_fault x.served.reason) (all_exchanges some.visits ++ next.one.xs)) c.links
+    links_failed_all = subst (λ (count : ℕ). LinksFailed a.links count c.links)
+        (sym (sum_by-append (λ (x : Exchange). cond (says_upstream_fault x.served.reason) 1 0) (all_exchanges some.visits) next.one.xs))
+        (failed_then a.links b.links c.links (visit_parts next.one)
+        (count_by (λ x. says_upstream_fault x.served.reason) (all_exchanges some.visits))
+        (count_by (λ x. says_upstream_fault x.served.reason) next.one.xs) asked some.links_failed more_links)
 
     more : summed (scene.shows b.hand).faults (count_by (λ x. says_read_fault x.served.reason) next.one.xs)
         ≤ (scene.shows c.hand).faults
@@ -174,7 +205,9 @@ visits_end {T} scene a b c before mid after why some last =
         are = some.are;
         logs = some.logs;
         hears = some.hears;
+        asks = some.asks;
         failed = some.failed;
+        links_failed = some.links_failed;
         tallies = some.tallies;
       };
       ends = record {

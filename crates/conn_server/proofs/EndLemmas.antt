@@ -4,12 +4,12 @@ use Rattle.std.proofs.Common.{refl, sym, ◌∙◌, ap, subst, arith}
 use Rattle.std.proofs.lemmas.Bool.{false≢true}
 use Rattle.std.proofs.lemmas.Bool.Decides.{nat_tests}
 use Rattle.std.proofs.lemmas.List.{length-append, length-map, map-append}
-use Rattle.tree_trait.specs.Heard.{Heard}
 use Rattle.http_wire.specs.Stream.{ShownStream}
 use Rattle.conn_server.specs.Asked.{HeadFacts, Request, closes_after, readable, refused}
 use Rattle.conn_server.specs.Connection.{EndsConnection, GoOn, LastCloses, ExchangesRow, Serves, ServesAll, fresh_wire, is_last_request, more, none}
 use Rattle.conn_server.specs.Tallied.{TalliesServed}
 use Rattle.conn_server.specs.Exchange.{Exchange}
+use Rattle.conn_server.specs.Links.{HeardFor, unheard}
 use Rattle.conn_server.specs.Scene.{Scene, Stand, Wire}
 use Rattle.conn_server.specs.Turns.{ClosesConnection, EndsBehind, Exchanges, GoesOnBehind, Stops, StopsFor, Turns, end_of_head}
 use Rattle.conn_server.specs.declared.connection.TheConstants.{REQUESTS}
@@ -95,13 +95,13 @@ module _ {T : Type 0} (scene : Scene T) (a : Stand T) (v : Wire) (told : List Se
           at = c;
           held_at = u;
           row = row;
-          rest = [];
+          rest = unheard;
           part = [];
           leaves = leaves_none scene c u;
           flat = flat_row (base.xs ++ x ∷ []) c u row;
           tallies = told_tallies (base.xs ++ x ∷ []) report.served.items c.share (told_more x served at.one.told ∙ sym items) row
               (notes_none c.share);
-          ends = subst (λ (e : ConnEnd). EndsConnection scene a v e (base.xs ++ x ∷ []) c [] [] c u) (sym is)
+          ends = subst (λ (e : ConnEnd). EndsConnection scene a v e (base.xs ++ x ∷ []) c unheard [] c u) (sym is)
               (by_request x u at.one.ends x.request refl at.cause);
         },
       )
@@ -122,7 +122,7 @@ module _ {T : Type 0} (scene : Scene T) (a : Stand T) (v : Wire) (told : List Se
 
       -- Limit exactly at the last place
       by_head : (x : Exchange) (u : Wire) (head : HeadFacts) → LastCloses (readable head) (base.xs ++ x ∷ []) → (l : Bool)
-          → is_last_request (length base.xs) ≡ l → EndsConnection scene a v (end_of_head l) (base.xs ++ x ∷ []) c [] [] c u
+          → is_last_request (length base.xs) ≡ l → EndsConnection scene a v (end_of_head l) (base.xs ++ x ∷ []) c unheard [] c u
       by_head x u head last true e =
           let all = length-append base.xs (x ∷ []) in
           (grind (arith, nat_tests, e, all), (refl, refl), (head, last))
@@ -132,12 +132,12 @@ module _ {T : Type 0} (scene : Scene T) (a : Stand T) (v : Wire) (told : List Se
           (grind (arith, nat_tests, e, all, less), (refl, refl), inl (head, last))
 
       by_request : (x : Exchange) (u : Wire) → closes_after x.request (is_last_request (length base.xs)) ≡ true → (r : Request)
-          → x.request ≡ r → EndsBehind (is_last_request (length base.xs)) r u why → EndsConnection scene a v why (base.xs ++ x ∷ []) c [] [] c u
+          → x.request ≡ r → EndsBehind (is_last_request (length base.xs)) r u why → EndsConnection scene a v why (base.xs ++ x ∷ []) c unheard [] c u
       by_request x u ends (readable head) asks cause =
-          subst (λ (e : ConnEnd). EndsConnection scene a v e (base.xs ++ x ∷ []) c [] [] c u) (sym cause)
+          subst (λ (e : ConnEnd). EndsConnection scene a v e (base.xs ++ x ∷ []) c unheard [] c u) (sym cause)
           (by_head x u head (closing x (readable head) asks ends) (is_last_request (length base.xs)) refl)
       by_request x u ends (refused fault) asks cause =
-          subst (λ (e : ConnEnd). EndsConnection scene a v e (base.xs ++ x ∷ []) c [] [] c u) (sym cause.0)
+          subst (λ (e : ConnEnd). EndsConnection scene a v e (base.xs ++ x ∷ []) c unheard [] c u) (sym cause.0)
           ((refl, refl), fault, closing x (refused fault) asks ends, cause.1)
 
   -- a connection that ended without a further whole reply
@@ -170,7 +170,7 @@ module _ {T : Type 0} (scene : Scene T) (a : Stand T) (v : Wire) (told : List Se
       short : length base.xs < REQUESTS
       short = subst (λ (n : ℕ). n < REQUESTS) (sym same_length) few
 
-      by_why : (u : Wire) (rest : List Heard) (part : List ℕ) (e : ConnEnd)
+      by_why : (u : Wire) (rest : HeardFor) (part : List ℕ) (e : ConnEnd)
           → StopsFor scene (is_last_request (length base.xs)) b w rest part c u e → EndsConnection scene a v e base.xs b rest part c u
       by_why u rest part end.Closed cause =
           (short, cause.0, inr (record { goes = base.goes; none = cause.1; ended = cause.2 }))
@@ -199,13 +199,13 @@ ends_at_once {T} scene a before report nothing is = (
     at = a;
     held_at = fresh_wire before;
     row = none;
-    rest = [];
+    rest = unheard;
     part = [];
     leaves = leaves_none scene a (fresh_wire before);
     flat = flat_row [] a (fresh_wire before) none;
     tallies = subst (λ (told : List Served). TalliesServed told a.share a.share) (sym nothing)
         (tallies_notes a.share a.share (notes_none a.share));
-    ends = subst (λ (why : ConnEnd). EndsConnection scene a (fresh_wire before) why [] a [] [] a (fresh_wire before)) (sym is)
+    ends = subst (λ (why : ConnEnd). EndsConnection scene a (fresh_wire before) why [] a unheard [] a (fresh_wire before)) (sym is)
         (tt, refl, inl (record { none = refl; stands = refl; stays = refl }));
   },
 )

@@ -1,8 +1,9 @@
 -- What follows of a row, object by object.
-use Rattle.std.proofs.Common.{◌≡◌, ℕ, ◌+◌, ◌<◌, ◌≤◌, Bool, true, false, List, [], ◌∷◌, ◌++◌, length, Option, Some, None}
-use Rattle.std.proofs.Common.{IsTrue, refl, sym, ◌∙◌, ap, subst, append_assoc, append-nil, arith, cond}
+use Rattle.std.proofs.Common.{◌≡◌, ℕ, ◌+◌, ◌<◌, ◌≤◌, Bool, true, false, List, [], ◌∷◌, ◌++◌, map, length, Option, Some, None}
+use Rattle.std.proofs.Common.{IsTrue, inr, refl, sym, ◌∙◌, ap, subst, append_assoc, append-nil, arith, cond}
 use Rattle.std.proofs.lemmas.Bool.{false≢true}
 use Rattle.std.proofs.lemmas.Grind.{flat_map-append}
+use Rattle.std.proofs.lemmas.List.{map-append}
 use Rattle.std.proofs.lemmas.List.Sums.{sum_by-append}
 use Rattle.std.specs.List.{flat_map, count_by}
 use Rattle.std.specs.Option.{IsSome, option_map}
@@ -16,15 +17,21 @@ use Rattle.http_wire.specs.Sink.{Appends}
 use Rattle.http_wire.specs.Source.{ComesFrom}
 use Rattle.answer_core.specs.Loads.{Hand, Hears}
 use Rattle.answer_core.proofs.HearLemmas.{heard_both, hears_none}
-use Rattle.conn_server.specs.Connection.{AreExchanges, GoOn, IsRow, LogsGrow, ExchangesRow, none, more, is_last_request}
-use Rattle.conn_server.specs.Exchange.{Exchange, IsExchange, LeadsByExchange, LeavesUnanswered, Moves}
+use Rattle.federation.specs.AskAll.{all_heard}
+use Rattle.federation.specs.Heard.{LinkHeard, link_failed}
+use Rattle.federation.specs.Link.{ShownLink}
+use Rattle.conn_server.specs.Connection.{AreExchanges, GoOn, IsRow, LogsGrow, ExchangesRow, none, more, is_last_request, links_heard}
+use Rattle.conn_server.specs.Exchange.{Exchange, IsExchange, LeadsByExchange, LeavesUnanswered, LoadFailed, Moves}
 use Rattle.conn_server.specs.Asked.{closes_after}
-use Rattle.conn_server.specs.Replies.{says_read_fault}
+use Rattle.conn_server.specs.Lawful.{AsksLinksFor}
+use Rattle.conn_server.specs.Links.{HeardFor, LinksFailed, LinksHear, all_parts, both_parts, unheard}
+use Rattle.conn_server.specs.Replies.{says_read_fault, says_upstream_fault}
 use Rattle.conn_server.specs.Scene.{Scene, Stand, Wire, hand_at}
 use Rattle.conn_server.specs.declared.reason.Reason.{Reason}
 use Rattle.conn_server.specs.declared.reason.Reason.TheVariants as reason
-use Rattle.conn_server.proofs.CaseLemmas.{case_at, finds_all}
+use Rattle.conn_server.proofs.CaseLemmas.{a_link_failed, case_at, finds_all}
 use Rattle.conn_server.proofs.CountLemmas.{notes_none}
+use Rattle.conn_server.proofs.LinksLemmas.{all_more, both_none, counts_rose, failed_later, failed_then, links_none, links_then, same_links}
 use Rattle.conn_server.proofs.SinceLemmas.{StillTo, since}
 
 -- Places and logs
@@ -90,34 +97,59 @@ hears_append hand now later a b first second = record {
         second.hands.keeps told (first.hands.known told (subst (λ (es : List Heard). 0 < length es) (append-nil a) asked))
     known (y ∷ ys) two told asked = two told (omega arith)
 
-is_fault_of : (why : Reason) → says_read_fault why ≡ true → why ≡ reason.ReadFault
-is_fault_of reason.ReadFault e = refl
-is_fault_of reason.Local e = absurd (false≢true e)
-is_fault_of reason.Metrics e = absurd (false≢true e)
-is_fault_of reason.BadHead e = absurd (false≢true e)
-is_fault_of reason.TooLarge e = absurd (false≢true e)
-is_fault_of reason.Method e = absurd (false≢true e)
-is_fault_of reason.Body e = absurd (false≢true e)
-is_fault_of reason.BadEscape e = absurd (false≢true e)
-is_fault_of reason.NoRoute e = absurd (false≢true e)
-is_fault_of reason.BadId e = absurd (false≢true e)
-is_fault_of reason.BadPath e = absurd (false≢true e)
-is_fault_of reason.NotFound e = absurd (false≢true e)
-is_fault_of reason.OutOfMemory e = absurd (false≢true e)
+is_fault_of : (why : Reason) (answers : List Heard) → says_read_fault why ≡ true → LoadFailed why answers
+is_fault_of reason.ReadFault answers e = tt
+is_fault_of reason.Local answers e = absurd (false≢true e)
+is_fault_of reason.Upstream answers e = absurd (false≢true e)
+is_fault_of reason.Metrics answers e = absurd (false≢true e)
+is_fault_of reason.BadHead answers e = absurd (false≢true e)
+is_fault_of reason.TooLarge answers e = absurd (false≢true e)
+is_fault_of reason.Method answers e = absurd (false≢true e)
+is_fault_of reason.Body answers e = absurd (false≢true e)
+is_fault_of reason.BadEscape answers e = absurd (false≢true e)
+is_fault_of reason.NoRoute answers e = absurd (false≢true e)
+is_fault_of reason.BadId answers e = absurd (false≢true e)
+is_fault_of reason.BadPath answers e = absurd (false≢true e)
+is_fault_of reason.HopLimit answers e = absurd (false≢true e)
+is_fault_of reason.NotFound answers e = absurd (false≢true e)
+is_fault_of reason.UpstreamFault answers e = absurd (false≢true e)
+is_fault_of reason.OutOfMemory answers e = absurd (false≢true e)
 
 -- a load failed for a request that was answered so
-counted : (x : Exchange) (now later : ℕ) → HasCause now later (x.served.reason ≡ reason.ReadFault)
+counted : (x : Exchange) (now later : ℕ) → HasCause now later (LoadFailed x.served.reason x.answers)
     → summed now (count_by (λ y. says_read_fault y.served.reason) (x ∷ [])) ≤ later
 counted x now later c =
     by_test (says_read_fault x.served.reason) refl
   where
     by_test : (b : Bool) → says_read_fault x.served.reason ≡ b → summed now (0 + cond b 1 0) ≤ later
     by_test true e =
-        let risen = c.rose (is_fault_of x.served.reason e) in
+        let risen = c.rose (is_fault_of x.served.reason x.answers e) in
         omega (arith, risen)
     by_test false e =
         let later_on = c.later in
         omega (arith, later_on)
+
+-- The links
+
+-- a link failed for a request that was answered so
+counted_link : {T : Type 0} (scene : Scene T) (last : Bool) (at : Stand T) (x : Exchange) (now later : List ShownLink)
+    → IsExchange scene last at x → LinksHear now x.links later
+    → LinksFailed now (count_by (λ y. says_upstream_fault y.served.reason) (x ∷ [])) later
+counted_link scene last at x now later is hears =
+    counts_rose now later x.links (count_by (λ y. says_upstream_fault y.served.reason) (x ∷ [])) hears
+    (by_test (says_upstream_fault x.served.reason) refl)
+  where
+    by_test : (b : Bool) → says_upstream_fault x.served.reason ≡ b → 0 + cond b 1 0 ≤ count_by link_failed (all_heard x.links)
+    by_test true e =
+        let some = a_link_failed scene at x.own x.noted x.log x.request (length at.links) x.links is.lawful.is is.lawful.asks e in
+        omega (arith, some)
+    by_test false e = omega arith
+
+-- what links heard for these requests, and for one more
+heard_more : (xs : List Exchange) (x : Exchange) → both_parts (links_heard xs) x.links ≡ links_heard (xs ++ x ∷ [])
+heard_more xs x =
+    all_more (map (λ y. y.links) xs) x.links
+    ∙ ap (λ (all : List (List (List LinkHeard))). all_parts all) (sym (map-append (λ (y : Exchange). y.links) xs (x ∷ [])))
 
 -- The stream
 
@@ -180,26 +212,35 @@ moves_as {f} {f'} {d} {d'} {v} {w} same also m =
 
 -- All of them
 
-still_to : {T : Type 0} {scene : Scene T} {a b : Stand T} {v w : Wire} {xs : List Exchange} {rest : List Heard}
+still_to : {T : Type 0} {scene : Scene T} {a b : Stand T} {v w : Wire} {xs : List Exchange} {rest : HeardFor}
     {part : List ℕ} → IsRow scene a v xs rest part b w → StillTo (hand_at scene a) (scene.shows b.hand)
 still_to row still = row.hears.hands.still still
 
 -- an exchange, as seen from an earlier stand
 pub exchange_at : {T : Type 0} (scene : Scene T) (last : Bool) (a b : Stand T) (x : Exchange)
-    → StillTo (hand_at scene a) (scene.shows b.hand) → IsExchange scene last b x → IsExchange scene last a x
-exchange_at scene last a b x keeps is =
+    → StillTo (hand_at scene a) (scene.shows b.hand) → length b.links ≡ length a.links → IsExchange scene last b x
+    → IsExchange scene last a x
+exchange_at scene last a b x keeps same is =
     let case_ = case_at scene a b keeps x.log is.lawful.is in record {
-      lawful = record { carried = is.lawful.carried; is = case_; replied = is.lawful.replied };
+      lawful = record {
+        carried = is.lawful.carried;
+        told = is.lawful.told;
+        is = case_;
+        asks = subst (λ (links : ℕ). AsksLinksFor is.lawful.told links x.request x.served.asked x.links) same is.lawful.asks;
+        replied = is.lawful.replied;
+      };
       complete = finds_all scene a x.own x.noted x.log x.request case_;
       fronts = is.fronts;
     }
 
-flat_none : {T : Type 0} (scene : Scene T) (a : Stand T) (v : Wire) → IsRow scene a v [] [] [] a v
+flat_none : {T : Type 0} (scene : Scene T) (a : Stand T) (v : Wire) → IsRow scene a v [] unheard [] a v
 flat_none scene a v = record {
   are = tt;
   logs = prefix_self a.log;
   hears = hears_none (hand_at scene a);
+  asks = links_none a.links;
   failed = omega arith;
+  links_failed = inr (omega arith);
   moves = moves_none v;
 }
 
@@ -210,11 +251,12 @@ flat_one f xs x =
     flat_map-append f xs (x ∷ []) ∙ ap (λ l. flat_map f xs ++ l) (append-nil (f x))
 
 flat_more : {T : Type 0} {scene : Scene T} {a b c : Stand T} {v w u : Wire} {xs : List Exchange} (x : Exchange)
-    → IsRow scene a v xs [] [] b w → IsExchange scene (is_last_request (length xs)) b x → LeadsByExchange scene x b c
-    → Moves x.front x.bytes w u → IsRow scene a v (xs ++ x ∷ []) [] [] c u
+    → IsRow scene a v xs unheard [] b w → IsExchange scene (is_last_request (length xs)) b x → LeadsByExchange scene x b c
+    → Moves x.front x.bytes w u → IsRow scene a v (xs ++ x ∷ []) unheard [] c u
 flat_more {T} {scene} {a} {b} {c} {v} {w} {u} {xs} x row is leads moves = record {
   are = are_more scene a 0 xs x row.are (subst (λ (p : ℕ). IsExchange scene (is_last_request p) a x) (zero_more (length xs))
-      (exchange_at scene (is_last_request (length xs)) a b x (still_to row) is));
+      (exchange_at scene (is_last_request (length xs)) a b x (still_to row)
+      (same_links a.links b.links (both_parts (links_heard xs) []) row.asks) is));
   logs = subst (λ (log : List Change). LogsGrow a.log (xs ++ x ∷ []) log) leads.seen
       (logs_more a.log b.log xs x row.logs (subst (λ (log : List Change). IsPrefix b.log log) (sym leads.seen) leads.log));
   hears = subst (λ (es : List Heard). Hears (hand_at scene a) (scene.shows c.hand) es ⊥)
@@ -222,11 +264,20 @@ flat_more {T} {scene} {a} {b} {c} {v} {w} {u} {xs} x row is leads moves = record
       ∙ (sym (flat_one (λ y. y.answers) xs x) ∙ sym (append-nil (flat_map (λ y. y.answers) (xs ++ x ∷ [])))))
       (hears_append (hand_at scene a) (scene.shows b.hand) (scene.shows c.hand) (flat_map (λ y. y.answers) xs ++ []) x.answers
       row.hears leads.hand);
+  asks = subst (λ (parts : List (List LinkHeard)). LinksHear a.links parts c.links)
+      (ap (λ (parts : List (List LinkHeard)). both_parts parts x.links) (both_none (links_heard xs))
+      ∙ (heard_more xs x ∙ sym (both_none (links_heard (xs ++ x ∷ [])))))
+      (links_then a.links b.links c.links (both_parts (links_heard xs) []) x.links row.asks leads.links);
   failed =
       let one = row.failed in
       let two = counted x (scene.shows b.hand).faults (scene.shows c.hand).faults leads.hand.hands.cause in
       let all = sum_by-append (λ (y : Exchange). cond (says_read_fault y.served.reason) 1 0) xs (x ∷ []) in
       omega (arith, one, two, all);
+  links_failed = subst (λ (count : ℕ). LinksFailed a.links count c.links)
+      (sym (sum_by-append (λ (y : Exchange). cond (says_upstream_fault y.served.reason) 1 0) xs (x ∷ [])))
+      (failed_then a.links b.links c.links x.links (count_by (λ y. says_upstream_fault y.served.reason) xs)
+      (count_by (λ y. says_upstream_fault y.served.reason) (x ∷ [])) leads.links row.links_failed
+      (counted_link scene (is_last_request (length xs)) b x b.links c.links is leads.links));
   moves = moves_as (sym (flat_one (λ y. y.front) xs x))
       (ap (λ (l : List ℕ). l ++ x.bytes) (append-nil (flat_map (λ y. y.bytes) xs))
       ∙ (sym (flat_one (λ y. y.bytes) xs x) ∙ sym (append-nil (flat_map (λ y. y.bytes) (xs ++ x ∷ [])))))
@@ -234,31 +285,41 @@ flat_more {T} {scene} {a} {b} {c} {v} {w} {u} {xs} x row is leads moves = record
 }
 
 -- what stands behind a row
-pub flat_leaves : {T : Type 0} {scene : Scene T} {a b c : Stand T} {v w u : Wire} {xs : List Exchange} {rest : List Heard}
-    {part : List ℕ} → IsRow scene a v xs [] [] b w → LeavesUnanswered scene rest part b w c u → IsRow scene a v xs rest part c u
+pub flat_leaves : {T : Type 0} {scene : Scene T} {a b c : Stand T} {v w u : Wire} {xs : List Exchange} {rest : HeardFor}
+    {part : List ℕ} → IsRow scene a v xs unheard [] b w → LeavesUnanswered scene rest part b w c u → IsRow scene a v xs rest part c u
 flat_leaves {T} {scene} {a} {b} {c} {v} {w} {u} {xs} {rest} {part} row leaves = record {
   are = row.are;
   logs = logs_later a.log b.log c.log xs row.logs leaves.log;
   hears = subst (λ (es : List Heard). Hears (hand_at scene a) (scene.shows c.hand) es ⊥)
-      (ap (λ (l : List Heard). l ++ rest) (append-nil (flat_map (λ y. y.answers) xs)))
-      (hears_append (hand_at scene a) (scene.shows b.hand) (scene.shows c.hand) (flat_map (λ y. y.answers) xs ++ []) rest
+      (ap (λ (l : List Heard). l ++ rest.answers) (append-nil (flat_map (λ y. y.answers) xs)))
+      (hears_append (hand_at scene a) (scene.shows b.hand) (scene.shows c.hand) (flat_map (λ y. y.answers) xs ++ []) rest.answers
       row.hears leaves.hand);
+  asks = subst (λ (parts : List (List LinkHeard)). LinksHear a.links parts c.links)
+      (ap (λ (parts : List (List LinkHeard)). both_parts parts rest.links) (both_none (links_heard xs)))
+      (links_then a.links b.links c.links (both_parts (links_heard xs) []) rest.links row.asks leaves.links);
   failed =
       let one = row.failed in
       let two = leaves.hand.hands.cause.later in
       omega (arith, one, two);
+  links_failed = failed_later a.links b.links c.links rest.links (count_by (λ y. says_upstream_fault y.served.reason) xs) leaves.links
+      row.links_failed;
   moves = moves_as (append-nil (flat_map (λ y. y.front) xs))
       (ap (λ (l : List ℕ). l ++ part) (append-nil (flat_map (λ y. y.bytes) xs)))
       (moves_then row.moves leaves.moves);
 }
 
-pub leaves_none : {T : Type 0} (scene : Scene T) (a : Stand T) (v : Wire) → LeavesUnanswered scene [] [] a v a v
-leaves_none scene a v =
-    record { log = prefix_self a.log; hand = hears_none (hand_at scene a); share = notes_none a.share; moves = moves_none v }
+pub leaves_none : {T : Type 0} (scene : Scene T) (a : Stand T) (v : Wire) → LeavesUnanswered scene unheard [] a v a v
+leaves_none scene a v = record {
+  log = prefix_self a.log;
+  hand = hears_none (hand_at scene a);
+  links = links_none a.links;
+  share = notes_none a.share;
+  moves = moves_none v;
+}
 
 -- of a row all of them follow
 pub flat_row : {T : Type 0} {scene : Scene T} {a : Stand T} {v : Wire} (xs : List Exchange) (b : Stand T) (w : Wire)
-    → ExchangesRow scene a v xs b w → IsRow scene a v xs [] [] b w
+    → ExchangesRow scene a v xs b w → IsRow scene a v xs unheard [] b w
 flat_row {T} {scene} {a} {v} xs b w none = flat_none scene a v
 flat_row {T} {scene} {a} {v} xs b w (more ys c u x d t row is leads moves) =
     flat_more x (flat_row ys c u row) is leads moves

@@ -5,6 +5,7 @@ mod DecideLemmas
 pub mod DoorLemmas
 mod EndLemmas
 pub mod JoinLemmas
+pub mod LinksLemmas
 mod SentLemmas
 pub mod SinceLemmas
 mod TurnLemmas

@@ -1,12 +1,11 @@
 -- What came of a request, as one exchange, or as what is left without one.
-use Rattle.std.proofs.Common.{◌≡◌, ℕ, ◌≤◌, Bool, true, false, List, [], ◌++◌, Option, MatchBool, IsTrue, take}
+use Rattle.std.proofs.Common.{◌≡◌, ℕ, ◌≤◌, Bool, true, false, List, [], ◌++◌, length, Option, None, MatchBool, IsTrue, take}
 use Rattle.std.proofs.Common.{refl, sym, ◌∙◌, ap, subst, arith}
 use Rattle.std.proofs.lemmas.Bool.{false≢true}
 use mathlib.Core.List.{IsPrefix}
 use Rattle.httparse.specs.Grammar.{RequestHead, print_request}
 use Rattle.row_types.specs.Faults.{HasCause}
 use Rattle.index_rows.specs.declared.change.Change.{Change}
-use Rattle.tree_trait.specs.Heard.{Heard}
 use Rattle.http_wire.specs.Heads.{RefusesAsHead, TellsHead}
 use Rattle.http_wire.specs.Reader.{AnswersNext, head_failed}
 use Rattle.http_wire.specs.ReaderFacts.{ReaderFacts}
@@ -25,11 +24,14 @@ use Rattle.answer_core.specs.Loads.{Hears}
 use Rattle.answer_core.proofs.HearLemmas.{hears_as, hears_none}
 use Rattle.dbgd_metrics.specs.Shares.{ShareFacts}
 use Rattle.dbgd_metrics.specs.Totals.{OnlyNotes}
+use Rattle.federation.specs.declared.asking.Upstream.{Upstream}
 use Rattle.conn_server.specs.Asked.{HeadFacts, Request, closes_after, head_facts, readable, refused, sends_body, told_facts}
 use Rattle.conn_server.specs.Cases.{IsCase, bad_head, too_long, too_many}
 use Rattle.conn_server.specs.Tallied.{CountsRequest, CountsServed}
 use Rattle.conn_server.specs.Decided.{plain}
-use Rattle.conn_server.specs.Exchange.{Exchange, IsExchange, IsFrontOf, IsWhy, Moves}
+use Rattle.conn_server.specs.Exchange.{Exchange, IsExchange, IsFrontOf, IsWhy, LoadFailed, Moves, heard_for}
+use Rattle.conn_server.specs.Lawful.{AsksLinksFor}
+use Rattle.conn_server.specs.Links.{HeardFor, LinksHear, unheard}
 use Rattle.conn_server.specs.Replies.{Shows, bytes_of}
 use Rattle.conn_server.specs.Scene.{Scene, Stand, Wire, hand_at, wire_of, with_share}
 use Rattle.conn_server.specs.Sent.{sent_len, served_as}
@@ -47,35 +49,40 @@ use Rattle.conn_server.specs.declared.report.Served.{Served}
 use Rattle.conn_server.proofs.CaseLemmas.{carries, finds_all}
 use Rattle.conn_server.proofs.CountLemmas.{notes_none}
 use Rattle.conn_server.proofs.JoinLemmas.{appends_none}
+use Rattle.conn_server.proofs.LinksLemmas.{links_none}
 
 -- the exchange of a request that was decided so
-abbrev pub exchange_of : Request → List ℕ → Decided → List ℕ → Option (List ℕ) → Bool → List Heard → List Change → ShareFacts
+abbrev pub exchange_of : Request → List ℕ → Decided → List ℕ → Option (List ℕ) → Bool → HeardFor → List Change → ShareFacts
     → ShareFacts → Exchange
-exchange_of request front decided body file last answers log own noted = record {
+exchange_of request front decided body file last heard log own noted = record {
   request = request;
   front = front;
   served = served_as decided (sent_len (sends_body request) body);
   bytes = bytes_of decided.reason body file (closes_after request last) (sends_body request);
-  answers = answers;
+  answers = heard.answers;
+  links = heard.links;
   log = log;
   own = own;
   noted = noted;
 }
 
 exchange_is : {T : Type 0} (scene : Scene T) (a : Stand T) (noted : ShareFacts) (log : List Change) (request : Request) (front : List ℕ)
-    (decided : Decided) (body : List ℕ) (file : Option (List ℕ)) (last : Bool) (answers : List Heard)
-    → IsCase scene a a.share noted log request decided.asked decided.reason decided.generation decided.body answers
+    (decided : Decided) (body : List ℕ) (file : Option (List ℕ)) (last : Bool) (heard : HeardFor) (told : Option Upstream)
+    → IsCase scene a a.share noted log request decided.asked decided.reason decided.generation decided.body heard.answers told
+    → AsksLinksFor told (length a.links) request decided.asked heard.links
     → Shows decided.reason decided.body body file → IsFrontOf request front
-    → IsExchange scene last a (exchange_of request front decided body file last answers log a.share noted)
-exchange_is scene a noted log request front decided body file last answers case_ shows fronts = record {
+    → IsExchange scene last a (exchange_of request front decided body file last heard log a.share noted)
+exchange_is scene a noted log request front decided body file last heard told case_ asks shows fronts = record {
   lawful = record {
     carried = decided.body;
+    told = told;
     is = case_;
+    asks = asks;
     replied = record {
       body = body;
       file = file;
       shows = shows;
-      carries = carries scene a a.share noted log request body file case_ shows;
+      carries = carries scene a a.share noted log request (length a.links) heard.links body file case_ asks shows;
       status = refl;
       len = refl;
       spelled = refl;
@@ -120,16 +127,17 @@ module _ {T : Type 0} (scene : Scene T) (last : Bool) (a b : Stand T) (v : Wire)
   abbrev held_of : ShownStream → Wire
   held_of stream = record { stream = stream; held = v.held ++ came; over = true }
 
-  quiet : (why : ConnEnd) → b ≡ a → StopsFor scene last a v [] [] b (held_of mid) why → StopsOn scene last a v why b mid
+  quiet : (why : ConnEnd) → b ≡ a → StopsFor scene last a v unheard [] b (held_of mid) why → StopsOn scene last a v why b mid
   quiet why keeps cause = (
     held_of mid,
     refl,
     record {
-      rest = [];
+      rest = unheard;
       part = [];
       leaves = record {
         log = grows;
         hand = subst (λ (s : Stand T). Hears (hand_at scene a) (scene.shows s.hand) [] ⊥) (sym keeps) (hears_none (hand_at scene a));
+        links = subst (λ (s : Stand T). LinksHear a.links [] s.links) (sym keeps) (links_none a.links);
         share = subst (λ (s : Stand T). OnlyNotes a.share s.share) (sym keeps) (notes_none a.share);
         moves = moves_of came mid comes refl later apart refl refl (omega arith) (appends_none mid.written);
       };
@@ -140,19 +148,21 @@ module _ {T : Type 0} (scene : Scene T) (last : Bool) (a b : Stand T) (v : Wire)
   -- the reply to a request wasn't written, or not whole
   broken : (x : Exchange) (behind : List ℕ) {Fails : Type 0} → IsExchange scene last a x → x.log ≡ b.log → x.own ≡ a.share
       → x.noted ≡ b.share → OnlyNotes a.share b.share
-      → Hears (hand_at scene a) (scene.shows b.hand) x.answers Fails → v.held ++ came ≡ x.front ++ behind
+      → Hears (hand_at scene a) (scene.shows b.hand) x.answers Fails → LinksHear a.links x.links b.links
+      → v.held ++ came ≡ x.front ++ behind
       → IsWhy x.request (v.held ++ came) mid.left → (fault : ReplyFault) (after : ShownStream)
       → FailsReply fault x.bytes mid after → StopsOn scene last a v (end_by_fault fault) b after
-  broken x behind {Fails} is logged own noted notes hears cut why reply_fault.OutOfMemory after same =
+  broken x behind {Fails} is logged own noted notes hears links cut why reply_fault.OutOfMemory after same =
       subst (λ (s : ShownStream). StopsOn scene last a v end.OutOfMemory b s) (sym same) (
         held_of mid,
         refl,
         record {
-          rest = x.answers;
+          rest = heard_for x;
           part = [];
           leaves = record {
             log = grows;
             hand = hears_as (λ f. absurd f) hears;
+            links = links;
             share = notes;
             moves = moves_of came mid comes refl later apart refl refl (omega arith) (appends_none mid.written);
           };
@@ -162,15 +172,16 @@ module _ {T : Type 0} (scene : Scene T) (last : Bool) (a b : Stand T) (v : Wire)
           );
         },
       )
-  broken x behind {Fails} is logged own noted notes hears cut why reply_fault.WriteFault after gets = (
+  broken x behind {Fails} is logged own noted notes hears links cut why reply_fault.WriteFault after gets = (
     held_of after,
     refl,
     record {
-      rest = x.answers;
+      rest = heard_for x;
       part = take gets.count x.bytes;
       leaves = record {
         log = grows;
         hand = hears_as (λ f. absurd f) hears;
+        links = links;
         share = notes;
         moves = moves_of came mid comes refl later apart gets.reading.left gets.reading.read_faults gets.later gets.appends;
       };
@@ -201,14 +212,14 @@ module _ {T : Type 0} (scene : Scene T) (last : Bool) (a b : Stand T) (v : Wire)
   -- a request was answered whole
   abbrev whole : (x : Exchange) (w : Wire) (closes : Bool) → IsExchange scene last a x → x.log ≡ b.log → x.own ≡ a.share
       → CountsRequest x.served a.share x.noted b.share
-      → Hears (hand_at scene a) (scene.shows b.hand) x.answers (x.served.reason ≡ reason.ReadFault)
-      → v.held ++ came ≡ x.front ++ w.held → GetsAll x.bytes mid w.stream → closes_after x.request last ≡ closes
+      → Hears (hand_at scene a) (scene.shows b.hand) x.answers (LoadFailed x.served.reason x.answers)
+      → LinksHear a.links x.links b.links → v.held ++ came ≡ x.front ++ w.held → GetsAll x.bytes mid w.stream → closes_after x.request last ≡ closes
       → Exchanges scene last a v x.served closes b w
-  whole x w closes is logged own counts hears cut gets ends = record {
+  whole x w closes is logged own counts hears links cut gets ends = record {
     x = x;
     told = refl;
     is = is;
-    leads = record { log = grows; seen = logged; hand = hears; own = own; share = counts };
+    leads = record { log = grows; seen = logged; hand = hears; links = links; own = own; share = counts };
     moves = moves_of came mid comes cut later apart gets.reading.left gets.reading.read_faults gets.later gets.appends;
     ends = ends;
   }
@@ -228,24 +239,24 @@ module _ {T : Type 0} (scene : Scene T) (last : Bool) (a b : Stand T) (v : Wire)
   -- the reply to a head, by what came of writing it
   head_written : (reader_after : ReaderFacts) (x : Exchange) (head : HeadFacts) → x.request ≡ readable head
       → IsExchange scene last a x → x.log ≡ b.log → x.own ≡ a.share → OnlyNotes a.share x.noted
-      → Hears (hand_at scene a) (scene.shows b.hand) x.answers (x.served.reason ≡ reason.ReadFault)
-      → v.held ++ came ≡ x.front ++ reader_after.held → reader_after.over ≡ false → (decided : Decided) (len : ℕ)
+      → Hears (hand_at scene a) (scene.shows b.hand) x.answers (LoadFailed x.served.reason x.answers)
+      → LinksHear a.links x.links b.links → v.held ++ came ≡ x.front ++ reader_after.held → reader_after.over ≡ false → (decided : Decided) (len : ℕ)
       → x.served ≡ served_as decided len → (what : Turn) (after : ShownStream)
       → Writing decided x.request last x.bytes len mid what after → CountsAnswered what x.noted b.share
       → Turns scene last a v what b (wire_of after reader_after)
-  head_written reader_after x head asks is logged own notes hears cut open_ decided len told (turn.Replied served) after writes counts = record {
+  head_written reader_after x head asks is logged own notes hears links cut open_ decided len told (turn.Replied served) after writes counts = record {
     one = subst (λ s. Exchanges scene last a v s false b (wire_of after reader_after)) (told ∙ sym writes.2)
-        (whole x (wire_of after reader_after) false is logged own (counted_as x served notes (told ∙ sym writes.2) counts) hears cut
+        (whole x (wire_of after reader_after) false is logged own (counted_as x served notes (told ∙ sym writes.2) counts) hears links cut
         writes.1 writes.0);
     open_ = open_;
   }
-  head_written reader_after x head asks is logged own notes hears cut open_ decided len told (turn.Last served why) after writes counts =
+  head_written reader_after x head asks is logged own notes hears links cut open_ decided len told (turn.Last served why) after writes counts =
       subst (λ s. (w : Wire) × (w.stream ≡ after) × ClosesConnection scene last a v s why b w) (told ∙ sym writes.2) (
         wire_of after reader_after,
         refl,
         record {
           one = whole x (wire_of after reader_after) true is logged own (counted_as x served notes (told ∙ sym writes.2) counts) hears
-              cut writes.1 writes.0;
+              links cut writes.1 writes.0;
           cause = ends_behind x.request asks writes.3;
         },
       )
@@ -253,28 +264,32 @@ module _ {T : Type 0} (scene : Scene T) (last : Bool) (a b : Stand T) (v : Wire)
       ends_behind : (r : Request) → r ≡ readable head → why ≡ end_after r last → EndsBehind last r (wire_of after reader_after) why
       ends_behind (readable facts) e is_why = is_why
       ends_behind (refused fault) e is_why = absurd (cc)
-  head_written reader_after x head asks is logged own notes hears cut open_ decided len told (turn.Ended why) after writes counts =
+  head_written reader_after x head asks is logged own notes hears links cut open_ decided len told (turn.Ended why) after writes counts =
       subst (λ (e : ConnEnd). StopsOn scene last a v e b after) (sym writes.2)
-      (broken x reader_after.held is logged own (sym counts) (noted_as x.noted notes counts) hears cut (rw asks tt) writes.0 after
+      (broken x reader_after.held is logged own (sym counts) (noted_as x.noted notes counts) hears links cut (rw asks tt) writes.0 after
       writes.1)
 
   -- the reply to bytes that are no head, by what came of writing it
-  refused_written : (reader_after : ReaderFacts) (fault : HeadFault) (said : Reason) → (said ≡ reason.ReadFault → ⊥)
-      → IsCase scene a a.share a.share b.log (refused fault) (asked.Head fault) said 0 bodies.Line []
+  refused_written : (reader_after : ReaderFacts) (fault : HeadFault) (said : Reason) → (LoadFailed said [] → ⊥)
+      → IsCase scene a a.share a.share b.log (refused fault) (asked.Head fault) said 0 bodies.Line [] None
       → RefusesAsHead fault (v.held ++ came) mid.left → CountsAlone a b → (what : Turn) (after : ShownStream)
       → Replies (plain (asked.Head fault) said) (refused fault) true mid what after → CountsAnswered what a.share b.share
       → Turns scene last a v what b (wire_of after reader_after)
   refused_written reader_after fault said sound case_ refuses keeps what after r counts = by_turn what r.ends counts
     where
       x : Exchange
-      x = exchange_of (refused fault) [] (plain (asked.Head fault) said) r.body r.file last [] b.log a.share a.share
+      x = exchange_of (refused fault) [] (plain (asked.Head fault) said) r.body r.file last unheard b.log a.share a.share
 
       is : IsExchange scene last a x
-      is = exchange_is scene a a.share b.log (refused fault) [] (plain (asked.Head fault) said) r.body r.file last [] case_ r.shows refl
+      is = exchange_is scene a a.share b.log (refused fault) [] (plain (asked.Head fault) said) r.body r.file last unheard None case_ refl
+          r.shows refl
 
-      hears : Hears (hand_at scene a) (scene.shows b.hand) [] (said ≡ reason.ReadFault)
+      hears : Hears (hand_at scene a) (scene.shows b.hand) [] (LoadFailed said [])
       hears = hears_as sound
           (subst (λ (s : Stand T). Hears (hand_at scene a) (scene.shows s.hand) [] ⊥) (sym keeps) (hears_none (hand_at scene a)))
+
+      links : LinksHear a.links [] b.links
+      links = subst (λ (s : Stand T). LinksHear a.links [] s.links) (sym keeps) (links_none a.links)
 
       by_turn : (what : Turn) → Writing (plain (asked.Head fault) said) (refused fault) true x.bytes (sent_len true r.body) mid what after
           → CountsAnswered what a.share b.share → Turns scene last a v what b (wire_of after reader_after)
@@ -285,7 +300,7 @@ module _ {T : Type 0} (scene : Scene T) (last : Bool) (a b : Stand T) (v : Wire)
             refl,
             record {
               one = whole x (held_of after) true is refl refl
-                  (counted_as x served (notes_none a.share) (sym writes.2) counts) hears refl writes.1 refl;
+                  (counted_as x served (notes_none a.share) (sym writes.2) counts) hears links refl writes.1 refl;
               cause = (
                 writes.3,
                 subst (λ (left : Option (List ℕ)). RefusesAsHead fault (v.held ++ came) left) (sym writes.1.reading.left) refuses,
@@ -294,8 +309,8 @@ module _ {T : Type 0} (scene : Scene T) (last : Bool) (a b : Stand T) (v : Wire)
           )
       by_turn (turn.Ended why) writes counts =
           subst (λ (e : ConnEnd). StopsOn scene last a v e b after) (sym writes.2)
-          (broken x (v.held ++ came) is refl refl (sym counts) (noted_as a.share (notes_none a.share) counts) hears refl refuses writes.0
-          after writes.1)
+          (broken x (v.held ++ came) is refl refl (sym counts) (noted_as a.share (notes_none a.share) counts) hears links refl refuses
+          writes.0 after writes.1)
 
 -- what came of the next request
 pub turn_of : {T : Type 0} (scene : Scene T) (last : Bool) (a b : Stand T) (reader reader_after : ReaderFacts)
@@ -307,8 +322,8 @@ turn_of {T} scene last a b reader reader_after before after what open_ grows t =
     v : Wire
     v = wire_of before reader
 
-    by_refusal : (fault : HeadFault) (said : Reason) → (said ≡ reason.ReadFault → ⊥)
-        → IsCase scene a a.share a.share b.log (refused fault) (asked.Head fault) said 0 bodies.Line []
+    by_refusal : (fault : HeadFault) (said : Reason) → (LoadFailed said [] → ⊥)
+        → IsCase scene a a.share a.share b.log (refused fault) (asked.Head fault) said 0 bodies.Line [] None
         → AnswersNext reader before reader_after t.mid (answer.Refused fault) → HasCause before.read_faults t.mid.read_faults ⊥
         → CountsAlone a b → Replies (plain (asked.Head fault) said) (refused fault) true t.mid what after
         → CountsAnswered what a.share b.share → Turns scene last a v what b (wire_of after reader_after)
@@ -341,13 +356,13 @@ turn_of {T} scene last a b reader reader_after before after what open_ grows t =
         (quiet scene last a b v t.mid reads.came grows reads.comes cause.later t.apart end.Cut
         (takes.1 ∙ ap (λ (s : ShareFacts). with_share a s) same) ((refl, refl), refusal)))
     by_answer (answer.Refused (head_fault.Bad len)) reads cause takes =
-        by_refusal (head_fault.Bad len) reason.BadHead (λ e. absurd (cc)) (bad_head len refl) reads
+        by_refusal (head_fault.Bad len) reason.BadHead (λ f. f) (bad_head len refl) reads
         (record { later = cause.later; rose = λ f. absurd f }) takes.1 takes.0 takes.2
     by_answer (answer.Refused head_fault.TooLong) reads cause takes =
-        by_refusal head_fault.TooLong reason.TooLarge (λ e. absurd (cc)) (too_long refl) reads
+        by_refusal head_fault.TooLong reason.TooLarge (λ f. f) (too_long refl) reads
         (record { later = cause.later; rose = λ f. absurd f }) takes.1 takes.0 takes.2
     by_answer (answer.Refused head_fault.TooMany) reads cause takes =
-        by_refusal head_fault.TooMany reason.TooLarge (λ e. absurd (cc)) (too_many refl) reads
+        by_refusal head_fault.TooMany reason.TooLarge (λ f. f) (too_many refl) reads
         (record { later = cause.later; rose = λ f. absurd f }) takes.1 takes.0 takes.2
     by_answer (answer.Head head) reads cause takes =
         let facts : HeadFacts = told_facts head in
@@ -355,10 +370,10 @@ turn_of {T} scene last a b reader reader_after before after what open_ grows t =
         let d = takes.decides in
         let r = takes.replies in
         let front : List ℕ = print_request h in
-        let x : Exchange = exchange_of (readable facts) front takes.decided r.body r.file last d.answers b.log a.share
-        takes.noted in
+        let heard : HeardFor = record { answers = d.answers; links = d.parts } in
+        let x : Exchange = exchange_of (readable facts) front takes.decided r.body r.file last heard b.log a.share takes.noted in
         let is : IsExchange scene last a x = exchange_is scene a takes.noted b.log (readable facts) front takes.decided r.body r.file last
-        d.answers d.is r.shows (record { head = h; valid = reads.says.3; says = facts_are head h reads.says.5; printed = refl }) in
+        heard d.told d.is d.asks r.shows (record { head = h; valid = reads.says.3; says = facts_are head h reads.says.5; printed = refl }) in
         head_written scene last a b v t.mid reads.came grows reads.comes cause.later t.apart reader_after x facts refl is refl refl
-        d.notes d.hears reads.says.4 reads.says.1 takes.decided (sent_len (sends_body (readable facts)) r.body) refl what
+        d.notes d.hears d.links reads.says.4 reads.says.1 takes.decided (sent_len (sends_body (readable facts)) r.body) refl what
         after r.ends takes.counts

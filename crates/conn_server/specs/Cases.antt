@@ -1,6 +1,6 @@
 -- The table of lawful replies (this project's rule): for what is asked, why it may be answered so. A constructor is a line, in
 -- the order in which they are looked for; a further case is one line more. `507` may stand for each reply from the route on.
-use Rattle.std.specs.Prelude.{◌≡◌, ℕ, true, false, List, [], Err, String, string_bytes}
+use Rattle.std.specs.Prelude.{◌≡◌, ℕ, ◌<◌, true, false, List, [], Option, Some, None, Err, String, string_bytes}
 use Rattle.std.specs.Global.{Global}
 use Rattle.index_rows.specs.declared.change.Change.{Change}
 use Rattle.tree_trait.specs.Heard.{Heard}
@@ -9,11 +9,15 @@ use Rattle.webapi_routes.specs.Targets.{IsSaidBy}
 use Rattle.webapi_routes.specs.declared.fault.RouteFault.{RouteFault}
 use Rattle.webapi_routes.specs.declared.route.Route.{Route}
 use Rattle.webapi_routes.specs.declared.route.Route.TheVariants as route
+use Rattle.answer_check.specs.declared.passed.Passed.{Passed}
 use Rattle.answer_core.specs.Local.{IsLocal}
 use Rattle.answer_core.specs.declared.local.Local.{Local}
 use Rattle.answer_core.specs.declared.local.Local.TheVariants as local
 use Rattle.dbgd_metrics.specs.Shares.{ShareFacts}
 use Rattle.dbgd_metrics.specs.Totals.{IsPage}
+use Rattle.federation.specs.Rows.{upstream_given}
+use Rattle.federation.specs.declared.asking.Upstream.{Upstream}
+use Rattle.federation.specs.declared.asking.Upstream.TheVariants as links
 use Rattle.conn_server.specs.Asked.{AsksForRoute, HeadFacts, IsTaken, Request, is_served, readable, refused}
 use Rattle.conn_server.specs.Replies.{reason_of_route}
 use Rattle.conn_server.specs.Scene.{Scene, Stand, sight_at}
@@ -30,6 +34,24 @@ IsPassed (local.File from path generation) = Unit {0}
 IsPassed (local.Section from path generation) = Unit {0}
 IsPassed (local.Source bytes path generation) = Unit {0}
 IsPassed _ = ⊥
+
+-- no candidate passed
+abbrev pub IsUnfound : Local → Type 0
+IsUnfound (local.Nothing generation) = Unit {0}
+IsUnfound (local.Fault generation) = Unit {0}
+IsUnfound _ = ⊥
+
+-- no answer of a link passed
+abbrev pub NothingPassed : Upstream → Type 0
+NothingPassed (links.Nobody others failed) = Unit {0}
+NothingPassed links.HopLimit = Unit {0}
+NothingPassed _ = ⊥
+
+-- memory was refused before the links were to be asked, or as they were
+abbrev pub GivesUp : Option Upstream → Type 0
+GivesUp None = Unit {0}
+GivesUp (Some links.OutOfMemory) = Unit {0}
+GivesUp _ = ⊥
 
 -- the generation of an answer
 abbrev pub generation_of : Local → ℕ
@@ -48,37 +70,51 @@ IsFileRoute (route.Section id name) = Unit {0}
 IsFileRoute (route.Source id path) = Unit {0}
 IsFileRoute route.Metrics = ⊥
 
--- what is asked, the reason of the reply, its generation, what it carries, and what the hand was asked and answered for it;
--- the page of the counters is by the own share as it was then, and by the loads that it has noted behind it
+-- what is asked, the reason of the reply, its generation, what it carries, what the hand was asked and answered for it, and what
+-- was told of the links, if they were to be asked; the page of the counters is by the own share as it was then, and by the loads
+-- that it has noted behind it
 pub data IsCase {T : Type 0} (scene : Scene T) (at : Stand T) (own noted : ShareFacts) (log : List Change) (request : Request)
-    : declared.Asked → Reason → ℕ → Body → List Heard → Type 0 where
+    : declared.Asked → Reason → ℕ → Body → List Heard → Option Upstream → Type 0 where
   bad_head : (len : ℕ) → request ≡ refused (head_fault.Bad len)
-      → IsCase scene at own noted log request (asked.Head (head_fault.Bad len)) reason.BadHead 0 bodies.Line []
+      → IsCase scene at own noted log request (asked.Head (head_fault.Bad len)) reason.BadHead 0 bodies.Line [] None
   too_long : request ≡ refused head_fault.TooLong
-      → IsCase scene at own noted log request (asked.Head head_fault.TooLong) reason.TooLarge 0 bodies.Line []
+      → IsCase scene at own noted log request (asked.Head head_fault.TooLong) reason.TooLarge 0 bodies.Line [] None
   too_many : request ≡ refused head_fault.TooMany
-      → IsCase scene at own noted log request (asked.Head head_fault.TooMany) reason.TooLarge 0 bodies.Line []
+      → IsCase scene at own noted log request (asked.Head head_fault.TooMany) reason.TooLarge 0 bodies.Line [] None
   method : (head : HeadFacts) → request ≡ readable head → is_served head.method ≡ false
-      → IsCase scene at own noted log request asked.Method reason.Method 0 bodies.Line []
+      → IsCase scene at own noted log request asked.Method reason.Method 0 bodies.Line [] None
   has_body : (head : HeadFacts) → request ≡ readable head → is_served head.method ≡ true → head.body ≡ true
-      → IsCase scene at own noted log request asked.Body reason.Body 0 bodies.Line []
+      → IsCase scene at own noted log request asked.Body reason.Body 0 bodies.Line [] None
   no_route : (head : HeadFacts) (fault : RouteFault) → request ≡ readable head → IsTaken head
       → IsSaidBy head.target (Err fault)
-      → IsCase scene at own noted log request (asked.NotRoute fault) (reason_of_route fault) 0 bodies.Line []
+      → IsCase scene at own noted log request (asked.NotRoute fault) (reason_of_route fault) 0 bodies.Line [] None
   metrics : (head : HeadFacts) (text : String Global) → request ≡ readable head → AsksForRoute head route.Metrics
       → IsPage scene.rows own noted (string_bytes text)
-      → IsCase scene at own noted log request (asked.Route route.Metrics) reason.Metrics 0 (bodies.Page text) []
+      → IsCase scene at own noted log request (asked.Route route.Metrics) reason.Metrics 0 (bodies.Page text) [] None
   no_page : (head : HeadFacts) → request ≡ readable head → AsksForRoute head route.Metrics
-      → IsCase scene at own noted log request (asked.Route route.Metrics) reason.OutOfMemory 0 bodies.Line []
+      → IsCase scene at own noted log request (asked.Route route.Metrics) reason.OutOfMemory 0 bodies.Line [] None
   passed : (head : HeadFacts) (route : Route) (answer : Local) (answers : List Heard) → request ≡ readable head
       → AsksForRoute head route → IsFileRoute route → IsLocal (sight_at scene at log answers) route answer → IsPassed answer
-      → IsCase scene at own noted log request (asked.Route route) reason.Local (generation_of answer) (bodies.Found answer) answers
-  read_fault : (head : HeadFacts) (route : Route) (n : ℕ) (answers : List Heard) → request ≡ readable head
+      → IsCase scene at own noted log request (asked.Route route) reason.Local (generation_of answer) (bodies.Found answer) answers None
+  upstream : (head : HeadFacts) (route : Route) (answer : Local) (answers : List Heard) (given : Passed) → request ≡ readable head
+      → AsksForRoute head route → IsFileRoute route → IsLocal (sight_at scene at log answers) route answer → IsUnfound answer
+      → IsCase scene at own noted log request (asked.Route route) reason.Upstream (generation_of answer) (bodies.Upstream given) answers
+      (Some (upstream_given given))
+  read_fault : (head : HeadFacts) (route : Route) (n : ℕ) (answers : List Heard) (told : Upstream) → request ≡ readable head
       → AsksForRoute head route → IsFileRoute route → IsLocal (sight_at scene at log answers) route (local.Fault n)
-      → IsCase scene at own noted log request (asked.Route route) reason.ReadFault n bodies.Line answers
-  not_found : (head : HeadFacts) (route : Route) (n : ℕ) (answers : List Heard) → request ≡ readable head
+      → NothingPassed told
+      → IsCase scene at own noted log request (asked.Route route) reason.ReadFault n bodies.Line answers (Some told)
+  hop_limit : (head : HeadFacts) (route : Route) (n : ℕ) (answers : List Heard) → request ≡ readable head
+      → AsksForRoute head route → IsFileRoute route → IsLocal (sight_at scene at log answers) route (local.Nothing n)
+      → IsCase scene at own noted log request (asked.Route route) reason.HopLimit n bodies.Line answers (Some links.HopLimit)
+  upstream_fault : (head : HeadFacts) (route : Route) (n : ℕ) (answers : List Heard) (others failed : ℕ) → request ≡ readable head
+      → AsksForRoute head route → IsFileRoute route → IsLocal (sight_at scene at log answers) route (local.Nothing n) → 0 < failed
+      → IsCase scene at own noted log request (asked.Route route) reason.UpstreamFault n bodies.Line answers
+      (Some (links.Nobody others failed))
+  not_found : (head : HeadFacts) (route : Route) (n : ℕ) (answers : List Heard) (others : ℕ) → request ≡ readable head
       → AsksForRoute head route → IsFileRoute route → IsLocal (sight_at scene at log answers) route (local.Nothing n)
       → IsCase scene at own noted log request (asked.Route route) reason.NotFound n bodies.Line answers
-  no_memory : (head : HeadFacts) (route : Route) (answers : List Heard) → request ≡ readable head → AsksForRoute head route
-      → IsFileRoute route
-      → IsCase scene at own noted log request (asked.Route route) reason.OutOfMemory 0 bodies.Line answers
+      (Some (links.Nobody others 0))
+  no_memory : (head : HeadFacts) (route : Route) (answers : List Heard) (told : Option Upstream) → request ≡ readable head
+      → AsksForRoute head route → IsFileRoute route → GivesUp told
+      → IsCase scene at own noted log request (asked.Route route) reason.OutOfMemory 0 bodies.Line answers told

@@ -4,17 +4,18 @@ use Rattle.std.specs.List.{flat_map}
 use mathlib.Core.List.{IsPrefix}
 use Rattle.row_types.specs.Faults.{Rose, summed}
 use Rattle.index_rows.specs.declared.change.Change.{Change}
-use Rattle.tree_trait.specs.Heard.{Heard}
 use Rattle.http_wire.specs.Heads.{RefusesAsHead}
 use Rattle.http_wire.specs.Source.{HasEnded}
 use Rattle.http_wire.specs.Stream.{ShownStream}
 use Rattle.http_wire.specs.declared.head.HeadFault.{HeadFault}
 use Rattle.http_wire.specs.declared.head.HeadFault.TheVariants.{Cut}
 use Rattle.answer_core.specs.Loads.{Hears}
+use Rattle.federation.specs.Heard.{LinkHeard}
 use Rattle.conn_server.specs.Asked.{HeadFacts, Request, closes_after, readable, refused}
 use Rattle.conn_server.specs.Tallied.{TalliesServed}
 use Rattle.conn_server.specs.Exchange.{Exchange, IsReplyDue, IsExchange, IsPartWritten, LeadsByExchange, LeavesUnanswered, Moves, NoMore}
-use Rattle.conn_server.specs.Replies.{says_read_fault}
+use Rattle.conn_server.specs.Links.{HeardFor, LinksFailed, LinksHear, all_parts, both_parts}
+use Rattle.conn_server.specs.Replies.{says_read_fault, says_upstream_fault}
 use Rattle.conn_server.specs.Scene.{Scene, Stand, Wire, hand_at}
 use Rattle.conn_server.specs.declared.connection.TheConstants.{REQUESTS}
 use Rattle.conn_server.specs.declared.report.ConnEnd.{ConnEnd}
@@ -47,16 +48,23 @@ abbrev pub LogsGrow : List Change → List Exchange → List Change → Type 0
 LogsGrow log [] after = IsPrefix log after
 LogsGrow log (x ∷ xs) after = IsPrefix log x.log × LogsGrow x.log xs after
 
+-- what each link was asked for these requests, and answered
+abbrev pub links_heard : List Exchange → List (List LinkHeard)
+links_heard xs = all_parts (map (λ x. x.links) xs)
+
 -- what follows of a row and what stands behind it, as seen from the first moment: each exchange is lawful by the objects as they
 -- stood then; what came was the heads and what is held; what was written is the replies, and this part of one more; what the
--- hand heard is cut into one part a request, and the rest; a load failed for each that was answered so
+-- hand heard is cut into one part a request, and the rest, and so is what each link heard; a load, or a link, failed for each that
+-- was answered so
 pub record IsRow
-    {T : Type 0} (scene : Scene T) (a : Stand T) (v : Wire) (xs : List Exchange) (rest : List Heard) (part : List ℕ)
+    {T : Type 0} (scene : Scene T) (a : Stand T) (v : Wire) (xs : List Exchange) (rest : HeardFor) (part : List ℕ)
     (b : Stand T) (w : Wire) : Type 0 where
   pub are : AreExchanges scene a 0 xs
   pub logs : LogsGrow a.log xs b.log
-  pub hears : Hears (hand_at scene a) (scene.shows b.hand) (flat_map (λ x. x.answers) xs ++ rest) ⊥
+  pub hears : Hears (hand_at scene a) (scene.shows b.hand) (flat_map (λ x. x.answers) xs ++ rest.answers) ⊥
+  pub asks : LinksHear a.links (both_parts (links_heard xs) rest.links) b.links
   pub failed : summed (scene.shows a.hand).faults (count_by (λ x. says_read_fault x.served.reason) xs) ≤ (scene.shows b.hand).faults
+  pub links_failed : LinksFailed a.links (count_by (λ x. says_upstream_fault x.served.reason) xs) b.links
   pub moves : Moves (flat_map (λ x. x.front) xs) (flat_map (λ x. x.bytes) xs ++ part) v w
 
 -- the connection goes on behind each of these replies but the last one, which answers this request and closes
@@ -86,7 +94,7 @@ pub record IsConnectionUntouched {T : Type 0} (a : Stand T) (v : Wire) (xs : Lis
 
 -- how a connection ended behind these requests, of which the last was answered where the objects stood like this, with its
 -- cause; memory was wanted before anything was read, or for a reply that was due
-abbrev pub EndsConnection : {T : Type 0} → Scene T → Stand T → Wire → ConnEnd → List Exchange → Stand T → List Heard → List ℕ → Stand T
+abbrev pub EndsConnection : {T : Type 0} → Scene T → Stand T → Wire → ConnEnd → List Exchange → Stand T → HeardFor → List ℕ → Stand T
     → Wire → Type 0
 EndsConnection scene a v end.Closed xs at rest part b w =
     (length xs < REQUESTS) × NoMore rest part × (LastHeadCloses xs ⊎ IsAllRead xs w)
@@ -111,7 +119,7 @@ pub record ServesAll
   pub at : Stand T
   pub held_at : Wire
   pub row : ExchangesRow scene a v xs at held_at
-  pub rest : List Heard
+  pub rest : HeardFor
   pub part : List ℕ
   pub leaves : LeavesUnanswered scene rest part at held_at b w
   pub flat : IsRow scene a v xs rest part b w

@@ -1,5 +1,5 @@
 -- What is decided for a request before its reply is written (this project's rule).
-use Rattle.std.specs.Prelude.{◌≡◌, ℕ, List, Result, Ok, Err, String}
+use Rattle.std.specs.Prelude.{◌≡◌, ℕ, ◌==◌, Bool, true, false, List, length, Option, Result, Ok, Err, String, if◌then◌else◌}
 use Rattle.std.specs.Global.{Global}
 use Rattle.tree_trait.specs.Heard.{Heard}
 use Rattle.webapi_routes.specs.declared.route.Route.{Route}
@@ -7,9 +7,18 @@ use Rattle.webapi_routes.specs.declared.route.Route.TheVariants.{Metrics}
 use Rattle.answer_core.specs.Loads.{Hears}
 use Rattle.answer_core.specs.declared.local.Local.{Local}
 use Rattle.answer_core.specs.declared.local.Local.TheVariants as local
+use Rattle.answer_check.specs.declared.passed.Passed.TheVariants as passing
 use Rattle.dbgd_metrics.specs.Totals.{OnlyNotes}
+use Rattle.federation.specs.AskAll.{AsksLinks}
+use Rattle.federation.specs.Heard.{LinkHeard}
+use Rattle.federation.specs.Link.{ShownLink}
+use Rattle.federation.specs.declared.asking.Upstream.{Upstream}
+use Rattle.federation.specs.declared.asking.Upstream.TheVariants as upstream
 use Rattle.conn_server.specs.Asked.{AsksForRoute, HeadFacts, Request, readable}
 use Rattle.conn_server.specs.Cases.{IsCase}
+use Rattle.conn_server.specs.Exchange.{LoadFailed}
+use Rattle.conn_server.specs.Lawful.{AsksLinksFor}
+use Rattle.conn_server.specs.Links.{LinksHear}
 use Rattle.conn_server.specs.Scene.{Scene, Stand, hand_at}
 use Rattle.conn_server.specs.declared.body.Body.{Body}
 use Rattle.conn_server.specs.declared.body.Body.TheVariants as bodies
@@ -27,14 +36,43 @@ plain what why = record { asked = what; reason = why; generation = 0; body = bod
 abbrev pub for_route : Route → Reason → ℕ → Body → declared.Decided
 for_route route why n carried = record { asked = asked.Route route; reason = why; generation = n; body = carried }
 
--- what is decided by a local answer
-abbrev pub by_local : Route → Local → declared.Decided
-by_local route (local.File from path n) = for_route route reason.Local n (bodies.Found (local.File from path n))
-by_local route (local.Section from path n) = for_route route reason.Local n (bodies.Found (local.Section from path n))
-by_local route (local.Source bytes path n) = for_route route reason.Local n (bodies.Found (local.Source bytes path n))
-by_local route (local.Nothing n) = for_route route reason.NotFound n bodies.Line
-by_local route (local.Fault n) = for_route route reason.ReadFault n bodies.Line
-by_local route local.OutOfMemory = plain (asked.Route route) reason.OutOfMemory
+-- what is decided where nothing passed: a load that failed comes before what is said of the links
+abbrev pub for_unfound : Route → ℕ → Bool → Reason → declared.Decided
+for_unfound route n failed why = for_route route (if failed then reason.ReadFault else why) n bodies.Line
+
+-- what is decided by what is told of the links, where no candidate passed at a generation, and perhaps a load failed
+abbrev pub by_links : Route → ℕ → Bool → Upstream → declared.Decided
+by_links route n failed (upstream.File file) = for_route route reason.Upstream n (bodies.Upstream (passing.File file))
+by_links route n failed (upstream.Section section) = for_route route reason.Upstream n (bodies.Upstream (passing.Section section))
+by_links route n failed (upstream.Source bytes) = for_route route reason.Upstream n (bodies.Upstream (passing.Source bytes))
+by_links route n failed (upstream.Nobody refused faults) =
+    for_unfound route n failed (if faults == 0 then reason.NotFound else reason.UpstreamFault)
+by_links route n failed upstream.HopLimit = for_unfound route n failed reason.HopLimit
+by_links route n failed upstream.OutOfMemory = plain (asked.Route route) reason.OutOfMemory
+
+-- the links are asked, and what is told of them decides
+pub record FollowsLinks
+    (olds : List ShownLink) (route : Route) (hops n : ℕ) (failed : Bool) (decided : declared.Decided) (news : List ShownLink)
+    : Type 0 where
+  pub told : Upstream
+  pub asks : AsksLinks olds route hops news told
+  pub by : decided ≡ by_links route n failed told
+
+-- no link is asked, and what passed here is sent
+abbrev pub FollowsPassed : List ShownLink → Route → ℕ → Local → declared.Decided → List ShownLink → Type 0
+FollowsPassed olds route n passed decided news = (decided ≡ for_route route reason.Local n (bodies.Found passed)) × (news ≡ olds)
+
+-- the local answer decides, and where no candidate passed the links do
+abbrev pub FollowsLocal : List ShownLink → Route → ℕ → Local → declared.Decided → List ShownLink → Type 0
+FollowsLocal olds route hops (local.File from path n) decided news = FollowsPassed olds route n (local.File from path n) decided news
+FollowsLocal olds route hops (local.Section from path n) decided news =
+    FollowsPassed olds route n (local.Section from path n) decided news
+FollowsLocal olds route hops (local.Source bytes path n) decided news =
+    FollowsPassed olds route n (local.Source bytes path n) decided news
+FollowsLocal olds route hops (local.Nothing n) decided news = FollowsLinks olds route hops n false decided news
+FollowsLocal olds route hops (local.Fault n) decided news = FollowsLinks olds route hops n true decided news
+FollowsLocal olds route hops local.OutOfMemory decided news =
+    (decided ≡ plain (asked.Route route) reason.OutOfMemory) × (news ≡ olds)
 
 -- what is decided by the page of the counters, where there is memory for it
 abbrev pub by_page : {E : Type 0} → Result (String Global) E → declared.Decided
@@ -46,11 +84,16 @@ pub record Decides
     {T : Type 0} (scene : Scene T) (before : Stand T) (request : Request) (decided : declared.Decided) (after : Stand T)
     : Type 0 where
   pub answers : List Heard
-  pub hears : Hears (hand_at scene before) (scene.shows after.hand) answers (decided.reason ≡ reason.ReadFault)
+  pub parts : List (List LinkHeard)
+  pub told : Option Upstream
+  pub hears : Hears (hand_at scene before) (scene.shows after.hand) answers (LoadFailed decided.reason answers)
+  pub links : LinksHear before.links parts after.links
+  pub asks : AsksLinksFor told (length before.links) request decided.asked parts
   pub notes : OnlyNotes before.share after.share
-  pub is : IsCase scene before before.share after.share after.log request decided.asked decided.reason decided.generation decided.body answers
+  pub is : IsCase scene before before.share after.share after.log request decided.asked decided.reason decided.generation decided.body
+      answers told
 
--- the same of whichever head asks for this route
-abbrev pub DecidesRoute : {T : Type 0} → Scene T → Stand T → Route → declared.Decided → Stand T → Type 0
-DecidesRoute scene before route decided after =
-    (head : HeadFacts) → AsksForRoute head route → Decides scene before (readable head) decided after
+-- the same of whichever head asks for this route with these hops
+abbrev pub DecidesRoute : {T : Type 0} → Scene T → Stand T → Route → ℕ → declared.Decided → Stand T → Type 0
+DecidesRoute scene before route hops decided after =
+    (head : HeadFacts) → AsksForRoute head route → head.hops ≡ hops → Decides scene before (readable head) decided after

@@ -10,23 +10,25 @@ use Rattle.http_wire.specs.Told.{Gains}
 use Rattle.http_wire.specs.declared.door.DoorSaid.{DoorSaid}
 use Rattle.http_wire.specs.declared.door.DoorSaid.TheVariants as said
 use Rattle.answer_core.specs.Loads.{Hears}
-use Rattle.conn_server.specs.Connection.{AreExchanges, LogsGrow, Serves}
+use Rattle.federation.specs.Heard.{LinkHeard}
+use Rattle.conn_server.specs.Connection.{AreExchanges, LogsGrow, Serves, links_heard}
 use Rattle.conn_server.specs.Tallied.{TalliesServed}
 use Rattle.conn_server.specs.Exchange.{Exchange}
-use Rattle.conn_server.specs.Replies.{says_read_fault}
+use Rattle.conn_server.specs.Links.{HeardFor, LinksFailed, LinksHear, all_parts, both_parts}
+use Rattle.conn_server.specs.Replies.{says_read_fault, says_upstream_fault}
 use Rattle.conn_server.specs.Scene.{Scene, Stand, hand_at}
 use Rattle.conn_server.specs.declared.door.DoorEnd.{DoorEnd}
 use Rattle.conn_server.specs.declared.door.DoorEnd.TheVariants as end
 use Rattle.conn_server.specs.declared.report.ConnReport.{ConnReport}
 
 -- one connection of a door: its stream as it came and as it was handed back, what is told of it, its requests that were
--- answered, and what the hand was asked for one more and answered
+-- answered, and what was asked for one more and answered
 pub record Visit : Type 0 where
   pub came : ShownStream
   pub ended : ShownStream
   pub report : ConnReport
   pub xs : List Exchange
-  pub rest : List Heard
+  pub rest : HeardFor
 
 -- the connection was served so, from this moment to that one
 pub record IsVisit {T : Type 0} (scene : Scene T) (a : Stand T) (one : Visit) (b : Stand T) : Type 0 where
@@ -46,7 +48,11 @@ all_exchanges visits = flat_map (λ one. one.xs) visits
 
 -- what the hand was asked for a connection and answered: a part for each of its requests, and the rest
 abbrev pub visit_answers : Visit → List Heard
-visit_answers one = flat_map (λ x. x.answers) one.xs ++ one.rest
+visit_answers one = flat_map (λ x. x.answers) one.xs ++ one.rest.answers
+
+-- what each link was asked for a connection and answered
+abbrev pub visit_parts : Visit → List (List LinkHeard)
+visit_parts one = both_parts (links_heard one.xs) one.rest.links
 
 -- the exchanges of these connections are lawful by the objects as they stood at one moment
 abbrev pub AreVisits : {T : Type 0} → Scene T → Stand T → List Visit → Type 0
@@ -55,8 +61,9 @@ AreVisits scene at (one ∷ visits) = AreExchanges scene at 0 one.xs × AreVisit
 
 -- connections of a door, from a first moment to a last one: they are a row; those that came were handed back, in order, and no
 -- others; and as seen from the first moment: each exchange is lawful by the objects as they stood then; the logs of the requests
--- go on from the first one up to the last; what the hand heard is cut into one part a request, and a rest for each connection; a
--- load failed for each that was answered so; and the share has grown by what is told of all connections
+-- go on from the first one up to the last; what the hand heard is cut into one part a request, and a rest for each connection, and
+-- so is what each link heard; a load, or a link, failed for each that was answered so; and the share has grown by what is told of
+-- all connections
 pub record ServesVisits
     {T : Type 0} (scene : Scene T) (a : Stand T) (before : ShownDoor) (b : Stand T) (after : ShownDoor) : Type 0 where
   pub visits : List Visit
@@ -67,8 +74,10 @@ pub record ServesVisits
   pub are : AreVisits scene a visits
   pub logs : LogsGrow a.log (all_exchanges visits) b.log
   pub hears : Hears (hand_at scene a) (scene.shows b.hand) (flat_map visit_answers visits) ⊥
+  pub asks : LinksHear a.links (all_parts (map visit_parts visits)) b.links
   pub failed : summed (scene.shows a.hand).faults (count_by (λ x. says_read_fault x.served.reason) (all_exchanges visits))
       ≤ (scene.shows b.hand).faults
+  pub links_failed : LinksFailed a.links (count_by (λ x. says_upstream_fault x.served.reason) (all_exchanges visits)) b.links
   pub tallies : TalliesServed (flat_map (λ one. one.report.served.items) visits) a.share b.share
 
 -- what a door said last that ended so

@@ -1,34 +1,44 @@
 -- One request with its reply (this project's rule), what it leads to, and what stands behind the last one.
-use Rattle.std.specs.Prelude.{◌≡◌, ℕ, ◌<◌, ◌≤◌, Bool, List, [], ◌++◌, Option, length, take}
+use Rattle.std.specs.Prelude.{◌≡◌, ℕ, ◌<◌, ◌≤◌, Bool, true, List, [], ◌++◌, Option, length, take}
+use Rattle.std.specs.List.{list_any}
 use mathlib.Core.List.{IsPrefix}
 use Rattle.httparse.specs.Grammar.{RequestHead, print_request}
 use Rattle.index_rows.specs.declared.change.Change.{Change}
-use Rattle.tree_trait.specs.Heard.{Heard}
+use Rattle.tree_trait.specs.Heard.{Heard, call_failed}
 use Rattle.http_wire.specs.Heads.{IsServed, RefusesAsHead}
 use Rattle.http_wire.specs.Sink.{Appends}
 use Rattle.http_wire.specs.Source.{ComesFrom}
 use Rattle.answer_core.specs.Loads.{Hears}
 use Rattle.dbgd_metrics.specs.Shares.{ShareFacts}
 use Rattle.dbgd_metrics.specs.Totals.{OnlyNotes}
+use Rattle.federation.specs.Heard.{LinkHeard}
 use Rattle.conn_server.specs.Asked.{HeadFacts, Request, head_facts, readable, refused}
 use Rattle.conn_server.specs.Tallied.{CountsRequest}
 use Rattle.conn_server.specs.Lawful.{IsLawful}
+use Rattle.conn_server.specs.Links.{HeardFor, LinksHear, unheard}
 use Rattle.conn_server.specs.PassedOver.{FindsAll}
 use Rattle.conn_server.specs.Scene.{Scene, Stand, Wire, hand_at, sight_at}
+use Rattle.conn_server.specs.declared.reason.Reason.{Reason}
 use Rattle.conn_server.specs.declared.reason.Reason.TheVariants as reason
 use Rattle.conn_server.specs.declared.report.Served.{Served}
 
 -- one request with its reply: the bytes of its head, what is told of it, the bytes of the reply, what the hand was asked for
--- it and answered, the log that the token had seen behind it, and the share before the request was decided and behind that
+-- it and answered, and each of the links, the log that the token had seen behind it, and the share before the request was decided
+-- and behind that
 pub record Exchange : Type 0 where
   pub request : Request
   pub front : List ℕ
   pub served : Served
   pub bytes : List ℕ
   pub answers : List Heard
+  pub links : List (List LinkHeard)
   pub log : List Change
   pub own : ShareFacts
   pub noted : ShareFacts
+
+-- what was asked for it and answered
+abbrev pub heard_for : Exchange → HeardFor
+heard_for x = record { answers = x.answers; links = x.links }
 
 -- the bytes are those of a head that is served, and that says this
 pub record IsHeadThatSays (facts : HeadFacts) (front : List ℕ) : Type 0 where
@@ -45,15 +55,22 @@ IsFrontOf (refused fault) front = front ≡ []
 -- the exchange is lawful by the objects as they stood, passes over no candidate, and its head is that of its request; it may be
 -- the last that a connection has
 pub record IsExchange {T : Type 0} (scene : Scene T) (last : Bool) (at : Stand T) (x : Exchange) : Type 0 where
-  pub lawful : IsLawful scene at x.own x.noted x.log x.answers x.request last x.served x.bytes
+  pub lawful : IsLawful scene at x.own x.noted x.log x.answers x.links x.request last x.served x.bytes
   pub complete : FindsAll (sight_at scene at x.log x.answers) x.served.asked x.served.reason
   pub fronts : IsFrontOf x.request x.front
+
+-- no candidate passed and a load failed, by the reply and what the hand answered: what a link's answer gave may be sent then
+abbrev pub LoadFailed : Reason → List Heard → Type 0
+LoadFailed reason.ReadFault answers = Unit {0}
+LoadFailed reason.Upstream answers = list_any call_failed answers ≡ true
+LoadFailed _ answers = ⊥
 
 -- an exchange leads from a stand to the next one: a line for each object
 pub record LeadsByExchange {T : Type 0} (scene : Scene T) (x : Exchange) (a b : Stand T) : Type 0 where
   pub log : IsPrefix a.log b.log
   pub seen : x.log ≡ b.log
-  pub hand : Hears (hand_at scene a) (scene.shows b.hand) x.answers (x.served.reason ≡ reason.ReadFault)
+  pub hand : Hears (hand_at scene a) (scene.shows b.hand) x.answers (LoadFailed x.served.reason x.answers)
+  pub links : LinksHear a.links x.links b.links
   pub own : x.own ≡ a.share
   pub share : CountsRequest x.served a.share x.noted b.share
 
@@ -67,16 +84,17 @@ pub record Moves (front bytes : List ℕ) (a b : Wire) : Type 0 where
   pub write_faults : a.stream.write_faults ≤ b.stream.write_faults
 
 -- without a whole reply this was heard, came and was written, and nothing was counted
-pub record LeavesUnanswered {T : Type 0} (scene : Scene T) (rest : List Heard) (part : List ℕ) (a : Stand T) (v : Wire) (b : Stand T) (w : Wire)
+pub record LeavesUnanswered {T : Type 0} (scene : Scene T) (rest : HeardFor) (part : List ℕ) (a : Stand T) (v : Wire) (b : Stand T) (w : Wire)
     : Type 0 where
   pub log : IsPrefix a.log b.log
-  pub hand : Hears (hand_at scene a) (scene.shows b.hand) rest ⊥
+  pub hand : Hears (hand_at scene a) (scene.shows b.hand) rest.answers ⊥
+  pub links : LinksHear a.links rest.links b.links
   pub share : OnlyNotes a.share b.share
   pub moves : Moves [] part v w
 
 -- nothing was heard or written for a further request
-abbrev pub NoMore : List Heard → List ℕ → Type 0
-NoMore rest part = (rest ≡ []) × (part ≡ [])
+abbrev pub NoMore : HeardFor → List ℕ → Type 0
+NoMore rest part = (rest ≡ unheard) × (part ≡ [])
 
 -- where the request is no head, the bytes that are held are refused for it
 abbrev pub IsWhy : Request → List ℕ → Option (List ℕ) → Type 0
@@ -85,11 +103,11 @@ IsWhy (refused fault) held left = RefusesAsHead fault held left
 
 -- a lawful reply to the next request is due: it was decided by what was heard, and its head is in front of what is held
 pub record IsReplyDue
-    {T : Type 0} (scene : Scene T) (last : Bool) (at : Stand T) (rest : List Heard) (log : List Change) (share : ShareFacts) (w : Wire)
+    {T : Type 0} (scene : Scene T) (last : Bool) (at : Stand T) (rest : HeardFor) (log : List Change) (share : ShareFacts) (w : Wire)
     : Type 0 where
   pub one : Exchange
   pub is : IsExchange scene last at one
-  pub heard : one.answers ≡ rest
+  pub heard : heard_for one ≡ rest
   pub logged : one.log ≡ log
   pub own : one.own ≡ at.share
   pub noted : one.noted ≡ share
@@ -99,7 +117,7 @@ pub record IsReplyDue
 
 -- a proper part of it was written
 pub record IsPartWritten
-    {T : Type 0} (scene : Scene T) (last : Bool) (at : Stand T) (rest : List Heard) (part : List ℕ) (log : List Change)
+    {T : Type 0} (scene : Scene T) (last : Bool) (at : Stand T) (rest : HeardFor) (part : List ℕ) (log : List Change)
     (share : ShareFacts) (w : Wire) : Type 0 where
   pub due : IsReplyDue scene last at rest log share w
   pub count : ℕ

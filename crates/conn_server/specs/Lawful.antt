@@ -1,5 +1,5 @@
 -- The lawful reply (this project's rule): a case of the table, told and spelled so. Below it stands what follows of every case.
-use Rattle.std.specs.Prelude.{◌≡◌, ℕ, Bool, List, [], length, Option, Some, if◌then◌else◌, string_bytes}
+use Rattle.std.specs.Prelude.{◌≡◌, ℕ, ◌<◌, Bool, List, [], length, Option, Some, None, if◌then◌else◌, string_bytes}
 use Rattle.answer_check.specs.Certified.{IsCertified}
 use Rattle.index_rows.specs.declared.change.Change.{Change}
 use Rattle.row_types.specs.declared.identity.Kind.{Kind}
@@ -14,8 +14,14 @@ use Rattle.answer_core.specs.declared.local.Local.{Local}
 use Rattle.answer_core.specs.declared.local.Local.TheVariants as local
 use Rattle.dbgd_metrics.specs.Shares.{ShareFacts}
 use Rattle.dbgd_metrics.specs.Totals.{IsPage}
-use Rattle.conn_server.specs.Asked.{Request, closes_after, sends_body}
-use Rattle.conn_server.specs.Cases.{IsCase, IsFileRoute, IsPassed, generation_of}
+use Rattle.answer_check.specs.declared.passed.Passed.{Passed}
+use Rattle.federation.specs.Heard.{LinkHeard}
+use Rattle.federation.specs.Rows.{upstream_given}
+use Rattle.federation.specs.declared.asking.Upstream.{Upstream}
+use Rattle.federation.specs.declared.asking.Upstream.TheVariants as upstream
+use Rattle.conn_server.specs.Asked.{Request, closes_after, readable, sends_body}
+use Rattle.conn_server.specs.Cases.{GivesUp, IsCase, IsFileRoute, IsPassed, IsUnfound, NothingPassed, generation_of}
+use Rattle.conn_server.specs.Links.{AsksEachLink}
 use Rattle.conn_server.specs.Replies.{Shows, bytes_of, status_of}
 use Rattle.conn_server.specs.Scene.{Scene, Stand}
 use Rattle.conn_server.specs.declared.body.Body.{Body}
@@ -45,18 +51,26 @@ pub record IsReplied (request : Request) (last : Bool) (served : Served) (bytes 
   pub body : List ℕ
   pub file : Option (List ℕ)
   pub shows : Shows served.reason carried body file
-  pub carries : served.reason ≡ reason.Local → Carries served.asked body
+  pub carries : served.status ≡ 200 → Carries served.asked body
   pub status : served.status ≡ status_of served.reason
   pub len : served.len ≡ (if sends_body request then length body else 0)
   pub spelled : bytes ≡ bytes_of served.reason body file (closes_after request last) (sends_body request)
 
--- the reply to a request is lawful: a case of the table, by the hand and the own share as they stood, and by what the hand was
--- asked and answered
+-- what so many links were asked for a request: nothing, or each what its route asks, with the hops of its head
+abbrev pub AsksLinksFor : Option Upstream → ℕ → Request → declared.Asked → List (List LinkHeard) → Type 0
+AsksLinksFor None links request what parts = parts ≡ []
+AsksLinksFor (Some told) links (readable head) (asked.Route given) parts = AsksEachLink links given head.hops parts told
+AsksLinksFor _ _ _ _ _ = ⊥
+
+-- the reply to a request is lawful: a case of the table, by the hand and the own share as they stood, and by what the hand and the
+-- links were asked and answered
 pub record IsLawful
     {T : Type 0} (scene : Scene T) (at : Stand T) (own noted : ShareFacts) (log : List Change) (answers : List Heard)
-    (request : Request) (last : Bool) (served : Served) (bytes : List ℕ) : Type 0 where
+    (parts : List (List LinkHeard)) (request : Request) (last : Bool) (served : Served) (bytes : List ℕ) : Type 0 where
   pub carried : Body
-  pub is : IsCase scene at own noted log request served.asked served.reason served.gen_ carried answers
+  pub told : Option Upstream
+  pub is : IsCase scene at own noted log request served.asked served.reason served.gen_ carried answers told
+  pub asks : AsksLinksFor told (length at.links) request served.asked parts
   pub replied : IsReplied request last served bytes carried
 
 -- the local answer to a route of files is this one, by what was seen and heard; where none is asked the hand isn't either
@@ -65,23 +79,27 @@ RestsOn sight (asked.Route route.Metrics) answer = sight.answers ≡ []
 RestsOn sight (asked.Route given) answer = IsLocal sight given answer
 RestsOn sight _ answer = sight.answers ≡ []
 
--- the table of the replies that are a line: what is asked, and the local answer to a route, with the reason of the reply and the
--- generation
-abbrev pub EarnsText : declared.Asked → Local → Reason → ℕ → Type 0
-EarnsText (asked.Head (head_fault.Bad len)) answer reason.BadHead n = n ≡ 0
-EarnsText (asked.Head head_fault.TooLong) answer reason.TooLarge n = n ≡ 0
-EarnsText (asked.Head head_fault.TooMany) answer reason.TooLarge n = n ≡ 0
-EarnsText asked.Method answer reason.Method n = n ≡ 0
-EarnsText asked.Body answer reason.Body n = n ≡ 0
-EarnsText (asked.NotRoute route_fault.BadEscape) answer reason.BadEscape n = n ≡ 0
-EarnsText (asked.NotRoute route_fault.NoRoute) answer reason.NoRoute n = n ≡ 0
-EarnsText (asked.NotRoute route_fault.BadId) answer reason.BadId n = n ≡ 0
-EarnsText (asked.NotRoute route_fault.BadPath) answer reason.BadPath n = n ≡ 0
-EarnsText (asked.NotRoute route_fault.OutOfMemory) answer reason.OutOfMemory n = n ≡ 0
-EarnsText (asked.Route given) answer reason.ReadFault n = IsFileRoute given × (answer ≡ local.Fault n)
-EarnsText (asked.Route given) answer reason.NotFound n = IsFileRoute given × (answer ≡ local.Nothing n)
-EarnsText (asked.Route given) answer reason.OutOfMemory n = (answer ≡ local.OutOfMemory) × (n ≡ 0)
-EarnsText _ _ _ _ = ⊥
+-- the table of the replies that are a line: what is asked, and the local answer to a route and what is told of the links, with the
+-- reason of the reply and the generation
+abbrev pub EarnsText : declared.Asked → Local → Option Upstream → Reason → ℕ → Type 0
+EarnsText (asked.Head (head_fault.Bad len)) answer told reason.BadHead n = n ≡ 0
+EarnsText (asked.Head head_fault.TooLong) answer told reason.TooLarge n = n ≡ 0
+EarnsText (asked.Head head_fault.TooMany) answer told reason.TooLarge n = n ≡ 0
+EarnsText asked.Method answer told reason.Method n = n ≡ 0
+EarnsText asked.Body answer told reason.Body n = n ≡ 0
+EarnsText (asked.NotRoute route_fault.BadEscape) answer told reason.BadEscape n = n ≡ 0
+EarnsText (asked.NotRoute route_fault.NoRoute) answer told reason.NoRoute n = n ≡ 0
+EarnsText (asked.NotRoute route_fault.BadId) answer told reason.BadId n = n ≡ 0
+EarnsText (asked.NotRoute route_fault.BadPath) answer told reason.BadPath n = n ≡ 0
+EarnsText (asked.NotRoute route_fault.OutOfMemory) answer told reason.OutOfMemory n = n ≡ 0
+EarnsText (asked.Route given) answer (Some told) reason.ReadFault n = IsFileRoute given × (answer ≡ local.Fault n) × NothingPassed told
+EarnsText (asked.Route given) answer (Some upstream.HopLimit) reason.HopLimit n = IsFileRoute given × (answer ≡ local.Nothing n)
+EarnsText (asked.Route given) answer (Some (upstream.Nobody refused failed)) reason.UpstreamFault n =
+    IsFileRoute given × (answer ≡ local.Nothing n) × (0 < failed)
+EarnsText (asked.Route given) answer (Some (upstream.Nobody refused failed)) reason.NotFound n =
+    IsFileRoute given × (answer ≡ local.Nothing n) × (failed ≡ 0)
+EarnsText (asked.Route given) answer told reason.OutOfMemory n = (answer ≡ local.OutOfMemory) × (n ≡ 0) × GivesUp told
+EarnsText _ _ _ _ _ = ⊥
 
 -- a route of files is asked
 abbrev pub IsFileAsked : declared.Asked → Type 0
@@ -89,12 +107,23 @@ IsFileAsked (asked.Route given) = IsFileRoute given
 IsFileAsked _ = ⊥
 
 -- what passed is sent where it is the local answer to a route
-pub record EarnsPassed (what : declared.Asked) (answer : Local) (why : Reason) (passed : Local) (n : ℕ) : Type 0 where
+pub record EarnsPassed
+    (what : declared.Asked) (answer : Local) (told : Option Upstream) (why : Reason) (passed : Local) (n : ℕ) : Type 0 where
   pub files : IsFileAsked what
   pub local : why ≡ reason.Local
   pub is : IsPassed passed
   pub answered : answer ≡ passed
+  pub unasked : told ≡ None
   pub at : n ≡ generation_of passed
+
+-- what passed of a link's answer is sent where no candidate passed
+pub record EarnsUpstream
+    (what : declared.Asked) (answer : Local) (told : Option Upstream) (why : Reason) (given : Passed) (n : ℕ) : Type 0 where
+  pub files : IsFileAsked what
+  pub upstream : why ≡ reason.Upstream
+  pub unfound : IsUnfound answer
+  pub gives : told ≡ Some (upstream_given given)
+  pub at : n ≡ generation_of answer
 
 -- the page of the counters is sent where it is asked: by the own share as it stood, and by the loads that it noted
 pub record EarnsPage
@@ -104,15 +133,17 @@ pub record EarnsPage
   pub at : n ≡ 0
   pub is : IsPage rows own noted text
 
--- a reply is earned: a line, what passed, or the page of the counters
-abbrev pub Earns : ℕ → ShareFacts → ShareFacts → declared.Asked → Local → Reason → Body → ℕ → Type 0
-Earns rows own noted what answer why bodies.Line n = EarnsText what answer why n
-Earns rows own noted what answer why (bodies.Found passed) n = EarnsPassed what answer why passed n
-Earns rows own noted what answer why (bodies.Page text) n = EarnsPage rows own noted what why (string_bytes text) n
+-- a reply is earned: a line, what passed here or of a link's answer, or the page of the counters
+abbrev pub Earns : ℕ → ShareFacts → ShareFacts → declared.Asked → Local → Option Upstream → Reason → Body → ℕ → Type 0
+Earns rows own noted what answer told why bodies.Line n = EarnsText what answer told why n
+Earns rows own noted what answer told why (bodies.Found passed) n = EarnsPassed what answer told why passed n
+Earns rows own noted what answer told why (bodies.Upstream given) n = EarnsUpstream what answer told why given n
+Earns rows own noted what answer told why (bodies.Page text) n = EarnsPage rows own noted what why (string_bytes text) n
 
--- what is decided rests on a local answer, which earns it, or on the own share as it stood
+-- what is decided rests on a local answer and on what is told of the links, which earn it, or on the own share as it stood
 pub record IsEarned
-    (rows : ℕ) (own noted : ShareFacts) (sight : Sight) (what : declared.Asked) (why : Reason) (carried : Body) (n : ℕ) : Type 0 where
+    (rows : ℕ) (own noted : ShareFacts) (sight : Sight) (told : Option Upstream) (what : declared.Asked) (why : Reason)
+    (carried : Body) (n : ℕ) : Type 0 where
   pub answer : Local
   pub rests : RestsOn sight what answer
-  pub earns : Earns rows own noted what answer why carried n
+  pub earns : Earns rows own noted what answer told why carried n

@@ -13,6 +13,11 @@ pub use Rattle.dbgd_metrics.specs.Counts
 pub use Rattle.dbgd_metrics.specs.Numbers
 pub use Rattle.dbgd_metrics.specs.Shares
 pub use Rattle.dbgd_metrics.specs.Totals
+pub use Rattle.federation.specs.AskAll
+pub use Rattle.federation.specs.Heard
+pub use Rattle.federation.specs.Link
+pub use Rattle.federation.specs.Replies as LinkReplies
+pub use Rattle.federation.specs.Rows
 pub use Rattle.webapi_routes.specs.Targets
 pub mod Asked
 pub mod Cases
@@ -21,6 +26,7 @@ pub mod Decided
 pub mod Doors
 pub mod Exchange
 pub mod Lawful
+pub mod Links
 pub mod PassedOver
 pub mod Replies
 pub mod Scene

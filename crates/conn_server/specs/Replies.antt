@@ -7,6 +7,8 @@ use Rattle.http_wire.specs.declared.head.HeadFault.TheVariants as head_fault
 use Rattle.http_wire.specs.declared.reply.ReplyHead.{ReplyHead}
 use Rattle.webapi_routes.specs.declared.fault.RouteFault.{RouteFault}
 use Rattle.webapi_routes.specs.declared.fault.RouteFault.TheVariants as route_fault
+use Rattle.answer_check.specs.declared.passed.Passed.{Passed}
+use Rattle.answer_check.specs.declared.passed.Passed.TheVariants as passing
 use Rattle.answer_core.specs.declared.local.Local.{Local}
 use Rattle.answer_core.specs.declared.local.Local.TheVariants as local
 use Rattle.conn_server.specs.declared.body.Body.{Body}
@@ -17,6 +19,7 @@ use Rattle.conn_server.specs.declared.reason.Reason.TheVariants as reason
 -- the status of a reason
 abbrev pub status_of : Reason → ℕ
 status_of reason.Local = 200
+status_of reason.Upstream = 200
 status_of reason.Metrics = 200
 status_of reason.BadHead = 400
 status_of reason.TooLarge = 431
@@ -26,13 +29,16 @@ status_of reason.BadEscape = 400
 status_of reason.NoRoute = 404
 status_of reason.BadId = 400
 status_of reason.BadPath = 400
+status_of reason.HopLimit = 404
 status_of reason.NotFound = 404
+status_of reason.UpstreamFault = 502
 status_of reason.ReadFault = 503
 status_of reason.OutOfMemory = 507
 
--- the text of a reason; a file that passed and the counters have none
+-- the text of a reason; what passed and the counters have none
 abbrev pub reason_text : Reason → List ℕ
 reason_text reason.Local = []
+reason_text reason.Upstream = []
 reason_text reason.Metrics = []
 reason_text reason.BadHead = codes "bad request\n"
 reason_text reason.TooLarge = codes "too large\n"
@@ -42,7 +48,9 @@ reason_text reason.BadEscape = codes "bad escape\n"
 reason_text reason.NoRoute = codes "no route\n"
 reason_text reason.BadId = codes "bad build-id\n"
 reason_text reason.BadPath = codes "bad path\n"
+reason_text reason.HopLimit = codes "hop limit\n"
 reason_text reason.NotFound = codes "not found\n"
+reason_text reason.UpstreamFault = codes "upstream fault\n"
 reason_text reason.ReadFault = codes "read fault\n"
 reason_text reason.OutOfMemory = codes "out of memory\n"
 
@@ -50,6 +58,11 @@ reason_text reason.OutOfMemory = codes "out of memory\n"
 abbrev pub says_read_fault : Reason → Bool
 says_read_fault reason.ReadFault = true
 says_read_fault _ = false
+
+-- whether a reply says that a link failed
+abbrev pub says_upstream_fault : Reason → Bool
+says_upstream_fault reason.UpstreamFault = true
+says_upstream_fault _ = false
 
 -- why a target that asks for no route gets its reply
 abbrev pub reason_of_route : RouteFault → Reason
@@ -74,16 +87,24 @@ ShowsPassed (local.Section from path generation) bytes file =
 ShowsPassed (local.Source source path generation) bytes file = (bytes ≡ source.items) × (file ≡ Some path)
 ShowsPassed _ bytes file = ⊥
 
--- the bytes of what a reply carries, and the path that it is told to come from: a line of text, or the page of the counters,
--- without one; or what passed
+-- the bytes that are given of what passed
+abbrev pub ShowsGiven : Passed → List ℕ → Type 0
+ShowsGiven (passing.File from) bytes = bytes ≡ from.bytes
+ShowsGiven (passing.Section from) bytes = IsSectionAnswer from.file.bytes from.name (Some bytes)
+ShowsGiven (passing.Source source) bytes = bytes ≡ source.items
+
+-- the bytes of what a reply carries, and the path that it is told to come from: a line of text, the page of the counters, or
+-- what passed of a link's answer, without one; or what passed here
 abbrev pub Shows : Reason → Body → List ℕ → Option (List ℕ) → Type 0
 Shows why bodies.Line bytes file = (bytes ≡ reason_text why) × (file ≡ None)
 Shows why (bodies.Found answer) bytes file = ShowsPassed answer bytes file
+Shows why (bodies.Upstream given) bytes file = ShowsGiven given bytes × (file ≡ None)
 Shows why (bodies.Page text) bytes file = (bytes ≡ string_bytes text) × (file ≡ None)
 
 -- whether the reply of a reason is a text
 abbrev pub is_text : Reason → Bool
 is_text reason.Local = false
+is_text reason.Upstream = false
 is_text _ = true
 
 -- the head of a reply

@@ -11,6 +11,7 @@ use Rattle.http_wire.specs.Stream.{ShownStream}
 use Rattle.answer_core.specs.Loads.{Hand}
 use Rattle.answer_core.specs.Local.{Sight}
 use Rattle.dbgd_metrics.specs.Shares.{ShareFacts}
+use Rattle.federation.specs.Link.{ShownLink}
 
 -- what stays: the true rows of the world, whether a hand tells what it has, which bytes the files of the world may have, what
 -- a hand shows, the folders of sources, and how many rows the counter table has
@@ -26,18 +27,19 @@ abbrev pub scene_of : {T : Type 0} → (RowFacts → Type 0) → Bool → Versio
 scene_of true_row told version shows folders rows =
     record { true_row = true_row; told = told; version = version; shows = shows; folders = folders; rows = rows }
 
--- what the objects show at a moment: the log that the token has seen, the hand, and the share of the counters
+-- what the objects show at a moment: the log that the token has seen, the hand, the share of the counters, and each of the links
 pub record Stand (T : Type 0) : Type 0 where
   pub log : List Change
   pub hand : T
   pub share : ShareFacts
+  pub links : List ShownLink
 
-abbrev pub stand_of : {T : Type 0} → List Change → T → ShareFacts → Stand T
-stand_of log hand share = record { log = log; hand = hand; share = share }
+abbrev pub stand_of : {T : Type 0} → List Change → T → ShareFacts → List ShownLink → Stand T
+stand_of log hand share links = record { log = log; hand = hand; share = share; links = links }
 
 -- the same moment, but for the share
 abbrev pub with_share : {T : Type 0} → Stand T → ShareFacts → Stand T
-with_share at share = record { log = at.log; hand = at.hand; share = share }
+with_share at share = record { log = at.log; hand = at.hand; share = share; links = at.links }
 
 -- the hand as it stands
 abbrev pub hand_at : {T : Type 0} → Scene T → Stand T → Hand

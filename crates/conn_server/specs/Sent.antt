@@ -34,6 +34,7 @@ SendsBytes why body file close with_body before after result =
 abbrev pub CanCarry : Body → Type 0
 CanCarry bodies.Line = Unit {0}
 CanCarry (bodies.Found passed) = IsPassed passed
+CanCarry (bodies.Upstream given) = Unit {0}
 CanCarry (bodies.Page text) = Unit {0}
 
 abbrev pub CanSend : Decided → Type 0

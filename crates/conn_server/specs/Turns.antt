@@ -14,12 +14,12 @@ use Rattle.http_wire.specs.declared.head.HeadFault.{HeadFault}
 use Rattle.http_wire.specs.declared.head.HeadFault.TheVariants.{Cut}
 use Rattle.http_wire.specs.declared.reply.ReplyFault.{ReplyFault}
 use Rattle.http_wire.specs.declared.reply.ReplyFault.TheVariants as reply_fault
-use Rattle.tree_trait.specs.Heard.{Heard}
 use Rattle.dbgd_metrics.specs.Shares.{ShareFacts}
 use Rattle.conn_server.specs.Asked.{HeadFacts, Request, closes_after, readable, refused, sends_body, told_facts}
 use Rattle.conn_server.specs.Tallied.{CountsServed}
 use Rattle.conn_server.specs.Decided.{Decides, plain}
 use Rattle.conn_server.specs.Exchange.{Exchange, IsReplyDue, IsExchange, IsPartWritten, LeadsByExchange, LeavesUnanswered, Moves, NoMore}
+use Rattle.conn_server.specs.Links.{HeardFor}
 use Rattle.conn_server.specs.Replies.{Shows, bytes_of, reason_of_head}
 use Rattle.conn_server.specs.Scene.{Scene, Stand, Wire, with_share}
 use Rattle.conn_server.specs.Sent.{sent_len, served_as}
@@ -135,7 +135,7 @@ EndsBehind last (readable head) w why = why ≡ end_of_head last
 EndsBehind last (refused fault) w why = (why ≡ end.Refused) × RefusesAsHead fault w.held w.stream.left
 
 -- why a connection ends without a further whole reply
-abbrev pub StopsFor : {T : Type 0} → Scene T → Bool → Stand T → Wire → List Heard → List ℕ → Stand T → Wire → ConnEnd → Type 0
+abbrev pub StopsFor : {T : Type 0} → Scene T → Bool → Stand T → Wire → HeardFor → List ℕ → Stand T → Wire → ConnEnd → Type 0
 StopsFor scene last a v rest part b w end.Closed = NoMore rest part × (w.held ≡ []) × HasEnded w.stream.left
 StopsFor scene last a v rest part b w end.Cut = NoMore rest part × RefusesAsHead (Cut (length w.held)) w.held w.stream.left
 StopsFor scene last a v rest part b w end.ReadFault = NoMore rest part × Rose v.stream.read_faults w.stream.read_faults
@@ -148,7 +148,7 @@ StopsFor scene last a v rest part b w _ = ⊥
 pub record Stops
     {T : Type 0} (scene : Scene T) (last : Bool) (a : Stand T) (v : Wire) (why : ConnEnd) (b : Stand T) (w : Wire)
     : Type 0 where
-  pub rest : List Heard
+  pub rest : HeardFor
   pub part : List ℕ
   pub leaves : LeavesUnanswered scene rest part a v b w
   pub cause : StopsFor scene last a v rest part b w why

@@ -2,10 +2,11 @@
 
 ghost use Rattle.std.specs.Prelude.{option_copied};
 ghost use Rattle.conn_server.specs.Cases.{IsPassed};
-ghost use Rattle.conn_server.specs.Replies.{Shows, ShowsPassed};
+ghost use Rattle.conn_server.specs.Replies.{Shows, ShowsGiven, ShowsPassed};
 ghost use Rattle.conn_server.specs.Sent.{CanCarry};
 
 use crate::reason::Reason;
+use answer_check::Passed;
 use answer_core::Local;
 use row_types::CanonPath;
 
@@ -16,6 +17,8 @@ pub(crate) enum Body {
     Line,
     /// What passed here.
     Found(Local),
+    /// What passed of the answers of links.
+    Upstream(Passed),
     /// The page of the counters.
     Page(String),
 }
@@ -29,6 +32,7 @@ impl Body {
         match self {
             Body::Line => (why.text(), None),
             Body::Found(local) => passed(local),
+            Body::Upstream(passed) => (given(passed), None),
             Body::Page(text) => (text.as_bytes(), None),
         }
     }
@@ -47,5 +51,19 @@ fn passed(local: &Local) -> (&[u8], Option<&CanonPath>)
         }
         Local::Source { bytes, path, .. } => (bytes.as_slice(), Some(path)),
         Local::Nothing { .. } | Local::Fault { .. } | Local::OutOfMemory => unreachable!(),
+    }
+}
+
+/// The bytes that are given of what passed.
+fn given(passed: &Passed) -> &[u8]
+    ensures { ShowsGiven passed.now result.now }
+{
+    match passed {
+        Passed::File(file) => file.bytes(),
+        Passed::Section(section) => {
+            let part = section.bytes();
+            part
+        }
+        Passed::Source(bytes) => bytes.as_slice(),
     }
 }

@@ -1,6 +1,6 @@
 //! A connection: its requests, one after the other.
 
-ghost use Rattle.std.specs.Prelude.{◌≡◌, ◌≤◌, [], false, vec_capacity};
+ghost use Rattle.std.specs.Prelude.{◌≡◌, ◌≤◌, [], false, map, vec_capacity};
 ghost use Rattle.index_lock.specs.Tokens.{IsLater};
 ghost use Rattle.conn_server.specs.Connection.{Serves};
 ghost use Rattle.conn_server.specs.Tallied.{HasRowIn};
@@ -10,6 +10,7 @@ use crate::report::{ConnEnd, ConnReport, Served};
 use crate::service::Service;
 use crate::turn::{Turn, next_turn};
 use dbgd_metrics::{Book, Share};
+use federation::Link;
 use http_wire::{HeadReader, Sink, Source};
 use index_keeper::Keeper;
 use index_lock::{Seat, TurnLock};
@@ -19,17 +20,25 @@ use std::alloc::Global;
 use std::sync::Wait;
 use tree_trait::{Gate, Point, Tree};
 
+/// The memory of a connection, which is taken before the first read.
+#[derive(Drop)]
+struct Room {
+    reader: HeadReader,
+    served: Vec<Served>,
+}
+
 /// The largest number of requests that a connection has.
 pub const REQUESTS: usize = 100;
 
 /// Answers the requests of a connection, in order, until one closes it, the source ends, or
-/// something fails. All memory of the report and of the reader is taken before the first read. The
-/// gate is passed under this number each time before the index is asked, and behind each reply that
-/// was written whole and counted.
+/// something fails. Where no file here passes, the links are asked in order. All memory of the report
+/// and of the reader is taken before the first read. The gate is passed under this number each time
+/// before the index is asked, and behind each reply that was written whole and counted.
 pub fn serve_connection<
     W: Truth,
     K: Keeper<W>,
     T: Tree<W>,
+    L: Link,
     N: Source + Sink,
     G: Gate,
     R: Wait + Sync,
@@ -39,6 +48,7 @@ pub fn serve_connection<
     lock: &TurnLock<State<W, K>>,
     seat: Seat<State<W, K>>,
     hand: &mut T,
+    links: &mut [L],
     folders: &[CanonPath],
     book: &Book,
     share: &mut Share,
@@ -52,8 +62,8 @@ pub fn serve_connection<
     ensures share { HasRowIn book.now share.new }
     ensures serves { Serves
         (scene_of W.true_row T.told W.version T.shows folders.now book.now.rows)
-        (stand_of seat.seen hand.old share.old) (N.shows conn.old) result.1
-        (stand_of result.0.seen hand.new share.new) (N.shows conn.new) }
+        (stand_of seat.seen hand.old share.old (map L.shows links.old)) (N.shows conn.old) result.1
+        (stand_of result.0.seen hand.new share.new (map L.shows links.new)) (N.shows conn.new) }
     ensures requests { REQUESTS ≡ 100 }
 {
     let service = Service {
@@ -64,8 +74,9 @@ pub fn serve_connection<
         book,
         number,
         gate,
+        last: false,
     };
-    serve_by(&service, seat, hand, share, conn)
+    serve_by(&service, seat, hand, links, share, conn)
 }
 
 /// Answers the requests, where there is memory for the report and the reader.
@@ -73,6 +84,7 @@ pub(crate) fn serve_by<
     W: Truth,
     K: Keeper<W>,
     T: Tree<W>,
+    L: Link,
     N: Source + Sink,
     G: Gate,
     R: Wait + Sync,
@@ -80,6 +92,7 @@ pub(crate) fn serve_by<
     service: &Service<'_, W, K, G, R>,
     seat: Seat<State<W, K>>,
     hand: &mut T,
+    links: &mut [L],
     share: &mut Share,
     conn: &mut N,
 ) -> (Seat<State<W, K>>, ConnReport)
@@ -89,12 +102,15 @@ pub(crate) fn serve_by<
     ensures share { HasRowIn service.now.book.now share.new }
     ensures serves { Serves (scene_of W.true_row T.told W.version T.shows service.now.folders.now
         service.now.book.now.rows)
-        (stand_of seat.seen hand.old share.old) (N.shows conn.old) result.1
-        (stand_of result.0.seen hand.new share.new) (N.shows conn.new) }
+        (stand_of seat.seen hand.old share.old (map L.shows links.old)) (N.shows conn.old) result.1
+        (stand_of result.0.seen hand.new share.new (map L.shows links.new)) (N.shows conn.new) }
 {
     let alloc = service.alloc;
     match (Vec::with_capacity(alloc, REQUESTS), HeadReader::new(alloc)) {
-        (Ok(served), Ok(reader)) => serve_all(service, seat, hand, share, reader, conn, served),
+        (Ok(served), Ok(reader)) => {
+            let room = Room { reader, served };
+            serve_all(service, seat, hand, links, share, conn, room)
+        }
         _ => (
             seat,
             ConnReport {
@@ -106,42 +122,61 @@ pub(crate) fn serve_by<
 }
 
 /// Answers the requests into the room that was made.
-fn serve_all<W: Truth, K: Keeper<W>, T: Tree<W>, N: Source + Sink, G: Gate, R: Wait + Sync>(
+fn serve_all<
+    W: Truth,
+    K: Keeper<W>,
+    T: Tree<W>,
+    L: Link,
+    N: Source + Sink,
+    G: Gate,
+    R: Wait + Sync,
+>(
     service: &Service<'_, W, K, G, R>,
     seat: Seat<State<W, K>>,
     hand: &mut T,
+    links: &mut [L],
     share: &mut Share,
-    reader: HeadReader,
     conn: &mut N,
-    served: Vec<Served>,
+    room: Room,
 ) -> (Seat<State<W, K>>, ConnReport)
     requires seat { seat.lock ≡ service.now.lock.now }
     requires share { HasRowIn service.now.book.now share.old }
-    requires fresh { reader ≡ record { all = []; held = []; over = false } }
-    requires none { served.items ≡ [] }
-    requires room { REQUESTS ≤ vec_capacity served }
+    requires fresh { room.reader ≡ record { all = []; held = []; over = false } }
+    requires none { room.served.items ≡ [] }
+    requires room { REQUESTS ≤ vec_capacity room.served }
     ensures later { IsLater seat result.0 }
     ensures share { HasRowIn service.now.book.now share.new }
     ensures serves { Serves (scene_of W.true_row T.told W.version T.shows service.now.folders.now
         service.now.book.now.rows)
-        (stand_of seat.seen hand.old share.old) (N.shows conn.old) result.1
-        (stand_of result.0.seen hand.new share.new) (N.shows conn.new) }
+        (stand_of seat.seen hand.old share.old (map L.shows links.old)) (N.shows conn.old) result.1
+        (stand_of result.0.seen hand.new share.new (map L.shows links.new)) (N.shows conn.new) }
 {
-    let (rt, gate) = (service.rt, service.gate);
+    let (rt, gate, number) = (service.rt, service.gate, service.number);
+    let Room {
+        mut reader,
+        mut served,
+    } = room;
     let mut seat = seat;
-    let mut reader = reader;
-    let mut served = served;
     loop {
-        let last = served.len() + 1 == REQUESTS;
-        let (next, turn) = next_turn(service, seat, hand, share, &mut reader, conn, last);
+        let current = Service {
+            rt,
+            alloc: service.alloc,
+            lock: service.lock,
+            folders: service.folders,
+            book: service.book,
+            number,
+            gate,
+            last: served.len() + 1 == REQUESTS,
+        };
+        let (next, turn) = next_turn(&current, seat, hand, links, share, &mut reader, conn);
         seat = next;
         match turn {
             Turn::Replied(entry) => {
-                gate.at(rt, &Point::Answered(service.number));
+                gate.at(rt, &Point::Answered(number));
                 served.push_reserved(entry);
             }
             Turn::Last(entry, end) => {
-                gate.at(rt, &Point::Answered(service.number));
+                gate.at(rt, &Point::Answered(number));
                 served.push_reserved(entry);
                 return (seat, ConnReport { served, end });
             }

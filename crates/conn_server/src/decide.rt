@@ -1,23 +1,23 @@
 //! What a request is answered.
 
-ghost use Rattle.std.specs.Prelude.{◌≡◌, ◌≢◌};
+ghost use Rattle.std.specs.Prelude.{◌≡◌, ◌≢◌, map};
 ghost use Rattle.dbgd_metrics.specs.Shares.{ShareFacts};
 ghost use Rattle.index_lock.specs.Tokens.{IsLater};
 ghost use Rattle.webapi_routes.specs.declared.route.Route.TheVariants.{Metrics};
 ghost use Rattle.conn_server.specs.Asked.{readable, told_facts};
 ghost use Rattle.conn_server.specs.Tallied.{HasRowIn};
-ghost use Rattle.conn_server.specs.Decided.{Decides, DecidesRoute, by_local, by_page, for_route, plain};
+ghost use Rattle.conn_server.specs.Decided.{Decides, DecidesRoute, by_page, for_route, plain};
 ghost use Rattle.conn_server.specs.Scene.{scene_of, stand_of};
-ghost use Rattle.conn_server.specs.declared.body.Body.TheVariants as bodies;
-ghost use Rattle.conn_server.specs.declared.reason.Reason.TheVariants as reason;
 
 use crate::body::Body;
+use crate::follow::follow_local;
 use crate::method::is_served;
 use crate::reason::{Reason, reason_of_route};
 use crate::report::Asked;
 use crate::service::Service;
-use answer_core::{Local, answer_local};
+use answer_core::answer_local;
 use dbgd_metrics::Share;
+use federation::Link;
 use http_wire::Head;
 use index_keeper::Keeper;
 use index_lock::Seat;
@@ -42,10 +42,11 @@ pub(crate) struct Decided {
 }
 
 /// Decides by the head alone, or by what answers its route.
-pub(crate) fn decide<W: Truth, K: Keeper<W>, T: Tree<W>, G: Gate, R: Wait + Sync>(
+pub(crate) fn decide<W: Truth, K: Keeper<W>, T: Tree<W>, L: Link, G: Gate, R: Wait + Sync>(
     service: &Service<'_, W, K, G, R>,
     seat: Seat<State<W, K>>,
     hand: &mut T,
+    links: &mut [L],
     share: &mut Share,
     head: &Head<'_>,
 ) -> (Seat<State<W, K>>, Decided)
@@ -56,8 +57,8 @@ pub(crate) fn decide<W: Truth, K: Keeper<W>, T: Tree<W>, G: Gate, R: Wait + Sync
     ensures decided { Decides
         (scene_of W.true_row T.told W.version T.shows service.now.folders.now
         service.now.book.now.rows)
-        (stand_of seat.seen hand.old share.old) (readable (told_facts head.now)) result.1
-        (stand_of result.0.seen hand.new share.new) }
+        (stand_of seat.seen hand.old share.old (map L.shows links.old)) (readable (told_facts head.now)) result.1
+        (stand_of result.0.seen hand.new share.new (map L.shows links.new)) }
 {
     if !is_served(head.method) {
         return (seat, plain(Asked::Method, Reason::Method));
@@ -66,18 +67,20 @@ pub(crate) fn decide<W: Truth, K: Keeper<W>, T: Tree<W>, G: Gate, R: Wait + Sync
         return (seat, plain(Asked::Body, Reason::Body));
     }
     match parse(service.alloc, head.target) {
-        Ok(route) => decide_route(service, seat, hand, share, route),
+        Ok(route) => decide_route(service, seat, hand, links, share, route, head.hops),
         Err(fault) => (seat, plain(Asked::NotRoute(fault), reason_of_route(fault))),
     }
 }
 
-/// Decides by the page of the counters, or by the local answer to a route.
-fn decide_route<W: Truth, K: Keeper<W>, T: Tree<W>, G: Gate, R: Wait + Sync>(
+/// Decides by the page of the counters, or by what answers a route that came through so many forwarders.
+fn decide_route<W: Truth, K: Keeper<W>, T: Tree<W>, L: Link, G: Gate, R: Wait + Sync>(
     service: &Service<'_, W, K, G, R>,
     seat: Seat<State<W, K>>,
     hand: &mut T,
+    links: &mut [L],
     share: &mut Share,
     route: Route,
+    hops: u64,
 ) -> (Seat<State<W, K>>, Decided)
     requires lock { seat.lock ≡ service.now.lock.now }
     requires share { HasRowIn service.now.book.now share.old }
@@ -86,21 +89,23 @@ fn decide_route<W: Truth, K: Keeper<W>, T: Tree<W>, G: Gate, R: Wait + Sync>(
     ensures decided { DecidesRoute
         (scene_of W.true_row T.told W.version T.shows service.now.folders.now
         service.now.book.now.rows)
-        (stand_of seat.seen hand.old share.old) route result.1
-        (stand_of result.0.seen hand.new share.new) }
+        (stand_of seat.seen hand.old share.old (map L.shows links.old)) route hops result.1
+        (stand_of result.0.seen hand.new share.new (map L.shows links.new)) }
 {
     match route {
         Route::Metrics => (seat, by_page(service.book.text(service.alloc, share))),
-        _ => decide_file(service, seat, hand, route),
+        _ => decide_file(service, seat, hand, links, route, hops),
     }
 }
 
-/// Decides by the local answer to a route. The share has no part in it.
-fn decide_file<W: Truth, K: Keeper<W>, T: Tree<W>, G: Gate, R: Wait + Sync>(
+/// Decides by the local answer to a route, and then by the links. The share has no part in it.
+fn decide_file<W: Truth, K: Keeper<W>, T: Tree<W>, L: Link, G: Gate, R: Wait + Sync>(
     service: &Service<'_, W, K, G, R>,
     seat: Seat<State<W, K>>,
     hand: &mut T,
+    links: &mut [L],
     route: Route,
+    hops: u64,
 ) -> (Seat<State<W, K>>, Decided)
     requires lock { seat.lock ≡ service.now.lock.now }
     requires route { route ≢ Metrics }
@@ -108,7 +113,8 @@ fn decide_file<W: Truth, K: Keeper<W>, T: Tree<W>, G: Gate, R: Wait + Sync>(
     ensures decided { (own : ShareFacts) → DecidesRoute
         (scene_of W.true_row T.told W.version T.shows service.now.folders.now
         service.now.book.now.rows)
-        (stand_of seat.seen hand.old own) route result.1 (stand_of result.0.seen hand.new own) }
+        (stand_of seat.seen hand.old own (map L.shows links.old)) route hops result.1
+        (stand_of result.0.seen hand.new own (map L.shows links.new)) }
 {
     let (rt, gate) = (service.rt, service.gate);
     gate.at(rt, &Point::Asking(service.number));
@@ -122,7 +128,8 @@ fn decide_file<W: Truth, K: Keeper<W>, T: Tree<W>, G: Gate, R: Wait + Sync>(
         service.folders,
         gate,
     );
-    (seat, by_local(route, local))
+    let decided = follow_local(rt, service.alloc, links, route, hops, local);
+    (seat, decided)
 }
 
 /// What is decided without the index.
@@ -137,24 +144,6 @@ pub(crate) fn plain(asked: Asked, why: Reason) -> Decided
     }
 }
 
-/// What is decided by a local answer.
-fn by_local(route: Route, local: Local) -> Decided
-    ensures { result ≡ by_local route local }
-{
-    match local {
-        Local::File { from, path, gen_ } => passed(route, gen_, Local::File { from, path, gen_ }),
-        Local::Section { from, path, gen_ } => {
-            passed(route, gen_, Local::Section { from, path, gen_ })
-        }
-        Local::Source { bytes, path, gen_ } => {
-            passed(route, gen_, Local::Source { bytes, path, gen_ })
-        }
-        Local::Nothing { gen_ } => for_route(route, Reason::NotFound, gen_, Body::Line),
-        Local::Fault { gen_ } => for_route(route, Reason::ReadFault, gen_, Body::Line),
-        Local::OutOfMemory => for_route(route, Reason::OutOfMemory, 0, Body::Line),
-    }
-}
-
 /// What is decided by the page of the counters.
 fn by_page(page: Result<String, AllocError>) -> Decided
     ensures { result ≡ by_page page }
@@ -165,15 +154,8 @@ fn by_page(page: Result<String, AllocError>) -> Decided
     }
 }
 
-/// What is decided where a candidate passed.
-fn passed(route: Route, generation: u64, local: Local) -> Decided
-    ensures { result ≡ for_route route reason.Local generation (bodies.Found local) }
-{
-    for_route(route, Reason::Local, generation, Body::Found(local))
-}
-
 /// What is decided for a route.
-fn for_route(route: Route, why: Reason, generation: u64, body: Body) -> Decided
+pub(crate) fn for_route(route: Route, why: Reason, generation: u64, body: Body) -> Decided
     ensures { result ≡ for_route route why generation body }
 {
     Decided {

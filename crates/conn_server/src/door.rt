@@ -1,6 +1,6 @@
 //! The connections of a door, one after the other.
 
-ghost use Rattle.std.specs.Prelude.{◌≡◌};
+ghost use Rattle.std.specs.Prelude.{◌≡◌, map};
 ghost use Rattle.index_lock.specs.Tokens.{IsLater};
 ghost use Rattle.conn_server.specs.Tallied.{HasRowIn};
 ghost use Rattle.conn_server.specs.Doors.{ServesDoor, TakesNextVisit};
@@ -9,6 +9,7 @@ ghost use Rattle.conn_server.specs.Scene.{scene_of, stand_of};
 use crate::connection::serve_by;
 use crate::service::Service;
 use dbgd_metrics::{Book, Share};
+use federation::Link;
 use http_wire::{Door, DoorAnswer};
 use index_keeper::Keeper;
 use index_lock::{Seat, TurnLock};
@@ -29,13 +30,15 @@ pub enum DoorEnd {
 
 /// Serves the connections of a door, one after the other, until it closes or fails, and hands each
 /// of them back. The first one has the first number, and each later one a number that is greater by
-/// the step, up to 2^64 - 1. A connection that ends by want of memory ends alone.
-pub fn serve_door<W: Truth, K: Keeper<W>, T: Tree<W>, D: Door, G: Gate, R: Wait + Sync>(
+/// the step, up to 2^64 - 1. A connection that ends by want of memory ends alone. The links are those of
+/// each of them.
+pub fn serve_door<W: Truth, K: Keeper<W>, T: Tree<W>, L: Link, D: Door, G: Gate, R: Wait + Sync>(
     rt: &R,
     alloc: Global,
     lock: &TurnLock<State<W, K>>,
     seat: Seat<State<W, K>>,
     hand: &mut T,
+    links: &mut [L],
     folders: &[CanonPath],
     book: &Book,
     share: &mut Share,
@@ -50,8 +53,8 @@ pub fn serve_door<W: Truth, K: Keeper<W>, T: Tree<W>, D: Door, G: Gate, R: Wait 
     ensures share { HasRowIn book.now share.new }
     ensures serves { ServesDoor
         (scene_of W.true_row T.told W.version T.shows folders.now book.now.rows)
-        (stand_of seat.seen hand.old share.old) (D.shows door.old) result.1
-        (stand_of result.0.seen hand.new share.new) (D.shows door.new) }
+        (stand_of seat.seen hand.old share.old (map L.shows links.old)) (D.shows door.old) result.1
+        (stand_of result.0.seen hand.new share.new (map L.shows links.new)) (D.shows door.new) }
 {
     let mut seat = seat;
     let mut number = first;
@@ -64,8 +67,9 @@ pub fn serve_door<W: Truth, K: Keeper<W>, T: Tree<W>, D: Door, G: Gate, R: Wait 
             book,
             number,
             gate,
+            last: false,
         };
-        let (next, end) = serve_next(&service, seat, hand, share, door);
+        let (next, end) = serve_next(&service, seat, hand, links, share, door);
         seat = next;
         number = number.saturating_add(step);
         match end {
@@ -77,10 +81,11 @@ pub fn serve_door<W: Truth, K: Keeper<W>, T: Tree<W>, D: Door, G: Gate, R: Wait 
 }
 
 /// Serves the next connection, if one comes, and hands it back.
-fn serve_next<W: Truth, K: Keeper<W>, T: Tree<W>, D: Door, G: Gate, R: Wait + Sync>(
+fn serve_next<W: Truth, K: Keeper<W>, T: Tree<W>, L: Link, D: Door, G: Gate, R: Wait + Sync>(
     service: &Service<'_, W, K, G, R>,
     seat: Seat<State<W, K>>,
     hand: &mut T,
+    links: &mut [L],
     share: &mut Share,
     door: &mut D,
 ) -> (Seat<State<W, K>>, Option<DoorEnd>)
@@ -91,13 +96,13 @@ fn serve_next<W: Truth, K: Keeper<W>, T: Tree<W>, D: Door, G: Gate, R: Wait + Sy
     ensures next { TakesNextVisit
         (scene_of W.true_row T.told W.version T.shows service.now.folders.now
         service.now.book.now.rows)
-        (stand_of seat.seen hand.old share.old) (D.shows door.old) result.1
-        (stand_of result.0.seen hand.new share.new) (D.shows door.new) }
+        (stand_of seat.seen hand.old share.old (map L.shows links.old)) (D.shows door.old) result.1
+        (stand_of result.0.seen hand.new share.new (map L.shows links.new)) (D.shows door.new) }
 {
     match door.accept(service.rt) {
         DoorAnswer::Came(conn) => {
             let mut conn = conn;
-            let (seat, _report) = serve_by(service, seat, hand, share, &mut conn);
+            let (seat, _report) = serve_by(service, seat, hand, links, share, &mut conn);
             door.ended(conn);
             (seat, None)
         }

@@ -1,6 +1,6 @@
 //! One connection: its requests, each with the reply that the rules name; and the connections of a
-//! door, one after the other. Heads are cut from the stream, routes are read and local answers are
-//! found in the crates below.
+//! door, one after the other. Heads are cut from the stream, routes are read, local answers are found
+//! and other servers are asked in the crates below.
 #![tactic(auto)]
 
 mod body;
@@ -8,6 +8,7 @@ mod connection;
 mod counting;
 mod decide;
 mod door;
+mod follow;
 mod method;
 mod reason;
 mod report;

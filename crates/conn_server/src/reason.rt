@@ -14,6 +14,8 @@ use webapi_routes::RouteFault;
 pub enum Reason {
     /// A file here passed.
     Local,
+    /// No file here passed, and the answer of a link did.
+    Upstream,
     /// The counters are asked for.
     Metrics,
     /// The bytes are no head.
@@ -32,9 +34,13 @@ pub enum Reason {
     BadId,
     /// The source's path is too long.
     BadPath,
-    /// No file passed.
+    /// Nothing passed, and the request came through too many forwarders for the links to be asked.
+    HopLimit,
+    /// Nothing passed.
     NotFound,
-    /// No file passed, and a load failed.
+    /// Nothing passed, and a link failed.
+    UpstreamFault,
+    /// Nothing passed, and a load failed.
     ReadFault,
     /// There was not enough memory.
     OutOfMemory,
@@ -48,12 +54,13 @@ impl Reason {
         ensures counted { IsCountedStatus result }
     {
         match self {
-            Reason::Local | Reason::Metrics => 200,
+            Reason::Local | Reason::Upstream | Reason::Metrics => 200,
             Reason::BadHead | Reason::Body | Reason::BadEscape | Reason::BadId | Reason::BadPath =>
                 400,
-            Reason::NoRoute | Reason::NotFound => 404,
+            Reason::NoRoute | Reason::HopLimit | Reason::NotFound => 404,
             Reason::Method => 405,
             Reason::TooLarge => 431,
+            Reason::UpstreamFault => 502,
             Reason::ReadFault => 503,
             Reason::OutOfMemory => 507,
         }
@@ -64,17 +71,17 @@ impl Reason {
         ensures { result ≡ is_text self }
     {
         match self {
-            Reason::Local => false,
+            Reason::Local | Reason::Upstream => false,
             _ => true,
         }
     }
 
-    /// The line that is the body of a reply. A file that passed and the counters have none.
+    /// The line that is the body of a reply. What passed and the counters have none.
     pub(crate) fn text(self) -> &'static [u8]
         ensures { result.now ≡ reason_text self }
     {
         match self {
-            Reason::Local | Reason::Metrics => b"",
+            Reason::Local | Reason::Upstream | Reason::Metrics => b"",
             Reason::BadHead => b"bad request\n",
             Reason::TooLarge => b"too large\n",
             Reason::Method => b"bad method\n",
@@ -83,7 +90,9 @@ impl Reason {
             Reason::NoRoute => b"no route\n",
             Reason::BadId => b"bad build-id\n",
             Reason::BadPath => b"bad path\n",
+            Reason::HopLimit => b"hop limit\n",
             Reason::NotFound => b"not found\n",
+            Reason::UpstreamFault => b"upstream fault\n",
             Reason::ReadFault => b"read fault\n",
             Reason::OutOfMemory => b"out of memory\n",
         }

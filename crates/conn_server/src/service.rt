@@ -23,4 +23,6 @@ pub(crate) struct Service<'a, W: Truth, K: Keeper<W>, G: Gate, R: Wait + Sync> {
     /// The connection's number, under which the gate is passed.
     pub number: u64,
     pub gate: &'a G,
+    /// Whether the next request is the last that the connection has.
+    pub last: bool,
 }

@@ -1,6 +1,6 @@
 //! One request of a connection.
 
-ghost use Rattle.std.specs.Prelude.{◌≡◌, false};
+ghost use Rattle.std.specs.Prelude.{◌≡◌, false, map};
 ghost use Rattle.index_lock.specs.Tokens.{IsLater};
 ghost use Rattle.conn_server.specs.Asked.{readable, told_facts};
 ghost use Rattle.conn_server.specs.Tallied.{HasRowIn};
@@ -17,6 +17,7 @@ use crate::report::{Asked, ConnEnd, Served};
 use crate::send::send;
 use crate::service::Service;
 use dbgd_metrics::{Book, Share};
+use federation::Link;
 use http_wire::{Head, HeadAnswer, HeadFault, HeadReader, ReplyFault, Sink, Source};
 use index_keeper::Keeper;
 use index_lock::Seat;
@@ -43,6 +44,7 @@ pub(crate) fn next_turn<
     W: Truth,
     K: Keeper<W>,
     T: Tree<W>,
+    L: Link,
     N: Source + Sink,
     G: Gate,
     R: Wait + Sync,
@@ -50,10 +52,10 @@ pub(crate) fn next_turn<
     service: &Service<'_, W, K, G, R>,
     seat: Seat<State<W, K>>,
     hand: &mut T,
+    links: &mut [L],
     share: &mut Share,
     reader: &mut HeadReader,
     conn: &mut N,
-    last: bool,
 ) -> (Seat<State<W, K>>, Turn)
     requires lock { seat.lock ≡ service.now.lock.now }
     requires share { HasRowIn service.now.book.now share.old }
@@ -61,23 +63,31 @@ pub(crate) fn next_turn<
     ensures later { IsLater seat result.0 }
     ensures share { HasRowIn service.now.book.now share.new }
     ensures turn { Turns (scene_of W.true_row T.told W.version T.shows service.now.folders.now
-        service.now.book.now.rows) last
-        (stand_of seat.seen hand.old share.old) (wire_of (N.shows conn.old) reader.old) result.1
-        (stand_of result.0.seen hand.new share.new) (wire_of (N.shows conn.new) reader.new) }
+        service.now.book.now.rows) service.now.last
+        (stand_of seat.seen hand.old share.old (map L.shows links.old)) (wire_of (N.shows conn.old) reader.old) result.1
+        (stand_of result.0.seen hand.new share.new (map L.shows links.new)) (wire_of (N.shows conn.new) reader.new) }
 {
     // The call is made for its clause: what is read and what is done about it are told apart there.
-    read_turn(service, seat, hand, share, reader, conn, last)
+    read_turn(service, seat, hand, links, share, reader, conn)
 }
 
 /// Reads the next request, and answers what was read.
-fn read_turn<W: Truth, K: Keeper<W>, T: Tree<W>, N: Source + Sink, G: Gate, R: Wait + Sync>(
+fn read_turn<
+    W: Truth,
+    K: Keeper<W>,
+    T: Tree<W>,
+    L: Link,
+    N: Source + Sink,
+    G: Gate,
+    R: Wait + Sync,
+>(
     service: &Service<'_, W, K, G, R>,
     seat: Seat<State<W, K>>,
     hand: &mut T,
+    links: &mut [L],
     share: &mut Share,
     reader: &mut HeadReader,
     conn: &mut N,
-    last: bool,
 ) -> (Seat<State<W, K>>, Turn)
     requires lock { seat.lock ≡ service.now.lock.now }
     requires share { HasRowIn service.now.book.now share.old }
@@ -85,22 +95,23 @@ fn read_turn<W: Truth, K: Keeper<W>, T: Tree<W>, N: Source + Sink, G: Gate, R: W
     ensures share { HasRowIn service.now.book.now share.new }
     ensures turn { TakesNextRequest (scene_of W.true_row T.told W.version T.shows service.now.folders.now
         service.now.book.now.rows)
-        (stand_of seat.seen hand.old share.old) reader.old last (N.shows conn.old) result.1
-        (stand_of result.0.seen hand.new share.new) reader.new (N.shows conn.new) }
+        (stand_of seat.seen hand.old share.old (map L.shows links.old)) reader.old service.now.last
+        (N.shows conn.old) result.1
+        (stand_of result.0.seen hand.new share.new (map L.shows links.new)) reader.new (N.shows conn.new) }
 {
     let answer = reader.next(conn);
-    take_turn(service, seat, hand, share, &answer, conn, last)
+    take_turn(service, seat, hand, links, share, &answer, conn)
 }
 
 /// Answers what was read.
-fn take_turn<W: Truth, K: Keeper<W>, T: Tree<W>, N: Sink, G: Gate, R: Wait + Sync>(
+fn take_turn<W: Truth, K: Keeper<W>, T: Tree<W>, L: Link, N: Sink, G: Gate, R: Wait + Sync>(
     service: &Service<'_, W, K, G, R>,
     seat: Seat<State<W, K>>,
     hand: &mut T,
+    links: &mut [L],
     share: &mut Share,
     answer: &HeadAnswer<'_>,
     conn: &mut N,
-    last: bool,
 ) -> (Seat<State<W, K>>, Turn)
     requires lock { seat.lock ≡ service.now.lock.now }
     requires share { HasRowIn service.now.book.now share.old }
@@ -108,14 +119,18 @@ fn take_turn<W: Truth, K: Keeper<W>, T: Tree<W>, N: Sink, G: Gate, R: Wait + Syn
     ensures share { HasRowIn service.now.book.now share.new }
     ensures turn { TakesWhatCame (scene_of W.true_row T.told W.version T.shows service.now.folders.now
         service.now.book.now.rows)
-        (stand_of seat.seen hand.old share.old) answer.now last (N.shows conn.old) result.1
-        (stand_of result.0.seen hand.new share.new) (N.shows conn.new) }
+        (stand_of seat.seen hand.old share.old (map L.shows links.old)) answer.now service.now.last
+        (N.shows conn.old) result.1
+        (stand_of result.0.seen hand.new share.new (map L.shows links.new)) (N.shows conn.new) }
 {
     let (alloc, book) = (service.alloc, service.book);
     match answer {
         HeadAnswer::Head(head) => {
-            let (seat, decided) = decide(service, seat, hand, share, head);
-            (seat, reply(alloc, book, share, conn, decided, head, last))
+            let (seat, decided) = decide(service, seat, hand, links, share, head);
+            (
+                seat,
+                reply(alloc, book, share, conn, decided, head, service.last),
+            )
         }
         HeadAnswer::Closed => (seat, Turn::Ended(ConnEnd::Closed)),
         HeadAnswer::Refused(fault) => (seat, refuse(alloc, book, share, conn, *fault)),

@@ -3,8 +3,9 @@
 
 ghost use Rattle.std.specs.Prelude.{◌≡◌, vec_len, IfOk};
 
-use dbgd_edges::{RealClock, RealDoor, RealSink, StdStream, real_doors, real_hands};
+use dbgd_edges::{RealClock, RealDial, RealDoor, RealSink, StdStream, real_doors, real_hands};
 use dbgd_run::{Needs, Outside, Status, needs, run, write_all};
+use federation::{HttpLink, UpstreamAt};
 use row_types::OpenWorld;
 use sqlite_keeper::SqliteStore;
 use std::alloc::AllocError;
@@ -23,6 +24,9 @@ enum Early {
     /// The port can't be listened on.
     NoDoors,
 }
+
+/// A link over the system's sockets.
+type RealLink = HttpLink<RealDial<HostRuntime>>;
 
 /// The words after the program's name. There are none where one isn't UTF-8, and none are no
 /// command.
@@ -45,6 +49,29 @@ fn doors(rt: &HostRuntime, needs: &Needs) -> Result<Vec<RealDoor<HostRuntime>>, 
     }
 }
 
+/// A link to each of these servers, in order.
+fn row(rt: &HostRuntime, upstream: &[UpstreamAt]) -> Result<Vec<RealLink>, AllocError> {
+    let alloc = rt.alloc();
+    let mut links = Vec::with_capacity(alloc, upstream.len())?;
+    for at in upstream {
+        let host = String::from_str(alloc, at.host.as_str())?;
+        let base = String::from_str(alloc, at.base.as_str())?;
+        links.push(HttpLink::new(RealDial::new(*rt), host, at.port, base))?;
+    }
+    Ok(links)
+}
+
+/// A row of links for each door: each has a link to each server.
+fn rows(rt: &HostRuntime, needs: &Needs) -> Result<Vec<Vec<RealLink>>, AllocError>
+    ensures { IfOk result (λ rows. vec_len rows ≡ needs.now.doors) }
+{
+    let mut rows = Vec::new(rt.alloc());
+    for _ in 0..needs.doors {
+        rows.push(row(rt, needs.upstream.as_slice())?)?;
+    }
+    Ok(rows)
+}
+
 /// Runs the program over the real objects, and gives its exit status. Threads are made by the
 /// second handle.
 fn run_real<Rt: Threads + Wait + Sync>(rt: &HostRuntime, threads: &Rt) -> Result<u8, Early> {
@@ -59,11 +86,15 @@ fn run_real<Rt: Threads + Wait + Sync>(rt: &HostRuntime, threads: &Rt) -> Result
     let Ok(hands) = real_hands(rt, needs.hands) else {
         return Err(Early::OutOfMemory);
     };
+    let Ok(links) = rows(rt, &needs) else {
+        return Err(Early::OutOfMemory);
+    };
     let doors = doors(rt, &needs)?;
     let mut outside = Outside {
         hands,
         store: SqliteStore::new(*rt),
         doors,
+        links,
         clock: RealClock::new(*rt),
         out: RealSink::new(StdStream::Out(rt.stdout())),
         err: RealSink::new(StdStream::Err(rt.stderr())),

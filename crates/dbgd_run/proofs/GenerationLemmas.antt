@@ -1,5 +1,5 @@
 -- The generation that is told of a reply for which the index was asked: the length of the log.
-use Rattle.std.proofs.Common.{◌≡◌, ℕ, Bool, List, length, IsTrue}
+use Rattle.std.proofs.Common.{◌≡◌, ℕ, Bool, List, length, Option, IsTrue}
 use Rattle.std.proofs.lemmas.Bool.{false≢true}
 use Rattle.index_rows.specs.declared.change.Change.{Change}
 use Rattle.tree_trait.specs.Heard.{Heard}
@@ -10,9 +10,11 @@ use Rattle.answer_core.specs.Local.{IsLocal, Sight}
 use Rattle.answer_core.specs.declared.local.Local.{Local}
 use Rattle.answer_core.specs.declared.local.Local.TheVariants as local
 use Rattle.dbgd_metrics.specs.Shares.{ShareFacts}
+use Rattle.federation.specs.declared.asking.Upstream.{Upstream}
 use Rattle.conn_server.specs.Asked.{Request}
-use Rattle.conn_server.specs.Cases.{IsCase, IsPassed, generation_of}
-use Rattle.conn_server.specs.Cases.{bad_head, too_long, too_many, method, has_body, no_route, metrics, no_page, passed, read_fault, not_found, no_memory}
+use Rattle.conn_server.specs.Cases.{IsCase, IsPassed, IsUnfound, generation_of}
+use Rattle.conn_server.specs.Cases.{bad_head, too_long, too_many, method, has_body, no_route, metrics, no_page, passed, no_memory}
+use Rattle.conn_server.specs.Cases.{upstream, read_fault, hop_limit, upstream_fault, not_found}
 use Rattle.conn_server.specs.Exchange.{Exchange, IsExchange}
 use Rattle.conn_server.specs.Replies.{reason_of_route}
 use Rattle.conn_server.specs.Scene.{Scene, Stand, sight_at}
@@ -38,9 +40,19 @@ passed_at sight route (local.Nothing n) is files = absurd files
 passed_at sight route (local.Fault n) is files = absurd files
 passed_at sight route local.OutOfMemory is files = absurd files
 
+-- of an answer behind which the links were asked
+unfound_at : (sight : Sight) (route : Route) (answer : Local) → IsLocal sight route answer → IsUnfound answer
+    → generation_of answer ≡ length sight.log
+unfound_at sight route (local.Nothing n) is missed = is.1
+unfound_at sight route (local.Fault n) is missed = is.1
+unfound_at sight route (local.File from path n) is missed = absurd missed
+unfound_at sight route (local.Section from path n) is missed = absurd missed
+unfound_at sight route (local.Source bytes path n) is missed = absurd missed
+unfound_at sight route local.OutOfMemory is missed = absurd missed
+
 module _ {T : Type 0} (scene : Scene T) (at : Stand T) (own noted : ShareFacts) (log : List Change) (request : Request) where
-  at_log : {what : given.Asked} {why : Reason} {n : ℕ} {carried : _} {answers : List Heard}
-      → IsCase scene at own noted log request what why n carried answers → IsTrue (rests_on_index why) → n ≡ length log
+  at_log : {what : given.Asked} {why : Reason} {n : ℕ} {carried : _} {answers : List Heard} {told : Option Upstream}
+      → IsCase scene at own noted log request what why n carried answers told → IsTrue (rests_on_index why) → n ≡ length log
   at_log (bad_head len e) h = absurd (false≢true h)
   at_log (too_long e) h = absurd (false≢true h)
   at_log (too_many e) h = absurd (false≢true h)
@@ -48,9 +60,13 @@ module _ {T : Type 0} (scene : Scene T) (at : Stand T) (own noted : ShareFacts) 
   at_log (has_body head e served body) h = absurd (false≢true h)
   at_log (no_route head fault e taken said) h = absurd (no_route_asks fault h)
   at_log (passed head route answer heard e asks file rests is) h = passed_at (sight_at scene at log heard) route answer rests is
-  at_log (read_fault head route m heard e asks file rests) h = rests.1
-  at_log (not_found head route m heard e asks file rests) h = rests.1
-  at_log (no_memory head route heard e asks files) h = absurd (false≢true h)
+  at_log (upstream head route answer heard given e asks file rests unfound) h =
+      unfound_at (sight_at scene at log heard) route answer rests unfound
+  at_log (read_fault head route m heard said e asks file rests none) h = rests.1
+  at_log (hop_limit head route m heard e asks file rests) h = rests.1
+  at_log (upstream_fault head route m heard refused failed e asks file rests some) h = rests.1
+  at_log (not_found head route m heard refused e asks file rests) h = rests.1
+  at_log (no_memory head route heard said e asks files gives_up) h = absurd (false≢true h)
   at_log (metrics head text e asks page) h = absurd (false≢true h)
   at_log (no_page head e asks) h = absurd (false≢true h)
 

@@ -11,9 +11,9 @@ use Rattle.dbgd_run.specs.declared.places.DoorPlace.{DoorPlace}
 use Rattle.dbgd_run.specs.declared.serve_end.ServeEnd.{ServeEnd}
 use Rattle.dbgd_run.specs.declared.serve_end.ServeEnd.TheVariants.{Refused, Unannounced, Unlocked, Served}
 
-module _ {K T D : Type 0} (r : ServeRules T D) (shows : K → ShownKeeper) (line : List ℕ) (opened keeper : K) (before : PassingScene T)
-    (places : List (DoorPlace T D)) where
-  pub keeper_opened : (end : ServeEnd) (after : CrewFacts T D) {old : StateFacts K} {told : Streams}
+module _ {K T D L : Type 0} (r : ServeRules T D L) (shows : K → ShownKeeper) (line : List ℕ) (opened keeper : K) (before : PassingScene T)
+    (places : List (DoorPlace T D L)) where
+  pub keeper_opened : (end : ServeEnd) (after : CrewFacts T D L) {old : StateFacts K} {told : Streams}
       → Opens r.setting.tells_tables shows opened old → Announces line true before.streams told
       → ServesIndex r shows old (record before { log = old.log; streams = told }) places end keeper after
       → ServesKeeper r shows line opened before places end keeper after

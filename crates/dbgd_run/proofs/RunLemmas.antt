@@ -2,7 +2,7 @@
 use Rattle.std.proofs.Common.{◌≡◌, ◌⊎◌, ℕ, ◌+◌, ◌<◌, false, List, [], drop, length, inl, inr, refl, sym, ap, subst}
 use Rattle.std.proofs.lemmas.Bool.{true≢false}
 use Rattle.index_state.specs.declared.open_fault.OpenFault.TheVariants as refusal
-use Rattle.dbgd_words.specs.Words.{Line, asks_help, asks_ident, asks_query, asks_scan, asks_section, asks_serve, asks_sources, asks_trial, line_of, unbuilt, unreadable}
+use Rattle.dbgd_words.specs.Words.{Line, asks_help, asks_ident, asks_query, asks_scan, asks_section, asks_serve, asks_sources, asks_trial, line_of, unreadable}
 use Rattle.dbgd_words.proofs.OptionLemmas.{AsksByOptions, options_ask}
 use Rattle.dbgd_run.specs.Causes.{HasStatus, HelpStatus, TrialStatus}
 use Rattle.dbgd_run.specs.Endings.{EndsSaying, SaysMemory, out_saying}
@@ -51,7 +51,7 @@ module _ {T : Type 0} (s : Setting T) (words : List (List ℕ)) (before after : 
           said (inr cut) = subst (TrialStatus seed files before after) (sym cut.ends) cut.out.rose
       go (inr wants) = subst (TrialStatus seed files before after) (sym wants.ends) tt
 
--- what a line does on the scene, where doors and clock are as they were; nothing is said so of a server
+-- what a line does on the scene, where doors, links and clock are as they were; nothing is said so of a server
 pub runs_apart : {T : Type 0} (s : Setting T) (line : Line) (before after : ProgramStage T) (end : Status)
     → Runs s line before.scene after.scene end → LeavesRest before after → DoesLine s line before after end
 runs_apart s (asks_ident path) before after end runs rest = record { runs = runs; rest = rest }
@@ -61,8 +61,7 @@ runs_apart s (asks_query path id) before after end runs rest = record { runs = r
 runs_apart s (asks_scan path workers roots) before after end runs rest = record { runs = runs; rest = rest }
 runs_apart s (asks_trial seed files workers) before after end runs rest = record { runs = runs; rest = rest }
 runs_apart s asks_help before after end runs rest = record { runs = runs; rest = rest }
-runs_apart s (asks_serve path workers port secs sources roots) before after end runs rest = absurd runs
-runs_apart s unbuilt before after end runs rest = record { runs = runs; rest = rest }
+runs_apart s (asks_serve path workers port secs sources upstream roots) before after end runs rest = absurd runs
 runs_apart s unreadable before after end runs rest = record { runs = runs; rest = rest }
 
 -- the same of all that there is: a line that asks for no server, and one that does
@@ -76,12 +75,11 @@ module _ {T : Type 0} (s : Setting T) (words : List (List ℕ)) (before after : 
   has_status (asks_scan path workers roots) run = scan_status s path roots before.scene after.scene workers end run.runs
   has_status (asks_trial seed files workers) run = trial_status s words before.scene after.scene end seed files run.runs
   has_status asks_help run = help_status s words before.scene after.scene end run.runs
-  has_status (asks_serve path workers port secs sources roots) run =
+  has_status (asks_serve path workers port secs sources upstream roots) run =
       serve_status s (serve_words path workers port secs sources roots) before after end run
-  has_status unbuilt run = subst (λ e. HasStatus s words unbuilt before after e) (sym run.runs.says.ends) tt
   has_status unreadable run = subst (λ e. HasStatus s words unreadable before after e) (sym run.runs.says.ends) tt
 
-  -- doors and clock are as they were, unless a server is asked for
+  -- doors, links and clock are as they were, unless a server is asked for
   leaves_rest : (line : Line) → DoesLine s line before after end → is_serve line ≡ false → LeavesRest before after
   leaves_rest (asks_ident path) run none = run.rest
   leaves_rest (asks_sources path) run none = run.rest
@@ -90,8 +88,7 @@ module _ {T : Type 0} (s : Setting T) (words : List (List ℕ)) (before after : 
   leaves_rest (asks_scan path workers roots) run none = run.rest
   leaves_rest (asks_trial seed files workers) run none = run.rest
   leaves_rest asks_help run none = run.rest
-  leaves_rest (asks_serve path workers port secs sources roots) run none = absurd (true≢false none)
-  leaves_rest unbuilt run none = run.rest
+  leaves_rest (asks_serve path workers port secs sources upstream roots) run none = absurd (true≢false none)
   leaves_rest unreadable run none = run.rest
 
   -- a part for each command
@@ -112,7 +109,7 @@ module _ {T : Type 0} (s : Setting T) (words : List (List ℕ)) (before after : 
         record { does = does; ends = scan_ends s path roots before.scene after.scene workers end does };
     trial = λ seed files workers is. (subst (λ (l : Line). DoesLine s l before after end) is run).runs;
     help = λ is. (subst (λ (l : Line). DoesLine s l before after end) is run).runs;
-    serve = λ path workers port secs sources roots is.
+    serve = λ path workers port secs sources upstream roots is.
         let does : RunsServe s (serve_words path workers port secs sources roots) before after end
         = subst (λ (l : Line). DoesLine s l before after end) is run in
         record {
@@ -120,7 +117,6 @@ module _ {T : Type 0} (s : Setting T) (words : List (List ℕ)) (before after : 
           ends = serve_ends s (serve_words path workers port secs sources roots) before after end does;
           complete = serve_complete s (serve_words path workers port secs sources roots) before after end does;
         };
-    not_built = λ is. inl (subst (λ (l : Line). DoesLine s l before after end) is run).runs;
     usage = λ is. inl (subst (λ (l : Line). DoesLine s l before after end) is run).runs;
     causes = has_status (line_of words) run;
     rest = leaves_rest (line_of words) run;
@@ -162,8 +158,7 @@ module _ {T : Type 0} (s : Setting T) (words : List (List ℕ)) (before after : 
     lacks_status (asks_scan path workers roots) asked = tt
     lacks_status (asks_trial seed files workers) never = absurd never
     lacks_status asks_help asked = tt
-    lacks_status (asks_serve path workers port secs sources roots) asked = tt
-    lacks_status unbuilt asked = lacks.options
+    lacks_status (asks_serve path workers port secs sources upstream roots) asked = tt
     lacks_status unreadable asked = lacks.options
 
     pub lacks_room : (code : ℕ) → code ≡ code_of end → IsRun s words before after code
@@ -181,7 +176,7 @@ module _ {T : Type 0} (s : Setting T) (words : List (List ℕ)) (before after : 
           };
       trial = λ seed files workers is. absurd (asks (asks_trial seed files workers) is);
       help = λ is. record { text = []; says = inr lacks.alone.says; hands = lacks.alone.hands; store = lacks.alone.store };
-      serve = λ path workers port secs sources roots is. record {
+      serve = λ path workers port secs sources upstream roots is. record {
         does = serve_lacks (serve_words path workers port secs sources roots);
         ends =
             serve_ends s (serve_words path workers port secs sources roots) before after end
@@ -190,7 +185,6 @@ module _ {T : Type 0} (s : Setting T) (words : List (List ℕ)) (before after : 
             serve_complete s (serve_words path workers port secs sources roots) before after end
             (serve_lacks (serve_words path workers port secs sources roots));
       };
-      not_built = λ is. inr lacks;
       usage = λ is. inr lacks;
       causes =
           subst (λ e. HasStatus s words (line_of words) before after e) (sym lacks.alone.says.ends)

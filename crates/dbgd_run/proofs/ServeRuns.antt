@@ -1,8 +1,11 @@
--- A server on all that it is handed: the hands of its passes stand first, those of its workers behind them, and the others last.
+-- A server on all that it is handed: the hands of its passes stand first, those of its workers behind them, and the others last;
+-- the rows of its workers' links stand first, too.
 use Rattle.std.proofs.Common.{◌≡◌, inl, inr, ℕ, ◌+◌, ◌*◌, ◌<◌, ◌||◌, Bool, List, [], ◌∷◌, ◌++◌, All, map, drop, take, length, length-append, append_assoc, Option, Some, refl, sym, ◌∙◌, ap, subst, arith}
 use Rattle.std.specs.List.{AllZip, flat_map, list_any}
+use Rattle.std.specs.Global.{Vec}
 use Rattle.std.proofs.lemmas.List.{length-map, take-append-drop}
 use Rattle.std.proofs.lemmas.List.Elements.{All-nil, All-cons, All-head, All-tail}
+use Rattle.federation.specs.Link.{ShownLink}
 use Rattle.http_wire.specs.Door.{ShownDoor}
 use Rattle.http_wire.specs.Stream.{ShownStream}
 use Rattle.index_keeper.specs.Store.{ShownStore}
@@ -25,8 +28,8 @@ use Rattle.dbgd_run.specs.Scene.{Setting, scene}
 use Rattle.dbgd_run.specs.Serve.{IsUnopened, MakesRound, RunsServe, ServeWords, served, served_scene, unopened, unserved}
 use Rattle.dbgd_run.specs.ServeSaid.{SaysServeEnd, door_line, door_lines, end_line, ended_badly, has_cut, has_failed, is_any_failed, served_status, serving_line, serving_saying, wants_line}
 use Rattle.dbgd_run.specs.Serving.{CrewFacts, RefusesStore, ServesStore, serve_rules}
-use Rattle.dbgd_run.specs.Stage.{stage}
-use Rattle.dbgd_run.specs.Workers.{AreWorkers, HasCountedNothing, IsFreshShare, PlaceServed, ServedBy, WorkerFacts, doors_at, ends_at, hands_at, shares_at, worker_in, workers_at}
+use Rattle.dbgd_run.specs.Stage.{rows_shown, stage}
+use Rattle.dbgd_run.specs.Workers.{AreWorkers, IsFreshShare, PlaceServed, ServedBy, WorkerFacts, doors_at, ends_at, hands_at, links_at, shares_at, worker_in, workers_at}
 use Rattle.dbgd_run.specs.declared.line_fate.LineFate.{LineFate}
 use Rattle.dbgd_run.specs.declared.places.DoorPlace.{DoorPlace}
 use Rattle.dbgd_run.specs.declared.scan_end.ScanEnd.TheVariants as scanned
@@ -49,6 +52,15 @@ behind_front : {A : Type 0} (xs ys : List A) → drop (length xs) (xs ++ ys) ≡
 behind_front [] ys = refl
 behind_front (x ∷ xs) ys = behind_front xs ys
 
+-- of a list of which something is made: what is made of its front, and of what stands behind that
+front_mapped : {A B : Type 0} (f : A → B) (xs ys : List A) → take (length xs) (map f (xs ++ ys)) ≡ map f xs
+front_mapped f [] ys = refl
+front_mapped f (x ∷ xs) ys = ap (λ zs. f x ∷ zs) (front_mapped f xs ys)
+
+behind_mapped : {A B : Type 0} (f : A → B) (xs ys : List A) → drop (length xs) (map f (xs ++ ys)) ≡ map f ys
+behind_mapped f [] ys = refl
+behind_mapped f (x ∷ xs) ys = behind_mapped f xs ys
+
 -- a list in three parts
 pub three_parts : {A : Type 0} (f n : ℕ) (xs : List A) → take f xs ++ (take n (drop f xs) ++ drop n (drop f xs)) ≡ xs
 three_parts f n xs = ap (λ rest. take f xs ++ rest) (take-append-drop n (drop f xs)) ∙ take-append-drop f xs
@@ -57,11 +69,11 @@ three_parts f n xs = ap (λ rest. take f xs ++ rest) (take-append-drop n (drop f
 pub has_row : (book : BookFacts) (share : ShareFacts) → IsFreshShare book share → HasRowIn book share
 has_row book share is = (is.of_book, is.fresh.row)
 
-pub places_have_rows : {T D : Type 0} (book : BookFacts) (places : List (DoorPlace T D)) → All (IsFreshShare book) (shares_at places)
-    → All (λ (place : DoorPlace T D). HasRowIn book place.share) places
-places_have_rows {T} {D} book [] all = All-nil (λ (place : DoorPlace T D). HasRowIn book place.share)
-places_have_rows {T} {D} book (p ∷ places) all =
-    All-cons (λ (place : DoorPlace T D). HasRowIn book place.share) p places
+pub places_have_rows : {T D L : Type 0} (book : BookFacts) (places : List (DoorPlace T D L)) → All (IsFreshShare book) (shares_at places)
+    → All (λ (place : DoorPlace T D L). HasRowIn book place.share) places
+places_have_rows {T} {D} {L} book [] all = All-nil (λ (place : DoorPlace T D L). HasRowIn book place.share)
+places_have_rows {T} {D} {L} book (p ∷ places) all =
+    All-cons (λ (place : DoorPlace T D L). HasRowIn book place.share) p places
     (has_row book p.share (All-head (IsFreshShare book) p.share (shares_at places) all))
     (places_have_rows book places (All-tail (IsFreshShare book) p.share (shares_at places) all))
 
@@ -74,15 +86,15 @@ bad_at : (why : DoorEnd) → ended_badly (Some why) ≡ has_failed (Some (said_a
 bad_at end.Closed = refl
 bad_at end.Failed = refl
 
-module _ {T D : Type 0} (sc : Scene T) (sees : D → ShownDoor) (first last : List Change) where
-  served_workers : (places left : List (DoorPlace T D)) → AllZip (PlaceServed sc sees first last) places left
-      → AllZip (ServedBy sc first last) (workers_at sees places) (workers_at sees left)
+module _ {T D L : Type 0} (sc : Scene T) (sees : D → ShownDoor) (views : L → ShownLink) (first last : List Change) where
+  served_workers : (places left : List (DoorPlace T D L)) → AllZip (PlaceServed sc sees views first last) places left
+      → AllZip (ServedBy sc first last) (workers_at sees views places) (workers_at sees views left)
   served_workers [] [] all = tt
   served_workers [] (p ∷ left) all = absurd all
   served_workers (p ∷ places) [] all = absurd all
   served_workers (p ∷ places) (q ∷ left) all = (all.0.by, served_workers places left all.1)
 
-  lines_of_doors : (places left : List (DoorPlace T D)) → AllZip (PlaceServed sc sees first last) places left
+  lines_of_doors : (places left : List (DoorPlace T D L)) → AllZip (PlaceServed sc sees views first last) places left
       → flat_map end_line (ends_at left) ≡ door_lines (map sees (doors_at left))
   lines_of_doors [] [] all = refl
   lines_of_doors [] (p ∷ left) all = absurd all
@@ -93,7 +105,7 @@ module _ {T D : Type 0} (sc : Scene T) (sees : D → ShownDoor) (first last : Li
       (line_at all.0.by.ran.end ∙ ap door_line (sym all.0.by.ran.serves.ends.last))
       ∙ ap (λ (rest : List ℕ). door_line (sees q.door).last ++ rest) (lines_of_doors places left all.1)
 
-  failed_of_doors : (places left : List (DoorPlace T D)) → AllZip (PlaceServed sc sees first last) places left
+  failed_of_doors : (places left : List (DoorPlace T D L)) → AllZip (PlaceServed sc sees views first last) places left
       → list_any ended_badly (ends_at left) ≡ is_any_failed (map sees (doors_at left))
   failed_of_doors [] [] all = refl
   failed_of_doors [] (p ∷ left) all = absurd all
@@ -103,23 +115,28 @@ module _ {T D : Type 0} (sc : Scene T) (sees : D → ShownDoor) (first last : Li
       ∙ ap (λ (b : Bool). b || list_any ended_badly (ends_at left)) (bad_at all.0.by.ran.end ∙ ap has_failed (sym all.0.by.ran.serves.ends.last))
       ∙ ap (λ (b : Bool). has_failed (sees q.door).last || b) (failed_of_doors places left all.1)
 
-module _ {T D : Type 0} (sees : D → ShownDoor) where
-  -- the workers of places have their hands and their doors
-  pub are_workers : (hands : List T) (doors : List D) (places : List (DoorPlace T D)) → hands_at places ≡ hands → doors_at places ≡ doors
-      → AreWorkers hands (map sees doors) (workers_at sees places)
-  are_workers hands doors places h d = record {
-    hands = map_twice (λ (worker : WorkerFacts T). worker.hand) (worker_in sees) places ∙ h;
+module _ {T D L : Type 0} (sees : D → ShownDoor) (views : L → ShownLink) where
+  -- the workers of places have their hands, their doors and their rows of links
+  pub are_workers : (hands : List T) (doors : List D) (rows : List (Vec L)) (places : List (DoorPlace T D L))
+      → hands_at places ≡ hands → doors_at places ≡ doors → links_at places ≡ rows
+      → AreWorkers hands (map sees doors) (rows_shown views rows) (workers_at sees views places)
+  are_workers hands doors rows places h d l = record {
+    hands = map_twice (λ (worker : WorkerFacts T). worker.hand) (worker_in sees views) places ∙ h;
     doors =
-        map_twice (λ (worker : WorkerFacts T). worker.door) (worker_in sees) places
-        ∙ (sym (map_twice sees (λ (place : DoorPlace T D). place.door) places) ∙ ap (map sees) d);
+        map_twice (λ (worker : WorkerFacts T). worker.door) (worker_in sees views) places
+        ∙ (sym (map_twice sees (λ (place : DoorPlace T D L). place.door) places) ∙ ap (map sees) d);
+    links =
+        map_twice (λ (worker : WorkerFacts T). worker.links) (worker_in sees views) places
+        ∙ (sym (map_twice (λ (row : Vec L). map views row.items) (λ (place : DoorPlace T D L). place.links) places)
+        ∙ ap (rows_shown views) l);
   }
 
-  fresh_workers : (book : BookFacts) (places : List (DoorPlace T D)) → All (IsFreshShare book) (shares_at places)
-      → All (λ (worker : WorkerFacts T). HasCountedNothing worker.share) (workers_at sees places)
-  fresh_workers book [] all = All-nil (λ (worker : WorkerFacts T). HasCountedNothing worker.share)
+  fresh_workers : (book : BookFacts) (places : List (DoorPlace T D L)) → All (IsFreshShare book) (shares_at places)
+      → All (λ (worker : WorkerFacts T). IsFreshShare book worker.share) (workers_at sees views places)
+  fresh_workers book [] all = All-nil (λ (worker : WorkerFacts T). IsFreshShare book worker.share)
   fresh_workers book (p ∷ places) all =
-      All-cons (λ (worker : WorkerFacts T). HasCountedNothing worker.share) (worker_in sees p) (workers_at sees places)
-      (All-head (IsFreshShare book) p.share (shares_at places) all).fresh
+      All-cons (λ (worker : WorkerFacts T). IsFreshShare book worker.share) (worker_in sees views p) (workers_at sees views places)
+      (All-head (IsFreshShare book) p.share (shares_at places) all)
       (fresh_workers book places (All-tail (IsFreshShare book) p.share (shares_at places) all))
 
 -- the hands at a place of the whole list
@@ -140,7 +157,19 @@ module _ {T : Type 0} (n : ℕ) (front mid rest : List T) (long : length front �
       ap (λ (k : ℕ). drop k (front ++ (mid ++ rest))) (omega (arith, sum, long, many))
       ∙ (ap (drop (length (front ++ mid))) (sym (append_assoc front mid rest)) ∙ behind_front (front ++ mid) rest)
 
-module _ {T D : Type 0} (s : Setting T) (words : ServeWords) (sees : D → ShownDoor) (front mid rest : List T) (doors : List D) (old new : ShownStore) (woke : Option (List Waited)) (before after_streams : Streams) (share : ShareFacts) (book : BookFacts) (places : List (DoorPlace T D)) (after : CrewFacts T D) (code : Status) where
+-- the rows of links at a place of all rows
+module _ {L : Type 0} (views : L → ShownLink) (n : ℕ) (rows others : List (Vec L)) (many : length rows ≡ n) where
+  worker_rows : take n (rows_shown views (rows ++ others)) ≡ rows_shown views rows
+  worker_rows =
+      ap (λ (k : ℕ). take k (rows_shown views (rows ++ others))) (sym many)
+      ∙ front_mapped (λ (row : Vec L). map views row.items) rows others
+
+  other_rows : drop n (rows_shown views (rows ++ others)) ≡ rows_shown views others
+  other_rows =
+      ap (λ (k : ℕ). drop k (rows_shown views (rows ++ others))) (sym many)
+      ∙ behind_mapped (λ (row : Vec L). map views row.items) rows others
+
+module _ {T D L : Type 0} (s : Setting T) (words : ServeWords) (sees : D → ShownDoor) (views : L → ShownLink) (front mid rest : List T) (doors : List D) (rows others : List (Vec L)) (old new : ShownStore) (woke : Option (List Waited)) (before after_streams : Streams) (share : ShareFacts) (book : BookFacts) (places : List (DoorPlace T D L)) (after : CrewFacts T D L) (code : Status) where
   -- hands that came back as they were
   hands_back : hands_at places ≡ mid → after.hands ≡ front → after.places ≡ places
       → after.hands ++ (hands_at after.places ++ rest) ≡ front ++ (mid ++ rest)
@@ -148,28 +177,36 @@ module _ {T D : Type 0} (s : Setting T) (words : ServeWords) (sees : D → Shown
       ap (λ (hands : List T). hands ++ (hands_at after.places ++ rest)) first
       ∙ ap (λ (hands : List T). front ++ (hands ++ rest)) (ap hands_at same ∙ h)
 
+  -- rows of links that came back as they were
+  rows_back : links_at places ≡ rows → after.places ≡ places
+      → rows_shown views (links_at after.places ++ others) ≡ rows_shown views (rows ++ others)
+  rows_back l same =
+      ap (λ (ps : List (DoorPlace T D L)). rows_shown views (links_at ps ++ others)) same
+      ∙ ap (λ (all : List (Vec L)). rows_shown views (all ++ others)) l
+
   pub runs_serve : (how : ServeEnd) → length front ≡ words.workers + 2 → length mid ≡ words.workers
-      → length after.hands ≡ words.workers + 2 → length after.places ≡ words.workers
-      → hands_at places ≡ mid → doors_at places ≡ doors → All (IsFreshShare book) (shares_at places) → IsFreshShare book share
-      → ServesStore (serve_rules s words.roots words.secs (served_scene s words) sees) words.path
+      → length rows ≡ words.workers → length after.hands ≡ words.workers + 2 → length after.places ≡ words.workers
+      → hands_at places ≡ mid → doors_at places ≡ doors → links_at places ≡ rows → All (IsFreshShare book) (shares_at places) → IsFreshShare book share
+      → book.rows ≡ words.workers + 1
+      → ServesStore (serve_rules s words.roots words.secs (served_scene s words) sees views) words.path
       (serving_line words.port words.workers) old new (passing_scene [] front woke before share) places how after
       → SaysServeEnd how (ends_at after.places) after.streams after_streams code
-      → RunsServe s words (stage (scene (front ++ (mid ++ rest)) old before) (map sees doors) woke)
-      (stage (scene (after.hands ++ (hands_at after.places ++ rest)) new after_streams) (map sees (doors_at after.places)) after.woke) code
-  runs_serve (Refused fault) long many back count h d fresh own store said =
+      → RunsServe s words (stage (scene (front ++ (mid ++ rest)) old before) (map sees doors) (rows_shown views (rows ++ others)) woke)
+      (stage (scene (after.hands ++ (hands_at after.places ++ rest)) new after_streams) (map sees (doors_at after.places)) (rows_shown views (links_at after.places ++ others)) after.woke) code
+  runs_serve (Refused fault) long many wide back count h d l fresh own sized store said =
       unopened fault (whole_refused fault store said)
     where
-      whole_refused : (fault : OpenFault) → RefusesStore (serve_rules s words.roots words.secs (served_scene s words) sees) words.path old new
+      whole_refused : (fault : OpenFault) → RefusesStore (serve_rules s words.roots words.secs (served_scene s words) sees views) words.path old new
           (passing_scene [] front woke before share) places fault after
           → EndsWhole (refusal_saying fault) after.streams after_streams code
-          → IsUnopened s words (stage (scene (front ++ (mid ++ rest)) old before) (map sees doors) woke)
-          (stage (scene (after.hands ++ (hands_at after.places ++ rest)) new after_streams) (map sees (doors_at after.places)) after.woke) fault code
+          → IsUnopened s words (stage (scene (front ++ (mid ++ rest)) old before) (map sees doors) (rows_shown views (rows ++ others)) woke)
+          (stage (scene (after.hands ++ (hands_at after.places ++ rest)) new after_streams) (map sees (doors_at after.places)) (rows_shown views (links_at after.places ++ others)) after.woke) fault code
       whole_refused fault store said =
           let sum = length-append front (mid ++ rest) in
           let some : 0 < length (front ++ (mid ++ rest)) = omega (arith, sum, long) in record {
             scans =
                 subst (λ (hands : List T). Scans s words.path words.roots (front ++ (mid ++ rest)) hands old new (scanned.Refused fault))
-                (sym (hands_back h (ap (λ (c : CrewFacts T D). c.hands) store.same) (ap (λ (c : CrewFacts T D). c.places) store.same)))
+                (sym (hands_back h (ap (λ (c : CrewFacts T D L). c.hands) store.same) (ap (λ (c : CrewFacts T D L). c.places) store.same)))
                 (record {
                   ends = record { hands = refl; store = store.scans.ends.store };
                   loads = tt;
@@ -181,13 +218,14 @@ module _ {T D : Type 0} (s : Setting T) (words : ServeWords) (sees : D → Shown
                 });
             said =
                 subst (λ (shown : Streams). EndsWhole (refusal_saying fault) shown after_streams code)
-                (ap (λ (c : CrewFacts T D). c.streams) store.same) said;
+                (ap (λ (c : CrewFacts T D L). c.streams) store.same) said;
             rest = record {
-              doors = ap (λ (ps : List (DoorPlace T D)). map sees (doors_at ps)) (ap (λ (c : CrewFacts T D). c.places) store.same) ∙ ap (map sees) d;
-              woke = ap (λ (c : CrewFacts T D). c.woke) store.same;
+              doors = ap (λ (ps : List (DoorPlace T D L)). map sees (doors_at ps)) (ap (λ (c : CrewFacts T D L). c.places) store.same) ∙ ap (map sees) d;
+              links = rows_back l (ap (λ (c : CrewFacts T D L). c.places) store.same);
+              woke = ap (λ (c : CrewFacts T D L). c.woke) store.same;
             };
           }
-  runs_serve Unannounced long many back count h d fresh own store said = unserved (record {
+  runs_serve Unannounced long many wide back count h d l fresh own sized store said = unserved (record {
     found = store.found;
     held = store.held;
     has = store.has;
@@ -195,9 +233,13 @@ module _ {T D : Type 0} (s : Setting T) (words : ServeWords) (sees : D → Shown
     store = store.store;
     hands = hands_back h store.hands store.same;
     said = inl (subst (λ (e : Status). EndsCut (serving_saying words.port words.workers) before after_streams e) (sym said.1) (subst (λ (shown : Streams). EndsCut (serving_saying words.port words.workers) before shown status.Fault) (sym said.0) store.says));
-    rest = record { doors = ap (λ (ps : List (DoorPlace T D)). map sees (doors_at ps)) store.same ∙ ap (map sees) d; woke = store.woke };
+    rest = record {
+      doors = ap (λ (ps : List (DoorPlace T D L)). map sees (doors_at ps)) store.same ∙ ap (map sees) d;
+      links = rows_back l store.same;
+      woke = store.woke;
+    };
   })
-  runs_serve Unlocked long many back count h d fresh own store said = unserved (record {
+  runs_serve Unlocked long many wide back count h d l fresh own sized store said = unserved (record {
     found = store.found;
     held = store.held;
     has = store.has;
@@ -205,12 +247,17 @@ module _ {T D : Type 0} (s : Setting T) (words : ServeWords) (sees : D → Shown
     store = store.store;
     hands = hands_back h store.hands store.same;
     said = inr (record { told = after.streams; line = store.says; wants = said });
-    rest = record { doors = ap (λ (ps : List (DoorPlace T D)). map sees (doors_at ps)) store.same ∙ ap (map sees) d; woke = store.woke };
+    rest = record {
+      doors = ap (λ (ps : List (DoorPlace T D L)). map sees (doors_at ps)) store.same ∙ ap (map sees) d;
+      links = rows_back l store.same;
+      woke = store.woke;
+    };
   })
-  runs_serve (Served fate how broken) long many back count h d fresh own store said =
+  runs_serve (Served fate how broken) long many wide back count h d l fresh own sized store said =
       let from = store.serves in
       let n = words.workers in
-      let end_hands = length-map after.places (λ (place : DoorPlace T D). place.hand) ∙ count in served (record {
+      let end_hands = length-map after.places (λ (place : DoorPlace T D L). place.hand) ∙ count in
+      let end_rows = length-map after.places (λ (place : DoorPlace T D L). place.links) ∙ count in served (record {
         found = store.found;
         held = store.held;
         broken = broken;
@@ -219,24 +266,32 @@ module _ {T D : Type 0} (s : Setting T) (words : ServeWords) (sees : D → Shown
         store = store.store;
         told = store.told;
         line = store.says;
+        book = book;
+        sized = sized;
         share = share;
-        fresh = own.fresh;
+        fresh = own;
         first = from.first;
         made =
             subst (λ (hands : List T). MakesRound s words.roots (passing_scene (puts_of (current store.found)) hands woke store.told share) from.first)
             (sym (first_hands n front mid rest long many)) from.made;
         passed = from.passed;
-        workers = workers_at sees places;
+        workers = workers_at sees views places;
         workers_are =
-            subst (λ (hands : List T). AreWorkers hands (map sees doors) (workers_at sees places)) (sym (worker_hands n front mid rest long many))
-            (are_workers sees mid doors places h d);
-        shares = fresh_workers sees book places fresh;
-        left = workers_at sees after.places;
+            subst
+            (λ (shown : List (List ShownLink)). AreWorkers (take n (drop (n + 2) (front ++ (mid ++ rest)))) (map sees doors) shown (workers_at sees views places))
+            (sym (worker_rows views n rows others wide))
+            (subst (λ (hands : List T). AreWorkers hands (map sees doors) (rows_shown views rows) (workers_at sees views places))
+            (sym (worker_hands n front mid rest long many)) (are_workers sees views mid doors rows places h d l));
+        shares = fresh_workers sees views book places fresh;
+        left = workers_at sees views after.places;
         left_are =
-            subst (λ (hands : List T). AreWorkers hands (map sees (doors_at after.places)) (workers_at sees after.places))
+            subst
+            (λ (shown : List (List ShownLink)). AreWorkers (take n (drop (n + 2) (after.hands ++ (hands_at after.places ++ rest)))) (map sees (doors_at after.places)) shown (workers_at sees views after.places))
+            (sym (worker_rows views n (links_at after.places) others end_rows))
+            (subst (λ (hands : List T). AreWorkers hands (map sees (doors_at after.places)) (rows_shown views (links_at after.places)) (workers_at sees views after.places))
             (sym (worker_hands n after.hands (hands_at after.places) rest back end_hands))
-            (are_workers sees (hands_at after.places) (doors_at after.places) after.places refl refl);
-        doors = served_workers (served_scene s words) sees from.first.after.log store.log places after.places from.doors;
+            (are_workers sees views (hands_at after.places) (doors_at after.places) (links_at after.places) after.places refl refl refl));
+        doors = served_workers (served_scene s words) sees views from.first.after.log store.log places after.places from.doors;
         how = how;
         last = from.last;
         passes = from.passes;
@@ -245,17 +300,20 @@ module _ {T D : Type 0} (s : Setting T) (words : ServeWords) (sees : D → Shown
         others =
             other_hands n after.hands (hands_at after.places) rest back end_hands
             ∙ sym (other_hands n front mid rest long many);
+        other_links =
+            other_rows views n (links_at after.places) others end_rows
+            ∙ sym (other_rows views n rows others wide);
         woke = from.woke;
         out = said.out ∙ ap (λ (x : Streams). x.out) from.streams;
         err =
             subst (λ (shown : ShownStream). GetsLines (door_lines (map sees (doors_at after.places))) shown after_streams.err)
             (ap (λ (x : Streams). x.err) from.streams)
             (subst (λ (bytes : List ℕ). GetsLines bytes after.streams.err after_streams.err)
-            (lines_of_doors (served_scene s words) sees from.first.after.log store.log places after.places from.doors) said.err);
+            (lines_of_doors (served_scene s words) sees views from.first.after.log store.log places after.places from.doors) said.err);
         ends =
             said.status_is
             ∙ (ap (λ (b : Bool). served_status (wants_line fate how) (has_cut fate how || (b || broken)))
-            (failed_of_doors (served_scene s words) sees from.first.after.log store.log places after.places from.doors)
+            (failed_of_doors (served_scene s words) sees views from.first.after.log store.log places after.places from.doors)
             ∙ ap (λ (f : LineFate). served_status (wants_line f how) (has_cut f how || (is_any_failed (map sees (doors_at after.places)) || broken)))
             (sym from.fate_is));
       })

@@ -33,10 +33,10 @@ some_on secs Unmade e = absurd (false≢true e)
 some_on secs Written e = some_more secs e
 some_on secs Cut e = some_more secs e
 
-module _ {T D : Type 0} (r : ServeRules T D) (before : PassingScene T) (places : List (DoorPlace T D)) (first : Round T) where
-  pub serves_from : (how : Option PassesEnd) (joined : List Change) (after : CrewFacts T D) (passing : Bool)
+module _ {T D L : Type 0} (r : ServeRules T D L) (before : PassingScene T) (places : List (DoorPlace T D L)) (first : Round T) where
+  pub serves_from : (how : Option PassesEnd) (joined : List Change) (after : CrewFacts T D L) (passing : Bool)
       → MakesRound r.setting r.roots before first → passing ≡ goes_on r.secs first.fate → IsPrefix first.after.log joined
-      → AllZip (PlaceServed r.scene r.sees first.after.log joined) places after.places
+      → AllZip (PlaceServed r.scene r.sees r.views first.after.log joined) places after.places
       → GoesOn r.setting r.roots r.secs passing first.after how joined after
       → ServesFrom r before places first.fate how joined after
   serves_from None joined after passing made is later doors on = record {

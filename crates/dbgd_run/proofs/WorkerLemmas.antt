@@ -10,6 +10,7 @@ use Rattle.index_rows.specs.declared.change.Change.{Change}
 use Rattle.index_state.specs.State.{Origin}
 use Rattle.lock_crew.specs.Runs.{IsSlotReady, RunsBy, SlotHas}
 use Rattle.lock_crew.proofs.Zips.{zip_weaker}
+use Rattle.federation.specs.Link.{ShownLink}
 use Rattle.http_wire.specs.Door.{ShownDoor}
 use Rattle.conn_server.specs.Connection.{AreExchanges, LogsGrow, is_last_request}
 use Rattle.conn_server.specs.Doors.{AreVisits, Visit, all_exchanges}
@@ -64,9 +65,9 @@ visits_between scene at first early log last (one ∷ visits) from into are grow
     logs_cut early log [] ys grow = (early, prefix_self early, grow)
     logs_cut early log (x ∷ xs) ys grow = let rest = logs_cut x.log log xs ys grow.1 in (rest.0, (grow.0, rest.1), rest.2)
 
-module _ {T D : Type 0} (scene : Scene T) (sees : D → ShownDoor) where
-  served_by : (start last : SeatFacts Change Origin) (before after : DoorPlace T D)
-      → RunsBy (RunsPlace scene sees) start last before after → PlaceServed scene sees start.seen last.seen before after
+module _ {T D L : Type 0} (scene : Scene T) (sees : D → ShownDoor) (views : L → ShownLink) where
+  served_by : (start last : SeatFacts Change Origin) (before after : DoorPlace T D L)
+      → RunsBy (RunsPlace scene sees views) start last before after → PlaceServed scene sees views start.seen last.seen before after
   served_by start last before after ran = record {
     by = record {
       log = ran.seat.seen;
@@ -79,13 +80,13 @@ module _ {T D : Type 0} (scene : Scene T) (sees : D → ShownDoor) where
     kept = ran.made.kept;
   }
 
-  pub all_served : (start last : SeatFacts Change Origin) (before after : List (DoorPlace T D))
-      → AllZip (RunsBy (RunsPlace scene sees) start last) before after
-      → AllZip (PlaceServed scene sees start.seen last.seen) before after
+  pub all_served : (start last : SeatFacts Change Origin) (before after : List (DoorPlace T D L))
+      → AllZip (RunsBy (RunsPlace scene sees views) start last) before after
+      → AllZip (PlaceServed scene sees views start.seen last.seen) before after
   all_served start last before after ran = zip_weaker (λ b a one. served_by start last b a one) before after ran
 
-  later_one : (first mid last : List Change) → IsPrefix mid last → (before after : DoorPlace T D)
-      → PlaceServed scene sees first mid before after → PlaceServed scene sees first last before after
+  later_one : (first mid last : List Change) → IsPrefix mid last → (before after : DoorPlace T D L)
+      → PlaceServed scene sees views first mid before after → PlaceServed scene sees views first last before after
   later_one first mid last more before after one = record {
     by = record {
       log = one.by.log;
@@ -98,8 +99,8 @@ module _ {T D : Type 0} (scene : Scene T) (sees : D → ShownDoor) where
     kept = one.kept;
   }
 
-  pub served_later : (first mid last : List Change) → IsPrefix mid last → (before after : List (DoorPlace T D))
-      → AllZip (PlaceServed scene sees first mid) before after → AllZip (PlaceServed scene sees first last) before after
+  pub served_later : (first mid last : List Change) → IsPrefix mid last → (before after : List (DoorPlace T D L))
+      → AllZip (PlaceServed scene sees views first mid) before after → AllZip (PlaceServed scene sees views first last) before after
   served_later first mid last more before after all =
       zip_weaker (λ b a one. later_one first mid last more b a one) before after all
 

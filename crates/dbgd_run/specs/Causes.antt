@@ -31,10 +31,10 @@ use Rattle.dbgd_run.specs.Stage.{ProgramStage}
 use Rattle.dbgd_run.specs.Texts.{summary_line}
 use Rattle.dbgd_words.specs.Words.{Line, asks_help, asks_ident, asks_query, asks_scan, asks_section, asks_serve}
 use Rattle.dbgd_run.specs.Trial.{AreForgedRows, trial_end_line}
-use Rattle.dbgd_words.specs.Words.{asks_sources, asks_trial, has_options, unbuilt, unreadable}
+use Rattle.dbgd_words.specs.Words.{asks_sources, asks_trial, has_options, unreadable}
 use Rattle.dbgd_run.specs.declared.status.Status.{Status}
 use Rattle.dbgd_run.specs.declared.status.Status.TheVariants.{Done, Fault, Usage, Absent, Altered}
-use Rattle.dbgd_run.specs.declared.status.Status.TheVariants.{Limit, OutOfMemory, BadRow, NotBuilt}
+use Rattle.dbgd_run.specs.declared.status.Status.TheVariants.{Limit, OutOfMemory, BadRow}
 
 -- the first hand's count of faults rose, or that of the standard output
 abbrev pub HandOrOutRose : {T : Type 0} → Setting T → ProgramScene T → ProgramScene T → Type 0
@@ -42,7 +42,7 @@ HandOrOutRose s before after =
     FirstRose s before.hands after.hands
     ⊎ Rose before.streams.out.write_faults after.streams.out.write_faults
 
--- of a command on one file: no file is altered or meets a limit, no value is no row, and nothing isn't built
+-- of a command on one file: no file is altered or meets a limit, and no value is no row
 abbrev pub FileStatus : {T : Type 0} → Setting T → ProgramScene T → ProgramScene T → Status → Type 0
 FileStatus s before after Done = Unit {0}
 FileStatus s before after Fault = HandOrOutRose s before after
@@ -117,7 +117,7 @@ pub data MeetsLimit {T : Type 0} (s : Setting T) (roots : List (List ℕ))
   of_changes : EndsPassed s roots before.hands after.hands before.store after.store pass.LogFull
       → MeetsLimit s roots before after
 
--- of a scan: the words were read, and it is built
+-- of a scan: the words were read
 abbrev pub ScanStatus : {T : Type 0} → Setting T → List (List ℕ) → ProgramScene T → ProgramScene T → Status → Type 0
 ScanStatus s roots before after Done = IsScanned s roots before after
 ScanStatus s roots before after Fault =
@@ -158,12 +158,6 @@ UsageStatus words Usage = Unit {0}
 UsageStatus words OutOfMemory = IsTrue (has_options words)
 UsageStatus words _ = ⊥
 
--- of what isn't built yet, whose words are read as options: that, or want of memory
-abbrev pub UnbuiltStatus : List (List ℕ) → Status → Type 0
-UnbuiltStatus words NotBuilt = Unit {0}
-UnbuiltStatus words OutOfMemory = IsTrue (has_options words)
-UnbuiltStatus words _ = ⊥
-
 -- what the status says, by the line; words that can't be read alone end with the usage
 abbrev pub HasStatus : {T : Type 0} → Setting T → List (List ℕ) → Line → ProgramStage T → ProgramStage T → Status → Type 0
 HasStatus s words (asks_ident path) before after status = FileStatus s before.scene after.scene status
@@ -175,9 +169,8 @@ HasStatus s words (asks_scan path workers roots) before after status =
 HasStatus s words (asks_trial seed files workers) before after status =
     TrialStatus seed files before.scene after.scene status
 HasStatus s words asks_help before after status = HelpStatus before.scene after.scene status
-HasStatus s words (asks_serve path workers port secs sources roots) before after status =
+HasStatus s words (asks_serve path workers port secs sources upstream roots) before after status =
     ServeStatus s (serve_words path workers port secs sources roots) before after status
-HasStatus s words unbuilt before after status = UnbuiltStatus words status
 HasStatus s words unreadable before after status = UsageStatus words status
 
 -- nothing stands against a walk and what follows it: the hand tells files that never change, something is at each root,

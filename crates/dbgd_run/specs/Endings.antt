@@ -5,7 +5,6 @@ use Rattle.http_wire.specs.Stream.{ShownStream}
 use Rattle.dbgd_run.specs.Texts.{fed_line}
 use Rattle.dbgd_run.specs.declared.status.Status.{Status}
 use Rattle.dbgd_run.specs.declared.status.Status.TheVariants.{Fault, Absent, Limit, OutOfMemory}
-use Rattle.dbgd_run.specs.declared.status.Status.TheVariants.{NotBuilt}
 
 -- what is to be written on the standard output and on the standard error, and the status
 pub record Saying : Type 0 where
@@ -36,10 +35,6 @@ gone_saying path = error_saying (codes "dbgd: gone " ++ path) Absent
 -- where memory was refused
 abbrev pub no_memory_saying : Saying
 no_memory_saying = error_saying (codes "dbgd: out of memory") OutOfMemory
-
--- of what isn't built yet
-abbrev pub not_built_saying : Saying
-not_built_saying = error_saying (codes "dbgd: not built yet") NotBuilt
 
 -- what the two sinks show at a moment
 pub record Streams : Type 0 where

@@ -1,5 +1,6 @@
 -- What a run needs of the outside (this project's rule), by what its words ask.
-use Rattle.std.specs.Prelude.{◌≡◌, ℕ, ◌+◌, ◌-◌, ◌*◌, ◌<◌, ◌≤◌, ◌^◌, Bool, true, false, min}
+use Rattle.std.specs.Prelude.{◌≡◌, ℕ, ◌+◌, ◌-◌, ◌*◌, ◌<◌, ◌≤◌, ◌^◌, Bool, true, false, List, [], min}
+use Rattle.federation.specs.Server.{ServerFacts}
 use Rattle.dbgd_words.specs.Words.{Line, asks_ident, asks_scan, asks_section, asks_serve, asks_sources}
 
 -- the hands: one for a file; two and one for each worker for a scan; two and two for each worker for a server
@@ -8,24 +9,31 @@ hands_of (asks_ident path) = 1
 hands_of (asks_sources path) = 1
 hands_of (asks_section path name) = 1
 hands_of (asks_scan path workers roots) = min (workers + 2) (2 ^ 64 - 1)
-hands_of (asks_serve path workers port secs sources roots) = min (workers * 2 + 2) (2 ^ 64 - 1)
+hands_of (asks_serve path workers port secs sources upstream roots) = min (workers * 2 + 2) (2 ^ 64 - 1)
 hands_of _ = 0
 
 -- the doors: one for each worker of a server
 abbrev pub doors_of : Line → ℕ
-doors_of (asks_serve path workers port secs sources roots) = workers
+doors_of (asks_serve path workers port secs sources upstream roots) = workers
 doors_of _ = 0
 
 -- the port of the doors; there is none without doors
 abbrev pub port_of : Line → ℕ
-port_of (asks_serve path workers port secs sources roots) = port
+port_of (asks_serve path workers port secs sources upstream roots) = port
 port_of _ = 0
+
+-- the servers that a server asks for what isn't here, in order: a row of links has one to each
+abbrev pub servers_of : Line → List ServerFacts
+servers_of (asks_serve path workers port secs sources upstream roots) = upstream
+servers_of _ = []
 
 -- whether a line asks for a server
 abbrev pub is_serve : Line → Bool
-is_serve (asks_serve path workers port secs sources roots) = true
+is_serve (asks_serve path workers port secs sources upstream roots) = true
 is_serve _ = false
 
--- where doors are needed, which a server alone does, there are exactly these, and the hands that are needed, or more
-abbrev pub HasEnough : Line → ℕ → ℕ → Type 0
-HasEnough line hands doors = 0 < doors_of line → (hands_of line ≤ hands) × (doors ≡ doors_of line)
+-- where doors are needed, which a server alone does, there are exactly these, and the hands and the rows of links that are
+-- needed, or more: a row for each door
+abbrev pub HasEnough : Line → ℕ → ℕ → ℕ → Type 0
+HasEnough line hands doors rows =
+    0 < doors_of line → (hands_of line ≤ hands) × (doors ≡ doors_of line) × (doors_of line ≤ rows)

@@ -1,10 +1,11 @@
 -- What a run does, by its words (this project's rule).
 use Rattle.std.specs.Prelude.{◌≡◌, ◌⊎◌, ℕ, Bool, true, false, List, IsTrue}
+use Rattle.federation.specs.Server.{ServerFacts}
 use Rattle.dbgd_words.specs.Words.{Line, asks_help, asks_ident, asks_query, asks_scan, asks_section}
-use Rattle.dbgd_words.specs.Words.{asks_serve, asks_sources, asks_trial, has_options, line_of, unbuilt, unreadable}
+use Rattle.dbgd_words.specs.Words.{asks_serve, asks_sources, asks_trial, has_options, line_of, unreadable}
 use Rattle.dbgd_run.specs.Causes.{HasStatus, ScanEnds}
 use Rattle.dbgd_run.specs.Endings.{EndsSaying, EndsWhole, Saying, SaysMemory, error_saying}
-use Rattle.dbgd_run.specs.Endings.{no_memory_saying, not_built_saying, out_saying}
+use Rattle.dbgd_run.specs.Endings.{no_memory_saying, out_saying}
 use Rattle.dbgd_run.specs.File.{RunsFile}
 use Rattle.dbgd_run.specs.Ident.{SaysIdent}
 use Rattle.dbgd_run.specs.Needs.{is_serve}
@@ -66,7 +67,7 @@ pub record IsServeRun {T : Type 0} (s : Setting T) (words : ServeWords) (before 
 -- whether a line asks for what threads do: a scan, of folders or of generated files, or a server
 abbrev pub takes_threads : Line → Bool
 takes_threads (asks_scan path workers roots) = true
-takes_threads (asks_serve path workers port secs sources roots) = true
+takes_threads (asks_serve path workers port secs sources upstream roots) = true
 takes_threads (asks_trial seed files workers) = true
 takes_threads _ = false
 
@@ -83,11 +84,10 @@ Runs s (asks_scan path workers roots) before after status =
     RunsScan s path workers roots before after status
 Runs s (asks_trial seed files workers) before after status = RunsTrial seed files before after status
 Runs s asks_help before after status = SaysHelp before after status
-Runs s (asks_serve path workers port secs sources roots) before after status = ⊥
-Runs s unbuilt before after status = SaysAlone not_built_saying before after status
+Runs s (asks_serve path workers port secs sources upstream roots) before after status = ⊥
 Runs s unreadable before after status = SaysAlone usage_saying before after status
 
--- a line that asks for no server, on all that there is: doors and clock are as they were
+-- a line that asks for no server, on all that there is: doors, links and clock are as they were
 pub record RunsApart {T : Type 0} (s : Setting T) (line : Line) (before after : ProgramStage T) (status : Status)
     : Type 0 where
   pub runs : Runs s line before.scene after.scene status
@@ -95,7 +95,7 @@ pub record RunsApart {T : Type 0} (s : Setting T) (line : Line) (before after : 
 
 -- what a line of words does, by what it asks
 abbrev pub DoesLine : {T : Type 0} → Setting T → Line → ProgramStage T → ProgramStage T → Status → Type 0
-DoesLine s (asks_serve path workers port secs sources roots) before after status =
+DoesLine s (asks_serve path workers port secs sources upstream roots) before after status =
     RunsServe s (serve_words path workers port secs sources roots) before after status
 DoesLine s line before after status = RunsApart s line before after status
 
@@ -131,11 +131,10 @@ pub record IsRun {T : Type 0} (s : Setting T) (words : List (List ℕ)) (before 
   pub trial : (seed files workers : ℕ) → line_of words ≡ asks_trial seed files workers
       → RunsTrial seed files before.scene after.scene status
   pub help : line_of words ≡ asks_help → SaysHelp before.scene after.scene status
-  pub serve : (path : List ℕ) (workers port secs : ℕ) (sources roots : List (List ℕ))
-      → line_of words ≡ asks_serve path workers port secs sources roots
+  pub serve : (path : List ℕ) (workers port secs : ℕ) (sources : List (List ℕ)) (upstream : List ServerFacts)
+      (roots : List (List ℕ))
+      → line_of words ≡ asks_serve path workers port secs sources upstream roots
       → IsServeRun s (serve_words path workers port secs sources roots) before after status
-  pub not_built : line_of words ≡ unbuilt
-      → SaysAlone not_built_saying before.scene after.scene status ⊎ LacksRoom words before after status
   pub usage : line_of words ≡ unreadable
       → SaysAlone usage_saying before.scene after.scene status ⊎ LacksRoom words before after status
   pub causes : HasStatus s words (line_of words) before after status

@@ -15,7 +15,7 @@ use Rattle.index_state.specs.Invariant.{AreTrueRows}
 use Rattle.index_state.specs.Opening.{current, made_swept, puts_of}
 use Rattle.index_state.specs.State.{lasting}
 use Rattle.index_state.specs.declared.open_fault.OpenFault.{OpenFault}
-use Rattle.dbgd_metrics.specs.Shares.{ShareFacts}
+use Rattle.dbgd_metrics.specs.Shares.{BookFacts, ShareFacts}
 use Rattle.conn_server.specs.Scene.{Scene, scene_of}
 use Rattle.dbgd_run.specs.Endings.{EndsCut, EndsWhole, Streams, SaysMemory}
 use Rattle.dbgd_run.specs.Kept.{HasRows, MayHaveRows, StoreHoldsRows}
@@ -26,7 +26,7 @@ use Rattle.dbgd_run.specs.ScanSaid.{refusal_saying}
 use Rattle.dbgd_run.specs.Scene.{Setting}
 use Rattle.dbgd_run.specs.ServeSaid.{door_lines, has_cut, is_any_failed, served_status, serving_saying, wants_line}
 use Rattle.dbgd_run.specs.Stage.{LeavesRest, ProgramStage}
-use Rattle.dbgd_run.specs.Workers.{AreWorkers, HasCountedNothing, ServedBy, WorkerFacts}
+use Rattle.dbgd_run.specs.Workers.{AreWorkers, IsFreshShare, ServedBy, WorkerFacts}
 use Rattle.dbgd_run.specs.declared.line_fate.LineFate.TheVariants.{Unmade}
 use Rattle.dbgd_run.specs.declared.passes_end.PassesEnd.{PassesEnd}
 use Rattle.dbgd_run.specs.declared.scan_end.ScanEnd.TheVariants.{Refused}
@@ -53,7 +53,7 @@ abbrev pub served_scene : {T : Type 0} → Setting T → ServeWords → Scene T
 served_scene s words =
     scene_of s.world.true_row s.tells_files s.world.version s.sees (words.roots ++ words.sources) (words.workers + 1)
 
--- no index was opened on the store, which is said as a scan says it; no door and no wait was asked for
+-- no index was opened on the store, which is said as a scan says it; no door, no link and no wait was asked for
 pub record IsUnopened {T : Type 0} (s : Setting T) (words : ServeWords) (before after : ProgramStage T) (fault : OpenFault)
     (status : Status) : Type 0 where
   pub scans :
@@ -79,7 +79,7 @@ SaysUnserved words old new status =
     EndsCut (serving_saying words.port words.workers) old new status ⊎ SaysUnlocked words old new status
 
 -- an index was opened on the store, and nothing was served: the store has the rows of the edition that it held, and no hand, no
--- door and no wait was asked for
+-- door, no link and no wait was asked for
 pub record IsUnserved {T : Type 0} (s : Setting T) (words : ServeWords) (before after : ProgramStage T) (status : Status)
     : Type 0 where
   pub found : List RowFacts
@@ -122,9 +122,9 @@ PassesOn s roots secs first (Some end) after = (0 < secs) × KeepsPassing s root
 
 -- the doors were served beside the passes. The first line was written whole, a first pass was made with the first hands, two and
 -- one for each worker, and what it was is said of the log of the opening and of the one that its token had seen then. Each door
--- was served once, with the hand behind those, by a token that had seen that log; the passes behind the first one go on from it;
--- and all of them ended at beginnings of the log that the index has in the end. The lines of the doors that failed stand behind
--- all others
+-- was served once, with the hand behind those and the row of links at its place, by a token that had seen that log; the passes
+-- behind the first one go on from it; and all of them ended at beginnings of the log that the index has in the end. The passes and
+-- the workers count in one table, which has a row for each of them. The lines of the doors that failed stand behind all others
 pub record IsServed {T : Type 0} (s : Setting T) (words : ServeWords) (before after : ProgramStage T) (status : Status)
     : Type 0 where
   pub found : List RowFacts
@@ -136,8 +136,10 @@ pub record IsServed {T : Type 0} (s : Setting T) (words : ServeWords) (before af
   pub store : StoreServes words.path broken before.scene.store after.scene.store
   pub told : Streams
   pub line : EndsWhole (serving_saying words.port words.workers) before.scene.streams told Done
+  pub book : BookFacts
+  pub sized : book.rows ≡ words.workers + 1
   pub share : ShareFacts
-  pub fresh : HasCountedNothing share
+  pub fresh : IsFreshShare book share
   pub first : Round T
   pub made :
       MakesRound s words.roots
@@ -145,11 +147,13 @@ pub record IsServed {T : Type 0} (s : Setting T) (words : ServeWords) (before af
   pub passed : IsPrefix first.after.log log
   pub workers : List (WorkerFacts T)
   pub workers_are :
-      AreWorkers (take words.workers (drop (words.workers + 2) before.scene.hands)) before.doors workers
-  pub shares : All (λ worker. HasCountedNothing worker.share) workers
+      AreWorkers (take words.workers (drop (words.workers + 2) before.scene.hands)) before.doors
+      (take words.workers before.links) workers
+  pub shares : All (λ worker. IsFreshShare book worker.share) workers
   pub left : List (WorkerFacts T)
   pub left_are :
-      AreWorkers (take words.workers (drop (words.workers + 2) after.scene.hands)) after.doors left
+      AreWorkers (take words.workers (drop (words.workers + 2) after.scene.hands)) after.doors
+      (take words.workers after.links) left
   pub doors : AllZip (ServedBy (served_scene s words) first.after.log log) workers left
   pub how : Option PassesEnd
   pub last : PassingScene T
@@ -157,6 +161,7 @@ pub record IsServed {T : Type 0} (s : Setting T) (words : ServeWords) (before af
   pub within : IsPrefix last.log log
   pub hands : take (words.workers + 2) after.scene.hands ≡ last.hands
   pub others : drop (words.workers * 2 + 2) after.scene.hands ≡ drop (words.workers * 2 + 2) before.scene.hands
+  pub other_links : drop words.workers after.links ≡ drop words.workers before.links
   pub woke : after.woke ≡ last.woke
   pub out : after.scene.streams.out ≡ last.streams.out
   pub err : GetsLines (door_lines after.doors) last.streams.err after.scene.streams.err

@@ -2,6 +2,7 @@
 use Rattle.std.specs.Prelude.{◌≡◌, ℕ, ◌<◌, nat_lt, Bool, true, false, List, Option, Some, None}
 use Rattle.std.specs.List.{AllZip}
 use mathlib.Core.List.{IsPrefix}
+use Rattle.federation.specs.Link.{ShownLink}
 use Rattle.http_wire.specs.Door.{ShownDoor}
 use Rattle.row_types.specs.Row.{RowFacts}
 use Rattle.index_keeper.specs.Keeper.{ShownKeeper}
@@ -31,26 +32,28 @@ use Rattle.dbgd_run.specs.declared.serve_end.ServeEnd.{ServeEnd}
 use Rattle.dbgd_run.specs.declared.serve_end.ServeEnd.TheVariants.{Refused, Unannounced, Unlocked, Served}
 
 -- what stays while a server runs: the setting, the folders, the seconds between passes, what doors are served with, and what
--- a door shows
-pub record ServeRules (T D : Type 0) : Type 1 where
+-- a door and a link show
+pub record ServeRules (T D L : Type 0) : Type 1 where
   pub setting : Setting T
   pub roots : List (List ℕ)
   pub secs : ℕ
   pub scene : Scene T
   pub sees : D → ShownDoor
+  pub views : L → ShownLink
 
-abbrev pub serve_rules : {T D : Type 0} → Setting T → List (List ℕ) → ℕ → Scene T → (D → ShownDoor) → ServeRules T D
-serve_rules setting roots secs scene sees =
-    record { setting = setting; roots = roots; secs = secs; scene = scene; sees = sees }
+abbrev pub serve_rules : {T D L : Type 0} → Setting T → List (List ℕ) → ℕ → Scene T → (D → ShownDoor) → (L → ShownLink)
+    → ServeRules T D L
+serve_rules setting roots secs scene sees views =
+    record { setting = setting; roots = roots; secs = secs; scene = scene; sees = sees; views = views }
 
 -- what is worked with, at a moment: the hands of passes, the waits, the sinks, and the places of workers
-pub record CrewFacts (T D : Type 0) : Type 0 where
+pub record CrewFacts (T D L : Type 0) : Type 0 where
   pub hands : List T
   pub woke : Option (List Waited)
   pub streams : Streams
-  pub places : List (DoorPlace T D)
+  pub places : List (DoorPlace T D L)
 
-abbrev pub crew_of : {T D : Type 0} → List T → Option (List Waited) → Streams → List (DoorPlace T D) → CrewFacts T D
+abbrev pub crew_of : {T D L : Type 0} → List T → Option (List Waited) → Streams → List (DoorPlace T D L) → CrewFacts T D L
 crew_of hands woke streams places = record { hands = hands; woke = woke; streams = streams; places = places }
 
 -- whether passes are to be made behind the first one, by the seconds between them and by what came of its line
@@ -59,8 +62,8 @@ goes_on secs Unmade = false
 goes_on secs fate = nat_lt 0 secs
 
 -- the passes beside the doors: they end at a beginning of the log
-pub record PassesBeside {T D : Type 0} (s : Setting T) (roots : List (List ℕ)) (secs : ℕ) (before : PassingScene T)
-    (end : PassesEnd) (joined : List Change) (after : CrewFacts T D) : Type 0 where
+pub record PassesBeside {T D L : Type 0} (s : Setting T) (roots : List (List ℕ)) (secs : ℕ) (before : PassingScene T)
+    (end : PassesEnd) (joined : List Change) (after : CrewFacts T D L) : Type 0 where
   pub last : PassingScene T
   pub within : IsPrefix last.log joined
   pub keeps : KeepsPassing s roots secs before end last
@@ -69,8 +72,8 @@ pub record PassesBeside {T D : Type 0} (s : Setting T) (roots : List (List ℕ))
   pub streams : after.streams ≡ last.streams
 
 -- the same, or none where none were to be made
-abbrev pub GoesOn : {T D : Type 0} → Setting T → List (List ℕ) → ℕ → Bool → PassingScene T → Option PassesEnd → List Change
-    → CrewFacts T D → Type 0
+abbrev pub GoesOn : {T D L : Type 0} → Setting T → List (List ℕ) → ℕ → Bool → PassingScene T → Option PassesEnd → List Change
+    → CrewFacts T D L → Type 0
 GoesOn s roots secs passing before None joined after =
     (passing ≡ false) × (after.hands ≡ before.hands) × (after.woke ≡ before.woke) × (after.streams ≡ before.streams)
 GoesOn s roots secs passing before (Some end) joined after =
@@ -78,13 +81,13 @@ GoesOn s roots secs passing before (Some end) joined after =
 
 -- a first pass was made, and then the doors were served, with passes beside them where there were any; all of it at beginnings
 -- of this log
-pub record ServesFrom {T D : Type 0} (r : ServeRules T D) (before : PassingScene T) (places : List (DoorPlace T D))
-    (fate : LineFate) (how : Option PassesEnd) (joined : List Change) (after : CrewFacts T D) : Type 0 where
+pub record ServesFrom {T D L : Type 0} (r : ServeRules T D L) (before : PassingScene T) (places : List (DoorPlace T D L))
+    (fate : LineFate) (how : Option PassesEnd) (joined : List Change) (after : CrewFacts T D L) : Type 0 where
   pub first : Round T
   pub fate_is : first.fate ≡ fate
   pub made : MakesRound r.setting r.roots before first
   pub passed : IsPrefix first.after.log joined
-  pub doors : AllZip (PlaceServed r.scene r.sees first.after.log joined) places after.places
+  pub doors : AllZip (PlaceServed r.scene r.sees r.views first.after.log joined) places after.places
   pub last : PassingScene T
   pub passes : PassesOn r.setting r.roots r.secs first how last
   pub within : IsPrefix last.log joined
@@ -94,9 +97,9 @@ pub record ServesFrom {T D : Type 0} (r : ServeRules T D) (before : PassingScene
 
 -- the index was served and taken out again: it stands as the invariant says, from the same opening, and its log goes on from all
 -- that was served
-pub record ServesLog {K T D : Type 0} (r : ServeRules T D) (shows : K → ShownKeeper) (old : StateFacts K)
-    (before : PassingScene T) (places : List (DoorPlace T D)) (fate : LineFate) (how : Option PassesEnd) (broken : Bool)
-    (keeper : K) (after : CrewFacts T D) : Type 0 where
+pub record ServesLog {K T D L : Type 0} (r : ServeRules T D L) (shows : K → ShownKeeper) (old : StateFacts K)
+    (before : PassingScene T) (places : List (DoorPlace T D L)) (fate : LineFate) (how : Option PassesEnd) (broken : Bool)
+    (keeper : K) (after : CrewFacts T D L) : Type 0 where
   pub new : StateFacts K
   pub value : keeper ≡ new.keeper
   pub holds : IndexInvariant r.setting.world.true_row r.setting.tells_tables shows new
@@ -106,23 +109,23 @@ pub record ServesLog {K T D : Type 0} (r : ServeRules T D) (shows : K → ShownK
   pub serves : ServesFrom r before places fate how new.log after
 
 -- memory for the lock of the index was refused, and nothing was done
-pub record StopsUnlocked {K T D : Type 0} (r : ServeRules T D) (shows : K → ShownKeeper) (old : StateFacts K)
-    (before : PassingScene T) (places : List (DoorPlace T D)) (keeper : K) (after : CrewFacts T D) : Type 0 where
+pub record StopsUnlocked {K T D L : Type 0} (r : ServeRules T D L) (shows : K → ShownKeeper) (old : StateFacts K)
+    (before : PassingScene T) (places : List (DoorPlace T D L)) (keeper : K) (after : CrewFacts T D L) : Type 0 where
   pub value : keeper ≡ old.keeper
   pub holds : IndexInvariant r.setting.world.true_row r.setting.tells_tables shows old
   pub same : after ≡ crew_of before.hands before.woke before.streams places
 
 -- what came of an index that was opened, by how the server ended
-abbrev pub ServesIndex : {K T D : Type 0} → ServeRules T D → (K → ShownKeeper) → StateFacts K → PassingScene T
-    → List (DoorPlace T D) → ServeEnd → K → CrewFacts T D → Type 0
+abbrev pub ServesIndex : {K T D L : Type 0} → ServeRules T D L → (K → ShownKeeper) → StateFacts K → PassingScene T
+    → List (DoorPlace T D L) → ServeEnd → K → CrewFacts T D L → Type 0
 ServesIndex r shows old before places Unlocked keeper after = StopsUnlocked r shows old before places keeper after
 ServesIndex r shows old before places (Served fate how broken) keeper after =
     ServesLog r shows old before places fate how broken keeper after
 ServesIndex r shows old before places _ keeper after = ⊥
 
 -- an index was opened on the keeper, the first line was said, and what came of the index
-pub record ServesOpened {K T D : Type 0} (r : ServeRules T D) (shows : K → ShownKeeper) (line : List ℕ) (opened : K)
-    (before : PassingScene T) (places : List (DoorPlace T D)) (end : ServeEnd) (keeper : K) (after : CrewFacts T D)
+pub record ServesOpened {K T D L : Type 0} (r : ServeRules T D L) (shows : K → ShownKeeper) (line : List ℕ) (opened : K)
+    (before : PassingScene T) (places : List (DoorPlace T D L)) (end : ServeEnd) (keeper : K) (after : CrewFacts T D L)
     : Type 0 where
   pub old : StateFacts K
   pub opens : Opens r.setting.tells_tables shows opened old
@@ -132,8 +135,8 @@ pub record ServesOpened {K T D : Type 0} (r : ServeRules T D) (shows : K → Sho
       ServesIndex r shows old (record before { log = old.log; streams = told }) places end keeper after
 
 -- an index was opened on the keeper, and the first line was refused
-pub record StopsUnannounced {K T D : Type 0} (r : ServeRules T D) (shows : K → ShownKeeper) (line : List ℕ) (opened : K)
-    (before : PassingScene T) (places : List (DoorPlace T D)) (keeper : K) (after : CrewFacts T D) : Type 0 where
+pub record StopsUnannounced {K T D L : Type 0} (r : ServeRules T D L) (shows : K → ShownKeeper) (line : List ℕ) (opened : K)
+    (before : PassingScene T) (places : List (DoorPlace T D L)) (keeper : K) (after : CrewFacts T D L) : Type 0 where
   pub old : StateFacts K
   pub opens : Opens r.setting.tells_tables shows opened old
   pub holds : IndexInvariant r.setting.world.true_row r.setting.tells_tables shows old
@@ -142,16 +145,16 @@ pub record StopsUnannounced {K T D : Type 0} (r : ServeRules T D) (shows : K →
   pub same : after ≡ record (crew_of before.hands before.woke before.streams places) { streams = after.streams }
 
 -- no index was opened on the keeper: why, what a crash may leave of what it had, and that a fault was counted where it failed
-pub record RefusesKeeper {K T D : Type 0} (r : ServeRules T D) (shows : K → ShownKeeper) (opened : K) (before : PassingScene T)
-    (places : List (DoorPlace T D)) (fault : OpenFault) (keeper : K) (after : CrewFacts T D) : Type 0 where
+pub record RefusesKeeper {K T D L : Type 0} (r : ServeRules T D L) (shows : K → ShownKeeper) (opened : K) (before : PassingScene T)
+    (places : List (DoorPlace T D L)) (fault : OpenFault) (keeper : K) (after : CrewFacts T D L) : Type 0 where
   pub refuses : RefusesOpening r.setting.tells_tables shows opened fault keeper
   pub left : LeavesRows r.setting.tells_tables (shows opened) (shows keeper)
   pub counted : fault ≡ refusal.KeeperFault → 0 < (shows keeper).faults
   pub same : after ≡ crew_of before.hands before.woke before.streams places
 
 -- what came of a keeper, by how the server ended
-abbrev pub ServesKeeper : {K T D : Type 0} → ServeRules T D → (K → ShownKeeper) → List ℕ → K → PassingScene T
-    → List (DoorPlace T D) → ServeEnd → K → CrewFacts T D → Type 0
+abbrev pub ServesKeeper : {K T D L : Type 0} → ServeRules T D L → (K → ShownKeeper) → List ℕ → K → PassingScene T
+    → List (DoorPlace T D L) → ServeEnd → K → CrewFacts T D L → Type 0
 ServesKeeper r shows line opened before places (Refused fault) keeper after =
     RefusesKeeper r shows opened before places fault keeper after
 ServesKeeper r shows line opened before places Unannounced keeper after =
@@ -160,14 +163,14 @@ ServesKeeper r shows line opened before places end keeper after =
     ServesOpened r shows line opened before places end keeper after
 
 -- what came of a store, by how the server ended; a scan that no index was opened for says the same of the store
-pub record RefusesStore {T D : Type 0} (r : ServeRules T D) (path : List ℕ) (old new : ShownStore) (before : PassingScene T)
-    (places : List (DoorPlace T D)) (fault : OpenFault) (after : CrewFacts T D) : Type 0 where
+pub record RefusesStore {T D L : Type 0} (r : ServeRules T D L) (path : List ℕ) (old new : ShownStore) (before : PassingScene T)
+    (places : List (DoorPlace T D L)) (fault : OpenFault) (after : CrewFacts T D L) : Type 0 where
   pub scans : Scans r.setting path r.roots before.hands after.hands old new (scanned.Refused fault)
   pub same : after ≡ crew_of before.hands before.woke before.streams places
 
 -- an index was opened on the store, which had its keeper back; the first line was refused, or behind it memory for the lock was
-pub record StopsStore {T D : Type 0} (r : ServeRules T D) (path line : List ℕ) (told : Bool) (old new : ShownStore)
-    (before : PassingScene T) (places : List (DoorPlace T D)) (after : CrewFacts T D) : Type 0 where
+pub record StopsStore {T D L : Type 0} (r : ServeRules T D L) (path line : List ℕ) (told : Bool) (old new : ShownStore)
+    (before : PassingScene T) (places : List (DoorPlace T D L)) (after : CrewFacts T D L) : Type 0 where
   pub found : List RowFacts
   pub held : StoreHoldsRows r.setting.tells_tables old found
   pub has : HasRows r.setting.tells_tables new (current found)
@@ -179,8 +182,8 @@ pub record StopsStore {T D : Type 0} (r : ServeRules T D) (path line : List ℕ)
   pub same : after.places ≡ places
 
 -- an index was opened on the store, which had its keeper back, and was served
-pub record ServesHeld {T D : Type 0} (r : ServeRules T D) (path line : List ℕ) (old new : ShownStore) (before : PassingScene T)
-    (places : List (DoorPlace T D)) (fate : LineFate) (how : Option PassesEnd) (broken : Bool) (after : CrewFacts T D)
+pub record ServesHeld {T D L : Type 0} (r : ServeRules T D L) (path line : List ℕ) (old new : ShownStore) (before : PassingScene T)
+    (places : List (DoorPlace T D L)) (fate : LineFate) (how : Option PassesEnd) (broken : Bool) (after : CrewFacts T D L)
     : Type 0 where
   pub found : List RowFacts
   pub held : StoreHoldsRows r.setting.tells_tables old found
@@ -191,8 +194,8 @@ pub record ServesHeld {T D : Type 0} (r : ServeRules T D) (path line : List ℕ)
   pub says : Announces line true before.streams told
   pub serves : ServesFrom r (record before { log = puts_of (current found); streams = told }) places fate how log after
 
-abbrev pub ServesStore : {T D : Type 0} → ServeRules T D → List ℕ → List ℕ → ShownStore → ShownStore → PassingScene T
-    → List (DoorPlace T D) → ServeEnd → CrewFacts T D → Type 0
+abbrev pub ServesStore : {T D L : Type 0} → ServeRules T D L → List ℕ → List ℕ → ShownStore → ShownStore → PassingScene T
+    → List (DoorPlace T D L) → ServeEnd → CrewFacts T D L → Type 0
 ServesStore r path line old new before places (Refused fault) after = RefusesStore r path old new before places fault after
 ServesStore r path line old new before places Unannounced after = StopsStore r path line false old new before places after
 ServesStore r path line old new before places Unlocked after = StopsStore r path line true old new before places after

@@ -2,7 +2,7 @@
 use Rattle.std.specs.Prelude.{◌≡◌, ℕ}
 use Rattle.dbgd_run.specs.declared.status.Status.{Status}
 use Rattle.dbgd_run.specs.declared.status.Status.TheVariants.{Done, Fault, Usage, Absent, Altered}
-use Rattle.dbgd_run.specs.declared.status.Status.TheVariants.{Limit, OutOfMemory, BadRow, NotBuilt}
+use Rattle.dbgd_run.specs.declared.status.Status.TheVariants.{Limit, OutOfMemory, BadRow}
 
 -- the number with which the program ends
 abbrev pub code_of : Status → ℕ
@@ -14,7 +14,6 @@ code_of Altered = 4
 code_of Limit = 5
 code_of OutOfMemory = 6
 code_of BadRow = 7
-code_of NotBuilt = 8
 
 -- no two statuses have one number
 abbrev pub AreNumbersApart : Type 0

@@ -1,10 +1,12 @@
--- The workers of a server (this project's rule): each serves one door, with a hand, a share of the counter table and a token
--- of its own.
+-- The workers of a server (this project's rule): each serves one door, with a hand, a share of the counter table, a row of links
+-- to other servers and a token of its own.
 use Rattle.std.specs.Prelude.{◌≡◌, ◌≤◌, Bool, true, false, List, All, length, map, Option, Some, IsSome, IsTrue}
+use Rattle.std.specs.Global.{Vec}
 use mathlib.Core.List.{IsPrefix}
 use Rattle.index_lock.specs.Tokens.{SeatFacts}
 use Rattle.index_rows.specs.declared.change.Change.{Change}
 use Rattle.index_state.specs.State.{Origin}
+use Rattle.federation.specs.Link.{ShownLink}
 use Rattle.http_wire.specs.Door.{ShownDoor}
 use Rattle.dbgd_metrics.specs.Numbers.{zeros}
 use Rattle.dbgd_metrics.specs.Shares.{BookFacts, ShareFacts}
@@ -17,16 +19,20 @@ use Rattle.conn_server.specs.declared.reason.Reason.{Reason}
 use Rattle.conn_server.specs.declared.reason.Reason.TheVariants as reason
 use Rattle.dbgd_run.specs.declared.places.DoorPlace.{DoorPlace}
 
--- a worker at a moment: its hand, its share of the counter table, and what its door shows
+-- a worker at a moment: its hand, its share of the counter table, and what its door and each of its links show
 pub record WorkerFacts (T : Type 0) : Type 0 where
   pub hand : T
   pub share : ShareFacts
   pub door : ShownDoor
+  pub links : List ShownLink
 
--- the workers have these hands and these doors, in order
-pub record AreWorkers {T : Type 0} (held : List T) (served : List ShownDoor) (workers : List (WorkerFacts T)) : Type 0 where
+-- the workers have these hands, these doors and these rows of links, in order
+pub record AreWorkers
+    {T : Type 0} (held : List T) (served : List ShownDoor) (rows : List (List ShownLink)) (workers : List (WorkerFacts T))
+    : Type 0 where
   pub hands : map (λ worker. worker.hand) workers ≡ held
   pub doors : map (λ worker. worker.door) workers ≡ served
+  pub links : map (λ worker. worker.links) workers ≡ rows
 
 -- a share that has a row and has counted nothing
 pub record HasCountedNothing (share : ShareFacts) : Type 0 where
@@ -39,10 +45,13 @@ pub record IsFreshShare (book : BookFacts) (share : ShareFacts) : Type 0 where
   pub of_book : share.book ≡ book.id
   pub fresh : HasCountedNothing share
 
--- by the reason of a reply, whether the index was asked for it and answered
+-- by the reason of a reply, whether the index was asked for it and answered; the links are asked behind it
 abbrev pub rests_on_index : Reason → Bool
 rests_on_index reason.Local = true
+rests_on_index reason.Upstream = true
+rests_on_index reason.HopLimit = true
 rests_on_index reason.ReadFault = true
+rests_on_index reason.UpstreamFault = true
 rests_on_index reason.NotFound = true
 rests_on_index _ = false
 
@@ -58,8 +67,8 @@ pub record ServesOnce {T : Type 0} (scene : Scene T) (first : List Change) (befo
     (after : WorkerFacts T) : Type 0 where
   pub end : DoorEnd
   pub serves :
-      ServesDoor scene (stand_of first before.hand before.share) before.door end
-      (stand_of log after.hand after.share) after.door
+      ServesDoor scene (stand_of first before.hand before.share before.links) before.door end
+      (stand_of log after.hand after.share after.links) after.door
 
 -- a worker's door was served once, at beginnings of the last log, and each of its requests at one that goes on from the first
 pub record ServedBy {T : Type 0} (scene : Scene T) (first last : List Change) (before after : WorkerFacts T) : Type 0 where
@@ -69,38 +78,44 @@ pub record ServedBy {T : Type 0} (scene : Scene T) (first last : List Change) (b
   pub between : All (IsServedBetween first last) (all_exchanges ran.serves.serves.visits)
 
 -- the worker of a place
-abbrev pub worker_in : {T D : Type 0} → (D → ShownDoor) → DoorPlace T D → WorkerFacts T
-worker_in sees place = record { hand = place.hand; share = place.share; door = sees place.door }
+abbrev pub worker_in : {T D L : Type 0} → (D → ShownDoor) → (L → ShownLink) → DoorPlace T D L → WorkerFacts T
+worker_in sees views place =
+    record { hand = place.hand; share = place.share; door = sees place.door; links = map views place.links.items }
 
 -- what a run makes of a place: its door was served once, and how that ended is kept
-pub record PlaceRan {T D : Type 0} (scene : Scene T) (sees : D → ShownDoor) (first : List Change) (before : DoorPlace T D)
-    (log : List Change) (after : DoorPlace T D) : Type 0 where
-  pub ran : ServesOnce scene first (worker_in sees before) log (worker_in sees after)
+pub record PlaceRan
+    {T D L : Type 0} (scene : Scene T) (sees : D → ShownDoor) (views : L → ShownLink) (first : List Change)
+    (before : DoorPlace T D L) (log : List Change) (after : DoorPlace T D L) : Type 0 where
+  pub ran : ServesOnce scene first (worker_in sees views before) log (worker_in sees views after)
   pub kept : after.end ≡ Some ran.end
 
-abbrev pub RunsPlace : {T D : Type 0} → Scene T → (D → ShownDoor) → SeatFacts Change Origin → DoorPlace T D
-    → SeatFacts Change Origin → DoorPlace T D → Type 0
-RunsPlace scene sees start before later after = PlaceRan scene sees start.seen before later.seen after
+abbrev pub RunsPlace : {T D L : Type 0} → Scene T → (D → ShownDoor) → (L → ShownLink) → SeatFacts Change Origin → DoorPlace T D L
+    → SeatFacts Change Origin → DoorPlace T D L → Type 0
+RunsPlace scene sees views start before later after = PlaceRan scene sees views start.seen before later.seen after
 
 -- the same of a place, at beginnings of the last log
-pub record PlaceServed {T D : Type 0} (scene : Scene T) (sees : D → ShownDoor) (first last : List Change)
-    (before after : DoorPlace T D) : Type 0 where
-  pub by : ServedBy scene first last (worker_in sees before) (worker_in sees after)
+pub record PlaceServed
+    {T D L : Type 0} (scene : Scene T) (sees : D → ShownDoor) (views : L → ShownLink) (first last : List Change)
+    (before after : DoorPlace T D L) : Type 0 where
+  pub by : ServedBy scene first last (worker_in sees views before) (worker_in sees views after)
   pub kept : after.end ≡ Some by.ran.end
 
--- the hands, the doors, the shares and the ends of places, in order
-abbrev pub hands_at : {T D : Type 0} → List (DoorPlace T D) → List T
+-- the hands, the doors, the rows of links, the shares and the ends of places, in order
+abbrev pub hands_at : {T D L : Type 0} → List (DoorPlace T D L) → List T
 hands_at places = map (λ place. place.hand) places
 
-abbrev pub doors_at : {T D : Type 0} → List (DoorPlace T D) → List D
+abbrev pub doors_at : {T D L : Type 0} → List (DoorPlace T D L) → List D
 doors_at places = map (λ place. place.door) places
 
-abbrev pub shares_at : {T D : Type 0} → List (DoorPlace T D) → List ShareFacts
+abbrev pub links_at : {T D L : Type 0} → List (DoorPlace T D L) → List (Vec L)
+links_at places = map (λ place. place.links) places
+
+abbrev pub shares_at : {T D L : Type 0} → List (DoorPlace T D L) → List ShareFacts
 shares_at places = map (λ place. place.share) places
 
-abbrev pub ends_at : {T D : Type 0} → List (DoorPlace T D) → List (Option DoorEnd)
+abbrev pub ends_at : {T D L : Type 0} → List (DoorPlace T D L) → List (Option DoorEnd)
 ends_at places = map (λ place. place.end) places
 
 -- the workers of places
-abbrev pub workers_at : {T D : Type 0} → (D → ShownDoor) → List (DoorPlace T D) → List (WorkerFacts T)
-workers_at sees places = map (λ place. worker_in sees place) places
+abbrev pub workers_at : {T D L : Type 0} → (D → ShownDoor) → (L → ShownLink) → List (DoorPlace T D L) → List (WorkerFacts T)
+workers_at sees views places = map (λ place. worker_in sees views place) places

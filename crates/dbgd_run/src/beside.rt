@@ -19,6 +19,7 @@ use crate::passes_end::PassesEnd;
 use crate::places::DoorPlace;
 use crate::rounds::keep_passing;
 use elf_reading::{ElfReader, ElfTruth};
+use federation::Link;
 use http_wire::{Door, Sink};
 use index_keeper::Keeper;
 use index_state::State;
@@ -100,6 +101,7 @@ pub(crate) fn run_beside<
     K: Keeper<W>,
     T: Tree<W>,
     D: Door,
+    L: Link,
     C: Clock,
     O: Sink,
     G: Gate,
@@ -107,7 +109,7 @@ pub(crate) fn run_beside<
 >(
     hall: &Hall<'_, W, K, G, Rt>,
     lead: &mut Option<Lead<W, K, T>>,
-    slots: &mut Vec<Option<Slot<State<W, K>, DoorPlace<T, D>>>>,
+    slots: &mut Vec<Option<Slot<State<W, K>, DoorPlace<T, D, L>>>>,
     clock: &mut C,
     out: &mut O,
     err: &mut O,
@@ -129,20 +131,20 @@ pub(crate) fn run_beside<
     ensures ran { AllZip (SlotRan (λ before after. IsLater before.seat after.seat
         × RunsPlace
         (scene_of W.true_row T.told W.version T.shows hall.now.folders.now hall.now.book.now.rows)
-        D.shows before.seat before.place after.seat after.place)) slots.old.items slots.new.items }
+        D.shows L.shows before.seat before.place after.seat after.place)) slots.old.items slots.new.items }
     ensures locks { All (SlotHas (λ slot. slot.seat.lock ≡ hall.now.lock.now)) slots.new.items }
     ensures count { vec_len slots.new ≡ vec_len slots.old }
 {
     let (rt, alloc, lock) = (hall.rt, hall.alloc, hall.lock);
     let (roots, folders, book) = (hall.roots, hall.folders, hall.book);
     let (secs, doors, gate) = (hall.secs, hall.doors, hall.gate);
-    let serving = |slots: &mut Vec<Option<Slot<State<W, K>, DoorPlace<T, D>>>>|
+    let serving = |slots: &mut Vec<Option<Slot<State<W, K>, DoorPlace<T, D, L>>>>|
         requires { All (SlotHas (λ slot. (slot.seat.lock ≡ lock.now)
             × HasRowIn book.now slot.place.share)) slots.now.items }
         ensures { AllZip (SlotRan (λ before after. IsLater before.seat after.seat
             × RunsPlace
             (scene_of W.true_row T.told W.version T.shows folders.entry.now book.entry.now.rows)
-            D.shows before.seat before.place after.seat after.place))
+            D.shows L.shows before.seat before.place after.seat after.place))
             slots.entry.now.items slots.exit.now.items
             × All (SlotHas (λ slot. slot.seat.lock ≡ lock.entry.now)) slots.exit.now.items
             × (vec_len slots.exit.now ≡ vec_len slots.entry.now) }

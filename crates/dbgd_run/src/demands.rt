@@ -5,10 +5,11 @@ ghost use Rattle.std.specs.String.{string_bytes};
 ghost use Rattle.dbgd_words.specs.Limits.{FitsLimits};
 ghost use Rattle.dbgd_words.specs.Lines.{asked_by};
 ghost use Rattle.dbgd_words.specs.Words.{line_of};
-ghost use Rattle.dbgd_run.specs.Needs.{doors_of, hands_of, port_of};
+ghost use Rattle.dbgd_run.specs.Needs.{doors_of, hands_of, port_of, servers_of};
 
 use crate::wants::Needs;
 use dbgd_words::{Line, read_line};
+use federation::UpstreamAt;
 use std::alloc::{AllocError, Global};
 
 /// What a run of these words needs.
@@ -16,6 +17,8 @@ pub fn needs(alloc: Global, words: &[String]) -> Result<Needs, AllocError>
     ensures hands { IfOk result (λ needs. needs.hands ≡ hands_of (line_of (map string_bytes words.now))) }
     ensures doors { IfOk result (λ needs. needs.doors ≡ doors_of (line_of (map string_bytes words.now))) }
     ensures port { IfOk result (λ needs. needs.port ≡ port_of (line_of (map string_bytes words.now))) }
+    ensures upstream { IfOk result (λ needs. needs.upstream.items
+        ≡ servers_of (line_of (map string_bytes words.now))) }
 {
     let line = read_line(alloc, words)?;
     let (doors, port) = doors_for(&line);
@@ -23,6 +26,7 @@ pub fn needs(alloc: Global, words: &[String]) -> Result<Needs, AllocError>
         hands: hands_for(&line),
         doors,
         port,
+        upstream: upstream_in(alloc, line),
     })
 }
 
@@ -39,7 +43,6 @@ fn hands_for(line: &Line<'_>) -> u64
         | Line::Trial { .. }
         | Line::Program { .. }
         | Line::Help { .. }
-        | Line::NotBuilt
         | Line::Usage => 0,
     }
 }
@@ -60,7 +63,32 @@ fn doors_for(line: &Line<'_>) -> (u64, u16)
         | Line::Trial { .. }
         | Line::Program { .. }
         | Line::Help { .. }
-        | Line::NotBuilt
         | Line::Usage => (0, 0),
+    }
+}
+
+/// The servers that a line asks for what isn't here, in order.
+fn upstream_in(alloc: Global, line: Line<'_>) -> Vec<UpstreamAt>
+    ensures { result.items ≡ servers_of (asked_by line.entry) }
+{
+    match line {
+        Line::Serve {
+            store: _,
+            workers: _,
+            port: _,
+            secs: _,
+            sources: _,
+            upstream,
+            roots: _,
+        } => upstream,
+        Line::Ident { .. }
+        | Line::Sources { .. }
+        | Line::Section { .. }
+        | Line::Query { .. }
+        | Line::Scan { .. }
+        | Line::Trial { .. }
+        | Line::Program { .. }
+        | Line::Help { .. }
+        | Line::Usage => Vec::new(alloc),
     }
 }

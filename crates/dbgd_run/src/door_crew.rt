@@ -10,6 +10,7 @@ ghost use Rattle.dbgd_run.specs.Workers.{RunsPlace};
 
 use crate::hall::Hall;
 use crate::places::{DoorPlace, run_slot};
+use federation::Link;
 use http_wire::Door;
 use index_keeper::Keeper;
 use index_state::State;
@@ -26,11 +27,12 @@ fn run_each<
     K: Keeper<W>,
     T: Tree<W>,
     D: Door,
+    L: Link,
     G: Gate,
     Rt: Threads + Wait + Sync,
 >(
     hall: &Hall<'_, W, K, G, Rt>,
-    slots: &mut [Option<Slot<State<W, K>, DoorPlace<T, D>>>],
+    slots: &mut [Option<Slot<State<W, K>, DoorPlace<T, D, L>>>],
     threads: usize,
 )
     requires threads { 0 < threads }
@@ -40,7 +42,7 @@ fn run_each<
         → SlotRan (λ before after. IsLater before.seat after.seat
         × RunsPlace
         (scene_of W.true_row T.told W.version T.shows hall.now.folders.now hall.now.book.now.rows)
-        D.shows before.seat before.place after.seat after.place)
+        D.shows L.shows before.seat before.place after.seat after.place)
         (slice_index_or slots.old i d) (slice_index_or slots.new i d) }
     ensures length { length slots.new ≡ length slots.old }
 {
@@ -51,14 +53,14 @@ fn run_each<
         rt,
         slots,
         threads,
-        &|number, slot: &mut Option<Slot<State<W, K>, DoorPlace<T, D>>>|
+        &|number, slot: &mut Option<Slot<State<W, K>, DoorPlace<T, D, L>>>|
             requires { SlotHas (λ slot. (slot.seat.lock ≡ lock.now)
                 × HasRowIn book.now slot.place.share) slot.now }
             ensures { SlotRan (λ before after. IsLater before.seat after.seat
                 × RunsPlace
                 (scene_of W.true_row T.told W.version T.shows folders.entry.now
                 book.entry.now.rows)
-                D.shows before.seat before.place after.seat after.place)
+                D.shows L.shows before.seat before.place after.seat after.place)
                 slot.entry.now slot.exit.now }
         {
             let hall = Hall {
@@ -84,15 +86,16 @@ pub(crate) fn run_doors<
     K: Keeper<W>,
     T: Tree<W>,
     D: Door,
+    L: Link,
     G: Gate,
     Rt: Threads + Wait + Sync,
->(hall: &Hall<'_, W, K, G, Rt>, slots: &mut Vec<Option<Slot<State<W, K>, DoorPlace<T, D>>>>)
+>(hall: &Hall<'_, W, K, G, Rt>, slots: &mut Vec<Option<Slot<State<W, K>, DoorPlace<T, D, L>>>>)
     requires filled { All (SlotHas (λ slot. (slot.seat.lock ≡ hall.now.lock.now)
         × HasRowIn hall.now.book.now slot.place.share)) slots.old.items }
     ensures ran { AllZip (SlotRan (λ before after. IsLater before.seat after.seat
         × RunsPlace
         (scene_of W.true_row T.told W.version T.shows hall.now.folders.now hall.now.book.now.rows)
-        D.shows before.seat before.place after.seat after.place)) slots.old.items slots.new.items }
+        D.shows L.shows before.seat before.place after.seat after.place)) slots.old.items slots.new.items }
     ensures locks { All (SlotHas (λ slot. slot.seat.lock ≡ hall.now.lock.now)) slots.new.items }
     ensures count { vec_len slots.new ≡ vec_len slots.old }
 {

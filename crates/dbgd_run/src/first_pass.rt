@@ -21,6 +21,7 @@ use crate::posts::Posts;
 use crate::rounds::note_pass;
 use crate::server::serve_all;
 use elf_reading::{ElfReader, ElfTruth};
+use federation::Link;
 use http_wire::{Door, Sink};
 use index_keeper::Keeper;
 use pass_runner::run_pass;
@@ -90,6 +91,7 @@ pub(crate) fn serve_from<
     K: Keeper<W>,
     T: Tree<W>,
     D: Door,
+    L: Link,
     C: Clock,
     O: Sink,
     G: Gate,
@@ -97,13 +99,13 @@ pub(crate) fn serve_from<
 >(
     hall: &Hall<'_, W, K, G, Rt>,
     lead: Lead<W, K, T>,
-    posts: Posts<W, K, T, D>,
+    posts: Posts<W, K, T, D, L>,
     clock: &mut C,
     out: &mut O,
     err: &mut O,
 ) -> (
     Lead<W, K, T>,
-    Vec<DoorPlace<T, D>>,
+    Vec<DoorPlace<T, D, L>>,
     LineFate,
     Option<PassesEnd>,
 )
@@ -120,7 +122,7 @@ pub(crate) fn serve_from<
         (setting (rules W.version W.true_row W.told) T.told T.shows K.told) hall.now.roots.now
         hall.now.secs
         (scene_of W.true_row T.told W.version T.shows hall.now.folders.now hall.now.book.now.rows)
-        D.shows)
+        D.shows L.shows)
         (passing_scene lead.seat.seen lead.hands.items (C.woke clock.old)
         (streams O.shows out.old err.old) lead.share) posts.places.items result.2 result.3
         result.0.seat.seen

@@ -17,21 +17,22 @@ use std::sync::Wait;
 
 /// The first line, the counters, and room for the places of workers and for what comes back of them.
 #[derive(Drop)]
-pub(crate) struct Gear<W: Truth, K: Keeper<W>, T: Drop, D: Door> {
+pub(crate) struct Gear<W: Truth, K: Keeper<W>, T: Drop, D: Door, L: Drop> {
     pub(crate) line: String,
     pub(crate) shares: Shares,
-    pub(crate) posts: Posts<W, K, T, D>,
+    pub(crate) posts: Posts<W, K, T, D, L>,
     pub(crate) hands: Vec<T>,
     pub(crate) doors: Vec<D>,
+    pub(crate) links: Vec<Vec<L>>,
 }
 
 /// What a server of so many workers on a port wants.
-pub(crate) fn new_gear<W: Truth, K: Keeper<W>, T: Drop, D: Door, R: Wait>(
+pub(crate) fn new_gear<W: Truth, K: Keeper<W>, T: Drop, D: Door, L: Drop, R: Wait>(
     rt: &R,
     alloc: Global,
     workers: u64,
     port: u64,
-) -> Result<Gear<W, K, T, D>, AllocError>
+) -> Result<Gear<W, K, T, D, L>, AllocError>
     requires fits { IsScanFit workers }
     ensures line { IfOk result (λ gear. string_bytes gear.line ≡ serving_line port workers) }
     ensures rows { IfOk result (λ gear. gear.shares.book.rows ≡ workers + 1) }
@@ -41,10 +42,11 @@ pub(crate) fn new_gear<W: Truth, K: Keeper<W>, T: Drop, D: Door, R: Wait>(
     ensures count { IfOk result (λ gear. vec_len gear.shares.others ≡ workers) }
     ensures none { IfOk result (λ gear. (gear.posts.places.items ≡ [])
         × (gear.posts.slots.items ≡ []) × (gear.posts.back.items ≡ [])
-        × (gear.hands.items ≡ []) × (gear.doors.items ≡ [])) }
+        × (gear.hands.items ≡ []) × (gear.doors.items ≡ []) × (gear.links.items ≡ [])) }
     ensures room { IfOk result (λ gear. (workers ≤ vec_capacity gear.posts.places)
         × (workers ≤ vec_capacity gear.posts.slots) × (workers ≤ vec_capacity gear.posts.back)
-        × (workers ≤ vec_capacity gear.hands) × (workers ≤ vec_capacity gear.doors)) }
+        × (workers ≤ vec_capacity gear.hands) × (workers ≤ vec_capacity gear.doors)
+        × (workers ≤ vec_capacity gear.links)) }
 {
     let count = workers as usize;
     Ok(Gear {
@@ -53,6 +55,7 @@ pub(crate) fn new_gear<W: Truth, K: Keeper<W>, T: Drop, D: Door, R: Wait>(
         posts: empty_posts(alloc, count)?,
         hands: Vec::with_capacity(alloc, count)?,
         doors: Vec::with_capacity(alloc, count)?,
+        links: Vec::with_capacity(alloc, count)?,
     })
 }
 

@@ -7,12 +7,13 @@ ghost use Rattle.dbgd_run.specs.Endings.{streams};
 ghost use Rattle.dbgd_run.specs.Scene.{scene, setting};
 ghost use Rattle.dbgd_run.specs.Serve.{RunsServe, serve_words};
 ghost use Rattle.dbgd_run.specs.ServeSaid.{serving_line};
-ghost use Rattle.dbgd_run.specs.Stage.{stage};
+ghost use Rattle.dbgd_run.specs.Stage.{rows_shown, stage};
 ghost use Rattle.dbgd_run.specs.Workers.{IsFreshShare};
 
 use crate::gear::Gear;
 use crate::handed::Outside;
-use crate::lent_crew::{Lent, rejoin_crew};
+use crate::lent::rejoin;
+use crate::lent_crew::{Lent, Loan, rejoin_crew};
 use crate::posts::{Posts, parts_of, places_of};
 use crate::serve_said::say_serve_end;
 use crate::serving::serve_store;
@@ -20,6 +21,7 @@ use crate::shares::Shares;
 use crate::site::{Back, Crew, Site};
 use crate::status::Status;
 use elf_reading::ElfTruth;
+use federation::Link;
 use http_wire::{Door, Sink};
 use index_keeper::Store;
 use row_types::CanonPath;
@@ -39,13 +41,14 @@ pub(crate) struct Order<'a> {
     pub(crate) scanned: usize,
 }
 
-/// Serves with what was made and lent for it, says how that ended, and puts hands and doors back in
-/// their order.
+/// Serves with what was made and lent for it, says how that ended, and puts hands, doors and rows of
+/// links back in their order.
 pub(crate) fn serve_geared<
     W: ElfTruth + Send + Sync,
     T: Tree<W>,
     S: Store<W>,
     D: Door,
+    L: Link,
     C: Clock + Drop,
     O: Sink,
     G: Gate + Drop,
@@ -54,43 +57,53 @@ pub(crate) fn serve_geared<
     rt: &Rt,
     alloc: Global,
     order: Order<'_>,
-    gear: Gear<W, S::K, T, D>,
-    lent: Lent<T>,
-    outside: &mut Outside<W, T, S, D, C, O, G>,
+    gear: Gear<W, S::K, T, D, L>,
+    loan: Loan<T, L>,
+    outside: &mut Outside<W, T, S, D, L, C, O, G>,
 ) -> Status
     requires scanned { order.scanned ≤ vec_len order.folders }
     requires hands { vec_len outside.old.hands ≡ order.workers + 2 }
     requires doors { vec_len outside.old.doors ≡ order.workers }
+    requires links { vec_len outside.old.links ≡ order.workers }
     requires rows { gear.shares.book.rows ≡ order.workers + 1 }
     requires own { IsFreshShare gear.shares.book gear.shares.own }
     requires shares { All (IsFreshShare gear.shares.book) gear.shares.others.items }
     requires many { vec_len gear.shares.others ≡ order.workers }
     requires posts { (gear.posts.places.items ≡ []) × (gear.posts.slots.items ≡ [])
-        × (gear.posts.back.items ≡ []) × (gear.hands.items ≡ []) × (gear.doors.items ≡ []) }
+        × (gear.posts.back.items ≡ []) × (gear.hands.items ≡ []) × (gear.doors.items ≡ [])
+        × (gear.links.items ≡ []) }
     requires room { (order.workers ≤ vec_capacity gear.posts.places)
         × (order.workers ≤ vec_capacity gear.posts.slots)
         × (order.workers ≤ vec_capacity gear.posts.back)
-        × (order.workers ≤ vec_capacity gear.hands) × (order.workers ≤ vec_capacity gear.doors) }
-    requires workers { vec_len lent.workers ≡ order.workers }
-    requires none { (lent.others.room.items ≡ []) × (lent.room.items ≡ []) }
-    requires empty { (vec_len lent.others.room ≡ 0) × (vec_len lent.room ≡ 0) }
-    requires behind { (order.workers + vec_len lent.others.hands ≤ vec_capacity lent.others.room)
-        × (order.workers + 2 + (order.workers + vec_len lent.others.hands)
-        ≤ vec_capacity lent.room) }
+        × (order.workers ≤ vec_capacity gear.hands) × (order.workers ≤ vec_capacity gear.doors)
+        × (order.workers ≤ vec_capacity gear.links) }
+    requires workers { vec_len loan.crew.workers ≡ order.workers }
+    requires none { (loan.crew.others.room.items ≡ []) × (loan.crew.room.items ≡ [])
+        × (loan.rows.room.items ≡ []) }
+    requires empty { (vec_len loan.crew.others.room ≡ 0) × (vec_len loan.crew.room ≡ 0)
+        × (vec_len loan.rows.room ≡ 0) }
+    requires behind { (order.workers + vec_len loan.crew.others.rest ≤ vec_capacity loan.crew.others.room)
+        × (order.workers + 2 + (order.workers + vec_len loan.crew.others.rest)
+        ≤ vec_capacity loan.crew.room)
+        × (order.workers + vec_len loan.rows.rest ≤ vec_capacity loan.rows.room) }
     ensures runs { (port : ℕ) (sources roots : List (List ℕ))
         → string_bytes gear.line ≡ serving_line port order.entry.workers
         → order.entry.folders.items ≡ roots ++ sources → order.entry.scanned ≡ length roots → RunsServe
         (setting (rules W.version W.true_row W.told) T.told T.shows S.K.told)
         (serve_words order.entry.store.now order.entry.workers port order.entry.secs sources roots)
-        (stage (scene (outside.old.hands.items ++ (lent.workers.items ++ lent.others.hands.items))
+        (stage (scene (outside.old.hands.items ++ (loan.crew.workers.items ++ loan.crew.others.rest.items))
         (S.shows outside.old.store) (streams O.shows outside.old.out outside.old.err))
-        (map D.shows outside.old.doors.items) (C.woke outside.old.clock))
+        (map D.shows outside.old.doors.items)
+        (rows_shown L.shows (outside.old.links.items ++ loan.rows.rest.items))
+        (C.woke outside.old.clock))
         (stage (scene outside.new.hands.items (S.shows outside.new.store)
         (streams O.shows outside.new.out outside.new.err))
-        (map D.shows outside.new.doors.items) (C.woke outside.new.clock)) result }
+        (map D.shows outside.new.doors.items) (rows_shown L.shows outside.new.links.items)
+        (C.woke outside.new.clock)) result }
     ensures count { vec_len outside.new.hands
-        ≡ order.entry.workers + 2 + (order.entry.workers + vec_len lent.others.hands) }
+        ≡ order.entry.workers + 2 + (order.entry.workers + vec_len loan.crew.others.rest) }
     ensures doors { vec_len outside.new.doors ≡ order.entry.workers }
+    ensures links { vec_len outside.new.links ≡ order.entry.workers + vec_len loan.rows.rest }
 {
     let Gear {
         line,
@@ -98,6 +111,7 @@ pub(crate) fn serve_geared<
         posts,
         hands: hands_room,
         doors: doors_room,
+        links: rows_room,
     } = gear;
     let Shares { book, own, others } = shares;
     let Posts {
@@ -105,14 +119,19 @@ pub(crate) fn serve_geared<
         slots,
         back,
     } = posts;
+    let Loan {
+        crew,
+        rows: other_rows,
+    } = loan;
     let Lent {
         workers,
         others: rest,
         room: all_room,
-    } = lent;
+    } = crew;
     let doors = mem::replace(&mut outside.doors, Vec::new(alloc));
+    let rows = mem::replace(&mut outside.links, Vec::new(alloc));
     let first = mem::replace(&mut outside.hands, Vec::new(alloc));
-    let places = places_of(workers, others, doors, room);
+    let places = places_of(workers, others, doors, rows, room);
     let crew = Crew {
         hands: first,
         share: own,
@@ -148,9 +167,11 @@ pub(crate) fn serve_geared<
     let Back { hands, places, end } = left;
     let ended = places.as_slice();
     let status = say_serve_end(&end, ended, &mut outside.out, &mut outside.err);
-    let (workers, doors) = parts_of(places, hands_room, doors_room);
+    let (workers, doors, rows) = parts_of(places, hands_room, doors_room, rows_room);
     outside.hands = hands;
     outside.doors = doors;
+    outside.links = rows;
+    rejoin(&mut outside.links, other_rows);
     rejoin_crew(
         &mut outside.hands,
         Lent {

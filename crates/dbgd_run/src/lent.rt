@@ -1,14 +1,14 @@
-//! The hands that a scan is made with, apart from the others.
+//! The hands that a scan is made with, or the rows of links of a server, apart from the others.
 
 ghost use Rattle.std.specs.Prelude.{◌≡◌, ◌+◌, ◌≤◌, [], ◌++◌, drop, min, take, vec_capacity, vec_len, IfOk, OnErr, OnOk};
 ghost use Rattle.dbgd_words.specs.Limits.{IsScanFit};
 
 use std::alloc::{AllocError, Global};
 
-/// The hands that aren't asked, and room for all hands.
+/// Those that aren't asked, and room for all.
 #[derive(Drop)]
 pub struct Others<T: Drop> {
-    pub hands: Vec<T>,
+    pub rest: Vec<T>,
     pub room: Vec<T>,
 }
 
@@ -21,7 +21,7 @@ pub fn asked(workers: u64, hands: usize) -> usize
     if count < hands { count } else { hands }
 }
 
-/// Leaves so many hands, from the first on, and takes the others off. Where there is no memory all are
+/// Leaves so many, from the first on, and takes the others off. Where there is no memory all are
 /// left.
 pub fn lend<T: Drop>(
     alloc: Global,
@@ -31,8 +31,8 @@ pub fn lend<T: Drop>(
     requires { count ≤ vec_len hands.old }
     ensures front { OnOk result (hands.new.items ≡ take count hands.old.items) }
     ensures count { OnOk result (vec_len hands.new ≡ count) }
-    ensures others { IfOk result (λ others. others.hands.items ≡ drop count hands.old.items) }
-    ensures long { IfOk result (λ others. vec_len others.hands + count ≡ vec_len hands.old) }
+    ensures others { IfOk result (λ others. others.rest.items ≡ drop count hands.old.items) }
+    ensures long { IfOk result (λ others. vec_len others.rest + count ≡ vec_len hands.old) }
     ensures none { IfOk result (λ others. others.room.items ≡ []) }
     ensures empty { IfOk result (λ others. vec_len others.room ≡ 0) }
     ensures room { IfOk result (λ others. vec_len hands.old ≤ vec_capacity others.room) }
@@ -40,22 +40,19 @@ pub fn lend<T: Drop>(
 {
     let room = Vec::with_capacity(alloc, hands.len())?;
     let others = hands.split_off(count)?;
-    Ok(Others {
-        hands: others,
-        room,
-    })
+    Ok(Others { rest: others, room })
 }
 
-/// The hands in their order again: those that were lent, and behind them the others.
+/// All in their order again: those that were lent, and behind them the others.
 pub fn rejoin<T: Drop>(hands: &mut Vec<T>, others: Others<T>)
     requires none { others.room.items ≡ [] }
     requires empty { vec_len others.room ≡ 0 }
-    requires room { vec_len hands.old + vec_len others.hands ≤ vec_capacity others.room }
-    ensures all { hands.new.items ≡ hands.old.items ++ others.hands.items }
-    ensures long { vec_len hands.new ≡ vec_len hands.old + vec_len others.hands }
+    requires room { vec_len hands.old + vec_len others.rest ≤ vec_capacity others.room }
+    ensures all { hands.new.items ≡ hands.old.items ++ others.rest.items }
+    ensures long { vec_len hands.new ≡ vec_len hands.old + vec_len others.rest }
 {
     let Others {
-        hands: mut others,
+        rest: mut others,
         mut room,
     } = others;
     let Ok(()) = room.append(hands) else {

@@ -33,8 +33,7 @@ fn whole_fate(said: Status) -> LineFate
         | Status::Absent
         | Status::Altered
         | Status::Limit
-        | Status::BadRow
-        | Status::NotBuilt => LineFate::Written,
+        | Status::BadRow => LineFate::Written,
     }
 }
 
@@ -50,8 +49,7 @@ fn missed_fate(said: Status) -> LineFate
         | Status::Absent
         | Status::Altered
         | Status::Limit
-        | Status::BadRow
-        | Status::NotBuilt => LineFate::Written,
+        | Status::BadRow => LineFate::Written,
     }
 }
 

@@ -10,7 +10,7 @@ ghost use Rattle.dbgd_run.specs.Endings.{EndsWhole, streams};
 ghost use Rattle.dbgd_run.specs.Needs.{HasEnough};
 ghost use Rattle.dbgd_run.specs.Runs.{DoesLine, DoesWords, IsRun, Runs, takes_threads, usage_saying};
 ghost use Rattle.dbgd_run.specs.Scene.{scene, setting};
-ghost use Rattle.dbgd_run.specs.Stage.{stage};
+ghost use Rattle.dbgd_run.specs.Stage.{rows_shown, stage};
 ghost use Rattle.dbgd_run.specs.Statuses.{code_of};
 ghost use Rattle.dbgd_run.specs.declared.status.Status.TheVariants.{OutOfMemory};
 
@@ -21,11 +21,12 @@ use crate::scan::run_scan;
 use crate::section::run_section;
 use crate::serve::{ServeLine, run_serve};
 use crate::sources::run_sources;
-use crate::speech::{say, say_error, say_no_memory, say_not_built};
+use crate::speech::{say, say_error, say_no_memory};
 use crate::status::Status;
 use crate::trial::run_trial;
 use dbgd_words::{Line, read_line};
 use elf_reading::ElfTruth;
+use federation::Link;
 use http_wire::{Door, Sink};
 use index_keeper::Store;
 use std::alloc::Global;
@@ -54,10 +55,11 @@ fn run_alone<
     T: Tree<W>,
     S: Store<W>,
     D: Door,
+    L: Link,
     C: Clock + Drop,
     O: Sink,
     G: Gate + Drop,
->(alloc: Global, line: Line<'_>, outside: &mut Outside<W, T, S, D, C, O, G>) -> Status
+>(alloc: Global, line: Line<'_>, outside: &mut Outside<W, T, S, D, L, C, O, G>) -> Status
     requires hand { 0 < vec_len outside.old.hands }
     requires alone { takes_threads (asked_by line) ≡ false }
     ensures law { Runs
@@ -69,7 +71,8 @@ fn run_alone<
         (streams O.shows outside.new.out outside.new.err)) result }
     ensures hands { vec_len outside.new.hands ≡ vec_len outside.old.hands }
     ensures others { drop 1 outside.new.hands.items ≡ drop 1 outside.old.hands.items }
-    ensures rest { (outside.new.doors ≡ outside.old.doors) × (outside.new.clock ≡ outside.old.clock) }
+    ensures rest { (outside.new.doors ≡ outside.old.doors) × (outside.new.links ≡ outside.old.links)
+        × (outside.new.clock ≡ outside.old.clock) }
 {
     let out = &mut outside.out;
     let err = &mut outside.err;
@@ -83,7 +86,6 @@ fn run_alone<
         Line::Scan { .. } | Line::Serve { .. } | Line::Trial { .. } => unreachable!(),
         Line::Program { text } => say(text.as_bytes(), Status::Done, out, err),
         Line::Help { text } => say(text.as_bytes(), Status::Done, out, err),
-        Line::NotBuilt => say_not_built(out, err),
         Line::Usage => say_usage(out, err),
     }
 }
@@ -94,26 +96,30 @@ fn run_line<
     T: Tree<W>,
     S: Store<W>,
     D: Door,
+    L: Link,
     C: Clock + Drop,
     O: Sink,
     G: Gate + Drop,
     Rt: Threads + Wait + Sync,
->(rt: &Rt, alloc: Global, line: Line<'_>, outside: &mut Outside<W, T, S, D, C, O, G>) -> Status
+>(rt: &Rt, alloc: Global, line: Line<'_>, outside: &mut Outside<W, T, S, D, L, C, O, G>) -> Status
     requires hand { 0 < vec_len outside.old.hands }
     requires fits { FitsLimits (asked_by line) }
     requires enough { HasEnough (asked_by line) (vec_len outside.old.hands)
-        (vec_len outside.old.doors) }
+        (vec_len outside.old.doors) (vec_len outside.old.links) }
     ensures law { DoesLine
         (setting (rules W.version W.true_row W.told) T.told T.shows S.K.told)
         (asked_by line.entry)
         (stage (scene outside.old.hands.items (S.shows outside.old.store)
         (streams O.shows outside.old.out outside.old.err))
-        (map D.shows outside.old.doors.items) (C.woke outside.old.clock))
+        (map D.shows outside.old.doors.items) (rows_shown L.shows outside.old.links.items)
+        (C.woke outside.old.clock))
         (stage (scene outside.new.hands.items (S.shows outside.new.store)
         (streams O.shows outside.new.out outside.new.err))
-        (map D.shows outside.new.doors.items) (C.woke outside.new.clock)) result }
+        (map D.shows outside.new.doors.items) (rows_shown L.shows outside.new.links.items)
+        (C.woke outside.new.clock)) result }
     ensures hands { vec_len outside.new.hands ≡ vec_len outside.old.hands }
     ensures doors { vec_len outside.new.doors ≡ vec_len outside.old.doors }
+    ensures links { vec_len outside.new.links ≡ vec_len outside.old.links }
 {
     match line {
         Line::Scan {
@@ -127,6 +133,7 @@ fn run_line<
             port,
             secs,
             sources,
+            upstream: _,
             roots,
         } => {
             let line = ServeLine {
@@ -154,25 +161,29 @@ fn run_words<
     T: Tree<W>,
     S: Store<W>,
     D: Door,
+    L: Link,
     C: Clock + Drop,
     O: Sink,
     G: Gate + Drop,
     Rt: Threads + Wait + Sync,
->(rt: &Rt, alloc: Global, words: &[String], outside: &mut Outside<W, T, S, D, C, O, G>) -> Status
+>(rt: &Rt, alloc: Global, words: &[String], outside: &mut Outside<W, T, S, D, L, C, O, G>) -> Status
     requires hand { 0 < vec_len outside.old.hands }
     requires enough { HasEnough (line_of (map string_bytes words.now))
-        (vec_len outside.old.hands) (vec_len outside.old.doors) }
+        (vec_len outside.old.hands) (vec_len outside.old.doors) (vec_len outside.old.links) }
     ensures law { DoesWords
         (setting (rules W.version W.true_row W.told) T.told T.shows S.K.told)
         (map string_bytes words.now)
         (stage (scene outside.old.hands.items (S.shows outside.old.store)
         (streams O.shows outside.old.out outside.old.err))
-        (map D.shows outside.old.doors.items) (C.woke outside.old.clock))
+        (map D.shows outside.old.doors.items) (rows_shown L.shows outside.old.links.items)
+        (C.woke outside.old.clock))
         (stage (scene outside.new.hands.items (S.shows outside.new.store)
         (streams O.shows outside.new.out outside.new.err))
-        (map D.shows outside.new.doors.items) (C.woke outside.new.clock)) result }
+        (map D.shows outside.new.doors.items) (rows_shown L.shows outside.new.links.items)
+        (C.woke outside.new.clock)) result }
     ensures hands { vec_len outside.new.hands ≡ vec_len outside.old.hands }
     ensures doors { vec_len outside.new.doors ≡ vec_len outside.old.doors }
+    ensures links { vec_len outside.new.links ≡ vec_len outside.old.links }
 {
     match read_line(alloc, words) {
         Ok(line) => run_line(rt, alloc, line, outside),
@@ -187,10 +198,11 @@ pub fn run_local<
     T: Tree<W>,
     S: Store<W>,
     D: Door,
+    L: Link,
     C: Clock + Drop,
     O: Sink,
     G: Gate + Drop,
->(alloc: Global, words: &[String], outside: &mut Outside<W, T, S, D, C, O, G>) -> Option<u8>
+>(alloc: Global, words: &[String], outside: &mut Outside<W, T, S, D, L, C, O, G>) -> Option<u8>
     requires { 0 < vec_len outside.old.hands }
     ensures none { IfNone result (takes_threads (line_of (map string_bytes words.now)) ≡ true) }
     ensures some { IfSome result (λ code. (takes_threads (line_of (map string_bytes words.now)) ≡ false)
@@ -201,10 +213,12 @@ pub fn run_local<
         (map string_bytes words.now)
         (stage (scene outside.old.hands.items (S.shows outside.old.store)
         (streams O.shows outside.old.out outside.old.err))
-        (map D.shows outside.old.doors.items) (C.woke outside.old.clock))
+        (map D.shows outside.old.doors.items) (rows_shown L.shows outside.old.links.items)
+        (C.woke outside.old.clock))
         (stage (scene outside.new.hands.items (S.shows outside.new.store)
         (streams O.shows outside.new.out outside.new.err))
-        (map D.shows outside.new.doors.items) (C.woke outside.new.clock))) }
+        (map D.shows outside.new.doors.items) (rows_shown L.shows outside.new.links.items)
+        (C.woke outside.new.clock))) }
     ensures hands { vec_len outside.new.hands ≡ vec_len outside.old.hands }
     ensures others { drop 1 outside.new.hands.items ≡ drop 1 outside.old.hands.items }
 {
@@ -216,30 +230,34 @@ pub fn run_local<
 }
 
 /// Does all that the program does, and gives the exit status. Where doors are needed there are
-/// exactly these, and the hands that are needed, or more.
+/// exactly these, and the hands and the rows of links that are needed, or more.
 pub fn run<
     W: ElfTruth + Send + Sync,
     T: Tree<W>,
     S: Store<W>,
     D: Door,
+    L: Link,
     C: Clock + Drop,
     O: Sink,
     G: Gate + Drop,
     Rt: Threads + Wait + Sync,
->(rt: &Rt, alloc: Global, words: &[String], outside: &mut Outside<W, T, S, D, C, O, G>) -> u8
+>(rt: &Rt, alloc: Global, words: &[String], outside: &mut Outside<W, T, S, D, L, C, O, G>) -> u8
     requires hand { 0 < vec_len outside.old.hands }
     requires enough { HasEnough (line_of (map string_bytes words.now))
-        (vec_len outside.old.hands) (vec_len outside.old.doors) }
+        (vec_len outside.old.hands) (vec_len outside.old.doors) (vec_len outside.old.links) }
     ensures run { IsRun (setting (rules W.version W.true_row W.told) T.told T.shows S.K.told)
         (map string_bytes words.now)
         (stage (scene outside.old.hands.items (S.shows outside.old.store)
         (streams O.shows outside.old.out outside.old.err))
-        (map D.shows outside.old.doors.items) (C.woke outside.old.clock))
+        (map D.shows outside.old.doors.items) (rows_shown L.shows outside.old.links.items)
+        (C.woke outside.old.clock))
         (stage (scene outside.new.hands.items (S.shows outside.new.store)
         (streams O.shows outside.new.out outside.new.err))
-        (map D.shows outside.new.doors.items) (C.woke outside.new.clock)) result }
+        (map D.shows outside.new.doors.items) (rows_shown L.shows outside.new.links.items)
+        (C.woke outside.new.clock)) result }
     ensures hands { vec_len outside.new.hands ≡ vec_len outside.old.hands }
     ensures doors { vec_len outside.new.doors ≡ vec_len outside.old.doors }
+    ensures links { vec_len outside.new.links ≡ vec_len outside.old.links }
 {
     run_words(rt, alloc, words, outside).code()
 }

@@ -20,6 +20,7 @@ use crate::scan_end::ScanEnd;
 use crate::scan_sayings::say_end;
 use crate::status::Status;
 use elf_reading::{ElfReader, ElfTruth};
+use federation::Link;
 use http_wire::{Door, Sink};
 use index_keeper::{Keeper, Store, StoreAnswer};
 use index_state::{OpenFault, State, open_state};
@@ -157,6 +158,7 @@ fn scan_by<
     T: Tree<W>,
     S: Store<W>,
     D: Door,
+    L: Link,
     C: Clock + Drop,
     O: Sink,
     G: Gate + Drop,
@@ -167,7 +169,7 @@ fn scan_by<
     path: &str,
     workers: u64,
     roots: &[CanonPath],
-    outside: &mut Outside<W, T, S, D, C, O, G>,
+    outside: &mut Outside<W, T, S, D, L, C, O, G>,
 ) -> ScanEnd
     requires hand { 0 < vec_len outside.old.hands }
     requires fits { IsScanFit workers }
@@ -178,7 +180,8 @@ fn scan_by<
         ≡ drop (workers + 2) outside.old.hands.items }
     ensures count { vec_len outside.new.hands ≡ vec_len outside.old.hands }
     ensures sinks { (outside.new.out ≡ outside.old.out) × (outside.new.err ≡ outside.old.err) }
-    ensures rest { (outside.new.doors ≡ outside.old.doors) × (outside.new.clock ≡ outside.old.clock) }
+    ensures rest { (outside.new.doors ≡ outside.old.doors) × (outside.new.links ≡ outside.old.links)
+        × (outside.new.clock ≡ outside.old.clock) }
 {
     let hands = &mut outside.hands;
     let count = asked(workers, hands.len());
@@ -206,6 +209,7 @@ pub fn run_scan<
     T: Tree<W>,
     S: Store<W>,
     D: Door,
+    L: Link,
     C: Clock + Drop,
     O: Sink,
     G: Gate + Drop,
@@ -216,7 +220,7 @@ pub fn run_scan<
     path: &str,
     workers: u64,
     roots: &[CanonPath],
-    outside: &mut Outside<W, T, S, D, C, O, G>,
+    outside: &mut Outside<W, T, S, D, L, C, O, G>,
 ) -> Status
     requires hand { 0 < vec_len outside.old.hands }
     requires fits { IsScanFit workers }
@@ -227,7 +231,8 @@ pub fn run_scan<
         (scene outside.new.hands.items (S.shows outside.new.store)
         (streams O.shows outside.new.out outside.new.err)) result }
     ensures count { vec_len outside.new.hands ≡ vec_len outside.old.hands }
-    ensures rest { (outside.new.doors ≡ outside.old.doors) × (outside.new.clock ≡ outside.old.clock) }
+    ensures rest { (outside.new.doors ≡ outside.old.doors) × (outside.new.links ≡ outside.old.links)
+        × (outside.new.clock ≡ outside.old.clock) }
 {
     let end = scan_by(rt, alloc, path, workers, roots, outside);
     say_end(alloc, &end, &mut outside.out, &mut outside.err)

@@ -6,15 +6,16 @@ ghost use Rattle.dbgd_words.specs.Limits.{IsServeFit};
 ghost use Rattle.dbgd_run.specs.Endings.{streams};
 ghost use Rattle.dbgd_run.specs.Scene.{scene, setting};
 ghost use Rattle.dbgd_run.specs.Serve.{RunsServe, serve_words};
-ghost use Rattle.dbgd_run.specs.Stage.{stage};
+ghost use Rattle.dbgd_run.specs.Stage.{rows_shown, stage};
 
 use crate::gear::{joined_folders, new_gear};
 use crate::geared::{Order, serve_geared};
 use crate::handed::Outside;
-use crate::lent_crew::lend_crew;
+use crate::lent_crew::lend_all;
 use crate::speech::say_no_memory;
 use crate::status::Status;
 use elf_reading::ElfTruth;
+use federation::Link;
 use http_wire::{Door, Sink};
 use index_keeper::Store;
 use row_types::CanonPath;
@@ -40,6 +41,7 @@ fn serve_line<
     T: Tree<W>,
     S: Store<W>,
     D: Door,
+    L: Link,
     C: Clock + Drop,
     O: Sink,
     G: Gate + Drop,
@@ -48,10 +50,11 @@ fn serve_line<
     rt: &Rt,
     alloc: Global,
     line: ServeLine<'_>,
-    outside: &mut Outside<W, T, S, D, C, O, G>,
+    outside: &mut Outside<W, T, S, D, L, C, O, G>,
 ) -> Result<Status, AllocError>
     requires hands { line.workers * 2 + 2 ≤ vec_len outside.old.hands }
     requires doors { vec_len outside.old.doors ≡ line.workers }
+    requires links { line.workers ≤ vec_len outside.old.links }
     requires fits { IsServeFit line.workers line.port line.secs }
     ensures runs { IfOk result (λ status. RunsServe
         (setting (rules W.version W.true_row W.told) T.told T.shows S.K.told)
@@ -59,16 +62,20 @@ fn serve_line<
         line.entry.roots.items)
         (stage (scene outside.old.hands.items (S.shows outside.old.store)
         (streams O.shows outside.old.out outside.old.err))
-        (map D.shows outside.old.doors.items) (C.woke outside.old.clock))
+        (map D.shows outside.old.doors.items) (rows_shown L.shows outside.old.links.items)
+        (C.woke outside.old.clock))
         (stage (scene outside.new.hands.items (S.shows outside.new.store)
         (streams O.shows outside.new.out outside.new.err))
-        (map D.shows outside.new.doors.items) (C.woke outside.new.clock)) status) }
+        (map D.shows outside.new.doors.items) (rows_shown L.shows outside.new.links.items)
+        (C.woke outside.new.clock)) status) }
     ensures hands { OnErr result (outside.new.hands.items ≡ outside.old.hands.items) }
+    ensures links { OnErr result (outside.new.links.items ≡ outside.old.links.items) }
     ensures rest { OnErr result ((outside.new.store ≡ outside.old.store)
         × (outside.new.doors ≡ outside.old.doors) × (outside.new.clock ≡ outside.old.clock)
         × (outside.new.out ≡ outside.old.out) × (outside.new.err ≡ outside.old.err)) }
     ensures count { vec_len outside.new.hands ≡ vec_len outside.old.hands }
     ensures doors { vec_len outside.new.doors ≡ vec_len outside.old.doors }
+    ensures rows { vec_len outside.new.links ≡ vec_len outside.old.links }
 {
     let ServeLine {
         store,
@@ -87,25 +94,38 @@ fn serve_line<
         folders: joined_folders(roots, sources)?,
     };
     let count = workers as usize;
-    let lent = lend_crew(alloc, &mut outside.hands, count + 2, count)?;
-    Ok(serve_geared(rt, alloc, order, gear, lent, outside))
+    let loan = lend_all(
+        alloc,
+        &mut outside.hands,
+        &mut outside.links,
+        count + 2,
+        count,
+    )?;
+    Ok(serve_geared(rt, alloc, order, gear, loan, outside))
 }
 
 /// Serves the index in a store by so many workers: the store is opened, a first pass is made, and then
-/// each worker serves a door of its own while a pass is made after each wait. Hands and doors come back
-/// in their order.
+/// each worker serves a door of its own, with a row of links of its own, while a pass is made after each
+/// wait. Hands, doors and rows of links come back in their order.
 pub(crate) fn run_serve<
     W: ElfTruth + Send + Sync,
     T: Tree<W>,
     S: Store<W>,
     D: Door,
+    L: Link,
     C: Clock + Drop,
     O: Sink,
     G: Gate + Drop,
     Rt: Threads + Wait + Sync,
->(rt: &Rt, alloc: Global, line: ServeLine<'_>, outside: &mut Outside<W, T, S, D, C, O, G>) -> Status
+>(
+    rt: &Rt,
+    alloc: Global,
+    line: ServeLine<'_>,
+    outside: &mut Outside<W, T, S, D, L, C, O, G>,
+) -> Status
     requires hands { line.workers * 2 + 2 ≤ vec_len outside.old.hands }
     requires doors { vec_len outside.old.doors ≡ line.workers }
+    requires links { line.workers ≤ vec_len outside.old.links }
     requires fits { IsServeFit line.workers line.port line.secs }
     ensures runs { RunsServe
         (setting (rules W.version W.true_row W.told) T.told T.shows S.K.told)
@@ -113,12 +133,15 @@ pub(crate) fn run_serve<
         line.entry.roots.items)
         (stage (scene outside.old.hands.items (S.shows outside.old.store)
         (streams O.shows outside.old.out outside.old.err))
-        (map D.shows outside.old.doors.items) (C.woke outside.old.clock))
+        (map D.shows outside.old.doors.items) (rows_shown L.shows outside.old.links.items)
+        (C.woke outside.old.clock))
         (stage (scene outside.new.hands.items (S.shows outside.new.store)
         (streams O.shows outside.new.out outside.new.err))
-        (map D.shows outside.new.doors.items) (C.woke outside.new.clock)) result }
+        (map D.shows outside.new.doors.items) (rows_shown L.shows outside.new.links.items)
+        (C.woke outside.new.clock)) result }
     ensures count { vec_len outside.new.hands ≡ vec_len outside.old.hands }
     ensures doors { vec_len outside.new.doors ≡ vec_len outside.old.doors }
+    ensures rows { vec_len outside.new.links ≡ vec_len outside.old.links }
 {
     match serve_line(rt, alloc, line, outside) {
         Ok(status) => status,

@@ -45,8 +45,7 @@ pub(crate) fn announce<O: Sink>(line: &str, out: &mut O, err: &mut O) -> bool
         | Status::Altered
         | Status::Limit
         | Status::OutOfMemory
-        | Status::BadRow
-        | Status::NotBuilt => false,
+        | Status::BadRow => false,
     }
 }
 
@@ -72,7 +71,7 @@ fn either(one: bool, other: bool) -> bool
 }
 
 /// Says of each door that failed, in order, and tells whether one did.
-fn say_doors<T: Drop, D: Drop, O: Sink>(places: &[DoorPlace<T, D>], err: &mut O) -> bool
+fn say_doors<T: Drop, D: Drop, L: Drop, O: Sink>(places: &[DoorPlace<T, D, L>], err: &mut O) -> bool
     ensures failed { result ≡ list_any ended_badly (ends_at places.now) }
     ensures err { GetsLines (flat_map end_line (ends_at places.now))
         (O.shows err.old) (O.shows err.new) }
@@ -120,9 +119,9 @@ fn served_status(wants: bool, failed: bool) -> Status
 }
 
 /// Says how a server ended: of each door that failed a line, in order, and the status.
-pub(crate) fn say_serve_end<T: Drop, D: Drop, O: Sink>(
+pub(crate) fn say_serve_end<T: Drop, D: Drop, L: Drop, O: Sink>(
     end: &ServeEnd,
-    places: &[DoorPlace<T, D>],
+    places: &[DoorPlace<T, D, L>],
     out: &mut O,
     err: &mut O,
 ) -> Status

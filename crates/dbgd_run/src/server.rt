@@ -20,6 +20,7 @@ use crate::passes_end::PassesEnd;
 use crate::places::DoorPlace;
 use crate::posts::Posts;
 use elf_reading::ElfTruth;
+use federation::Link;
 use http_wire::{Door, Sink};
 use index_keeper::Keeper;
 use lock_crew::{seats_in, seats_out};
@@ -33,13 +34,14 @@ fn serve_alone<
     K: Keeper<W>,
     T: Tree<W>,
     D: Door,
+    L: Link,
     G: Gate,
     Rt: Threads + Wait + Sync,
 >(
     hall: &Hall<'_, W, K, G, Rt>,
     lead: Lead<W, K, T>,
-    posts: Posts<W, K, T, D>,
-) -> (Lead<W, K, T>, Vec<DoorPlace<T, D>>)
+    posts: Posts<W, K, T, D, L>,
+) -> (Lead<W, K, T>, Vec<DoorPlace<T, D, L>>)
     requires lock { lead.seat.lock ≡ hall.now.lock.now }
     requires none { (posts.slots.items ≡ []) × (posts.back.items ≡ []) }
     requires room { (vec_len posts.places ≤ vec_capacity posts.slots)
@@ -48,7 +50,7 @@ fn serve_alone<
     ensures later { IsLater lead.seat result.0.seat }
     ensures doors { AllZip (PlaceServed
         (scene_of W.true_row T.told W.version T.shows hall.now.folders.now hall.now.book.now.rows)
-        D.shows lead.seat.seen result.0.seat.seen) posts.places.items result.1.items }
+        D.shows L.shows lead.seat.seen result.0.seat.seen) posts.places.items result.1.items }
     ensures hands { result.0.hands ≡ lead.hands }
     ensures count { vec_len result.1 ≡ vec_len posts.places }
 {
@@ -70,6 +72,7 @@ fn serve_beside<
     K: Keeper<W>,
     T: Tree<W>,
     D: Door,
+    L: Link,
     C: Clock,
     O: Sink,
     G: Gate,
@@ -77,11 +80,11 @@ fn serve_beside<
 >(
     hall: &Hall<'_, W, K, G, Rt>,
     lead: Lead<W, K, T>,
-    posts: Posts<W, K, T, D>,
+    posts: Posts<W, K, T, D, L>,
     clock: &mut C,
     out: &mut O,
     err: &mut O,
-) -> (Lead<W, K, T>, Vec<DoorPlace<T, D>>, PassesEnd)
+) -> (Lead<W, K, T>, Vec<DoorPlace<T, D, L>>, PassesEnd)
     requires lock { lead.seat.lock ≡ hall.now.lock.now }
     requires hand { 0 < vec_len lead.hands }
     requires spared { lead.seat.origin.sparing ≡ None }
@@ -93,7 +96,7 @@ fn serve_beside<
     ensures later { IsLater lead.seat result.0.seat }
     ensures doors { AllZip (PlaceServed
         (scene_of W.true_row T.told W.version T.shows hall.now.folders.now hall.now.book.now.rows)
-        D.shows lead.seat.seen result.0.seat.seen) posts.places.items result.1.items }
+        D.shows L.shows lead.seat.seen result.0.seat.seen) posts.places.items result.1.items }
     ensures passes { (log : _) × IsPrefix log result.0.seat.seen × KeepsPassing
         (setting (rules W.version W.true_row W.told) T.told T.shows K.told) hall.now.roots.now
         hall.now.secs
@@ -126,6 +129,7 @@ pub(crate) fn serve_all<
     K: Keeper<W>,
     T: Tree<W>,
     D: Door,
+    L: Link,
     C: Clock,
     O: Sink,
     G: Gate,
@@ -133,12 +137,12 @@ pub(crate) fn serve_all<
 >(
     hall: &Hall<'_, W, K, G, Rt>,
     lead: Lead<W, K, T>,
-    posts: Posts<W, K, T, D>,
+    posts: Posts<W, K, T, D, L>,
     passing: bool,
     clock: &mut C,
     out: &mut O,
     err: &mut O,
-) -> (Lead<W, K, T>, Vec<DoorPlace<T, D>>, Option<PassesEnd>)
+) -> (Lead<W, K, T>, Vec<DoorPlace<T, D, L>>, Option<PassesEnd>)
     requires lock { lead.seat.lock ≡ hall.now.lock.now }
     requires hand { 0 < vec_len lead.hands }
     requires spared { lead.seat.origin.sparing ≡ None }
@@ -150,7 +154,7 @@ pub(crate) fn serve_all<
     ensures later { IsLater lead.seat result.0.seat }
     ensures doors { AllZip (PlaceServed
         (scene_of W.true_row T.told W.version T.shows hall.now.folders.now hall.now.book.now.rows)
-        D.shows lead.seat.seen result.0.seat.seen) posts.places.items result.1.items }
+        D.shows L.shows lead.seat.seen result.0.seat.seen) posts.places.items result.1.items }
     ensures passes { GoesOn
         (setting (rules W.version W.true_row W.told) T.told T.shows K.told) hall.now.roots.now
         hall.now.secs passing

@@ -22,6 +22,7 @@ use crate::serve_end::ServeEnd;
 use crate::serve_said::announce;
 use crate::site::{Back, Crew, Site, unserved};
 use elf_reading::ElfTruth;
+use federation::Link;
 use http_wire::{Door, Sink};
 use index_keeper::{Keeper, Store, StoreAnswer};
 use index_lock::TurnLock;
@@ -36,6 +37,7 @@ fn serve_locked<
     K: Keeper<W>,
     T: Tree<W>,
     D: Door,
+    L: Link,
     C: Clock,
     O: Sink,
     G: Gate,
@@ -44,13 +46,13 @@ fn serve_locked<
     site: &Site<'_, G, Rt>,
     lock: &TurnLock<State<W, K>>,
     lead: Lead<W, K, T>,
-    posts: Posts<W, K, T, D>,
+    posts: Posts<W, K, T, D, L>,
     clock: &mut C,
     out: &mut O,
     err: &mut O,
 ) -> (
     Lead<W, K, T>,
-    Vec<DoorPlace<T, D>>,
+    Vec<DoorPlace<T, D, L>>,
     LineFate,
     Option<PassesEnd>,
 )
@@ -67,7 +69,7 @@ fn serve_locked<
         (setting (rules W.version W.true_row W.told) T.told T.shows K.told) site.now.roots.now
         site.now.secs
         (scene_of W.true_row T.told W.version T.shows site.now.folders.now site.now.book.now.rows)
-        D.shows)
+        D.shows L.shows)
         (passing_scene lead.seat.seen lead.hands.items (C.woke clock.old)
         (streams O.shows out.old err.old) lead.share) posts.places.items result.2 result.3
         result.0.seat.seen
@@ -97,6 +99,7 @@ fn serve_index<
     K: Keeper<W>,
     T: Tree<W>,
     D: Door,
+    L: Link,
     C: Clock,
     O: Sink,
     G: Gate,
@@ -104,11 +107,11 @@ fn serve_index<
 >(
     site: &Site<'_, G, Rt>,
     state: State<W, K>,
-    crew: Crew<W, K, T, D>,
+    crew: Crew<W, K, T, D, L>,
     clock: &mut C,
     out: &mut O,
     err: &mut O,
-) -> (K, Back<T, D>)
+) -> (K, Back<T, D, L>)
     requires hand { 0 < vec_len crew.hands }
     requires spared { state.origin.sparing ≡ None }
     requires share { HasRowIn site.now.book.now crew.share }
@@ -120,7 +123,7 @@ fn serve_index<
         (setting (rules W.version W.true_row W.told) T.told T.shows K.told) site.now.roots.now
         site.now.secs
         (scene_of W.true_row T.told W.version T.shows site.now.folders.now site.now.book.now.rows)
-        D.shows) K.shows state
+        D.shows L.shows) K.shows state
         (passing_scene state.log crew.hands.items (C.woke clock.old)
         (streams O.shows out.old err.old) crew.share) crew.posts.places.items result.1.end result.0
         (crew_of result.1.hands.items (C.woke clock.new)
@@ -158,6 +161,7 @@ fn serve_keeper<
     K: Keeper<W>,
     T: Tree<W>,
     D: Door,
+    L: Link,
     C: Clock,
     O: Sink,
     G: Gate,
@@ -165,11 +169,11 @@ fn serve_keeper<
 >(
     site: &Site<'_, G, Rt>,
     keeper: K,
-    crew: Crew<W, K, T, D>,
+    crew: Crew<W, K, T, D, L>,
     clock: &mut C,
     out: &mut O,
     err: &mut O,
-) -> (K, Back<T, D>)
+) -> (K, Back<T, D, L>)
     requires opens { CanOpen K.told (K.shows keeper) }
     requires hand { 0 < vec_len crew.hands }
     requires share { HasRowIn site.now.book.now crew.share }
@@ -181,7 +185,7 @@ fn serve_keeper<
         (setting (rules W.version W.true_row W.told) T.told T.shows K.told) site.now.roots.now
         site.now.secs
         (scene_of W.true_row T.told W.version T.shows site.now.folders.now site.now.book.now.rows)
-        D.shows) K.shows site.now.line.now keeper
+        D.shows L.shows) K.shows site.now.line.now keeper
         (passing_scene [] crew.hands.items (C.woke clock.old)
         (streams O.shows out.old err.old) crew.share) crew.posts.places.items result.1.end result.0
         (crew_of result.1.hands.items (C.woke clock.new)
@@ -207,6 +211,7 @@ pub(crate) fn serve_store<
     S: Store<W>,
     T: Tree<W>,
     D: Door,
+    L: Link,
     C: Clock,
     O: Sink,
     G: Gate,
@@ -214,11 +219,11 @@ pub(crate) fn serve_store<
 >(
     site: &Site<'_, G, Rt>,
     store: &mut S,
-    crew: Crew<W, S::K, T, D>,
+    crew: Crew<W, S::K, T, D, L>,
     clock: &mut C,
     out: &mut O,
     err: &mut O,
-) -> Back<T, D>
+) -> Back<T, D, L>
     requires hand { 0 < vec_len crew.hands }
     requires share { HasRowIn site.now.book.now crew.share }
     requires none { (crew.posts.slots.items ≡ []) × (crew.posts.back.items ≡ []) }
@@ -229,7 +234,7 @@ pub(crate) fn serve_store<
         (setting (rules W.version W.true_row W.told) T.told T.shows S.K.told) site.now.roots.now
         site.now.secs
         (scene_of W.true_row T.told W.version T.shows site.now.folders.now site.now.book.now.rows)
-        D.shows) site.now.path.now site.now.line.now (S.shows store.old) (S.shows store.new)
+        D.shows L.shows) site.now.path.now site.now.line.now (S.shows store.old) (S.shows store.new)
         (passing_scene [] crew.hands.items (C.woke clock.old)
         (streams O.shows out.old err.old) crew.share) crew.posts.places.items result.end
         (crew_of result.hands.items (C.woke clock.new)

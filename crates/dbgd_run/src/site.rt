@@ -36,25 +36,25 @@ pub(crate) struct Site<'a, G: Gate, Rt> {
 
 /// What a server works with: the hands of its passes, their share, and the places of its workers.
 #[derive(Drop)]
-pub(crate) struct Crew<W: Truth, K: Keeper<W>, T: Drop, D: Door> {
+pub(crate) struct Crew<W: Truth, K: Keeper<W>, T: Drop, D: Door, L: Drop> {
     pub(crate) hands: Vec<T>,
     pub(crate) share: Share,
-    pub(crate) posts: Posts<W, K, T, D>,
+    pub(crate) posts: Posts<W, K, T, D, L>,
 }
 
 /// What comes back of it, and how the server ended.
 #[derive(Drop)]
-pub(crate) struct Back<T: Drop, D: Door> {
+pub(crate) struct Back<T: Drop, D: Door, L: Drop> {
     pub(crate) hands: Vec<T>,
-    pub(crate) places: Vec<DoorPlace<T, D>>,
+    pub(crate) places: Vec<DoorPlace<T, D, L>>,
     pub(crate) end: ServeEnd,
 }
 
 /// What comes back where nothing was served.
-pub(crate) fn unserved<W: Truth, K: Keeper<W>, T: Drop, D: Door>(
-    crew: Crew<W, K, T, D>,
+pub(crate) fn unserved<W: Truth, K: Keeper<W>, T: Drop, D: Door, L: Drop>(
+    crew: Crew<W, K, T, D, L>,
     end: ServeEnd,
-) -> Back<T, D>
+) -> Back<T, D, L>
     ensures hands { result.hands ≡ crew.hands }
     ensures places { result.places ≡ crew.posts.places }
     ensures end { result.end ≡ end }

@@ -4,7 +4,7 @@ ghost use Rattle.std.specs.Prelude.{◌++◌, MatchResult};
 ghost use Rattle.http_wire.specs.Sink.{GetsAll, GetsPart};
 ghost use Rattle.dbgd_run.specs.Endings.{EndsSaying, EndsWhole, Gets, SaysMemory};
 ghost use Rattle.dbgd_run.specs.Endings.{error_saying, fault_saying, gone_saying, limit_saying};
-ghost use Rattle.dbgd_run.specs.Endings.{not_built_saying, out_saying, streams};
+ghost use Rattle.dbgd_run.specs.Endings.{out_saying, streams};
 ghost use Rattle.dbgd_run.specs.Section.{plain_fault_saying};
 ghost use Rattle.dbgd_run.specs.Texts.{fed_line};
 
@@ -103,14 +103,6 @@ pub fn say_no_memory<O: Sink>(out: &mut O, err: &mut O) -> Status
         (streams O.shows out.old err.old) (streams O.shows out.new err.new) result }
 {
     say_error("dbgd: out of memory", "", Status::OutOfMemory, out, err)
-}
-
-/// Says that the command, or what it asks, isn't built yet.
-pub fn say_not_built<O: Sink>(out: &mut O, err: &mut O) -> Status
-    ensures { EndsWhole not_built_saying
-        (streams O.shows out.old err.old) (streams O.shows out.new err.new) result }
-{
-    say_error("dbgd: not built yet", "", Status::NotBuilt, out, err)
 }
 
 /// Says why a file has no identity, on the standard error.

@@ -22,8 +22,6 @@ pub enum Status {
     OutOfMemory,
     /// The store holds a value that is no row.
     BadRow,
-    /// The command, or the form of the file, isn't built yet.
-    NotBuilt,
 }
 
 impl Status {
@@ -42,7 +40,6 @@ impl Status {
             Status::Limit => 5,
             Status::OutOfMemory => 6,
             Status::BadRow => 7,
-            Status::NotBuilt => 8,
         }
     }
 }

@@ -19,6 +19,7 @@ use crate::trial_sum::{Totals, totals_in};
 use crate::trial_text::totals_line;
 use elf_forge::ForgeTree;
 use elf_reading::{ElfReader, ElfTruth};
+use federation::Link;
 use http_wire::{Door, Sink};
 use index_keeper::Store;
 use index_state::{OpenFault, State, open_state, show_index};
@@ -142,6 +143,7 @@ pub fn run_trial<
     T: Tree<W>,
     S: Store<W>,
     D: Door,
+    L: Link,
     C: Clock + Drop,
     O: Sink,
     G: Gate + Drop,
@@ -152,7 +154,7 @@ pub fn run_trial<
     seed: u64,
     files: u64,
     workers: u64,
-    outside: &mut Outside<W, T, S, D, C, O, G>,
+    outside: &mut Outside<W, T, S, D, L, C, O, G>,
 ) -> Status
     requires { IsTrialFit files workers }
     ensures says { SaysTrial seed files (streams O.shows outside.old.out outside.old.err)
@@ -160,7 +162,8 @@ pub fn run_trial<
     ensures hands { outside.new.hands.items ≡ outside.old.hands.items }
     ensures count { vec_len outside.new.hands ≡ vec_len outside.old.hands }
     ensures store { S.shows outside.new.store ≡ S.shows outside.old.store }
-    ensures rest { (outside.new.doors ≡ outside.old.doors) × (outside.new.clock ≡ outside.old.clock) }
+    ensures rest { (outside.new.doors ≡ outside.old.doors) × (outside.new.links ≡ outside.old.links)
+        × (outside.new.clock ≡ outside.old.clock) }
 {
     match line_of(rt, alloc, seed, files, workers, &outside.gate) {
         Ok(line) => say(

@@ -2,7 +2,7 @@
 use Rattle.std.proofs.Common.{◌≡◌, ◌≤◌, ℕ, Bool, true, false, ◌&&◌, List, [], ◌∷◌, Option, Some, None, codes, cond, refl, subst}
 use Rattle.std.specs.List.{list_all, list_any}
 use Rattle.std.specs.Option.{option_map_or}
-use Rattle.std.specs.Prelude.{◌-◌, ◌^◌, is_some, map, nat_le, option_and_then}
+use Rattle.std.specs.Prelude.{◌-◌, ◌^◌, map, nat_le, option_and_then}
 use Rattle.std.specs.Str.{bytes_eq}
 use Rattle.std.specs.Str.Parse.{digits_value}
 use Rattle.std.proofs.lemmas.Bool.{and_parts, leb-true}
@@ -14,7 +14,7 @@ use Rattle.dbgd_words.specs.Numbers.{is_number, is_between, spelled_number}
 use Rattle.dbgd_words.specs.Options.{query_faults, query_rows, scan_faults, scan_rows, serve_faults, serve_rows}
 use Rattle.dbgd_words.specs.Words.{Line, asks_help, asks_query, asks_scan, asks_trial, spelled_id, ident_line, is_help, is_root, line_of}
 use Rattle.dbgd_words.specs.Words.{asks_serve, number_given, query_said, scan_said, section_line, serve_said, served_by, source_folders, sources_line}
-use Rattle.dbgd_words.specs.Words.{program_line, program_words, trial_words, unbuilt, unreadable}
+use Rattle.dbgd_words.specs.Words.{program_line, program_words, servers_in, trial_words, unreadable, upstream_texts}
 use Rattle.dbgd_words.specs.declared.scan.TheConstants.{MOST_WORKERS}
 use Rattle.dbgd_words.specs.declared.serve.TheConstants.{MOST_PORT, MOST_SECS}
 use Rattle.dbgd_words.specs.declared.trial.TheConstants.{MOST_FILES}
@@ -105,12 +105,13 @@ argument_fits : (least most : ℕ) (text : Option (List ℕ)) (n : ℕ) → opti
 argument_fits least most None n at = absurd (cc)
 argument_fits least most (Some text) n at = number_fits least most text n at
 
-served_fits : (store : List ℕ) (workers port secs : ℕ) (sources : List (List ℕ)) (others : Bool) (folders : List (List ℕ))
+served_fits : (store : List ℕ) (workers port secs : ℕ) (sources others folders : List (List ℕ))
     → IsServeFit workers port secs → FitsLimits (served_by store workers port secs sources others folders)
 served_fits store workers port secs sources others folders fit =
     by_test (list_all is_root folders) _ unreadable
     (by_test (list_all is_root sources) _ unreadable
-    (by_test others unbuilt (asks_serve store workers port secs (map canon sources) (map canon folders)) tt fit) tt) tt
+    (by_option (λ upstream. asks_serve store workers port secs (map canon sources) upstream (map canon folders)) (servers_in others)
+    (λ upstream _. fit)) tt) tt
 
 serve_fits : (kinds : Kinds) (rows : List Row) → FitsLimits (serve_said kinds rows)
 serve_fits [] rows =
@@ -123,7 +124,7 @@ serve_fits [] rows =
     let b = argument_fits 1 MOST_PORT (first_of (codes "port") rows) port on in
     let c = argument_fits 0 MOST_SECS (first_of (codes "rescan-time") rows) secs each in
     served_fits store workers port secs (source_folders (first_of (codes "sources") rows))
-    (is_some (first_of (codes "upstream") rows)) folders
+    (upstream_texts (first_of (codes "upstream") rows)) folders
     (record { one = a.0; most = a.1; some = b.0; highest = b.1; longest = c.1 }))))))
 serve_fits (kind ∷ more) rows = by_test (is_help kind) asks_help unreadable tt tt
 

@@ -2,7 +2,7 @@
 use Rattle.std.proofs.Common.{◌≡◌, ℕ, Bool, true, false, List, [], ◌∷◌, Option, Some, None, codes, cond, refl, sym, subst, true≢false}
 use Rattle.std.specs.List.{list_all}
 use Rattle.std.specs.Option.{option_map_or}
-use Rattle.std.specs.Prelude.{is_some, map, option_and_then}
+use Rattle.std.specs.Prelude.{map, option_and_then}
 use Rattle.std.specs.Str.{bytes_eq}
 use Rattle.std.proofs.lemmas.Slice.Eq.{bytes_eq-Decides}
 use Rattle.clap.specs.Kinds.{Kinds}
@@ -12,7 +12,7 @@ use Rattle.row_types.specs.Canon.{canon}
 use Rattle.dbgd_words.specs.Numbers.{spelled_number}
 use Rattle.dbgd_words.specs.Options.{query_faults, query_rows, scan_faults, scan_rows, serve_faults, serve_rows}
 use Rattle.dbgd_words.specs.Words.{Line, asks_help, asks_query, asks_scan, has_options, spelled_id, is_help, is_root, line_of}
-use Rattle.dbgd_words.specs.Words.{asks_serve, number_given, query_said, refused_line, scan_said, serve_said, served_by, source_folders, unbuilt, unreadable}
+use Rattle.dbgd_words.specs.Words.{asks_serve, number_given, query_said, refused_line, scan_said, serve_said, served_by, servers_in, source_folders, unreadable, upstream_texts}
 use Rattle.dbgd_words.specs.declared.scan.TheConstants.{MOST_WORKERS}
 use Rattle.dbgd_words.specs.declared.serve.TheConstants.{MOST_PORT, MOST_SECS}
 
@@ -20,9 +20,8 @@ use Rattle.dbgd_words.specs.declared.serve.TheConstants.{MOST_PORT, MOST_SECS}
 abbrev pub AsksByOptions : Line → Type 0
 AsksByOptions (asks_query store id) = Unit {0}
 AsksByOptions (asks_scan store workers roots) = Unit {0}
-AsksByOptions (asks_serve store workers port secs sources roots) = Unit {0}
+AsksByOptions (asks_serve store workers port secs sources upstream roots) = Unit {0}
 AsksByOptions asks_help = Unit {0}
-AsksByOptions unbuilt = Unit {0}
 AsksByOptions unreadable = Unit {0}
 AsksByOptions _ = ⊥
 
@@ -50,12 +49,13 @@ scan_asks [] rows =
     by_test (list_all is_root folders) (asks_scan store workers (map canon folders)) unreadable tt tt)))
 scan_asks (kind ∷ more) rows = refused_asks kind
 
-served_asks : (store : List ℕ) (workers port secs : ℕ) (sources : List (List ℕ)) (others : Bool) (folders : List (List ℕ))
+served_asks : (store : List ℕ) (workers port secs : ℕ) (sources others folders : List (List ℕ))
     → AsksByOptions (served_by store workers port secs sources others folders)
 served_asks store workers port secs sources others folders =
     by_test (list_all is_root folders) _ unreadable
     (by_test (list_all is_root sources) _ unreadable
-    (by_test others unbuilt (asks_serve store workers port secs (map canon sources) (map canon folders)) tt tt) tt) tt
+    (by_option (λ upstream. asks_serve store workers port secs (map canon sources) upstream (map canon folders)) (servers_in others)
+    (λ upstream. tt)) tt) tt
 
 serve_asks : (kinds : Kinds) (rows : List Row) → AsksByOptions (serve_said kinds rows)
 serve_asks [] rows =
@@ -65,7 +65,7 @@ serve_asks [] rows =
     by_option _ (number_given 0 MOST_SECS (codes "rescan-time") rows) (λ secs.
     by_option _ (all_of (codes "DIR") rows) (λ folders.
     served_asks store workers port secs (source_folders (first_of (codes "sources") rows))
-    (is_some (first_of (codes "upstream") rows)) folders)))))
+    (upstream_texts (first_of (codes "upstream") rows)) folders)))))
 serve_asks (kind ∷ more) rows = refused_asks kind
 
 -- they ask nothing else

@@ -1,9 +1,9 @@
 -- The line that a reader of words gives.
 use Rattle.dbgd_words.specs.Words.{Line as Asked, asks_help, asks_ident, asks_query, asks_scan}
-use Rattle.dbgd_words.specs.Words.{asks_section, asks_serve, asks_sources, asks_trial, unbuilt, unreadable}
+use Rattle.dbgd_words.specs.Words.{asks_section, asks_serve, asks_sources, asks_trial, unreadable}
 use Rattle.dbgd_words.specs.declared.line.Line.{Line}
 use Rattle.dbgd_words.specs.declared.line.Line.TheVariants.{Ident, Sources, Section, Query, Scan}
-use Rattle.dbgd_words.specs.declared.line.Line.TheVariants.{Serve, Trial, Program, Help, NotBuilt, Usage}
+use Rattle.dbgd_words.specs.declared.line.Line.TheVariants.{Serve, Trial, Program, Help, Usage}
 
 -- what the line asks
 abbrev pub asked_by : Line → Asked
@@ -12,10 +12,9 @@ asked_by (Sources path) = asks_sources path.now
 asked_by (Section path name) = asks_section path.now name.now
 asked_by (Query store id) = asks_query store.now id
 asked_by (Scan store workers roots) = asks_scan store.now workers roots.items
-asked_by (Serve store workers port secs sources roots) =
-    asks_serve store.now workers port secs sources.items roots.items
+asked_by (Serve store workers port secs sources upstream roots) =
+    asks_serve store.now workers port secs sources.items upstream.items roots.items
 asked_by (Trial seed files workers) = asks_trial seed files workers
 asked_by (Program text) = asks_help
 asked_by (Help text) = asks_help
-asked_by NotBuilt = unbuilt
 asked_by Usage = unreadable

@@ -1,6 +1,6 @@
 -- Command lines (this project's rule): what the words after the program's name ask.
-use Rattle.std.specs.Prelude.{ℕ, ◌-◌, ◌^◌, ◌&&◌, ◌||◌, ◌==◌, is_some, nat_le, Bool, false, true, List, [], ◌∷◌, if◌then◌else◌, length, map, codes}
-use Rattle.std.specs.Prelude.{Option, Some, None, option_and_then, Result, Ok, Err}
+use Rattle.std.specs.Prelude.{ℕ, ◌-◌, ◌^◌, ◌&&◌, ◌||◌, ◌==◌, nat_le, Bool, false, true, List, [], ◌∷◌, if◌then◌else◌, length, map, codes}
+use Rattle.std.specs.Prelude.{Option, Some, None, option_and_then, option_map, Result, Ok, Err}
 use Rattle.std.specs.List.{list_all, list_any, slice_split}
 use Rattle.std.specs.Option.{option_map_or}
 use Rattle.std.specs.Str.{bytes_eq}
@@ -10,6 +10,8 @@ use Rattle.clap.specs.declared.error.kind.ErrorKind.{ErrorKind}
 use Rattle.clap.specs.declared.error.kind.ErrorKind.TheVariants.{DisplayHelp, DisplayVersion}
 use Rattle.hex.specs.Hex.{decode_of}
 use Rattle.hex.specs.declared.error.FromHexError.{FromHexError}
+use Rattle.federation.specs.Address.{server_of_text}
+use Rattle.federation.specs.Server.{ServerFacts}
 use Rattle.row_types.specs.Absolute.{is_absolute}
 use Rattle.row_types.specs.Canon.{canon}
 use Rattle.row_types.specs.declared.build_id.TheConstants.{SHORTEST_ID, LONGEST_ID}
@@ -22,8 +24,8 @@ use Rattle.dbgd_words.specs.declared.trial.TheConstants.{MOST_FILES}
 
 -- what a line asks: the identity of the file at a path, its source paths, the section of a name of it, the rows that a
 -- store holds of an id, a scan of folders into a store by so many workers, a server of a store by so many workers on a port,
--- with so many seconds from one scan of its folders to the next, and further folders for sources, a scan of so many generated
--- files of a seed, the help or version of the program or of a command, what isn't built yet, or nothing that can be read
+-- with so many seconds from one scan of its folders to the next, further folders for sources, and other servers that it asks, a
+-- scan of so many generated files of a seed, the help or version of the program or of a command, or nothing that can be read
 pub data Line : Type 0 where
   asks_ident : (path : List ℕ) → Line
   asks_sources : (path : List ℕ) → Line
@@ -31,10 +33,9 @@ pub data Line : Type 0 where
   asks_query : (store : List ℕ) (id : List ℕ) → Line
   asks_scan : (store : List ℕ) (workers : ℕ) (roots : List (List ℕ)) → Line
   asks_serve : (store : List ℕ) (workers : ℕ) (port : ℕ) (secs : ℕ) (sources : List (List ℕ))
-      (roots : List (List ℕ)) → Line
+      (upstream : List ServerFacts) (roots : List (List ℕ)) → Line
   asks_trial : (seed : ℕ) (files : ℕ) (workers : ℕ) → Line
   asks_help : Line
-  unbuilt : Line
   unreadable : Line
 
 -- the words of `ident`: one file
@@ -93,20 +94,33 @@ abbrev pub source_folders : Option (List ℕ) → List (List ℕ)
 source_folders None = []
 source_folders (Some text) = slice_split (λ b. b == 58) text
 
+-- the addresses that a text names, with spaces between them; none without a text
+abbrev pub upstream_texts : Option (List ℕ) → List (List ℕ)
+upstream_texts None = []
+upstream_texts (Some text) = slice_split (λ b. b == 32) text
+
+-- where the servers of these addresses are, if each of the texts is an address
+abbrev pub servers_in : List (List ℕ) → Option (List ServerFacts)
+servers_in [] = Some []
+servers_in (text ∷ texts) = option_and_then (λ at. option_map (λ more. at ∷ more) (servers_in texts)) (server_of_text text)
+
 -- the number that an argument's text spells, where it is one of these
 abbrev pub number_given : ℕ → ℕ → List ℕ → List Row → Option ℕ
 number_given least most name rows = option_and_then (spelled_number least most) (first_of name rows)
 
--- a server that is to ask no others: each of its folders, and each one for sources, has a canonical path
-abbrev pub served_by : List ℕ → ℕ → ℕ → ℕ → List (List ℕ) → Bool → List (List ℕ) → Line
+-- a server: each of its folders, and each one for sources, has a canonical path, and each of the texts for other servers is an
+-- address
+abbrev pub served_by : List ℕ → ℕ → ℕ → ℕ → List (List ℕ) → List (List ℕ) → List (List ℕ) → Line
 served_by store workers port secs sources others folders =
     if list_all is_root folders
     then (if list_all is_root sources
-    then (if others then unbuilt else asks_serve store workers port secs (map canon sources) (map canon folders))
+    then option_map_or (λ upstream. asks_serve store workers port secs (map canon sources) upstream (map canon folders))
+    (servers_in others) unreadable
     else unreadable) else unreadable
 
 -- a store, a number of workers, a port, a number of seconds and folders, each where it can be read
-abbrev pub serve_asked : Option (List ℕ) → Option ℕ → Option ℕ → Option ℕ → List (List ℕ) → Bool → Option (List (List ℕ)) → Line
+abbrev pub serve_asked : Option (List ℕ) → Option ℕ → Option ℕ → Option ℕ → List (List ℕ) → List (List ℕ) → Option (List (List ℕ))
+    → Line
 serve_asked store workers port secs sources others folders = option_map_or (λ store.
     option_map_or (λ workers.
     option_map_or (λ port.
@@ -131,7 +145,7 @@ abbrev pub serve_said : Kinds → List Row → Line
 serve_said [] rows =
     serve_asked (first_of (codes "database") rows) (number_given 1 MOST_WORKERS (codes "concurrency") rows)
     (number_given 1 MOST_PORT (codes "port") rows) (number_given 0 MOST_SECS (codes "rescan-time") rows)
-    (source_folders (first_of (codes "sources") rows)) (is_some (first_of (codes "upstream") rows))
+    (source_folders (first_of (codes "sources") rows)) (upstream_texts (first_of (codes "upstream") rows))
     (all_of (codes "DIR") rows)
 serve_said (kind ∷ more) rows = refused_line kind
 

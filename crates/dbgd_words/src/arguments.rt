@@ -108,7 +108,7 @@ pub fn upstream<'a>(alloc: Global) -> Arg<'a>
     Arg::new(alloc, "upstream")
         .long("upstream")
         .value_name("URLS")
-        .help("Servers to ask for what isn't here; not built yet, status 8")
+        .help("Servers to ask for what isn't here, with spaces between them")
         .action(ArgAction::Set)
 }
 

@@ -13,6 +13,7 @@ mod roots;
 mod scan;
 mod serve;
 mod trial;
+mod upstream;
 
 pub use line::Line;
 pub use reading::read_line;

@@ -1,5 +1,6 @@
 //! What a command line asks.
 
+use federation::UpstreamAt;
 use row_types::{BuildId, CanonPath};
 
 /// What a command line asks.
@@ -30,14 +31,15 @@ pub enum Line<'a> {
         roots: Vec<CanonPath>,
     },
     /// A server of the index in the store of a path: 1 to 64 workers, a port from 1 on, seconds from
-    /// one scan of the folders to the next, up to 86,400, and folders that sources are served from
-    /// beside those that are scanned.
+    /// one scan of the folders to the next, up to 86,400, folders that sources are served from
+    /// beside those that are scanned, and other servers that are asked for what isn't here, in order.
     Serve {
         store: &'a str,
         workers: u64,
         port: u64,
         secs: u64,
         sources: Vec<CanonPath>,
+        upstream: Vec<UpstreamAt>,
         roots: Vec<CanonPath>,
     },
     /// A scan of generated files: the seed of their bytes, how many they are, and by how many
@@ -55,8 +57,6 @@ pub enum Line<'a> {
     Help {
         text: String,
     },
-    /// What isn't built yet: a server that asks other ones.
-    NotBuilt,
     /// No command, or one with other words than it takes.
     Usage,
 }

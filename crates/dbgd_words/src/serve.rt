@@ -1,6 +1,6 @@
 //! The words of `serve`.
 
-ghost use Rattle.std.specs.Prelude.{◌≡◌, Some, is_some, map, codes, IfOk};
+ghost use Rattle.std.specs.Prelude.{◌≡◌, Some, map, codes, IfOk};
 ghost use Rattle.std.specs.String.{string_bytes};
 ghost use Rattle.clap.specs.Kinds.{FailsBy};
 ghost use Rattle.clap.specs.Matches.{found_of};
@@ -9,7 +9,7 @@ ghost use Rattle.clap.specs.Walk.{all_of, first_of, rows_of};
 ghost use Rattle.dbgd_words.specs.Lines.{asked_by};
 ghost use Rattle.dbgd_words.specs.Options.{numbers_app, serve_app, serve_faults, serve_rows};
 ghost use Rattle.dbgd_words.specs.Words.{number_given, serve_asked, serve_line, served_by};
-ghost use Rattle.dbgd_words.specs.Words.{source_folders};
+ghost use Rattle.dbgd_words.specs.Words.{source_folders, upstream_texts};
 ghost use Rattle.dbgd_words.specs.declared.scan.TheConstants.{MOST_WORKERS};
 ghost use Rattle.dbgd_words.specs.declared.serve.TheConstants.{MOST_PORT, MOST_SECS};
 
@@ -22,6 +22,7 @@ use crate::number::number_in;
 use crate::refusal::refused;
 use crate::roots::{are_roots, paths_of};
 use crate::scan::MOST_WORKERS;
+use crate::upstream::{servers_of, spaced};
 use clap::{ArgMatches, Command, Error};
 use std::alloc::{AllocError, Global};
 
@@ -37,17 +38,18 @@ Keeps a row for each file under the folders in the store, as dbgd scan does, at 
 after each wait, and answers HTTP requests by what the scans have found: executables, debug files,
 sections and source files by build-id, and its counters at /metrics. Requests that come during the
 first scan wait for its end, later ones for none. A source file is served where a debug file names it
-and it lies under one of the folders or of those of --sources.
+and it lies under one of the folders or of those of --sources. What isn't found here is asked of the
+servers of --upstream, in order.
 
 Prints on standard output that it serves, on which port and with how many workers, and then a line of
 counts for each scan; a scan that is cut short says why on standard error, and the next one goes on.
-It runs until a signal ends it: each row is on the disk before the next one is kept, so that none is
-lost. While it runs nothing else can open the store. A connection is ended after 100 requests, and
-where nothing comes from the client for 5 seconds or it takes nothing for 30. DEBUGINFOD_URLS tells
-debuggers where the server is.
+It runs until a signal ends it: each row is on the disk before the next one is kept, so that at most
+the one in flight is lost. While it runs nothing else can open the store. A connection is ended
+after 100 requests, and where nothing comes from the client for 5 seconds or it takes nothing for
+30. DEBUGINFOD_URLS tells debuggers where the server is.
 
 Exit status: 0 done, 1 a call of the store, the port or the output failed, 2 words that can't be read,
-5 too many rows, 6 memory was refused, 7 a value that is no row, 8 --upstream, which isn't built yet.
+5 too many rows, 6 memory was refused, 7 a value that is no row.
 
 Example: dbgd serve -d index.db -p 8002 /usr/bin /usr/lib/debug
 and then: DEBUGINFOD_URLS=http://localhost:8002 gdb /usr/bin/ls";
@@ -112,13 +114,6 @@ fn number_of(matches: &ArgMatches<'_>, name: &str, least: u64, most: u64) -> Opt
     }
 }
 
-/// Whether other servers are to be asked.
-fn asks_others(matches: &ArgMatches<'_>) -> bool
-    ensures { result ≡ is_some (first_of (codes "upstream") (rows_of (found_of matches.now))) }
-{
-    text_of(matches, "upstream").is_some()
-}
-
 /// The pieces of a text between its colons, in order.
 fn pieces(alloc: Global, text: &str) -> Result<Vec<&str>, AllocError>
     ensures { IfOk result (λ all. map (λ piece. piece.now) all.items
@@ -138,18 +133,31 @@ fn sources_of<'a>(alloc: Global, matches: &ArgMatches<'a>) -> Result<Vec<&'a str
     }
 }
 
-/// What is asked of a store with these numbers, further folders for sources, and folders.
+/// The addresses of other servers, which the text of an argument names.
+fn upstream_of<'a>(alloc: Global, matches: &ArgMatches<'a>) -> Result<Vec<&'a str>, AllocError>
+    ensures { IfOk result (λ all. map (λ piece. piece.now) all.items
+        ≡ upstream_texts (first_of (codes "upstream") (rows_of (found_of matches.now)))) }
+{
+    match text_of(matches, "upstream") {
+        Some(text) => spaced(alloc, text),
+        None => Ok(Vec::new(alloc)),
+    }
+}
+
+/// What is asked of a store with these numbers, further folders for sources, other servers, and
+/// folders.
 fn with_folders<'a>(
     alloc: Global,
     store: &'a str,
     numbers: Numbers,
     sources: &[&str],
-    others: bool,
+    others: &[&str],
     folders: &[&str],
 ) -> Result<Line<'a>, AllocError>
     ensures { IfOk result (λ line. asked_by line
         ≡ served_by store.now numbers.workers numbers.port numbers.secs
-        (map (λ folder. folder.now) sources.now) others (map (λ folder. folder.now) folders.now)) }
+        (map (λ folder. folder.now) sources.now) (map (λ text. text.now) others.now)
+        (map (λ folder. folder.now) folders.now)) }
 {
     if !are_roots(folders) {
         return Ok(Line::Usage);
@@ -157,24 +165,26 @@ fn with_folders<'a>(
     if !are_roots(sources) {
         return Ok(Line::Usage);
     }
-    if others {
-        return Ok(Line::NotBuilt);
-    }
+    let servers = servers_of(alloc, others)?;
+    let sources = paths_of(alloc, sources)?;
+    let roots = paths_of(alloc, folders)?;
     let Numbers {
         workers,
         port,
         secs,
     } = numbers;
-    let sources = paths_of(alloc, sources)?;
-    let roots = paths_of(alloc, folders)?;
-    Ok(Line::Serve {
-        store,
-        workers,
-        port,
-        secs,
-        sources,
-        roots,
-    })
+    match servers {
+        Some(upstream) => Ok(Line::Serve {
+            store,
+            workers,
+            port,
+            secs,
+            sources,
+            upstream,
+            roots,
+        }),
+        None => Ok(Line::Usage),
+    }
 }
 
 /// What the texts of the arguments ask.
@@ -185,7 +195,7 @@ fn serve_of<'a>(alloc: Global, matches: &ArgMatches<'a>) -> Result<Line<'a>, All
         (number_given 1 MOST_PORT (codes "port") (rows_of (found_of matches.now)))
         (number_given 0 MOST_SECS (codes "rescan-time") (rows_of (found_of matches.now)))
         (source_folders (first_of (codes "sources") (rows_of (found_of matches.now))))
-        (is_some (first_of (codes "upstream") (rows_of (found_of matches.now))))
+        (upstream_texts (first_of (codes "upstream") (rows_of (found_of matches.now))))
         (all_of (codes "DIR") (rows_of (found_of matches.now)))) }
 {
     let Some(store) = text_of(matches, "database") else {
@@ -209,12 +219,13 @@ fn serve_of<'a>(alloc: Global, matches: &ArgMatches<'a>) -> Result<Line<'a>, All
         secs,
     };
     let sources = sources_of(alloc, matches)?;
+    let others = upstream_of(alloc, matches)?;
     with_folders(
         alloc,
         store,
         numbers,
         sources.as_slice(),
-        asks_others(matches),
+        others.as_slice(),
         folders,
     )
 }

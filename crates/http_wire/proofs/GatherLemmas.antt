@@ -1,11 +1,13 @@
 -- Bytes that come one after the other.
-use Rattle.std.proofs.Common.{◌≡◌, ℕ, ◌<◌, ◌≤◌, List, [], ◌∷◌, ◌++◌, take, length, Option, Some, None}
-use Rattle.std.proofs.Common.{refl, sym, ap, ◌∙◌, subst, arith, append_assoc, length-take}
+use Rattle.std.proofs.Common.{◌≡◌, ℕ, ◌-◌, List, [], ◌∷◌, ◌++◌, drop, length, Option, Some, None}
+use Rattle.std.proofs.Common.{refl, sym, ap, ◌∙◌, subst, arith, append_assoc, length-append}
+use Rattle.std.proofs.Math.Seq.{drop-append_seam}
 use Rattle.std.specs.Option.{option_map}
 use Rattle.std.proofs.lemmas.List.{append-nil}
 use Rattle.httparse.specs.Grammar.{HasNoRequest}
 use Rattle.http_wire.specs.Find.{EndsInRead, Gathers, ReadsForHead}
-use Rattle.http_wire.specs.Source.{ComesFrom, ReadsStream}
+use Rattle.http_wire.specs.Room.{Fills}
+use Rattle.http_wire.specs.Source.{ComesFrom}
 use Rattle.http_wire.specs.Stream.{LeavesWriting, ShownStream}
 use Rattle.http_wire.specs.declared.source.ReadAnswer.{ReadAnswer}
 use Rattle.http_wire.specs.declared.source.ReadAnswer.TheVariants.{Bytes, End, Failed}
@@ -42,39 +44,57 @@ gathers_none held shown = record {
   writing = record { written = refl; write_faults = refl };
 }
 
--- a read gave so many bytes more, where no head was held
-pub gathers_more : {held bytes more room : List ℕ} {before between after : ShownStream} (n : ℕ)
-    → Gathers held before bytes between → HasNoRequest bytes → ReadsStream room between after (Bytes n) → more ≡ bytes ++ take n room
+-- a read gave some bytes more, where no head was held
+pub gathers_fill : {held bytes more : List ℕ} {before between after : ShownStream} {n : ℕ}
+    → Gathers held before bytes between → HasNoRequest bytes → Fills bytes between more after (Bytes n)
     → Gathers held before more after
-gathers_more {held} {bytes} {more} {room} {before} {between} {after} n had none reads grown = record {
-  came = had.came ++ take n room;
-  all = grown ∙ ap (λ front. front ++ take n room) had.all ∙ append_assoc held had.came (take n room);
-  comes = comes-comes before.left between.left after.left had.came (take n room) had.comes reads.gives.2;
-  wanted = wanted_more held (had.came ++ take n room) (record {
+gathers_fill {held} {bytes} {more} {before} {between} {after} {n} had none fills = record {
+  came = had.came ++ fills.came;
+  all = fills.all ∙ ap (λ front. front ++ fills.came) had.all ∙ append_assoc held had.came fills.came;
+  comes = comes-comes before.left between.left after.left had.came fills.came had.comes fills.comes;
+  wanted = wanted_more held (had.came ++ fills.came) (record {
     front = had.came;
-    last = take n room;
+    last = fills.came;
     cut = refl;
-    some =
-        let one = reads.gives.0 in
-        let fits = reads.gives.1 in
-        omega (arith, length-take n room);
+    some = let one = fills.is.1 in let len = fills.is.0 in omega arith;
     none = subst HasNoRequest had.all none;
   });
-  later = let first = had.later in let then = reads.cause.later in omega arith;
-  writing = leaves_both had.writing reads.writing;
+  later = let first = had.later in let then = fills.cause.later in omega arith;
+  writing = leaves_both had.writing fills.writing;
 }
+
+-- the last of what is held then is what came
+pub came_last : {bytes more : List ℕ} {between after : ShownStream} {n : ℕ}
+    → (fills : Fills bytes between more after (Bytes n)) → drop (length more - n) more ≡ fills.came
+came_last {bytes} {more} {between} {after} {n} fills =
+    let len = fills.is.0 in
+    let whole = ap length fills.all ∙ length-append bytes fills.came in
+    let front : length more - n ≡ length bytes = omega arith in
+    ap (λ k. drop k more) front ∙ ap (drop (length bytes)) fills.all ∙ drop-append_seam bytes fills.came
 
 -- a read gave none
-pub gathers_same : {held bytes room : List ℕ} {before between after : ShownStream} {answer : ReadAnswer}
-    → Gathers held before bytes between → ReadsStream room between after answer → after.left ≡ between.left
-    → Gathers held before bytes after
-gathers_same {held} {bytes} {room} {before} {between} {after} had reads same = record {
+none_came : {held bytes more : List ℕ} {before between after : ShownStream} {answer : ReadAnswer}
+    → Gathers held before bytes between → (fills : Fills bytes between more after answer) → fills.came ≡ []
+    → Gathers held before more after
+none_came {held} {bytes} {more} {before} {between} {after} {answer} had fills none = record {
   came = had.came;
-  all = had.all;
-  comes = had.comes ∙ ap (option_map (λ left. had.came ++ left)) (sym same);
+  all = fills.all ∙ ap (λ came. bytes ++ came) none ∙ append-nil bytes ∙ had.all;
+  comes =
+      let here = subst (λ came. ComesFrom between.left came after.left) none fills.comes in
+      subst (λ came. ComesFrom before.left came after.left) (append-nil had.came)
+      (comes-comes before.left between.left after.left had.came [] had.comes here);
   wanted = had.wanted;
-  later = let first = had.later in let then = reads.cause.later in omega arith;
-  writing = leaves_both had.writing reads.writing;
+  later = let first = had.later in let then = fills.cause.later in omega arith;
+  writing = leaves_both had.writing fills.writing;
 }
 
-pub ruleset gathering = (gathers_none, gathers_more, gathers_same)
+-- the source ended, or the read failed
+pub gathers_end : {held bytes more : List ℕ} {before between after : ShownStream}
+    → Gathers held before bytes between → Fills bytes between more after End → Gathers held before more after
+gathers_end had fills = none_came had fills fills.is.0
+
+pub gathers_failed : {held bytes more : List ℕ} {before between after : ShownStream}
+    → Gathers held before bytes between → Fills bytes between more after Failed → Gathers held before more after
+gathers_failed had fills = none_came had fills fills.is
+
+pub ruleset gathering = (gathers_none, gathers_fill, gathers_end, gathers_failed)

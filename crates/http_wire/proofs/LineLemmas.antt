@@ -1,7 +1,7 @@
 -- Line feeds of heads, and bytes in which none came.
-use Rattle.std.proofs.Common.{◌≡◌, ℕ, ◌+◌, ◌<◌, ◌≤◌, ◌⊎◌, inl, inr, Bool, true, false, ◌||◌, List, [], ◌∷◌, ◌++◌, length, take, drop}
+use Rattle.std.proofs.Common.{◌≡◌, ℕ, ◌+◌, ◌≤◌, inl, inr, true, false, List, [], ◌∷◌, ◌++◌, length, take, drop}
 use Rattle.std.proofs.Common.{refl, sym, ap, ◌∙◌, arith, append_assoc, length-append, take-append-drop}
-use Rattle.std.specs.Prelude.{◌==◌, count_by}
+use Rattle.std.specs.Prelude.{count_by}
 use Rattle.std.specs.List.{flat_map, list_any}
 use Rattle.std.proofs.lemmas.Bool.{cases_lt}
 use Rattle.std.proofs.lemmas.List.{append-nil, drop-append-le, take-append-le}
@@ -9,13 +9,10 @@ use Rattle.std.proofs.lemmas.List.Folds.{list_any-append}
 use Rattle.std.proofs.lemmas.List.Sums.{sum_by-append}
 use Rattle.std.proofs.Math.Seq.{drop-append_seam, take-append_seam}
 use Rattle.std.proofs.Math.Bool.{or-true}
-use Rattle.httparse.specs.Grammar.{Field, HasNoRequest, IsRequestHead, LineEnd, ReadsRequest, RequestHead, crlf, lf, print_blank, print_end, print_field, print_request, print_section, print_version}
+use Rattle.httparse.specs.Grammar.{Field, HasNoRequest, LineEnd, ReadsRequest, RequestHead, crlf, lf, print_blank, print_end, print_field, print_request, print_section, print_version}
 use Rattle.httparse.specs.Spans.{RequestExceeds, RequestOverflows}
 use Rattle.http_wire.specs.Heads.{HasTooMany}
-
--- whether a byte is a line feed
-abbrev is_feed : ℕ → Bool
-is_feed b = b == 10
+use Rattle.http_wire.specs.Room.{is_feed}
 
 -- how many line feeds there are
 abbrev feeds : List ℕ → ℕ

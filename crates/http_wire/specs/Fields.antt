@@ -1,6 +1,6 @@
 -- What the fields of a request's head say (RFC 9110, sections 5.6.1, 7.6.1 and 8.6; RFC 9112, sections 6 and 9.3). How
 -- forwarders are counted is this project's rule.
-use Rattle.std.specs.Prelude.{ℕ, ◌+◌, ◌==◌, ◌&&◌, ◌||◌, Bool, true, not, List, [], ◌∷◌, codes, map, filter, length, sum_by, if◌then◌else◌}
+use Rattle.std.specs.Prelude.{ℕ, ◌==◌, ◌&&◌, ◌||◌, Bool, not, List, codes, map, filter, length, sum_by, if◌then◌else◌}
 use Rattle.std.specs.List.{list_any, list_all, slice_split}
 use Rattle.std.specs.Str.{bytes_eq, str_eq_ignore_ascii_case}
 use Rattle.httparse.specs.Grammar.{RequestHead, is_ows, trim_ows}

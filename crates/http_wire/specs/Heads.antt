@@ -1,6 +1,6 @@
 -- The heads of requests that are served (this project's limits over the grammar of RFC 9112, sections 2 to 5), and what is
 -- said of bytes that are none.
-use Rattle.std.specs.Prelude.{◌≡◌, ℕ, ◌<◌, ◌≤◌, ◌==◌, List, ◌++◌, Option, length, count_by}
+use Rattle.std.specs.Prelude.{◌≡◌, ℕ, ◌<◌, ◌≤◌, ◌==◌, List, Option, length, count_by}
 use Rattle.httparse.specs.Grammar.{HasNoRequest, IsRequestHead, NeverHasRequest, RequestHead, print_request}
 use Rattle.httparse.specs.Spans.{RequestOverflows, RequestExceeds}
 use Rattle.http_wire.specs.Fields.{closes, has_body, hops}

@@ -10,6 +10,7 @@ pub mod Reader
 pub mod ReaderFacts
 pub mod Reply
 pub mod ReplyFault
+pub mod Room
 pub mod Said
 pub mod Sink
 pub mod Source

@@ -1,6 +1,6 @@
 -- Replies (RFC 9112, sections 2.1, 4 and 5; the phrases of RFC 9110, section 15, and RFC 6585, section 5). Which lines
 -- stand, and in which order, is this project's rule.
-use Rattle.std.specs.Prelude.{◌≡◌, ℕ, ◌==◌, Bool, true, false, ◌&&◌, not, nat_le, if◌then◌else◌, IsTrue}
+use Rattle.std.specs.Prelude.{ℕ, ◌==◌, Bool, true, false, ◌&&◌, not, nat_le, if◌then◌else◌, IsTrue}
 use Rattle.std.specs.Prelude.{List, [], ◌∷◌, ◌++◌, Option, Some, None, codes, decimal}
 use Rattle.std.specs.List.{flat_map, list_any}
 use Rattle.percent_encoding.specs.Percent.{percent_encode_byte, percent_sign}

@@ -1,6 +1,6 @@
 //! The reader of heads.
 
-ghost use Rattle.std.specs.Prelude.{◌≡◌, ◌≤◌, [], false, length, take, drop, IfOk, IsTrue};
+ghost use Rattle.std.specs.Prelude.{◌≡◌, [], false, length, IfOk, IsTrue};
 ghost use Rattle.std.specs.Borrow.{sem};
 ghost use Rattle.std.specs.Io.BufRead.{Rests};
 ghost use Rattle.httparse.specs.Spans.{IsWithin};
@@ -12,8 +12,8 @@ ghost use Rattle.http_wire.specs.contracts.reader.HeadReader.{the_row};
 
 use crate::find::{Find, find_next};
 use crate::head::{Head, HeadAnswer};
-use crate::limits::HEAD_LIMIT;
 use crate::look::Found;
+use crate::room::Room;
 use crate::source::Source;
 use std::alloc::{AllocError, Global};
 use std::marker::Model;
@@ -22,27 +22,21 @@ use std::marker::Model;
 /// whether it is over: it has refused bytes, or a read has failed.
 #[derive(Drop)]
 pub struct HeadReader {
-    room: Vec<u8>,
-    start: usize,
-    end: usize,
+    room: Room,
+    /// How many bytes of the room the last head has.
+    last: usize,
     over: bool,
 }
 
 impl Model for HeadReader {
-    ghost use Rattle.std.specs.Prelude.{◌≡◌, ◌≤◌, drop, length, take};
+    ghost use Rattle.std.specs.Prelude.{◌≤◌, drop, length};
     ghost use Rattle.http_wire.specs.ReaderFacts.{ReaderFacts};
-    ghost use Rattle.http_wire.specs.declared.limits.TheConstants.{HEAD_LIMIT};
 
     ghost Value = { ReaderFacts };
 
-    ghost view = { λ r. record {
-      all = take r.end r.room.items;
-      held = drop r.start (take r.end r.room.items);
-      over = r.over;
-    } };
+    ghost view = { λ r. record { all = r.room; held = drop r.last r.room; over = r.over } };
 
-    ghost invariant = { λ r.
-        (r.start ≤ r.end) × (r.end ≤ HEAD_LIMIT) × (length r.room.items ≡ HEAD_LIMIT) };
+    ghost invariant = { λ r. r.last ≤ length r.room };
 }
 
 impl HeadReader {
@@ -53,9 +47,8 @@ impl HeadReader {
         ensures limits { ArePinnedHeadLimits }
     {
         Ok(HeadReader {
-            room: vec![in alloc; 0; HEAD_LIMIT]?,
-            start: 0,
-            end: 0,
+            room: Room::new(alloc)?,
+            last: 0,
             over: false,
         })
     }
@@ -83,11 +76,11 @@ impl HeadReader {
         if self.over {
             return Find::Closed;
         }
-        let (find, end) = find_next(&mut self.room, self.start, self.end, source);
-        self.end = end;
-        self.start = match find {
+        self.room.pass(self.last);
+        let find = find_next(&mut self.room, source);
+        self.last = match find {
             Find::Whole(found) => found.len,
-            _ => end,
+            _ => 0,
         };
         self.over = matches!(find, Find::Refused(_) | Find::Failed);
         find
@@ -99,7 +92,7 @@ impl HeadReader {
         requires target { IsWithin (length self.now.all) found.now.target }
         ensures { IsHeadAt self.now.all found.now result }
     {
-        let bytes = &self.room[..self.end];
+        let bytes = self.room.held();
         Head {
             method: found.method.of(bytes),
             target: found.target.of(bytes),

@@ -10,6 +10,7 @@ use crate::words::helps::{
 };
 use crate::words::lines::{FILES, OPTIONS, QUERIES, SCANS, SERVE_OPTIONS, SERVERS, TRIALS};
 use dbgd_words::{Line, read_line};
+use federation::UpstreamAt;
 use row_types::{BuildId, CanonPath};
 use std::alloc::Global;
 use std::process::Abort;
@@ -54,19 +55,37 @@ fn push_folders(rt: &impl Abort, text: &mut String, mark: &str, folders: &[Canon
     }
 }
 
-/// What a server says: its numbers, its folders, and those for sources behind a colon each.
+/// Adds servers to a text, each behind this mark.
+fn push_servers(
+    rt: &impl Abort,
+    alloc: Global,
+    text: &mut String,
+    mark: &str,
+    servers: &[UpstreamAt],
+) {
+    for server in servers {
+        let (host, port, base) = (server.host.as_str(), server.port, server.base.as_str());
+        let at = format!(in alloc; "{mark}{host}:{port}{base}").expect(rt, "memory");
+        text.push_str(at.as_str()).expect(rt, "memory");
+    }
+}
+
+/// What a server says: its numbers, its folders, those for sources behind a colon each, and the servers
+/// that it asks, behind a greater-than sign each.
 fn said_of_server(
     rt: &impl Abort,
     alloc: Global,
     store: &str,
     numbers: (u64, u64, u64),
     sources: &[CanonPath],
+    upstream: &[UpstreamAt],
     roots: &[CanonPath],
 ) -> String {
     let (workers, port, secs) = numbers;
     let mut text = format!(in alloc; "serve {store} {workers} {port} {secs}").expect(rt, "memory");
     push_folders(rt, &mut text, " ", roots);
     push_folders(rt, &mut text, ":", sources);
+    push_servers(rt, alloc, &mut text, ">", upstream);
     text
 }
 
@@ -88,6 +107,7 @@ fn said(rt: &impl Abort, alloc: Global, line: &Line<'_>) -> String {
             port,
             secs,
             sources,
+            upstream,
             roots,
         } => Ok(said_of_server(
             rt,
@@ -95,6 +115,7 @@ fn said(rt: &impl Abort, alloc: Global, line: &Line<'_>) -> String {
             store,
             (*workers, *port, *secs),
             sources.as_slice(),
+            upstream.as_slice(),
             roots.as_slice(),
         )),
         Line::Trial {
@@ -104,7 +125,6 @@ fn said(rt: &impl Abort, alloc: Global, line: &Line<'_>) -> String {
         } => format!(in alloc; "trial {seed} {files} {workers}"),
         Line::Program { text } => String::from_str(alloc, text),
         Line::Help { text } => String::from_str(alloc, text.as_str()),
-        Line::NotBuilt => String::from_str(alloc, "not built"),
         Line::Usage => String::from_str(alloc, "usage"),
     };
     text.expect(rt, "memory")

@@ -3,6 +3,7 @@
 use crate::rig::{after, kept_paths};
 use crate::stopping::StoppingStore;
 use dbgd_run::{MemSink, Outside, Sink, needs, run};
+use federation::MemLink;
 use http_wire::MemDoor;
 use row_types::OpenWorld;
 use sample_world::open_script;
@@ -19,6 +20,7 @@ type Memory = Outside<
     MemTree<OpenWorld>,
     StoppingStore,
     MemDoor,
+    MemLink,
     MemClock,
     MemSink,
     NoGate,
@@ -61,6 +63,7 @@ fn stopping_at(rt: &impl Abort, alloc: Global, sql: &str, stop_at: u64) -> Memor
         out: sink(alloc),
         err: sink(alloc),
         doors: Vec::new(alloc),
+        links: Vec::new(alloc),
         clock: MemClock::new(alloc, 0),
         gate: NoGate,
         of: PhantomData::<OpenWorld>,

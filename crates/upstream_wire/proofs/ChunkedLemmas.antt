@@ -8,7 +8,7 @@ use Rattle.httparse.specs.Grammar.{ChunkLine, chunk_size, crlf, print_chunk_line
 use Rattle.httparse.proofs.ChunkLemmas.{chunk_line_unique}
 use Rattle.upstream_wire.specs.Bodies.{ReadsChunked, ReadsData, ReadsLine, ReadsTrailers, TakesChunk}
 use Rattle.upstream_wire.specs.Chunked.{Chunk, HasNoChunked, HasNoSizeLine, HasNoTrailers, IsChunk, IsChunked, IsLastChunk, IsSizeLine, LacksFront, LastChunk, print_chunk, print_last_chunk}
-use Rattle.upstream_wire.specs.Room.{OfAll, Takes}
+use Rattle.upstream_wire.specs.Takes.{OfAll, Takes}
 use Rattle.http_wire.specs.Stream.{ShownStream}
 use Rattle.upstream_wire.proofs.RoomLemmas.{behind, takes_both, takes_none}
 

@@ -4,7 +4,7 @@ use Rattle.std.proofs.lemmas.List.{append-nil}
 use Rattle.httparse.specs.Grammar.{crlf, print_end}
 use Rattle.upstream_wire.specs.Bodies.{FailsBody, FailsSome, FaultSays, MovesBytes, ReadsData, SomeSays}
 use Rattle.upstream_wire.specs.Chunked.{LacksFront}
-use Rattle.upstream_wire.specs.Room.{OfAll, Takes}
+use Rattle.upstream_wire.specs.Takes.{OfAll, Takes}
 use Rattle.upstream_wire.specs.declared.fault.ResponseFault.{ResponseFault}
 use Rattle.upstream_wire.specs.declared.fault.ResponseFault.TheVariants.{NoResponse, OutOfMemory, ReadFault}
 use Rattle.upstream_wire.proofs.FailLemmas.{fails_lacking}

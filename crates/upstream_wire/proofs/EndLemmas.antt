@@ -5,7 +5,8 @@ use Rattle.http_wire.specs.Stream.{ShownStream}
 use Rattle.http_wire.specs.declared.source.ReadAnswer.{ReadAnswer}
 use Rattle.http_wire.specs.declared.source.ReadAnswer.TheVariants.{Failed}
 use Rattle.upstream_wire.specs.Bodies.{FailsBody}
-use Rattle.upstream_wire.specs.Room.{Fills, OfAll, Takes}
+use Rattle.http_wire.specs.Room.{Fills}
+use Rattle.upstream_wire.specs.Takes.{OfAll, Takes}
 use Rattle.upstream_wire.specs.declared.fault.ResponseFault.TheVariants.{NoResponse, ReadFault}
 use Rattle.upstream_wire.proofs.FailLemmas.{fails_lacking}
 use Rattle.upstream_wire.proofs.RoomLemmas.{behind, takes_fill, takes_front}

@@ -5,8 +5,10 @@ use Rattle.std.proofs.lemmas.List.{append-nil}
 use Rattle.http_wire.specs.Stream.{ShownStream}
 use Rattle.http_wire.specs.declared.source.ReadAnswer.TheVariants.{Failed}
 use Rattle.upstream_wire.specs.Bodies.{FailsBody, FaultSays}
-use Rattle.upstream_wire.specs.Room.{Fills, OfAll, Takes}
-use Rattle.upstream_wire.specs.Waits.{StopSays, StopsWaiting, is_feed}
+use Rattle.http_wire.specs.Room.{Fills}
+use Rattle.upstream_wire.specs.Takes.{OfAll, Takes}
+use Rattle.http_wire.specs.Room.{is_feed}
+use Rattle.upstream_wire.specs.Waits.{StopSays, StopsWaiting}
 use Rattle.upstream_wire.specs.declared.fault.ResponseFault.{ResponseFault}
 use Rattle.upstream_wire.specs.declared.fault.ResponseFault.TheVariants.{NoResponse, OutOfMemory, ReadFault}
 use Rattle.upstream_wire.proofs.RoomLemmas.{at_end, of_all, takes_both, takes_fill}

@@ -8,7 +8,7 @@ use Rattle.std.proofs.lemmas.List.Folds.{list_any-append}
 use Rattle.std.proofs.Math.Seq.{drop-append_seam, take-append_seam}
 use Rattle.std.proofs.Math.Bool.{or-true}
 use Rattle.httparse.specs.Grammar.{ChunkLine, Field, HasNoChunkLine, HasNoResponse, HasNoSection, LineEnd, ResponseHead, crlf, lf, print_blank, print_chunk_line, print_end, print_extension, print_field, print_reason, print_response, print_section, print_version}
-use Rattle.upstream_wire.specs.Waits.{is_feed}
+use Rattle.http_wire.specs.Room.{is_feed}
 
 -- where a form goes on behind the bytes in front, a line feed lies behind them
 feed_behind : (a b q rest : List ℕ) → a ++ b ≡ q ++ 10 ∷ rest → length a ≤ length q → list_any is_feed b ≡ true

@@ -7,7 +7,7 @@ use Rattle.httparse.specs.Spans.{ResponseOverflows}
 use Rattle.http_wire.specs.Stream.{ShownStream}
 use Rattle.upstream_wire.specs.Heads.{CoversResponse, FindsHeadOf, HasNoReadHead}
 use Rattle.upstream_wire.specs.Response.{IsReadHead}
-use Rattle.upstream_wire.specs.Room.{OfAll, Takes}
+use Rattle.upstream_wire.specs.Takes.{OfAll, Takes}
 use Rattle.upstream_wire.specs.declared.head.FoundResponse.{FoundResponse}
 use Rattle.upstream_wire.proofs.RoomLemmas.{of_all, takes_front}
 

@@ -6,7 +6,7 @@ use Rattle.httparse.specs.Grammar.{ChunkLine, HasNoChunkLine, NeverHasChunkLine,
 use Rattle.httparse.specs.Spans.{IsChunkLineAt}
 use Rattle.upstream_wire.specs.Bodies.{FindsLine}
 use Rattle.upstream_wire.specs.Chunked.{HasNoSizeLine, IsSizeLine}
-use Rattle.upstream_wire.specs.Room.{OfAll, Takes}
+use Rattle.upstream_wire.specs.Takes.{OfAll, Takes}
 use Rattle.http_wire.specs.Stream.{ShownStream}
 use Rattle.upstream_wire.proofs.RoomLemmas.{of_all, takes_front}
 

@@ -3,7 +3,8 @@ use Rattle.std.proofs.Common.{◌≡◌, ℕ, ◌≤◌, List, [], ◌++◌, Opt
 use Rattle.std.specs.Option.{option_map}
 use Rattle.std.proofs.lemmas.List.{append-nil}
 use Rattle.std.proofs.lemmas.Option.{same_Some}
-use Rattle.upstream_wire.specs.Room.{Fills, OfAll, Takes}
+use Rattle.http_wire.specs.Room.{Fills}
+use Rattle.upstream_wire.specs.Takes.{OfAll, Takes}
 use Rattle.http_wire.specs.Source.{ComesFrom, HasEnded}
 use Rattle.http_wire.specs.Stream.{LeavesWriting, ShownStream}
 use Rattle.http_wire.specs.declared.source.ReadAnswer.{ReadAnswer}

@@ -8,7 +8,7 @@ use Rattle.httparse.specs.Grammar.{Field, HasNoSection, IsField, LineEnd, crlf, 
 use Rattle.httparse.specs.Spans.{IsSectionAt, IsSectionOf, SectionOverflows}
 use Rattle.upstream_wire.specs.Bodies.{FindsTrailers}
 use Rattle.upstream_wire.specs.Chunked.{HasNoTrailers, IsTrailers}
-use Rattle.upstream_wire.specs.Room.{OfAll, Takes}
+use Rattle.upstream_wire.specs.Takes.{OfAll, Takes}
 use Rattle.http_wire.specs.Stream.{ShownStream}
 use Rattle.upstream_wire.proofs.RoomLemmas.{of_all, takes_front}
 

@@ -6,8 +6,10 @@ use Rattle.std.proofs.lemmas.List.Folds.{list_any-append}
 use Rattle.std.proofs.Math.Seq.{drop-append_seam}
 use Rattle.http_wire.specs.Stream.{ShownStream}
 use Rattle.http_wire.specs.declared.source.ReadAnswer.TheVariants.{Bytes, End, Failed}
-use Rattle.upstream_wire.specs.Room.{Fills, Takes}
-use Rattle.upstream_wire.specs.Waits.{ComesQuiet, ReadsOn, StopsWaiting, is_feed}
+use Rattle.http_wire.specs.Room.{Fills}
+use Rattle.upstream_wire.specs.Takes.{Takes}
+use Rattle.http_wire.specs.Room.{is_feed}
+use Rattle.upstream_wire.specs.Waits.{ComesQuiet, ReadsOn, StopsWaiting}
 use Rattle.upstream_wire.specs.declared.fault.ResponseFault.TheVariants.{NoResponse, ReadFault}
 use Rattle.upstream_wire.proofs.RoomLemmas.{takes_fill, takes_none}
 

@@ -6,7 +6,7 @@ use Rattle.row_types.specs.Faults.{Rose}
 use Rattle.http_wire.specs.Source.{HasEnded}
 use Rattle.http_wire.specs.Stream.{ShownStream}
 use Rattle.upstream_wire.specs.Chunked.{Chunk, IsChunk, IsChunked, IsSizeLine, IsTrailers, print_chunk}
-use Rattle.upstream_wire.specs.Room.{OfAll, Takes}
+use Rattle.upstream_wire.specs.Takes.{OfAll, Takes}
 use Rattle.upstream_wire.specs.declared.chunked.Step.{Step}
 use Rattle.upstream_wire.specs.declared.chunked.Step.TheVariants as step
 use Rattle.upstream_wire.specs.declared.fault.ResponseFault.{ResponseFault}

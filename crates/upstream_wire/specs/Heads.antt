@@ -5,7 +5,7 @@ use Rattle.httparse.specs.Spans.{ResponseOverflows}
 use Rattle.http_wire.specs.Stream.{ShownStream}
 use Rattle.http_wire.specs.declared.limits.TheConstants.{FIELD_LIMIT}
 use Rattle.upstream_wire.specs.Response.{IsReadHead, framing_by}
-use Rattle.upstream_wire.specs.Room.{Takes}
+use Rattle.upstream_wire.specs.Takes.{Takes}
 use Rattle.upstream_wire.specs.declared.head.FoundResponse.{FoundResponse}
 use Rattle.upstream_wire.specs.declared.head.ResponseLook.{ResponseLook}
 use Rattle.upstream_wire.specs.declared.head.ResponseLook.TheVariants.{Bad, Partial, Whole}

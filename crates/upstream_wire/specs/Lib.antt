@@ -9,5 +9,5 @@ pub mod MemDial
 pub mod Reads
 pub mod Request
 pub mod Response
-pub mod Room
+pub mod Takes
 pub mod Waits

@@ -3,7 +3,7 @@ use Rattle.std.specs.Prelude.{◌≡◌, ℕ, List, Some}
 use Rattle.row_types.specs.Faults.{Rose}
 use Rattle.http_wire.specs.Stream.{ShownStream}
 use Rattle.upstream_wire.specs.Response.{HasNoWholeResponse, IsFramed, IsWholeResponse}
-use Rattle.upstream_wire.specs.Room.{OfAll, Takes}
+use Rattle.upstream_wire.specs.Takes.{OfAll, Takes}
 use Rattle.upstream_wire.specs.declared.fault.ResponseFault.{ResponseFault}
 use Rattle.upstream_wire.specs.declared.fault.ResponseFault.TheVariants.{NoResponse, OutOfMemory, ReadFault}
 use Rattle.upstream_wire.specs.declared.framing.Framing.{Framing}

@@ -1,16 +1,13 @@
 -- Waiting for the end of a line (this project's rule).
-use Rattle.std.specs.Prelude.{◌≡◌, ℕ, ◌<◌, ◌==◌, Bool, false, List, [], ◌++◌, length}
+use Rattle.std.specs.Prelude.{◌≡◌, ℕ, ◌<◌, false, List, [], ◌++◌, length}
 use Rattle.std.specs.List.{list_any}
 use Rattle.row_types.specs.Faults.{Rose}
+use Rattle.http_wire.specs.Room.{is_feed}
 use Rattle.http_wire.specs.Source.{HasEnded}
 use Rattle.http_wire.specs.Stream.{ShownStream}
-use Rattle.upstream_wire.specs.Room.{Takes}
+use Rattle.upstream_wire.specs.Takes.{Takes}
 use Rattle.upstream_wire.specs.declared.fault.ResponseFault.{ResponseFault}
 use Rattle.upstream_wire.specs.declared.fault.ResponseFault.TheVariants.{NoResponse, OutOfMemory, ReadFault}
-
--- whether a byte is a line feed
-abbrev pub is_feed : ℕ → Bool
-is_feed b = b == 10
 
 -- no line feed came behind what was held
 pub record ComesQuiet (held now : List ℕ) : Type 0 where

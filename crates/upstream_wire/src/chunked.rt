@@ -8,9 +8,8 @@ use crate::data::{read_data, read_line_end};
 use crate::fault::ResponseFault;
 use crate::limits::BODY_LIMIT;
 use crate::lines::read_line;
-use crate::room::Room;
 use crate::trailers::read_trailers;
-use http_wire::Source;
+use http_wire::{Room, Source};
 use std::alloc::Global;
 
 /// What was read of a chunked body.

@@ -4,11 +4,10 @@ ghost use Rattle.std.specs.Prelude.{[], ◌<◌, IfOk, MatchResult, length};
 ghost use Rattle.httparse.specs.Grammar.{crlf, print_end};
 ghost use Rattle.upstream_wire.specs.Bodies.{FailsBody, FailsSome, MovesBytes, ReadsData};
 ghost use Rattle.upstream_wire.specs.Chunked.{LacksFront};
-ghost use Rattle.upstream_wire.specs.Room.{Takes};
+ghost use Rattle.upstream_wire.specs.Takes.{Takes};
 
 use crate::fault::ResponseFault;
-use crate::room::Room;
-use http_wire::{ReadAnswer, Source};
+use http_wire::{ReadAnswer, Room, Source};
 use std::alloc::AllocError;
 
 /// Moves at most so many held bytes behind a body, and gives how many.

@@ -7,9 +7,8 @@ ghost use Rattle.upstream_wire.specs.Heads.{FindsHeadOf, HasNoReadHead, HasReadH
 
 use crate::fault::ResponseFault;
 use crate::framing::{Framing, framing_of};
-use crate::room::Room;
 use crate::waiting::read_on;
-use http_wire::{FIELD_LIMIT, HEAD_LIMIT, Source};
+use http_wire::{FIELD_LIMIT, HEAD_LIMIT, Room, Source};
 use httparse::Status;
 use httparse::spans::{EMPTY_HEADER_SPAN, HeaderSpan, ResponseSpans, parse_response};
 

@@ -17,7 +17,6 @@ mod mem_dial;
 mod numbers;
 mod question;
 mod response;
-mod room;
 mod to_end;
 mod trailers;
 mod waiting;

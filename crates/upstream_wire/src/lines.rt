@@ -5,9 +5,8 @@ ghost use Rattle.upstream_wire.specs.Bodies.{FailsBody, FindsLine, IsLineLook, R
 ghost use Rattle.upstream_wire.specs.Chunked.{HasNoSizeLine};
 
 use crate::fault::ResponseFault;
-use crate::room::Room;
 use crate::waiting::read_on;
-use http_wire::{HEAD_LIMIT, Source};
+use http_wire::{HEAD_LIMIT, Room, Source};
 use httparse::{Status, parse_chunk_size};
 
 /// What bytes in front of which a line may stand are.

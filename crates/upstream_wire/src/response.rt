@@ -12,9 +12,8 @@ use crate::data::read_data;
 use crate::fault::ResponseFault;
 use crate::framing::Framing;
 use crate::head::read_head;
-use crate::room::Room;
 use crate::to_end::read_to_end;
-use http_wire::Source;
+use http_wire::{Room, Source};
 use std::alloc::Global;
 
 /// A response: its status, and its body without what framed it.

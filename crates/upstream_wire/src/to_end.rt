@@ -5,8 +5,7 @@ ghost use Rattle.upstream_wire.specs.Bodies.{FailsBody, ReadsToEnd};
 
 use crate::fault::ResponseFault;
 use crate::limits::BODY_LIMIT;
-use crate::room::Room;
-use http_wire::{ReadAnswer, Source};
+use http_wire::{ReadAnswer, Room, Source};
 use std::alloc::AllocError;
 
 /// Moves all held bytes behind a body.

@@ -6,9 +6,8 @@ ghost use Rattle.upstream_wire.specs.Chunked.{HasNoTrailers};
 
 use crate::fault::ResponseFault;
 use crate::limits::TRAILERS;
-use crate::room::Room;
 use crate::waiting::read_on;
-use http_wire::{HEAD_LIMIT, Source};
+use http_wire::{HEAD_LIMIT, Room, Source};
 use httparse::Status;
 use httparse::spans::{EMPTY_HEADER_SPAN, HeaderSpan, parse_headers};
 use std::alloc::Global;

@@ -7,3 +7,4 @@ pub mod helpers;
 mod metrics;
 mod replies;
 pub mod texts;
+mod upstream;

@@ -7,9 +7,11 @@ use Rattle.dbgd.proofs.run_real.Goals as goal
 pub run-requires-send-S-K : goal.run-requires-send-S-K
 run-requires-send-S-K c κs = search (file_keeper_sends, sendable)
 
--- the hands and the doors are those that the words need
+-- the hands, the doors and the rows of links are those that the words need
 pub run-requires-clause-enough : goal.run-requires-clause-enough
 run-requires-clause-enough g c = λ κs within serve.
     let hands = c.in-Ok-needs.ensures.hands in
     let made = c.in-Ok-real_hands.ensures in
-    let doors = c.in_ok-doors.ensures in (omega (arith, hands, made), doors ∙ c.in-Ok-needs.ensures.doors)
+    let rows = c.in-Ok-rows.ensures in
+    let many = c.in-Ok-needs.ensures.doors in
+    let doors = c.in_ok-doors.ensures in (omega (arith, hands, made), doors ∙ many, omega (arith, rows, many))

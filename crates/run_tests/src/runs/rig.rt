@@ -4,6 +4,7 @@
 use crate::runs::hands::{Files, hand_of};
 use dbgd_run::{Outside, needs, run, run_local};
 use elf_reading::ElfTruth;
+use federation::MemLink;
 use http_wire::{MemDoor, MemSink, Sink, Stream, WriteAnswer};
 use index_keeper::{Kept, MemStore};
 use row_types::OpenWorld;
@@ -64,7 +65,7 @@ impl Sink for Narrow {
 }
 
 /// The objects of a run.
-type Memory<W, T> = Outside<W, T, MemStore<W>, MemDoor, MemClock, Narrow, NoGate>;
+type Memory<W, T> = Outside<W, T, MemStore<W>, MemDoor, MemLink, MemClock, Narrow, NoGate>;
 
 /// The words as the program gets them.
 pub fn words_of(rt: &impl Abort, alloc: Global, words: &[&str]) -> Vec<String> {
@@ -114,6 +115,7 @@ fn outside_of<W: ElfTruth + Send + Sync, T: Tree<W>>(
         hands,
         store,
         doors: Vec::new(alloc),
+        links: Vec::new(alloc),
         clock: MemClock::new(alloc, 0),
         out: sink_of(rt, alloc, plan.bad_out, plan.width),
         err: sink_of(rt, alloc, plan.bad_err, plan.width),

@@ -29,7 +29,7 @@ const MINUTES: &[&str] = &[
     "serve", "-d", "m", "-c", "1", "-p", "8003", "-t", "60", "/srv",
 ];
 
-static CASES: [Case; 11] = [
+static CASES: [Case; 12] = [
     // With no time between passes there is one, and the clock isn't asked.
     Case {
         plan: SOUND,
@@ -137,6 +137,25 @@ static CASES: [Case; 11] = [
             1,
         ),
         waits: &[60, 60],
+    },
+    // It is refused, and there is no other pass.
+    Case {
+        plan: Plan {
+            bad_out: &[1],
+            ..SOUND
+        },
+        doors: 1,
+        rounds: 1,
+        serves: true,
+        run: Run(
+            &[
+                "serve", "-d", "m", "-c", "1", "-p", "8003", "-t", "0", "/srv",
+            ],
+            b"serving on 8003 with 1 workers\n",
+            "dbgd: fault output\n",
+            1,
+        ),
+        waits: &[],
     },
     // The line of the second pass is refused.
     Case {

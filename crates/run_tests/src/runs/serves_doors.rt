@@ -1,7 +1,7 @@
 //! Servers whose doors fail.
 
 use crate::runs::hands::Files::Two;
-use crate::runs::rig::{Run, SOUND};
+use crate::runs::rig::{Plan, Run, SOUND};
 use crate::runs::serves_replies::NO_ROUTE;
 use crate::runs::serves_rig::{Server, around, door, hands, has_ended, is_answered, serve};
 use http_wire::{Door, DoorAnswer, DoorSaid, MemConn, MemDoor};
@@ -66,10 +66,11 @@ fn failing_at(rt: &impl Abort, alloc: Global, bad_accept: u64) -> Failing {
     }
 }
 
-/// A server with two such doors, whose clock says Again once.
+/// A server with two such doors, whose clock says Again once. Its store and its sinks are those of a plan.
 fn server(
     rt: &impl Abort,
     alloc: Global,
+    plan: &Plan<'_>,
     bad_accepts: &[u64; 2],
 ) -> Server<OpenWorld, MemTree<OpenWorld>, Failing, NoGate> {
     let mut doors = Vec::new(alloc);
@@ -78,15 +79,7 @@ fn server(
             .push(failing_at(rt, alloc, *bad_accept))
             .expect(rt, "memory");
     }
-    around(
-        rt,
-        alloc,
-        hands(rt, alloc, &Two, 6),
-        doors,
-        NoGate,
-        &SOUND,
-        1,
-    )
+    around(rt, alloc, hands(rt, alloc, &Two, 6), doors, NoGate, plan, 1)
 }
 
 /// The accepts of two doors that fail, how many connections of each are answered, what err gets, and the
@@ -167,7 +160,7 @@ fn answered(rt: &impl Abort, door: &MemDoor, count: usize) {
 /// Runs the server of a case, and compares what comes of it: the other door is served and the second
 /// pass is made whatever fails.
 fn serve_case<Rt: Threads + Wait + Sync + Abort>(rt: &Rt, alloc: Global, case: &Case) {
-    let mut server = server(rt, alloc, &case.bad_accepts);
+    let mut server = server(rt, alloc, &SOUND, &case.bad_accepts);
     let run = Run(
         &["serve", "-d", "m", "-c", "2", "-t", "7", "/srv"],
         b"serving on 8002 with 2 workers\n\
@@ -186,5 +179,28 @@ fn serve_case<Rt: Threads + Wait + Sync + Abort>(rt: &Rt, alloc: Global, case: &
 fn a_door_that_fails_is_told_and_the_others_are_served(rt: HostRuntime) {
     for case in &CASES {
         serve_case(&rt, rt.alloc(), case);
+    }
+}
+
+/// What is said where the output refuses the line of the first pass, and the first door fails.
+static BOTH: Run = Run(
+    &["serve", "-d", "m", "-c", "2", "-t", "7", "/srv"],
+    b"serving on 8002 with 2 workers\n\
+        scan: 2 files, 0 added, 0 replaced, 0 dropped, 2 kept, 1 executables, 1 debuginfo\n",
+    "dbgd: fault output\ndbgd: fault door\n",
+    1,
+);
+
+#[test]
+fn an_output_and_a_door_that_fail_are_both_told(rt: HostRuntime) {
+    let alloc = rt.alloc();
+    let plan = Plan {
+        bad_out: &[1],
+        ..SOUND
+    };
+    let mut server = server(&rt, alloc, &plan, &[0, 3]);
+    serve(&rt, alloc, &mut server, &BOTH, &[7, 7]);
+    for (failing, count) in server.doors.iter().zip(&[0, 2]) {
+        answered(&rt, &failing.door, *count);
     }
 }

@@ -124,7 +124,7 @@ impl Ask {
 }
 
 /// The reply that says that nothing was found.
-pub static NOT_FOUND: &[u8] = b"HTTP/1.1 404 Not Found\r\nContent-Type: text/plain\r\n\
+pub const NOT_FOUND: &[u8] = b"HTTP/1.1 404 Not Found\r\nContent-Type: text/plain\r\n\
     Content-Length: 10\r\nConnection: keep-alive\r\n\r\nnot found\n";
 
 /// The reply to a request of no route.

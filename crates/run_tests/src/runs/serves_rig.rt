@@ -6,6 +6,7 @@ use crate::runs::rig::{Narrow, Plan, Run, compare, empty_store, sink_of, words_o
 use crate::runs::serves_replies::{Ask, replies};
 use dbgd_run::{Outside, needs, run};
 use elf_reading::ElfTruth;
+use federation::MemLink;
 use http_wire::{Door, MemConn, MemDoor};
 use index_keeper::MemStore;
 use row_types::OpenWorld;
@@ -17,7 +18,7 @@ use std::thread::Threads;
 use tree_trait::{Gate, MemClock, MemTree, Tree};
 
 /// The objects of a server.
-pub type Server<W, T, D, G> = Outside<W, T, MemStore<W>, D, MemClock, Narrow, G>;
+pub type Server<W, T, D, G> = Outside<W, T, MemStore<W>, D, MemLink, MemClock, Narrow, G>;
 
 /// A connection on which this comes.
 fn conn(rt: &impl Abort, alloc: Global, input: &str) -> MemConn {
@@ -71,8 +72,18 @@ pub fn hands(rt: &impl Abort, alloc: Global, files: &Files, count: u64) -> Vec<M
     hands
 }
 
-/// What is around a server: its store and its sinks are those of a plan, and the clock says Again so
-/// often.
+/// So many rows without a link.
+fn no_links(rt: &impl Abort, alloc: Global, count: usize) -> Vec<Vec<MemLink>> {
+    let mut rows = Vec::new(alloc);
+    for _ in 0..count {
+        let pushed = rows.push(Vec::new(alloc));
+        assert!(rt; pushed.is_ok(), "memory");
+    }
+    rows
+}
+
+/// What is around a server: its store and its sinks are those of a plan, the clock says Again so
+/// often, and no door has a link to another server.
 pub fn around<W: ElfTruth + Send + Sync, T: Tree<W>, D: Door, G: Gate + Drop>(
     rt: &impl Abort,
     alloc: Global,
@@ -82,10 +93,12 @@ pub fn around<W: ElfTruth + Send + Sync, T: Tree<W>, D: Door, G: Gate + Drop>(
     plan: &Plan<'_>,
     rounds: u64,
 ) -> Server<W, T, D, G> {
+    let links = no_links(rt, alloc, doors.len());
     Outside {
         hands,
         store: empty_store(rt, alloc, plan),
         doors,
+        links,
         clock: MemClock::new(alloc, rounds),
         out: sink_of(rt, alloc, plan.bad_out, plan.width),
         err: sink_of(rt, alloc, plan.bad_err, plan.width),
@@ -112,6 +125,10 @@ fn status_of<
     assert!(rt;
         needs.doors == server.doors.len() as u64,
         "doors of {words:?}"
+    );
+    assert!(rt;
+        needs.doors <= server.links.len() as u64,
+        "rows of links of {words:?}"
     );
     run(rt, alloc, texts.as_slice(), server)
 }

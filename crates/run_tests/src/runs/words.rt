@@ -43,9 +43,6 @@ static UNREADABLE: [&[&str]; 29] = [
     &["trial", "18446744073709551616", "40", "1"],
 ];
 
-/// A line of `serve` that asks other servers.
-static UNBUILT: [&[&str]; 1] = [&["serve", "-d", "m", "--upstream", "http://h", "/w"]];
-
 /// Runs alone, over a file without bytes.
 fn run_alone<Rt: Threads + Wait + Sync + Abort>(
     rt: &Rt,
@@ -73,7 +70,6 @@ fn each_says<Rt: Threads + Wait + Sync + Abort>(
 #[test]
 fn words_that_ask_nothing_give_their_line(rt: HostRuntime) {
     each_says(&rt, rt.alloc(), &UNREADABLE, USAGE, 2);
-    each_says(&rt, rt.alloc(), &UNBUILT, "dbgd: not built yet\n", 8);
 }
 
 /// A scan of the folder `/none` with so many slashes behind it.

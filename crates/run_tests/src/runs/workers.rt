@@ -175,7 +175,7 @@ static NEEDS: [(&[&str], u64, u64, u16); 12] = [
 ];
 
 /// What these words need.
-fn needs_of(rt: &impl Abort, alloc: Global, words: &[&str]) -> Needs {
+pub fn needs_of(rt: &impl Abort, alloc: Global, words: &[&str]) -> Needs {
     let texts = words_of(rt, alloc, words);
     needs(alloc, texts.as_slice()).expect(rt, "memory")
 }

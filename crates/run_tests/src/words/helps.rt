@@ -106,7 +106,7 @@ Options:
   -t, --rescan-time <SECS>  Seconds between scans, 0 to 86400; 0 for one scan alone [default: 300]
   -F, --scan-file-dir       Changes nothing: files in folders are what is scanned
       --sources <DIRS>      Folders that sources are served from, too, with colons between them
-      --upstream <URLS>     Servers to ask for what isn't here; not built yet, status 8
+      --upstream <URLS>     Servers to ask for what isn't here, with spaces between them
   -h, --help                Print help
   -V, --version             Print version
 
@@ -114,17 +114,18 @@ Keeps a row for each file under the folders in the store, as dbgd scan does, at 
 after each wait, and answers HTTP requests by what the scans have found: executables, debug files,
 sections and source files by build-id, and its counters at /metrics. Requests that come during the
 first scan wait for its end, later ones for none. A source file is served where a debug file names it
-and it lies under one of the folders or of those of --sources.
+and it lies under one of the folders or of those of --sources. What isn't found here is asked of the
+servers of --upstream, in order.
 
 Prints on standard output that it serves, on which port and with how many workers, and then a line of
 counts for each scan; a scan that is cut short says why on standard error, and the next one goes on.
-It runs until a signal ends it: each row is on the disk before the next one is kept, so that none is
-lost. While it runs nothing else can open the store. A connection is ended after 100 requests, and
-where nothing comes from the client for 5 seconds or it takes nothing for 30. DEBUGINFOD_URLS tells
-debuggers where the server is.
+It runs until a signal ends it: each row is on the disk before the next one is kept, so that at most
+the one in flight is lost. While it runs nothing else can open the store. A connection is ended
+after 100 requests, and where nothing comes from the client for 5 seconds or it takes nothing for
+30. DEBUGINFOD_URLS tells debuggers where the server is.
 
 Exit status: 0 done, 1 a call of the store, the port or the output failed, 2 words that can't be read,
-5 too many rows, 6 memory was refused, 7 a value that is no row, 8 --upstream, which isn't built yet.
+5 too many rows, 6 memory was refused, 7 a value that is no row.
 
 Example: dbgd serve -d index.db -p 8002 /usr/bin /usr/lib/debug
 and then: DEBUGINFOD_URLS=http://localhost:8002 gdb /usr/bin/ls

@@ -135,7 +135,7 @@ pub static OPTIONS: [Case; 15] = [
 
 /// Lines of `serve`. What follows the number of workers is the port, the seconds from one scan to the
 /// next, the folders, and those for sources.
-pub static SERVERS: [Case; 15] = [
+pub static SERVERS: [Case; 16] = [
     Case(&["serve", "-d", "m", "/w"], "serve m 4 8002 300 /w"),
     Case(
         &[
@@ -166,7 +166,17 @@ pub static SERVERS: [Case; 15] = [
     ),
     Case(
         &["serve", "-d", "m", "--upstream", "http://h", "/w"],
-        "not built",
+        "serve m 4 8002 300 /w>h:80",
+    ),
+    Case(
+        &[
+            "serve",
+            "-d",
+            "m",
+            "--upstream=http://a:8002 http://[::1]/debug/ HTTP://B//",
+            "/w",
+        ],
+        "serve m 4 8002 300 /w>a:8002>[::1]:80/debug>b:80/",
     ),
     Case(
         &["serve", "-d", "m", "--upstream", "http://h", "w"],
@@ -182,7 +192,7 @@ pub static SERVERS: [Case; 15] = [
 ];
 
 /// Lines of `serve` with an option that can't be read.
-pub static SERVE_OPTIONS: [Case; 17] = [
+pub static SERVE_OPTIONS: [Case; 25] = [
     Case(&["serve", "-d", "m", "-c", "0", "/w"], "usage"),
     Case(&["serve", "-d", "m", "-c", "65", "/w"], "usage"),
     Case(&["serve", "-d", "m", "-p", "0", "/w"], "usage"),
@@ -217,11 +227,37 @@ pub static SERVE_OPTIONS: [Case; 17] = [
             "-d",
             "m",
             "--upstream",
-            "h",
+            "http://h",
             "--upstream",
-            "h",
+            "http://h",
             "/w",
         ],
+        "usage",
+    ),
+    Case(&["serve", "-d", "m", "--upstream", "", "/w"], "usage"),
+    Case(&["serve", "-d", "m", "--upstream", "h", "/w"], "usage"),
+    Case(
+        &["serve", "-d", "m", "--upstream", "https://h", "/w"],
+        "usage",
+    ),
+    Case(
+        &["serve", "-d", "m", "--upstream", "http://u@h", "/w"],
+        "usage",
+    ),
+    Case(
+        &["serve", "-d", "m", "--upstream", "http://h/?q", "/w"],
+        "usage",
+    ),
+    Case(
+        &["serve", "-d", "m", "--upstream", "http://h ", "/w"],
+        "usage",
+    ),
+    Case(
+        &["serve", "-d", "m", "--upstream", "http://a  http://b", "/w"],
+        "usage",
+    ),
+    Case(
+        &["serve", "-d", "m", "--upstream", "http://a h", "/w"],
         "usage",
     ),
 ];

@@ -5,6 +5,7 @@ ghost use Rattle.std.specs.Prelude.{◌≡◌, ◌<◌, All, IsSome};
 use crate::counters::shares::one_drawn;
 use conn_server::{ConnEnd, ConnReport, DoorEnd, serve_connection, serve_door};
 use dbgd_metrics::{Book, Share};
+use federation::MemLink;
 use http_wire::{Door, MemConn, Sink, Source};
 use row_types::CanonPath;
 use sample_index::{Index, Lock, Shared, Token, empty_index, put_behind, reference_index};
@@ -55,20 +56,37 @@ pub fn conn(rt: &impl Abort, alloc: Global, plan: &Plan<'_>) -> MemConn {
     )
 }
 
-/// Serves a connection by an index and a hand, with sources in these folders.
+/// No links.
+fn no_links(alloc: Global) -> Vec<MemLink> {
+    Vec::new(alloc)
+}
+
+/// Serves a connection by an index, a hand and links.
 fn serve_by<N: Source + Sink, G: Gate, R: Abort + Wait + Sync>(
     rt: &R,
     alloc: Global,
     index: Index<SampleWorld>,
     hand: &mut MemTree<SampleWorld>,
-    folders: &[CanonPath],
+    links: &mut [MemLink],
     conn: &mut N,
     gate: &G,
 ) -> ConnReport {
     let Shared { lock, seat } = put_behind(alloc, index).expect(rt, "memory");
     let (book, mut share) = one_drawn(rt, alloc, 1);
+    let folders = folders(rt, alloc);
     let (_seat, report) = serve_connection(
-        rt, alloc, &lock, seat, hand, folders, &book, &mut share, conn, 7, gate,
+        rt,
+        alloc,
+        &lock,
+        seat,
+        hand,
+        links,
+        folders.as_slice(),
+        &book,
+        &mut share,
+        conn,
+        7,
+        gate,
     );
     report
 }
@@ -87,6 +105,7 @@ pub fn serve_counting<N: Source + Sink, R: Abort + Wait + Sync>(
 {
     let folders = folders(rt, alloc);
     let mut hand = hand(rt, alloc, &[]);
+    let mut links = no_links(alloc);
     let index = reference_index(alloc).expect(rt, "an index");
     let Shared { lock, seat } = put_behind(alloc, index).expect(rt, "memory");
     let (_seat, report) = serve_connection(
@@ -95,6 +114,7 @@ pub fn serve_counting<N: Source + Sink, R: Abort + Wait + Sync>(
         &lock,
         seat,
         &mut hand,
+        links.as_mut_slice(),
         folders.as_slice(),
         book,
         share,
@@ -119,8 +139,22 @@ fn hand(rt: &impl Abort, alloc: Global, bad_loads: &[u64]) -> MemTree<SampleWorl
     )
 }
 
-/// What comes of a connection by the reference tree and its index, past a gate, which gets the
+/// What comes of a connection by the reference tree, its index and links, past a gate, which gets the
 /// number 7. The loads of these numbers fail.
+pub fn report_linked<N: Source + Sink, G: Gate, R: Abort + Wait + Sync>(
+    rt: &R,
+    alloc: Global,
+    conn: &mut N,
+    links: &mut [MemLink],
+    bad_loads: &[u64],
+    gate: &G,
+) -> ConnReport {
+    let mut hand = hand(rt, alloc, bad_loads);
+    let index = reference_index(alloc).expect(rt, "an index");
+    serve_by(rt, alloc, index, &mut hand, links, conn, gate)
+}
+
+/// The same without links.
 pub fn report_of<N: Source + Sink, G: Gate, R: Abort + Wait + Sync>(
     rt: &R,
     alloc: Global,
@@ -128,10 +162,8 @@ pub fn report_of<N: Source + Sink, G: Gate, R: Abort + Wait + Sync>(
     bad_loads: &[u64],
     gate: &G,
 ) -> ConnReport {
-    let folders = folders(rt, alloc);
-    let mut hand = hand(rt, alloc, bad_loads);
-    let index = reference_index(alloc).expect(rt, "an index");
-    serve_by(rt, alloc, index, &mut hand, folders.as_slice(), conn, gate)
+    let mut links = no_links(alloc);
+    report_linked(rt, alloc, conn, links.as_mut_slice(), bad_loads, gate)
 }
 
 /// How the serving of a door ends by the reference tree and its index, past a gate. Its connections are
@@ -150,6 +182,7 @@ pub fn serve_at<D: Door, G: Gate, R: Abort + Wait + Sync>(
 {
     let folders = folders(rt, alloc);
     let mut hand = hand(rt, alloc, &[]);
+    let mut links = no_links(alloc);
     let index = reference_index(alloc).expect(rt, "an index");
     let Shared { lock, seat } = put_behind(alloc, index).expect(rt, "memory");
     let (first, step) = numbers;
@@ -159,6 +192,7 @@ pub fn serve_at<D: Door, G: Gate, R: Abort + Wait + Sync>(
         &lock,
         seat,
         &mut hand,
+        links.as_mut_slice(),
         folders.as_slice(),
         book,
         share,
@@ -185,6 +219,7 @@ pub fn serve_through<N: Source + Sink, G: Gate, R: Abort + Wait + Sync>(
 {
     let folders = folders(rt, alloc);
     let mut hand = hand(rt, alloc, &[]);
+    let mut links = no_links(alloc);
     let (book, mut share) = one_drawn(rt, alloc, 1);
     let (_seat, report) = serve_connection(
         rt,
@@ -192,6 +227,7 @@ pub fn serve_through<N: Source + Sink, G: Gate, R: Abort + Wait + Sync>(
         lock,
         seat,
         &mut hand,
+        links.as_mut_slice(),
         folders.as_slice(),
         &book,
         &mut share,
@@ -212,16 +248,27 @@ pub fn serve_on<N: Source + Sink, R: Abort + Wait + Sync>(
     (report.served.len(), report.end)
 }
 
-/// The same by an index without rows.
+/// What comes of a connection by an index without rows and links, past no gate.
+pub fn report_without_rows<N: Source + Sink, R: Abort + Wait + Sync>(
+    rt: &R,
+    alloc: Global,
+    conn: &mut N,
+    links: &mut [MemLink],
+) -> ConnReport {
+    let script = changed_file_script(alloc, 0).expect(rt, "memory");
+    let mut hand = MemTree::new(alloc, script);
+    let index = empty_index(alloc, None).expect(rt, "an index");
+    serve_by(rt, alloc, index, &mut hand, links, conn, &NoGate)
+}
+
+/// Of a connection by an index without rows and without links, how many requests were answered, and the end.
 pub fn serve_without_rows<N: Source + Sink, R: Abort + Wait + Sync>(
     rt: &R,
     alloc: Global,
     conn: &mut N,
 ) -> (usize, ConnEnd) {
-    let script = changed_file_script(alloc, 0).expect(rt, "memory");
-    let mut hand = MemTree::new(alloc, script);
-    let index = empty_index(alloc, None).expect(rt, "an index");
-    let report = serve_by(rt, alloc, index, &mut hand, &[], conn, &NoGate);
+    let mut links = no_links(alloc);
+    let report = report_without_rows(rt, alloc, conn, links.as_mut_slice());
     (report.served.len(), report.end)
 }
 

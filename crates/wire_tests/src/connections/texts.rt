@@ -18,6 +18,14 @@ pub fn file_head(alloc: Global, len: usize, path: &str) -> Result<String, AllocE
     )
 }
 
+/// The head of a reply with so many bytes of what another server gave.
+pub fn given_head(alloc: Global, len: usize) -> Result<String, AllocError> {
+    format!(in alloc;
+        "HTTP/1.1 200 OK\r\nContent-Type: application/octet-stream\r\nContent-Length: {len}\r\n\
+         X-DEBUGINFOD-SIZE: {len}\r\nConnection: keep-alive\r\n\r\n"
+    )
+}
+
 /// The reply that sends a file, whose path is written so.
 pub fn file_reply(rt: &impl Abort, alloc: Global, sample: Sample, path: &str) -> Vec<u8> {
     let body = sample.bytes(alloc).expect(rt, "memory");

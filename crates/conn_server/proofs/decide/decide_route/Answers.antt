@@ -1,5 +1,5 @@
 -- What is decided by the page of the counters, and by the local answer.
-use Rattle.std.proofs.Common.{sym, subst}
+use Rattle.std.proofs.Common.{map, sym, subst}
 use Rattle.webapi_routes.specs.declared.route.Route.{Route}
 use Rattle.webapi_routes.specs.declared.route.Route.TheVariants.{Metrics}
 use Rattle.conn_server.specs.Decided.{DecidesRoute}
@@ -17,11 +17,11 @@ pub returns-in-Metrics-clause-decided : goal.returns-in-Metrics-clause-decided
 returns-in-Metrics-clause-decided g c =
     let scene = scene_of g.W.Truth.true_row g.T.Tree.told g.W.Truth.version g.T.Tree.shows c.args.service.now.folders.now
     c.args.service.now.book.now.rows in
-    let a = stand_of c.args.seat.seen c.args.hand.now c.args.share.now in
+    let a = stand_of c.args.seat.seen c.args.hand.now c.args.share.now (map g.L.Link.shows c.args.links.now) in
     let b = with_share a c.text.new.share in
-    subst (λ (r : Route). DecidesRoute scene a r c.by_page.result b) (sym c.in-Metrics.is)
-    (subst (λ (d : Decided). DecidesRoute scene a Metrics d b) (sym c.by_page.ensures)
-    (decides_page scene a c.text.new.share c.text.result c.text.ensures.same c.text.ensures.page))
+    subst (λ (r : Route). DecidesRoute scene a r c.args.hops c.by_page.result b) (sym c.in-Metrics.is)
+    (subst (λ (d : Decided). DecidesRoute scene a Metrics c.args.hops d b) (sym c.by_page.ensures)
+    (decides_page scene a c.text.new.share c.text.result c.args.hops c.text.ensures.same c.text.ensures.page))
 
 pub returns-in_default-clause-decided : goal.returns-in_default-clause-decided
 returns-in_default-clause-decided g c = c.decide_file.ensures.decided c.args.share.now

@@ -16,7 +16,7 @@ returns-clause-serves g c =
     (setting (rules g.W.Truth.version g.W.Truth.true_row g.W.Truth.told) g.T.Tree.told g.T.Tree.shows g.K.Keeper.told)
     c.args.hall.now.roots.now c.args.hall.now.secs
     (scene_of g.W.Truth.true_row g.T.Tree.told g.W.Truth.version g.T.Tree.shows c.args.hall.now.folders.now c.args.hall.now.book.now.rows)
-    g.D.Door.shows)
+    g.D.Door.shows g.L.Link.shows)
     (passing_scene c.args.lead.seat.seen c.args.lead.hands.items (g.C.Clock.woke c.args.clock.now)
     (streams g.O.Stream.shows c.args.out.now c.args.err.now) c.args.lead.share)
     c.args.posts.places.items

@@ -1,4 +1,4 @@
--- The run of a server, of all hands and doors.
+-- The run of a server, of all hands, doors and rows of links.
 use Rattle.std.proofs.Common.{◌≡◌, ◌∙◌, All, length, take, sym, ap, subst, arith}
 use Rattle.std.specs.Prelude.{vec_len}
 use Rattle.row_types.specs.Rules.{rules}
@@ -22,20 +22,23 @@ returns-clause-runs g c = λ port sources roots line folders scanned.
     c.serve_store-left.ensures.hands ∙ ap (λ hands. vec_len hands) c.replace-first.ensures.value in
     let doors_are : vec_len c.serve_store-left.result.places ≡ vec_len c.args.outside.now.doors =
     c.serve_store-left.ensures.count ∙ c.places_of-places.ensures.count ∙ ap (λ doors. vec_len doors) c.replace-doors.ensures.value in
-    rw (c.rejoin_crew.ensures.all, c.parts_of-workers.ensures.hands, c.parts_of-workers.ensures.doors)
-    (runs_serve s (serve_words c.args.order.store.now c.args.order.workers port c.args.order.secs sources roots) g.D.Door.shows
-    c.args.outside.now.hands.items c.args.lent.workers.items c.args.lent.others.hands.items c.args.outside.now.doors.items
+    rw (c.rejoin_crew.ensures.all, c.rejoin.ensures.all, c.parts_of-workers.ensures.hands, c.parts_of-workers.ensures.doors, c.parts_of-workers.ensures.rows)
+    (runs_serve s (serve_words c.args.order.store.now c.args.order.workers port c.args.order.secs sources roots) g.D.Door.shows g.L.Link.shows
+    c.args.outside.now.hands.items c.args.loan.crew.workers.items c.args.loan.crew.others.rest.items c.args.outside.now.doors.items
+    c.args.outside.now.links.items c.args.loan.rows.rest.items
     (g.S.Store.shows c.args.outside.now.store) (g.S.Store.shows c.serve_store-left.new.store) (g.C.Clock.woke c.args.outside.now.clock)
     (streams g.O.Stream.shows c.args.outside.now.out c.args.outside.now.err)
     (streams g.O.Stream.shows c.say_serve_end-status.new.out c.say_serve_end-status.new.err)
     c.args.gear.shares.own c.args.gear.shares.book c.places_of-places.result.items after c.say_serve_end-status.result
     c.serve_store-left.result.end
     (omega (arith, c.requires.hands, c.args.outside.now.hands.ok.0))
-    (omega (arith, c.requires.workers, c.args.lent.workers.ok.0))
+    (omega (arith, c.requires.workers, c.args.loan.crew.workers.ok.0))
+    (omega (arith, c.requires.links, c.args.outside.now.links.ok.0))
     (omega (arith, c.requires.hands, hands_are, c.serve_store-left.result.hands.ok.0))
     (omega (arith, c.requires.doors, doors_are, c.serve_store-left.result.places.ok.0))
     c.places_of-places.ensures.hands (rw c.replace-doors.ensures.value at c.places_of-places.ensures.doors)
-    (subst (All (IsFreshShare c.args.gear.shares.book)) (sym c.places_of-places.ensures.shares) c.requires.shares) c.requires.own
+    (rw c.replace-rows.ensures.value at c.places_of-places.ensures.rows)
+    (subst (All (IsFreshShare c.args.gear.shares.book)) (sym c.places_of-places.ensures.shares) c.requires.shares) c.requires.own c.requires.rows
     (rw (c.as_slice-folders.ensures.value, c.as_str-text.ensures.value, c.replace-first.ensures.value, roots_are, folders, c.requires.rows, line) at c.serve_store-left.ensures.serves)
     (rw c.as_slice-ended.ensures.value at c.say_serve_end-status.ensures))
 

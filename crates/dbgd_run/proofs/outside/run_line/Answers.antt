@@ -1,6 +1,7 @@
--- What a line of words asks was done; doors and clock are as they were unless it asks for a server.
+-- What a line of words asks was done; doors, links and clock are as they were unless it asks for a server.
 use Rattle.std.proofs.Common.{ap, arith}
 use Rattle.std.specs.Prelude.{map}
+use Rattle.dbgd_run.specs.Stage.{rows_shown}
 use Rattle.dbgd_run.proofs.RunLemmas.{runs_apart}
 use Rattle.dbgd_run.proofs.outside.run_line.Goals as goal
 
@@ -11,7 +12,8 @@ returns-in-Scan-clause-law g c =
       runs = rw c.as_slice.ensures.value at c.run_scan.ensures.runs;
       rest = record {
         doors = ap (λ doors. map g.D.Door.shows doors.items) c.run_scan.ensures.rest.0;
-        woke = ap g.C.Clock.woke c.run_scan.ensures.rest.1;
+        links = ap (λ links. rows_shown g.L.Link.shows links.items) c.run_scan.ensures.rest.1;
+        woke = ap g.C.Clock.woke c.run_scan.ensures.rest.2;
       };
     })
 
@@ -25,7 +27,8 @@ returns-in-Trial-clause-law g c =
       runs = record { says = c.run_trial.ensures.says; hands = c.run_trial.ensures.hands; store = c.run_trial.ensures.store };
       rest = record {
         doors = ap (λ doors. map g.D.Door.shows doors.items) c.run_trial.ensures.rest.0;
-        woke = ap g.C.Clock.woke c.run_trial.ensures.rest.1;
+        links = ap (λ links. rows_shown g.L.Link.shows links.items) c.run_trial.ensures.rest.1;
+        woke = ap g.C.Clock.woke c.run_trial.ensures.rest.2;
       };
     })
 
@@ -35,7 +38,8 @@ returns-in_default-clause-law g c =
     runs_apart _ _ _ _ _ c.run_alone.ensures.law
     (record {
       doors = ap (λ doors. map g.D.Door.shows doors.items) c.run_alone.ensures.rest.0;
-      woke = ap g.C.Clock.woke c.run_alone.ensures.rest.1;
+      links = ap (λ links. rows_shown g.L.Link.shows links.items) c.run_alone.ensures.rest.1;
+      woke = ap g.C.Clock.woke c.run_alone.ensures.rest.2;
     })
 
 -- a server's hands are enough by what it needs
@@ -52,3 +56,8 @@ pub run_serve-requires-clause-doors : goal.run_serve-requires-clause-doors
 run_serve-requires-clause-doors g c = λ κs within.
     let one = (rw c.in-Serve.is at c.requires.fits).one in
     ((rw c.in-Serve.is at c.requires.enough) (omega (arith, one))).1
+
+pub run_serve-requires-clause-links : goal.run_serve-requires-clause-links
+run_serve-requires-clause-links g c = λ κs within.
+    let one = (rw c.in-Serve.is at c.requires.fits).one in
+    ((rw c.in-Serve.is at c.requires.enough) (omega (arith, one))).2

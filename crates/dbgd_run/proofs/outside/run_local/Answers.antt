@@ -1,6 +1,7 @@
 -- What the words that are neither a scan nor a server ask was done.
 use Rattle.std.proofs.Common.{◌<◌, length, inl, inr, refl, ap, arith}
 use Rattle.std.specs.Prelude.{map}
+use Rattle.dbgd_run.specs.Stage.{rows_shown}
 use Rattle.dbgd_run.proofs.RunLemmas.{runs_apart, runs_words}
 use Rattle.dbgd_run.proofs.outside.run_local.Goals as goal
 
@@ -12,7 +13,8 @@ returns-in-Ok-clause-run g c =
     (runs_apart _ _ _ _ _ c.run_alone.ensures.law
     (record {
       doors = ap (λ doors. map g.D.Door.shows doors.items) c.run_alone.ensures.rest.0;
-      woke = ap g.C.Clock.woke c.run_alone.ensures.rest.1;
+      links = ap (λ links. rows_shown g.L.Link.shows links.items) c.run_alone.ensures.rest.1;
+      woke = ap g.C.Clock.woke c.run_alone.ensures.rest.2;
     }))))
 
 pub returns-in-Err-clause-run : goal.returns-in-Err-clause-run
@@ -22,5 +24,5 @@ returns-in-Err-clause-run g c =
     (inr (record {
       options = c.in-Err.ensures.memory;
       alone = record { says = c.say_no_memory.ensures; hands = refl; store = refl };
-      rest = record { doors = refl; woke = refl };
+      rest = record { doors = refl; links = refl; woke = refl };
     }))

@@ -12,7 +12,7 @@ returns-in-Ok-clause-law g c = inl (rw (← c.in-Ok.ensures.line) c.run_line.ens
 
 pub returns-in-Err-clause-law : goal.returns-in-Err-clause-law
 returns-in-Err-clause-law g c =
-    inr (record { options = c.in-Err.ensures.memory; alone = record { says = c.say_no_memory.ensures; hands = refl; store = refl }; rest = record { doors = refl; woke = refl } })
+    inr (record { options = c.in-Err.ensures.memory; alone = record { says = c.say_no_memory.ensures; hands = refl; store = refl }; rest = record { doors = refl; links = refl; woke = refl } })
 
 pub run_line-requires-clause-fits : goal.run_line-requires-clause-fits
 run_line-requires-clause-fits g c = λ κs within.
@@ -20,5 +20,5 @@ run_line-requires-clause-fits g c = λ κs within.
 
 pub run_line-requires-clause-enough : goal.run_line-requires-clause-enough
 run_line-requires-clause-enough g c = λ κs within.
-    subst (λ (line : Line). HasEnough line (vec_len c.args.outside.now.hands) (vec_len c.args.outside.now.doors)) (sym c.in-Ok.ensures.line)
+    subst (λ (line : Line). HasEnough line (vec_len c.args.outside.now.hands) (vec_len c.args.outside.now.doors) (vec_len c.args.outside.now.links)) (sym c.in-Ok.ensures.line)
     c.requires.enough

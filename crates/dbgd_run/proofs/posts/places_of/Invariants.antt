@@ -1,7 +1,7 @@
--- The places so far have the hands, the shares and the doors so far.
+-- The places so far have the hands, the shares, the rows of links and the doors so far.
 use Rattle.std.proofs.Common.{◌≡◌, ◌+◌, ◌≤◌, ◌++◌, length, vec_capacity, vec_len}
 use Rattle.std.specs.Vec.Iter.{into_iter_items, into_iter_len}
-use Rattle.dbgd_run.specs.Workers.{doors_at, hands_at, shares_at}
+use Rattle.dbgd_run.specs.Workers.{doors_at, hands_at, links_at, shares_at}
 use Rattle.dbgd_run.proofs.posts.places_of.Given as goal
 
 abbrev pub invariant-loop-door : goal.invariant-loop-door
@@ -10,8 +10,10 @@ invariant-loop-door g l =
     × (into_iter_len l.door-iterator ≡ length (into_iter_items l.door-iterator))
     × (hands_at l.places.items ++ into_iter_items l.hands ≡ l.fn.hands.items)
     × (shares_at l.places.items ++ into_iter_items l.shares ≡ l.fn.shares.items)
+    × (links_at l.places.items ++ into_iter_items l.rows ≡ l.fn.rows.items)
     × (doors_at l.places.items ≡ l.yielded)
     × (length (into_iter_items l.hands) ≡ into_iter_len l.door-iterator)
     × (length (into_iter_items l.shares) ≡ into_iter_len l.door-iterator)
+    × (length (into_iter_items l.rows) ≡ into_iter_len l.door-iterator)
     × (vec_len l.places + into_iter_len l.door-iterator ≡ vec_len l.fn.doors)
     × (vec_len l.places + into_iter_len l.door-iterator ≤ vec_capacity l.places)

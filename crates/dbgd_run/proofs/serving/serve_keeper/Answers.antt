@@ -19,7 +19,7 @@ returns-then-announce-clause-serves g c =
     (setting (rules g.W.Truth.version g.W.Truth.true_row g.W.Truth.told) g.T.Tree.told g.T.Tree.shows g.K.Keeper.told)
     c.args.site.now.roots.now c.args.site.now.secs
     (scene_of g.W.Truth.true_row g.T.Tree.told g.W.Truth.version g.T.Tree.shows c.args.site.now.folders.now c.args.site.now.book.now.rows)
-    g.D.Door.shows)
+    g.D.Door.shows g.L.Link.shows)
     g.K.Keeper.shows c.args.site.now.line.now c.args.keeper c.serve_index.result.0
     (passing_scene [] c.args.crew.hands.items (g.C.Clock.woke c.args.clock.now)
     (streams g.O.Stream.shows c.args.out.now c.args.err.now) c.args.crew.share)

@@ -15,7 +15,7 @@ returns-in-Opened-clause-serves g c =
     (setting (rules g.W.Truth.version g.W.Truth.true_row g.W.Truth.told) g.T.Tree.told g.T.Tree.shows g.S.K.Keeper.told)
     c.args.site.now.roots.now c.args.site.now.secs
     (scene_of g.W.Truth.true_row g.T.Tree.told g.W.Truth.version g.T.Tree.shows c.args.site.now.folders.now c.args.site.now.book.now.rows)
-    g.D.Door.shows)
+    g.D.Door.shows g.L.Link.shows)
     g.S.K.Keeper.shows c.args.site.now.path.now c.args.site.now.line.now _ _ _ _ _ _ _ _ _ c.in-Opened.ensures c.give_back.ensures some
     c.serve_keeper-keeper.ensures.serves
 

@@ -15,6 +15,7 @@ returns c =
       ← c.texts_of.ensures,
       c.in-Some-texts_of.is,
       ← c.in_ok-sources.ensures,
-      ← c.asks_others.ensures,
+      ← c.in_ok-others.ensures,
       ← c.as_slice.ensures.value,
+      ← c.as_slice-2.ensures.value,
     ) c.with_folders.ensures

@@ -1,5 +1,5 @@
 use Rattle.std.proofs.Common.{◌-◌, [], length}
-use Rattle.upstream_wire.specs.Room.{Takes}
+use Rattle.upstream_wire.specs.Takes.{Takes}
 use Rattle.http_wire.specs.declared.limits.TheConstants.{HEAD_LIMIT}
 use Rattle.upstream_wire.proofs.data.read_line_end.Given as goal
 

@@ -1,7 +1,7 @@
 -- So far bytes came.
 use Rattle.std.proofs.Common.{◌-◌, [], length}
 use Rattle.http_wire.specs.declared.limits.TheConstants.{HEAD_LIMIT}
-use Rattle.upstream_wire.specs.Room.{Takes}
+use Rattle.upstream_wire.specs.Takes.{Takes}
 use Rattle.upstream_wire.proofs.lines.find_line.Given as goal
 
 abbrev pub invariant-loop-len : goal.invariant-loop-len

@@ -1,5 +1,5 @@
 use Rattle.std.proofs.Common.{◌+◌, ◌-◌, ◌≤◌, length}
-use Rattle.upstream_wire.specs.Room.{Takes}
+use Rattle.upstream_wire.specs.Takes.{Takes}
 use Rattle.upstream_wire.proofs.to_end.read_to_end.Given as goal
 
 abbrev pub invariant-loop-room : goal.invariant-loop-room

@@ -1,6 +1,6 @@
 use Rattle.std.proofs.Common.{◌≡◌, ◌<◌, false, length, drop, ◌-◌, sym, ap, ◌∙◌, arith}
 use Rattle.std.specs.List.{list_any}
-use Rattle.upstream_wire.specs.Waits.{is_feed}
+use Rattle.http_wire.specs.Room.{is_feed}
 use Rattle.upstream_wire.proofs.WaitLemmas.{waits_more, waits_none, waits_on, waits_to_end, waits_to_fault}
 use Rattle.upstream_wire.proofs.waiting.read_on.Goals as goal
 

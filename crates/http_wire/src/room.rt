@@ -1,14 +1,17 @@
-//! The room that a response is read into.
+//! The room that heads and bodies are read into.
 
 ghost use Rattle.std.specs.Prelude.{◌≡◌, ◌<◌, ◌≤◌, ◌-◌, [], length, take, drop, IfOk};
+ghost use Rattle.std.specs.List.{list_any};
+ghost use Rattle.http_wire.specs.Room.{Fills, is_feed};
 ghost use Rattle.http_wire.specs.Source.{ReadsStream};
-ghost use Rattle.upstream_wire.specs.Room.{Fills};
 
-use http_wire::{HEAD_LIMIT, ReadAnswer, Source};
+use crate::limits::HEAD_LIMIT;
+use crate::source::{ReadAnswer, Source};
 use std::alloc::{AllocError, Global};
 use std::marker::Model;
 
-/// Bytes that came and weren't taken yet. Contracts see it as their list.
+/// Bytes that came and weren't taken yet, as many as the longest head has at most. Contracts see it as
+/// their list.
 #[derive(Drop)]
 pub struct Room {
     bytes: Vec<u8>,
@@ -46,6 +49,15 @@ impl Room {
         ensures short { length self.now ≤ HEAD_LIMIT }
     {
         &self.bytes[self.start..self.end]
+    }
+
+    /// Whether a line feed is among so many bytes at the end.
+    pub fn ends_line(&self, came: usize) -> bool
+        requires { came ≤ length self.now }
+        ensures { result ≡ list_any is_feed (drop (length self.now - came) self.now) }
+    {
+        let held = self.held();
+        held[held.len() - came..].contains(&b'\n')
     }
 
     /// Takes so many bytes from the front.
@@ -107,6 +119,9 @@ fn move_to_front(room: &mut [u8], start: usize, end: usize) -> usize
     ensures count { result ≡ end - start }
     ensures front { take result room.new ≡ drop start (take end room.old) }
 {
+    if start == 0 {
+        return end;
+    }
     room.copy_within(start..end, 0);
     end - start
 }

@@ -2,7 +2,7 @@ use Rattle.std.proofs.Common.{◌≡◌, ◌+◌, ◌-◌, ◌≤◌, length, ta
 use lib.Seq.{paste}
 use Rattle.std.proofs.lemmas.List.Edits.{take-paste}
 use Rattle.std.proofs.lemmas.Slice.{between_is}
-use Rattle.upstream_wire.proofs.room.move_to_front.Goals as goal
+use Rattle.http_wire.proofs.room.move_to_front.Goals as goal
 
 pub returns-clause-front : goal.returns-clause-front
 returns-clause-front c =

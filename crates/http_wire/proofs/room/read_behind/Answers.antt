@@ -1,5 +1,5 @@
-use Rattle.std.proofs.Common.{◌≡◌, ℕ, ◌+◌, ◌-◌, ◌≤◌, ◌++◌, length, take, drop, sym, ap, ◌∙◌, arith, take-add, length-take-le}
-use Rattle.upstream_wire.proofs.room.read_behind.Goals as goal
+use Rattle.std.proofs.Common.{◌++◌, take, drop, sym, ap, ◌∙◌, take-add, length-take-le}
+use Rattle.http_wire.proofs.room.read_behind.Goals as goal
 
 pub returns-in-Bytes-clause-fills : goal.returns-in-Bytes-clause-fills
 returns-in-Bytes-clause-fills g c =

@@ -1,0 +1,42 @@
+-- One more server, none for a text that is no address, and in the end no text is left.
+use Rattle.std.proofs.Common.{rules, ◌≡◌, ◌<◌, ◌≤◌, ◌+◌, ◌++◌, ◌∙◌, [], ◌∷◌, drop, length, map, sym, ap, arith}
+use Rattle.std.proofs.lemmas.List.{drop_all, drop_more}
+use Rattle.dbgd_words.specs.Words.{servers_in}
+use Rattle.dbgd_words.proofs.ServerLemmas.{all_servers, nothing_in_front, not_a_server, one_more_server}
+use Rattle.dbgd_words.proofs.upstream.servers_of.Goals as goal
+
+pub loop-text-init : goal.loop-text-init
+loop-text-init c = nothing_in_front (servers_in (map (λ text. text.now) c.args.texts.now))
+
+pub loop-text-preserved : goal.loop-text-preserved
+loop-text-preserved c =
+    let at = c.loop-text in
+    let texts = c.args.texts.now in
+    let x = c.text-item.result in
+    let rest = drop (at.text-index + 1) texts in
+    let below : at.text-index < length texts = omega arith in
+    let steps : drop at.text-index texts ≡ x ∷ rest
+    = drop_more texts at.text-index x below ∙ ap (λ y. y ∷ rest) (sym c.text-item.is) in
+    let pushed : c.push.new.self.items ≡ at.servers.items ++ c.in-Some.server ∷ [] = search rules in
+    one_more_server at.servers.items c.push.new.self.items c.in-Some.server x.now (map (λ text. text.now) rest) pushed
+    (sym c.in_ok-read.ensures.address ∙ c.in-Some.is) (ap (λ left. servers_in (map (λ text. text.now) left)) steps)
+    at.invariant
+
+pub returns-in-None : goal.returns-in-None
+returns-in-None c =
+    let at = c.loop-text in
+    let texts = c.args.texts.now in
+    let x = c.text-item.result in
+    let rest = drop (at.text-index + 1) texts in
+    let below : at.text-index < length texts = omega arith in
+    let steps : drop at.text-index texts ≡ x ∷ rest
+    = drop_more texts at.text-index x below ∙ ap (λ y. y ∷ rest) (sym c.text-item.is) in
+    not_a_server at.servers.items x.now (map (λ text. text.now) rest) (sym c.in_ok-read.ensures.address ∙ c.in-None.is)
+    (ap (λ left. servers_in (map (λ text. text.now) left)) steps) at.invariant
+
+pub returns : goal.returns
+returns c =
+    let at = c.loop-text in
+    let texts = c.args.texts.now in
+    let none : length texts ≤ at.text-index = omega arith in
+    all_servers at.servers.items (ap (λ left. servers_in (map (λ text. text.now) left)) (drop_all at.text-index texts none)) at.invariant
