@@ -1,10 +1,16 @@
-//! The program: it makes the real objects, hands them to the top call, and ends with its status.
+//! The program: it makes the real objects, hands them to the top call, and ends with its status. Each
+//! step makes one kind of objects and hands them to the next, which is generic in what it is handed:
+//! the prover takes long for a call, and for an end, at which a type made of others is named.
 #![tactic(auto)]
 
-ghost use Rattle.std.specs.Prelude.{◌≡◌, vec_len, IfOk};
+ghost use Rattle.std.specs.Prelude.{◌≡◌, ◌<◌, ◌≤◌, map, vec_len, IfOk};
+ghost use Rattle.std.specs.String.{string_bytes};
+ghost use Rattle.dbgd_words.specs.Words.{line_of};
+ghost use Rattle.dbgd_run.specs.Needs.{HasEnough, doors_of, hands_of};
 
 use dbgd_edges::{RealClock, RealDoor, RealSink, StdStream, real_doors, real_hands};
 use dbgd_run::{Needs, Outside, Status, needs, run, write_all};
+use http_wire::Door;
 use row_types::OpenWorld;
 use sqlite_keeper::SqliteStore;
 use std::alloc::AllocError;
@@ -14,7 +20,7 @@ use std::marker::PhantomData;
 use std::process::ExitCode;
 use std::sync::Wait;
 use std::thread::Threads;
-use tree_trait::NoGate;
+use tree_trait::{Clock, NoGate, Tree};
 
 /// Why the program ended before it did what its words ask.
 enum Early {
@@ -22,6 +28,12 @@ enum Early {
     OutOfMemory,
     /// The port can't be listened on.
     NoDoors,
+}
+
+impl From<AllocError> for Early {
+    fn from(_: AllocError) -> Early {
+        Early::OutOfMemory
+    }
 }
 
 /// The words after the program's name. There are none where one isn't UTF-8, and none are no
@@ -45,32 +57,64 @@ fn doors(rt: &HostRuntime, needs: &Needs) -> Result<Vec<RealDoor<HostRuntime>>, 
     }
 }
 
-/// Runs the program over the real objects, and gives its exit status. Threads are made by the
-/// second handle.
-fn run_real<Rt: Threads + Wait + Sync>(rt: &HostRuntime, threads: &Rt) -> Result<u8, Early> {
-    let alloc = rt.alloc();
-    let Ok(words) = words(rt) else {
-        return Err(Early::OutOfMemory);
-    };
-    let asked = words.as_slice();
-    let Ok(needs) = needs(alloc, asked) else {
-        return Err(Early::OutOfMemory);
-    };
-    let Ok(hands) = real_hands(rt, needs.hands) else {
-        return Err(Early::OutOfMemory);
-    };
-    let doors = doors(rt, &needs)?;
+/// Runs the program over these hands, doors and clock, and over the store in a file and the standard
+/// streams, and gives its exit status.
+fn run_over<T: Tree<OpenWorld>, D: Door, C: Clock + Drop, Rt: Threads + Wait + Sync>(
+    rt: &HostRuntime,
+    threads: &Rt,
+    words: &[String],
+    hands: Vec<T>,
+    doors: Vec<D>,
+    clock: C,
+) -> u8
+    requires hand { 0 < vec_len hands }
+    requires enough { HasEnough (line_of (map string_bytes words.now)) (vec_len hands) (vec_len doors) }
+{
     let mut outside = Outside {
         hands,
         store: SqliteStore::new(*rt),
         doors,
-        clock: RealClock::new(*rt),
+        clock,
         out: RealSink::new(StdStream::Out(rt.stdout())),
         err: RealSink::new(StdStream::Err(rt.stderr())),
         gate: NoGate,
         of: PhantomData::<OpenWorld>,
     };
-    Ok(run(threads, alloc, asked, &mut outside))
+    run(threads, rt.alloc(), words, &mut outside)
+}
+
+/// Opens the doors, and runs the program over them and these hands.
+fn run_handed<T: Tree<OpenWorld>, Rt: Threads + Wait + Sync>(
+    rt: &HostRuntime,
+    threads: &Rt,
+    words: &[String],
+    needs: &Needs,
+    hands: Vec<T>,
+) -> Result<u8, Early>
+    requires hand { 0 < vec_len hands }
+    requires hands { hands_of (line_of (map string_bytes words.now)) ≤ vec_len hands }
+    requires doors { needs.now.doors ≡ doors_of (line_of (map string_bytes words.now)) }
+{
+    let doors = doors(rt, needs)?;
+    Ok(run_over(rt, threads, words, hands, doors, RealClock::new(*rt)))
+}
+
+/// Makes the hands, and runs the program by its words.
+fn run_words<Rt: Threads + Wait + Sync>(
+    rt: &HostRuntime,
+    threads: &Rt,
+    words: &[String],
+) -> Result<u8, Early> {
+    let needs = needs(rt.alloc(), words)?;
+    let hands = real_hands(rt, needs.hands)?;
+    run_handed(rt, threads, words, &needs, hands)
+}
+
+/// Runs the program over the real objects, and gives its exit status. Threads are made by the
+/// second handle.
+fn run_real<Rt: Threads + Wait + Sync>(rt: &HostRuntime, threads: &Rt) -> Result<u8, Early> {
+    let words = words(rt)?;
+    run_words(rt, threads, words.as_slice())
 }
 
 /// Says a line on the standard error. A write that fails changes nothing.
