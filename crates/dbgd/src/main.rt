@@ -1,21 +1,28 @@
-//! The program: it makes the real objects, hands them to the top call, and ends with its status.
+//! The program: it makes the real objects, hands them to the top call, and ends with its status. Each
+//! step makes one kind of objects and hands them to the next, which is generic in what it is handed:
+//! the prover takes long for a call, and for an end, at which a type made of others is named.
 #![tactic(auto)]
 
-ghost use Rattle.std.specs.Prelude.{◌≡◌, vec_len, IfOk};
+ghost use Rattle.std.specs.Prelude.{◌≡◌, ◌<◌, ◌≤◌, map, vec_len, IfOk};
+ghost use Rattle.std.specs.String.{string_bytes};
+ghost use Rattle.dbgd_words.specs.Words.{line_of};
+ghost use Rattle.dbgd_run.specs.Needs.{HasEnough, doors_of, hands_of};
 
 use dbgd_edges::{RealClock, RealDial, RealDoor, RealSink, StdStream, real_doors, real_hands};
 use dbgd_run::{Needs, Outside, Status, needs, run, write_all};
-use federation::{HttpLink, UpstreamAt};
+use federation::{HttpLink, Link, UpstreamAt};
+use http_wire::Door;
 use row_types::OpenWorld;
 use sqlite_keeper::SqliteStore;
-use std::alloc::AllocError;
-use std::env;
+use std::alloc::{AllocError, Global};
 use std::io::ErrorKind;
 use std::marker::PhantomData;
+use std::net::Net;
 use std::process::ExitCode;
 use std::sync::Wait;
 use std::thread::Threads;
-use tree_trait::NoGate;
+use std::{env, time};
+use tree_trait::{Clock, NoGate, Tree};
 
 /// Why the program ended before it did what its words ask.
 enum Early {
@@ -25,8 +32,11 @@ enum Early {
     NoDoors,
 }
 
-/// A link over the system's sockets.
-type RealLink = HttpLink<RealDial<HostRuntime>>;
+impl From<AllocError> for Early {
+    fn from(_: AllocError) -> Early {
+        Early::OutOfMemory
+    }
+}
 
 /// The words after the program's name. There are none where one isn't UTF-8, and none are no
 /// command.
@@ -49,59 +59,125 @@ fn doors(rt: &HostRuntime, needs: &Needs) -> Result<Vec<RealDoor<HostRuntime>>, 
     }
 }
 
+/// A link to a server over the sockets of a system.
+fn link<R: Net + time::Clock + Copy>(
+    alloc: Global,
+    net: R,
+    at: &UpstreamAt,
+) -> Result<HttpLink<RealDial<R>>, AllocError> {
+    let host = String::from_str(alloc, at.host.as_str())?;
+    let base = String::from_str(alloc, at.base.as_str())?;
+    Ok(HttpLink::new(RealDial::new(net), host, at.port, base))
+}
+
 /// A link to each of these servers, in order.
-fn row(rt: &HostRuntime, upstream: &[UpstreamAt]) -> Result<Vec<RealLink>, AllocError> {
-    let alloc = rt.alloc();
-    let mut links = Vec::with_capacity(alloc, upstream.len())?;
+fn row<R: Net + time::Clock + Copy>(
+    alloc: Global,
+    net: R,
+    upstream: &[UpstreamAt],
+) -> Result<Vec<HttpLink<RealDial<R>>>, AllocError> {
+    let mut links = Vec::new(alloc);
     for at in upstream {
-        let host = String::from_str(alloc, at.host.as_str())?;
-        let base = String::from_str(alloc, at.base.as_str())?;
-        links.push(HttpLink::new(RealDial::new(*rt), host, at.port, base))?;
+        links.push(link(alloc, net, at)?)?;
     }
     Ok(links)
 }
 
-/// A row of links for each door: each has a link to each server.
-fn rows(rt: &HostRuntime, needs: &Needs) -> Result<Vec<Vec<RealLink>>, AllocError>
-    ensures { IfOk result (λ rows. vec_len rows ≡ needs.now.doors) }
+/// So many rows of links, each with a link to each server.
+fn rows<R: Net + time::Clock + Copy>(
+    alloc: Global,
+    net: R,
+    upstream: &[UpstreamAt],
+    count: u64,
+) -> Result<Vec<Vec<HttpLink<RealDial<R>>>>, AllocError>
+    ensures { IfOk result (λ rows. vec_len rows ≡ count) }
 {
-    let mut rows = Vec::new(rt.alloc());
-    for _ in 0..needs.doors {
-        rows.push(row(rt, needs.upstream.as_slice())?)?;
+    let mut rows = Vec::new(alloc);
+    for _ in 0..count {
+        rows.push(row(alloc, net, upstream)?)?;
     }
     Ok(rows)
 }
 
-/// Runs the program over the real objects, and gives its exit status. Threads are made by the
-/// second handle.
-fn run_real<Rt: Threads + Wait + Sync>(rt: &HostRuntime, threads: &Rt) -> Result<u8, Early> {
-    let alloc = rt.alloc();
-    let Ok(words) = words(rt) else {
-        return Err(Early::OutOfMemory);
-    };
-    let asked = words.as_slice();
-    let Ok(needs) = needs(alloc, asked) else {
-        return Err(Early::OutOfMemory);
-    };
-    let Ok(hands) = real_hands(rt, needs.hands) else {
-        return Err(Early::OutOfMemory);
-    };
-    let Ok(links) = rows(rt, &needs) else {
-        return Err(Early::OutOfMemory);
-    };
-    let doors = doors(rt, &needs)?;
+/// Runs the program over these hands, doors, links and clock, and over the store in a file and the
+/// standard streams, and gives its exit status.
+fn run_over<T: Tree<OpenWorld>, D: Door, L: Link, C: Clock + Drop, Rt: Threads + Wait + Sync>(
+    rt: &HostRuntime,
+    threads: &Rt,
+    words: &[String],
+    hands: Vec<T>,
+    doors: Vec<D>,
+    links: Vec<Vec<L>>,
+    clock: C,
+) -> u8
+    requires hand { 0 < vec_len hands }
+    requires enough { HasEnough (line_of (map string_bytes words.now)) (vec_len hands)
+        (vec_len doors) (vec_len links) }
+{
     let mut outside = Outside {
         hands,
         store: SqliteStore::new(*rt),
         doors,
         links,
-        clock: RealClock::new(*rt),
+        clock,
         out: RealSink::new(StdStream::Out(rt.stdout())),
         err: RealSink::new(StdStream::Err(rt.stderr())),
         gate: NoGate,
         of: PhantomData::<OpenWorld>,
     };
-    Ok(run(threads, alloc, asked, &mut outside))
+    run(threads, rt.alloc(), words, &mut outside)
+}
+
+/// Opens the doors, and runs the program over them and these hands and links.
+fn run_linked<T: Tree<OpenWorld>, L: Link, Rt: Threads + Wait + Sync>(
+    rt: &HostRuntime,
+    threads: &Rt,
+    words: &[String],
+    needs: &Needs,
+    hands: Vec<T>,
+    links: Vec<Vec<L>>,
+) -> Result<u8, Early>
+    requires hand { 0 < vec_len hands }
+    requires hands { hands_of (line_of (map string_bytes words.now)) ≤ vec_len hands }
+    requires doors { needs.now.doors ≡ doors_of (line_of (map string_bytes words.now)) }
+    requires rows { doors_of (line_of (map string_bytes words.now)) ≤ vec_len links }
+{
+    let doors = doors(rt, needs)?;
+    Ok(run_over(rt, threads, words, hands, doors, links, RealClock::new(*rt)))
+}
+
+/// Makes the links, and runs the program over them and these hands.
+fn run_handed<T: Tree<OpenWorld>, Rt: Threads + Wait + Sync>(
+    rt: &HostRuntime,
+    threads: &Rt,
+    words: &[String],
+    needs: &Needs,
+    hands: Vec<T>,
+) -> Result<u8, Early>
+    requires hand { 0 < vec_len hands }
+    requires hands { hands_of (line_of (map string_bytes words.now)) ≤ vec_len hands }
+    requires doors { needs.now.doors ≡ doors_of (line_of (map string_bytes words.now)) }
+{
+    let links = rows(rt.alloc(), *rt, needs.upstream.as_slice(), needs.doors)?;
+    run_linked(rt, threads, words, needs, hands, links)
+}
+
+/// Makes the hands, and runs the program by its words.
+fn run_words<Rt: Threads + Wait + Sync>(
+    rt: &HostRuntime,
+    threads: &Rt,
+    words: &[String],
+) -> Result<u8, Early> {
+    let needs = needs(rt.alloc(), words)?;
+    let hands = real_hands(rt, needs.hands)?;
+    run_handed(rt, threads, words, &needs, hands)
+}
+
+/// Runs the program over the real objects, and gives its exit status. Threads are made by the
+/// second handle.
+fn run_real<Rt: Threads + Wait + Sync>(rt: &HostRuntime, threads: &Rt) -> Result<u8, Early> {
+    let words = words(rt)?;
+    run_words(rt, threads, words.as_slice())
 }
 
 /// Says a line on the standard error. A write that fails changes nothing.

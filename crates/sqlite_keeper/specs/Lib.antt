@@ -10,3 +10,4 @@ pub mod Schema
 pub mod Commands
 pub mod Told
 pub mod Reading
+pub mod Calls

@@ -4,6 +4,7 @@
 #![tactic(auto)]
 
 mod adopt;
+mod calls;
 mod disk_keeper;
 mod fault;
 mod file_keeper;
