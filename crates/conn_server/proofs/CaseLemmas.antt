@@ -17,8 +17,8 @@ use Rattle.federation.specs.Heard.{LinkHeard, link_failed}
 use Rattle.federation.specs.declared.asking.Upstream.{Upstream}
 use Rattle.conn_server.specs.Asked.{IsAsked, Request}
 use Rattle.dbgd_metrics.specs.Shares.{ShareFacts}
-use Rattle.conn_server.specs.Cases.{GivesUp, IsCase, IsFileRoute, IsUnfound, bad_head, too_long, too_many, method, has_body, no_route, metrics, no_page}
-use Rattle.conn_server.specs.Cases.{passed, upstream, read_fault, hop_limit, upstream_fault, not_found, no_memory}
+use Rattle.conn_server.specs.Cases.{IsCase, IsFileRoute, IsUnfound, bad_head, too_long, too_many, method, has_body, no_route, metrics, no_page}
+use Rattle.conn_server.specs.Cases.{passed, upstream, read_fault, hop_limit, upstream_fault, not_found, no_memory, links_memory}
 use Rattle.conn_server.specs.Exchange.{LoadFailed}
 use Rattle.conn_server.specs.Lawful.{AsksLinksFor, Carries, EarnsText, IsEarned, RestsOn}
 use Rattle.conn_server.specs.PassedOver.{FindsAll}
@@ -75,7 +75,8 @@ module _ {T : Type 0} (scene : Scene T) (at : Stand T) (own noted : ShareFacts) 
   can_send (hop_limit head route m heard e asks file rests) = tt
   can_send (upstream_fault head route m heard refused failed e asks file rests some) = tt
   can_send (not_found head route m heard refused e asks file rests) = tt
-  can_send (no_memory head route heard said e asks files gives_up) = tt
+  can_send (no_memory head route heard e asks files) = tt
+  can_send (links_memory head route answer heard e asks file rests unfound) = tt
   can_send (metrics head text e asks page) = tt
   can_send (no_page head e asks) = tt
 
@@ -100,7 +101,8 @@ module _ {T : Type 0} (scene : Scene T) (at : Stand T) (own noted : ShareFacts) 
   carries links parts bytes file (upstream_fault head route m heard refused failed e asks routed rests some) a shows is =
       absurd (omega (arith, is))
   carries links parts bytes file (not_found head route m heard refused e asks routed rests) a shows is = absurd (omega (arith, is))
-  carries links parts bytes file (no_memory head route heard said e asks files gives_up) a shows is = absurd (omega (arith, is))
+  carries links parts bytes file (no_memory head route heard e asks files) a shows is = absurd (omega (arith, is))
+  carries links parts bytes file (links_memory head route answer heard e asks file rests unfound) a shows is = absurd (omega (arith, is))
   carries links parts bytes file (metrics head text e asks page) a shows is = tt
   carries links parts bytes file (no_page head e asks) a shows is = tt
 
@@ -135,7 +137,8 @@ module _ {T : Type 0} (scene : Scene T) (at : Stand T) (own noted : ShareFacts) 
       none_is_there (sight_at scene at log heard) route rests.0.all rests.0.stood told still rests.0.are
   finds_all (not_found head route m heard refused e asks file rests) told still =
       none_is_there (sight_at scene at log heard) route rests.0.all rests.0.stood told still rests.0.are
-  finds_all (no_memory head route heard said e asks files gives_up) told still = tt
+  finds_all (no_memory head route heard e asks files) told still = tt
+  finds_all (links_memory head route answer heard e asks file rests unfound) told still = tt
   finds_all (metrics head text e asks page) told still = tt
   finds_all (no_page head e asks) told still = tt
 
@@ -155,7 +158,8 @@ module _ {T : Type 0} (scene : Scene T) (at : Stand T) (own noted : ShareFacts) 
   asked_of (hop_limit head route m heard e asks file rests) = rw e (asks.taken, asks.says)
   asked_of (upstream_fault head route m heard refused failed e asks file rests some) = rw e (asks.taken, asks.says)
   asked_of (not_found head route m heard refused e asks file rests) = rw e (asks.taken, asks.says)
-  asked_of (no_memory head route heard said e asks files gives_up) = rw e (asks.taken, asks.says)
+  asked_of (no_memory head route heard e asks files) = rw e (asks.taken, asks.says)
+  asked_of (links_memory head route answer heard e asks file rests unfound) = rw e (asks.taken, asks.says)
   asked_of (metrics head text e asks page) = rw e (asks.taken, asks.says)
   asked_of (no_page head e asks) = rw e (asks.taken, asks.says)
 
@@ -178,7 +182,8 @@ module _ {T : Type 0} (scene : Scene T) (at : Stand T) (own noted : ShareFacts) 
       let counted = each.tells.3 in
       omega (arith, counted, some)
   a_link_failed links parts (not_found head route m heard refused e asks file rests) a is = absurd (false≢true is)
-  a_link_failed links parts (no_memory head route heard said e asks files gives_up) a is = absurd (false≢true is)
+  a_link_failed links parts (no_memory head route heard e asks files) a is = absurd (false≢true is)
+  a_link_failed links parts (links_memory head route answer heard e asks file rests unfound) a is = absurd (false≢true is)
   a_link_failed links parts (metrics head text e asks page) a is = absurd (false≢true is)
   a_link_failed links parts (no_page head e asks) a is = absurd (false≢true is)
 
@@ -188,12 +193,6 @@ module _ {T : Type 0} (scene : Scene T) (at : Stand T) (own noted : ShareFacts) 
   earns_fault route_fault.BadId = refl
   earns_fault route_fault.BadPath = refl
   earns_fault route_fault.OutOfMemory = refl
-
-  -- memory was refused before the links were to be asked, or as they were
-  earns_memory : (route : Route) (told : Option Upstream) → GivesUp told
-      → EarnsText (asked.Route route) local.OutOfMemory told reason.OutOfMemory 0
-  earns_memory route None gives_up = (refl, refl, gives_up)
-  earns_memory route (Some said) gives_up = (refl, refl, gives_up)
 
   -- the local answer earns it, or the own share does
   pub earned_of : {what : given.Asked} {why : Reason} {n : ℕ} {carried : Body} {answers : List Heard}
@@ -239,17 +238,22 @@ module _ {T : Type 0} (scene : Scene T) (at : Stand T) (own noted : ShareFacts) 
     rests = rests_on (sight_at scene at log heard) route (local.Nothing m) file rests;
     earns = (file, refl, refl);
   }
-  earned_of (no_memory head route heard said e asks files gives_up) = record {
+  earned_of (no_memory head route heard e asks files) = record {
     answer = local.OutOfMemory;
     rests = rests_on (sight_at scene at log heard) route local.OutOfMemory files tt;
-    earns = earns_memory route said gives_up;
+    earns = (refl, refl);
+  }
+  earned_of (links_memory head route answer heard e asks file rests unfound) = record {
+    answer = answer;
+    rests = rests_on (sight_at scene at log heard) route answer file rests;
+    earns = (file, unfound, refl);
   }
   earned_of (metrics head text e asks page) = record {
     answer = local.OutOfMemory;
     rests = refl;
     earns = record { asks = refl; page = refl; at = refl; is = page };
   }
-  earned_of (no_page head e asks) = record { answer = local.OutOfMemory; rests = refl; earns = (refl, refl, tt) }
+  earned_of (no_page head e asks) = record { answer = local.OutOfMemory; rests = refl; earns = (refl, refl) }
 
 -- the same case, as seen from an earlier stand
 pub case_at : {T : Type 0} (scene : Scene T) (a b : Stand T) → StillTo (hand_at scene a) (scene.shows b.hand)
@@ -274,7 +278,8 @@ case_at scene a b keeps log (upstream_fault head route m heard refused failed e 
     upstream_fault head route m heard refused failed e asks file (local_at scene a b keeps log heard route (local.Nothing m) rests) some
 case_at scene a b keeps log (not_found head route m heard refused e asks file rests) =
     not_found head route m heard refused e asks file (local_at scene a b keeps log heard route (local.Nothing m) rests)
-case_at scene a b keeps log (no_memory head route heard said e asks files gives_up) =
-    no_memory head route heard said e asks files gives_up
+case_at scene a b keeps log (no_memory head route heard e asks files) = no_memory head route heard e asks files
+case_at scene a b keeps log (links_memory head route answer heard e asks file rests unfound) =
+    links_memory head route answer heard e asks file (local_at scene a b keeps log heard route answer rests) unfound
 case_at scene a b keeps log (metrics head text e asks page) = metrics head text e asks page
 case_at scene a b keeps log (no_page head e asks) = no_page head e asks

@@ -17,7 +17,7 @@ use Rattle.federation.specs.AskAll.{AsksLinks}
 use Rattle.federation.specs.declared.asking.Upstream.{Upstream}
 use Rattle.federation.specs.declared.asking.Upstream.TheVariants as told
 use Rattle.conn_server.specs.Asked.{AsksForRoute, HeadFacts, readable}
-use Rattle.conn_server.specs.Cases.{IsCase, IsFileRoute, metrics, no_page, passed, upstream, read_fault, hop_limit, upstream_fault, not_found, no_memory}
+use Rattle.conn_server.specs.Cases.{IsCase, IsFileRoute, metrics, no_page, passed, upstream, read_fault, hop_limit, upstream_fault, not_found, no_memory, links_memory}
 use Rattle.conn_server.specs.Decided.{Decides, DecidesRoute, FollowsLocal, by_links, by_page, for_route, plain}
 use Rattle.conn_server.specs.Exchange.{LoadFailed}
 use Rattle.conn_server.specs.Lawful.{AsksLinksFor}
@@ -111,7 +111,7 @@ module _ {T : Type 0} (scene : Scene T) (a b : Stand T) (route : Route) (other :
         (λ f. f) (hop_limit head route n given.answers refl asks (is_file route other) given.says)
     behind_nothing told.OutOfMemory links =
         asked_them (local.Nothing n) (by_links route n false told.OutOfMemory) hops head given told.OutOfMemory links same_hops refl
-        (λ f. f) (no_memory head route given.answers (Some told.OutOfMemory) refl asks (is_file route other) tt)
+        (λ f. f) (links_memory head route (local.Nothing n) given.answers refl asks (is_file route other) given.says tt)
     behind_nothing (told.Nobody refused failed) links = by_count (failed == 0) refl
       where
         by_count : (is : Bool) → (failed == 0) ≡ is
@@ -151,7 +151,7 @@ module _ {T : Type 0} (scene : Scene T) (a b : Stand T) (route : Route) (other :
         (read_fault head route n given.answers told.HopLimit refl asks (is_file route other) given.says tt)
     behind_fault told.OutOfMemory links =
         asked_them (local.Fault n) (by_links route n true told.OutOfMemory) hops head given told.OutOfMemory links same_hops refl
-        (λ f. tt) (no_memory head route given.answers (Some told.OutOfMemory) refl asks (is_file route other) tt)
+        (λ f. tt) (links_memory head route (local.Fault n) given.answers refl asks (is_file route other) given.says tt)
     behind_fault (told.Nobody refused failed) links =
         asked_them (local.Fault n) (by_links route n true (told.Nobody refused failed)) hops head given (told.Nobody refused failed)
         links same_hops refl (λ f. tt)
@@ -178,7 +178,7 @@ module _ {T : Type 0} (scene : Scene T) (a b : Stand T) (route : Route) (other :
   decides_local local.OutOfMemory hops decided given follows head asks same_hops =
       subst (λ (d : Decided). Decides scene a (readable head) d b) (sym follows.0)
       (unasked local.OutOfMemory (plain (asked.Route route) reason.OutOfMemory) head given (λ f. absurd f) follows.1
-      (no_memory head route given.answers None refl asks (is_file route other) tt))
+      (no_memory head route given.answers refl asks (is_file route other)))
 
 -- by the page of the counters, for which neither the hand nor a link is asked
 pub decides_page : {T E : Type 0} (scene : Scene T) (a : Stand T) (later : ShareFacts) (page : Result (String Global) E) (hops : ℕ)

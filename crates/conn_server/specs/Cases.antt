@@ -47,12 +47,6 @@ NothingPassed (links.Nobody others failed) = Unit {0}
 NothingPassed links.HopLimit = Unit {0}
 NothingPassed _ = ⊥
 
--- memory was refused before the links were to be asked, or as they were
-abbrev pub GivesUp : Option Upstream → Type 0
-GivesUp None = Unit {0}
-GivesUp (Some links.OutOfMemory) = Unit {0}
-GivesUp _ = ⊥
-
 -- the generation of an answer
 abbrev pub generation_of : Local → ℕ
 generation_of (local.File from path generation) = generation
@@ -115,6 +109,9 @@ pub data IsCase {T : Type 0} (scene : Scene T) (at : Stand T) (own noted : Share
       → AsksForRoute head route → IsFileRoute route → IsLocal (sight_at scene at log answers) route (local.Nothing n)
       → IsCase scene at own noted log request (asked.Route route) reason.NotFound n bodies.Line answers
       (Some (links.Nobody others 0))
-  no_memory : (head : HeadFacts) (route : Route) (answers : List Heard) (told : Option Upstream) → request ≡ readable head
-      → AsksForRoute head route → IsFileRoute route → GivesUp told
-      → IsCase scene at own noted log request (asked.Route route) reason.OutOfMemory 0 bodies.Line answers told
+  no_memory : (head : HeadFacts) (route : Route) (answers : List Heard) → request ≡ readable head
+      → AsksForRoute head route → IsFileRoute route
+      → IsCase scene at own noted log request (asked.Route route) reason.OutOfMemory 0 bodies.Line answers None
+  links_memory : (head : HeadFacts) (route : Route) (answer : Local) (answers : List Heard) → request ≡ readable head
+      → AsksForRoute head route → IsFileRoute route → IsLocal (sight_at scene at log answers) route answer → IsUnfound answer
+      → IsCase scene at own noted log request (asked.Route route) reason.OutOfMemory 0 bodies.Line answers (Some links.OutOfMemory)

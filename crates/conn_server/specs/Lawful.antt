@@ -20,7 +20,7 @@ use Rattle.federation.specs.Rows.{upstream_given}
 use Rattle.federation.specs.declared.asking.Upstream.{Upstream}
 use Rattle.federation.specs.declared.asking.Upstream.TheVariants as upstream
 use Rattle.conn_server.specs.Asked.{Request, closes_after, readable, sends_body}
-use Rattle.conn_server.specs.Cases.{GivesUp, IsCase, IsFileRoute, IsPassed, IsUnfound, NothingPassed, generation_of}
+use Rattle.conn_server.specs.Cases.{IsCase, IsFileRoute, IsPassed, IsUnfound, NothingPassed, generation_of}
 use Rattle.conn_server.specs.Links.{AsksEachLink}
 use Rattle.conn_server.specs.Replies.{Shows, bytes_of, status_of}
 use Rattle.conn_server.specs.Scene.{Scene, Stand}
@@ -98,7 +98,9 @@ EarnsText (asked.Route given) answer (Some (upstream.Nobody refused failed)) rea
     IsFileRoute given × (answer ≡ local.Nothing n) × (0 < failed)
 EarnsText (asked.Route given) answer (Some (upstream.Nobody refused failed)) reason.NotFound n =
     IsFileRoute given × (answer ≡ local.Nothing n) × (failed ≡ 0)
-EarnsText (asked.Route given) answer told reason.OutOfMemory n = (answer ≡ local.OutOfMemory) × (n ≡ 0) × GivesUp told
+EarnsText (asked.Route given) answer None reason.OutOfMemory n = (answer ≡ local.OutOfMemory) × (n ≡ 0)
+EarnsText (asked.Route given) answer (Some upstream.OutOfMemory) reason.OutOfMemory n =
+    IsFileRoute given × IsUnfound answer × (n ≡ 0)
 EarnsText _ _ _ _ _ = ⊥
 
 -- a route of files is asked

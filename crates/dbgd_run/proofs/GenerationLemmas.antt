@@ -14,7 +14,7 @@ use Rattle.federation.specs.declared.asking.Upstream.{Upstream}
 use Rattle.conn_server.specs.Asked.{Request}
 use Rattle.conn_server.specs.Cases.{IsCase, IsPassed, IsUnfound, generation_of}
 use Rattle.conn_server.specs.Cases.{bad_head, too_long, too_many, method, has_body, no_route, metrics, no_page, passed, no_memory}
-use Rattle.conn_server.specs.Cases.{upstream, read_fault, hop_limit, upstream_fault, not_found}
+use Rattle.conn_server.specs.Cases.{upstream, read_fault, hop_limit, upstream_fault, not_found, links_memory}
 use Rattle.conn_server.specs.Exchange.{Exchange, IsExchange}
 use Rattle.conn_server.specs.Replies.{reason_of_route}
 use Rattle.conn_server.specs.Scene.{Scene, Stand, sight_at}
@@ -66,7 +66,8 @@ module _ {T : Type 0} (scene : Scene T) (at : Stand T) (own noted : ShareFacts) 
   at_log (hop_limit head route m heard e asks file rests) h = rests.1
   at_log (upstream_fault head route m heard refused failed e asks file rests some) h = rests.1
   at_log (not_found head route m heard refused e asks file rests) h = rests.1
-  at_log (no_memory head route heard said e asks files gives_up) h = absurd (false≢true h)
+  at_log (no_memory head route heard e asks files) h = absurd (false≢true h)
+  at_log (links_memory head route answer heard e asks file rests unfound) h = absurd (false≢true h)
   at_log (metrics head text e asks page) h = absurd (false≢true h)
   at_log (no_page head e asks) h = absurd (false≢true h)
 

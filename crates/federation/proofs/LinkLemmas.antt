@@ -1,5 +1,5 @@
 -- The questions to one link.
-use Rattle.std.proofs.Common.{◌≡◌, ℕ, ◌+◌, ◌≤◌, Bool, true, false, not, List, [], ◌∷◌, ◌++◌, Option, Some, None, All, refl, sym, ap, ◌∙◌, subst, arith, append_assoc, if◌then◌else◌}
+use Rattle.std.proofs.Common.{◌≡◌, ℕ, ◌+◌, ◌≤◌, Bool, true, false, not, List, [], ◌∷◌, ◌++◌, length, Option, Some, None, All, refl, sym, ap, ◌∙◌, subst, arith, append_assoc, if◌then◌else◌}
 use Rattle.std.specs.Prelude.{IsSome, count_by}
 use Rattle.std.proofs.lemmas.List.{append-nil}
 use Rattle.std.proofs.lemmas.List.Elements.{All-append, All-cons, All-nil}
@@ -10,7 +10,7 @@ use Rattle.http_wire.specs.Told.{Gains}
 use Rattle.federation.specs.AskAll.{AreFirstQuestions, AreQuestions, HearsPart, IsQuestion}
 use Rattle.federation.specs.Heard.{LinkHeard, link_failed, link_refused}
 use Rattle.federation.specs.Link.{ShownLink}
-use Rattle.federation.specs.Replies.{FailsToPass, LastReplyPasses, NoReplyPasses, questions_of}
+use Rattle.federation.specs.Replies.{FailsToPass, LastReplyPasses, NoReplyPasses, OnlyLastMayPass, questions_of}
 use Rattle.federation.specs.Rows.{AsksOneLink, HearsOne, JudgesOne, link_end}
 use Rattle.federation.specs.declared.judging.QuestionEnd.{QuestionEnd}
 use Rattle.federation.specs.declared.judging.QuestionEnd.TheVariants as ended
@@ -99,6 +99,12 @@ first_wider : (hops : ℕ) (q : Route) (rest : List Route) (heard : List LinkHea
 first_wider hops q rest [] first = tt
 first_wider hops q rest (h ∷ []) first = (first.0, tt)
 first_wider hops q rest (h ∷ g ∷ heard) first = absurd first.1
+
+-- the first of one question is one at most
+one_at_most : (hops : ℕ) (q : Route) (heard : List LinkHeard) → AreFirstQuestions hops (q ∷ []) heard → length heard ≤ 1
+one_at_most hops q [] first = omega arith
+one_at_most hops q (h ∷ []) first = omega arith
+one_at_most hops q (h ∷ g ∷ heard) first = absurd first.1
 
 -- all that was heard so far: none of it passes
 record Front (before : ShownLink) (route : Route) (hops : ℕ) (qs : List Route) (mid : ShownLink) (refused failed : ℕ) : Type 0 where
@@ -212,8 +218,17 @@ one_stops before mid after route q hops qs rest refused failed had judges all =
       heard = had.front ++ more;
       part = parts_both before mid after had.front more had.part
           (record { hears = judges.judged.hears; later = late; rose = omega arith });
-      tells = subst (λ ps. AreFirstQuestions hops ps (had.front ++ more)) (sym all)
-          (first_more hops qs (q ∷ rest) had.front more had.are (first_wider hops q rest more judges.judged.are_first));
+      tells = (
+        subst (λ ps. AreFirstQuestions hops ps (had.front ++ more)) (sym all)
+            (first_more hops qs (q ∷ rest) had.front more had.are (first_wider hops q rest more judges.judged.are_first)),
+        record {
+          before = had.front;
+          rest = more;
+          all = refl;
+          few = one_at_most hops q more judges.judged.are_first;
+          none = had.none;
+        },
+      );
     }
 
 -- the last question of a link

@@ -9,7 +9,7 @@ use Rattle.answer_check.specs.declared.passed.Passed.TheVariants as passed
 use Rattle.federation.specs.AskAll.{AllAsked, AreQuestions, AsksInOrder, AsksLinks, HearsEach, all_heard}
 use Rattle.federation.specs.Heard.{LinkHeard, link_failed, link_refused}
 use Rattle.federation.specs.Link.{ShownLink}
-use Rattle.federation.specs.Replies.{FailsToPass, LastReplyPasses, NoReplyPasses, questions_of}
+use Rattle.federation.specs.Replies.{FailsToPass, LastReplyPasses, NoReplyPasses, OnlyLastMayPass, questions_of}
 use Rattle.federation.specs.Rows.{AsksOneLink, AsksRow, upstream_given, upstream_of_row, with_more}
 use Rattle.federation.specs.declared.asking.Upstream.{Upstream}
 use Rattle.federation.specs.declared.asking.Upstream.TheVariants.{HopLimit, Nobody}
@@ -64,8 +64,9 @@ pub row_memory : (o n : ShownLink) (links : List ShownLink) (route : Route) (hop
 row_memory o n links route hops asks = record {
   parts = asks.heard ∷ quiet links;
   hears = (asks.part, quiet_hears links);
-  order = inr (asks.tells, quiet_parts links);
-  tells = tt;
+  order = inr (asks.tells.0, quiet_parts links);
+  tells = subst (OnlyLastMayPass route)
+      (sym (append-nil asks.heard) ∙ ap (λ t. asks.heard ++ t) (sym (quiet_all links))) asks.tells.1;
 }
 
 -- the first link had nothing
@@ -111,7 +112,13 @@ row_more o n olds news route hops refused failed row.OutOfMemory asks rest = rec
   parts = asks.heard ∷ rest.parts;
   hears = (asks.part, rest.hears);
   order = inl (asks.tells.0, rest.order);
-  tells = tt;
+  tells = record {
+    before = asks.heard ++ rest.tells.before;
+    rest = rest.tells.rest;
+    all = ap (λ t. asks.heard ++ t) rest.tells.all ∙ sym (append_assoc asks.heard rest.tells.before rest.tells.rest);
+    few = rest.tells.few;
+    none = All-append (FailsToPass route) asks.heard rest.tells.before asks.tells.1 rest.tells.none;
+  };
 }
 
 -- at the hop limit no link is asked
@@ -177,6 +184,6 @@ all_asked olds news route hops row.OutOfMemory asks may = record {
   parts = asks.parts;
   hears = asks.hears;
   order = asks.order;
-  tells = tt;
+  tells = asks.tells;
   limit = λ _. may;
 }

@@ -5,7 +5,7 @@ use Rattle.http_wire.specs.Told.{Gains}
 use Rattle.answer_check.specs.declared.passed.Passed.TheVariants as passed
 use Rattle.federation.specs.Heard.{LinkHeard, link_failed, link_refused}
 use Rattle.federation.specs.Link.{ShownLink}
-use Rattle.federation.specs.Replies.{LastReplyPasses, NoReplyPasses, questions_of}
+use Rattle.federation.specs.Replies.{LastReplyPasses, NoReplyPasses, OnlyLastMayPass, questions_of}
 use Rattle.federation.specs.declared.asking.TheConstants.{HOP_LIMIT}
 use Rattle.federation.specs.declared.asking.Upstream.{Upstream}
 use Rattle.federation.specs.declared.asking.Upstream.TheVariants.{File, HopLimit, Nobody, OutOfMemory, Section, Source}
@@ -62,7 +62,8 @@ abbrev pub capped : ℕ → ℕ
 capped n = min n (2 ^ 64 - 1)
 
 -- what is told of the answers: the first that passes is the last that was heard; or each link was asked and none passes, with
--- the numbers of those that failed and of the others; or the hops are too many and no link was asked
+-- the numbers of those that failed and of the others; or the hops are too many and no link was asked; where memory was refused
+-- none passes but perhaps the last that was heard
 abbrev pub TellsUpstream : Route → ℕ → List (List LinkHeard) → Upstream → Type 0
 TellsUpstream route hops parts (File file) = LastReplyPasses route (all_heard parts) (passed.File file)
 TellsUpstream route hops parts (Section section) = LastReplyPasses route (all_heard parts) (passed.Section section)
@@ -72,7 +73,7 @@ TellsUpstream route hops parts (Nobody refused failed) =
     × (refused ≡ capped (count_by link_refused (all_heard parts)))
     × (failed ≡ capped (count_by link_failed (all_heard parts)))
 TellsUpstream route hops parts HopLimit = (HOP_LIMIT ≤ hops) × (parts ≢ []) × All (λ part. part ≡ []) parts
-TellsUpstream route hops parts OutOfMemory = Unit {0}
+TellsUpstream route hops parts OutOfMemory = OnlyLastMayPass route (all_heard parts)
 
 -- the links were asked in order, and this is told
 pub record AsksLinks (olds : List ShownLink) (route : Route) (hops : ℕ) (news : List ShownLink) (told : Upstream) : Type 0 where

@@ -1,5 +1,5 @@
 -- Which answers pass (this project's rule): those of status 200 whose body passes for the route.
-use Rattle.std.specs.Prelude.{◌≡◌, ℕ, List, [], ◌∷◌, ◌++◌, Option, Some, None, All}
+use Rattle.std.specs.Prelude.{◌≡◌, ℕ, ◌≤◌, List, [], ◌∷◌, ◌++◌, length, Option, Some, None, All}
 use Rattle.answer_check.specs.Passing.{GivesPassed, Passes}
 use Rattle.answer_check.specs.declared.passed.Passed.{Passed}
 use Rattle.federation.specs.Heard.{LinkHeard, LinkSaid, failed, memory, reply}
@@ -49,3 +49,11 @@ pub record LastReplyPasses (route : Route) (heard : List LinkHeard) (given : Pas
   pub none : NoReplyPasses route before
   pub passes : ReplyPasses route last.route last.said
   pub gives : ReplyGives route last.route last.said given
+
+-- none of these answers passes, but perhaps the last
+pub record OnlyLastMayPass (route : Route) (heard : List LinkHeard) : Type 0 where
+  pub before : List LinkHeard
+  pub rest : List LinkHeard
+  pub all : heard ≡ before ++ rest
+  pub few : length rest ≤ 1
+  pub none : NoReplyPasses route before

@@ -7,7 +7,7 @@ use Rattle.answer_check.specs.declared.passed.Passed.TheVariants as passed
 use Rattle.federation.specs.AskAll.{AllAsked, AreFirstQuestions, AreQuestions, AsksInOrder, HearsEach, HearsPart, IsQuestion, all_heard, capped}
 use Rattle.federation.specs.Heard.{LinkHeard, link_failed, link_refused}
 use Rattle.federation.specs.Link.{ShownLink}
-use Rattle.federation.specs.Replies.{FailsToPass, LastReplyPasses, NoReplyPasses, ReplyGives, ReplyPasses, questions_of}
+use Rattle.federation.specs.Replies.{FailsToPass, LastReplyPasses, NoReplyPasses, OnlyLastMayPass, ReplyGives, ReplyPasses, questions_of}
 use Rattle.federation.specs.declared.asking.Upstream.{Upstream}
 use Rattle.federation.specs.declared.asking.Upstream.TheVariants as upstream
 use Rattle.federation.specs.declared.judging.QuestionEnd.{QuestionEnd}
@@ -63,7 +63,8 @@ LinkTells route hops heard (link.Passed given) =
 LinkTells route hops heard (link.Nothing refused failed) =
     AreQuestions hops (questions_of route) heard × NoReplyPasses route heard
     × (refused ≡ count_by link_refused heard) × (failed ≡ count_by link_failed heard)
-LinkTells route hops heard link.OutOfMemory = AreFirstQuestions hops (questions_of route) heard
+LinkTells route hops heard link.OutOfMemory =
+    AreFirstQuestions hops (questions_of route) heard × OnlyLastMayPass route heard
 
 -- one link was asked
 pub record AsksOneLink (before : ShownLink) (route : Route) (hops : ℕ) (after : ShownLink) (told : LinkEnd) : Type 0 where
@@ -78,7 +79,7 @@ RowTells route hops parts (row.Nobody refused failed) =
     AllAsked hops (questions_of route) parts × NoReplyPasses route (all_heard parts)
     × (refused ≡ capped (count_by link_refused (all_heard parts)))
     × (failed ≡ capped (count_by link_failed (all_heard parts)))
-RowTells route hops parts row.OutOfMemory = Unit {0}
+RowTells route hops parts row.OutOfMemory = OnlyLastMayPass route (all_heard parts)
 
 -- the links were asked in order
 pub record AsksRow (olds : List ShownLink) (route : Route) (hops : ℕ) (news : List ShownLink) (told : RowEnd) : Type 0 where

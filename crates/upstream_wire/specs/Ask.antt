@@ -5,17 +5,18 @@ use Rattle.http_wire.specs.Sink.{Appends}
 use Rattle.http_wire.specs.Stream.{LeavesWriting, ShownStream}
 use Rattle.http_wire.specs.Told.{Gains}
 use Rattle.upstream_wire.specs.Dial.{ShownDial}
-use Rattle.upstream_wire.specs.Reads.{OfLeft}
+use Rattle.upstream_wire.specs.Reads.{IsOnlyResponse, OfLeft}
 use Rattle.upstream_wire.specs.Response.{HasNoWholeResponse, IsWholeResponse}
 use Rattle.upstream_wire.specs.declared.exchange.Answer.{Answer}
 use Rattle.upstream_wire.specs.declared.exchange.Answer.TheVariants.{Failed, OutOfMemory, Response}
 use Rattle.upstream_wire.specs.declared.fault.ResponseFault.{ResponseFault}
 use Rattle.upstream_wire.specs.declared.fault.ResponseFault.TheVariants as fault
 
--- what an answer says of what a connection held as it came: it begins with that response; or something failed, or it begins
+-- what an answer says of what a connection held as it came: it begins with that response, and with no other; or something failed, or it begins
 -- with none
 abbrev pub SaysOfHeld : Answer → ShownStream → Type 0 → Type 0
-SaysOfHeld (Response r) came Fails = OfLeft came (λ held. IsWholeResponse held r.status r.body.items)
+SaysOfHeld (Response r) came Fails =
+    OfLeft came (λ held. IsWholeResponse held r.status r.body.items × IsOnlyResponse held r.status r.body.items)
 SaysOfHeld Failed came Fails = Fails ⊎ OfLeft came HasNoWholeResponse
 SaysOfHeld OutOfMemory came Fails = Unit {0}
 

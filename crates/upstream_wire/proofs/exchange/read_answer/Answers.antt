@@ -3,6 +3,13 @@ use Rattle.upstream_wire.specs.Ask.{ReadsAnswerOf}
 use Rattle.upstream_wire.proofs.DialLemmas.{answers_failed}
 use Rattle.upstream_wire.proofs.exchange.read_answer.Goals as goal
 
+pub returns-in-Ok : goal.returns-in-Ok
+returns-in-Ok g c = record {
+  says = λ held tells. (c.in-Ok.ensures.reads held tells, c.in-Ok.ensures.only held tells);
+  later = c.in-Ok.ensures.later;
+  writing = c.in-Ok.ensures.apart;
+}
+
 pub returns-in-Err : goal.returns-in-Err
 returns-in-Err g c =
     subst (λ answer. ReadsAnswerOf (g.N.Stream.shows c.args.conn.now) answer (g.N.Stream.shows c.read_response.new.source))
