@@ -154,6 +154,7 @@ start back -c 4 -t 0 "$work/far" || exit 1
 scanned 1
 back=$server back_at=$at
 if command -v debuginfod >/dev/null; then
+  export no_proxy='*' # it asks by libcurl, which would go through a proxy of the environment
   real_port=$((port + 2)) real_at=http://127.0.0.1:$((port + 2))
   HOME=$work DEBUGINFOD_CACHE_PATH=$work/real_cache DEBUGINFOD_URLS=$back_at debuginfod -d "$work/real.db" -p "$real_port" -F "$work/nothing" \
     >"$work/real.out" 2>&1 </dev/null &

@@ -1,8 +1,9 @@
 #!/usr/bin/env bash
 # Asks real servers that ask other ones over sockets: a chain of two for each file of checks/data by id and class, its heads, a
-# section, the hop limit, a server that is its own upstream, and one whose upstreams nobody is, hang, end in the middle, answer
-# another file under the asked id, or send chunks; then a real debuginfod behind a server and one before it, and gdb and
-# debuginfod-find through a chain, each where it is installed. Ends within two minutes where nothing else keeps the machine busy.
+# section, the hop limit, a server that is its own upstream, and servers whose upstream isn't there, hangs, ends in the middle,
+# answers another file under the asked id, or sends chunks; then a real debuginfod behind a server and one before it, and a source
+# by curl, gdb and debuginfod-find through a chain, each where it is installed. Ends within two minutes where nothing else keeps the
+# machine busy.
 #
 # usage: checks/upstream.sh [PROGRAM]      PROGRAM is ./dbgd of the repository's top unless given
 #
@@ -202,19 +203,24 @@ else
   say 'upstreams that fail are skipped: there is no python3'
 fi
 
-# A real debuginfod behind a server, and one before it.
+# A real debuginfod behind a server, and one before it. It asks by libcurl, which would go through a proxy of the environment.
 if command -v debuginfod >/dev/null; then
   real() { # NAME WORDS.. (sets `real` and `real_at`)
-    local real_port=$((20000 + RANDOM % 12000)) one=$1
+    local real_port one=$1
     shift
+    while :; do
+      real_port=$((20000 + RANDOM % 12000))
+      (: <>"/dev/tcp/127.0.0.1/$real_port") 2>/dev/null || break
+    done
     HOME=$work DEBUGINFOD_CACHE_PATH=$work/cache.$one debuginfod -d "$work/$one.db" -p "$real_port" "$@" \
       >"$work/$one.out" 2>&1 </dev/null &
     real=$!
     children+=("$real")
     real_at=http://127.0.0.1:$real_port
   }
-  answers() { [ "$(ask "$real_at" "$target")" = 200 ]; }
+  answers() { kill -0 "$real" && [ "$(ask "$real_at" "$target")" = 200 ]; }
   unset DEBUGINFOD_URLS
+  export no_proxy='*'
   real behind -F "$tree"
   if within 200 answers; then
     behind=$real
@@ -222,6 +228,9 @@ if command -v debuginfod >/dev/null; then
     scanned 1
     is 'debuginfod behind' 200 "$(ask "$at" "$target")"
     same 'debuginfod behind' "$file" "$work/body"
+    is 'a section of debuginfod behind' 200 "$(ask "$at" "/buildid/$id/section/.note.gnu.build-id")"
+    "$program" section "$file" .note.gnu.build-id >"$work/wanted"
+    same 'a section of debuginfod behind' "$work/wanted" "$work/body"
     is 'debuginfod behind, a miss' '404 not found' "$(said "$at" /buildid/00ff00ff/debuginfo)"
     stop "$server"
     kill "$behind"
@@ -261,6 +270,9 @@ else
   start clients_front -t 0 --upstream "$at" "$nothing" || exit 1
   scanned 1
   front=$server
+  tool=$("$program" ident "$work/own/tool" | cut -d ' ' -f 1)
+  is 'a source through a chain' 200 "$(ask "$at" "/buildid/$tool/source$work/served/src/main.c")"
+  same 'a source through a chain' "$work/served/src/main.c" "$work/body"
   export DEBUGINFOD_URLS=$at HOME=$work/own/home no_proxy='*'
   unset XDG_CACHE_HOME DEBUGINFOD_PROGRESS DEBUGINFOD_VERBOSE DEBUGINFOD_HEADERS_FILE DEBUGINFOD_IMA_CERT_PATH
   if command -v debuginfod-find >/dev/null; then

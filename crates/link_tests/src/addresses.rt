@@ -6,11 +6,13 @@ use std::fmt::Write;
 use std::process::Abort;
 
 /// Texts, and where the server of each is: host, port and base.
-static ADDRESSES: [(&str, &str); 12] = [
+static ADDRESSES: [(&str, &str); 14] = [
     ("http://a:8002", "a 8002 "),
     ("http://b", "b 80 "),
     ("HTTP://B:80/up/", "b 80 /up"),
     ("http://[::1]:8002/x//", "[::1] 8002 /x/"),
+    ("http://@h/", "h 80 "),
+    ("http://h:0", "h 0 "),
     ("https://a", "none"),
     ("http://u@a", "none"),
     ("http://:p@a", "none"),

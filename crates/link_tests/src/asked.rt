@@ -26,6 +26,8 @@ enum Held {
     Text,
     /// The program, with another status.
     Created,
+    /// A text in chunks.
+    Chunks,
     /// Nothing.
     Silence,
 }
@@ -61,26 +63,37 @@ fn bytes_of(rt: &impl Abort, alloc: Global, held: Held) -> Vec<u8> {
             b"HTTP/1.1 200 OK\r\nContent-Length: 3\r\n\r\nintXYZ",
         ).expect(rt, "memory"),
         Held::Created => file_response(rt, alloc, b"HTTP/1.1 201 OK\r\n\r\n", executable(alloc)),
+        Held::Chunks => Vec::from_slice(
+            alloc,
+            b"HTTP/1.1 200 OK\r\nTransfer-Encoding: chunked\r\n\r\n3\r\nabc\r\n0\r\n\r\n",
+        )
+        .expect(rt, "memory"),
         Held::Silence => Vec::new(alloc),
     }
 }
 
-/// A connection that holds this, and of which the write of this number fails.
-fn conn_of(rt: &impl Abort, alloc: Global, held: Held, bad_write: u64) -> MemConn {
+/// A connection that holds this, and of which the write and the read of these numbers fail.
+fn conn_of(rt: &impl Abort, alloc: Global, held: Held, bad_write: u64, bad_read: u64) -> MemConn {
     MemConn::new(
         alloc,
         bytes_of(rt, alloc, held),
         Vec::new(alloc),
-        Vec::new(alloc),
+        vec![in alloc; bad_read].expect(rt, "memory"),
         vec![in alloc; bad_write].expect(rt, "memory"),
     )
 }
 
 /// The server at port 8002 of a host that answers so, a connection a question.
-fn link_of(rt: &impl Abort, alloc: Global, held: &[Held], bad_write: u64) -> HttpLink<MemDial> {
+fn link_of(
+    rt: &impl Abort,
+    alloc: Global,
+    held: &[Held],
+    bad_write: u64,
+    bad_read: u64,
+) -> HttpLink<MemDial> {
     let mut conns = Vec::new(alloc);
     for one in held {
-        let pushed = conns.push(conn_of(rt, alloc, *one, bad_write));
+        let pushed = conns.push(conn_of(rt, alloc, *one, bad_write, bad_read));
         assert!(rt; pushed.is_ok(), "memory");
     }
     HttpLink::new(
@@ -137,7 +150,7 @@ fn text_of(rt: &impl Abort, alloc: Global, told: &Upstream) -> String {
 #[derive(Clone, Copy)]
 struct Case(Wanted, u64, &'static [&'static [Held]], &'static str);
 
-static CASES: [Case; 13] = [
+static CASES: [Case; 14] = [
     Case(
         Wanted::Executable,
         0,
@@ -184,6 +197,7 @@ static CASES: [Case; 13] = [
         &[&[Held::Text]],
         "source [105, 110, 116]",
     ),
+    Case(Wanted::Source, 0, &[&[Held::Chunks]], "source [97, 98, 99]"),
     Case(
         Wanted::Code,
         0,
@@ -202,19 +216,30 @@ static CASES: [Case; 13] = [
 fn links_of(rt: &impl Abort, alloc: Global, held: &[&[Held]]) -> Vec<HttpLink<MemDial>> {
     let mut links = Vec::new(alloc);
     for one in held {
-        let pushed = links.push(link_of(rt, alloc, one, 9));
+        let pushed = links.push(link_of(rt, alloc, one, 9, 9));
         assert!(rt; pushed.is_ok(), "memory");
     }
     links
 }
 
-/// What these links tell of the route.
+/// What links tell of the route.
+fn told_by<R: Abort + Wait + Sync>(
+    rt: &R,
+    alloc: Global,
+    links: &mut [HttpLink<MemDial>],
+    wanted: Wanted,
+    hops: u64,
+) -> String {
+    let route = route_of(rt, alloc, wanted);
+    let told = ask_all(rt, alloc, links, &route, hops);
+    text_of(rt, alloc, &told)
+}
+
+/// What the links of a case tell.
 fn told_of<R: Abort + Wait + Sync>(rt: &R, alloc: Global, case: &Case) -> String {
     let Case(wanted, hops, held, _) = case;
-    let route = route_of(rt, alloc, *wanted);
     let mut links = links_of(rt, alloc, held);
-    let told = ask_all(rt, alloc, links.as_mut_slice(), &route, *hops);
-    text_of(rt, alloc, &told)
+    told_by(rt, alloc, links.as_mut_slice(), *wanted, *hops)
 }
 
 #[test]
@@ -245,7 +270,7 @@ fn is_written(rt: &impl Abort, link: &HttpLink<MemDial>, wanted: &[u8]) {
 
 #[test]
 fn a_link_writes_exactly_its_request(rt: HostRuntime) {
-    let mut link = link_of(&rt, rt.alloc(), &[Held::Program], 9);
+    let mut link = link_of(&rt, rt.alloc(), &[Held::Program], 9, 9);
     assert!(rt; replies(&rt, rt.alloc(), &mut link), "a reply");
     assert!(rt; link.count() == 0, "no fault");
     is_written(&rt, &link, REQUEST);
@@ -259,11 +284,59 @@ fn a_link_writes_exactly_its_request(rt: HostRuntime) {
 
 #[test]
 fn a_failed_write_gives_the_connection_back(rt: HostRuntime) {
-    let mut link = link_of(&rt, rt.alloc(), &[Held::Program], 0);
+    let mut link = link_of(&rt, rt.alloc(), &[Held::Program], 0, 9);
     assert!(rt; !replies(&rt, rt.alloc(), &mut link), "no reply");
     assert!(rt; link.count() == 1, "a fault of the link");
     is_written(&rt, &link, b"");
     assert!(rt; link.dial().count() == 1, "a fault of the dial");
+}
+
+/// The write and the read that fail of the first of two connections that hold the program, how often the first
+/// link failed then, and how often the second is asked. The second read finds the end.
+#[derive(Clone, Copy)]
+struct Failing(u64, u64, u64, usize);
+
+static FAILING: [Failing; 4] = [
+    Failing(0, 9, 1, 1),
+    Failing(9, 0, 1, 1),
+    Failing(9, 1, 1, 1),
+    Failing(9, 9, 0, 0),
+];
+
+/// Two links with the program, of which the first fails so.
+fn failing_links(rt: &impl Abort, alloc: Global, row: &Failing) -> Vec<HttpLink<MemDial>> {
+    let mut links = Vec::new(alloc);
+    for (bad_write, bad_read) in [(row.0, row.1), (9, 9)] {
+        let pushed = links.push(link_of(rt, alloc, &[Held::Program], bad_write, bad_read));
+        assert!(rt; pushed.is_ok(), "memory");
+    }
+    links
+}
+
+/// A link and its dial failed so often, and its one connection ended.
+fn is_counted(rt: &impl Abort, link: &HttpLink<MemDial>, faults: u64) {
+    assert!(rt; link.count() == faults, "{faults} of the link");
+    assert!(rt; link.dial().count() == faults, "{faults} of the dial");
+    let ended = link.dial().ended_conns().expect(rt, "they are told");
+    assert!(rt; ended.len() == 1, "one connection");
+}
+
+/// The file is told by two links, of which the first fails so.
+fn is_passed_over<R: Abort + Wait + Sync>(rt: &R, alloc: Global, row: &Failing) {
+    let mut links = failing_links(rt, alloc, row);
+    let text = told_by(rt, alloc, links.as_mut_slice(), Wanted::Executable, 0);
+    assert!(rt; text.as_str() == "file of 408", "{text}");
+    let links = links.as_slice();
+    assert!(rt; links.len() == 2, "two links");
+    is_counted(rt, &links[0], row.2);
+    assert!(rt; links[1].dial().asked().len() == row.3, "{} asked", row.3);
+}
+
+#[test]
+fn a_link_that_fails_at_any_call_is_passed_over(rt: HostRuntime) {
+    for row in &FAILING {
+        is_passed_over(&rt, rt.alloc(), row);
+    }
 }
 
 /// A link in memory that answers one question.

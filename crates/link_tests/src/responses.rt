@@ -221,3 +221,32 @@ fn heads_lines_and_trailers_have_a_limit(rt: HostRuntime) {
         compare(&rt, rt.alloc(), input.as_slice(), wanted);
     }
 }
+
+/// What stands before fields, how many there are, and what is read: a head has up to 64, trailers any number.
+static COUNTS: [(&[u8], usize, &str); 3] = [
+    (b"HTTP/1.1 200 OK\r\n", 64, "200 \n"),
+    (b"HTTP/1.1 200 OK\r\n", 65, "NoResponse\n"),
+    (
+        b"HTTP/1.1 200 OK\r\nTransfer-Encoding: chunked\r\n\r\n0\r\n",
+        65,
+        "200 \n",
+    ),
+];
+
+/// A front, so many fields, and an empty line.
+fn with_fields(rt: &impl Abort, alloc: Global, front: &[u8], count: usize) -> Vec<u8> {
+    let mut bytes = Vec::from_slice(alloc, front).expect(rt, "memory");
+    for _ in 0..count {
+        bytes.extend_from_slice(b"A: b\r\n").expect(rt, "memory");
+    }
+    bytes.extend_from_slice(b"\r\n").expect(rt, "memory");
+    bytes
+}
+
+#[test]
+fn a_head_has_at_most_64_fields_and_trailers_may_have_more(rt: HostRuntime) {
+    for (front, count, wanted) in &COUNTS {
+        let input = with_fields(&rt, rt.alloc(), front, *count);
+        compare(&rt, rt.alloc(), input.as_slice(), wanted);
+    }
+}

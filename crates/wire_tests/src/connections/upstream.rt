@@ -22,6 +22,10 @@ enum Said {
     Created,
     /// Nothing, with status 404.
     Missing,
+    /// That it failed.
+    Failed,
+    /// That there was not enough memory.
+    NoMemory,
 }
 
 /// What is replied.
@@ -37,12 +41,17 @@ enum Wanted {
     NotFound,
     UpstreamFault,
     ReadFault,
+    OutOfMemory,
 }
 
-/// The program and the code of a file of the id C, and a source of the id B.
+/// The program, the debug file, the code and a compressed section of a file of the id C, and a source of the id B.
 const PROGRAM: &str = "404142434445464748494a4b4c4d4e4f50515253/executable";
 
+const DEBUG: &str = "404142434445464748494a4b4c4d4e4f50515253/debuginfo";
+
 const CODE: &str = "404142434445464748494a4b4c4d4e4f50515253/section/.text";
+
+const PACKED: &str = "404142434445464748494a4b4c4d4e4f50515253/section/.debug_zz";
 
 const SOURCE: &str = "202122232425262728292a2b2c2d2e2f30313233/source/w/src/main.c";
 
@@ -64,7 +73,7 @@ struct Case(
 );
 
 /// The cases of an index without rows.
-static WITHOUT_ROWS: [Case; 13] = [
+static WITHOUT_ROWS: [Case; 21] = [
     Case(
         PROGRAM,
         "",
@@ -143,6 +152,79 @@ static WITHOUT_ROWS: [Case; 13] = [
         0,
     ),
     Case(SOURCE, "", &[&[Said::Word]], Wanted::Bytes(b"int"), &[1], 0),
+    Case(
+        PROGRAM,
+        "",
+        &[&[Said::NoMemory], &[Said::File(Sample::Tool)]],
+        Wanted::OutOfMemory,
+        &[0, 0],
+        0,
+    ),
+    Case(
+        PROGRAM,
+        "",
+        &[&[Said::Missing], &[Said::NoMemory]],
+        Wanted::OutOfMemory,
+        &[1, 0],
+        0,
+    ),
+    Case(
+        CODE,
+        "",
+        &[
+            &[Said::Failed, Said::File(Sample::Tool)],
+            &[Said::File(Sample::ToolDebug)],
+        ],
+        Wanted::Bytes(&[0xc3]),
+        &[2, 0],
+        0,
+    ),
+    Case(
+        CODE,
+        "",
+        &[&[Said::Missing], &[Said::Missing, Said::File(Sample::Tool)]],
+        Wanted::Bytes(&[0xc3]),
+        &[2, 2],
+        0,
+    ),
+    Case(
+        CODE,
+        "",
+        &[
+            &[],
+            &[Said::File(Sample::ToolDebug), Said::File(Sample::Tool)],
+        ],
+        Wanted::Bytes(&[0xc3]),
+        &[2, 2],
+        0,
+    ),
+    Case(
+        PACKED,
+        "",
+        &[&[Said::File(Sample::ToolDebug), Said::File(Sample::Tool)]],
+        Wanted::NotFound,
+        &[2],
+        0,
+    ),
+    Case(
+        DEBUG,
+        "",
+        &[&[Said::File(Sample::Tool)]],
+        Wanted::NotFound,
+        &[1],
+        0,
+    ),
+    Case(
+        DEBUG,
+        "",
+        &[
+            &[Said::File(Sample::Tool)],
+            &[Said::File(Sample::ToolDebug)],
+        ],
+        Wanted::File(Sample::ToolDebug),
+        &[1, 1],
+        0,
+    ),
 ];
 
 /// The head of a request.
@@ -168,6 +250,8 @@ fn answer_of(rt: &impl Abort, alloc: Global, said: Said) -> LinkAnswer {
         },
         Said::Created => response(rt, alloc, 201, Sample::Tool),
         Said::Missing => response(rt, alloc, 404, Sample::Empty),
+        Said::Failed => LinkAnswer::Failed,
+        Said::NoMemory => LinkAnswer::OutOfMemory,
     }
 }
 
@@ -221,6 +305,7 @@ fn bytes_of(rt: &impl Abort, alloc: Global, wanted: Wanted) -> Vec<u8> {
         Wanted::NotFound => line(rt, alloc, "404 Not Found", "not found"),
         Wanted::UpstreamFault => line(rt, alloc, "502 Bad Gateway", "upstream fault"),
         Wanted::ReadFault => line(rt, alloc, "503 Service Unavailable", "read fault"),
+        Wanted::OutOfMemory => line(rt, alloc, "507 Insufficient Storage", "out of memory"),
     }
 }
 
