@@ -148,6 +148,8 @@ def answer(conn):
             conn.sendall(piece)
     elif way == "babbles":
         conn.sendall(b"no response at all\r\n\r\n")
+    elif way == "is below" and not heard.startswith(b"GET /up/buildid/"):
+        conn.sendall(b"HTTP/1.1 404 Not Found\r\nContent-Length: 0\r\n\r\n")
     else:
         conn.sendall(head + body)
         if way == "stays":
@@ -185,9 +187,20 @@ through() { # WAY FILE SECONDS WANTED [OTHERS]
   fi
   [ $(($(date +%s) - begun)) -le "$3" ] || differs "one that $1: $(($(date +%s) - begun)) s"
   stop "$server"
+  let_go
+}
+let_go() {
   kill "$fake"
   wait "$fake" 2>/dev/null
   forget "$fake"
+}
+# What a server with these upstreams sends.
+sends() { # NAME UPSTREAMS FILE
+  start "${1// /_}" -c 4 -t 0 --upstream "$2" "$nothing" || exit 1
+  scanned 1
+  is "$1" 200 "$(ask "$at" "$target")"
+  same "$1" "$3" "$work/body"
+  stop "$server"
 }
 if command -v python3 >/dev/null; then
   through answers "$file" 5 200
@@ -199,6 +212,15 @@ if command -v python3 >/dev/null; then
   through answers "$tree/i686_little.elf" 5 '404 not found'
   through answers "$tree/i686_little.elf" 5 200 "$back_at"
   through answers checks/lib/head.sh 5 '404 not found'
+  cp "$file" "$work/longer"
+  printf x >>"$work/longer"
+  fake answers "$work/longer"
+  sends 'the first of two' "$fake_at $back_at" "$work/longer"
+  sends 'the first of the two in another order' "$back_at $fake_at" "$file"
+  let_go
+  fake 'is below' "$file"
+  sends 'one below a path' "$fake_at/up/" "$file"
+  let_go
 else
   say 'upstreams that fail are skipped: there is no python3'
 fi
