@@ -102,7 +102,7 @@ module _ {T : Type 0} (scene : Scene T) (at : Stand T) (own noted : ShareFacts) 
       absurd (omega (arith, is))
   carries links parts bytes file (not_found head route m heard refused e asks routed rests) a shows is = absurd (omega (arith, is))
   carries links parts bytes file (no_memory head route heard e asks files) a shows is = absurd (omega (arith, is))
-  carries links parts bytes file (links_memory head route answer heard e asks file rests unfound) a shows is = absurd (omega (arith, is))
+  carries links parts bytes file (links_memory head route answer heard e asks routed rests unfound) a shows is = absurd (omega (arith, is))
   carries links parts bytes file (metrics head text e asks page) a shows is = tt
   carries links parts bytes file (no_page head e asks) a shows is = tt
 
