@@ -43,7 +43,7 @@ returns-clause-runs g c =
     (rw (c.in_ok-loan.ensures.front, c.in_ok-loan.ensures.workers, c.in_ok-loan.ensures.others, c.in_ok-loan.ensures.rows, c.in_ok-loan.ensures.rest) at run))
 
 pub lend_all-requires-clause-hands : goal.lend_all-requires-clause-hands
-lend_all-requires-clause-hands g c = λ κs within. omega (arith, c.requires.hands, c.requires.fits.most)
+lend_all-requires-clause-hands g c = omega (arith, c.requires.hands, c.requires.fits.most)
 
 pub new_gear-requires-clause-fits : goal.new_gear-requires-clause-fits
 new_gear-requires-clause-fits g c = λ κs within. record { one = c.requires.fits.one; most = c.requires.fits.most }

@@ -1,4 +1,7 @@
 -- Each door was served by a token that was split off, at beginnings of what the token of all has seen.
+use Rattle.std.proofs.Common.{subst}
+use Rattle.index_lock.specs.Tokens.{IsLater}
+use Rattle.index_lock.proofs.Later.{later_trans}
 use Rattle.index_rows.specs.declared.change.Change.{Change}
 use Rattle.index_state.specs.declared.spare.Opening.{Opening}
 use Rattle.index_state.specs.declared.state.State.{State}
@@ -24,6 +27,13 @@ returns-clause-doors g c =
     (run_places {C = Slot (State g.row.W.Denot g.row.K.Denot) (DoorPlace g.row.T.Denot g.row.D.Denot g.row.L.Denot) Change Opening} (λ slot. slot.seat) (λ slot. slot.place)
     (RunsPlace (scene_of g.W.Truth.true_row g.T.Tree.told g.W.Truth.version g.T.Tree.shows c.args.hall.now.folders.now c.args.hall.now.book.now.rows) g.D.Door.shows g.L.Link.shows) c.args.lead.seat c.seats_in-seat.result.0
     _ _ _ _ c.seats_out-seat.ensures.slots c.run_beside-end.ensures.ran c.seats_in-seat.ensures.places)
+
+-- the token of the passes goes on from the first one, and that of all from it
+pub returns-clause-later : goal.returns-clause-later
+returns-clause-later g c =
+    let ran = rw c.in-Some.is at c.run_beside-end.ensures.lead in
+    later_trans (subst (λ seat. IsLater {E = Change} {O = Opening} seat c.in-Some.field-0.seat) c.seats_out-seat.ensures.same ran.0)
+    c.seats_in-seat.ensures.later
 
 -- what the passes did, by the slot that their token was in: a beginning of what the token of all has seen
 -- (the clause `passes` is `(log, prefix, keeps)` of c.run_beside-end.ensures.lead; auto found it in the small crown)
