@@ -324,7 +324,7 @@ fn is_asked_for_the_tool(rt: &impl Abort, link: &MemLink) {
     for question in link.asked() {
         let target = question.target();
         assert!(rt;
-            target == b"/buildid/404142434445464748494a4b4c4d4e4f50515253/executable",
+            target == b"/buildid/404142434445464748494a4b4c4d4e4f50515253/executable".as_slice(),
             "{target:?}"
         );
         assert!(rt; question.hops() == 0, "{} hops", question.hops());
