@@ -10,4 +10,3 @@ pub mod Schema
 pub mod Commands
 pub mod Told
 pub mod Reading
-pub mod Calls

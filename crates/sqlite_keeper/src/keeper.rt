@@ -1,20 +1,18 @@
 //! The keeper over a connection.
 
-ghost use Rattle.std.specs.Prelude.{◌≡◌, [], ◌∷◌, false, IfOk, IfSome, IsTrue, option_copied};
+ghost use Rattle.std.specs.Prelude.{◌≡◌, [], ◌∷◌, IfSome, IsTrue, option_copied};
 ghost use Rattle.sqlite.specs.Held.{state};
 ghost use Rattle.sqlite.specs.declared.types.Value.TheVariants.{Blob, Text};
 ghost use Rattle.row_types.specs.declared.limits.TheConstants.{EDITION};
 ghost use Rattle.index_keeper.specs.Answers.{for_change, for_rows, keeper_failed, rows_given};
 ghost use Rattle.index_keeper.specs.Keeper.{AreRowsKept, AsksKeeper};
 ghost use Rattle.index_keeper.specs.Tables.{EditFacts, put_bytes, removal_of};
-ghost use Rattle.sqlite_keeper.specs.Begins.{IsReady};
 ghost use Rattle.sqlite_keeper.specs.Keeper.{IsCounted, keeper_shown, opened_connection};
 ghost use Rattle.sqlite_keeper.specs.Reading.{LooksUpRows};
 ghost use Rattle.sqlite_keeper.specs.Statements.{Changes, edit_of, edit_text, edit_values, put_text};
 ghost use Rattle.sqlite_keeper.specs.Statements.{remove_text};
 ghost use Rattle.sqlite_keeper.specs.Told.{IsDatabaseTold, TellsQueriedRows, TellsChange};
 
-use crate::adopt::prepare;
 use crate::fault::SqlFault;
 use crate::telling::Telling;
 use crate::{rows, sql};
@@ -71,17 +69,6 @@ impl<F: Telling> SqliteKeeper<F> {
         ensures { result ≡ self.now.faults }
     {
         self.faults
-    }
-
-    /// Makes the database ready, whose last opening had this number.
-    pub(crate) fn begin(&mut self, last: u64) -> Result<(), SqlFault>
-        requires { F.tells ≡ false }
-        ensures ok { IfOk result (λ _. IsReady F.Store last
-            self.old.connection self.new.connection self.new.epoch) }
-        ensures same { self.new.faults ≡ self.old.faults }
-    {
-        self.epoch = prepare(&mut self.connection, last)?;
-        Ok(())
     }
 
     /// All rows of the tables, by path.

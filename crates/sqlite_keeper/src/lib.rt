@@ -4,7 +4,6 @@
 #![tactic(auto)]
 
 mod adopt;
-mod calls;
 mod disk_keeper;
 mod fault;
 mod file_keeper;
