@@ -29,13 +29,13 @@ def words_of(process):
 
 
 def state_of(process):
-    """The parent of a process and its own processor seconds so far, or None where it is gone."""
+    """The parent of a process, its own processor seconds so far and when it began, or None where it is gone."""
     try:
         with open(f"/proc/{process}/stat", encoding="utf-8", errors="replace") as file:
             fields = file.read().rsplit(")", 1)[1].split()
     except (OSError, IndexError):
         return None
-    return fields[1], (int(fields[11]) + int(fields[12])) / TICKS
+    return fields[1], (int(fields[11]) + int(fields[12])) / TICKS, fields[19]
 
 
 def part_of(words):
@@ -52,28 +52,28 @@ def part_of(words):
 def read(run, parts, spent):
     """Reads the time of each prover that stands below the run, and of the processes that it has started itself."""
     states = {it: state_of(it) for it in filter(str.isdigit, os.listdir("/proc"))}
-    parents = {process: state[0] for process, state in states.items() if state}
+    states = {process: state for process, state in states.items() if state}
 
     def part_above(process):
         """The part that a process, or one above it, works for; None where the run is none of these."""
         found = None
-        while process in parents and process != run:
-            found = found or parts.get(process) or part_of(words_of(process))
-            if found:
-                parts[process] = found
-            process = parents[process]
+        while process in states and process != run:
+            found = found or part_of(words_of(process))
+            process = states[process][0]
         return found if process == run else None
 
-    for process in parents:
-        part = part_above(process)
+    for process, (_, seconds, begun) in states.items():
+        # A number is given again to a later process, which began at another time.
+        part = parts.get((process, begun)) or part_above(process)
         if part:
-            spent[process, part] = states[process][1]
+            parts[process, begun] = part
+            spent[process, begun] = part, seconds
 
 
 def table(spent, wall):
     """The lines of the table: each crate's seconds, the dearest first, and their sums."""
     rows = {}
-    for (_, (crate, kind)), seconds in spent.items():
+    for (crate, kind), seconds in spent.values():
         rows.setdefault(crate, dict.fromkeys(KINDS, 0.0))[kind] += seconds
     ranked = sorted(rows.items(), key=lambda row: -sum(row[1].values()))
     ranked.append(("all", {kind: sum(row[kind] for row in rows.values()) for kind in KINDS}))
