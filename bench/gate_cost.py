@@ -51,8 +51,7 @@ def part_of(words):
 
 def read(run, parts, spent):
     """Reads the time of each prover that stands below the run, and of the processes that it has started itself."""
-    states = {it: state_of(it) for it in filter(str.isdigit, os.listdir("/proc"))}
-    states = {process: state for process, state in states.items() if state}
+    states = {it: state for it in filter(str.isdigit, os.listdir("/proc")) if (state := state_of(it))}
 
     def part_above(process):
         """The part that a process, or one above it, works for; None where the run is none of these."""
