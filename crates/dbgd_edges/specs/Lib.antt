@@ -5,6 +5,7 @@ pub mod Errors
 pub mod FolderRead
 pub mod Listens
 pub mod Numbers
+pub mod OpenFiles
 pub mod Stamped
 pub mod Streams
 pub mod Waits

@@ -7,6 +7,7 @@ mod dial_fault;
 mod dialled_conn;
 mod doors;
 mod file_load;
+mod file_open;
 mod folder_read;
 mod hands;
 mod look;
@@ -24,6 +25,7 @@ mod waits;
 
 pub use dialled_conn::DialledConn;
 pub use doors::{every_ipv4, every_ipv6, listen, real_doors};
+pub use file_open::RealFile;
 pub use hands::real_hands;
 pub use real_clock::RealClock;
 pub use real_conn::RealConn;

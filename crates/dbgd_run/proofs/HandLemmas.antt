@@ -4,7 +4,8 @@ use Rattle.std.specs.List.{AllZip}
 use Rattle.std.specs.Prelude.{slice_index_or, slice_set}
 use Rattle.index_keeper.specs.Store.{ShownStore}
 use Rattle.tree_trait.specs.Found.{Versions}
-use Rattle.tree_trait.specs.Load.{LoadFacts}
+use Rattle.file_formats.specs.Windows.{Range}
+use Rattle.file_parts.specs.AtPath.{FileAnswer}
 use Rattle.tree_trait.specs.Shown.{HandsOn, ShownTree}
 use Rattle.pass_runner.specs.Owned.{HandsGo}
 use Rattle.dbgd_run.specs.Endings.{Streams}
@@ -22,15 +23,15 @@ pub others_stay : {T : Type 0} {hands left : List T} → left ≡ hands → AllZ
 others_stay {hands = hands} same = subst (λ left. AllZip (λ hand later. later ≡ hand) hands left) (sym same) (same_zip hands)
 
 -- a command on one file, by the hand at the front
-pub runs_file : {T : Type 0} (s : Setting T) (path : List ℕ) (Says : LoadFacts → Streams → Streams → Status → Type 0)
-    (first later : T) (hands : List T) {store : ShownStore} {old new : Streams} {end : Status}
+pub runs_file : {T : Type 0} (s : Setting T) (path : List ℕ) (Says : FileAnswer → Streams → Streams → Status → Type 0)
+    (Of : List ℕ → Range → Type 0) (first later : T) (hands : List T) {store : ShownStore} {old new : Streams} {end : Status}
     → first ≡ slice_index_or hands 0 first → 0 < length hands
-    → RunsOn Says s.tells_files s.world.version path (s.sees first) (s.sees later) old new end
-    → RunsFile s path Says (scene hands store old) (scene (slice_set hands 0 later) store new) end
-runs_file s path Says first later [] is some run = absurd (omega arith)
-runs_file {T} s path Says first later (hand ∷ hands) {old = old} {new = new} {end = end} is some run = record {
+    → RunsOn Says Of s.tells_files s.world.version path (s.sees first) (s.sees later) old new end
+    → RunsFile s path Says Of (scene hands store old) (scene (slice_set hands 0 later) store new) end
+runs_file s path Says Of first later [] is some run = absurd (omega arith)
+runs_file {T} s path Says Of first later (hand ∷ hands) {old = old} {new = new} {end = end} is some run = record {
   hands = (
-    subst (λ (h : T). RunsOn Says s.tells_files s.world.version path (s.sees h) (s.sees later) old new end) is run,
+    subst (λ (h : T). RunsOn Says Of s.tells_files s.world.version path (s.sees h) (s.sees later) old new end) is run,
     same_zip hands,
   );
   store = refl;

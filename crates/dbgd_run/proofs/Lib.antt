@@ -3,6 +3,7 @@ pub mod ChangedLemmas
 pub mod Codes
 pub mod CountLemmas
 pub mod FailedDoors
+pub mod FileLemmas
 pub mod ForgedLemmas
 pub mod FreeHands
 pub mod GainLemmas

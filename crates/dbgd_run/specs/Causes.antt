@@ -10,6 +10,7 @@ use Rattle.index_rows.specs.Rows.{row_names}
 use Rattle.index_state.specs.Opening.{AreRows, IsOverfull, current}
 use Rattle.index_state.specs.Plan.{most_changes, plan_of}
 use Rattle.tree_trait.specs.Heard.{Heard, stat, with_answers}
+use Rattle.tree_trait.specs.Listens.{ListsAnswers}
 use Rattle.tree_trait.specs.Shown.{ShownTree}
 use Rattle.tree_trait.specs.Stat.{IsNothingAt}
 use Rattle.tree_trait.specs.declared.stat.StatAnswer.TheVariants.{File}
@@ -90,7 +91,7 @@ pub record HeardOtherFile (told : Bool) (roots : List (List ℕ)) (before after 
   pub walk : Walk
   pub walked : List Heard
   pub more : List Heard
-  pub heard : after.heard ≡ with_answers before.heard (walked ++ more)
+  pub heard : ListsAnswers before.heard (walked ++ more) after.heard
   pub whole : IsWholeWalk walked roots walk
   pub name : NameFacts
   pub cause : Cause

@@ -1,6 +1,8 @@
 -- What a run does, by its words (this project's rule).
 use Rattle.std.specs.Prelude.{◌≡◌, ◌⊎◌, ℕ, Bool, true, false, List, IsTrue}
 use Rattle.federation.specs.Server.{ServerFacts}
+use Rattle.file_formats.specs.Parts.{IsSomePart, IsSomeSection}
+use Rattle.file_formats.specs.Windows.{IsSomeWindow}
 use Rattle.dbgd_words.specs.Words.{Line, asks_help, asks_ident, asks_query, asks_scan, asks_section}
 use Rattle.dbgd_words.specs.Words.{asks_serve, asks_sources, asks_trial, has_options, line_of, unreadable}
 use Rattle.dbgd_run.specs.Causes.{HasStatus, ScanEnds}
@@ -74,11 +76,11 @@ takes_threads _ = false
 -- what a line of words does that asks for no server, by what it asks
 abbrev pub Runs : {T : Type 0} → Setting T → Line → ProgramScene T → ProgramScene T → Status → Type 0
 Runs s (asks_ident path) before after status =
-    RunsFile s path (SaysIdent path) before after status
+    RunsFile s path (SaysIdent path) IsSomeWindow before after status
 Runs s (asks_sources path) before after status =
-    RunsFile s path (SaysSources path) before after status
+    RunsFile s path (SaysSources path) IsSomePart before after status
 Runs s (asks_section path name) before after status =
-    RunsFile s path (SaysSection path name) before after status
+    RunsFile s path (SaysSection path name) (IsSomeSection name) before after status
 Runs s (asks_query path id) before after status = RunsQuery s path id before after status
 Runs s (asks_scan path workers roots) before after status =
     RunsScan s path workers roots before after status
@@ -118,11 +120,11 @@ pub record IsRun {T : Type 0} (s : Setting T) (words : List (List ℕ)) (before 
   pub status : Status
   pub number : code ≡ code_of status
   pub ident : (path : List ℕ) → line_of words ≡ asks_ident path
-      → RunsFile s path (SaysIdent path) before.scene after.scene status
+      → RunsFile s path (SaysIdent path) IsSomeWindow before.scene after.scene status
   pub sources : (path : List ℕ) → line_of words ≡ asks_sources path
-      → RunsFile s path (SaysSources path) before.scene after.scene status
+      → RunsFile s path (SaysSources path) IsSomePart before.scene after.scene status
   pub section : (path name : List ℕ) → line_of words ≡ asks_section path name
-      → RunsFile s path (SaysSection path name) before.scene after.scene status
+      → RunsFile s path (SaysSection path name) (IsSomeSection name) before.scene after.scene status
   pub query : (path id : List ℕ) → line_of words ≡ asks_query path id
       → IsQueryRun s path id before.scene after.scene status
   pub scan : (path : List ℕ) (workers : ℕ) (roots : List (List ℕ))

@@ -69,7 +69,8 @@ pub record EndsInWalk {T : Type 0} (s : Setting T) (before after : List T) (old 
   pub has : HasRows s.tells_tables new (current found)
   pub made : new.made ≡ made_swept found old.made
 
--- another hand heard nothing but loads and looks, and no load of a path of a listed name that had a row of the edition
+-- another hand heard nothing but openings and reads of parts, or looks, and none of a path of a listed name that had a row of
+-- the edition
 abbrev pub HelpsWith : {T : Type 0} → Setting T → List NameFacts → List RowFacts → T → T → Type 0
 HelpsWith s listing rows hand later =
     Helps s.tells_files s.world.version listing (row_names rows) (s.sees hand) (s.sees later)
@@ -103,10 +104,10 @@ pub record EndsScanHelped {T : Type 0} (s : Setting T) (roots : List (List ℕ))
   pub ends : Ends left
 
 -- the pass was made: the store held the rows that were found, and those that are left are true. The other hands helped:
--- each heard nothing but loads and looks, and no load of a path of a listed name that had a row of the edition; the rows
+-- each heard nothing but openings and reads of parts, or looks, and none of a path of a listed name that had a row; the rows
 -- that were met stood then, and no row of a listed name had gone. The first hand heard a whole walk, and then nothing but
--- loads of listed files whose names had no row by then and looks under the folders; from then on the rows went and came as
--- in a pass, by what it heard. With one hand the rows that were met are those of the edition that were found
+-- openings and reads of listed files whose names had no row by then and looks under the folders; from then on the rows went
+-- and came as in a pass, by what it heard. With one hand the rows that were met are those of the edition that were found
 pub record MakesPass {T : Type 0} (s : Setting T) (roots : List (List ℕ)) (before after : List T)
     (old new : ShownStore)
     (Ends : List NameFacts → List Heard → List RowFacts → List RowFacts → List RowFacts → Type 0)
@@ -196,7 +197,7 @@ OpensBy path old new (Refused refusal.OutOfMemory) =
     (new.paths ≡ old.paths) ⊎ (new.paths ≡ with_opened_path path old.paths)
 OpensBy path old new _ = new.paths ≡ with_opened_path path old.paths
 
--- where the pass was whole the hands from the third on, if there are any, heard as many loads as files were read
+-- where the pass was whole the hands from the third on, if there are any, heard as many openings as files were read
 abbrev pub LoadsBy : {T : Type 0} → (T → ShownTree) → List T → List T → ScanEnd → Type 0
 LoadsBy sees before after (Refused fault) = Unit {0}
 LoadsBy sees before after (Passed end) = LoadsBeside sees before after end

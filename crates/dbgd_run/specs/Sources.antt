@@ -1,10 +1,11 @@
--- The command `sources` (this project's rule): what it says of a file, by what the load of the file answered.
+-- The command `sources` (this project's rule): what it says of a file, by what was read of it.
 use Rattle.std.specs.Prelude.{◌⊎◌, ℕ, List, Result, Ok, Err, codes, flat_map}
 use Rattle.file_formats.specs.Identity.{Identity, IsIdentity}
 use Rattle.file_formats.specs.declared.fault.Why.{Why}
 use Rattle.file_formats.specs.declared.fault.Why.TheVariants.{TooLarge}
 use Rattle.row_types.specs.Sources.{AreSourcesOf}
-use Rattle.tree_trait.specs.Load.{LoadFacts, loaded, too_large, gone, failed, no_memory}
+use Rattle.tree_trait.specs.Needs.{IsOfReads}
+use Rattle.file_parts.specs.AtPath.{FileAnswer, file_read, file_too_large, file_gone, file_failed, file_no_memory}
 use Rattle.dbgd_run.specs.Endings.{EndsSaying, EndsWhole, Saying, Streams, SaysMemory, fault_saying}
 use Rattle.dbgd_run.specs.Endings.{gone_saying, out_saying}
 use Rattle.dbgd_run.specs.Section.{plain_fault_saying}
@@ -20,24 +21,24 @@ path_lines paths = flat_map fed_line paths
 abbrev pub sources_saying : List (List ℕ) → Saying
 sources_saying paths = out_saying (path_lines paths) status.Done
 
--- the source paths of the bytes were said
-pub record SaysPaths (bytes : List ℕ) (old new : Streams) (end : Status) : Type 0 where
+-- source paths of which this is so were said
+pub record SaysPaths (Are : List (List ℕ) → Type 0) (old new : Streams) (end : Status) : Type 0 where
   pub paths : List (List ℕ)
-  pub are : AreSourcesOf bytes paths
+  pub are : Are paths
   pub ends : EndsSaying (sources_saying paths) old new end
 
 -- what is said of a file that was read, by its identity: the paths take memory; of a plain one nothing else is said than
 -- why, and it takes none
-abbrev pub SaysListed : List ℕ → Result Identity Why → Streams → Streams → Status → Type 0
-SaysListed bytes (Ok i) old new end = SaysPaths bytes old new end ⊎ SaysMemory old new end
-SaysListed bytes (Err why) old new end = EndsWhole (plain_fault_saying why) old new end
+abbrev pub SaysListed : (List (List ℕ) → Type 0) → Result Identity Why → Streams → Streams → Status → Type 0
+SaysListed Are (Ok i) old new end = SaysPaths Are old new end ⊎ SaysMemory old new end
+SaysListed Are (Err why) old new end = EndsWhole (plain_fault_saying why) old new end
 
--- what is said of the sources of the file at a path, by what its load answered
-abbrev pub SaysSources : List ℕ → LoadFacts → Streams → Streams → Status → Type 0
-SaysSources path (loaded found) old new end =
-    (identity : Result Identity Why) × IsIdentity found.bytes identity
-    × SaysListed found.bytes identity old new end
-SaysSources path (too_large stamp) old new end = EndsWhole (plain_fault_saying TooLarge) old new end
-SaysSources path gone old new end = EndsWhole (gone_saying path) old new end
-SaysSources path failed old new end = EndsWhole (fault_saying (codes "file")) old new end
-SaysSources path no_memory old new end = SaysMemory old new end
+-- what is said of the sources of the file at a path, by what was found of it: they are those of each file that has what was read
+abbrev pub SaysSources : List ℕ → FileAnswer → Streams → Streams → Status → Type 0
+SaysSources path (file_read stamp reads) old new end =
+    (identity : Result Identity Why) × IsOfReads stamp.size reads (λ b. IsIdentity b identity)
+    × SaysListed (λ paths. IsOfReads stamp.size reads (λ b. AreSourcesOf b paths)) identity old new end
+SaysSources path file_too_large old new end = EndsWhole (plain_fault_saying TooLarge) old new end
+SaysSources path file_gone old new end = EndsWhole (gone_saying path) old new end
+SaysSources path file_failed old new end = EndsWhole (fault_saying (codes "file")) old new end
+SaysSources path file_no_memory old new end = SaysMemory old new end

@@ -2,21 +2,24 @@
 
 ghost use Rattle.std.specs.Prelude.{ℕ, List, Option, Result};
 ghost use Rattle.std.specs.Option.{option_copied};
-ghost use Rattle.file_formats.specs.Identity.{Identity, IsIdentity};
-ghost use Rattle.file_formats.specs.Table.{IsSectionAnswer};
+ghost use Rattle.file_formats.specs.Identity.{Identity};
+ghost use Rattle.file_formats.specs.Parts.{IsSomeSection};
 ghost use Rattle.file_formats.specs.declared.fault.Why.{Why};
-ghost use Rattle.tree_trait.specs.Load.{load_facts};
+ghost use Rattle.elf_classify.specs.Views.{IsIdentityOfEach};
+ghost use Rattle.file_parts.specs.AtPath.{SeesAtPath};
+ghost use Rattle.file_parts.specs.Wholes.{IsSectionOfEach, IsThereWhole};
 ghost use Rattle.dbgd_run.specs.Endings.{streams};
 ghost use Rattle.dbgd_run.specs.File.{RunsOn};
 ghost use Rattle.dbgd_run.specs.Section.{SaysBytes, SaysNamed, SaysSection};
 
 use crate::speech::{say, say_error, say_fault, say_gone, say_no_memory, say_plain};
 use crate::status::Status;
-use elf_classify::{ident, section_of};
+use file_parts::{FilePart, FileSeen, identity_known, read_at_path, section_known};
+use file_picture::Picture;
 use http_wire::Sink;
-use row_types::{FILE_LIMIT, Truth, Why};
+use row_types::{Truth, Why};
 use std::alloc::Global;
-use tree_trait::{LoadAnswer, Tree};
+use tree_trait::Tree;
 
 /// Says a section's bytes as they stand, or that there is none.
 fn say_bytes<O: Sink>(section: Option<&[u8]>, out: &mut O, err: &mut O) -> Status
@@ -29,41 +32,44 @@ fn say_bytes<O: Sink>(section: Option<&[u8]>, out: &mut O, err: &mut O) -> Statu
     }
 }
 
-/// Says the section of a name of a file with an identity, by the file's bytes.
-fn say_file<O: Sink>(bytes: &[u8], name: &str, out: &mut O, err: &mut O) -> Status
+/// Says the section of a name of a file with an identity, by what was read of the file.
+fn say_picture<O: Sink>(picture: &Picture, name: &str, out: &mut O, err: &mut O) -> Status
+    requires { IsThereWhole (IsSomeSection name.now) picture.now }
     ensures { (identity : Result Identity Why) × (section : Option (List ℕ))
-        × IsIdentity bytes.now identity × IsSectionAnswer bytes.now name.now section
+        × IsIdentityOfEach picture.now identity × IsSectionOfEach name.now picture.now section
         × SaysNamed identity section
         (streams O.shows out.old err.old) (streams O.shows out.new err.new) result }
 {
-    let section = section_of(bytes, name.as_bytes());
-    match ident(bytes) {
+    let section = named(picture, name);
+    match identity_known(picture) {
         Ok(_) => say_bytes(section, out, err),
         Err(why) => say_plain(why, out, err),
     }
 }
 
-/// Says the section of a name, by what the load of the file at a path answered.
-fn say_loaded<W: Truth, O: Sink>(
-    path: &str,
-    name: &str,
-    answer: &LoadAnswer<W>,
-    out: &mut O,
-    err: &mut O,
-) -> Status
-    ensures { SaysSection path.now name.now (load_facts answer.now)
-        (streams O.shows out.old err.old) (streams O.shows out.new err.new) result }
+/// The section of a name, by what was read of the file.
+fn named<'a>(picture: &'a Picture, name: &str) -> Option<&'a [u8]>
+    requires { IsThereWhole (IsSomeSection name.now) picture.now }
+    ensures { IsSectionOfEach name.now picture.now (option_copied result) }
 {
-    match answer {
-        LoadAnswer::Found(found) => say_file(found.bytes.as_slice(), name, out, err),
-        LoadAnswer::TooLarge { .. } => say_plain(Why::TooLarge, out, err),
-        LoadAnswer::Gone => say_gone(path, out, err),
-        LoadAnswer::Failed => say_fault("file", out, err),
-        LoadAnswer::OutOfMemory => say_no_memory(out, err),
-    }
+    section_known(picture, name.as_bytes())
 }
 
-/// Loads the file at a path and says the bytes of its section of a name.
+/// Opens the file at a path and reads what its identity and its section of a name rest on.
+fn read_named<W: Truth, T: Tree<W>>(
+    alloc: Global,
+    hand: &mut T,
+    path: &str,
+    name: &str,
+) -> FileSeen<W, T::File>
+    ensures { SeesAtPath T.opened (IsSomeSection name.now) T.told W.version path.now
+        (T.shows hand.old) (T.shows hand.new) result }
+{
+    read_at_path(alloc, hand, path, FilePart::Section(name.as_bytes()))
+}
+
+/// Opens the file at a path, reads what its section of a name rests on, and says the section's
+/// bytes.
 pub fn run_section<W: Truth, T: Tree<W>, O: Sink>(
     alloc: Global,
     path: &str,
@@ -72,10 +78,15 @@ pub fn run_section<W: Truth, T: Tree<W>, O: Sink>(
     out: &mut O,
     err: &mut O,
 ) -> Status
-    ensures { RunsOn (SaysSection path.now name.now) T.told W.version path.now
-        (T.shows hand.old) (T.shows hand.new)
+    ensures { RunsOn (SaysSection path.now name.now) (IsSomeSection name.now) T.told W.version
+        path.now (T.shows hand.old) (T.shows hand.new)
         (streams O.shows out.old err.old) (streams O.shows out.new err.new) result }
 {
-    let answer = hand.load(alloc, path, FILE_LIMIT);
-    say_loaded(path, name, &answer, out, err)
+    match read_named(alloc, hand, path, name) {
+        FileSeen::Read(opened) => say_picture(opened.picture(), name, out, err),
+        FileSeen::TooLarge(_) => say_plain(Why::TooLarge, out, err),
+        FileSeen::Gone => say_gone(path, out, err),
+        FileSeen::Failed => say_fault("file", out, err),
+        FileSeen::OutOfMemory => say_no_memory(out, err),
+    }
 }

@@ -20,6 +20,8 @@ mod doors;
 #[cfg(test)]
 mod folders;
 #[cfg(test)]
+mod open_files;
+#[cfg(test)]
 mod paths;
 #[cfg(test)]
 mod refusals;

@@ -1,17 +1,16 @@
 -- The debug sections: what is found of them, and that it is so of each file that agrees with a picture.
-use Rattle.std.proofs.Common.{◌≡◌, sym, ◌∙◌, ap, subst, refl, ◌⊎◌, inl, inr, ℕ, List, [], Bool, true, false, ◌||◌, Option, Some, None, Ok, Err}
-use Rattle.std.specs.Prelude.{◌==◌, codes, option_map}
+use Rattle.std.proofs.Common.{◌≡◌, sym, ◌∙◌, ap, subst, refl, inl, inr, ℕ, List, [], Bool, true, false, ◌||◌, Option, Some, None}
+use Rattle.std.specs.Prelude.{◌==◌, codes}
 use Rattle.std.specs.Str.{bytes_eq}
 use Rattle.std.proofs.lemmas.Bool.{both_ways}
 use Rattle.std.proofs.lemmas.Slice.Eq.{bytes_eq-Decides}
 use Rattle.file_formats.specs.declared.codes.TheConstants.{ET_REL}
 use Rattle.file_formats.specs.declared.fault.ElfFault.{ElfFault}
 use Rattle.file_formats.specs.declared.header.SectionTable.{SectionTable}
-use Rattle.file_formats.specs.DwarfSections.{IsSectionPart, AreDebugSections, IsDebugAnswer, debug, relocatable, no_sections}
+use Rattle.file_formats.specs.DwarfSections.{IsDebugAnswer, debug, relocatable, no_sections}
 use Rattle.file_formats.specs.DwarfUnits.{DebugSections}
-use Rattle.file_formats.specs.Parts.{IsDebugRange, IsSectionRange, IsSomePart, is_debug_name}
-use Rattle.file_formats.specs.Table.{section_table}
-use Rattle.file_formats.specs.Windows.{Range, range, bytes_in, IsSomeWindow}
+use Rattle.file_formats.specs.Parts.{IsSomePart, is_debug_name}
+use Rattle.file_formats.specs.Windows.{Range, bytes_in}
 use Rattle.file_formats.proofs.PartLaws.{debug_range_moves, debug-of_parts}
 use Rattle.file_formats.proofs.WindowLemmas.{agree-symmetric}
 use Rattle.file_picture.specs.Agrees.{AgreesWithPicture, filled_with_zeros}
@@ -21,12 +20,12 @@ use Rattle.file_picture.specs.declared.view.Need.{Need}
 use Rattle.file_picture.proofs.AgreeLaws.{agree-covered, filled-agrees}
 use Rattle.file_picture.proofs.WholeLaws.{filled-whole}
 use Rattle.elf_file.specs.Parsed.{IsPictureWhole}
-use Rattle.elf_file.specs.Opened.{Opened, OpensAs, Knows}
+use Rattle.elf_file.specs.Opened.{Opened, Knows}
 use Rattle.elf_file.specs.Steps.{AllHere, Needs, FailsTests}
 use Rattle.elf_file.proofs.StartLemmas.{same_ok}
 use Rattle.elf_file.proofs.ViewLaws.{agree_there, need-of_each, windows-of_each}
-use Rattle.elf_classify.specs.Placed.{HasSectionThere, SeesSection, NeedsSection}
-use Rattle.elf_classify.specs.DebugViews.{SeesPart, SeesParts, NeedsPart, NeedsDebug, IsDebugSeen, SeesDebug, KnowsIdentity, SaysParts}
+use Rattle.elf_classify.specs.Placed.{HasSectionThere, SeesSection}
+use Rattle.elf_classify.specs.DebugViews.{SeesPart, SeesParts, NeedsDebug, IsDebugSeen, SeesDebug, KnowsIdentity, SaysParts}
 use Rattle.elf_classify.specs.declared.parts.PartsView.{PartsView}
 use Rattle.elf_classify.specs.declared.parts.PartsView.TheVariants as view
 use Rattle.elf_classify.proofs.PlacedLemmas.{never_needs_section}

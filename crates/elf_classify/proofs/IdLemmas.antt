@@ -9,12 +9,12 @@ use Rattle.file_formats.specs.Notes.{notes_in, IsFirstBuildId, HasBuildId}
 use Rattle.file_formats.specs.Sections.{has_flag}
 use Rattle.file_formats.specs.Table.{section_at, contents_at, IsSectionIndex}
 use Rattle.file_formats.specs.Identity.{HoldsNotes, HasIdAt}
-use Rattle.file_formats.specs.declared.codes.TheConstants.{ET_CORE, SHT_NOTE, SHF_COMPRESSED}
+use Rattle.file_formats.specs.declared.codes.TheConstants.{SHT_NOTE, SHF_COMPRESSED}
 use Rattle.file_formats.specs.Windows.{Range, range, extent, Window, beginning, zero_header, table, names, notes, IsWindow, IsNotes, rank}
 use Rattle.file_picture.specs.Picture.{IsCovered}
 use Rattle.file_picture.specs.declared.view.Need.{Need}
 use Rattle.elf_file.specs.Steps.{AllHere, Needs}
-use Rattle.elf_file.specs.Opened.{Opened, Knows}
+use Rattle.elf_file.specs.Opened.{Opened}
 use Rattle.elf_classify.specs.Ids.{LooksAt, FindsAt, Finds}
 use Rattle.elf_file.proofs.StartLemmas.{all_more, same_ok}
 
@@ -126,16 +126,9 @@ finds_in f i at len contents found looks index kind plain holds placed there are
 
 -- ---- from section to section
 
-pub looks_first : (f : Opened) → Knows f → f.table.e_type ≢ ET_CORE → LooksAt f 1
-looks_first f knows other = record {
-  is_table = knows.is_table;
-  other = other;
-  none = λ j id before h. let above = h.section.index.above in absurd (omega (arith, before, above));
-  all = notes_more f 0 knows.all (λ r w. let above = w.here.index.above in absurd (omega (arith, above)));
-}
-
 pub looks_next : (f : Opened) (i : ℕ) → LooksAt f i → FindsAt f i None → LooksAt f (i + 1)
 looks_next f i looks found = record {
+  above = let above = looks.above in omega (arith, above);
   is_table = looks.is_table;
   other = looks.other;
   none = none;

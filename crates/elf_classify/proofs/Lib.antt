@@ -1,4 +1,5 @@
 pub mod IdLemmas
+pub mod PlaceLemmas
 pub mod SeenLemmas
 pub mod PlacedLemmas
 pub mod DebugLemmas

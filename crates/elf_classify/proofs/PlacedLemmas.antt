@@ -1,30 +1,27 @@
 -- The section of a name: where it stands, and that it is so of each file that agrees with a picture.
-use Rattle.std.proofs.Common.{◌≡◌, sym, ◌∙◌, ap, subst, refl, ◌⊎◌, inl, inr, ℕ, ◌+◌, ◌≤◌, List, length, arith, Option, Some, None, Ok, Err}
-use Rattle.std.specs.Prelude.{IfSome, IfNone}
-use Rattle.std.specs.Option.{option_copied}
+use Rattle.std.proofs.Common.{◌≡◌, sym, ◌∙◌, ap, subst, refl, ◌⊎◌, inl, inr, ℕ, List, arith, Option, Some, None, Ok}
 use Rattle.file_formats.specs.declared.fault.ElfFault.{ElfFault}
 use Rattle.file_formats.specs.declared.header.SectionTable.{SectionTable}
 use Rattle.file_formats.specs.Numbers.{bytes_at}
 use Rattle.file_formats.specs.Parts.{IsSectionRange, IsSomeSection}
 use Rattle.file_formats.specs.Table.{section_table, section_at, HasSection, IsSectionOf, IsSectionAnswer, present, absent, no_table}
-use Rattle.file_formats.specs.Windows.{Range, range, extent, IsSomeWindow}
-use Rattle.file_formats.proofs.IdentityLemmas.{section-unique}
+use Rattle.file_formats.specs.Windows.{Range, range, extent}
 use Rattle.file_formats.proofs.PartLaws.{answer_moves, section_range_moves, section-inside}
 use Rattle.file_formats.proofs.WindowLemmas.{agree-symmetric}
-use Rattle.file_picture.specs.Agrees.{AgreesWithPicture, filled_with_zeros}
+use Rattle.file_picture.specs.Agrees.{AgreesWithPicture, AsksOf, filled_with_zeros}
 use Rattle.file_picture.specs.Picture.{PictureFacts, IsPicture, IsCovered}
 use Rattle.file_picture.specs.Whole.{whole}
 use Rattle.file_picture.specs.declared.view.Need.{Need}
 use Rattle.file_picture.proofs.AgreeLaws.{agree-covered, filled-agrees}
 use Rattle.file_picture.proofs.WholeLaws.{filled-whole}
 use Rattle.elf_file.specs.Parsed.{IsPictureWhole}
-use Rattle.elf_file.specs.Opened.{Opened, OpensAs, Knows}
+use Rattle.elf_file.specs.Opened.{Opened, Knows}
 use Rattle.elf_file.specs.Steps.{AllHere, Needs, FailsTests}
 use Rattle.elf_file.proofs.StartLemmas.{same_ok}
 use Rattle.elf_file.proofs.ViewLaws.{agree_there, need-of_each, windows-of_each}
-use Rattle.elf_classify.specs.Placed.{IsSectionPlaced, HasSectionThere, SeesSection, NeedsSection, IsSectionSeen, NeedsNamed, SeesNamed, SaysSectionSeen}
-use Rattle.elf_classify.specs.declared.named.SectionView.{SectionView}
-use Rattle.elf_classify.specs.declared.named.SectionView.TheVariants as view
+use Rattle.elf_classify.specs.Placed.{IsSectionPlaced, SeesSection, NeedsSection, IsSectionSeen, NeedsNamed, SeesNamed, SaysSectionStep}
+use Rattle.elf_classify.specs.declared.named.SectionStep.{SectionStep}
+use Rattle.elf_classify.specs.declared.named.SectionStep.TheVariants as step
 
 -- the range of the section of a name that was found
 one_range : {b : List ℕ} {t : SectionTable} {name : List ℕ} {r : Range} (at : Need) → section_table b ≡ Ok t → IsSectionPlaced b t name at
@@ -96,17 +93,11 @@ section_fault b name fault f = section_whole b (whole b) name None refl (no_tabl
 
 -- ---- what a reading of a view finds
 
--- a window of it is needed
-pub named_need : (v : PictureFacts) (name : List ℕ) (need : Need) (r : SectionView) → r ≡ view.Need need.at need.len → Needs v need
-    → SeesNamed v name r
-named_need v name need r e n = subst (SeesNamed v name) (sym e) (inl n)
-
--- the section is
-pub named_section : (v : PictureFacts) (file : Opened) (name : List ℕ) (need : Need) (r : SectionView) → file.file ≡ v
-    → r ≡ view.Need need.at need.len → ((n : ℕ) → AllHere file.file n) → NeedsSection file.file name need → SeesNamed v name r
-named_section v file name need r same e all n =
-    subst (λ w. SeesNamed w name r) same
-    (subst (SeesNamed file.file name) (sym e) (inr (record { section = n; all = all })))
+-- the section is needed, and those before one were passed
+pub named_section : (v : PictureFacts) (file : Opened) (name : List ℕ) (need : Need) → file.file ≡ v
+    → ((n : ℕ) → AllHere file.file n) → NeedsSection file.file name need → NeedsNamed v name need
+named_section v file name need same all n =
+    subst (λ w. NeedsNamed w name need) same (record { section = n; all = all })
 
 -- there is no table
 pub named_fault : (v : PictureFacts) (name : List ℕ) (fault : ElfFault) → FailsTests v fault → IsSectionSeen v name None
@@ -125,13 +116,17 @@ named_found v file name found same all s =
 -- ---- of each file that agrees
 
 -- what is found of a picture is said of each file
-pub says_named : (p : PictureFacts) (name : List ℕ) → IsPicture p → (r : SectionView) → SeesNamed p name r → SaysSectionSeen p name r
-says_named p name is (view.Need at len) (inl n) = record { gone = n.gone; among = λ b f. inl (need-of_each is n b f) }
-says_named p name is (view.Need at len) (inr n) = record {
-  gone = n.section.gone;
-  among = λ b f. inr (section_range_moves (agree_there is f n.all) n.section.is);
-}
-says_named p name is (view.Section found) s = record {
+pub says_named : (p : PictureFacts) (name : List ℕ) → IsPicture p → (r : SectionStep) → SeesNamed p name r → SaysSectionStep p name r
+says_named p name is (step.Need at len next) n = (asks n.0, n.1)
+  where
+    asks : Needs p (record { at = at; len = len }) ⊎ NeedsNamed p name (record { at = at; len = len })
+        → AsksOf (IsSomeSection name) p at len
+    asks (inl w) = record { gone = w.gone; among = λ b f. inl (need-of_each is w b f) }
+    asks (inr w) = record {
+      gone = w.section.gone;
+      among = λ b f. inr (section_range_moves (agree_there is f w.all) w.section.is);
+    }
+says_named p name is (step.Section found) s = record {
   is = λ b f.
       answer_moves (agree_there is f s.all)
       (λ r w. agree-covered p (filled_with_zeros p) b r.at r.len (filled-agrees p is) f (s.there r w)) s.is;

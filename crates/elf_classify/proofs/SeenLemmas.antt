@@ -12,16 +12,15 @@ use Rattle.file_formats.specs.Windows.{Range, Window, beginning, zero_header, ta
 use Rattle.file_picture.specs.Agrees.{filled_with_zeros}
 use Rattle.file_picture.specs.Picture.{PictureFacts, IsPicture, IsCovered}
 use Rattle.file_picture.specs.Whole.{whole}
-use Rattle.file_picture.specs.declared.view.Need.{Need}
 use Rattle.file_picture.proofs.WholeLaws.{filled-whole}
 use Rattle.elf_file.specs.Opened.{Opened, OpensAs}
-use Rattle.elf_file.specs.Steps.{AllHere, Needs, FailsTests}
+use Rattle.elf_file.specs.Steps.{AllHere, FailsTests}
 use Rattle.elf_file.proofs.StartLemmas.{same_ok}
 use Rattle.elf_file.proofs.ViewLaws.{need-of_each, identity-of_each, windows-of_each}
 use Rattle.elf_classify.specs.Ids.{Finds}
-use Rattle.elf_classify.specs.Views.{IsIdentitySeen, SaysIdentity, SeesIdentity}
-use Rattle.elf_classify.specs.declared.identity.IdentView.{IdentView}
-use Rattle.elf_classify.specs.declared.identity.IdentView.TheVariants as view
+use Rattle.elf_classify.specs.Views.{IsIdentitySeen, SaysStep, SeesStep}
+use Rattle.elf_classify.specs.declared.identity.IdentStep.{IdentStep}
+use Rattle.elf_classify.specs.declared.identity.IdentStep.TheVariants as step
 
 -- the notes of a core image are no window
 pub core_all : (v : PictureFacts) (t : SectionTable) → section_table (filled_with_zeros v) ≡ Ok t → t.e_type ≡ ET_CORE → AllHere v 4
@@ -38,10 +37,6 @@ core_all v t is kind all n = record { here = of }
         absurd (h.other (ap (λ (s : SectionTable). s.e_type) same ∙ kind))
 
 -- ---- what is found of a view
-
--- a need of it
-pub sees_need : (v : PictureFacts) (need : Need) (r : IdentView) → r ≡ view.Need need.at need.len → Needs v need → SeesIdentity v r
-sees_need v need r e n = subst (SeesIdentity v) (sym e) n
 
 -- why its table isn't read
 pub sees_fault : (v : PictureFacts) (fault : ElfFault) (why : Why) → why ≡ why_of_fault fault → FailsTests v fault
@@ -86,13 +81,13 @@ pub seen_whole : (b : List ℕ) (v : PictureFacts) (answer : Result Identity Why
 seen_whole b v answer e s = subst (λ f. IsIdentity f answer) (ap filled_with_zeros e ∙ filled-whole b) s.is
 
 -- what is found of a picture is said of each file
-pub says_seen : (p : PictureFacts) → IsPicture p → (r : IdentView) → SeesIdentity p r → SaysIdentity p r
-says_seen p is (view.Need at len) n = record { gone = n.gone; among = need-of_each is n }
-says_seen p is (view.Ident identity) s = record {
+pub says_seen : (p : PictureFacts) → IsPicture p → (r : IdentStep) → SeesStep p r → SaysStep p r
+says_seen p is (step.Need at len next) n = (record { gone = n.needs.gone; among = need-of_each is n.needs }, n.passed)
+says_seen p is (step.Ident identity) s = record {
   is = identity-of_each is s.all s.is;
   there = windows-of_each is s.all;
 }
-says_seen p is (view.Plain why) s = record {
+says_seen p is (step.Plain why) s = record {
   is = identity-of_each is s.all s.is;
   there = windows-of_each is s.all;
 }

@@ -8,14 +8,14 @@ use Rattle.file_formats.specs.Identity.{Identity}
 use Rattle.file_formats.specs.Parts.{IsDebugRange, IsSomePart, is_debug_name}
 use Rattle.file_formats.specs.Table.{section_table}
 use Rattle.file_formats.specs.Windows.{Range}
-use Rattle.file_picture.specs.Agrees.{filled_with_zeros}
+use Rattle.file_picture.specs.Agrees.{AsksOf, IsOfEach, filled_with_zeros}
 use Rattle.file_picture.specs.Picture.{PictureFacts, IsCovered}
 use Rattle.file_picture.specs.declared.view.Need.{Need}
 use Rattle.dwarf_forms.specs.Parts.{sections_of}
 use Rattle.elf_file.specs.Opened.{Opened}
 use Rattle.elf_file.specs.Steps.{Needs}
 use Rattle.elf_classify.specs.Placed.{HasSectionThere, NeedsSection}
-use Rattle.elf_classify.specs.Views.{AsksOf, IsOfEach, IsIdentityOfEach}
+use Rattle.elf_classify.specs.Views.{IsIdentityOfEach}
 use Rattle.elf_classify.specs.declared.parts.PartsView.{PartsView}
 use Rattle.elf_classify.specs.declared.parts.PartsView.TheVariants as view
 

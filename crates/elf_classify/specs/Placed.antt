@@ -1,20 +1,19 @@
 -- The section of a name, and the debug sections, of a file of which parts are there (this project's rule).
-use Rattle.std.specs.Prelude.{◌≡◌, ◌⊎◌, ℕ, List, Option, true, false, ◌==◌}
+use Rattle.std.specs.Prelude.{◌≡◌, ◌⊎◌, ℕ, List, Option}
 use Rattle.std.specs.Option.{option_copied}
-use Rattle.file_formats.specs.declared.codes.TheConstants.{ET_REL}
 use Rattle.file_formats.specs.declared.header.SectionTable.{SectionTable}
-use Rattle.file_formats.specs.DwarfSections.{IsSectionPart, IsDebugAnswer}
-use Rattle.file_formats.specs.DwarfUnits.{DebugSections}
 use Rattle.file_formats.specs.Numbers.{bytes_at}
-use Rattle.file_formats.specs.Parts.{IsSectionRange, IsSomeSection, is_debug_name}
+use Rattle.file_formats.specs.Parts.{IsSectionRange, IsSomeSection}
 use Rattle.file_formats.specs.Table.{section_at, IsSectionOf, IsSectionAnswer}
 use Rattle.file_formats.specs.Windows.{Range, range, extent}
-use Rattle.file_picture.specs.Agrees.{filled_with_zeros}
+use Rattle.file_picture.specs.Agrees.{AsksOf, IsOfEach, filled_with_zeros}
+use Rattle.file_picture.specs.Passed.{HasPassed}
 use Rattle.file_picture.specs.Picture.{PictureFacts, IsCovered}
 use Rattle.file_picture.specs.declared.view.Need.{Need}
 use Rattle.elf_file.specs.Opened.{Opened}
 use Rattle.elf_file.specs.Steps.{AllHere, Needs}
-use Rattle.elf_classify.specs.Views.{AsksOf, IsOfEach}
+use Rattle.elf_classify.specs.declared.named.SectionStep.{SectionStep}
+use Rattle.elf_classify.specs.declared.named.SectionStep.TheVariants as step
 use Rattle.elf_classify.specs.declared.named.SectionView.{SectionView}
 use Rattle.elf_classify.specs.declared.named.SectionView.TheVariants as view
 
@@ -48,14 +47,21 @@ pub record NeedsNamed (v : PictureFacts) (name : List ℕ) (need : Need) : Type 
   pub section : NeedsSection v name need
   pub all : (n : ℕ) → AllHere v n
 
--- what a reading of a view finds for the section of a name
-abbrev pub SeesNamed : PictureFacts → List ℕ → SectionView → Type 0
-SeesNamed v name (view.Need at len) =
-    Needs v (record { at = at; len = len }) ⊎ NeedsNamed v name (record { at = at; len = len })
-SeesNamed v name (view.Section found) = IsSectionSeen v name (option_copied found)
+-- what a reading of a view finds for the section of a name; where a range is needed, the sections before one needn't be looked
+-- at again
+abbrev pub SeesNamed : PictureFacts → List ℕ → SectionStep → Type 0
+SeesNamed v name (step.Need at len next) =
+    (Needs v (record { at = at; len = len }) ⊎ NeedsNamed v name (record { at = at; len = len })) × HasPassed v next
+SeesNamed v name (step.Section found) = IsSectionSeen v name (option_copied found)
 
 -- what is answered for the section of a name of a picture
 abbrev pub SaysSectionSeen : PictureFacts → List ℕ → SectionView → Type 0
 SaysSectionSeen p name (view.Need at len) = AsksOf (IsSomeSection name) p at len
 SaysSectionSeen p name (view.Section found) =
+    IsOfEach (IsSomeSection name) (λ b. IsSectionAnswer b name (option_copied found)) p
+
+-- the same, with the section from which to look on for a build-id, where a range is needed
+abbrev pub SaysSectionStep : PictureFacts → List ℕ → SectionStep → Type 0
+SaysSectionStep p name (step.Need at len next) = AsksOf (IsSomeSection name) p at len × HasPassed p next
+SaysSectionStep p name (step.Section found) =
     IsOfEach (IsSomeSection name) (λ b. IsSectionAnswer b name (option_copied found)) p

@@ -4,13 +4,13 @@ ghost use Rattle.std.specs.Prelude.{◌≡◌, ◌≢◌, ◌↔◌, ◌<◌, �
 ghost use Rattle.file_formats.specs.Identity.{HasCode, HasDebug, Identity, IsIdentity, is_code, is_debug, why_of_fault};
 ghost use Rattle.file_formats.specs.Table.{given_name};
 ghost use Rattle.file_picture.specs.Agrees.{filled_with_zeros};
-ghost use Rattle.elf_classify.specs.Views.{SaysIdentity, SeesIdentity};
-ghost use Rattle.elf_classify.specs.declared.identity.IdentView.TheVariants as view;
+ghost use Rattle.file_picture.specs.Passed.{HasPassed};
+ghost use Rattle.elf_classify.specs.Views.{SaysIdentity, SaysStep, SeesStep};
 
 use crate::ids::build_id;
 use elf_file::{ElfFault, ElfView, Stop};
 use file_formats::{ET_CORE, SHF_ALLOC, SHT_PROGBITS, SectionHeader};
-use file_picture::{Need, Picture, View};
+use file_picture::{Picture, View};
 use row_types::{Ident, Why};
 
 /// What a fault of the table is called of a file.
@@ -79,36 +79,58 @@ pub enum IdentView {
     Plain(Why),
 }
 
-/// The answer that a range is needed.
-fn needs(need: Need) -> IdentView
-    ensures { result ≡ view.Need need.at need.len }
-{
-    IdentView::Need {
-        at: need.at,
-        len: need.len,
-    }
+/// The same, with the place to go on from.
+#[derive(Clone, Copy, PartialEq, Eq)]
+pub enum IdentStep {
+    /// These bytes are needed, and aren't there.
+    Need {
+        /// Where they begin, in bytes from the file's start.
+        at: u64,
+        /// How many they are.
+        len: u64,
+        /// The index of the section from which to look on, once they are there.
+        next: u64,
+    },
+    /// The file has this identity.
+    Ident(Ident),
+    /// It has none, for this reason.
+    Plain(Why),
 }
 
-/// The identity of a file of which parts are there, by the definition, or what it needs.
-fn identity(seen: View<'_>) -> IdentView
-    ensures { SeesIdentity seen.entry result }
+/// The identity of a file of which parts are there, by the definition, or what it needs. No section
+/// before one is looked at for a build-id.
+fn identity(seen: View<'_>, from: u64) -> IdentStep
+    requires { HasPassed seen from }
+    ensures { SeesStep seen.entry result }
 {
+    // For its clause: the pieces of a picture neither overlap nor touch.
+    let _size = seen.size();
     let file = match ElfView::open(seen) {
         Ok(file) => file,
-        Err(Stop::Need(need)) => return needs(need),
-        Err(Stop::Fault(fault)) => return IdentView::Plain(reason(fault)),
+        Err(Stop::Need(need)) => {
+            return IdentStep::Need {
+                at: need.at,
+                len: need.len,
+                next: from,
+            };
+        }
+        Err(Stop::Fault(fault)) => return IdentStep::Plain(reason(fault)),
     };
     if file.kind() == ET_CORE {
-        return IdentView::Plain(Why::Core);
+        return IdentStep::Plain(Why::Core);
     }
-    match build_id(&file) {
-        Ok(Some(id)) => IdentView::Ident(Ident {
+    match build_id(&file, from) {
+        Ok(Some(id)) => IdentStep::Ident(Ident {
             id,
             exec: has_code(&file),
             debug: has_debug(&file),
         }),
-        Ok(None) => IdentView::Plain(Why::NoBuildId),
-        Err(need) => needs(need),
+        Ok(None) => IdentStep::Plain(Why::NoBuildId),
+        Err(stop) => IdentStep::Need {
+            at: stop.need.at,
+            len: stop.need.len,
+            next: stop.from,
+        },
     }
 }
 
@@ -118,10 +140,10 @@ pub fn ident(bytes: &[u8]) -> Result<Ident, Why>
     ensures only { (r : Result Identity Why) → IsIdentity bytes.now r → result ≡ r }
     ensures not_too_large { result ≢ Err Why.TooLarge }
 {
-    match identity(View::whole(bytes)) {
-        IdentView::Ident(ident) => Ok(ident),
-        IdentView::Plain(why) => Err(why),
-        IdentView::Need { .. } => unreachable!(),
+    match identity(View::whole(bytes), 1) {
+        IdentStep::Ident(ident) => Ok(ident),
+        IdentStep::Plain(why) => Err(why),
+        IdentStep::Need { .. } => unreachable!(),
     }
 }
 
@@ -130,5 +152,18 @@ pub fn ident(bytes: &[u8]) -> Result<Ident, Why>
 pub fn ident_view(picture: &Picture) -> IdentView
     ensures { SaysIdentity picture.now result }
 {
-    identity(View::part(picture))
+    match ident_from(picture, 1) {
+        IdentStep::Need { at, len, .. } => IdentView::Need { at, len },
+        IdentStep::Ident(ident) => IdentView::Ident(ident),
+        IdentStep::Plain(why) => IdentView::Plain(why),
+    }
+}
+
+/// The same, where no section before one need be looked at for a build-id, as an earlier answer for a
+/// picture said of which nothing was lost since. It takes no memory.
+pub fn ident_from(picture: &Picture, from: u64) -> IdentStep
+    requires { HasPassed picture.now from }
+    ensures { SaysStep picture.now result }
+{
+    identity(View::part(picture), from)
 }

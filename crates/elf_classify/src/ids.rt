@@ -4,8 +4,10 @@ ghost use Rattle.std.specs.Prelude.{◌≡◌, ◌≢◌, ℕ, MatchOption, Matc
 ghost use Rattle.file_formats.specs.Notes.{HasBuildId, IsFirstBuildId, notes_in};
 ghost use Rattle.file_formats.specs.Table.{IsSectionIndex};
 ghost use Rattle.file_formats.specs.declared.codes.TheConstants.{ET_CORE};
+ghost use Rattle.file_picture.specs.Passed.{HasPassed};
+ghost use Rattle.file_picture.specs.Picture.{IsPicture};
 ghost use Rattle.elf_file.specs.Steps.{Needs};
-ghost use Rattle.elf_classify.specs.Ids.{Finds, FindsAt, LooksAt};
+ghost use Rattle.elf_classify.specs.Ids.{Finds, FindsAt, LooksAt, StopsLooking};
 
 use elf_file::ElfView;
 use elf_notes::first_build_id;
@@ -45,18 +47,31 @@ fn id_at(file: &ElfView<'_>, index: u64) -> Result<Option<BuildId>, Need>
     }
 }
 
-/// The build-id of the first section that has one. All windows are there then.
-#[tactic(auto, using(crate::proofs::IdLemmas::looks_first, crate::proofs::IdLemmas::looks_next, crate::proofs::IdLemmas::finds_first, crate::proofs::IdLemmas::finds_nothing))]
-pub fn build_id(file: &ElfView<'_>) -> Result<Option<BuildId>, Need>
-    requires { file.now.table.e_type ≢ ET_CORE }
-    ensures { MatchResult result (Finds file.now) (Needs file.now.file) }
+/// A range that isn't there, and the section from which to look on, once it is.
+#[derive(Clone, Copy)]
+pub struct NeedAt {
+    /// The range.
+    pub need: Need,
+    /// The section's index.
+    pub from: u64,
+}
+
+/// The build-id of the first section that has one, where none before a section has. All windows are
+/// there then.
+#[tactic(auto, using(crate::proofs::IdLemmas::looks_next, crate::proofs::IdLemmas::finds_first, crate::proofs::IdLemmas::finds_nothing))]
+pub fn build_id(file: &ElfView<'_>, from: u64) -> Result<Option<BuildId>, NeedAt>
+    requires other { file.now.table.e_type ≢ ET_CORE }
+    requires picture { IsPicture file.now.file }
+    requires passed { HasPassed file.now.file from }
+    ensures { MatchResult result (Finds file.now) (StopsLooking file.now) }
 {
     // For its clause: what is known of each file whose table can be read.
     file.knows();
-    for index in 1..file.count() {
-        match id_at(file, index)? {
-            Some(id) => return Ok(Some(id)),
-            None => {}
+    for index in from..file.count() {
+        match id_at(file, index) {
+            Ok(Some(id)) => return Ok(Some(id)),
+            Ok(None) => {}
+            Err(need) => return Err(NeedAt { need, from: index }),
         }
     }
     Ok(None)

@@ -9,6 +9,6 @@ mod named;
 mod parts;
 
 pub use dwarf_forms::DebugParts;
-pub use identity::{IdentView, ident, ident_view};
-pub use named::{SectionView, section_of, section_view};
+pub use identity::{IdentStep, IdentView, ident, ident_from, ident_view};
+pub use named::{SectionStep, SectionView, section_from, section_of, section_view};
 pub use parts::{PartsView, debug_parts, parts_view};

@@ -6,11 +6,13 @@ ghost use Rattle.file_formats.specs.Numbers.{bytes_at};
 ghost use Rattle.file_formats.specs.Table.{HasSection, IsSectionIndex, IsSectionAnswer, section_at};
 ghost use Rattle.file_formats.specs.Windows.{extent, range};
 ghost use Rattle.file_picture.specs.Agrees.{filled_with_zeros};
-ghost use Rattle.elf_file.specs.Steps.{AllHere, Needs};
-ghost use Rattle.elf_classify.specs.Placed.{IsSectionPlaced, NeedsSection, SaysSectionSeen, SeesNamed, SeesSection};
-ghost use Rattle.elf_classify.specs.declared.named.SectionView.TheVariants as view;
+ghost use Rattle.file_picture.specs.Passed.{HasPassed};
+ghost use Rattle.file_picture.specs.Picture.{IsPicture};
+ghost use Rattle.elf_file.specs.Steps.{AllHere};
+ghost use Rattle.elf_classify.specs.Ids.{StopsLooking};
+ghost use Rattle.elf_classify.specs.Placed.{IsSectionPlaced, NeedsSection, SaysSectionSeen, SaysSectionStep, SeesNamed, SeesSection};
 
-use crate::ids::build_id;
+use crate::ids::{NeedAt, build_id};
 use elf_file::{ElfView, Stop};
 use file_formats::{ET_CORE, SHF_COMPRESSED};
 use file_picture::{Need, Picture, View};
@@ -97,46 +99,73 @@ pub enum SectionView<'a> {
     Section(Option<&'a [u8]>),
 }
 
-/// The answer that a range is needed.
-fn needs<'a>(need: Need) -> SectionView<'a>
-    ensures { result ≡ view.Need need.at need.len }
-{
-    SectionView::Need {
-        at: need.at,
-        len: need.len,
-    }
+/// The same, with the place to go on from.
+#[derive(Clone, Copy, PartialEq, Eq)]
+pub enum SectionStep<'a> {
+    /// These bytes are needed, and aren't there.
+    Need {
+        /// Where they begin, in bytes from the file's start.
+        at: u64,
+        /// How many they are.
+        len: u64,
+        /// The index of the section from which to look on for a build-id, once they are there.
+        next: u64,
+    },
+    /// The bytes of the first section that has the name, has contents and isn't compressed.
+    Section(Option<&'a [u8]>),
 }
 
-/// Finds that all windows are there, or one that isn't.
-fn windows(file: &ElfView<'_>) -> Result<(), Need>
-    ensures { MatchResult result (λ _. (n : ℕ) → AllHere file.now.file n) (Needs file.now.file) }
+/// Finds that all windows are there, or one that isn't. No section before one is looked at for a
+/// build-id.
+fn windows(file: &ElfView<'_>, from: u64) -> Result<(), NeedAt>
+    requires picture { IsPicture file.now.file }
+    requires passed { HasPassed file.now.file from }
+    ensures { MatchResult result (λ _. (n : ℕ) → AllHere file.now.file n) (StopsLooking file.now) }
 {
     // For its clause: what is known of each file whose table can be read.
     file.knows();
     if file.kind() == ET_CORE {
         return Ok(());
     }
-    match build_id(file) {
+    match build_id(file, from) {
         Ok(_) => Ok(()),
-        Err(need) => Err(need),
+        Err(stop) => Err(stop),
     }
 }
 
-/// What a view says of the section of a name, where all its windows are there.
-fn section_seen<'a>(seen: View<'a>, name: &[u8]) -> SectionView<'a>
+/// What a view says of the section of a name, where all its windows are there. No section before one
+/// is looked at for a build-id.
+fn section_seen<'a>(seen: View<'a>, name: &[u8], from: u64) -> SectionStep<'a>
+    requires { HasPassed seen from }
     ensures { SeesNamed seen.entry name.now result }
 {
+    // For its clause: the pieces of a picture neither overlap nor touch.
+    let _size = seen.size();
     let file = match ElfView::open(seen) {
         Ok(file) => file,
-        Err(Stop::Need(need)) => return needs(need),
-        Err(Stop::Fault(_)) => return SectionView::Section(None),
+        Err(Stop::Need(need)) => {
+            return SectionStep::Need {
+                at: need.at,
+                len: need.len,
+                next: from,
+            };
+        }
+        Err(Stop::Fault(_)) => return SectionStep::Section(None),
     };
-    if let Err(need) = windows(&file) {
-        return needs(need);
+    if let Err(stop) = windows(&file, from) {
+        return SectionStep::Need {
+            at: stop.need.at,
+            len: stop.need.len,
+            next: stop.from,
+        };
     }
     match section_in(&file, name) {
-        Ok(found) => SectionView::Section(found),
-        Err(need) => needs(need),
+        Ok(found) => SectionStep::Section(found),
+        Err(need) => SectionStep::Need {
+            at: need.at,
+            len: need.len,
+            next: from,
+        },
     }
 }
 
@@ -145,5 +174,17 @@ fn section_seen<'a>(seen: View<'a>, name: &[u8]) -> SectionView<'a>
 pub fn section_view<'a>(picture: &'a Picture, name: &[u8]) -> SectionView<'a>
     ensures { SaysSectionSeen picture.now name.now result }
 {
-    section_seen(View::part(picture), name)
+    match section_from(picture, name, 1) {
+        SectionStep::Need { at, len, .. } => SectionView::Need { at, len },
+        SectionStep::Section(found) => SectionView::Section(found),
+    }
+}
+
+/// The same, where no section before one need be looked at for a build-id, as an earlier answer for a
+/// picture said of which nothing was lost since. It takes no memory.
+pub fn section_from<'a>(picture: &'a Picture, name: &[u8], from: u64) -> SectionStep<'a>
+    requires { HasPassed picture.now from }
+    ensures { SaysSectionStep picture.now name.now result }
+{
+    section_seen(View::part(picture), name, from)
 }

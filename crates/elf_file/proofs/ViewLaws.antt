@@ -13,7 +13,7 @@ use Rattle.file_picture.proofs.AgreeLaws.{agree-covered, filled-agrees}
 use Rattle.elf_file.specs.Steps.{AllHere, Needs}
 
 -- a file that agrees with a picture agrees with its filled form in the windows that are there
-agrees_below : {p : PictureFacts} {b : List ℕ} {n : ℕ} → IsPicture p → AgreesWithPicture b p → AllHere p n → AgreeBelow (filled_with_zeros p) b n
+pub agrees_below : {p : PictureFacts} {b : List ℕ} {n : ℕ} → IsPicture p → AgreesWithPicture b p → AllHere p n → AgreeBelow (filled_with_zeros p) b n
 agrees_below {p} {b} a f all = record {
   sized = (filled-agrees p a).sized ∙ sym f.sized;
   same = λ w r below is. agree-covered p (filled_with_zeros p) b r.at r.len (filled-agrees p a) f (all.here w r below is);

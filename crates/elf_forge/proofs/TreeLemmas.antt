@@ -1,7 +1,8 @@
 -- What holds of a tree of generated files.
-use Rattle.std.proofs.Common.{◌≡◌, ℕ, zero, suc, ◌<◌, ◌≤◌, true, false, not, List, [], ◌∷◌, ◌++◌, map}
+use Rattle.std.proofs.Common.{◌≡◌, ℕ, zero, suc, ◌<◌, ◌≤◌, Bool, true, false, not, List, [], ◌∷◌, ◌++◌, map}
 use Rattle.std.proofs.Common.{Option, Some, None, is_some, option_map, Result, Ok, Err, IfOk, refl, sym, ◌∙◌, ap, subst, arith, inl}
-use Rattle.std.specs.Prelude.{◌==◌, IsOkAnd, IsTrue, nat_lt, codes, if◌then◌else◌, slice_index_or}
+use Rattle.std.specs.Bool.{OnTrue}
+use Rattle.std.specs.Prelude.{◌==◌, IsOkAnd, IsSome, IsTrue, nat_lt, codes, if◌then◌else◌, slice_index_or}
 use Rattle.std.specs.List.{list_all, list_any}
 use Rattle.std.specs.Str.{bytes_eq}
 use Rattle.std.proofs.lemmas.Bool.{and_from, and_parts, false_from_ne_true, false≢true, ltb-false, ltb-true, not-true, not_from_false, or_from, or_parts}
@@ -15,12 +16,13 @@ use Rattle.row_types.specs.Canon.{has_form, is_canonical, pieces, stays}
 use Rattle.row_types.specs.Name.{NameFacts, stamp_at}
 use Rattle.row_types.specs.Under.{lies_under}
 use Rattle.row_types.proofs.CanonLemmas.{has_form_is_canonical}
-use Rattle.tree_trait.specs.Asks.{AsksTree, FitsAny, IsAnswerTold}
+use Rattle.tree_trait.specs.Asks.{AsksTree, FitsAny, IsAnswerTold, ReadsOpened}
 use Rattle.tree_trait.specs.Dir.{IsFolderListing, TellsDir}
 use Rattle.tree_trait.specs.Found.{Versions, found_facts}
-use Rattle.tree_trait.specs.Heard.{Heard, load, stat, read_dir, call_failed, wants_memory}
+use Rattle.tree_trait.specs.Heard.{Heard, load, stat, read_dir, open_file, read_at, call_failed, wants_memory, with_answers}
 use Rattle.tree_trait.specs.Dir.{dir_no_memory}
 use Rattle.tree_trait.specs.Load.{FitsLoad, TellsLoad, loaded, no_memory, too_large}
+use Rattle.tree_trait.specs.Open.{FitsOpening, TellsOpening, open_no_memory, was_opened, was_too_large}
 use Rattle.tree_trait.specs.declared.stat.StatAnswer.TheVariants as found
 use Rattle.tree_trait.specs.Present.{IsKnownName, are_distinct, is_folder}
 use Rattle.tree_trait.specs.Shown.{HandsOn, IsPresence}
@@ -29,7 +31,7 @@ use Rattle.tree_trait.proofs.EntryLemmas.{bytes_back}
 use Rattle.tree_trait.proofs.ListingLemmas.{listing}
 use Rattle.elf_forge.specs.Forge.{forged, six_digits}
 use Rattle.elf_forge.specs.Place.{forged_path, folder_among, folder_at, forged_name, forged_names, forged_number_at, numbers_below, forged_stamp}
-use Rattle.elf_forge.specs.Tree.{ForgeFacts, IsForgedAnswer, RunsForged, dir_answer, dir_answered, heard_question, load_answer, load_answered, forge_shows, stat_answer, stat_answered}
+use Rattle.elf_forge.specs.Tree.{ForgeFacts, IsForgedAnswer, ReadsForged, RunsForged, dir_answer, dir_answered, heard_question, load_answer, load_answered, forge_shows, open_answer, open_answered, stat_answer, stat_answered}
 use Rattle.elf_forge.specs.declared.question.Question.{Question}
 use Rattle.elf_forge.specs.declared.folder.Folder.{Folder}
 use Rattle.elf_forge.proofs.DigitLemmas.{digits_plain, digits_stay, same_path}
@@ -137,6 +139,24 @@ tells_load seed files path limit (Some k) e =
     (if b then too_large (forged_stamp seed k) else loaded (found_facts path (forged_stamp seed k) (forged seed k))))
     [ true ↦ e | false ↦ e ]
 
+fits_open : (seed : ℕ) (path : List ℕ) (limit : ℕ) (place : Option ℕ) → FitsOpening any path limit (open_answered seed limit place)
+fits_open seed path limit None = tt
+fits_open seed path limit (Some k) =
+    elim (nat_lt limit (forged_stamp seed k).size) as (λ b. nat_lt limit (forged_stamp seed k).size ≡ b
+    → FitsOpening any path limit (if b then was_too_large (forged_stamp seed k) else was_opened (forged_stamp seed k))) [
+      | true ↦ λ t. ltb-true limit (forged_stamp seed k).size t
+      | false ↦ λ f. record { fits = ltb-false limit (forged_stamp seed k).size f; bytes = []; known = tt }
+    ] refl
+
+tells_open : (seed files : ℕ) (path : List ℕ) (limit : ℕ) (place : Option ℕ)
+    → stamp_at (forged_names seed files) path ≡ option_map (forged_stamp seed) place
+    → TellsOpening (forged_names seed files) path (open_answered seed limit place)
+tells_open seed files path limit None e = e
+tells_open seed files path limit (Some k) e =
+    elim (nat_lt limit (forged_stamp seed k).size) as (λ b. TellsOpening (forged_names seed files) path
+    (if b then was_too_large (forged_stamp seed k) else was_opened (forged_stamp seed k)))
+    [ true ↦ e | false ↦ e ]
+
 tells_stat : (seed files : ℕ) (path : List ℕ) (folder : Option Folder) (place : Option ℕ)
     → stamp_at (forged_names seed files) path ≡ option_map (forged_stamp seed) place
     → is_folder (forged_names seed files) path ≡ is_some folder
@@ -169,6 +189,13 @@ fine_load seed path limit None = refl
 fine_load seed path limit (Some k) =
     elim (nat_lt limit (forged_stamp seed k).size) as (λ b. call_failed (load path limit
     (if b then too_large (forged_stamp seed k) else loaded (found_facts path (forged_stamp seed k) (forged seed k)))) ≡ false)
+    [ true ↦ refl | false ↦ refl ]
+
+fine_open : (seed : ℕ) (path : List ℕ) (limit : ℕ) (place : Option ℕ) → call_failed (open_file path limit (open_answered seed limit place)) ≡ false
+fine_open seed path limit None = refl
+fine_open seed path limit (Some k) =
+    elim (nat_lt limit (forged_stamp seed k).size) as (λ b. call_failed (open_file path limit
+    (if b then was_too_large (forged_stamp seed k) else was_opened (forged_stamp seed k))) ≡ false)
     [ true ↦ refl | false ↦ refl ]
 
 fine_stat : (seed : ℕ) (path : List ℕ) (folder : Option Folder) (place : Option ℕ) → call_failed (stat path (stat_answered seed folder place)) ≡ false
@@ -207,13 +234,31 @@ sound tree (read_dir path answer) few e =
       tells = tells_dir tree.seed tree.files path few;
       fine = fine_dir tree.files path (folder_among tree.files path);
     })
+sound tree (open_file path limit answer) few e =
+    subst (λ a. IsSound tree (open_file path limit a)) (sym e) (record {
+      fits = fits_open tree.seed path limit (forged_number_at tree.files path);
+      tells = tells_open tree.seed tree.files path limit (forged_number_at tree.files path) (stamp_there tree.seed tree.files path);
+      fine = fine_open tree.seed path limit (forged_number_at tree.files path);
+    })
+sound tree (read_at name at answer) few e = absurd e
 
 -- a call for which memory was refused says nothing
 nothing_said : (tree : ForgeFacts) (asked : Heard) → wants_memory asked ≡ true → IsSound tree asked
 nothing_said tree (load path limit no_memory) w = record { fits = tt; tells = tt; fine = refl }
 nothing_said tree (stat path found.OutOfMemory) w = record { fits = tt; tells = tt; fine = refl }
 nothing_said tree (read_dir path dir_no_memory) w = record { fits = tt; tells = tt; fine = refl }
+nothing_said tree (open_file path limit open_no_memory) w = record { fits = tt; tells = tt; fine = refl }
 nothing_said tree _ w = absurd (false≢true w)
+
+-- a call that doesn't fail hands the tree on, whatever questions are told from there on
+hands : (before : ForgeFacts) (asked : Heard) (heard : Option (List Heard)) → before.files ≤ 1000000 → call_failed asked ≡ false
+    → HandsOn true any (forge_shows before) (forge_shows (record before { heard = heard })) (Unit {0}) (IsTrue (call_failed asked))
+hands before asked heard few fine = record {
+  cause = record { later = omega arith; rose = λ failed. absurd (false≢true (sym fine ∙ failed)) };
+  known = λ _ _. presence (record before { heard = heard }) few;
+  keeps = λ _ _. presence (record before { heard = heard }) few;
+  still = λ still. record { still = still; same = refl };
+}
 
 -- a call that is answered by the files is a call of a tree
 pub asks_forged : (before after : ForgeFacts) (asked : Heard) → before.files ≤ 1000000 → RunsForged before after asked
@@ -221,29 +266,30 @@ pub asks_forged : (before after : ForgeFacts) (asked : Heard) → before.files �
 asks_forged before after asked few runs =
     subst (λ tree. AsksTree true any (forge_shows before) (forge_shows tree) asked) (sym runs.ends)
     (elim (wants_memory asked) as (λ b. wants_memory asked ≡ b → AsksTree true any (forge_shows before)
-    (forge_shows (if b then before else record before { heard = before.heard ++ asked ∷ [] })) asked) [
+    (forge_shows (if b then before else record before { heard = with_answers before.heard (asked ∷ []) })) asked) [
       | true ↦ λ w. let s = nothing_said before asked w in record {
         fits = s.fits;
         tells = λ _. s.tells;
         listed = rw w refl;
-        hands = hands before.heard s.fine;
+        hands = hands before asked before.heard few s.fine;
       }
       | false ↦ λ w. let s = sound before asked few (runs.answers w) in record {
         fits = s.fits;
         tells = λ _. s.tells;
         listed = rw w refl;
-        hands = hands (before.heard ++ asked ∷ []) s.fine;
+        hands = hands before asked (with_answers before.heard (asked ∷ [])) few s.fine;
       }
     ] refl)
-  where
-    hands : (heard : List Heard) → call_failed asked ≡ false
-        → HandsOn true any (forge_shows before) (forge_shows (record before { heard = heard })) (Unit {0}) (IsTrue (call_failed asked))
-    hands heard fine = record {
-      cause = record { later = omega arith; rose = λ failed. absurd (false≢true (sym fine ∙ failed)) };
-      known = λ _ _. presence (record before { heard = heard }) few;
-      keeps = λ _ _. presence (record before { heard = heard }) few;
-      still = λ still. record { still = still; same = refl };
-    }
+
+-- so is a read of an open file, which is listed or not
+pub reads_forged : (before after : ForgeFacts) (asked : Heard) → before.files ≤ 1000000 → call_failed asked ≡ false
+    → ReadsForged before after asked → ReadsOpened true any (forge_shows before) (forge_shows after) asked
+reads_forged before after asked few fine reads = record {
+  listed = reads.listed;
+  hands =
+      subst (λ tree. HandsOn true any (forge_shows before) (forge_shows tree) (Unit {0}) (IsTrue (call_failed asked)))
+      (sym reads.ends) (hands before asked after.heard few fine);
+}
 
 -- ---- calls
 
@@ -256,6 +302,16 @@ load_given path limit seed files = given (forged_number_at files path)
     given (Some k) =
         elim (nat_lt limit (forged_stamp seed k).size) as (λ b. wants_memory (load path limit
         (if b then too_large (forged_stamp seed k) else loaded (found_facts path (forged_stamp seed k) (forged seed k)))) ≡ false)
+        [ true ↦ refl | false ↦ refl ]
+
+pub open_given : (path : List ℕ) (limit seed files : ℕ) → wants_memory (open_file path limit (open_answer seed files path limit)) ≡ false
+open_given path limit seed files = given (forged_number_at files path)
+  where
+    given : (place : Option ℕ) → wants_memory (open_file path limit (open_answered seed limit place)) ≡ false
+    given None = refl
+    given (Some k) =
+        elim (nat_lt limit (forged_stamp seed k).size) as (λ b. wants_memory (open_file path limit
+        (if b then was_too_large (forged_stamp seed k) else was_opened (forged_stamp seed k))) ≡ false)
         [ true ↦ refl | false ↦ refl ]
 
 pub stat_given : (path : List ℕ) (seed files : ℕ) → wants_memory (stat path (stat_answer seed files path)) ≡ false
@@ -277,14 +333,14 @@ dir_given path seed files = given (folder_among files path)
 pub runs_kept : {E : Type 0} (question : Result Question E) (f : ℕ → ℕ → Heard) (before after : ForgeFacts) (asked : Heard)
     → ((s n : ℕ) → IsForgedAnswer s n (f s n)) → ((s n : ℕ) → wants_memory (f s n) ≡ false)
     → IfOk question (λ q. (s n : ℕ) → heard_question s n q ≡ f s n)
-    → IsOkAnd question (λ q. after ≡ record before { heard = before.heard ++ heard_question before.seed before.files q ∷ [] })
+    → IsOkAnd question (λ q. after ≡ record before { heard = with_answers before.heard (heard_question before.seed before.files q ∷ []) })
     → asked ≡ f before.seed before.files → RunsForged before after asked
 runs_kept (Ok q) f before after asked forged given is kept e =
     subst (RunsForged before after) (sym e) (record {
       answers = λ _. forged before.seed before.files;
-      ends = kept ∙ ap (λ h. record before { heard = before.heard ++ h ∷ [] }) (is before.seed before.files)
-          ∙ subst (λ b. record before { heard = before.heard ++ f before.seed before.files ∷ [] }
-          ≡ (if b then before else record before { heard = before.heard ++ f before.seed before.files ∷ [] }))
+      ends = kept ∙ ap (λ h. record before { heard = with_answers before.heard (h ∷ []) }) (is before.seed before.files)
+          ∙ subst (λ b. record before { heard = with_answers before.heard (f before.seed before.files ∷ []) }
+          ≡ (if b then before else record before { heard = with_answers before.heard (f before.seed before.files ∷ []) }))
           (sym (given before.seed before.files)) refl;
     })
 runs_kept (Err x) f before after asked forged given is kept e = absurd kept
@@ -294,11 +350,43 @@ pub runs_refused : (before after : ForgeFacts) (asked : Heard) → wants_memory 
     → RunsForged before after asked
 runs_refused before after asked w e = record {
   answers = λ f. absurd (false≢true (sym f ∙ w));
-  ends = e ∙ subst (λ b. before ≡ (if b then before else record before { heard = before.heard ++ asked ∷ [] })) (sym w) refl;
+  ends = e ∙ subst (λ b. before ≡ (if b then before else record before { heard = with_answers before.heard (asked ∷ []) })) (sym w) refl;
 }
 
 -- after want of memory the tree is as it was
 pub stays_refused : (before after : ForgeFacts) (asked : Heard) → RunsForged before after asked → IsTrue (wants_memory asked)
     → after ≡ before
 stays_refused before after asked runs w =
-    runs.ends ∙ subst (λ b. (if b then before else record before { heard = before.heard ++ asked ∷ [] }) ≡ before) (sym w) refl
+    runs.ends ∙ subst (λ b. (if b then before else record before { heard = with_answers before.heard (asked ∷ []) }) ≡ before) (sym w) refl
+
+-- a read whose question was kept, or that wasn't kept for want of memory
+pub read_kept : {E : Type 0} (question : Result Question E) (kept : Bool) (before after : ForgeFacts) (asked : Heard)
+    → IfOk question (λ q. (s n : ℕ) → heard_question s n q ≡ asked)
+    → OnTrue kept (IsOkAnd question (λ q. after ≡ record before { heard = with_answers before.heard (heard_question before.seed before.files q ∷ []) }))
+    → OnTrue kept (after ≡ record before { heard = with_answers before.heard (asked ∷ []) })
+read_kept question false before after asked is on = tt
+read_kept (Ok q) true before after asked is on =
+    on ∙ ap (λ h. record before { heard = with_answers before.heard (h ∷ []) }) (is before.seed before.files)
+read_kept (Err x) true before after asked is on = absurd on
+
+-- where no questions are told, none is listed
+pub forged_untold : (tree : ForgeFacts) (answers : List Heard) → tree.heard ≡ None
+    → tree ≡ record tree { heard = with_answers tree.heard answers }
+forged_untold tree answers none =
+    ap (λ (heard : Option (List Heard)). record tree { heard = heard })
+    (none ∙ sym (ap (λ (heard : Option (List Heard)). with_answers heard answers) none))
+
+-- a read that was listed, and one behind which no questions are told
+pub reads_kept : (before after : ForgeFacts) (asked : Heard) → after ≡ record before { heard = with_answers before.heard (asked ∷ []) }
+    → ReadsForged before after asked
+reads_kept before after asked e = record {
+  listed = λ _. ap (λ (t : ForgeFacts). t.heard) e;
+  ends = e ∙ ap (λ (h : Option (List Heard)). record before { heard = h }) (sym (ap (λ (t : ForgeFacts). t.heard) e));
+}
+
+pub reads_lost : (before after : ForgeFacts) (asked : Heard) → after ≡ record before { heard = None }
+    → ReadsForged before after asked
+reads_lost before after asked e = record {
+  listed = λ some. absurd (false≢true (subst (λ (t : ForgeFacts). IsSome t.heard) e some));
+  ends = e ∙ ap (λ (h : Option (List Heard)). record before { heard = h }) (sym (ap (λ (t : ForgeFacts). t.heard) e));
+}

@@ -1,10 +1,11 @@
 -- A tree of generated files (this project's rule): it never fails and never changes.
-use Rattle.std.specs.Prelude.{◌≡◌, ℕ, nat_lt, false, if◌then◌else◌, List, [], ◌∷◌, ◌++◌, Option, Some, None}
+use Rattle.std.specs.Prelude.{◌≡◌, ℕ, nat_lt, false, if◌then◌else◌, List, [], ◌∷◌, Option, Some, None, IsSome}
 use Rattle.std.specs.String.{string_bytes}
 use Rattle.tree_trait.specs.Dir.{DirFacts, listed, no_dir}
 use Rattle.tree_trait.specs.Found.{found_facts}
-use Rattle.tree_trait.specs.Heard.{Heard, load, stat, read_dir, wants_memory}
+use Rattle.tree_trait.specs.Heard.{Heard, load, stat, read_dir, open_file, read_at, wants_memory, with_answers}
 use Rattle.tree_trait.specs.Load.{LoadFacts, loaded, too_large, gone}
+use Rattle.tree_trait.specs.Open.{OpenFacts, was_opened, was_too_large, open_gone, room_filled}
 use Rattle.tree_trait.specs.Shown.{ShownTree}
 use Rattle.tree_trait.specs.declared.stat.StatAnswer.{StatAnswer}
 use Rattle.tree_trait.specs.declared.stat.StatAnswer.TheVariants as found
@@ -12,17 +13,17 @@ use Rattle.elf_forge.specs.Forge.{forged}
 use Rattle.elf_forge.specs.Place.{forged_entries, folder_among, forged_names, forged_number_at, forged_stamp}
 use Rattle.elf_forge.specs.declared.folder.Folder.{Folder}
 use Rattle.elf_forge.specs.declared.question.Question.{Question}
-use Rattle.elf_forge.specs.declared.question.Question.TheVariants.{Load, Stat, ReadDir}
+use Rattle.elf_forge.specs.declared.question.Question.TheVariants.{Load, Stat, ReadDir, Open, Read}
 
--- the seed, the number of files, and the questions so far with their answers
+-- the seed, the number of files, and the questions so far with their answers, where they are told
 pub record ForgeFacts : Type 0 where
   pub seed : ℕ
   pub files : ℕ
-  pub heard : List Heard
+  pub heard : Option (List Heard)
 
 -- a tree that was asked nothing yet
 abbrev pub fresh_forge : ℕ → ℕ → ForgeFacts
-fresh_forge seed files = record { seed = seed; files = files; heard = [] }
+fresh_forge seed files = record { seed = seed; files = files; heard = Some [] }
 
 -- what the load of the file of a number answers, if there is one
 abbrev pub load_answered : ℕ → List ℕ → ℕ → Option ℕ → LoadFacts
@@ -34,6 +35,16 @@ load_answered seed path limit (Some k) =
 -- what a load answers
 abbrev pub load_answer : ℕ → ℕ → List ℕ → ℕ → LoadFacts
 load_answer seed files path limit = load_answered seed path limit (forged_number_at files path)
+
+-- what the opening of the file of a number answers, if there is one
+abbrev pub open_answered : ℕ → ℕ → Option ℕ → OpenFacts
+open_answered seed limit None = open_gone
+open_answered seed limit (Some k) =
+    if nat_lt limit (forged_stamp seed k).size then was_too_large (forged_stamp seed k) else was_opened (forged_stamp seed k)
+
+-- what an opening answers
+abbrev pub open_answer : ℕ → ℕ → List ℕ → ℕ → OpenFacts
+open_answer seed files path limit = open_answered seed limit (forged_number_at files path)
 
 -- what a look answers, by the folder and the number of the file there
 abbrev pub stat_answered : ℕ → Option Folder → Option ℕ → StatAnswer
@@ -59,27 +70,38 @@ abbrev pub heard_question : ℕ → ℕ → Question → Heard
 heard_question seed files (Load path limit) = load (string_bytes path) limit (load_answer seed files (string_bytes path) limit)
 heard_question seed files (Stat path) = stat (string_bytes path) (stat_answer seed files (string_bytes path))
 heard_question seed files (ReadDir path) = read_dir (string_bytes path) (dir_answer files (string_bytes path))
+heard_question seed files (Open path limit) =
+    open_file (string_bytes path) limit (open_answer seed files (string_bytes path) limit)
+heard_question seed files (Read path stamp at bytes) =
+    read_at (record { path = string_bytes path; stamp = stamp }) at (room_filled bytes.items)
 
--- the answer is that of the generated files
+-- the answer is that of the generated files; a read of an open file is said apart
 abbrev pub IsForgedAnswer : ℕ → ℕ → Heard → Type 0
 IsForgedAnswer seed files (load path limit answer) = answer ≡ load_answer seed files path limit
 IsForgedAnswer seed files (stat path answer) = answer ≡ stat_answer seed files path
 IsForgedAnswer seed files (read_dir path answer) = answer ≡ dir_answer files path
+IsForgedAnswer seed files (open_file path limit answer) = answer ≡ open_answer seed files path limit
+IsForgedAnswer seed files (read_at name at answer) = ⊥
 
 -- the tree after a call; after want of memory it is as it was
 abbrev pub forge_after : ForgeFacts → Heard → ForgeFacts
-forge_after tree asked = if wants_memory asked then tree else record tree { heard = tree.heard ++ asked ∷ [] }
+forge_after tree asked = if wants_memory asked then tree else record tree { heard = with_answers tree.heard (asked ∷ []) }
 
 -- the call is answered by the generated files, want of memory apart
 pub record RunsForged (before after : ForgeFacts) (asked : Heard) : Type 0 where
   pub answers : wants_memory asked ≡ false → IsForgedAnswer before.seed before.files asked
   pub ends : after ≡ forge_after before asked
 
--- what the tree shows: its names never change, it tells its questions, and it has never failed
+-- the read is listed if there is memory for it; else the questions aren't told from there on
+pub record ReadsForged (before after : ForgeFacts) (asked : Heard) : Type 0 where
+  pub listed : IsSome after.heard → after.heard ≡ with_answers before.heard (asked ∷ [])
+  pub ends : after ≡ record before { heard = after.heard }
+
+-- what the tree shows: its names never change, and it has never failed
 abbrev pub forge_shows : ForgeFacts → ShownTree
 forge_shows tree = record {
   present = forged_names tree.seed tree.files;
   Still = Unit {0};
-  heard = Some tree.heard;
+  heard = tree.heard;
   faults = 0;
 }

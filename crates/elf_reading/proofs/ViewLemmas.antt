@@ -4,7 +4,7 @@ use Rattle.file_formats.specs.declared.fault.Why.{Why}
 use Rattle.file_formats.specs.Parts.{IsSomePart}
 use Rattle.file_formats.specs.Windows.{Range}
 use Rattle.file_formats.proofs.IdentityLemmas.{identity-unique}
-use Rattle.file_picture.specs.Agrees.{AgreesWithPicture}
+use Rattle.file_picture.specs.Agrees.{AgreesWithPicture, AsksOf, IsOfEach}
 use Rattle.file_picture.specs.Picture.{PictureFacts, IsCovered}
 use Rattle.row_types.specs.Name.{NameFacts}
 use Rattle.row_types.specs.Reading.{ReadsBytes}
@@ -12,9 +12,8 @@ use Rattle.row_types.specs.Row.{RowFacts, too_large_row}
 use Rattle.row_types.specs.declared.limits.TheConstants.{EDITION, FILE_LIMIT}
 use Rattle.row_types.specs.declared.reading.Reading.{Reading}
 use Rattle.row_types.specs.declared.reading.Reading.TheVariants.{Plain}
-use Rattle.tree_trait.specs.Reader.{IsRowOf}
-use Rattle.elf_classify.specs.Views.{AsksOf, IsIdentityOfEach, IsOfEach}
-use Rattle.elf_reading.specs.RowViews.{IsReadPart}
+use Rattle.tree_trait.specs.Reader.{IsReadPart, IsRowOf}
+use Rattle.elf_classify.specs.Views.{IsIdentityOfEach}
 use Rattle.elf_reading.proofs.ReadLemmas.{large_is_read, row_says}
 
 -- a file without an identity has no other parts

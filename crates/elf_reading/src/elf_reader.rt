@@ -8,9 +8,10 @@ ghost use Rattle.tree_trait.specs.Reader.{IsRowOf};
 
 use crate::elf_truth::ElfTruth;
 use crate::reading::reading_of;
+use crate::view::read_view;
 use row_types::{EDITION, FILE_LIMIT, Name, Reading, Row, TrueRow, Truth};
 use std::alloc::{AllocError, Global};
-use tree_trait::{Found, Reader};
+use tree_trait::{Found, Opened, Reader, ViewAnswer};
 
 /// Makes the row of a file by its identity and the source paths that its DWARF 5 names.
 #[derive(Clone, Copy)]
@@ -24,6 +25,16 @@ impl<W: ElfTruth> Reader<W> for ElfReader {
         } else {
             small_row(alloc, name, found)
         }
+    }
+
+    fn read_view<F: Drop>(
+        &self,
+        alloc: Global,
+        name: Name,
+        opened: &Opened<W, F>,
+        from: u64,
+    ) -> ViewAnswer<W> {
+        read_view(alloc, name, opened.picture(), from)
     }
 }
 

@@ -10,5 +10,7 @@ mod view;
 
 pub use elf_reader::{ElfReader, large_row};
 pub use elf_truth::ElfTruth;
+pub use reading::{ReadingView, reading_seen};
 pub use sources::file_sources;
-pub use view::{ViewAnswer, read_view};
+pub use tree_trait::ViewAnswer;
+pub use view::read_view;

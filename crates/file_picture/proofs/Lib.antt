@@ -5,5 +5,6 @@ pub mod PutLemmas
 pub mod ReadLemmas
 pub mod AddLemmas
 pub mod AgreeLaws
+pub mod PassedLaws
 pub mod UniqueLaw
 pub mod WholeLaws

@@ -1,5 +1,6 @@
 pub mod Picture
 pub mod Agrees
+pub mod Passed
 pub mod Pieces
 pub mod Whole
 pub mod Lent

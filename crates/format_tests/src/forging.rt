@@ -6,7 +6,9 @@ use row_types::OpenWorld;
 use sha2::{Digest, Sha256};
 use std::alloc::Global;
 use std::process::Abort;
-use tree_trait::{DirAnswer, Entry, EntryKind, LoadAnswer, StatAnswer, Tree};
+use tree_trait::{
+    DirAnswer, Entry, EntryKind, Found, LoadAnswer, OpenAnswer, RoomAnswer, StatAnswer, Tree,
+};
 
 /// Seeds and numbers, with the size and the SHA-256 of the file that python's hashlib and struct
 /// made of them.
@@ -224,4 +226,49 @@ fn folders_have_their_entries(rt: HostRuntime) {
     for (path, want) in &FOLDERS {
         assert!(rt; lists_as(&rt, alloc, &mut tree, path, want), "{path}");
     }
+}
+
+/// Whether this is the byte at a place of an open file.
+fn has_byte(tree: &mut ForgeTree, file: &mut Found<OpenWorld>, at: u64, byte: u8) -> bool {
+    let mut room = [0];
+    if at >= file.stamp.size {
+        return false;
+    }
+    match tree.read_at(file, at, &mut room[..]) {
+        RoomAnswer::Filled => room[0] == byte,
+        RoomAnswer::Failed => false,
+    }
+}
+
+/// Whether an open file has these bytes.
+fn has_bytes(tree: &mut ForgeTree, file: &mut Found<OpenWorld>, bytes: &[u8]) -> bool {
+    let mut at = 0;
+    for byte in bytes {
+        if !has_byte(tree, file, at, *byte) {
+            return false;
+        }
+        at = at.saturating_add(1);
+    }
+    true
+}
+
+#[test]
+fn an_open_file_has_its_forged_bytes(rt: HostRuntime) {
+    let alloc = rt.alloc();
+    let mut tree = ForgeTree::new(alloc, 7, 6);
+    let bytes = forge(alloc, 7, 3).expect(&rt, "memory");
+    match tree.open_file(alloc, "/t/f/000003", 100) {
+        OpenAnswer::Opened { file, .. } => {
+            let mut file = file;
+            assert!(rt; has_bytes(&mut tree, &mut file, bytes.as_slice()));
+        }
+        _ => assert!(rt; false, "not opened"),
+    }
+    assert!(rt;
+        matches!(
+            tree.open_file(alloc, "/t/f/000003", 11),
+            OpenAnswer::TooLarge { .. }
+        )
+    );
+    assert!(rt; matches!(tree.open_file(alloc, "/t/f/000006", 100), OpenAnswer::Gone));
 }

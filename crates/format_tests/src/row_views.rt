@@ -44,7 +44,7 @@ fn row_in<W: Truth>(rt: &impl Abort, answer: ViewAnswer<W>) -> TrueRow<W> {
 /// What a picture says of the row under a name of the open world.
 fn seen_under(alloc: Global, name: Name, picture: &Picture) -> ViewAnswer<OpenWorld> {
     let _size = picture.size();
-    read_view(alloc, name, picture)
+    read_view(alloc, name, picture, 1)
 }
 
 /// What a picture says of the row of a file of its size.
@@ -214,7 +214,7 @@ fn told(rt: &impl Abort, alloc: Global, picture: &Picture) -> ViewAnswer<TwoWorl
     requires { AgreesWithPicture (codes "x") picture.now }
 {
     let name = name_of(rt, alloc, 1);
-    read_view(alloc, name, picture)
+    read_view(alloc, name, picture, 1)
 }
 
 /// The picture of a file of one byte, which isn't known.

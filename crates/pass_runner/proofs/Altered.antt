@@ -1,6 +1,6 @@
--- The names that were missed, in each step: those for which a load found another file are among them.
+-- The names that were missed, in each step: those for which an opening found another file are among them.
 use Rattle.std.proofs.Common.{◌≡◌, ℕ, ◌≤◌, ◌||◌, inl, inr, Bool, true, false, cond, List, [], ◌∷◌, ◌++◌, Option, Some, None, refl, sym, ◌∙◌, ap, subst, arith}
-use Rattle.std.specs.List.{All, Contains, count_by}
+use Rattle.std.specs.List.{All, count_by}
 use Rattle.std.specs.Option.{option_map}
 use Rattle.std.specs.Prelude.{IfSome}
 use Rattle.std.proofs.lemmas.Bool.{false_from_ne_true, or_left, or_right, true≢false}
@@ -25,14 +25,14 @@ use Rattle.index_state.specs.Away.{MissesOut}
 use Rattle.index_state.specs.State.{StateFacts, pass_or_none}
 use Rattle.index_state.proofs.Members.{differs_in, in_without_other, same_name_self}
 use Rattle.index_state.proofs.PassSteps.{in_added}
-use Rattle.scan_worker.specs.Read.{FindsOther, MayWant, ReadsListed, heard_load}
-use Rattle.tree_trait.specs.Heard.{Heard, load}
-use Rattle.tree_trait.specs.Listens.{heard_or_none}
-use Rattle.tree_trait.specs.Load.{LoadFacts, loaded, too_large, failed, no_memory}
-use Rattle.tree_trait.proofs.ListenLemmas.{all_heard}
+use Rattle.scan_worker.specs.Read.{FailsToRead, FindsOther, MayWant, ReadsListed, heard_opening, heard_reading}
+use Rattle.tree_trait.specs.Fills.{IsReadOfFile}
+use Rattle.tree_trait.specs.Heard.{Heard, open_file}
+use Rattle.tree_trait.specs.Open.{OpenFacts, was_opened, was_too_large, open_failed, open_no_memory}
 use Rattle.pass_runner.specs.Settled.{AlteredAreMissed, IsHeardAltered, MissesStay, is_missed}
 use Rattle.pass_runner.specs.Turns.{IsLookUnder}
 use Rattle.pass_runner.proofs.NameLists.{one_name}
+use Rattle.pass_runner.proofs.ReadsHeard.{that_opening}
 
 -- a name of a list is counted in it
 counted : (name : NameFacts) (names : List NameFacts) → is_in names name ≡ true → 1 ≤ count_by (same_name name) names
@@ -139,48 +139,49 @@ unaltered_none listing state = λ name met h. absurd (omega (arith, h.heard.1))
 pub unaltered_looks : {K : Type 0} (listing : List NameFacts) (roots : List (List ℕ)) (answers : List Heard) (state : StateFacts K)
     → All (IsLookUnder roots) answers → AlteredAreMissed listing answers state
 unaltered_looks listing roots answers state looks = λ name met h.
-    absurd (All-contains (IsLookUnder roots) answers (heard_load name h.answer) looks h.heard)
+    absurd (All-contains (IsLookUnder roots) answers (heard_opening name h.answer) looks h.heard)
 
--- what was heard of one question is that question
-one_heard : (asked heard : Heard) → Contains (heard_or_none asked) heard → asked ≡ heard
-one_heard asked heard there =
-    All-contains (λ (x : Heard). asked ≡ x) (heard_or_none asked) heard (all_heard (λ (x : Heard). asked ≡ x) asked refl) there
+same_opening : {p q : List ℕ} {l m : ℕ} {a b : OpenFacts} → open_file p l a ≡ open_file q m b → (p ≡ q) × (a ≡ b)
+same_opening e = (cc, cc)
 
-same_load : {p q : List ℕ} {l m : ℕ} {a b : LoadFacts} → load p l a ≡ load q m b → (p ≡ q) × (a ≡ b)
-same_load e = (cc, cc)
-
--- the load of a listed name was heard
-module _ {K : Type 0} (listing : List NameFacts) (name : NameFacts) (answer : LoadFacts) (by_path : IsByPath listing)
-    (listed : is_in listing name ≡ true) (new : StateFacts K) where
-  that_one : (n : NameFacts) (met : Seen) → IsHeardAltered listing (heard_or_none (heard_load name answer)) n met
+-- a listed name was opened, and read
+module _ {K : Type 0} (listing : List NameFacts) (name : NameFacts) (answer : OpenFacts) (reads : List Heard)
+    (own : All (IsReadOfFile name) reads) (by_path : IsByPath listing) (listed : is_in listing name ≡ true)
+    (new : StateFacts K) where
+  that_one : (n : NameFacts) (met : Seen) → IsHeardAltered listing (heard_reading name answer reads) n met
       → (n ≡ name) × FindsOther name answer met
   that_one n met h =
-      let same : (name.path ≡ n.path) × (answer ≡ h.answer) = same_load (one_heard (heard_load name answer) (heard_load n h.answer) h.heard) in
+      let same : (name.path ≡ n.path) × (answer ≡ h.answer) = same_opening (that_opening name answer reads own n h.answer h.heard) in
       let is : n ≡ name = one_name n name listing by_path h.listed listed ((bytes_eq-Decides n.path name.path).1 (sym same.0)) in (
         is,
-        subst (λ (x : NameFacts). FindsOther x answer met) is (subst (λ (a : LoadFacts). FindsOther n a met) (sym same.1) h.other),
+        subst (λ (x : NameFacts). FindsOther x answer met) is (subst (λ (a : OpenFacts). FindsOther n a met) (sym same.1) h.other),
       )
 
-  -- it found no other file
-  pub unaltered_by : ((met : Seen) → FindsOther name answer met → ⊥) → AlteredAreMissed listing (heard_or_none (heard_load name answer)) new
+  -- another file wasn't found
+  pub unaltered_by : ((met : Seen) → FindsOther name answer met → ⊥)
+      → AlteredAreMissed listing (heard_reading name answer reads) new
   unaltered_by never = λ n met h. absurd (never met (that_one n met h).1)
 
   -- or the name was missed
-  pub altered_by : is_missed new name ≡ true → AlteredAreMissed listing (heard_or_none (heard_load name answer)) new
+  pub altered_by : is_missed new name ≡ true → AlteredAreMissed listing (heard_reading name answer reads) new
   altered_by missed = λ n met h. subst (λ (x : NameFacts). is_missed new x ≡ true) (sym (that_one n met h).0) missed
 
--- a load that gave the file, one that failed and one after which memory was refused found no other
-pub read_same : (name : NameFacts) (answer : LoadFacts) (row : RowFacts) → ReadsListed name answer row → (met : Seen)
+-- a file that was read, one that could not be and one for which memory was refused is no other
+pub read_same : (name : NameFacts) (answer : OpenFacts) (reads : List Heard) (row : RowFacts)
+    → ReadsListed name answer reads row → (met : Seen) → FindsOther name answer met → ⊥
+read_same name (was_opened stamp) reads row says met other = other.0 says.0
+read_same name (was_too_large stamp) reads row says met other = other.0 says.0
+read_same name _ reads row says met other = absurd says
+
+pub failed_same : (name : NameFacts) (answer : OpenFacts) (reads : List Heard) → FailsToRead name answer reads → (met : Seen)
     → FindsOther name answer met → ⊥
-read_same name (loaded found) row reads met other = other.0 reads.0
-read_same name (too_large stamp) row reads met other = other.0 reads.0
-read_same name _ row reads met other = absurd reads
+failed_same name (was_opened stamp) reads fails met other = other.0 fails.0
+failed_same name open_failed reads fails met other = other
+failed_same name _ reads fails met other = absurd fails
 
-pub failed_same : (name : NameFacts) (answer : LoadFacts) → answer ≡ failed → (met : Seen) → FindsOther name answer met → ⊥
-failed_same name answer is met other = subst (λ (a : LoadFacts). FindsOther name a met) is other
-
-pub wanting_same : (name : NameFacts) (answer : LoadFacts) → MayWant name answer → (met : Seen) → FindsOther name answer met → ⊥
-wanting_same name (loaded found) wants met other = other.0 wants
-wanting_same name (too_large stamp) wants met other = other.0 wants
-wanting_same name no_memory wants met other = absurd other
+pub wanting_same : (name : NameFacts) (answer : OpenFacts) → MayWant name answer → (met : Seen)
+    → FindsOther name answer met → ⊥
+wanting_same name (was_opened stamp) wants met other = other.0 wants
+wanting_same name (was_too_large stamp) wants met other = other.0 wants
+wanting_same name open_no_memory wants met other = absurd other
 wanting_same name _ wants met other = absurd wants

@@ -13,9 +13,9 @@ use Rattle.index_state.specs.Judge.{is_under}
 use Rattle.index_state.specs.State.{StateFacts, pass_or_none}
 use Rattle.scan_queue.specs.Names.{is_in}
 use Rattle.scan_queue.specs.declared.miss.Seen.{Seen}
-use Rattle.scan_worker.specs.Read.{heard_load}
+use Rattle.scan_worker.specs.Read.{heard_opening}
 use Rattle.tree_trait.specs.Found.{Versions}
-use Rattle.tree_trait.specs.Heard.{Heard, load, stat, read_dir}
+use Rattle.tree_trait.specs.Heard.{Heard, load, stat, read_dir, open_file, read_at}
 use Rattle.tree_trait.specs.Listens.{Listens}
 use Rattle.tree_trait.specs.Shown.{ShownTree}
 use Rattle.pass_runner.specs.Settled.{Advances, AlteredAreMissed, IsHeardAltered, HadNoRow, IsPassOn, Proceeds, Settles, Wants, is_missed, times_loaded}
@@ -54,37 +54,43 @@ module _ {K : Type 0} {told : Bool} {version : Versions} {shows : K → ShownKee
         bounded = omega arith;
       })
 
+  -- a name that has no row later had none before
+  had_before : {before after : ShownTree} {old mid : StateFacts K} → Proceeds told version shows before after old mid
+      → (path : List ℕ) → HadNoRow (pass_or_none mid.pass).listing (row_names mid.rows) path
+      → HadNoRow (pass_or_none old.pass).listing (row_names old.rows) path
+  had_before {old = old} {mid = mid} p path h =
+      let same : (pass_or_none mid.pass).listing ≡ (pass_or_none old.pass).listing = same_listing p.on.pass in
+      let new : HadNoRow (pass_or_none old.pass).listing (row_names mid.rows) path
+      = subst (λ (l : List NameFacts). HadNoRow l (row_names mid.rows) path) same h in
+      let name : NameFacts = record { path = path; stamp = new.stamp } in
+      record {
+        stamp = new.stamp;
+        listed = new.listed;
+        absent =
+            false_from_ne_true (is_in (row_names old.rows) name)
+            (λ there. true≢false (sym (p.on.moves.stays name (in_by_stamp path new.stamp (pass_or_none old.pass).listing new.listed) there) ∙ new.absent));
+      }
+
   -- what may be asked later might be asked before
   pub wanted_before : {before after : ShownTree} {old mid : StateFacts K} → Proceeds told version shows before after old mid
       → (asked : Heard) → Wants mid asked
       → Wants old asked
-  wanted_before {old = old} {mid = mid} p (load path limit answer) h =
-      let same : (pass_or_none mid.pass).listing ≡ (pass_or_none old.pass).listing = same_listing p.on.pass in
-      let new : HadNoRow (pass_or_none old.pass).listing (row_names mid.rows) path
-      = subst (λ (l : List NameFacts). HadNoRow l (row_names mid.rows) path) same h.1 in
-      let name : NameFacts = record { path = path; stamp = new.stamp } in (
-        h.0,
-        record {
-          stamp = new.stamp;
-          listed = new.listed;
-          absent =
-              false_from_ne_true (is_in (row_names old.rows) name)
-              (λ there. true≢false (sym (p.on.moves.stays name (in_by_stamp path new.stamp (pass_or_none old.pass).listing new.listed) there) ∙ new.absent));
-        },
-      )
+  wanted_before p (load path limit answer) h = absurd h
   wanted_before p (stat path answer) h = ap (λ (r : List (List ℕ)). is_under r path) (sym p.on.roots) ∙ h
   wanted_before p (read_dir path answer) h = absurd h
+  wanted_before p (open_file path limit answer) h = (h.0, had_before p path h.1)
+  wanted_before p (read_at name at answer) h = had_before p name.path h
 
   -- a name that was heard altered is missed in the end
   pub altered_then : {before between after : ShownTree} {old mid new : StateFacts K} (p : Proceeds told version shows before between old mid)
       (q : Proceeds told version shows between after mid new) → AlteredAreMissed (pass_or_none old.pass).listing (p.answers ++ q.answers) new
   altered_then {old = old} {mid = mid} {new = new} p q = λ name met h.
       by name met h (ap (λ (l : List NameFacts). is_in l name) (same_listing p.on.pass) ∙ h.listed)
-      (Contains-append_cases p.answers q.answers (heard_load name h.answer) h.heard)
+      (Contains-append_cases p.answers q.answers (heard_opening name h.answer) h.heard)
     where
       by : (name : NameFacts) (met : Seen) (h : IsHeardAltered (pass_or_none old.pass).listing (p.answers ++ q.answers) name met)
           → is_in (pass_or_none mid.pass).listing name ≡ true
-          → Contains p.answers (heard_load name h.answer) ⊎ Contains q.answers (heard_load name h.answer) → is_missed new name ≡ true
+          → Contains p.answers (heard_opening name h.answer) ⊎ Contains q.answers (heard_opening name h.answer) → is_missed new name ≡ true
       by name met h listed (inl sooner) =
           q.on.still name listed (p.altered name met (record { listed = h.listed; answer = h.answer; heard = sooner; other = h.other }))
       by name met h listed (inr later) =

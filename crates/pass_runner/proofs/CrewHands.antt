@@ -68,7 +68,7 @@ module _ {T : Type 0} (sees : T → ShownTree) (told : Bool) (version : Versions
   Came = HelpedFrom sees told version (filter (is_in names) listing)
 
   pub helps_one : (p q : Helper T) → Came p q → Helps told version listing names (sees p.hand) (sees q.hand)
-  helps_one p q h = record { more = h.0.more; listens = h.0.listens; spares = h.0.spares }
+  helps_one p q h = record { more = h.0.more; listens = h.0.listens; spares = h.0.spares; parts = h.0.parts }
 
   pub hands_one : (p q : Helper T) → Came p q → HandsOn told version (sees p.hand) (sees q.hand) ⊥ ⊥
   hands_one p q h = h.0.listens.hand
@@ -83,7 +83,7 @@ module _ {T : Type 0} (sees : T → ShownTree) (told : Bool) (version : Versions
   loads_all (p ∷ ps) (q ∷ qs) zip all =
       let rest = loads_all ps qs zip.1 (All-tail (λ hand. IsSome (sees hand).heard) q.hand (hands_in qs) all) in
       let some = All-head (λ hand. IsSome (sees hand).heard) q.hand (hands_in qs) all in
-      let one = told_more (sees p.hand).heard (sees q.hand).heard zip.0.0.more zip.0.0.listens.heard some in
+      let one = told_more (sees p.hand).heard (sees q.hand).heard zip.0.0.more (zip.0.0.listens.heard.told some) some in
       let asked = zip.0.0.loaded in
       let a = sum_by-cons (λ hand. loads_told (sees hand).heard) p.hand (hands_in ps) in
       let b = sum_by-cons (λ hand. loads_told (sees hand).heard) q.hand (hands_in qs) in

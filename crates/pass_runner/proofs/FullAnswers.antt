@@ -6,7 +6,7 @@ use Rattle.std.proofs.lemmas.List.Elements.{All-head, All-tail}
 use Rattle.row_types.specs.Name.{NameFacts}
 use Rattle.tree_trait.specs.Dir.{DirFacts}
 use Rattle.tree_trait.specs.Entry.{has_entry}
-use Rattle.tree_trait.specs.Heard.{Heard, load, stat, read_dir}
+use Rattle.tree_trait.specs.Heard.{Heard, load, stat, read_dir, open_file, read_at}
 use Rattle.tree_trait.specs.declared.entry.EntryKind.{EntryKind}
 use Rattle.tree_trait.specs.declared.entry.EntryKind.TheVariants as kind
 use Rattle.tree_trait.specs.declared.stat.StatAnswer.{StatAnswer}
@@ -24,6 +24,10 @@ module _ (roots : List (List ℕ)) (Asked : Heard → Type 0)
       reads_none path more (All-tail Asked (load asked limit answer) more wanted)
   reads_none path (stat asked answer ∷ more) wanted =
       reads_none path more (All-tail Asked (stat asked answer) more wanted)
+  reads_none path (open_file asked limit answer ∷ more) wanted =
+      reads_none path more (All-tail Asked (open_file asked limit answer) more wanted)
+  reads_none path (read_at name at answer ∷ more) wanted =
+      reads_none path more (All-tail Asked (read_at name at answer) more wanted)
   reads_none path (read_dir asked answer ∷ more) wanted =
       absurd (never asked answer (All-head Asked (read_dir asked answer) more wanted))
 

@@ -1,3 +1,4 @@
+pub mod ReadsHeard
 pub mod Altered
 pub mod Appearing
 pub mod Loops

@@ -15,10 +15,11 @@ use Rattle.scan_queue.specs.Names.{is_in}
 use Rattle.scan_queue.specs.Pass.{InOrder, IsPass, PassFacts, Precedes, left}
 use Rattle.scan_queue.proofs.NameTests.{not_before_itself}
 use Rattle.index_state.specs.State.{pass_or_none}
-use Rattle.scan_worker.specs.Read.{heard_load}
-use Rattle.tree_trait.specs.Heard.{Heard, load, stat, read_dir, wants_memory}
+use Rattle.scan_worker.specs.Read.{heard_opening, heard_reading}
+use Rattle.tree_trait.specs.Fills.{IsReadOfFile}
+use Rattle.tree_trait.specs.Heard.{Heard, load, stat, read_dir, open_file, read_at, wants_memory}
 use Rattle.tree_trait.specs.Listens.{heard_or_none}
-use Rattle.tree_trait.specs.Load.{LoadFacts}
+use Rattle.tree_trait.specs.Open.{OpenFacts}
 use Rattle.pass_runner.specs.Settled.{is_load_of, times_loaded, times_named}
 use Rattle.pass_runner.specs.Turns.{IsLookUnder}
 
@@ -35,24 +36,51 @@ pub loads_append : (xs ys : List Heard) (path : List ℕ)
     → times_loaded (xs ++ ys) path ≡ times_loaded xs path + times_loaded ys path
 loads_append xs ys path = sum_by-append (λ (h : Heard). cond (is_load_of path h) 1 0) xs ys
 
--- the load of a name, if it was heard
-pub loads_heard : (name : NameFacts) (answer : LoadFacts) (path : List ℕ)
-    → times_loaded (heard_or_none (heard_load name answer)) path ≤ times_named (name ∷ []) path
-loads_heard name answer path =
-    elim (wants_memory (heard_load name answer)) as (λ b.
-    times_loaded (if b then [] else heard_load name answer ∷ []) path ≤ times_named (name ∷ []) path) [
+-- the reads of an open file are neither loads nor openings
+read_loads : (name : NameFacts) (h : Heard) (path : List ℕ) → IsReadOfFile name h → is_load_of path h ≡ false
+read_loads name (read_at given at answer) path own = refl
+read_loads name (load asked limit answer) path own = absurd own
+read_loads name (stat asked answer) path own = absurd own
+read_loads name (read_dir asked answer) path own = absurd own
+read_loads name (open_file asked limit answer) path own = absurd own
+
+loads_reads : (name : NameFacts) (reads : List Heard) (path : List ℕ) → All (IsReadOfFile name) reads
+    → times_loaded reads path ≡ 0
+loads_reads name [] path own = refl
+loads_reads name (h ∷ rest) path own =
+    let whole = sum_by-cons (λ (x : Heard). cond (is_load_of path x) 1 0) h rest in
+    let here = ap {B = ℕ} (λ (b : Bool). cond b 1 0) (read_loads name h path (All-head (IsReadOfFile name) h rest own)) in
+    let later = loads_reads name rest path (All-tail (IsReadOfFile name) h rest own) in
+    omega (arith, whole, here, later)
+
+-- the opening of a name, if it was heard
+opening_loads : (name : NameFacts) (answer : OpenFacts) (path : List ℕ)
+    → times_loaded (heard_or_none (heard_opening name answer)) path ≤ times_named (name ∷ []) path
+opening_loads name answer path =
+    elim (wants_memory (heard_opening name answer)) as (λ b.
+    times_loaded (if b then [] else heard_opening name answer ∷ []) path ≤ times_named (name ∷ []) path) [
       | true ↦ omega arith
       | false ↦
-          let heard = sum_by-cons (λ (h : Heard). cond (is_load_of path h) 1 0) (heard_load name answer) [] in
+          let heard = sum_by-cons (λ (h : Heard). cond (is_load_of path h) 1 0) (heard_opening name answer) [] in
           let named = sum_by-cons (λ (n : NameFacts). cond (bytes_eq n.path path) 1 0) name [] in
           omega (arith, heard, named)
     ]
+
+pub loads_heard : (name : NameFacts) (answer : OpenFacts) (reads : List Heard) → All (IsReadOfFile name) reads
+    → (path : List ℕ) → times_loaded (heard_reading name answer reads) path ≤ times_named (name ∷ []) path
+loads_heard name answer reads own path =
+    let both = loads_append (heard_or_none (heard_opening name answer)) reads path in
+    let one = opening_loads name answer path in
+    let none = loads_reads name reads path own in
+    omega (arith, both, one, none)
 
 -- a look loads nothing
 look_loads : (roots : List (List ℕ)) (h : Heard) (path : List ℕ) → IsLookUnder roots h → is_load_of path h ≡ false
 look_loads roots (stat asked answer) path is = refl
 look_loads roots (load asked limit answer) path is = absurd is
 look_loads roots (read_dir asked answer) path is = absurd is
+look_loads roots (open_file asked limit answer) path is = absurd is
+look_loads roots (read_at name at answer) path is = absurd is
 
 pub loads_looks : (roots : List (List ℕ)) (answers : List Heard) (path : List ℕ) → All (IsLookUnder roots) answers
     → times_loaded answers path ≡ 0

@@ -15,6 +15,7 @@ use Rattle.scan_queue.specs.Pass.{PassFacts}
 use Rattle.scan_queue.specs.declared.miss.Cause.{Cause}
 use Rattle.scan_queue.specs.declared.miss.Cause.TheVariants.{ReadFault, Altered, Appeared}
 use Rattle.scan_queue.specs.declared.miss.Miss.{Miss}
+use Rattle.scan_worker.specs.Read.{heard_reading}
 use Rattle.tree_trait.specs.Heard.{Heard}
 use Rattle.pass_runner.specs.Settled.{Advances, IsBacked, IsBrought, IsMissBy, IsPassOn, IsSeenGone, MissesBy, MovesRows}
 
@@ -66,7 +67,12 @@ module _ (some more : List Heard) {Failed Fails : Type 0} (among : (h : Heard) �
 
   brought_as : (rows : List RowFacts) (row : RowFacts) → IsBrought rows some row → IsBrought rows more row
   brought_as rows row (inl before) = inl before
-  brought_as rows row (inr read) = inr (record { answer = read.answer; heard = among _ read.heard; reads = read.reads })
+  brought_as rows row (inr read) = inr (record {
+    answer = read.answer;
+    reads = read.reads;
+    heard = All-weaker (Contains some) (Contains more) among (heard_reading row.name read.answer read.reads) read.heard;
+    says = read.says;
+  })
 
   pub advances_as : {K : Type 0} {shows : K → ShownKeeper} {old new : StateFacts K} → Advances shows some Failed old new
       → Advances shows more Fails old new

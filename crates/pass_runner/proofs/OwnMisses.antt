@@ -19,12 +19,12 @@ use Rattle.scan_queue.specs.declared.miss.Miss.{Miss}
 use Rattle.scan_queue.specs.declared.miss.Seen.{Seen}
 use Rattle.scan_queue.specs.declared.miss.Seen.TheVariants as seen
 use Rattle.scan_queue.proofs.NameTests.{same_stamp-Decides}
-use Rattle.scan_worker.specs.Read.{FindsOther, heard_load}
-use Rattle.tree_trait.specs.Asks.{AsksTree}
+use Rattle.scan_worker.specs.Read.{FindsOther, ReadsName, heard_reading}
+use Rattle.scan_worker.specs.declared.read.NameRead.{NameRead}
+use Rattle.scan_worker.specs.declared.read.NameRead.TheVariants.{Failed}
 use Rattle.tree_trait.specs.Found.{Versions}
-use Rattle.tree_trait.specs.Heard.{Heard, stat, call_failed, wants_memory}
+use Rattle.tree_trait.specs.Heard.{Heard, stat, call_failed}
 use Rattle.tree_trait.specs.Listens.{Listens, heard_or_none}
-use Rattle.tree_trait.specs.Load.{LoadFacts, loaded, too_large, gone, failed, no_memory}
 use Rattle.tree_trait.specs.Shown.{ShownTree}
 use Rattle.tree_trait.specs.declared.stat.StatAnswer.{StatAnswer}
 use Rattle.tree_trait.specs.declared.stat.StatAnswer.TheVariants as said
@@ -36,45 +36,45 @@ use Rattle.pass_runner.specs.Helped.{IsSparing}
 use Rattle.pass_runner.specs.Leading.{IsStanding, LeadsInSettling, MayNote, MayNoteThere}
 use Rattle.pass_runner.specs.SharedPass.{IsMetByHand}
 use Rattle.pass_runner.proofs.LeadLemmas.{leads_by, leads_quiet}
+use Rattle.pass_runner.proofs.ReadsHeard.{all_reading, opening_heard, read_spares_all}
+use Rattle.pass_runner.proofs.Turning.{other_heard}
 
--- what was found in place of a file was heard
-other_heard : (name : NameFacts) (answer : LoadFacts) (met : Seen) → FindsOther name answer met
-    → wants_memory (heard_load name answer) ≡ false
-other_heard name (loaded found) met h = refl
-other_heard name (too_large stamp) met h = refl
-other_heard name gone met h = refl
-other_heard name failed met h = absurd h
-other_heard name no_memory met h = absurd h
+-- nothing but an opening and reads was asked
+asks_reading : {W : Type 0} {told : Bool} {version : Versions} {before after : ShownTree} {given : NameRead W} (name : NameFacts)
+    (does : ReadsName told version name before after given) → All (IsSparing []) (heard_reading name does.answer does.reads)
+asks_reading name does = all_reading name does.answer does.reads (IsSparing []) (refl, refl) (read_spares_all name) does.own
 
-module _ {told : Bool} {version : Versions} {missed : List Miss} {seat taken later : SeatFacts Change Origin}
-    {before after : ShownTree} (name : NameFacts) (answer : LoadFacts) (took : IsLater seat taken) (on : IsLater taken later)
-    (asks : AsksTree told version before after (heard_load name answer)) where
-  -- a listed file was loaded, and nothing was noted
+module _ {W : Type 0} {told : Bool} {version : Versions} {missed : List Miss} {seat taken later : SeatFacts Change Origin}
+    {before after : ShownTree} {given : NameRead W} (name : NameFacts) (took : IsLater seat taken) (on : IsLater taken later)
+    (does : ReadsName told version name before after given) where
+  -- a listed file was opened and read, and nothing was noted
   pub leads_load : LeadsInSettling told version seat before later after missed missed
   leads_load =
-      leads_quiet (heard_or_none (heard_load name answer)) (later_trans took on) (listens_one (heard_load name answer) asks)
-      (all_heard (IsSparing []) (heard_load name answer) (refl, refl))
+      leads_quiet (heard_reading name does.answer does.reads) (later_trans took on) does.listens (asks_reading name does)
 
   load_noted : {last : List Miss} (cause : Cause) → MayNote (record { name = name; cause = cause }) missed last
-      → IsMetByHand seat.seen later.seen (heard_or_none (heard_load name answer)) (Rose before.faults after.faults) name cause
+      → IsMetByHand seat.seen later.seen (heard_reading name does.answer does.reads) (Rose before.faults after.faults) name cause
       → LeadsInSettling told version seat before later after missed last
   load_noted cause noted why =
-      leads_by (record { name = name; cause = cause }) (heard_or_none (heard_load name answer)) (later_trans took on)
-      (listens_one (heard_load name answer) asks) (all_heard (IsSparing []) (heard_load name answer) (refl, refl)) noted why
+      leads_by (record { name = name; cause = cause }) (heard_reading name does.answer does.reads) (later_trans took on)
+      does.listens (asks_reading name does) noted why
 
   -- another file stood there, or none
-  pub leads_other : {last : List Miss} (met : Seen) → FindsOther name answer met
+  pub leads_other : {last : List Miss} (met : Seen) → FindsOther name does.answer met
       → MayNote (record { name = name; cause = Altered met }) missed last
       → LeadsInSettling told version seat before later after missed last
   leads_other met finds noted =
       load_noted (Altered met) noted
-      (record { answer = answer; heard = is_heard (heard_load name answer) (other_heard name answer met finds); other = finds })
+      (record {
+        answer = does.answer;
+        heard = opening_heard name does.answer does.reads (other_heard name does.answer met finds);
+        other = finds;
+      })
 
   -- it could not be read
-  pub leads_unread : {last : List Miss} → answer ≡ failed → MayNote (record { name = name; cause = ReadFault }) missed last
+  pub leads_unread : {last : List Miss} → given ≡ Failed → MayNote (record { name = name; cause = ReadFault }) missed last
       → LeadsInSettling told version seat before later after missed last
-  leads_unread is noted =
-      load_noted ReadFault noted (asks.hands.cause.rose (ap (λ (a : LoadFacts). call_failed (heard_load name a)) is))
+  leads_unread is noted = load_noted ReadFault noted (does.hands.cause.rose is)
 
 -- what a look saw is what was answered
 saw_file : (answer : StatAnswer) (stamp : StampFacts) → looked.Saw (seen.File stamp) ≡ looked_of answer

@@ -25,6 +25,7 @@ use Rattle.tree_walk.specs.declared.walked.Walk.{Walk as WalkFacts}
 use Rattle.pass_runner.specs.Ends.{IsOutOfRoom}
 use Rattle.index_state.specs.Plan.{plan_of}
 use Rattle.scan_queue.specs.Names.{is_in}
+use Rattle.scan_worker.specs.Works.{no_more}
 use Rattle.pass_runner.specs.Helped.{IsSparing}
 use Rattle.pass_runner.specs.Owned.{EndsPassHelped, EndsPass, HasMissed, HearsPass, HearsWalked, Helps, IsHelped, IsWholePass, LeavesIndex, RunsPass, TellsStill}
 use Rattle.pass_runner.specs.Passes.{EndsOver, IsApart, IsFirstMiss, LeavesToHands}
@@ -34,7 +35,7 @@ use Rattle.pass_runner.specs.declared.pass_end.PassEnd.TheVariants.{Whole, Misse
 use Rattle.pass_runner.specs.declared.pass_end.PassEnd.TheVariants.{KeeperFault, LogFull, OutOfMemory}
 use Rattle.pass_runner.proofs.Appearing.{backed_unlisted}
 use Rattle.pass_runner.proofs.FullAnswers.{full_stays, listing_stays}
-use Rattle.tree_trait.proofs.ListenLemmas.{heard_both, listens_none}
+use Rattle.tree_trait.proofs.ListenLemmas.{lists_all, lists_both, listens_none}
 use Rattle.pass_runner.proofs.Moves.{same_listing}
 use Rattle.pass_runner.proofs.PassEnds.{all_backed, first_is}
 use Rattle.pass_runner.proofs.PassHands.{rose_later}
@@ -55,7 +56,7 @@ module _ (world : Rules) {told : Bool} {roots : List (List ℕ)} {before met aft
       → (more : List Heard) → Listens told world.version met after more → All Wanted more
       → HearsWalked told world.version roots walk walks.goes.more more before after
   hears_walked Wanted never more listens wanted = record {
-    heard = heard_both before.heard met.heard after.heard walks.goes.more more walks.goes.heard listens.heard;
+    heard = lists_both before.heard met.heard after.heard walks.goes.more more (lists_all walks.goes.heard) listens.heard;
     whole = walks.goes.ends;
     full = full_stays roots Wanted never walks.goes.more more wanted walks.goes.ends.full;
     listing =
@@ -197,4 +198,5 @@ helps_none sees told version listing names hand = record {
   more = [];
   listens = listens_none;
   spares = All-nil (IsSparing (filter (is_in names) listing));
+  parts = inl no_more;
 }

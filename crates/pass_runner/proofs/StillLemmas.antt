@@ -13,11 +13,11 @@ use Rattle.row_types.specs.Stamp.{StampFacts}
 use Rattle.scan_queue.specs.Names.{is_in}
 use Rattle.scan_queue.specs.declared.miss.Seen.{Seen}
 use Rattle.scan_queue.proofs.NameTests.{same_name-Decides}
-use Rattle.scan_worker.specs.Read.{FindsOther, heard_load}
+use Rattle.scan_worker.specs.Read.{FindsOther, heard_opening}
 use Rattle.tree_trait.specs.Asks.{IsAnswerTold}
 use Rattle.tree_trait.specs.Found.{Versions}
 use Rattle.tree_trait.specs.Heard.{Heard, stat}
-use Rattle.tree_trait.specs.Load.{LoadFacts, loaded, too_large, gone, TellsLoad}
+use Rattle.tree_trait.specs.Open.{OpenFacts, TellsOpening, was_opened, was_too_large, open_gone}
 use Rattle.tree_trait.specs.Shown.{ShownTree}
 use Rattle.tree_trait.specs.Stat.{TellsStat}
 use Rattle.tree_trait.specs.declared.stat.StatAnswer.{StatAnswer}
@@ -59,13 +59,13 @@ first_told present path (stat asked given ∷ rest) answer told e =
 first_told present path (asked ∷ rest) answer told e =
     first_told present path rest answer (All-tail (IsAnswerTold present) asked rest told) e
 
--- a load of the files that are there shows no other file
-none_other : (present : List NameFacts) (name : NameFacts) (answer : LoadFacts) (met : Seen)
-    → stamp_at present name.path ≡ Some name.stamp → TellsLoad present name.path answer
+-- an opening of the files that are there shows no other file
+none_other : (present : List NameFacts) (name : NameFacts) (answer : OpenFacts) (met : Seen)
+    → stamp_at present name.path ≡ Some name.stamp → TellsOpening present name.path answer
     → FindsOther name answer met → ⊥
-none_other present name (loaded found) met there tells finds = finds.0 (cc)
-none_other present name (too_large stamp) met there tells finds = finds.0 (cc)
-none_other present name gone met there tells finds = absurd (cc)
+none_other present name (was_opened stamp) met there tells finds = finds.0 (cc)
+none_other present name (was_too_large stamp) met there tells finds = finds.0 (cc)
+none_other present name open_gone met there tells finds = absurd (cc)
 none_other present name _ met there tells finds = finds
 
 -- a name of the list is one of its elements
@@ -98,8 +98,8 @@ module _ {told : Bool} {version : Versions} {roots : List (List ℕ)} {walk : Wa
       let there = first_told before.present name.path walked (File name.stamp)
       (all_front (IsAnswerTold before.present) walked more (hears.tells still)) ((hears.whole.listing.all name).0 member).file in
       none_other before.present name why.answer met there
-      (All-contains (IsAnswerTold before.present) (walked ++ more) (heard_load name why.answer) (hears.tells still)
-      (Contains-append_right walked more (heard_load name why.answer) why.heard))
+      (All-contains (IsAnswerTold before.present) (walked ++ more) (heard_opening name why.answer) (hears.tells still)
+      (Contains-append_right walked more (heard_opening name why.answer) why.heard))
       why.other
 
   -- a file stood that isn't listed

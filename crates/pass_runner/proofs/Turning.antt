@@ -1,9 +1,9 @@
 -- What becomes of a name that was handed out.
-use Rattle.std.proofs.Common.{◌≡◌, ◌≢◌, ℕ, ◌≤◌, Bool, true, false, List, [], ◌∷◌, Option, Some, None, refl, sym, ◌∙◌, ap, subst, arith, IsTrue}
+use Rattle.std.proofs.Common.{◌≡◌, ◌≢◌, ℕ, ◌≤◌, Bool, true, false, List, [], ◌∷◌, Option, Some, None, refl, sym, ◌∙◌, ap, subst, arith}
 use Rattle.std.specs.List.{All, Contains}
 use Rattle.std.specs.Bool.{OnTrue, OnFalse}
 use Rattle.std.proofs.lemmas.Bool.{OnTrue_at, OnFalse_at, true≢false}
-use Rattle.std.proofs.lemmas.List.Elements.{All-nil, All-weaker}
+use Rattle.std.proofs.lemmas.List.Elements.{All-contains_itself, All-nil, All-weaker}
 use Rattle.row_types.specs.Faults.{Rose}
 use Rattle.row_types.specs.Name.{NameFacts}
 use Rattle.row_types.specs.Row.{RowFacts}
@@ -22,19 +22,21 @@ use Rattle.index_state.specs.State.{StateFacts, pass_or_none}
 use Rattle.index_state.specs.Step.{IsAwaited, Judges}
 use Rattle.index_state.specs.declared.answer.Judged.{Judged}
 use Rattle.index_state.specs.declared.answer.Judged.TheVariants as judged
-use Rattle.scan_worker.specs.Read.{FindsOther, MayWant, ReadsListed, heard_load}
+use Rattle.scan_worker.specs.Read.{FindsOther, ReadsListed, ReadsName, heard_opening, heard_reading}
+use Rattle.scan_worker.specs.declared.read.NameRead.TheVariants as given
 use Rattle.index_desk.specs.declared.work_end.WorkEnd.{WorkEnd}
 use Rattle.index_desk.specs.declared.work_end.WorkEnd.TheVariants.{KeeperFault, LogFull, OutOfMemory}
 use Rattle.tree_trait.specs.Asks.{AsksTree}
+use Rattle.tree_trait.specs.Fills.{IsReadOfFile}
 use Rattle.tree_trait.specs.Found.{Versions}
-use Rattle.tree_trait.specs.Heard.{Heard, load, stat, read_dir, call_failed, wants_memory}
+use Rattle.tree_trait.specs.Heard.{Heard, load, stat, read_dir, open_file, read_at, wants_memory}
 use Rattle.tree_trait.specs.Listens.{Listens, heard_or_none}
-use Rattle.tree_trait.specs.Load.{LoadFacts, loaded, too_large, gone, failed}
+use Rattle.tree_trait.specs.Open.{OpenFacts, was_opened, was_too_large, open_gone}
 use Rattle.tree_trait.specs.Shown.{ShownTree}
 use Rattle.tree_trait.specs.declared.stat.StatAnswer.{StatAnswer}
 use Rattle.tree_trait.specs.declared.stat.StatAnswer.TheVariants as said
 use Rattle.pass_runner.specs.Ends.{IsOutOfRoom, TurnsBy}
-use Rattle.pass_runner.specs.Settled.{Advances, AlteredAreMissed, IsBacked, IsPassOn, IsReadOf, MayBeAsked, Wants, is_missed, times_loaded, times_named}
+use Rattle.pass_runner.specs.Settled.{Advances, AlteredAreMissed, HadNoRow, IsBacked, IsPassOn, IsReadOf, MayBeAsked, Wants, is_missed, times_loaded, times_named}
 use Rattle.pass_runner.specs.Turns.{AppearsBy, HasSeenFile, IsLookUnder, JudgesLeft, LooksForFile, LooksTo, PublishesNew, TurnsOver, after_judged}
 use Rattle.groomer.specs.Looks.{LooksAtName, looked_of}
 use Rattle.groomer.specs.declared.looking.Looked.{Looked}
@@ -43,6 +45,7 @@ use Rattle.pass_runner.proofs.Altered.{altered_by, failed_same, missed_self, rea
 use Rattle.pass_runner.proofs.Appearing.{appears_same, dropped_stand, left_none, left_stand, missed_none, missed_stand}
 use Rattle.pass_runner.proofs.Bounding.{bounded_void}
 use Rattle.pass_runner.proofs.Loads.{loads_heard, loads_looks}
+use Rattle.pass_runner.proofs.ReadsHeard.{all_reading, opening_heard}
 use Rattle.tree_trait.proofs.ListenLemmas.{all_heard, is_heard, listens_none, listens_one}
 use Rattle.pass_runner.proofs.NameLists.{stamp_listed}
 use Rattle.pass_runner.proofs.Composed.{settles_by}
@@ -197,6 +200,8 @@ wanted_looks listing roots names answers asked =
     each (stat path answer) h = h
     each (load path limit answer) h = absurd h
     each (read_dir path answer) h = absurd h
+    each (open_file path limit answer) h = absurd h
+    each (read_at name at answer) h = absurd h
 
 -- and load nothing
 unloaded : (roots : List (List ℕ)) (answers : List Heard) → All (IsLookUnder roots) answers → (path : List ℕ)
@@ -209,78 +214,86 @@ awaited_by_path : {K : Type 0} {true_row : RowFacts → Type 0} {tells : Bool} {
 awaited_by_path {state = state} {name = name} holds awaited =
     listing_by_path state.pass holds.each_name_in_one_place (listed_open state.pass name awaited.listed)
 
--- the load of a name that is awaited may be asked
-wanted_load : {K : Type 0} {true_row : RowFacts → Type 0} {tells : Bool} {shows : K → ShownKeeper} {state : StateFacts K}
-    (name : NameFacts) (answer : LoadFacts) → IndexInvariant true_row tells shows state → IsAwaited name state
-    → Wants state (heard_load name answer)
-wanted_load {state = state} name answer holds awaited = (
-  refl,
-  record {
-    stamp = name.stamp;
-    listed = stamp_listed name (pass_or_none state.pass).listing (awaited_by_path holds awaited) awaited.listed;
-    absent = awaited.absent;
-  },
-)
+-- a name that is awaited may be opened and read
+had_none : {K : Type 0} {true_row : RowFacts → Type 0} {tells : Bool} {shows : K → ShownKeeper} {state : StateFacts K}
+    (name : NameFacts) → IndexInvariant true_row tells shows state → IsAwaited name state
+    → HadNoRow (pass_or_none state.pass).listing (row_names state.rows) name.path
+had_none {state = state} name holds awaited = record {
+  stamp = name.stamp;
+  listed = stamp_listed name (pass_or_none state.pass).listing (awaited_by_path holds awaited) awaited.listed;
+  absent = awaited.absent;
+}
+
+wanted_read : {K : Type 0} (state : StateFacts K) (name : NameFacts)
+    → HadNoRow (pass_or_none state.pass).listing (row_names state.rows) name.path
+    → (asked : Heard) → IsReadOfFile name asked → Wants state asked
+wanted_read state name had (read_at other at answer) own =
+    subst (λ (n : NameFacts). HadNoRow (pass_or_none state.pass).listing (row_names state.rows) n.path) (sym own) had
+wanted_read state name had (load path limit answer) own = absurd own
+wanted_read state name had (stat path answer) own = absurd own
+wanted_read state name had (read_dir path answer) own = absurd own
+wanted_read state name had (open_file path limit answer) own = absurd own
+
+wanted_reading : {K : Type 0} {true_row : RowFacts → Type 0} {tells : Bool} {shows : K → ShownKeeper} {state : StateFacts K}
+    (name : NameFacts) (answer : OpenFacts) (reads : List Heard) → All (IsReadOfFile name) reads
+    → IndexInvariant true_row tells shows state → IsAwaited name state
+    → All (Wants state) (heard_reading name answer reads)
+wanted_reading {state = state} name answer reads own holds awaited =
+    let had = had_none name holds awaited in
+    all_reading name answer reads (Wants state) (refl, had) (wanted_read state name had) own
 
 -- a row that was read has the listed name
-read_named : (name : NameFacts) (answer : LoadFacts) (row : RowFacts) → ReadsListed name answer row → row.name ≡ name
-read_named name (loaded found) row h = h.1.named
-read_named name (too_large stamp) row h = ap (λ (r : RowFacts). r.name) h.1
-read_named name _ row h = absurd h
+read_named : (name : NameFacts) (answer : OpenFacts) (reads : List Heard) (row : RowFacts) → ReadsListed name answer reads row
+    → row.name ≡ name
+read_named name (was_opened stamp) reads row h = (h.1.is h.1.bytes h.1.has).named
+read_named name (was_too_large stamp) reads row h = ap (λ (r : RowFacts). r.name) h.1
+read_named name _ reads row h = absurd h
 
 -- and the name of the row is awaited, where that name is
-pub reads_awaited : {K : Type 0} {state : StateFacts K} {name : NameFacts} (row : RowFacts) (answer : LoadFacts)
-    → ReadsListed name answer row → IsAwaited name state → IsAwaited row.name state
-reads_awaited {state = state} {name = name} row answer reads awaited =
-    subst (λ (n : NameFacts). IsAwaited n state) (sym (read_named name answer row reads)) awaited
+pub reads_awaited : {K : Type 0} {state : StateFacts K} {name : NameFacts} (row : RowFacts) (answer : OpenFacts)
+    (reads : List Heard) → ReadsListed name answer reads row → IsAwaited name state → IsAwaited row.name state
+reads_awaited {state = state} {name = name} row answer reads says awaited =
+    subst (λ (n : NameFacts). IsAwaited n state) (sym (read_named name answer reads row says)) awaited
 
--- a load that gave another file wasn't refused memory
-other_heard : (name : NameFacts) (answer : LoadFacts) (met : Seen) → FindsOther name answer met
-    → wants_memory (heard_load name answer) ≡ false
-other_heard name (loaded found) met h = refl
-other_heard name (too_large stamp) met h = refl
-other_heard name gone met h = refl
+-- an opening that found another file wasn't refused memory
+pub other_heard : (name : NameFacts) (answer : OpenFacts) (met : Seen) → FindsOther name answer met
+    → wants_memory (heard_opening name answer) ≡ false
+other_heard name (was_opened stamp) met h = refl
+other_heard name (was_too_large stamp) met h = refl
+other_heard name open_gone met h = refl
 other_heard name _ met h = absurd h
 
--- nor was one that gave the file
-read_heard : (name : NameFacts) (answer : LoadFacts) (row : RowFacts) → ReadsListed name answer row
-    → wants_memory (heard_load name answer) ≡ false
-read_heard name (loaded found) row h = refl
-read_heard name (too_large stamp) row h = refl
-read_heard name _ row h = absurd h
-
--- what the row says is what the load found
-read_of : (name : NameFacts) (answer : LoadFacts) (row : RowFacts) → ReadsListed name answer row → row.name ≡ name
-    → IsReadOf (heard_or_none (heard_load name answer)) row
-read_of name answer row reads named = record {
+-- what the row says is what was read
+read_of : (name : NameFacts) (answer : OpenFacts) (reads : List Heard) (row : RowFacts) → ReadsListed name answer reads row
+    → row.name ≡ name → IsReadOf (heard_reading name answer reads) row
+read_of name answer reads row says named = record {
   answer = answer;
+  reads = reads;
   heard =
-      subst (λ (n : NameFacts). Contains (heard_or_none (heard_load name answer)) (heard_load n answer)) (sym named)
-      (is_heard (heard_load name answer) (read_heard name answer row reads));
-  reads = subst (λ (n : NameFacts). ReadsListed n answer row) (sym named) reads;
+      subst (λ (n : NameFacts). All (Contains (heard_reading name answer reads)) (heard_reading n answer reads)) (sym named)
+      (All-contains_itself (heard_reading name answer reads));
+  says = subst (λ (n : NameFacts). ReadsListed n answer reads row) (sym named) says;
 }
 
 module _ {K : Type 0} {told : Bool} {version : Versions} {shows : K → ShownKeeper}
     {before after : ShownTree} {old new : StateFacts K} {name : NameFacts} where
   -- the file was read, and its row is published
-  pub turns_read : {true_row : RowFacts → Type 0} {tells : Bool} (row : RowFacts) {end : Option WorkEnd} (answer : LoadFacts) → IndexInvariant true_row tells shows old
-      → old.broken ≡ false → IsAwaited name old → is_in (pass_or_none old.pass).out name ≡ true
-      → AsksTree told version before after (heard_load name answer) → ReadsListed name answer row → PublishesNew tells shows row old new end
-      → TurnsOver told version shows (name ∷ []) name before after old new end
-  turns_read {tells = tells} row {end = end} answer holds sound awaited out asks reads h =
-      let named : row.name ≡ name = read_named name answer row reads in
+  pub turns_read : {W : Type 0} {true_row : RowFacts → Type 0} {tells : Bool} (row : RowFacts) {end : Option WorkEnd}
+      → IndexInvariant true_row tells shows old → old.broken ≡ false → IsAwaited name old
+      → is_in (pass_or_none old.pass).out name ≡ true → ReadsName {W = W} told version name before after (given.Row row)
+      → PublishesNew tells shows row old new end → TurnsOver told version shows (name ∷ []) name before after old new end
+  turns_read {tells = tells} row {end = end} holds sound awaited out does h =
+      let named : row.name ≡ name = read_named name does.answer does.reads row does.leads.0 in
       let waits : IsAwaited row.name old = subst (λ (n : NameFacts). IsAwaited n old) (sym named) awaited in
-      let on : Advances shows (heard_or_none (heard_load name answer)) (Rose before.faults after.faults) old new
+      let on : Advances shows (heard_reading name does.answer does.reads) (Rose before.faults after.faults) old new
       = published_on tells shows old new row end holds (subst (λ (n : NameFacts). is_in (pass_or_none old.pass).out n ≡ true) (sym named) out)
-      (read_of name answer row reads named) waits h in
+      (read_of name does.answer does.reads row does.leads.0 named) waits h in
       record {
         settles =
-            settles_by (listens_one (heard_load name answer) asks)
-            (all_heard (Wants old) (heard_load name answer)
-            (wanted_load name answer holds awaited))
-            (unaltered_by (pass_or_none old.pass).listing name answer (awaited_by_path holds awaited) awaited.listed new
-            (read_same name answer row reads)) on;
-        loads = loads_heard name answer;
+            settles_by does.listens (wanted_reading name does.answer does.reads does.own holds awaited)
+            (unaltered_by (pass_or_none old.pass).listing name does.answer does.reads does.own (awaited_by_path holds awaited)
+            awaited.listed new (read_same name does.answer does.reads row does.leads.0)) on;
+        loads = loads_heard name does.answer does.reads does.own;
         ends = subst (λ (n : NameFacts). TurnsBy n old new end) named (published_ends tells shows old new row end sound waits h);
         appears = published_appears tells shows old new name row end h;
         keeper = record { later = on.keeper; rose = published_cause tells shows old new row end h };
@@ -305,34 +318,35 @@ module _ {K : Type 0} {told : Bool} {version : Versions} {shows : K → ShownKee
       }
 
   -- another file stood there
-  pub turns_altered : {true_row : RowFacts → Type 0} {tells : Bool} {met : Seen} (was_out : Bool) (answer : LoadFacts) → IndexInvariant true_row tells shows old
-      → old.broken ≡ false → IsAwaited name old → is_in (pass_or_none old.pass).out name ≡ true
-      → AsksTree told version before after (heard_load name answer) → FindsOther name answer met
+  pub turns_altered : {W : Type 0} {true_row : RowFacts → Type 0} {tells : Bool} {met : Seen} (was_out : Bool)
+      → IndexInvariant true_row tells shows old → old.broken ≡ false → IsAwaited name old
+      → is_in (pass_or_none old.pass).out name ≡ true → ReadsName {W = W} told version name before after (given.Altered met)
       → MissesOut name (Altered met) old was_out new → TurnsOver told version shows (name ∷ []) name before after old new None
-  turns_altered {met = met} was_out answer holds sound awaited out asks other misses =
-      missed_so {cause = Altered met} (name ∷ []) was_out sound out (listens_one (heard_load name answer) asks)
-      (all_heard (Wants old) (heard_load name answer)
-      (wanted_load name answer holds awaited))
+  turns_altered {met = met} was_out holds sound awaited out does misses =
+      missed_so {cause = Altered met} (name ∷ []) was_out sound out does.listens
+      (wanted_reading name does.answer does.reads does.own holds awaited)
       (record {
         listed = awaited.listed;
-        answer = answer;
-        heard = is_heard (heard_load name answer) (other_heard name answer met other);
-        other = other;
-      }) (altered_by (pass_or_none old.pass).listing name answer (awaited_by_path holds awaited) awaited.listed new)
-      (loads_heard name answer) misses (λ none. missed_none old new {cause = Altered met} was_out (λ is. cc) misses none)
+        answer = does.answer;
+        heard = opening_heard name does.answer does.reads (other_heard name does.answer met does.leads.0);
+        other = does.leads.0;
+      })
+      (altered_by (pass_or_none old.pass).listing name does.answer does.reads does.own (awaited_by_path holds awaited) awaited.listed new)
+      (loads_heard name does.answer does.reads does.own) misses
+      (λ none. missed_none old new {cause = Altered met} was_out (λ is. cc) misses none)
 
-  -- the load failed
-  pub turns_unread : {true_row : RowFacts → Type 0} {tells : Bool} (was_out : Bool) (answer : LoadFacts) → IndexInvariant true_row tells shows old → old.broken ≡ false
-      → IsAwaited name old → is_in (pass_or_none old.pass).out name ≡ true → AsksTree told version before after (heard_load name answer)
-      → answer ≡ failed → MissesOut name ReadFault old was_out new
-      → TurnsOver told version shows (name ∷ []) name before after old new None
-  turns_unread was_out answer holds sound awaited out asks is misses =
-      missed_so {cause = ReadFault} (name ∷ []) was_out sound out (listens_one (heard_load name answer) asks)
-      (all_heard (Wants old) (heard_load name answer)
-      (wanted_load name answer holds awaited))
-      (asks.hands.cause.rose (subst (λ (a : LoadFacts). IsTrue (call_failed (heard_load name a))) (sym is) refl))
-      (λ missed. unaltered_by (pass_or_none old.pass).listing name answer (awaited_by_path holds awaited) awaited.listed new
-      (failed_same name answer is)) (loads_heard name answer) misses (λ none. missed_none old new {cause = ReadFault} was_out (λ is. cc) misses none)
+  -- the opening or a read failed
+  pub turns_unread : {W : Type 0} {true_row : RowFacts → Type 0} {tells : Bool} (was_out : Bool)
+      → IndexInvariant true_row tells shows old → old.broken ≡ false → IsAwaited name old
+      → is_in (pass_or_none old.pass).out name ≡ true → ReadsName {W = W} told version name before after given.Failed
+      → MissesOut name ReadFault old was_out new → TurnsOver told version shows (name ∷ []) name before after old new None
+  turns_unread was_out holds sound awaited out does misses =
+      missed_so {cause = ReadFault} (name ∷ []) was_out sound out does.listens
+      (wanted_reading name does.answer does.reads does.own holds awaited) (does.hands.cause.rose refl)
+      (λ missed. unaltered_by (pass_or_none old.pass).listing name does.answer does.reads does.own (awaited_by_path holds awaited)
+      awaited.listed new (failed_same name does.answer does.reads does.leads))
+      (loads_heard name does.answer does.reads does.own) misses
+      (λ none. missed_none old new {cause = ReadFault} was_out (λ is. cc) misses none)
 
   -- the look failed
   pub turns_unseen : (was_out : Bool) → old.broken ≡ false → is_in (pass_or_none old.pass).out name ≡ true
@@ -379,16 +393,15 @@ module _ {K : Type 0} {told : Bool} {version : Versions} {shows : K → ShownKee
     keeper = record { later = omega arith; rose = λ is. absurd (cc) };
   }
 
-  -- memory was refused for the load, or for the row
-  pub turns_wanting : {true_row : RowFacts → Type 0} {tells : Bool} (answer : LoadFacts) → IndexInvariant true_row tells shows state
-      → state.broken ≡ false → IsAwaited name state → AsksTree told version before after (heard_load name answer) → MayWant name answer
+  -- memory was refused for the opening, for a read or for the row
+  pub turns_wanting : {W : Type 0} {true_row : RowFacts → Type 0} {tells : Bool} → IndexInvariant true_row tells shows state
+      → state.broken ≡ false → IsAwaited name state → ReadsName {W = W} told version name before after given.OutOfMemory
       → TurnsOver told version shows (name ∷ []) name before after state state (Some OutOfMemory)
-  turns_wanting answer holds sound awaited asks wants =
-      wanting (name ∷ []) (listed_open state.pass name awaited.listed) sound (listens_one (heard_load name answer) asks)
-      (all_heard (Wants state) (heard_load name answer)
-      (wanted_load name answer holds awaited))
-      (unaltered_by (pass_or_none state.pass).listing name answer (awaited_by_path holds awaited) awaited.listed state
-      (wanting_same name answer wants)) (loads_heard name answer)
+  turns_wanting holds sound awaited does =
+      wanting (name ∷ []) (listed_open state.pass name awaited.listed) sound does.listens
+      (wanted_reading name does.answer does.reads does.own holds awaited)
+      (unaltered_by (pass_or_none state.pass).listing name does.answer does.reads does.own (awaited_by_path holds awaited)
+      awaited.listed state (wanting_same name does.answer does.leads)) (loads_heard name does.answer does.reads does.own)
 
   -- or for the look
   pub turns_blind : state.broken ≡ false → is_in (pass_or_none state.pass).out name ≡ true

@@ -34,7 +34,7 @@ EndsAgain world told tells shows sees plan listing roots before after old new Ou
 EndsAgain world told tells shows sees plan listing roots before after old new end =
     EndsBegun world told tells shows plan (sees before) (sees after) (after_begin listing roots old) new end
 
--- a pass that came to be whole is one only where so many loads were counted as it read files, where that is asked for
+-- a pass that came to be whole is one only where so many openings were counted as it read files, where that is asked for
 abbrev pub IsWeighed : PassEnd → ℕ → Bool → PassEnd → Type 0
 IsWeighed end asked many OutOfMemory = (end ≡ OutOfMemory) ⊎ IsTrue (is_whole end)
 IsWeighed end asked many (Whole summary) =

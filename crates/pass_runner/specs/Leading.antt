@@ -40,7 +40,7 @@ abbrev pub IsMissNoted : List Change → List Change → List Heard → Type 0 �
 IsMissNoted brought log answers Failed missed miss =
     Contains missed miss ⊎ IsMetByHand brought log answers Failed miss.name miss.cause
 
--- from one moment of the settling to a later one: the token is a later one, the hand heard nothing but loads and looks, and
+-- from one moment of the settling to a later one: the token is a later one, the hand heard nothing but openings, reads and looks, and
 -- each miss that was noted since it met itself
 pub record LeadsInSettling (told : Bool) (version : Versions) (seat : SeatFacts Change Origin) (before : ShownTree)
     (later_seat : SeatFacts Change Origin) (after : ShownTree) (missed later_missed : List Miss) : Type 0 where
@@ -169,7 +169,7 @@ pub record SettlesLast (world : Rules) (told : Bool) (listing : List NameFacts) 
   pub asks : All (IsSparing []) more
   pub ends : EndsPlanned world listing roots plan brought log more (Rose before.faults after.faults) end
 
--- what came of a pass over a listing: the first hand heard nothing but loads and looks, and the pass ended so
+-- what came of a pass over a listing: the first hand heard nothing but openings, reads and looks, and the pass ended so
 pub record LeadsPass (world : Rules) (told : Bool) (listing : List NameFacts) (roots : List (List ℕ))
     (brought log : List Change) (before after : ShownTree) (end : PassEnd) : Type 0 where
   pub more : List Heard

@@ -25,8 +25,8 @@ use Rattle.scan_queue.specs.declared.miss.Miss.{Miss}
 use Rattle.scan_queue.specs.declared.miss.Seen.{Seen}
 use Rattle.tree_trait.specs.Asks.{FitsAny, IsAnswerTold}
 use Rattle.tree_trait.specs.Found.{Versions}
-use Rattle.tree_trait.specs.Heard.{Heard, with_answers}
-use Rattle.tree_trait.specs.Listens.{Listens, loads}
+use Rattle.tree_trait.specs.Heard.{Heard}
+use Rattle.tree_trait.specs.Listens.{Listens, ListsAnswers, loads}
 use Rattle.tree_trait.specs.Shown.{ShownTree}
 use Rattle.tree_walk.specs.Ends.{IsWholeWalk, WalksTree}
 use Rattle.tree_walk.specs.Files.{AreFilesUnder, FitsFault}
@@ -35,7 +35,7 @@ use Rattle.tree_walk.specs.declared.fault.WalkFault.{WalkFault}
 use Rattle.tree_walk.specs.declared.fault.WalkFault.TheVariants as stop
 use Rattle.tree_walk.specs.declared.walked.Walk.{Walk}
 use Rattle.pass_runner.specs.Ends.{IsOutOfRoom}
-use Rattle.pass_runner.specs.Helped.{IsSparing}
+use Rattle.pass_runner.specs.Helped.{IsSparing, ReadsPartsOrLooks}
 use Rattle.pass_runner.specs.Numbers.{summary_of}
 use Rattle.pass_runner.specs.Settled.{IsBacked, IsHeardAltered, KeepsListed, MayBeAsked, MovesRows, times_loaded}
 use Rattle.pass_runner.specs.declared.pass_end.PassEnd.{PassEnd}
@@ -52,7 +52,7 @@ TellsStill told hand = IsTrue told × hand.Still
 -- the roots
 pub record HearsWalked (told : Bool) (version : Versions) (roots : List (List ℕ)) (walk : Walk) (walked more : List Heard)
     (before after : ShownTree) : Type 0 where
-  pub heard : after.heard ≡ with_answers before.heard (walked ++ more)
+  pub heard : ListsAnswers before.heard (walked ++ more) after.heard
   pub whole : IsWholeWalk walked roots walk
   pub full : AsksAll (walked ++ more) roots
   pub listing : IsWalkListing (walked ++ more) roots walk.listing
@@ -60,8 +60,8 @@ pub record HearsWalked (told : Bool) (version : Versions) (roots : List (List �
   pub tells : TellsStill told before → All (IsAnswerTold before.present) (walked ++ more)
   pub under : TellsStill told before → AreFilesUnder before.present roots walk.listing
 
--- and behind the walk nothing but loads of listed files whose names had no row and looks at paths under a root; no path was
--- loaded twice
+-- and behind the walk nothing but openings and reads of listed files whose names had no row, and looks at paths under a root; no
+-- path was opened twice
 pub record HearsPass (told : Bool) (version : Versions) (roots : List (List ℕ)) (names : List NameFacts) (walk : Walk)
     (walked more : List Heard) (before after : ShownTree) : Type 0 where
   pub walks : HearsWalked told version roots walk walked more before after
@@ -110,7 +110,7 @@ pub record RunsPass {K : Type 0} (world : Rules) (told : Bool) (hands : ℕ) (ro
   pub bounded : IsWithinPlan listing old new
   pub ends : Ends found more
 
--- the walk ended with a fault, which files that never change explain; nothing was loaded
+-- the walk ended with a fault, which files that never change explain; nothing was opened
 pub record WalksInto (told : Bool) (roots : List (List ℕ)) (fault : WalkFault) (before after : ShownTree) : Type 0 where
   pub walks : WalksTree told before after roots (Err fault)
   pub fits : TellsStill told before → FitsFault before.present roots fault
@@ -160,7 +160,7 @@ pub record EndsPassHelped {K : Type 0} (told : Bool) (hands : ℕ) (roots : List
   pub bounded : IsWithinPlan listing old new
   pub ends : Ends
 
--- memory was refused before the pass began: nothing was loaded, and the index stays as it is
+-- memory was refused before the pass began: nothing was opened, and the index stays as it is
 pub record EndsPassEarly {K : Type 0} (told : Bool) (roots : List (List ℕ)) (listing : List NameFacts)
     (before after : ShownTree) (old new : StateFacts K) : Type 0 where
   pub walk : Walk
@@ -212,24 +212,25 @@ is_unbegun (Unwalked fault) = true
 is_unbegun Broken = true
 is_unbegun _ = false
 
--- how many loads a hand that tells heard
+-- how many loads and openings a hand that tells heard
 abbrev pub loads_told : Option (List Heard) → ℕ
 loads_told None = 0
 loads_told (Some answers) = loads answers
 
--- a hand that helps heard nothing but loads and looks, and no load of a path of a listed name that had a row
+-- a hand that helps heard nothing but openings and reads of parts, or looks, and none of a path of a listed name that had a row
 pub record Helps (told : Bool) (version : Versions) (listing names : List NameFacts) (before after : ShownTree)
     : Type 0 where
   pub more : List Heard
   pub listens : Listens told version before after more
   pub spares : All (IsSparing (filter (is_in names) listing)) more
+  pub parts : ReadsPartsOrLooks more
 
--- so many hands that tell what they hear heard so many loads more, or more still
+-- so many hands that tell what they hear heard so many openings more, or more still
 abbrev pub HearLoads : {T : Type 0} → (T → ShownTree) → ℕ → List T → List T → Type 0
 HearLoads sees count before after = All (λ hand. IsSome (sees hand).heard) after
     → sum_by (λ hand. loads_told (sees hand).heard) before + count ≤ sum_by (λ hand. loads_told (sees hand).heard) after
 
--- of a pass that came to be whole: the hands from the third on, if there are any, heard so many loads
+-- of a pass that came to be whole: the hands from the third on, if there are any, heard so many openings
 abbrev pub LoadsBeside : {T : Type 0} → (T → ShownTree) → List T → List T → PassEnd → Type 0
 LoadsBeside sees before after (Whole summary) =
     3 ≤ length before → HearLoads sees (summary.added + summary.replaced) (drop 2 before) (drop 2 after)

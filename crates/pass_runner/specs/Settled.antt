@@ -1,4 +1,4 @@
--- Settling (this project's rule): with one hand the names of a pass that are to be read are loaded and their rows
+-- Settling (this project's rule): with one hand the names of a pass that are to be read are opened and read, and their rows
 -- published, then the names that are to be looked for are looked for and judged. What is said here holds from one moment
 -- of it to any later one.
 use Rattle.std.specs.Prelude.{◌≡◌, ◌≢◌, ◌⊎◌, ℕ, ◌≤◌, Bool, true, false, List, All, Contains, count_by, Option, Some, None}
@@ -19,11 +19,11 @@ use Rattle.scan_queue.specs.declared.miss.Cause.{Cause}
 use Rattle.scan_queue.specs.declared.miss.Cause.TheVariants.{ReadFault, Altered, Appeared}
 use Rattle.scan_queue.specs.declared.miss.Miss.{Miss}
 use Rattle.scan_queue.specs.declared.miss.Seen.{Seen}
-use Rattle.scan_worker.specs.Read.{FindsOther, ReadsListed, heard_load}
+use Rattle.scan_worker.specs.Read.{FindsOther, ReadsListed, heard_opening, heard_reading}
 use Rattle.tree_trait.specs.Found.{Versions}
-use Rattle.tree_trait.specs.Heard.{Heard, load, stat, read_dir}
+use Rattle.tree_trait.specs.Heard.{Heard, load, stat, read_dir, open_file, read_at}
 use Rattle.tree_trait.specs.Listens.{Listens}
-use Rattle.tree_trait.specs.Load.{LoadFacts}
+use Rattle.tree_trait.specs.Open.{OpenFacts}
 use Rattle.tree_trait.specs.Shown.{ShownTree}
 use Rattle.tree_trait.specs.declared.stat.StatAnswer.{StatAnswer}
 use Rattle.tree_trait.specs.declared.stat.StatAnswer.TheVariants.{Folder, File, Other, Gone}
@@ -34,22 +34,25 @@ pub record HadNoRow (listing names : List NameFacts) (path : List ℕ) : Type 0 
   pub listed : stamp_at listing path ≡ Some stamp
   pub absent : is_in names (record { path = path; stamp = stamp }) ≡ false
 
--- what may be asked: the load of a listed file whose name had no row, and a look at a path under a root
+-- what may be asked: the opening of a listed file whose name had no row, and reads of it; and a look at a path under a root
 abbrev pub MayBeAsked : List NameFacts → List (List ℕ) → List NameFacts → Heard → Type 0
-MayBeAsked listing roots names (load path limit answer) = (limit ≡ FILE_LIMIT) × HadNoRow listing names path
+MayBeAsked listing roots names (load path limit answer) = ⊥
 MayBeAsked listing roots names (stat path answer) = is_under roots path ≡ true
 MayBeAsked listing roots names (read_dir path answer) = ⊥
+MayBeAsked listing roots names (open_file path limit answer) = (limit ≡ FILE_LIMIT) × HadNoRow listing names path
+MayBeAsked listing roots names (read_at name at answer) = HadNoRow listing names name.path
 
 -- what may be asked of an index at a moment
 abbrev pub Wants : {K : Type 0} → StateFacts K → Heard → Type 0
 Wants state = MayBeAsked (pass_or_none state.pass).listing state.roots (row_names state.rows)
 
--- whether this is a load of the path
+-- whether this is a load of the path, or its opening
 abbrev pub is_load_of : List ℕ → Heard → Bool
 is_load_of path (load asked limit answer) = bytes_eq asked path
+is_load_of path (open_file asked limit answer) = bytes_eq asked path
 is_load_of path _ = false
 
--- how often the path was loaded
+-- how often the path was loaded or opened
 abbrev pub times_loaded : List Heard → List ℕ → ℕ
 times_loaded answers path = count_by (is_load_of path) answers
 
@@ -75,11 +78,11 @@ pub record IsSeenGone (answers : List Heard) (name : NameFacts) : Type 0 where
 abbrev pub MayGo : List NameFacts → List (List ℕ) → List Heard → NameFacts → Type 0
 MayGo listing roots answers name = stamp_at listing name.path ≡ None → is_under roots name.path ≡ true → IsSeenGone answers name
 
--- a load found another file in place of the listed name's
+-- an opening found another file in place of the listed name's
 pub record IsHeardAltered (listing : List NameFacts) (answers : List Heard) (name : NameFacts) (met : Seen) : Type 0 where
   pub listed : is_in listing name ≡ true
-  pub answer : LoadFacts
-  pub heard : Contains answers (heard_load name answer)
+  pub answer : OpenFacts
+  pub heard : Contains answers (heard_opening name answer)
   pub other : FindsOther name answer met
 
 -- a look found the file of a name that isn't listed
@@ -123,13 +126,14 @@ IsMissBy listing names missed answers Failed miss =
 abbrev pub MissesBy : {K : Type 0} → StateFacts K → List Heard → Type 0 → Miss → Type 0
 MissesBy state = IsMissBy (pass_or_none state.pass).listing (row_names state.rows) (pass_or_none state.pass).missed
 
--- a load found the file of the row's name, and the row says what it is
+-- the file of the row's name was opened and read, and the row says what it is
 pub record IsReadOf (answers : List Heard) (row : RowFacts) : Type 0 where
-  pub answer : LoadFacts
-  pub heard : Contains answers (heard_load row.name answer)
-  pub reads : ReadsListed row.name answer row
+  pub answer : OpenFacts
+  pub reads : List Heard
+  pub heard : All (Contains answers) (heard_reading row.name answer reads)
+  pub says : ReadsListed row.name answer reads row
 
--- the row was there before, or says what a load found
+-- the row was there before, or says what was read
 abbrev pub IsBrought : List RowFacts → List Heard → RowFacts → Type 0
 IsBrought rows answers row = Contains rows row ⊎ IsReadOf answers row
 
@@ -141,7 +145,7 @@ KeepsListed listing old new =
 
 -- what a pass does to rows from one moment to a later one, while this was heard: no row of a listed name went; a row whose
 -- path isn't listed and lies under a root went only where a look did not find its file; a row that came is of a listed
--- name; and a row that wasn't there says what a load found
+-- name; and a row that wasn't there says what was read
 pub record MovesRows (listing : List NameFacts) (roots : List (List ℕ)) (answers : List Heard) (old new : List RowFacts)
     : Type 0 where
   pub stays : KeepsListed listing old new
@@ -160,7 +164,7 @@ abbrev pub MissesStay : {K : Type 0} → List NameFacts → StateFacts K → Sta
 MissesStay listing old new =
     (name : NameFacts) → is_in listing name ≡ true → is_missed old name ≡ true → is_missed new name ≡ true
 
--- each listed name for which a load found another file is missed
+-- each listed name for which an opening found another file is missed
 abbrev pub AlteredAreMissed : {K : Type 0} → List NameFacts → List Heard → StateFacts K → Type 0
 AlteredAreMissed listing answers state =
     (name : NameFacts) (met : Seen) → IsHeardAltered listing answers name met → is_missed state name ≡ true
@@ -191,7 +195,7 @@ pub record Advances {K : Type 0} (shows : K → ShownKeeper) (answers : List Hea
   pub bounded : StaysBounded (pass_or_none old.pass).listing old new
 
 -- what the settling did from one moment to a later one: nothing else was heard, all of it was wanted, the index went on so,
--- and a listed name for which a load found another file is missed
+-- and a listed name for which an opening found another file is missed
 pub record Proceeds {K : Type 0} (told : Bool) (version : Versions) (shows : K → ShownKeeper)
     (before after : ShownTree) (old new : StateFacts K) : Type 0 where
   pub answers : List Heard
@@ -200,7 +204,7 @@ pub record Proceeds {K : Type 0} (told : Bool) (version : Versions) (shows : K �
   pub on : Advances shows answers (Rose before.faults after.faults) old new
   pub altered : AlteredAreMissed (pass_or_none old.pass).listing answers new
 
--- and no path was loaded twice
+-- and no path was opened twice
 pub record Settles {K : Type 0} (told : Bool) (version : Versions) (shows : K → ShownKeeper)
     (before after : ShownTree) (old new : StateFacts K) : Type 0 where
   pub does : Proceeds told version shows before after old new

@@ -22,10 +22,10 @@ use Rattle.scan_queue.specs.declared.miss.Cause.{Cause}
 use Rattle.scan_queue.specs.declared.miss.Cause.TheVariants.{ReadFault, Altered, Appeared}
 use Rattle.scan_queue.specs.declared.miss.Miss.{Miss}
 use Rattle.scan_queue.specs.declared.miss.Seen.{Seen}
-use Rattle.scan_worker.specs.Read.{FindsOther, heard_load}
+use Rattle.scan_worker.specs.Read.{FindsOther, heard_opening}
 use Rattle.tree_trait.specs.Found.{Versions}
 use Rattle.tree_trait.specs.Heard.{Heard, stat}
-use Rattle.tree_trait.specs.Load.{LoadFacts}
+use Rattle.tree_trait.specs.Open.{OpenFacts}
 use Rattle.tree_trait.specs.Shown.{ShownTree}
 use Rattle.tree_trait.specs.Stat.{IsNothingAt}
 use Rattle.tree_trait.specs.declared.stat.StatAnswer.TheVariants.{File}
@@ -41,7 +41,7 @@ use Rattle.pass_runner.specs.declared.pass_end.PassEnd.TheVariants.{Whole, Misse
 use Rattle.pass_runner.specs.declared.pass_end.PassEnd.TheVariants.{KeeperFault, LogFull, OutOfMemory}
 use Rattle.pass_runner.specs.declared.summary.Summary.{Summary}
 
--- what the first hand heard: a whole walk of the roots, and then nothing but loads, up to 1 GiB, and looks
+-- what the first hand heard: a whole walk of the roots, and then nothing but openings, up to 1 GiB, reads and looks
 pub record HearsShared (told : Bool) (version : Versions) (roots : List (List ℕ)) (walk : Walk) (walked more : List Heard)
     (before after : ShownTree) : Type 0 where
   pub walks : HearsWalked told version roots walk walked more before after
@@ -71,10 +71,10 @@ pub record IsOneScan (world : Rules) (listing : List NameFacts) (brought log : L
   pub files : summary.files ≡ length listing
   pub parts : summary.added + summary.replaced + summary.kept ≡ summary.files
 
--- a load found this in place of the name's file
+-- an opening found this in place of the name's file
 pub record HeardInPlace (answers : List Heard) (name : NameFacts) (met : Seen) : Type 0 where
-  pub answer : LoadFacts
-  pub heard : Contains answers (heard_load name answer)
+  pub answer : OpenFacts
+  pub heard : Contains answers (heard_opening name answer)
   pub other : FindsOther name answer met
 
 -- a look found the name's own file, while a row of the name stood

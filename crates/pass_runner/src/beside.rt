@@ -228,7 +228,7 @@ fn begin_again<W: Truth, K: Keeper<W>, T: Tree<W>, R: Reader<W>>(
 }
 
 /// The end of a pass with other hands. Where it read files, the hands that read must have counted as
-/// many loads; where they haven't, memory was refused to one of them.
+/// many openings; where they haven't, memory was refused to one of them.
 fn weighed(end: PassEnd, asked: u64, many: bool) -> PassEnd
     ensures { IsWeighed end asked many result }
 {
@@ -244,7 +244,7 @@ fn weighed(end: PassEnd, asked: u64, many: bool) -> PassEnd
     }
 }
 
-/// Whether so many loads are at least as many as the files that were added and replaced.
+/// Whether so many openings are at least as many as the files that were added and replaced.
 fn has_loaded(asked: u64, added: u64, replaced: u64) -> bool
     ensures { IsTrue result → added + replaced ≤ asked }
 {

@@ -26,7 +26,7 @@ pub(crate) enum Task {
     Read,
 }
 
-/// A hand that helps, what it helps with, and how many loads it was asked for. That number is what
+/// A hand that helps, what it helps with, and how many openings it was asked for. That number is what
 /// its thread reports: it has cache lines of its own in the slot.
 #[derive(Drop)]
 pub(crate) struct Helper<T: Drop> {
@@ -90,7 +90,7 @@ fn help<W: Truth, K: Keeper<W>, T: Tree<W>, R: Reader<W>, G: Gate, Rt: Wait + Sy
     )
 }
 
-/// Has a hand look for files until no name is left to be looked for. It loads none.
+/// Has a hand look for files until no name is left to be looked for. It opens none.
 fn look_on<W: Truth, K: Keeper<W>, T: Tree<W>, G: Gate, Rt: Wait + Sync>(
     rt: &Rt,
     alloc: Global,
@@ -109,7 +109,7 @@ fn look_on<W: Truth, K: Keeper<W>, T: Tree<W>, G: Gate, Rt: Wait + Sync>(
     (seat, hand, 0)
 }
 
-/// Has a hand read files until no name is left to be read, and counts its loads.
+/// Has a hand read files until no name is left to be read, and counts its openings.
 fn read_on<W: Truth, K: Keeper<W>, T: Tree<W>, R: Reader<W>, G: Gate, Rt: Wait + Sync>(
     rt: &Rt,
     alloc: Global,

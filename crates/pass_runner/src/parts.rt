@@ -68,7 +68,7 @@ fn helpers_of<T: Drop>(hands: Vec<T>, helpers: Vec<Helper<T>>) -> Vec<Helper<T>>
     helpers
 }
 
-/// The hands in their order again, and the number of loads that were counted, up to the largest
+/// The hands in their order again, and the number of openings that were counted, up to the largest
 /// `u64`.
 pub(crate) fn together<T: Drop>(first: T, helpers: Vec<Helper<T>>, room: Vec<T>) -> (Vec<T>, u64)
     requires none { room.items ≡ [] }

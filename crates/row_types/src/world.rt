@@ -1,6 +1,6 @@
 //! Worlds: what a path and a stamp name.
 
-ghost use Rattle.std.specs.Prelude.{◌≡◌, ℕ, ◌<◌, List, Bool, true};
+ghost use Rattle.std.specs.Prelude.{◌≡◌, ℕ, ◌<◌, List, Bool, true, false, length};
 ghost use Rattle.row_types.specs.Name.{NameFacts};
 ghost use Rattle.row_types.specs.Row.{RowFacts, too_large_row};
 ghost use Rattle.row_types.specs.Stamp.{StampFacts};
@@ -22,6 +22,12 @@ pub trait Truth {
 
     /// In a told world a path and a stamp name at most one content.
     ghost one_content: { told ≡ true → (path : List ℕ) (stamp : StampFacts) (a b : List ℕ) → version path stamp a → version path stamp b → a ≡ b };
+
+    /// In a told world a content has as many bytes as its stamp says.
+    ghost sized: { told ≡ true → (path : List ℕ) (stamp : StampFacts) (b : List ℕ) → version path stamp b → length b ≡ stamp.size };
+
+    /// In a world that isn't told each list of as many bytes as a stamp says is a content of it.
+    ghost any_content: { told ≡ false → (path : List ℕ) (stamp : StampFacts) (b : List ℕ) → length b ≡ stamp.size → version path stamp b };
 
     /// In a told world a name has at most one true row.
     ghost one_row: { told ≡ true → (a b : RowFacts) → a.name ≡ b.name → true_row a → true_row b → a ≡ b };
@@ -49,6 +55,10 @@ impl Truth for OpenWorld {
     ghost too_large = { λ _ _. refl };
 
     ghost one_content = { λ e. absurd (false≢true e) };
+
+    ghost sized = { λ e. absurd (false≢true e) };
+
+    ghost any_content = { λ _ _ _ _ _. tt };
 
     ghost one_row = { λ e. absurd (false≢true e) };
 

@@ -1,5 +1,5 @@
 -- The laws of the sample world (this project's example): a path and a time name one sample.
-use Rattle.std.proofs.Common.{◌≡◌, sym, ◌∙◌, ap, refl, ℕ, List, ◌∷◌, Option, Some, ◌&&◌}
+use Rattle.std.proofs.Common.{◌≡◌, sym, ◌∙◌, ap, refl, ℕ, List, ◌∷◌, length, Option, Some, ◌&&◌}
 use Rattle.std.specs.Prelude.{ℤ}
 use Rattle.std.specs.List.{find}
 use Rattle.std.specs.Option.{option_map_or}
@@ -47,6 +47,11 @@ one_content path stamp a b p q =
     let timed : sample_secs p.sample ≡ sample_secs q.sample = ap (λ s. s.secs) (sym p.stamped ∙ q.stamped) in
     let same : p.sample ≡ q.sample = same_sample p.sample q.sample placed timed in
     p.filled ∙ ap sample_bytes same ∙ sym q.filled
+
+-- a sample has as many bytes as its stamp says
+pub sample_sized : (path : List ℕ) (stamp : StampFacts) (bytes : List ℕ) → IsSample path stamp bytes
+    → length bytes ≡ stamp.size
+sample_sized path stamp bytes p = ap length p.filled ∙ ap (λ (s : StampFacts). s.size) (sym p.stamped)
 
 -- a name has at most one true row
 pub one_sample_row : (a b : RowFacts) → a.name ≡ b.name → IsTrueRow IsSample a → IsTrueRow IsSample b → a ≡ b

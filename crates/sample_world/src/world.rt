@@ -10,10 +10,11 @@ pub struct SampleWorld;
 
 impl Truth for SampleWorld {
     ghost use Rattle.std.specs.Prelude.{true};
+    ghost use Rattle.std.proofs.lemmas.Bool.{true≢false};
     ghost use Rattle.row_types.specs.Reading.{IsTrueRow};
     ghost use Rattle.row_types.proofs.TrueRowLemmas.{too_large_is_true};
     ghost use Rattle.sample_world.specs.Samples.{IsSample};
-    ghost use Rattle.sample_world.specs.World.{one_content, one_sample_row};
+    ghost use Rattle.sample_world.specs.World.{one_content, one_sample_row, sample_sized};
 
     ghost told = { true };
 
@@ -24,6 +25,10 @@ impl Truth for SampleWorld {
     ghost too_large = { too_large_is_true IsSample };
 
     ghost one_content = { λ _. one_content };
+
+    ghost sized = { λ _. sample_sized };
+
+    ghost any_content = { λ e. absurd (true≢false e) };
 
     ghost one_row = { λ _. one_sample_row };
 

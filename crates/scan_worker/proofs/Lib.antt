@@ -1,2 +1,4 @@
 pub mod HandLemmas
+pub mod PartLemmas
+pub mod ReadLemmas
 pub mod WorkLemmas

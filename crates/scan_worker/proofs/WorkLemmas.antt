@@ -1,5 +1,5 @@
 -- The work, from nothing and one after the other.
-use Rattle.std.proofs.Common.{◌≡◌, ℕ, ◌+◌, ◌-◌, ◌^◌, ◌≤◌, min, Bool, List, ◌++◌, None, refl, sym, ap, subst, arith}
+use Rattle.std.proofs.Common.{◌≡◌, ℕ, ◌+◌, ◌-◌, ◌^◌, ◌≤◌, min, Bool, List, ◌++◌, None, sym, ap, subst, arith}
 use Rattle.std.specs.List.{All}
 use Rattle.std.proofs.lemmas.List.Elements.{All-append}
 use Rattle.row_types.specs.Name.{NameFacts, stamp_at}
@@ -9,23 +9,23 @@ use Rattle.index_rows.specs.declared.change.Change.{Change}
 use Rattle.index_state.specs.State.{Origin}
 use Rattle.tree_trait.specs.Found.{Versions}
 use Rattle.tree_trait.specs.Heard.{Heard}
-use Rattle.tree_trait.specs.Listens.{Listens, heard_or_none, loads}
+use Rattle.tree_trait.specs.Listens.{Listens, loads}
 use Rattle.tree_trait.specs.Shown.{ShownTree}
-use Rattle.tree_trait.proofs.ListenLemmas.{all_heard, listens_then, loads_both}
+use Rattle.tree_trait.proofs.ListenLemmas.{listens_then, loads_both}
 use Rattle.index_desk.proofs.Shown.{puts_grow}
 use Rattle.index_desk.specs.Counts.{puts}
 use Rattle.index_desk.specs.Ends.{EndShows}
 use Rattle.scan_worker.specs.Ends.{uncounted, uncounted_at}
-use Rattle.scan_worker.specs.Read.{heard_load}
+use Rattle.scan_worker.specs.Read.{heard_reading}
 use Rattle.scan_worker.specs.Turns.{LoadsListed, CountsTurn, FitsRead, counted_by, end_by, missed_by, no_tally, published_by, report_of}
-use Rattle.scan_worker.specs.Works.{IsSparingLoad, Works, WorksOn}
+use Rattle.scan_worker.specs.Works.{AreReadings, IsSparingLoad, Works, WorksOn}
 use Rattle.scan_worker.specs.declared.read.NameRead.{NameRead}
 use Rattle.scan_worker.specs.declared.read.NameRead.TheVariants as read
 use Rattle.scan_worker.specs.declared.tally.Tally.{Tally}
 use Rattle.scan_worker.specs.declared.turn.Turn.{Turn}
 use Rattle.scan_worker.specs.declared.turn.Turn.TheVariants.{Published, Passed, Missed, Ended}
 use Rattle.index_desk.specs.declared.work_end.WorkEnd.{WorkEnd}
-use Rattle.scan_worker.proofs.HandLemmas.{asks_none, at_most_one, count_least, count_most, count_published, count_same, row_heard}
+use Rattle.scan_worker.proofs.HandLemmas.{asks_none, at_most_one, count_least, count_most, count_published, count_same, reading_loads, reading_spares, readings_both, readings_one, row_heard}
 
 -- each name that counts as published or missed was read
 counts_read : {W : Type 0} (given : NameRead W) (turn : Turn) → FitsRead given turn
@@ -94,14 +94,14 @@ module _ {told : Bool} {version : Versions} where
   -- by what the hand heard
   works_of : {seat later : SeatFacts Change Origin} {before after : ShownTree} {tally last : Tally} {left_out : ℕ}
       (more : List Heard) → IsLater seat later → last.published + puts seat.seen ≤ tally.published + puts later.seen
-      → Listens told version before after more → All (IsSparingLoad seat.origin.spared) more
+      → Listens told version before after more → All (IsSparingLoad seat.origin.spared) more → AreReadings more
       → last.asked ≤ tally.asked + loads more → min (tally.asked + loads more) (2 ^ 64 - 1) ≤ last.asked + left_out
       → last.published + last.missed ≤ tally.published + tally.missed + loads more
       → WorksOn told version seat before tally later after last left_out
-  works_of more later published listens spares asked counted done = record {
+  works_of more later published listens spares parts asked counted done = record {
     later = later;
     published = published;
-    hand = record { more = more; listens = listens; spares = spares; asked = asked; counted = counted };
+    hand = record { more = more; listens = listens; spares = spares; parts = parts; asked = asked; counted = counted };
     done = done;
   }
 
@@ -124,10 +124,11 @@ module _ {told : Bool} {version : Versions} where
       (listens_then p.hand.listens q.hand.listens)
       (All-append (IsSparingLoad seat.origin.spared) p.hand.more q.hand.more p.hand.spares
       (subst (λ (o : Origin). All (IsSparingLoad o.spared) q.hand.more) p.later.origin q.hand.spares))
+      (readings_both q.hand.more p.hand.parts q.hand.parts)
       (omega (arith, both, asked, more_asked)) (omega (arith, both, counted, more_counted))
       (omega (arith, both, first, second))
 
-  -- a name was taken, loaded and handed in
+  -- a name was taken, opened, read and handed in
   pub works_turn : {W : Type 0} {seat taken later : SeatFacts Change Origin} {before after : ShownTree}
       {tally some last : Tally} {name : NameFacts} (given : NameRead W) (turn : Turn) → IsLater seat taken
       → stamp_at seat.origin.spared name.path ≡ None → LoadsListed told version name before after tally some given
@@ -136,8 +137,9 @@ module _ {told : Bool} {version : Versions} where
       → WorksOn told version seat before tally later after last (uncounted (end_by turn))
   works_turn {seat = seat} {taken = taken} {tally = tally} {some = some} {last = last} {name = name} given turn took new asks on grown fits counts =
       let grow = puts_grow seat.seen taken.seen took.log in
-      let heard = row_heard name asks.answer given asks.leads in
-      let few = at_most_one name asks.answer in
+      let heard = row_heard version name asks.does.answer asks.does.reads given asks.does.leads in
+      let few = at_most_one name asks.does.answer in
+      let whole = reading_loads name asks.does.answer asks.does.reads asks.does.own in
       let most = count_most given tally some asks.counts in
       let least = count_least given tally some asks.counts in
       let same = turn_asked turn some last counts in
@@ -147,10 +149,12 @@ module _ {told : Bool} {version : Versions} where
       let more = turn_published turn some last counts in
       let all = turn_both turn some last counts in
       let read = counts_read given turn fits in
-      works_of (heard_or_none (heard_load name asks.answer)) (later_trans took on) (omega (arith, grow, grown, published, more))
-      asks.listens (all_heard (IsSparingLoad seat.origin.spared) (heard_load name asks.answer) (refl, new))
-      (omega (arith, heard, few, most, same)) (omega (arith, heard, few, least, same, enough))
-      (omega (arith, both, all, read, heard))
+      works_of (heard_reading name asks.does.answer asks.does.reads) (later_trans took on)
+      (omega (arith, grow, grown, published, more)) asks.does.listens
+      (reading_spares seat.origin.spared name asks.does.answer asks.does.reads new asks.does.own)
+      (readings_one name asks.does.answer asks.does.reads asks.does.own asks.does.parts)
+      (omega (arith, whole, heard, few, most, same)) (omega (arith, whole, heard, few, least, same, enough))
+      (omega (arith, whole, both, all, read, heard))
 
   -- the report of the work
   pub works_report : {seat later : SeatFacts Change Origin} {before after : ShownTree} {tally : Tally} (why : WorkEnd)

@@ -3,7 +3,7 @@ use Rattle.std.specs.Prelude.{ℕ, Option, Some, None}
 use Rattle.index_desk.specs.declared.work_end.WorkEnd.{WorkEnd}
 use Rattle.index_desk.specs.declared.work_end.WorkEnd.TheVariants.{OutOfMemory}
 
--- how many answered loads the work may leave uncounted: one, where memory was refused
+-- how many answered openings the work may leave uncounted: one, where memory was refused
 abbrev pub uncounted_at : WorkEnd → ℕ
 uncounted_at OutOfMemory = 1
 uncounted_at _ = 0

@@ -12,12 +12,10 @@ use Rattle.index_state.specs.declared.answer.Published.TheVariants as said
 use Rattle.scan_queue.specs.declared.miss.Cause.{Cause}
 use Rattle.scan_queue.specs.declared.miss.Cause.TheVariants as cause
 use Rattle.tree_trait.specs.Found.{Versions}
-use Rattle.tree_trait.specs.Listens.{Listens, heard_or_none}
-use Rattle.tree_trait.specs.Load.{LoadFacts}
 use Rattle.tree_trait.specs.Shown.{ShownTree}
 use Rattle.index_desk.specs.Ends.{EndShows}
 use Rattle.index_desk.specs.Holds.{HoldsEvent}
-use Rattle.scan_worker.specs.Read.{load_leads_to, heard_load}
+use Rattle.scan_worker.specs.Read.{ReadsName}
 use Rattle.scan_worker.specs.declared.read.NameRead.{NameRead}
 use Rattle.scan_worker.specs.declared.read.NameRead.TheVariants as read
 use Rattle.scan_worker.specs.declared.tally.Tally.{Tally}
@@ -102,22 +100,20 @@ abbrev pub TurnShows : Turn → List Change → Type 0
 TurnShows (Ended end) log = EndShows end log
 TurnShows _ log = Unit {0}
 
--- whether the load of a listed file counts
+-- whether the opening of a listed file counts
 abbrev pub counted_by : {W : Type 0} → NameRead W → ℕ
 counted_by read.OutOfMemory = 0
 counted_by _ = 1
 
--- a load is counted, unless memory was refused
+-- an opening is counted, unless memory was refused
 abbrev pub CountsLoad : {W : Type 0} → NameRead W → Tally → Tally → Type 0
 CountsLoad read.OutOfMemory tally later_tally = later_tally ≡ tally
 CountsLoad _ tally later_tally = later_tally ≡ record tally { asked = min (tally.asked + 1) (2 ^ 64 - 1) }
 
--- a listed file was loaded, and counted
+-- a listed file was opened and read, and its opening counted
 pub record LoadsListed {W : Type 0} (told : Bool) (version : Versions) (name : NameFacts) (before after : ShownTree)
     (tally later_tally : Tally) (given : NameRead W) : Type 0 where
-  pub answer : LoadFacts
-  pub listens : Listens told version before after (heard_or_none (heard_load name answer))
-  pub leads : load_leads_to name answer given
+  pub does : ReadsName told version name before after given
   pub counts : CountsLoad given tally later_tally
 
 -- what became of a listed file is counted

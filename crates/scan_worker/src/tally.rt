@@ -11,8 +11,8 @@ use row_types::Truth;
 /// What a worker reports. Each number stays at 2^64 - 1 once it is there.
 #[derive(Clone, Copy, PartialEq, Eq)]
 pub struct WorkReport {
-    /// The loads that were answered. One for which memory was refused isn't counted, nor one of
-    /// which no row could be made for want of memory.
+    /// The openings that were answered. One for which memory was refused isn't counted, nor one
+    /// behind which memory was refused for a read or for the row.
     pub asked: u64,
     /// The rows that were added or replaced.
     pub published: u64,
@@ -42,7 +42,7 @@ impl Tally {
         }
     }
 
-    /// Counts a load, unless memory was refused.
+    /// Counts an opening, unless memory was refused.
     pub(crate) fn count_load<W: Truth>(&mut self, read: &NameRead<W>)
         ensures { CountsLoad read.now self.old self.new }
     {

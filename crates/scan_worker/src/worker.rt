@@ -18,9 +18,10 @@ use std::alloc::Global;
 use std::sync::Wait;
 use tree_trait::{Gate, Point, Reader, Tree};
 
-/// Works on the pass of an index until no name is left to be handed out: takes a name, loads its
-/// file while the lock is free, and hands in its row, or that it was missed. The gate is passed
-/// before each load, and after each row that was added or replaced.
+/// Works on the pass of an index until no name is left to be handed out: takes a name, opens its
+/// file and reads the parts that its row rests on while the lock is free, and hands in its row, or
+/// that it was missed. The gate is passed before each opening, and after each row that was added or
+/// replaced.
 pub fn work<W: Truth, K: Keeper<W>, T: Tree<W>, R: Reader<W>, G: Gate, Rt: Wait + Sync>(
     rt: &Rt,
     alloc: Global,
@@ -82,7 +83,7 @@ fn work_once<'a, W: Truth, K: Keeper<W>, T: Tree<W>, R: Reader<W>, G: Gate, Rt: 
     (desk, tally.count_turn(turn))
 }
 
-/// Loads a listed file and reads it, and counts the load.
+/// Opens a listed file and reads it, and counts the opening.
 fn ask_for<W: Truth, T: Tree<W>, R: Reader<W>, G, Rt>(
     ground: Ground<'_, R, G, Rt>,
     hand: &mut T,

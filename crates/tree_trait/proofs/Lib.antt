@@ -1,7 +1,11 @@
 pub mod EntryLemmas
+pub mod FillLemmas
 pub mod FolderLemmas
 pub mod HandLemmas
 pub mod ListenLemmas
 pub mod ListingLemmas
 pub mod NameLemmas
+pub mod NeedLemmas
+pub mod OpenLemmas
+pub mod OpenedLemmas
 pub mod TreeLemmas

@@ -1,15 +1,16 @@
 -- What a hand heard: from nothing, of one question, and one after the other.
 use Rattle.std.proofs.Common.{◌≡◌, ◌+◌, cond, Bool, true, false, List, [], ◌∷◌, ◌++◌, Option, None, Some, refl, sym, ◌∙◌, ap, subst, arith, append_assoc}
-use Rattle.std.specs.Prelude.{if◌then◌else◌}
+use Rattle.std.specs.Prelude.{IsSome, if◌then◌else◌}
 use Rattle.std.specs.List.{All, Contains}
+use Rattle.std.proofs.lemmas.Bool.{false≢true}
 use Rattle.std.proofs.lemmas.List.{append-nil}
-use Rattle.std.proofs.lemmas.List.Elements.{All-nil, All-cons, All-append, Contains-push}
+use Rattle.std.proofs.lemmas.List.Elements.{All-nil, All-cons, All-head, All-tail, All-append, Contains-push}
 use Rattle.std.proofs.lemmas.List.Sums.{sum_by-append}
 use Rattle.row_types.specs.Name.{NameFacts}
 use Rattle.tree_trait.specs.Asks.{AsksTree, FitsAny, IsAnswerTold}
 use Rattle.tree_trait.specs.Found.{Versions}
-use Rattle.tree_trait.specs.Heard.{Heard, list_after, wants_memory, with_answers}
-use Rattle.tree_trait.specs.Listens.{Listens, heard_or_none, is_load, loads}
+use Rattle.tree_trait.specs.Heard.{Heard, IsNoRead, list_after, wants_memory, with_answers}
+use Rattle.tree_trait.specs.Listens.{Listens, ListsAnswers, heard_or_none, is_load, loads}
 use Rattle.tree_trait.specs.Shown.{ShownTree, StaysStill}
 
 -- nothing was heard
@@ -21,6 +22,35 @@ pub heard_both : (told mid new : Option (List Heard)) (xs ys : List Heard)
     → mid ≡ with_answers told xs → new ≡ with_answers mid ys → new ≡ with_answers told (xs ++ ys)
 heard_both None mid new xs ys m n = n ∙ ap (λ t. with_answers t ys) m
 heard_both (Some heard) mid new xs ys m n = n ∙ ap (λ t. with_answers t ys) m ∙ ap Some (append_assoc heard xs ys)
+
+-- the same where the list may be lost on the way
+pub told_both : (told mid new : Option (List Heard)) (xs ys : List Heard)
+    → (IsSome mid → mid ≡ with_answers told xs) → (IsSome new → new ≡ with_answers mid ys)
+    → IsSome new → new ≡ with_answers told (xs ++ ys)
+told_both told None new xs ys p q =
+    λ some. absurd (false≢true (subst (λ (t : Option (List Heard)). IsSome t) (q some) some))
+told_both told (Some mid) new xs ys p q = λ some. heard_both told (Some mid) new xs ys (p refl) (q some)
+
+pub lists_all : {told new : Option (List Heard)} {answers : List Heard} → new ≡ with_answers told answers
+    → ListsAnswers told answers new
+lists_all same = record { told = λ _. same; unread = λ _. same }
+
+-- the front of a list, and the rest of it
+pub heard_front : (P : Heard → Type 0) (xs ys : List Heard) → All P (xs ++ ys) → All P xs
+heard_front P [] ys all = All-nil P
+heard_front P (x ∷ xs) ys all = All-cons P x xs (All-head P x (xs ++ ys) all) (heard_front P xs ys (All-tail P x (xs ++ ys) all))
+
+pub rest_all : (P : Heard → Type 0) (xs ys : List Heard) → All P (xs ++ ys) → All P ys
+rest_all P [] ys all = all
+rest_all P (x ∷ xs) ys all = rest_all P xs ys (All-tail P x (xs ++ ys) all)
+
+pub lists_both : (told mid new : Option (List Heard)) (xs ys : List Heard) → ListsAnswers told xs mid
+    → ListsAnswers mid ys new → ListsAnswers told (xs ++ ys) new
+lists_both told mid new xs ys p q = record {
+  told = told_both told mid new xs ys p.told q.told;
+  unread = λ none.
+      heard_both told mid new xs ys (p.unread (heard_front IsNoRead xs ys none)) (q.unread (rest_all IsNoRead xs ys none));
+}
 
 heard_one : (told : Option (List Heard)) {new : Option (List Heard)} (asked : Heard)
     → new ≡ list_after told asked → new ≡ with_answers told (heard_or_none asked)
@@ -44,7 +74,7 @@ pub is_heard : (asked : Heard) → wants_memory asked ≡ false → Contains (he
 is_heard asked e =
     subst (λ b. Contains (if b then [] else asked ∷ []) asked) (sym e) (Contains-push [] asked)
 
-stays_on : {before mid after : ShownTree} → (before.Still → StaysStill before mid)
+pub stays_on : {before mid after : ShownTree} → (before.Still → StaysStill before mid)
     → (mid.Still → StaysStill mid after) → before.Still → StaysStill before after
 stays_on p q still = record { still = (q (p still).still).still; same = (q (p still).still).same ∙ (p still).same }
 
@@ -52,7 +82,7 @@ module _ {told : Bool} {version : Versions} where
   -- nothing was heard
   pub listens_none : {hand : ShownTree} → Listens told version hand hand []
   listens_none {hand} = record {
-    heard = heard_none hand.heard;
+    heard = lists_all (heard_none hand.heard);
     fits = All-nil (FitsAny version);
     tells = λ _ _. All-nil (IsAnswerTold hand.present);
     hand = record {
@@ -67,7 +97,7 @@ module _ {told : Bool} {version : Versions} where
   pub listens_one : {before after : ShownTree} (asked : Heard) → AsksTree told version before after asked
       → Listens told version before after (heard_or_none asked)
   listens_one {before} {after} asked asks = record {
-    heard = heard_one before.heard asked asks.listed;
+    heard = lists_all (heard_one before.heard asked asks.listed);
     fits = all_heard (FitsAny version) asked asks.fits;
     tells = λ t still.
         all_heard (IsAnswerTold before.present) asked
@@ -84,7 +114,7 @@ module _ {told : Bool} {version : Versions} where
   pub listens_then : {before mid after : ShownTree} {xs ys : List Heard} → Listens told version before mid xs
       → Listens told version mid after ys → Listens told version before after (xs ++ ys)
   listens_then {before} {mid} {after} {xs} {ys} p q = record {
-    heard = heard_both before.heard mid.heard after.heard xs ys p.heard q.heard;
+    heard = lists_both before.heard mid.heard after.heard xs ys p.heard q.heard;
     fits = All-append (FitsAny version) xs ys p.fits q.fits;
     tells = λ t still.
         All-append (IsAnswerTold before.present) xs ys (p.tells t still)

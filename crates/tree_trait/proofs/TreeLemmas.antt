@@ -1,8 +1,8 @@
 -- What holds of a tree in memory at each stage.
-use Rattle.std.proofs.Common.{◌≡◌, ℕ, ◌+◌, ◌<◌, ◌≤◌, ◌&&◌, Bool, true, false, List, [], map, length, All}
+use Rattle.std.proofs.Common.{◌≡◌, ℕ, ◌+◌, ◌<◌, ◌≤◌, ◌&&◌, Bool, true, false, List, [], ◌∷◌, map, length, All}
 use Rattle.std.proofs.Common.{Option, Some, None, IfSome, slice_index_or, refl, sym, ◌∙◌, ap, subst, inl}
 use Rattle.std.proofs.Common.{arith}
-use Rattle.std.specs.Prelude.{IsTrue, nat_lt, if◌then◌else◌}
+use Rattle.std.specs.Prelude.{IsSome, IsTrue, nat_lt, if◌then◌else◌}
 use Rattle.std.specs.List.{list_all}
 use Rattle.std.specs.Option.{IsSomeAnd}
 use Rattle.std.proofs.lemmas.Bool.{false≢true, ltb-true}
@@ -13,15 +13,15 @@ use Rattle.row_types.specs.Canon.{is_canonical}
 use Rattle.row_types.specs.Faults.{HasCause, Rose, raised}
 use Rattle.row_types.specs.Name.{NameFacts}
 use Rattle.row_types.proofs.CanonLemmas.{left_true, right_true}
-use Rattle.tree_trait.specs.Asks.{AsksTree, FitsAny, IsAnswerTold}
+use Rattle.tree_trait.specs.Asks.{AsksTree, FitsAny, IsAnswerTold, ReadsOpened}
 use Rattle.tree_trait.specs.Found.{FoundFacts, IsFound, Versions, found_name}
-use Rattle.tree_trait.specs.Heard.{Heard, call_failed, wants_memory}
+use Rattle.tree_trait.specs.Heard.{Heard, call_failed, wants_memory, with_answers}
 use Rattle.tree_trait.specs.HeardCalls.{IsListedAs}
-use Rattle.tree_trait.specs.MemTree.{TreeFacts, IsScripted, IsStill, IsStageAnswer, answered, next_stage}
-use Rattle.tree_trait.specs.MemTree.{present_in, tree_shows}
+use Rattle.tree_trait.specs.MemTree.{TreeFacts, IsScripted, IsStill, IsStageAnswer, RunsRead, answered, next_stage}
+use Rattle.tree_trait.specs.MemTree.{moved_to, present_in, tree_shows, with_heard}
 use Rattle.tree_trait.specs.Present.{IsKnownName, are_apart, are_distinct}
 use Rattle.tree_trait.specs.Script.{ScriptFacts, is_script, is_stage, is_call_listed, stage_for, names_at}
-use Rattle.tree_trait.specs.Shown.{IsPresence, StaysStill}
+use Rattle.tree_trait.specs.Shown.{HandsOn, IsPresence, StaysStill}
 
 -- a sound script's first stage is there
 pub scripted_first : {version : Versions} (script : ScriptFacts) → IsTrue (is_script script)
@@ -66,30 +66,25 @@ next_placed moves call stage count placed =
       | false ↦ λ t. (omega arith, placed)
     ] refl
 
--- a call that is answered by the files of the next stage
-asks_answered : {version : Versions} (tree : TreeFacts) {next : TreeFacts} {asked : Heard} {bad : Bool}
-    → IsScripted version tree.script tree.stage
-    → IsStageAnswer version bad (names_at tree.script (next_stage tree)) asked → wants_memory asked ≡ false
-    → next ≡ answered tree asked → tree.faults ≤ next.faults
-    → AsksTree true version (tree_shows tree) (tree_shows next) asked
-asks_answered {version} tree {asked} scripted answer answers e later =
-    subst (λ (t : TreeFacts). AsksTree true version (tree_shows tree) (tree_shows t) asked) (sym e) (record {
-      fits = answer.fits;
-      tells = λ _. answer.tells;
-      listed = rw answers refl;
-      hands = record {
-        cause = cause;
-        known = λ _ _. known;
-        keeps = λ _ _. known;
-        still = stays;
-      };
+-- a call that is answered by the files of the next stage hands the tree on, whatever questions are told from there on
+hands_answered : {version : Versions} {next : TreeFacts} (tree : TreeFacts) (asked : Heard)
+    (heard : Option (List Heard)) → IsScripted version tree.script tree.stage
+    → next ≡ with_heard (answered tree asked) heard → tree.faults ≤ next.faults
+    → HandsOn true version (tree_shows tree) (tree_shows next) (Unit {0}) (IsTrue (call_failed asked))
+hands_answered {version} tree asked heard scripted e later =
+    subst (λ (t : TreeFacts). HandsOn true version (tree_shows tree) (tree_shows t) (Unit {0}) (IsTrue (call_failed asked)))
+    (sym e) (record {
+      cause = cause;
+      known = λ _ _. known;
+      keeps = λ _ _. known;
+      still = stays;
     })
   where
     placed : (tree.stage ≤ next_stage tree) × (next_stage tree < length tree.script.stages)
     placed = next_placed tree.script.moves tree.calls tree.stage (length tree.script.stages) scripted.placed
 
-    known : IsPresence version (tree_shows (answered tree asked))
-    known = tree_known (answered tree asked)
+    known : IsPresence version (tree_shows (with_heard (answered tree asked) heard))
+    known = tree_known (with_heard (answered tree asked) heard)
         (record { sound = scripted.sound; placed = placed.1; known = scripted.known })
 
     cause : HasCause tree.faults (if call_failed asked then raised tree.faults else tree.faults)
@@ -104,7 +99,7 @@ asks_answered {version} tree {asked} scripted answer answers e later =
               (omega arith);
         }
 
-    stays : IsStill tree → StaysStill (tree_shows tree) (tree_shows (answered tree asked))
+    stays : IsStill tree → StaysStill (tree_shows tree) (tree_shows (with_heard (answered tree asked) heard))
     stays still =
         let same : names_at tree.script (next_stage tree) ≡ present_in tree =
         still.rests (next_stage tree) placed.0 placed.1 in
@@ -117,6 +112,67 @@ asks_answered {version} tree {asked} scripted answer answers e later =
           };
           same = same;
         }
+
+-- a call that is answered by the files of the next stage
+asks_answered : {version : Versions} (tree : TreeFacts) {next : TreeFacts} {asked : Heard} {bad : Bool}
+    → IsScripted version tree.script tree.stage
+    → IsStageAnswer version bad (names_at tree.script (next_stage tree)) asked → wants_memory asked ≡ false
+    → next ≡ answered tree asked → tree.faults ≤ next.faults
+    → AsksTree true version (tree_shows tree) (tree_shows next) asked
+asks_answered {version} tree {asked} scripted answer answers e later =
+    subst (λ (t : TreeFacts). AsksTree true version (tree_shows tree) (tree_shows t) asked) (sym e) (record {
+      fits = answer.fits;
+      tells = λ _. answer.tells;
+      listed = rw answers refl;
+      hands = hands_answered {next = answered tree asked} tree asked (with_answers tree.heard (asked ∷ [])) scripted refl
+          (subst (λ (t : TreeFacts). tree.faults ≤ t.faults) e later);
+    })
+
+-- where no questions are told, none is listed
+pub told_none : (tree : TreeFacts) (answers : List Heard) → tree.heard ≡ None
+    → tree ≡ with_heard tree (with_answers tree.heard answers)
+told_none tree answers none =
+    ap (with_heard tree) (none ∙ sym (ap (λ (heard : Option (List Heard)). with_answers heard answers) none))
+
+-- what is told of a call, and then the call is counted
+pub told_on : (mid next : TreeFacts) (answers : Option (List Heard)) (stage : ℕ) (failed : Bool)
+    → (IsSome mid.heard → mid.heard ≡ answers) → next ≡ moved_to mid stage failed
+    → IsSome next.heard → next.heard ≡ answers
+told_on mid next answers stage failed told counted =
+    subst (λ (heard : Option (List Heard)). IsSome heard → heard ≡ answers)
+    (sym (ap (λ (t : TreeFacts). t.heard) counted)) told
+
+pub ended_on : (tree mid next : TreeFacts) (asked : Heard) (stage : ℕ) (failed : Bool)
+    → mid ≡ with_heard tree mid.heard → stage ≡ next_stage tree → failed ≡ call_failed asked
+    → next ≡ moved_to mid stage failed → next ≡ with_heard (answered tree asked) next.heard
+ended_on tree mid next asked stage failed same place fails counted =
+    counted ∙ ap (λ (t : TreeFacts). moved_to t stage failed) same
+    ∙ ap (λ (s : ℕ). moved_to (with_heard tree mid.heard) s failed) place
+    ∙ ap (λ (f : Bool). moved_to (with_heard tree mid.heard) (next_stage tree) f) fails
+    ∙ ap (with_heard (answered tree asked)) (sym (ap (λ (t : TreeFacts). t.heard) counted))
+
+-- a call that is listed, and then counted, was answered
+pub ended_by : (tree mid next : TreeFacts) (asked : Heard) (stage : ℕ) (failed : Bool)
+    → mid ≡ with_heard tree (with_answers tree.heard (asked ∷ [])) → stage ≡ next_stage tree
+    → failed ≡ call_failed asked → next ≡ moved_to mid stage failed → next ≡ answered tree asked
+ended_by tree mid next asked stage failed same place fails counted =
+    let told : Option (List Heard) = with_answers tree.heard (asked ∷ []) in
+    counted ∙ ap (λ (t : TreeFacts). moved_to t stage failed) same
+    ∙ ap (λ (s : ℕ). moved_to (with_heard tree told) s failed) place
+    ∙ ap (λ (f : Bool). moved_to (with_heard tree told) (next_stage tree) f) fails
+
+pub faults_on : (tree mid next : TreeFacts) → mid ≡ with_heard tree mid.heard → mid.faults ≤ next.faults
+    → tree.faults ≤ next.faults
+faults_on tree mid next same later = subst (λ (t : TreeFacts). t.faults ≤ next.faults) same later
+
+-- a read of an open file that is answered by the script
+pub reads_answered : {version : Versions} (tree next : TreeFacts) (asked : Heard)
+    → IsScripted version tree.script tree.stage → RunsRead tree next asked → tree.faults ≤ next.faults
+    → ReadsOpened true version (tree_shows tree) (tree_shows next) asked
+reads_answered tree next asked scripted runs later = record {
+  listed = runs.listed;
+  hands = hands_answered tree asked next.heard scripted runs.ends later;
+}
 
 -- a call of which an answer was kept
 pub asks_kept : {X : Type 0} (facts : X → Heard) {version : Versions} (tree next : TreeFacts) {asked : Heard}

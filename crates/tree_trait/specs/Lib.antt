@@ -6,6 +6,7 @@ pub mod Asks
 pub mod Clock
 pub mod Dir
 pub mod Entry
+pub mod Fills
 pub mod Folder
 pub mod Found
 pub mod Heard
@@ -14,6 +15,9 @@ pub mod Listens
 pub mod Load
 pub mod MemClock
 pub mod MemTree
+pub mod Needs
+pub mod Open
+pub mod Opened
 pub mod Pieces
 pub mod Present
 pub mod Reader

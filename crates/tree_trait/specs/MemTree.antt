@@ -1,26 +1,27 @@
 -- The tree in memory (this project's rule): it answers by its script.
-use Rattle.std.specs.Prelude.{◌≡◌, ℕ, ◌≤◌, ◌<◌, Bool, false, if◌then◌else◌, List, [], ◌∷◌, ◌++◌, map, length}
-use Rattle.std.specs.Prelude.{All, IsTrue, Some}
+use Rattle.std.specs.Prelude.{◌≡◌, ℕ, ◌≤◌, ◌<◌, Bool, false, if◌then◌else◌, List, [], ◌∷◌, map, length}
+use Rattle.std.specs.Prelude.{All, IsTrue, IsSome, Option, Some}
 use Rattle.row_types.specs.Faults.{raised}
 use Rattle.row_types.specs.Name.{NameFacts}
 use Rattle.tree_trait.specs.Asks.{FitsAny, IsAnswerTold}
 use Rattle.tree_trait.specs.Found.{IsFound, Versions}
-use Rattle.tree_trait.specs.Heard.{Heard, call_failed, wants_memory}
+use Rattle.tree_trait.specs.Heard.{Heard, call_failed, wants_memory, with_answers}
 use Rattle.tree_trait.specs.Present.{are_apart}
 use Rattle.tree_trait.specs.Script.{ScriptFacts, is_script, is_call_listed, stage_for, names_at}
 use Rattle.tree_trait.specs.Shown.{ShownTree}
 
--- the script, the stage that stands, the next call's number, the questions so far, and the count of faults
+-- the script, the stage that stands, the next call's number, the questions so far, where they are told, and the count of
+-- faults
 pub record TreeFacts : Type 0 where
   pub script : ScriptFacts
   pub stage : ℕ
   pub calls : ℕ
-  pub heard : List Heard
+  pub heard : Option (List Heard)
   pub faults : ℕ
 
 -- a tree that was asked nothing yet
 abbrev pub fresh_tree : ScriptFacts → TreeFacts
-fresh_tree script = record { script = script; stage = 0; calls = 0; heard = []; faults = 0 }
+fresh_tree script = record { script = script; stage = 0; calls = 0; heard = Some []; faults = 0 }
 
 -- the script is sound, the stage is one of its, and each file is a version of the world
 pub record IsScripted (version : Versions) (script : ScriptFacts) (stage : ℕ) : Type 0 where
@@ -42,12 +43,12 @@ pub record IsStill (tree : TreeFacts) : Type 0 where
 abbrev pub next_stage : TreeFacts → ℕ
 next_stage tree = stage_for tree.script.moves tree.calls tree.stage (length tree.script.stages)
 
--- what the tree shows: it tells its questions
+-- what the tree shows
 abbrev pub tree_shows : TreeFacts → ShownTree
 tree_shows tree = record {
   present = present_in tree;
   Still = IsStill tree;
-  heard = Some tree.heard;
+  heard = tree.heard;
   faults = tree.faults;
 }
 
@@ -57,13 +58,25 @@ answered tree asked = record {
   script = tree.script;
   stage = next_stage tree;
   calls = raised tree.calls;
-  heard = tree.heard ++ asked ∷ [];
+  heard = with_answers tree.heard (asked ∷ []);
   faults = if call_failed asked then raised tree.faults else tree.faults;
 }
 
 -- the tree after a call; after want of memory it is as it was
 abbrev pub tree_after : TreeFacts → Heard → TreeFacts
 tree_after tree asked = if wants_memory asked then tree else answered tree asked
+
+-- the tree with these questions
+abbrev pub with_heard : TreeFacts → Option (List Heard) → TreeFacts
+with_heard tree heard = record tree { heard = heard }
+
+-- the tree with one more call counted, which was answered in this stage
+abbrev pub moved_to : TreeFacts → ℕ → Bool → TreeFacts
+moved_to tree stage failed = record tree {
+  stage = stage;
+  calls = raised tree.calls;
+  faults = if failed then raised tree.faults else tree.faults;
+}
 
 -- whether the next call's number is among those that fail
 abbrev pub is_bad_call : TreeFacts → Bool
@@ -84,3 +97,10 @@ pub record IsStageAnswer (version : Versions) (bad : Bool) (present : List NameF
 pub record RunsScript (before after : TreeFacts) (asked : Heard) : Type 0 where
   pub fails : FailsAsListed (is_bad_call before) asked
   pub ends : after ≡ tree_after before asked
+
+-- the read of an open file is answered by the script, and listed if there is memory for it; else the questions aren't told from
+-- there on
+pub record RunsRead (before after : TreeFacts) (asked : Heard) : Type 0 where
+  pub fails : call_failed asked ≡ is_bad_call before
+  pub listed : IsSome after.heard → after.heard ≡ with_answers before.heard (asked ∷ [])
+  pub ends : after ≡ with_heard (answered before asked) after.heard

@@ -1,6 +1,6 @@
 -- A told world of one path with two versions, which their sizes tell apart (this project's example). The
 -- lemmas stand here since the laws of the world cite them.
-use Rattle.std.specs.Prelude.{◌≡◌, ℕ, ◌==◌, pos, ◌⊎◌, List, codes, true, Result, Err, refl}
+use Rattle.std.specs.Prelude.{◌≡◌, ℕ, ◌==◌, pos, ◌⊎◌, List, codes, length, true, Result, Err, refl}
 use Rattle.std.proofs.Common.{sym, ◌∙◌, ap, subst, inl, inr}
 use Rattle.std.proofs.lemmas.Bool.{false≢true}
 use Rattle.file_formats.specs.Header.{header_of}
@@ -53,6 +53,17 @@ same_bytes stamp a b (inr p) (inr q) = p.filled ∙ sym q.filled
 pub either_is_one : true ≡ true → (asked : List ℕ) (stamp : StampFacts) (a b : List ℕ)
     → IsEither asked stamp a → IsEither asked stamp b → a ≡ b
 either_is_one told asked stamp a b p q = same_bytes stamp a b p.one q.one
+
+-- each content has as many bytes as its stamp says
+one_sized : (stamp : StampFacts) (bytes : List ℕ)
+    → IsOne first_stamp (codes "x") stamp bytes ⊎ IsOne second_stamp (codes "yy") stamp bytes
+    → length bytes ≡ stamp.size
+one_sized stamp bytes (inl p) = ap length p.filled ∙ ap (λ (s : StampFacts). s.size) (sym p.stamped)
+one_sized stamp bytes (inr p) = ap length p.filled ∙ ap (λ (s : StampFacts). s.size) (sym p.stamped)
+
+pub either_is_sized : true ≡ true → (asked : List ℕ) (stamp : StampFacts) (bytes : List ℕ)
+    → IsEither asked stamp bytes → length bytes ≡ stamp.size
+either_is_sized told asked stamp bytes p = one_sized stamp bytes p.one
 
 -- neither content begins as an ELF file does
 reason_is_one : (stamp : StampFacts) (bytes : List ℕ)

@@ -1,7 +1,8 @@
 //! A file that was read.
 
-ghost use Rattle.std.specs.Prelude.{◌≡◌, vec_len, IfOk};
+ghost use Rattle.std.specs.Prelude.{◌≡◌, ℕ, ◌+◌, ◌≤◌, List, true, length, vec_len, IfOk};
 ghost use Rattle.std.specs.String.{string_bytes};
+ghost use Rattle.file_formats.specs.Numbers.{bytes_at};
 ghost use Rattle.tree_trait.specs.Found.{IsFound, found_facts};
 
 use row_types::{Stamp, Truth};
@@ -66,4 +67,40 @@ impl<W: Truth> Found<W> {
             of: PhantomData,
         })
     }
+
+    /// Copies its bytes from a place on into all of a room.
+    fn own_into(&self, at: u64, room: &mut [u8])
+        requires { at + length room.old ≤ self.now.stamp.size }
+        ensures len { length room.new ≡ length room.old }
+        ensures own { room.new ≡ bytes_at self.now.bytes at (length room.old) }
+    {
+        // For its clause: there are as many bytes as the stamp says.
+        self.is_version();
+        copy_part(self.bytes.as_slice(), at, room);
+    }
+
+    /// Copies its bytes from a place on into all of a room. In a told world no other file of its
+    /// path and stamp has others there.
+    pub fn read_into(&self, at: u64, room: &mut [u8])
+        requires { at + length room.old ≤ self.now.stamp.size }
+        ensures len { length room.new ≡ length room.old }
+        ensures own { room.new ≡ bytes_at self.now.bytes at (length room.old) }
+        ensures bytes { W.told ≡ true → (b : List ℕ)
+            → W.version self.now.path self.now.stamp b
+            → room.new ≡ bytes_at b at (length room.old) }
+    {
+        // For its clause: these are the bytes of the file's version.
+        self.is_version();
+        self.own_into(at, room);
+    }
+}
+
+/// Copies bytes from a place on into all of a room.
+fn copy_part(bytes: &[u8], at: u64, room: &mut [u8])
+    requires { at + length room.old ≤ length bytes.now }
+    ensures len { length room.new ≡ length room.old }
+    ensures own { room.new ≡ bytes_at bytes.now at (length room.old) }
+{
+    let end = at + room.len() as u64;
+    room.copy_from_slice(&bytes[at as usize..end as usize]);
 }

@@ -1,23 +1,28 @@
 //! A tree in memory that answers by a script.
 
-ghost use Rattle.std.specs.Prelude.{◌≡◌, ◌≤◌, ◌<◌, true, map, length, IsTrue, IsSomeAnd};
+ghost use Rattle.std.specs.Prelude.{◌≡◌, ℕ, ◌+◌, ◌≤◌, ◌<◌, List, [], ◌∷◌, true, map, length, IsTrue, IsSome, IsSomeAnd};
 ghost use Rattle.std.specs.Bool.{OnTrue, OnFalse};
-ghost use Rattle.tree_trait.specs.Asks.{AsksTree};
+ghost use Rattle.file_formats.specs.Numbers.{bytes_at};
+ghost use Rattle.tree_trait.specs.Asks.{AsksTree, ReadsOpened};
 ghost use Rattle.tree_trait.specs.Dir.{dir_facts};
 ghost use Rattle.tree_trait.specs.Found.{found_name};
-ghost use Rattle.tree_trait.specs.Heard.{load, stat, read_dir, wants_memory};
+ghost use Rattle.tree_trait.specs.Heard.{load, stat, read_dir, open_file, read_at};
+ghost use Rattle.tree_trait.specs.Heard.{call_failed, wants_memory, with_answers};
 ghost use Rattle.tree_trait.specs.HeardCalls.{heard_facts};
 ghost use Rattle.tree_trait.specs.Load.{load_facts};
-ghost use Rattle.tree_trait.specs.MemTree.{IsScripted, RunsScript, TreeFacts, answered};
+ghost use Rattle.tree_trait.specs.MemTree.{IsScripted, RunsRead, RunsScript, TreeFacts, answered};
 ghost use Rattle.tree_trait.specs.MemTree.{fresh_tree, is_bad_call, next_stage, tree_shows};
+ghost use Rattle.tree_trait.specs.MemTree.{moved_to, with_heard};
+ghost use Rattle.tree_trait.specs.Open.{IsOpenedAs, open_facts, room_facts};
 ghost use Rattle.tree_trait.specs.Script.{is_script, names_at};
 
 use crate::answer::LoadAnswer;
 use crate::dir::DirAnswer;
 use crate::found::Found;
-use crate::heard::{HeardCall, heard_load, heard_read_dir, heard_stat};
+use crate::heard::{HeardCall, heard_load, heard_open, heard_read, heard_read_dir, heard_stat};
+use crate::opening::{OpenAnswer, RoomAnswer};
 use crate::script::Script;
-use crate::stage::{dir_in, files_at, is_listed, load_in, stage_for, stat_in};
+use crate::stage::{dir_in, files_at, is_listed, load_in, open_in, stage_for, stat_in};
 use crate::stat::StatAnswer;
 use crate::tree::Tree;
 use row_types::{Faults, Truth};
@@ -26,19 +31,22 @@ use std::marker::Model;
 
 /// A tree in memory. It tells what it has and what it was asked, moves to its script's next stage
 /// before the calls that the script lists, and fails exactly at the calls that the script lists.
-/// Contracts see it as a record of the script, the stage, the next call's number, the questions so
-/// far and the faults.
+/// A file that was opened keeps its bytes, whatever stands at its path since. Where memory to list
+/// a read of it is refused, the questions aren't told from then on. Contracts see it as a record of
+/// the script, the stage, the next call's number, the questions so far, where they are told, and the
+/// faults.
 #[derive(Drop)]
 pub struct MemTree<W: Truth> {
     script: Script<W>,
     stage: usize,
     calls: u64,
-    heard: Vec<HeardCall<W>>,
+    heard: Option<Vec<HeardCall<W>>>,
     faults: Faults,
 }
 
 impl<W: Truth> Model for MemTree<W> {
     ghost use Rattle.std.specs.Prelude.{map};
+    ghost use Rattle.std.specs.Option.{option_map};
     ghost use Rattle.tree_trait.specs.HeardCalls.{heard_facts};
     ghost use Rattle.tree_trait.specs.MemTree.{TreeFacts, IsScripted};
 
@@ -48,7 +56,7 @@ impl<W: Truth> Model for MemTree<W> {
       script = t.script;
       stage = t.stage;
       calls = t.calls;
-      heard = map heard_facts t.heard.items;
+      heard = option_map (λ calls. map heard_facts calls.items) t.heard;
       faults = t.faults;
     } };
 
@@ -66,7 +74,7 @@ impl<W: Truth> MemTree<W> {
             script,
             stage: 0,
             calls: 0,
-            heard: Vec::new(alloc),
+            heard: Some(Vec::new(alloc)),
             faults: Faults::new(),
         }
     }
@@ -96,7 +104,33 @@ impl<W: Truth> MemTree<W> {
         files_at(self.script.stages.as_slice(), stage)
     }
 
-    /// Ends a call that is listed, or leaves the tree as it is. Says which.
+    /// Moves to the stage in which a call was answered, and counts the call.
+    fn end_in(&mut self, stage: usize, failed: bool)
+        requires { stage < length self.old.script.stages }
+        ensures value { self.new ≡ moved_to self.old stage failed }
+        ensures later { self.old.faults ≤ self.new.faults }
+    {
+        self.stage = stage;
+        self.calls = self.calls.saturating_add(1);
+        if failed {
+            self.faults.raise();
+        }
+    }
+
+    /// Lists a call where the questions are told, or leaves the tree as it is. Says which.
+    fn list(&mut self, call: HeardCall<W>) -> bool
+        ensures kept { OnTrue result (self.new
+            ≡ with_heard self.old (with_answers self.old.heard (heard_facts call ∷ []))) }
+        ensures same { OnFalse result (self.new ≡ self.old) }
+    {
+        match &mut self.heard {
+            Some(heard) => heard.push(call).is_ok(),
+            None => true,
+        }
+    }
+
+    /// Ends a call that is listed where the questions are told, or leaves the tree as it is. Says
+    /// which.
     fn end_call(&mut self, call: Option<HeardCall<W>>) -> bool
         ensures ended { OnTrue result (IsSomeAnd call (λ asked.
             self.new ≡ answered self.old (heard_facts asked))) }
@@ -106,25 +140,86 @@ impl<W: Truth> MemTree<W> {
         let Some(call) = call else { return false };
         let stage = self.next_stage();
         let failed = call.has_failed();
-        if self.heard.push(call).is_err() {
-            return false;
+        if self.list(call) {
+            self.end_in(stage, failed);
+            true
+        } else {
+            false
         }
-        self.stage = stage;
-        self.calls = self.calls.saturating_add(1);
-        if failed {
-            self.faults.raise();
+    }
+
+    /// What is known of the script.
+    fn know_script(&self)
+        ensures { IsScripted W.version self.now.script self.now.stage }
+    {
+        let _script = &self.script;
+    }
+
+    /// Lists a read of an open file, by the room that it left, or leaves the tree as it is. Says which.
+    fn list_read(&mut self, file: &Found<W>, at: u64, answer: RoomAnswer, room: &[u8]) -> bool
+        ensures kept { OnTrue result (self.new ≡ with_heard self.old (with_answers self.old.heard
+            (read_at (found_name file.now) at (room_facts answer room.now) ∷ []))) }
+        ensures same { OnFalse result (self.new ≡ self.old) }
+    {
+        let alloc = *self.script.bad_calls.allocator();
+        match heard_read(alloc, file, at, answer, room) {
+            Ok(call) => self.list(call),
+            Err(_) => false,
         }
-        true
+    }
+
+    /// Lists a read of an open file, by the room that it left, or tells no questions from now on.
+    fn keep_read(&mut self, file: &Found<W>, at: u64, answer: RoomAnswer, room: &[u8])
+        ensures listed { IsSome self.new.heard → self.new.heard ≡ with_answers self.old.heard
+            (read_at (found_name file.now) at (room_facts answer room.now) ∷ []) }
+        ensures same { self.new ≡ with_heard self.old self.new.heard }
+    {
+        if self.list_read(file, at, answer, room) {
+            return;
+        }
+        self.heard = None;
+    }
+
+    /// Ends a read of an open file, by the room that it left, in the next stage.
+    fn move_on(&mut self, file: &Found<W>, at: u64, answer: RoomAnswer, room: &[u8])
+        ensures listed { IsSome self.new.heard → self.new.heard ≡ with_answers self.old.heard
+            (read_at (found_name file.now) at (room_facts answer room.now) ∷ []) }
+        ensures ends { self.new ≡ with_heard (answered self.old
+            (read_at (found_name file.now) at (room_facts answer room.now))) self.new.heard }
+        ensures later { self.old.faults ≤ self.new.faults }
+    {
+        let stage = self.next_stage();
+        self.keep_read(file, at, answer, room);
+        self.end_in(stage, answer.has_failed());
+    }
+
+    /// Ends a read of an open file, by the room that it left, which failed if it was to.
+    fn end_read(&mut self, file: &Found<W>, at: u64, answer: RoomAnswer, room: &[u8])
+        requires { call_failed (read_at (found_name file.now) at (room_facts answer room.now))
+            ≡ is_bad_call self.old }
+        ensures asks { ReadsOpened true W.version (tree_shows self.old) (tree_shows self.new)
+            (read_at (found_name file.now) at (room_facts answer room.now)) }
+        ensures script { RunsRead self.old self.new
+            (read_at (found_name file.now) at (room_facts answer room.now)) }
+    {
+        // For its clause: the stage is one of the script's.
+        self.know_script();
+        self.move_on(file, at, answer, room);
     }
 }
 
 impl<W: Truth + Send> Tree<W> for MemTree<W> {
     ghost use Rattle.std.specs.Prelude.{true};
+    ghost use Rattle.tree_trait.specs.Found.{found_name};
     ghost use Rattle.tree_trait.specs.MemTree.{tree_shows};
+
+    type File = Found<W>;
 
     ghost told = { true };
 
     ghost shows = { tree_shows };
+
+    ghost opened = { found_name };
 
     fn load(&mut self, alloc: Global, path: &str, limit: u64) -> LoadAnswer<W>
         ensures asks { AsksTree true W.version (tree_shows self.old) (tree_shows self.new)
@@ -170,6 +265,50 @@ impl<W: Truth + Send> Tree<W> for MemTree<W> {
             answer
         } else {
             DirAnswer::OutOfMemory
+        }
+    }
+
+    fn open_file(&mut self, alloc: Global, path: &str, limit: u64) -> OpenAnswer<Found<W>>
+        ensures asks { AsksTree true W.version (tree_shows self.old) (tree_shows self.new)
+            (open_file path.now limit (open_facts result)) }
+        ensures name { IsOpenedAs found_name path.now result }
+        ensures memory { IsTrue (wants_memory (open_file path.now limit (open_facts result)))
+            → self.new ≡ self.old }
+        ensures script { RunsScript self.old self.new
+            (open_file path.now limit (open_facts result)) }
+    {
+        let answer = open_in(alloc, self.is_bad(), self.next_files(), path, limit);
+        let call = heard_open(alloc, path, limit, &answer);
+        if self.end_call(call) {
+            answer
+        } else {
+            OpenAnswer::OutOfMemory
+        }
+    }
+
+    fn read_at(&mut self, file: &mut Found<W>, at: u64, room: &mut [u8]) -> RoomAnswer
+        requires some { 0 < length room.old }
+        requires inside { at + length room.old ≤ file.old.stamp.size }
+        ensures asks { ReadsOpened true W.version (tree_shows self.old) (tree_shows self.new)
+            (read_at (found_name file.old) at (room_facts result room.new)) }
+        ensures name { found_name file.new ≡ found_name file.old }
+        ensures len { length room.new ≡ length room.old }
+        ensures bytes { result ≡ RoomAnswer.Filled → W.told ≡ true → (b : List ℕ)
+            → W.version file.old.path file.old.stamp b
+            → room.new ≡ bytes_at b at (length room.old) }
+        ensures own { result ≡ RoomAnswer.Filled
+            → room.new ≡ bytes_at file.old.bytes at (length room.old) }
+        ensures keeps { file.new ≡ file.old }
+        ensures script { RunsRead self.old self.new
+            (read_at (found_name file.old) at (room_facts result room.new)) }
+    {
+        if self.is_bad() {
+            self.end_read(file, at, RoomAnswer::Failed, room);
+            RoomAnswer::Failed
+        } else {
+            file.read_into(at, room);
+            self.end_read(file, at, RoomAnswer::Filled, room);
+            RoomAnswer::Filled
         }
     }
 }

@@ -1,12 +1,35 @@
 //! The trait that stands for what reads a file.
 
 ghost use Rattle.std.specs.Prelude.{◌≡◌, IfOk};
+ghost use Rattle.file_picture.specs.Passed.{HasPassed};
 ghost use Rattle.tree_trait.specs.Found.{found_name};
-ghost use Rattle.tree_trait.specs.Reader.{IsRowOf};
+ghost use Rattle.tree_trait.specs.Opened.{opened_name};
+ghost use Rattle.tree_trait.specs.Reader.{IsRowOf, SaysRow};
 
 use crate::found::Found;
+use crate::opened::Opened;
 use row_types::{Name, TrueRow, Truth};
 use std::alloc::{AllocError, Global};
+
+/// What the bytes that are known of a file say of the row under its name.
+#[derive(Drop)]
+pub enum ViewAnswer<W: Truth> {
+    /// These bytes are needed, and aren't there.
+    Need {
+        /// The name, given back.
+        name: Name,
+        /// Where they begin, in bytes from the file's start.
+        at: u64,
+        /// How many they are.
+        len: u64,
+        /// The index of the section from which to look on for a build-id, once they are there.
+        next: u64,
+    },
+    /// The row.
+    Row(TrueRow<W>),
+    /// Memory was refused for the sources, and the name comes back.
+    OutOfMemory(Name),
+}
 
 /// Makes the row of a file, which is true in the world `W`. Threads share it.
 pub trait Reader<W: Truth>: Sync {
@@ -15,4 +38,18 @@ pub trait Reader<W: Truth>: Sync {
     fn read(&self, alloc: Global, name: Name, found: &Found<W>) -> Result<TrueRow<W>, AllocError>
         requires { found_name found.now ≡ name }
         ensures { IfOk result (IsRowOf name found.now.bytes) };
+
+    /// The row under the name of an open file, by the bytes that were read of it, once it has the
+    /// parts that decide it; else one of these that it hasn't. No section before one is looked at for
+    /// a build-id. A file above 1 GiB needs no part.
+    fn read_view<F: Drop>(
+        &self,
+        alloc: Global,
+        name: Name,
+        opened: &Opened<W, F>,
+        from: u64,
+    ) -> ViewAnswer<W>
+        requires name { opened_name opened.now ≡ name }
+        requires passed { HasPassed opened.now.picture from }
+        ensures { SaysRow name opened.now.picture result };
 }

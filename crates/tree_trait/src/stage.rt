@@ -6,9 +6,10 @@ ghost use Rattle.std.specs.Option.{option_copied};
 ghost use Rattle.std.specs.Str.{bytes_eq};
 ghost use Rattle.tree_trait.specs.Dir.{dir_facts};
 ghost use Rattle.tree_trait.specs.Found.{found_name};
-ghost use Rattle.tree_trait.specs.Heard.{load, stat, read_dir};
+ghost use Rattle.tree_trait.specs.Heard.{load, stat, read_dir, open_file};
 ghost use Rattle.tree_trait.specs.Load.{load_facts};
 ghost use Rattle.tree_trait.specs.MemTree.{IsStageAnswer};
+ghost use Rattle.tree_trait.specs.Open.{IsOpenedAs, open_facts};
 ghost use Rattle.tree_trait.specs.Present.{IsFileAt};
 ghost use Rattle.tree_trait.specs.Script.{is_call_listed, stage_for};
 
@@ -16,6 +17,7 @@ use crate::answer::LoadAnswer;
 use crate::dir::DirAnswer;
 use crate::folder::{entries_of, is_folder};
 use crate::found::Found;
+use crate::opening::OpenAnswer;
 use crate::stat::StatAnswer;
 use row_types::Truth;
 use std::alloc::Global;
@@ -69,6 +71,30 @@ pub fn load_in<W: Truth>(
             Ok(copy) => LoadAnswer::Found(copy),
             Err(_) => LoadAnswer::OutOfMemory,
         },
+    }
+}
+
+/// What an opening answers of the file at a path, among the files of a stage: as its load does.
+pub fn open_in<W: Truth>(
+    alloc: Global,
+    bad: bool,
+    files: &[Found<W>],
+    path: &str,
+    limit: u64,
+) -> OpenAnswer<Found<W>>
+    ensures answer { IsStageAnswer W.version bad (map found_name files.now)
+        (open_file path.now limit (open_facts result)) }
+    ensures name { IsOpenedAs found_name path.now result }
+{
+    match load_in(alloc, bad, files, path, limit) {
+        LoadAnswer::Found(found) => OpenAnswer::Opened {
+            stamp: found.stamp,
+            file: found,
+        },
+        LoadAnswer::TooLarge { stamp } => OpenAnswer::TooLarge { stamp },
+        LoadAnswer::Gone => OpenAnswer::Gone,
+        LoadAnswer::Failed => OpenAnswer::Failed,
+        LoadAnswer::OutOfMemory => OpenAnswer::OutOfMemory,
     }
 }
 

@@ -9,9 +9,10 @@ pub struct TwoWorld;
 
 impl Truth for TwoWorld {
     ghost use Rattle.std.specs.Prelude.{true};
+    ghost use Rattle.std.proofs.lemmas.Bool.{true≢false};
     ghost use Rattle.row_types.specs.Reading.{IsTrueRow};
     ghost use Rattle.row_types.proofs.TrueRowLemmas.{too_large_is_true};
-    ghost use Rattle.tree_trait.specs.TwoWorld.{IsEither, either_is_one, one_of_two_rows};
+    ghost use Rattle.tree_trait.specs.TwoWorld.{IsEither, either_is_one, either_is_sized, one_of_two_rows};
 
     ghost told = { true };
 
@@ -22,6 +23,10 @@ impl Truth for TwoWorld {
     ghost too_large = { too_large_is_true IsEither };
 
     ghost one_content = { either_is_one };
+
+    ghost sized = { either_is_sized };
+
+    ghost any_content = { λ e. absurd (true≢false e) };
 
     ghost one_row = { one_of_two_rows };
 

@@ -2,7 +2,7 @@
 use Rattle.std.proofs.Common.{◌≡◌, ℕ, inl, inr, List, [], ◌∷◌, ◌++◌, All, Some, subst}
 use Rattle.std.proofs.lemmas.List.Elements.{All-contains, All-push, All-weaker}
 use Rattle.row_types.specs.Canon.{IsCanonPath}
-use Rattle.tree_trait.specs.Heard.{Heard, load, stat, read_dir}
+use Rattle.tree_trait.specs.Heard.{Heard, load, stat, read_dir, open_file, read_at}
 use Rattle.tree_trait.specs.declared.entry.EntryKind.{EntryKind}
 use Rattle.tree_trait.specs.declared.entry.EntryKind.TheVariants as kind
 use Rattle.tree_trait.specs.declared.stat.StatAnswer.{StatAnswer}
@@ -48,6 +48,8 @@ due_more : (answers more : List Heard) (roots : List (List ℕ)) (h : Heard) →
 due_more answers more roots (load path limit answer) d = d
 due_more answers more roots (stat path answer) d = (candidate_more answers more roots path d.0, d.1)
 due_more answers more roots (read_dir path answer) d = (folder_more answers more roots path d.0, d.1)
+due_more answers more roots (open_file path limit answer) d = d
+due_more answers more roots (read_at name at answer) d = d
 
 -- with one more that was due, all were
 pub due_push : (answers : List Heard) (roots : List (List ℕ)) (h : Heard) → All (IsAskDue answers roots) answers

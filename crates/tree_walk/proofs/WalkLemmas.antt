@@ -6,7 +6,7 @@ use Rattle.row_types.specs.Faults.{summed}
 use Rattle.row_types.specs.Name.{NameFacts}
 use Rattle.tree_trait.specs.Asks.{IsAnswerTold}
 use Rattle.tree_trait.specs.Found.{Versions}
-use Rattle.tree_trait.specs.Heard.{Heard, load, stat, read_dir}
+use Rattle.tree_trait.specs.Heard.{Heard, load, stat, read_dir, open_file, read_at}
 use Rattle.tree_trait.specs.Shown.{ShownTree, HandsOn, StaysStill}
 use Rattle.tree_walk.specs.Ends.{EndsWalk, IsAskedUnder, IsCause, IsWholeWalk, WalksTree}
 use Rattle.tree_walk.specs.Files.{AreFilesUnder}
@@ -40,6 +40,8 @@ due_under : (answers : List Heard) (roots : List (List ℕ)) (h : Heard) → IsA
 due_under answers roots (load path limit answer) due = due
 due_under answers roots (stat path answer) due = candidate_within answers roots path due.0
 due_under answers roots (read_dir path answer) due = reached_within (folder_reached answers roots path due.0)
+due_under answers roots (open_file path limit answer) due = due
+due_under answers roots (read_at name at answer) due = due
 
 all_under : (answers : List Heard) (roots : List (List ℕ)) → All (IsAskDue answers roots) answers
     → All (IsAskedUnder roots) answers

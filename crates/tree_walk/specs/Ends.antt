@@ -6,7 +6,7 @@ use Rattle.row_types.specs.Name.{NameFacts}
 use Rattle.row_types.specs.Under.{is_within}
 use Rattle.scan_queue.specs.declared.listing.TheConstants.{LISTING_LIMIT}
 use Rattle.tree_trait.specs.Asks.{IsAnswerTold}
-use Rattle.tree_trait.specs.Heard.{Heard, load, stat, read_dir, call_failed, with_answers}
+use Rattle.tree_trait.specs.Heard.{Heard, load, stat, read_dir, open_file, read_at, call_failed, with_answers}
 use Rattle.tree_trait.specs.Shown.{ShownTree}
 use Rattle.tree_trait.specs.declared.stat.StatAnswer.{StatAnswer}
 use Rattle.tree_trait.specs.declared.stat.StatAnswer.TheVariants.{Gone}
@@ -115,11 +115,13 @@ EndsWalk told before after roots result =
     GoesByAnswers told before after [] (λ answers walk. IsWholeWalk answers roots walk)
     (λ answers fault. IsCause answers roots fault) result
 
--- a look at a path that is a root or lies under one, or the reading of a folder there; so no load
+-- a look at a path that is a root or lies under one, or the reading of a folder there; so no load and no opening
 abbrev pub IsAskedUnder : List (List ℕ) → Heard → Type 0
 IsAskedUnder roots (load path limit answer) = ⊥
 IsAskedUnder roots (stat path answer) = list_any (λ root. is_within root path) roots ≡ true
 IsAskedUnder roots (read_dir path answer) = list_any (λ root. is_within root path) roots ≡ true
+IsAskedUnder roots (open_file path limit answer) = ⊥
+IsAskedUnder roots (read_at name at answer) = ⊥
 
 -- the walk ended by the answers that it heard; whatever its end, nothing was loaded, and nothing was asked but
 -- what is under the roots

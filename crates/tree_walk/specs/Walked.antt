@@ -8,7 +8,7 @@ use Rattle.row_types.specs.declared.limits.TheConstants.{PATH_LIMIT}
 use Rattle.scan_queue.specs.Names.{IsByPath}
 use Rattle.tree_trait.specs.Dir.{child}
 use Rattle.tree_trait.specs.Entry.{has_entry}
-use Rattle.tree_trait.specs.Heard.{Heard, load, stat, read_dir}
+use Rattle.tree_trait.specs.Heard.{Heard, load, stat, read_dir, open_file, read_at}
 use Rattle.tree_trait.specs.Present.{are_distinct}
 use Rattle.tree_trait.specs.declared.entry.EntryKind.{EntryKind}
 use Rattle.tree_trait.specs.declared.entry.EntryKind.TheVariants as kind
@@ -70,6 +70,8 @@ abbrev pub IsAskDue : List Heard → List (List ℕ) → Heard → Type 0
 IsAskDue answers roots (load path limit answer) = ⊥
 IsAskDue answers roots (stat path answer) = IsCandidate answers roots path × IsCanonPath path
 IsAskDue answers roots (read_dir path answer) = IsFolder answers roots path × IsCanonPath path
+IsAskDue answers roots (open_file path limit answer) = ⊥
+IsAskDue answers roots (read_at name at answer) = ⊥
 
 -- nothing was asked but what was due, and no folder twice
 pub record AsksDue (answers : List Heard) (roots : List (List ℕ)) : Type 0 where

@@ -2,6 +2,8 @@
 #![tactic(auto)]
 
 #[cfg(test)]
+mod fills;
+#[cfg(test)]
 mod trees;
 #[cfg(test)]
 mod walks;

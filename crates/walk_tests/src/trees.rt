@@ -9,7 +9,8 @@ use row_types::{OpenWorld, Stamp};
 use std::alloc::Global;
 use std::process::Abort;
 use tree_trait::{
-    DirAnswer, Entry, EntryKind, Found, LoadAnswer, MemTree, Script, StatAnswer, Tree, TwoWorld,
+    DirAnswer, Entry, EntryKind, Found, LoadAnswer, MemTree, OpenAnswer, RoomAnswer, Script,
+    StatAnswer, Tree, TwoWorld,
 };
 
 /// A stage of one file, `yy` at `/w/a`.
@@ -27,7 +28,7 @@ fn stage_of(rt: &impl Abort, alloc: Global) -> Vec<Found<TwoWorld>>
 }
 
 /// The tree of `yy` at `/w/a`, whose call 2 fails, and which is empty from call 3 on.
-fn changing_tree(rt: &impl Abort, alloc: Global) -> MemTree<TwoWorld> {
+pub fn changing_tree(rt: &impl Abort, alloc: Global) -> MemTree<TwoWorld> {
     let stage = stage_of(rt, alloc);
     let script = Script {
         stages: vec![in alloc; stage, Vec::new(alloc)].expect(rt, "memory"),
@@ -67,6 +68,68 @@ fn a_script_is_answered_call_by_call(rt: HostRuntime) {
             load_word(alloc, &mut tree, *limit) == *word,
             "{limit} {word}"
         );
+    }
+}
+
+/// What an opening of `/w/a` answers, in a word.
+fn open_word(alloc: Global, tree: &mut MemTree<TwoWorld>, limit: u64) -> &'static str {
+    match tree.open_file(alloc, "/w/a", limit) {
+        OpenAnswer::Opened { stamp, .. } if stamp.size == 2 => "opened",
+        OpenAnswer::Opened { .. } => "other",
+        OpenAnswer::TooLarge { .. } => "too large",
+        OpenAnswer::Gone => "gone",
+        OpenAnswer::Failed => "failed",
+        OpenAnswer::OutOfMemory => "out of memory",
+    }
+}
+
+/// The limits of the calls of an opening, and what they answer.
+static OPENINGS: [(u64, &str); 4] = [(2, "opened"), (1, "too large"), (2, "failed"), (2, "gone")];
+
+#[test]
+fn a_script_answers_openings_as_loads(rt: HostRuntime) {
+    let alloc = rt.alloc();
+    let mut tree = changing_tree(&rt, alloc);
+    for (limit, word) in &OPENINGS {
+        assert!(rt;
+            open_word(alloc, &mut tree, *limit) == *word,
+            "{limit} {word}"
+        );
+    }
+}
+
+/// What a read of one byte of an open file answers, in a word.
+fn byte_word(tree: &mut MemTree<TwoWorld>, file: &mut Found<TwoWorld>, at: u64) -> &'static str {
+    let mut room = [0];
+    if at >= file.stamp.size {
+        return "beyond";
+    }
+    match tree.read_at(file, at, &mut room[..]) {
+        RoomAnswer::Filled if room[0] == b'y' => "y",
+        RoomAnswer::Filled => "other",
+        RoomAnswer::Failed => "failed",
+    }
+}
+
+/// The places of the reads behind the opening, of which the second fails and the third finds that
+/// the file is gone from its path, and what they answer.
+static READS: [(u64, &str); 4] = [(0, "y"), (1, "failed"), (1, "y"), (2, "beyond")];
+
+#[test]
+fn an_open_file_keeps_its_bytes(rt: HostRuntime) {
+    let alloc = rt.alloc();
+    let mut tree = changing_tree(&rt, alloc);
+    match tree.open_file(alloc, "/w/a", 2) {
+        OpenAnswer::Opened { file, .. } => {
+            let mut file = file;
+            for (at, word) in &READS {
+                assert!(rt;
+                    byte_word(&mut tree, &mut file, *at) == *word,
+                    "{at} {word}"
+                );
+            }
+        }
+        _ => assert!(rt; false, "not opened"),
     }
 }
 

@@ -10,7 +10,8 @@ use row_types::{CanonPath, OpenWorld, Stamp};
 use std::alloc::{AllocError, Global};
 use std::process::Abort;
 use tree_trait::{
-    DirAnswer, Entry, EntryKind, Found, LoadAnswer, MemTree, Script, StatAnswer, Tree,
+    DirAnswer, Entry, EntryKind, Found, LoadAnswer, MemTree, OpenAnswer, RoomAnswer, Script,
+    StatAnswer, Tree,
 };
 use tree_walk::{Walk, WalkFault, walk};
 
@@ -190,11 +191,15 @@ fn long_entry(alloc: Global) -> Result<Vec<Entry>, AllocError> {
 }
 
 impl Tree<OpenWorld> for LongNames {
-    ghost use Rattle.std.specs.Prelude.{false, [], None};
+    ghost use Rattle.std.specs.Prelude.{false, [], None, pos};
+
+    type File = ();
 
     ghost told = { false };
 
     ghost shows = { λ _. record { present = []; Still = ⊥; heard = None; faults = 0 } };
+
+    ghost opened = { λ _. record { path = []; stamp = record { size = 1; secs = pos 0; nanos = 0 } } };
 
     fn load(&mut self, _alloc: Global, _path: &str, _limit: u64) -> LoadAnswer<OpenWorld> {
         LoadAnswer::Gone
@@ -212,6 +217,15 @@ impl Tree<OpenWorld> for LongNames {
             },
             Err(_) => DirAnswer::OutOfMemory,
         }
+    }
+
+    fn open_file(&mut self, _alloc: Global, _path: &str, _limit: u64) -> OpenAnswer<()> {
+        OpenAnswer::Gone
+    }
+
+    // No file is opened here. A read leaves the room as it is, which a world that isn't told allows.
+    fn read_at(&mut self, _file: &mut (), _at: u64, _room: &mut [u8]) -> RoomAnswer {
+        RoomAnswer::Filled
     }
 }
 

@@ -3,7 +3,7 @@
 
 use super::{changed, identity};
 use crate::pictures::{fill, gap};
-use elf_classify::{IdentView, ident, ident_view};
+use elf_classify::{IdentStep, IdentView, ident, ident_from, ident_view};
 use file_picture::Picture;
 use sample_files::{
     ID_C, big_endian_debug, both_classes, debug_companion, dwarf_five, eight_aligned_notes,
@@ -28,6 +28,15 @@ pub fn is_known(first: u32, window: usize) -> bool {
     window < 32 && (first >> window) & 1 == 1
 }
 
+/// Checks that a question from the section that an answer tells is answered as the one from the first
+/// section on.
+fn goes_on(rt: &impl Abort, picture: &Picture) {
+    if let IdentStep::Need { at, len, next } = ident_from(picture, 1) {
+        let again = IdentStep::Need { at, len, next };
+        assert!(rt; ident_from(picture, next) == again, "{at}, {len}");
+    }
+}
+
 /// The answer for a picture that has some windows of a file first; each of the others is asked for in
 /// their order, where it isn't there yet, and put there.
 fn answer(rt: &impl Abort, alloc: Global, file: &[u8], windows: &[Range], first: u32) -> IdentView {
@@ -41,6 +50,7 @@ fn answer(rt: &impl Abort, alloc: Global, file: &[u8], windows: &[Range], first:
         if gap(&picture, *at, *len).is_some() {
             let need = IdentView::Need { at: *at, len: *len };
             assert!(rt; ident_view(&picture) == need, "{first}: {at}, {len}");
+            goes_on(rt, &picture);
             fill(rt, alloc, &mut picture, file, (*at, *len));
         }
     }

@@ -115,7 +115,7 @@ pub static MOVED: [Pass; 5] = [
             Holds {
                 files: Files::ScriptAndAfter,
                 later: None,
-                bad_calls: &[6],
+                bad_calls: &[7],
             },
             Holds {
                 files: Files::Nothing,

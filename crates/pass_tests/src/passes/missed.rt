@@ -3,14 +3,15 @@
 use crate::passes::passes::{Holds, Pass, run_passes};
 use crate::rig::Files;
 
-/// A walk of `/srv` with one file makes three calls.
+/// A walk of `/srv` with one file makes three calls, and the reading of the file two: it is opened,
+/// and its one part is read.
 pub static MISSED: [Pass; 8] = [
     Pass {
         shows: "a file is read",
         hands: &[Holds {
             files: Files::Before,
             later: None,
-            bad_calls: &[4],
+            bad_calls: &[5],
         }],
         roots: &["/srv"],
         end: "1 1 0 0 0 0 0",
@@ -21,7 +22,7 @@ pub static MISSED: [Pass; 8] = [
         hands: &[Holds {
             files: Files::After,
             later: None,
-            bad_calls: &[5],
+            bad_calls: &[6],
         }],
         roots: &["/srv"],
         end: "1 0 1 0 0 0 0",
@@ -65,7 +66,7 @@ pub static MISSED: [Pass; 8] = [
         hands: &[Holds {
             files: Files::After,
             later: None,
-            bad_calls: &[4],
+            bad_calls: &[5],
         }],
         roots: &["/srv"],
         end: "1 1 0 0 0 0 0",

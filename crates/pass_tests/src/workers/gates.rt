@@ -57,14 +57,15 @@ impl Gate for InOrder {
     }
 }
 
-/// The tree of four files, of which the third can't be read.
+/// The tree of four files, of which the third can't be opened. The first is opened and read, and of
+/// the second, which has another stamp, nothing is read.
 fn four_files(rt: &impl Abort, alloc: Global) -> MemTree<OpenWorld> {
     let first = file(rt, alloc, "/a", 1);
     let second = file(rt, alloc, "/b", 2);
     let third = file(rt, alloc, "/c", 1);
     let fourth = file(rt, alloc, "/d", 1);
     let files = vec![in alloc; first, second, third, fourth].expect(rt, "memory");
-    still_tree(rt, alloc, files, &[2])
+    still_tree(rt, alloc, files, &[3])
 }
 
 /// The report of a worker on the four files, listed with one byte each.

@@ -10,10 +10,10 @@ use std::alloc::Global;
 use std::process::Abort;
 use tree_trait::{MemTree, TwoWorld};
 
-/// The tree of `x` at `/w/a`, of `yy` from call 1 on, and empty from call 3 on; call 2 fails.
+/// The tree of `x` at `/w/a`, of `yy` from call 2 on, and empty from call 4 on; call 3 fails.
 fn tree(rt: &impl Abort, alloc: Global) -> MemTree<TwoWorld> {
     let versions = [Some(Version::First), Some(Version::Second), None];
-    changing_tree(rt, alloc, versions, &[1, 3], &[2])
+    changing_tree(rt, alloc, versions, &[2, 4], &[3])
 }
 
 /// What a read gives, in a word.
@@ -38,13 +38,29 @@ fn next_word(rt: &impl Abort, alloc: Global, tree: &mut MemTree<TwoWorld>) -> &'
     word_of(&read)
 }
 
-/// What the reading of the first version's name gives, call by call.
+/// What the reading of the first version's name gives, one after the other. The file is opened, and
+/// its one part is read; another one is opened alone.
 static READS: [&str; 4] = ["not ELF", "the second", "failed", "gone"];
 
 #[test]
 fn a_name_is_read_call_by_call(rt: HostRuntime) {
     let mut tree = tree(&rt, rt.alloc());
     for wanted in &READS {
+        let word = next_word(&rt, rt.alloc(), &mut tree);
+        assert!(rt; word == *wanted, "{wanted}");
+    }
+}
+
+/// What the reading of the first version's name gives, where the read behind the first opening
+/// fails, and another file stands there as the second is read.
+static UNREAD: [&str; 3] = ["failed", "not ELF", "the second"];
+
+#[test]
+fn an_open_file_is_read_though_another_stands_there(rt: HostRuntime) {
+    let second = Some(Version::Second);
+    let versions = [Some(Version::First), second, second];
+    let mut tree = changing_tree(&rt, rt.alloc(), versions, &[3], &[1]);
+    for wanted in &UNREAD {
         let word = next_word(&rt, rt.alloc(), &mut tree);
         assert!(rt; word == *wanted, "{wanted}");
     }

@@ -48,7 +48,7 @@ fn one_worker_reads_the_reference_tree(rt: HostRuntime) {
 
 #[test]
 fn a_file_that_cannot_be_read_is_missed_and_the_others_are_read(rt: HostRuntime) {
-    let outcome = read_all(&rt, rt.alloc(), &[0, 11]);
+    let outcome = read_all(&rt, rt.alloc(), &[0, 43]);
     assert!(rt; outcome.report == report(12, 10, 2, WorkEnd::Empty));
     assert!(rt; outcome.missed.as_str() == "/srv/bin/empty 0, can't be read");
     assert!(rt; (outcome.standing.missed, outcome.standing.rows) == (2, 10));

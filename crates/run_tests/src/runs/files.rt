@@ -126,23 +126,48 @@ static GONE: [(&[&str], &str); 3] = [
     (&["sources", "/w/a/"], "dbgd: gone /w/a/\n"),
 ];
 
-/// Words whose load fails.
-static LOADS: [&[&str]; 3] = [
+/// Words whose opening, or whose first or fourth read fails.
+static UNREAD: [&[&str]; 3] = [
     &["sources", "/w/a"],
     &["ident", "/w/a"],
     &["section", "/w/a", ".text"],
 ];
 
-/// Runs the words over a file at `/w/a`, whose load fails.
-fn load_fails<Rt: Threads + Wait + Sync + Abort>(rt: &Rt, alloc: Global, words: &[&str]) {
+/// Runs the words over a file at `/w/a`, of which the call of a number fails.
+fn call_fails<Rt: Threads + Wait + Sync + Abort>(
+    rt: &Rt,
+    alloc: Global,
+    words: &[&str],
+    number: u64,
+) {
     let case = Run(words, b"", "dbgd: fault file\n", 1);
     run_all(
         rt,
         alloc,
-        hand_of(rt, alloc, &One(Both), &[0]),
+        hand_of(rt, alloc, &One(Both), &[number]),
         &SOUND,
         &[case],
     );
+}
+
+/// Words over a file with an identity that has no bytes of debug information, and what they say.
+static WINDOWS_ALONE: [(&[&str], &[u8]); 3] = [
+    (
+        &["ident", "/w/a"],
+        b"000102030405060708090a0b0c0d0e0f10111213 both\n",
+    ),
+    (&["sources", "/w/a"], b""),
+    (&["section", "/w/a", ".debug_info"], b""),
+];
+
+#[test]
+fn nothing_is_read_but_what_the_answer_rests_on(rt: HostRuntime) {
+    for (words, out) in &WINDOWS_ALONE {
+        // The opening and the reads of four windows are calls 0 to 4.
+        let hand = hand_of(&rt, rt.alloc(), &One(Both), &[5]);
+        let case = Run(words, out, "", 0);
+        run_all(&rt, rt.alloc(), hand, &SOUND, &[case]);
+    }
 }
 
 /// Words, the writes that fail on out and on err, how many bytes a write takes at most, and what is
@@ -236,8 +261,10 @@ fn what_fails_is_said_and_left_as_it_is(rt: HostRuntime) {
     for (words, line) in &GONE {
         each_says(&rt, rt.alloc(), words, &[(Both, b"", *line, 3)]);
     }
-    for words in &LOADS {
-        load_fails(&rt, rt.alloc(), words);
+    for words in &UNREAD {
+        call_fails(&rt, rt.alloc(), words, 0);
+        call_fails(&rt, rt.alloc(), words, 1);
+        call_fails(&rt, rt.alloc(), words, 4);
     }
     each_writes(&rt, rt.alloc(), &SINKS);
 }

@@ -78,12 +78,13 @@ const APPEARED: &[Run<'static>] = &[
 /// Files by stages, the calls before which a stage comes, and runs over them.
 struct Turns<'a>(&'a [Files; 3], [u64; 2], &'a [Run<'a>]);
 
-/// A scan of three files makes eight calls, one of two files six: a look at the folder, its reading,
-/// a look at each file, and the loads.
+/// A scan of three files makes 13 calls, one of two files eleven: a look at the folder, its reading,
+/// a look at each file, and the openings, of which the first is followed by four reads, the second
+/// by one.
 static TURNS: [Turns; 3] = [
-    Turns(&[Three, Later, Later], [8, 9], TURNED),
+    Turns(&[Three, Later, Later], [13, 14], TURNED),
     Turns(&[Two, Altered, Altered], [4, 5], REST_IS_KEPT),
-    Turns(&[Two, First, Two], [6, 9], APPEARED),
+    Turns(&[Two, First, Two], [11, 14], APPEARED),
 ];
 
 #[test]

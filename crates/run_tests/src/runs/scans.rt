@@ -48,14 +48,15 @@ const NARROW_CUT: Plan = Plan {
 };
 
 /// Scans of two files. Two looks at the files follow the call of number 1, which reads the folder,
-/// and then comes the first load.
-static TWO_FILES: [Case; 9] = [
+/// and then come the first opening and the first read of its file.
+static TWO_FILES: [Case; 10] = [
     Case(Two, &[], SOUND, &[Run(SCAN, TWO, "", 0)]),
     Case(Two, &[], SOUND, &[Run(NOWHERE, b"", GONE, 3)]),
     Case(Two, &[], SOUND, &[Run(LONG_WAY, TWO, "", 0)]),
     Case(Two, &[], SOUND, &[Run(LONG_WAY_NOWHERE, b"", GONE, 3)]),
     Case(Two, &[1], SOUND, &[Run(SCAN, b"", FOLDER_FAULT, 1)]),
     Case(Two, &[4], SOUND, &[Run(SCAN, b"", FILE_FAULT, 1)]),
+    Case(Two, &[5], SOUND, &[Run(SCAN, b"", FILE_FAULT, 1)]),
     Case(Two, &[], BAD_OUT, &[Run(SCAN, b"", OUTPUT_FAULT, 1)]),
     Case(
         Two,

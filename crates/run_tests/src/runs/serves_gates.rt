@@ -35,7 +35,7 @@ fn scanned<Rt: Threads + Wait + Sync + Abort>(rt: &Rt, alloc: Global) -> MemStor
     store
 }
 
-/// A server on that store, whose first pass loads nothing.
+/// A server on that store, whose first pass opens nothing.
 static SERVE: Run = Run(
     &[
         "serve",

@@ -29,8 +29,8 @@ impl Gate for Both {
     }
 }
 
-/// Holds the first connection until the second pass loads the file that came, and the pass there until
-/// the connection was answered.
+/// Holds the first connection until the second pass opens the file that came, and the pass there
+/// until the connection was answered.
 fn within_a_pass(rt: &impl Abort, alloc: Global) -> Both {
     let came = String::from_str(alloc, "/srv/a").expect(rt, "memory");
     let again = String::from_str(alloc, "/srv/a").expect(rt, "memory");
@@ -41,12 +41,13 @@ fn within_a_pass(rt: &impl Abort, alloc: Global) -> Both {
 }
 
 /// Four hands: the first one's first pass is a look at the folder, its reading, and three looks; the
-/// third one's is three loads. The others find what is there later from the start.
+/// third one's is three openings, of which the first is followed by one read, the last by four. The
+/// others find what is there later from the start.
 fn changing(rt: &impl Abort, alloc: Global) -> Vec<MemTree<OpenWorld>> {
     vec![in alloc;
         turning(rt, alloc, &[Early, Late, Late], &[5, 6]),
         hand_of(rt, alloc, &Late, &[]),
-        turning(rt, alloc, &[Early, Late, Late], &[3, 4]),
+        turning(rt, alloc, &[Early, Late, Late], &[8, 9]),
         hand_of(rt, alloc, &Late, &[]),
     ]
     .expect(rt, "memory")

@@ -89,7 +89,7 @@ fn any_number_of_workers_says_the_same(rt: HostRuntime) {
     }
 }
 
-/// Two files are others by the time that they are loaded; the first of them is told.
+/// Two files are others by the time that they are opened; the first of them is told.
 static FIRST_OF_TWO: &str = "dbgd: altered /srv/a listed 488:100:000000000 seen 7:100:000000000\n";
 
 /// So many hands: files change for the first one behind its walk, and for the others they have
@@ -135,7 +135,7 @@ fn with_others(rt: &impl Abort, alloc: Global) -> Vec<MemTree<OpenWorld>> {
 }
 
 /// Hands, from 0, and whether their first call behind a scan by one worker fails: those that were not
-/// asked by the scan fail then. The worker has loaded both files.
+/// asked by the scan fail then. The worker has opened both files.
 static NEXT_CALLS: [(usize, bool); 3] = [(2, false), (3, true), (4, true)];
 
 #[test]

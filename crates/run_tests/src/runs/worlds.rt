@@ -93,9 +93,9 @@ static TWICE: [Run; 2] = [
     ),
 ];
 
-/// A walk makes 20 calls: three looks at the roots, five readings, twelve looks. Twelve loads follow,
-/// and then the second walk; each call behind it fails.
-static BEHIND: [u64; 12] = [52, 53, 54, 55, 56, 57, 58, 59, 60, 61, 62, 63];
+/// A walk makes 20 calls: three looks at the roots, five readings, twelve looks. Twelve openings and
+/// 32 reads follow, and then the second walk; each call behind it fails.
+static BEHIND: [u64; 12] = [84, 85, 86, 87, 88, 89, 90, 91, 92, 93, 94, 95];
 
 #[test]
 fn a_second_scan_loads_nothing(rt: HostRuntime) {

@@ -2,7 +2,7 @@
 use denote.Exit.{unseen}
 use denote.Param.Send.{Quiet-if}
 use mir.Syntax.{of_param}
-use Rattle.std.proofs.Common.{◌≡◌, ℕ, ◌<◌, length, slice_index_or, sym, subst}
+use Rattle.std.proofs.Common.{◌≡◌, slice_index_or, sym, subst}
 use Rattle.index_rows.specs.declared.change.Change.{Change}
 use Rattle.index_state.specs.declared.spare.Opening.{Opening}
 use Rattle.index_state.specs.declared.state.State.{State}
@@ -42,8 +42,12 @@ for_each_mut-requires-clause-accepts g c κs within = λ i p below is. (
       leaving = λ k. Quiet-if {D = g.row.L.Denot} (k (of_param 4)) unseen unseen (λ x w. tt) (λ x w. tt);
     },
     record {
+      owned = c.type_bounds.send-T-File.owned;
+      leaving = λ k. Quiet-if {D = g.row.T-File.Denot} (k (of_param 7)) unseen unseen (λ x w. tt) (λ x w. tt);
+    },
+    record {
       owned = c.type_bounds.send-D-Conn.owned;
-      leaving = λ k. Quiet-if {D = g.row.D-Conn.Denot} (k (of_param 7)) unseen unseen (λ x w. tt) (λ x w. tt);
+      leaving = λ k. Quiet-if {D = g.row.D-Conn.Denot} (k (of_param 8)) unseen unseen (λ x w. tt) (λ x w. tt);
     },
     record { shared = c.type_bounds.sync-W.shared },
     record { shared = c.type_bounds.sync-G.shared },

@@ -1,9 +1,8 @@
-use Rattle.std.proofs.Common.{subst}
-use Rattle.elf_classify.specs.Views.{SeesIdentity}
-use Rattle.elf_classify.proofs.SeenLemmas.{says_seen}
+use Rattle.file_picture.proofs.PassedLaws.{passed-first}
 use Rattle.elf_classify.proofs.identity.ident_view.Goals as goal
 
-pub returns : goal.returns
-returns c =
-    says_seen c.args.picture.now c.part.ensures.holds c.identity.result
-    (subst (λ v. SeesIdentity v c.identity.result) c.part.ensures.value c.identity.ensures)
+pub ident_from-requires : goal.ident_from-requires
+ident_from-requires c = passed-first c.args.picture.now
+
+pub returns-in-Need : goal.returns-in-Need
+returns-in-Need c = c.in-Need.ensures.0

@@ -1,13 +1,30 @@
 use Rattle.std.proofs.Common.{sym, ◌∙◌, subst}
+use Rattle.file_picture.specs.Passed.{HasPassed}
+use Rattle.file_picture.specs.Picture.{IsPicture}
 use Rattle.elf_file.specs.Steps.{StopsBefore}
 use Rattle.elf_classify.specs.Ids.{Finds}
-use Rattle.elf_classify.proofs.SeenLemmas.{sees_need, sees_fault, sees_core, sees_none, sees_id}
+use Rattle.elf_classify.proofs.PlaceLemmas.{needs_from}
+use Rattle.elf_classify.proofs.SeenLemmas.{sees_fault, sees_core, sees_none, sees_id}
 use Rattle.elf_classify.proofs.identity.identity.Goals as goal
 
+pub build_id-requires-clause-other : goal.build_id-requires-clause-other
+build_id-requires-clause-other c = λ is. c.if-kind-eq-ET_CORE.false (c.kind.ensures ∙ is)
+
+pub build_id-requires-clause-picture : goal.build_id-requires-clause-picture
+build_id-requires-clause-picture c = subst IsPicture (sym c.in-Ok.ensures.same) c.size-size.ensures.holds
+
+pub build_id-requires-clause-passed : goal.build_id-requires-clause-passed
+build_id-requires-clause-passed c = subst (λ v. HasPassed v c.args.from) (sym c.in-Ok.ensures.same) c.requires
+
 pub returns-in-Err-Need : goal.returns-in-Err-Need
-returns-in-Err-Need c =
-    sees_need c.args.seen c.in-Err-Need.need _ c.needs.ensures
-    (subst (StopsBefore c.args.seen) c.in-Err-Need.field-0-is c.in-Err-Need.ensures)
+returns-in-Err-Need c = record {
+  needs = subst (StopsBefore c.args.seen) c.in-Err-Need.field-0-is c.in-Err-Need.ensures;
+  passed = c.requires;
+}
+
+pub returns-in-Err : goal.returns-in-Err
+returns-in-Err c =
+    needs_from c.args.seen c.in-Ok.file c.in-Err.stop c.in-Ok.ensures.same c.size-size.ensures.holds c.in-Err.ensures
 
 pub returns-in-Err-Fault : goal.returns-in-Err-Fault
 returns-in-Err-Fault c =

@@ -1,9 +1,8 @@
-use Rattle.std.proofs.Common.{subst}
-use Rattle.elf_classify.specs.Placed.{SeesNamed}
-use Rattle.elf_classify.proofs.PlacedLemmas.{says_named}
+use Rattle.file_picture.proofs.PassedLaws.{passed-first}
 use Rattle.elf_classify.proofs.named.section_view.Goals as goal
 
-pub returns : goal.returns
-returns c =
-    says_named c.args.picture.now c.args.name.now c.part.ensures.holds c.section_seen.result
-    (subst (λ v. SeesNamed v c.args.name.now c.section_seen.result) c.part.ensures.value c.section_seen.ensures)
+pub section_from-requires : goal.section_from-requires
+section_from-requires c = passed-first c.args.picture.now
+
+pub returns-in-Need : goal.returns-in-Need
+returns-in-Need c = c.in-Need.ensures.0

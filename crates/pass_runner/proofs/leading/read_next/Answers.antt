@@ -1,4 +1,5 @@
 -- What comes of the next listed file.
+use Rattle.std.proofs.Common.{refl}
 use Rattle.pass_runner.proofs.LeadLemmas.{leads_later}
 use Rattle.pass_runner.proofs.OwnMisses.{leads_load, leads_other, leads_unread}
 use Rattle.index_lock.proofs.Later.{later_self}
@@ -9,18 +10,18 @@ returns-in_default g c = leads_later c.take-desk.ensures.holds.later
 
 pub returns-in-Row : goal.returns-in-Row
 returns-in-Row g c =
-    leads_load c.in-Some.name c.in-Row.ensures.0 c.take-desk.ensures.holds.later c.publish-desk.ensures.holds.later c.in-Row.ensures.1
+    leads_load c.in-Some.name c.take-desk.ensures.holds.later c.publish-desk.ensures.holds.later c.in-Row.ensures
 
 pub returns-in-Altered : goal.returns-in-Altered
 returns-in-Altered g c =
-    leads_other c.in-Some.name c.in-Altered.ensures.0 c.take-desk.ensures.holds.later c.miss_own.ensures.later
-    c.in-Altered.ensures.1 c.in-Altered.seen c.in-Altered.ensures.2 c.miss_own.ensures.noted
+    leads_other c.in-Some.name c.take-desk.ensures.holds.later c.miss_own.ensures.later c.in-Altered.ensures c.in-Altered.seen
+    c.in-Altered.ensures.leads.0 c.miss_own.ensures.noted
 
 pub returns-in-Failed : goal.returns-in-Failed
 returns-in-Failed g c =
-    leads_unread c.in-Some.name c.in-Failed.ensures.0 c.take-desk.ensures.holds.later c.miss_own-in-Failed.ensures.later
-    c.in-Failed.ensures.1 c.in-Failed.ensures.2 c.miss_own-in-Failed.ensures.noted
+    leads_unread c.in-Some.name c.take-desk.ensures.holds.later c.miss_own-in-Failed.ensures.later c.in-Failed.ensures refl
+    c.miss_own-in-Failed.ensures.noted
 
 pub returns : goal.returns
 returns g c =
-    leads_load c.in-Some.name c.in-OutOfMemory.ensures.0 c.take-desk.ensures.holds.later (later_self _) c.in-OutOfMemory.ensures.1
+    leads_load c.in-Some.name c.take-desk.ensures.holds.later (later_self _) c.in-OutOfMemory.ensures

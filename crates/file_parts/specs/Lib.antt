@@ -1,0 +1,2 @@
+pub mod AtPath
+pub mod Wholes
