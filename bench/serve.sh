@@ -2,7 +2,13 @@
 # How fast a server answers, as ratios to nginx over the same files on the same machine: a file of 14 KB, a miss, and a file of
 # 1 MB, by 1, 4 and 64 connections of wrk, with four workers each. The two take turns, and the median of the runs' ratios of
 # requests a second is told; by 4 connections it is to be at least 100 of 100 for the small file and the miss, and 80 for the
-# large one. nginx's logs are off, and each of its connections ends after as many requests as dbgd's do.
+# large one. nginx's logs are off, and each of its connections ends after as many requests as dbgd's do. Where OLD is a program of
+# another time, the small file and the miss by 4 connections are to be no slower than there: 95 of 100, since turns differ so much.
+#
+# Then bodies: a file of 117 MB by 4 connections is to come at 2.5 GB a second, and at 50 of 100 of nginx's speed. What processor
+# time a GB takes outside the system is told, and is to be at most 50 ms: a copy of each byte, or a look at it, takes more. Nine
+# bytes of that file, a section, by one connection: at most 0.3 ms. Where 64 clients stop to read in the middle of a body of 1 GiB,
+# the server may have 64 MiB more in memory than at rest.
 #
 # Then what one hop to another server costs: 14 KB, a miss and 117 MB, beside the direct answer and beside debuginfod's own hop. For
 # the small file the direct answer is to be at least 50 of 100, and the hop no slower than debuginfod's.
@@ -14,7 +20,7 @@
 # It stands outside the gate, since the time of a busy machine says nothing. What isn't installed is skipped.
 #
 # usage: bench/serve.sh [PROGRAM]      PROGRAM is ./dbgd of the repository's top unless given; RUNS and SECS: runs of wrk, and
-#                                      seconds a run, 3 and 2 unless set; FILES and ROWS: files of the two parts behind
+#                                      seconds a run, 3 and 2 unless set; FILES and ROWS: files of the last two parts
 source "$(dirname -- "$(readlink -f -- "${BASH_SOURCE[0]}")")/../checks/lib/head.sh" || exit 1
 source "$top/checks/lib/server.sh" || exit 1
 
@@ -26,17 +32,32 @@ runs=${RUNS:-3} secs=${SECS:-2} files=${FILES:-2700} rows=${ROWS:-18000} failed=
 # The median of numbers, one a line.
 median() { sort -n | awk '{ n[NR] = $1 } END { print n[int((NR + 1) / 2)] }'; }
 
+# Counts a number that is less, or more, than it is to be.
+least() { [ "$1" -ge "$2" ] || { say "less than $2 $3"; failed=1; }; } # NUMBER LIMIT UNIT
+most() { [ "$1" -le "$2" ] || { say "more than $2 $3"; failed=1; }; } # NUMBER LIMIT UNIT
+
+# What of a process is in memory, in kB: now, or at most.
+resident() { awk -v field="$2:" '$1 == field { print $2 }' "/proc/$1/status"; } # PID FIELD
+
 # A file of an id, as long as is said: zeros behind an ELF file are no part of it.
 sized() { # ELF FILE BYTES
   cp "$1" "$2"
   head -c $(($3 - $(stat -c %s "$1"))) /dev/zero >>"$2"
 }
 small_id=c7cf087b5ca1b9c2642186834da2d47b6ff7c585 large_id=fbd25eca6b62346b01ebc389100bbcf3e5f09b7a
-mkdir -p "$work/tree" "$work/www/buildid/$small_id" "$work/www/buildid/$large_id"
+huge_id=3336adb54f4844a31233966b2381453f7ba76004 huge=122683392
+mkdir "$work/tree"
 sized checks/data/aarch64_little.elf "$work/tree/small" 14336
 sized checks/data/i686_little.elf "$work/tree/large" 1048576
-ln "$work/tree/small" "$work/www/buildid/$small_id/executable"
-ln "$work/tree/large" "$work/www/buildid/$large_id/executable"
+cp checks/data/s390x_big.elf "$work/tree/huge"
+truncate -s "$huge" "$work/tree/huge"
+# The size of its section .comment, whose header is the fifth, at 1648 + 4 * 64, is 9 from here on.
+printf '\0\0\0\0\0\0\0\11' | dd of="$work/tree/huge" bs=1 seek=1936 conv=notrunc status=none
+for name in small large huge; do
+  target=${name}_id
+  mkdir -p "$work/www/buildid/${!target}"
+  ln "$work/tree/$name" "$work/www/buildid/${!target}/executable"
+done
 
 # nginx over the same files: sets `nginx_at`.
 start_nginx() {
@@ -77,22 +98,59 @@ speed() { # URL CONNECTIONS
   wrk -t "$threads" -c "$2" -d "${secs}s" "$1" 2>/dev/null | sed -n 's/^Requests\/sec: *\([0-9]*\).*/\1/p'
 }
 
-# The ratio of a target by so many connections, and whether it is what it is to be.
-compare() { # WHAT TARGET CONNECTIONS LEAST
-  local run own other ratios=() owns=() others=()
+# Millions of bytes a second of a target by so many connections. wrk's own units go by 1024.
+flow() { # URL CONNECTIONS
+  wrk -t "$2" -c "$2" -d "${secs}s" --timeout 60 "$1" 2>/dev/null |
+    awk '/^Transfer\/sec:/ {
+      unit = $2
+      gsub(/[0-9.]/, "", unit)
+      printf "%d\n", $2 * 1024 ^ index("KMG", substr(unit, 1, 1)) / 1000000
+    }'
+}
+
+# Measures two targets in turns: sets `own`, `other` and `ratio`, the medians, and `ratios`.
+both() { # MEASURE OWN OTHER CONNECTIONS
+  local run one two ones=() twos=()
+  ratios=()
   for ((run = 1; run <= runs; run++)); do
     if [ $((run % 2)) = 1 ]; then
-      own=$(speed "$at$2" "$3") other=$(speed "$nginx_at$2" "$3")
+      one=$("$1" "$2" "$4") two=$("$1" "$3" "$4")
     else
-      other=$(speed "$nginx_at$2" "$3") own=$(speed "$at$2" "$3")
+      two=$("$1" "$3" "$4") one=$("$1" "$2" "$4")
     fi
-    ratios+=($((own * 100 / (other > 0 ? other : 1)))) owns+=("$own") others+=("$other")
+    ratios+=($((one * 100 / (two > 0 ? two : 1)))) ones+=("$one") twos+=("$two")
   done
-  local ratio
+  own=$(printf '%s\n' "${ones[@]}" | median) other=$(printf '%s\n' "${twos[@]}" | median)
   ratio=$(printf '%s\n' "${ratios[@]}" | median)
-  say "$(printf '%-12s %2d connections: %7d a second, nginx %7d, ratio %3d of 100 (%s)' "$1" "$3" \
-    "$(printf '%s\n' "${owns[@]}" | median)" "$(printf '%s\n' "${others[@]}" | median)" "$ratio" "${ratios[*]}")"
-  [ "$ratio" -ge "$4" ] || { say "less than $4 of 100"; failed=1; }
+}
+
+# The ratio of a target by so many connections to what another server has, and whether it is what it is to be.
+compare() { # WHAT TARGET CONNECTIONS LEAST [NAME AT]
+  both speed "$at$2" "${6:-$nginx_at}$2" "$3"
+  say "$(printf '%-12s %2d connections: %7d a second, %s %7d, ratio %3d of 100 (%s)' "$1" "$3" "$own" "${5:-nginx}" "$other" "$ratio" "${ratios[*]}")"
+  least "$ratio" "$4" 'of 100'
+}
+
+# The processor time of a server outside the system, and in it, in hundredths of a second.
+times() { awk '{ print $14, $15 }' "/proc/$1/stat"; } # PID
+
+# A large file by 4 connections, what its bytes take of the processor, and nine of its bytes.
+bodies() {
+  local target=/buildid/$huge_id/executable turn user system before_user before_system
+  both flow "$at$target" "$nginx_at$target" 4
+  say "117 MB, 4 connections: $own MB a second, nginx $other, ratio $ratio of 100 (${ratios[*]})"
+  least "$own" 2500 'MB a second'
+  least "$ratio" 50 'of 100'
+  read -r before_user before_system < <(times "$server")
+  for turn in {1..20}; do curl -s --noproxy '*' -o /dev/null "$at$target"; done
+  read -r user system < <(times "$server")
+  user=$(((user - before_user) * 500000000 / huge)) system=$(((system - before_system) * 500000000 / huge))
+  say "processor time of 1 GB: $user ms outside the system, $system ms in it"
+  most "$user" 50 ms
+  own=$(speed "$at/buildid/$huge_id/section/.comment" 1)
+  own=$((1000000 / (own > 0 ? own : 1)))
+  say "nine bytes of 117 MB: $own us"
+  most "$own" 300 us
 }
 
 if ! command -v nginx >/dev/null || ! command -v wrk >/dev/null; then
@@ -101,10 +159,11 @@ else
   start speed -c 4 -t 0 "$work/tree" || exit 1
   scanned 1
   start_nginx || exit 1
-  for target in "$small_id" "$large_id"; do
+  for target in "$small_id" "$large_id" "$huge_id"; do
     cmp <(curl -s --noproxy '*' "$at/buildid/$target/executable") <(curl -s --noproxy '*' "$nginx_at/buildid/$target/executable") ||
       { say "the two don't answer the same"; exit 1; }
   done
+  [ "$(curl -s --noproxy '*' "$at/buildid/$huge_id/section/.comment" | wc -c)" = 9 ] || { say "the section hasn't nine bytes"; exit 1; }
   for connections in 1 4 64; do
     aim=0 large_aim=0
     [ "$connections" != 4 ] || aim=100 large_aim=80
@@ -112,11 +171,41 @@ else
     compare 'a miss' /buildid/00ff00ff00ff00ff00ff00ff00ff00ff00ff00ff/executable "$connections" "$aim"
     compare '1 MB' "/buildid/$large_id/executable" "$connections" "$large_aim"
   done
+  bodies
+  if [ -n "${OLD:-}" ]; then
+    now=$server now_at=$at
+    program=$OLD start old -c 4 -t 0 "$work/tree" || exit 1
+    scanned 1
+    old=$server old_at=$at server=$now at=$now_at
+    compare '14 KB' "/buildid/$small_id/executable" 4 95 before "$old_at"
+    compare 'a miss' /buildid/00ff00ff00ff00ff00ff00ff00ff00ff00ff00ff/executable 4 95 before "$old_at"
+    stop "$old"
+  fi
   stop "$server"
   kill "$nginx"
   wait "$nginx"
   forget "$nginx"
 fi
+
+# Clients that stop to read in the middle of a body: what the server has in memory for all of them.
+mkdir "$work/wide"
+cp checks/data/aarch64_little.elf "$work/wide/file"
+truncate -s 1G "$work/wide/file"
+start wide -c 64 -t 0 "$work/wide" || exit 1
+scanned 1
+sleep 1
+rest=$(resident "$server" VmRSS) conns=()
+for turn in {1..64}; do
+  exec {conn}<>"/dev/tcp/127.0.0.1/$port" || exit 1
+  conns+=("$conn")
+  printf 'GET /buildid/%s/executable HTTP/1.1\r\n\r\n' "$small_id" >&"$conn"
+  [ "$(dd bs=64K count=1 iflag=fullblock status=none <&"$conn" | wc -c)" = 65536 ] || { say "client $turn has no 64 KiB"; exit 1; }
+done
+held=$(($(resident "$server" VmRSS) - rest))
+say "64 clients in the middle of a body of 1 GiB: $held kB above the $rest kB at rest"
+most "$held" 65536 kB
+for conn in "${conns[@]}"; do exec {conn}>&-; done
+stop "$server"
 
 # One hop: a server over an empty folder that asks the one with the files, each request on a connection of its own, in turns with a
 # direct request, and with a debuginfod before the same server, whose cache is emptied each time. Milliseconds, medians.
@@ -141,7 +230,7 @@ hop() { # WHAT TARGET COUNT LEAST
   fi
   ratio=$(awk -v d="$direct" -v o="$own" 'BEGIN { printf "%d", d * 100 / (o > 0 ? o : 0.01) }')
   say "$(printf 'one hop, %-7s: %s ms, direct %s ms, ratio %d of 100%s' "$1" "$own" "$direct" "$ratio" "$real")"
-  [ "$ratio" -ge "$4" ] || { say "less than $4 of 100"; failed=1; }
+  least "$ratio" "$4" 'of 100'
   if [ "$4" != 0 ] && [ -n "$real" ]; then
     awk -v o="$own" -v r="$(median <"$work/real")" 'BEGIN { exit !(o <= r) }' || { say "slower than debuginfod's hop"; failed=1; }
   fi
@@ -207,9 +296,6 @@ new=$took
 first_answer some "$work/some"
 again=$took
 say "first answer after a start over $files files: $again ms on the store of a scan, $new ms on an empty one"
-
-# What of a process is in memory, in kB: now, or at most.
-resident() { awk -v field="$2:" '$1 == field { print $2 }' "/proc/$1/status"; } # PID FIELD
 
 # Starts a server and lets it rest: sets `rest` and `most`, in kB.
 rests() { # NAME FOLDER

@@ -48,7 +48,7 @@ done
 # The limits: a line that names constants has their values.
 limits=0
 while IFS='|' read -r _ _ text names _; do
-  for constant in $(grep -o -E '`[A-Z]+(_[A-Z]+)+`|`REQUESTS`' <<<"$names" | tr -d '`'); do
+  for constant in $(grep -o -E '`[A-Z]+(_[A-Z]+)+`|`REQUESTS`|`PIECE`' <<<"$names" | tr -d '`'); do
     value=$(grep -h -o -E "const $constant: [a-z0-9]+ = [0-9_]+;" crates/*/src/*.rt | sed 's/.* = //; s/;//; s/_/,/g')
     [ -n "$value" ] || continue
     limits=$((limits + 1))

@@ -1,8 +1,8 @@
 #!/usr/bin/env bash
 # Asks real servers over sockets, and compares each reply to its last byte: the files of checks/data by id, requests in one
-# write, connections that stand idle, ask at once or stop to read, files that are replaced, passes beside requests, and
-# what a scan finds in the store of a server that was ended in the middle of a pass. Ends within two minutes where nothing else
-# keeps the machine busy.
+# write, connections that stand idle, ask at once or stop to read, files that are replaced, files that change in the middle of
+# their reply, passes beside requests, and what a scan finds in the store of a server that was ended in the middle of a pass. Ends
+# within two minutes where nothing else keeps the machine busy.
 #
 # usage: checks/serve.sh [PROGRAM]      PROGRAM is ./dbgd of the repository's top unless given
 #
@@ -234,6 +234,52 @@ wait "$swapping" 2>/dev/null
 forget "$swapping"
 stop "$server"
 
+# A file of 32 MiB whose sixteen section headers are its end, 1024 bytes. It changes once the client has the first 64 KiB of its
+# reply and stops to read. Where it is cut, grows, or another is written over it, less may come than the head says; where another
+# takes its place, what was asked for comes to its last byte. A reply that stays short isn't counted.
+held=$work/held
+mkdir "$held"
+cp "$file" "$work/kept/held.elf"
+truncate -s 32M "$work/kept/held.elf"
+tail -c 1024 "$file" >>"$work/kept/held.elf"
+printf '\0\0\0\2\0\0\0\0' | dd of="$work/kept/held.elf" bs=1 seek=40 conv=notrunc status=none # its table is at 0x02000000
+cp checks/data/i686_little.elf "$work/kept/over.elf"
+truncate -s "$(stat -c %s "$work/kept/held.elf")" "$work/kept/over.elf"
+hold() { cp "$work/kept/$1.elf" "$work/kept/next" && mv "$work/kept/next" "$held/tool"; }
+cuts() { truncate -s 1M "$held/tool"; }
+writes_over() { cp "$work/kept/over.elf" "$held/tool"; }
+grows() { cat "$file" >>"$held/tool"; }
+replaces() { hold over; }
+hold held
+start held -c 1 -t 0 "$held" || exit 1
+scanned 1
+file_reply "$held/tool" close >"$work/wanted"
+whole=0 short=0
+for turn in {1..50}; do
+  for way in cuts writes_over grows replaces; do
+    hold held
+    exec {conn}<>"/dev/tcp/127.0.0.1/$port" || differs "a connection of a file that changes, $way, $turn"
+    printf "GET /buildid/$id/executable $close" >&"$conn"
+    dd bs=64K count=1 iflag=fullblock status=none <&"$conn" >"$work/got"
+    "$way"
+    timeout 20 cat <&"$conn" >>"$work/got"
+    exec {conn}>&-
+    compared=$((compared + 1))
+    size=$(stat -c %s "$work/got")
+    if cmp -s "$work/wanted" "$work/got"; then
+      whole=$((whole + 1))
+    elif [ "$way" != replaces ] && [ "$size" -ge 65536 ] && cmp -s -n "$size" "$work/wanted" "$work/got"; then
+      short=$((short + 1))
+    else
+      differs "a file that changes in the middle of its reply, $way, $turn: $size bytes"
+    fi
+  done
+done
+[ "$short" != 0 ] || differs 'no reply stayed short'
+ask /metrics >/dev/null
+is 'the replies that were whole, and no other' "$whole" "$(counter "$executables")"
+stop "$server"
+
 # Passes beside requests: a file that comes is answered, one that goes isn't, and a folder that is gone ends no server.
 start passes -t 1 "$work/growing" || exit 1
 within 100 grep -q "^dbgd: gone $work/growing\$" "$work/passes.err" || differs 'no pass told that its folder is gone'
@@ -301,6 +347,7 @@ at=$stopped_at
 is 'a request behind clients that went away' 404 "$(ask /none)"
 stop "$stopped"
 
-say "$compared replies and endings compared (a replaced file: $own times whole, $none times not found; a reader that stopped" \
-  "for $seconds s; $middle of 4 servers ended in the middle of a pass); $differing differ"
+say "$compared replies and endings compared (a replaced file: $own times whole, $none times not found; one that changed in the" \
+  "middle of its reply: $whole times whole, $short times short; a reader that stopped for $seconds s; $middle of 4 servers ended in" \
+  "the middle of a pass); $differing differ"
 [ "$differing" = 0 ]

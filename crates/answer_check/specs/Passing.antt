@@ -6,8 +6,8 @@ use Rattle.row_types.specs.declared.identity.Kind.TheVariants as kind
 use Rattle.webapi_routes.specs.declared.route.Route.{Route}
 use Rattle.webapi_routes.specs.declared.route.Route.TheVariants.{Debuginfo, Executable, Source, Section, Metrics}
 use Rattle.answer_check.specs.Section.{HasSectionOf, named}
-use Rattle.answer_check.specs.declared.passing.Checked.{Checked}
-use Rattle.answer_check.specs.declared.passing.Checked.TheVariants as checked
+use Rattle.answer_check.specs.declared.passing.Checking.{Checking}
+use Rattle.answer_check.specs.declared.passing.Checking.TheVariants as checking
 use Rattle.answer_check.specs.declared.passed.Passed.{Passed}
 use Rattle.answer_check.specs.declared.passed.Passed.TheVariants as passed
 
@@ -34,14 +34,14 @@ GivesPassed (Source id path) class bytes (passed.Source source) = source.items �
 GivesPassed _ _ _ _ = ⊥
 
 -- what came of the check of bytes
-abbrev pub Checks : Route → Option Kind → List ℕ → Checked → Type 0
-Checks route class bytes (checked.Passed given) = Passes route class bytes × GivesPassed route class bytes given
-Checks route class bytes checked.Refused = ¬ Passes route class bytes
-Checks route class bytes checked.OutOfMemory = Unit {0}
+abbrev pub Checks : Route → Option Kind → List ℕ → Checking → Type 0
+Checks route class bytes (checking.Passed given) = Passes route class bytes × GivesPassed route class bytes given
+Checks route class bytes checking.Refused = ¬ Passes route class bytes
+Checks route class bytes checking.OutOfMemory = Unit {0}
 
 -- what came of the check of bytes that are to be a file of this class and id
-abbrev pub ChecksFile : Kind → List ℕ → List ℕ → Checked → Type 0
-ChecksFile class id bytes (checked.Passed (passed.File file)) = IsCertified class id bytes × (file ≡ certified_file class id bytes)
-ChecksFile class id bytes (checked.Passed _) = ⊥
-ChecksFile class id bytes checked.Refused = ¬ IsCertified class id bytes
-ChecksFile class id bytes checked.OutOfMemory = ⊥
+abbrev pub ChecksFile : Kind → List ℕ → List ℕ → Checking → Type 0
+ChecksFile class id bytes (checking.Passed (passed.File file)) = IsCertified class id bytes × (file ≡ certified_file class id bytes)
+ChecksFile class id bytes (checking.Passed _) = ⊥
+ChecksFile class id bytes checking.Refused = ¬ IsCertified class id bytes
+ChecksFile class id bytes checking.OutOfMemory = ⊥

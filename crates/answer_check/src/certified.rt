@@ -4,7 +4,7 @@ ghost use Rattle.std.specs.Prelude.{◌≡◌, ◌↔◌, List, Option, ℕ, IsO
 ghost use Rattle.std.specs.Option.{option_copied};
 ghost use Rattle.file_formats.specs.Table.{IsSectionAnswer};
 ghost use Rattle.answer_check.specs.Certified.{IsCertified, is_of_class};
-ghost use Rattle.answer_check.specs.Refusal.{RefusesBytes};
+ghost use Rattle.answer_check.specs.Refusal.{PassesIdentity, RefusesBytes, RefusesIdentity};
 
 use elf_classify::{ident, section_of};
 use row_types::{BuildId, Ident, Kind, Why};
@@ -50,15 +50,11 @@ fn is_of(kind: Kind, ident: &Ident) -> bool
     }
 }
 
-/// Why the bytes are not a file of this id and class, where they aren't.
-fn fault_of(kind: Kind, id: &BuildId, bytes: &[u8]) -> Option<CheckFault>
-    ensures fault { IfSome result (RefusesBytes kind id.now bytes.now) }
-    ensures none { IfNone result (IsCertified kind id.now bytes.now) }
+/// Why a file of this identity is not one of this id and class, where it isn't.
+pub(crate) fn other_than(kind: Kind, id: &BuildId, ident: Ident) -> Option<CheckFault>
+    ensures fault { IfSome result (RefusesIdentity kind id.now ident) }
+    ensures none { IfNone result (PassesIdentity kind id.now ident) }
 {
-    let ident = match ident(bytes) {
-        Ok(ident) => ident,
-        Err(why) => return Some(CheckFault::Plain(why)),
-    };
     if ident.id != *id {
         return Some(CheckFault::OtherId(ident.id));
     }
@@ -66,6 +62,17 @@ fn fault_of(kind: Kind, id: &BuildId, bytes: &[u8]) -> Option<CheckFault>
         return Some(CheckFault::OtherClass(ident));
     }
     None
+}
+
+/// Why the bytes are not a file of this id and class, where they aren't.
+fn fault_of(kind: Kind, id: &BuildId, bytes: &[u8]) -> Option<CheckFault>
+    ensures fault { IfSome result (RefusesBytes kind id.now bytes.now) }
+    ensures none { IfNone result (IsCertified kind id.now bytes.now) }
+{
+    match ident(bytes) {
+        Ok(ident) => other_than(kind, id, ident),
+        Err(why) => Some(CheckFault::Plain(why)),
+    }
 }
 
 /// Certifies that the bytes are a file of this class and build-id, or hands them back with the

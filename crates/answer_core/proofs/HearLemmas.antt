@@ -1,30 +1,22 @@
--- Loads that are heard one after the other.
-use Rattle.std.proofs.Common.{◌≡◌, ℕ, ◌<◌, ◌⊎◌, inl, inr, true, false, List, [], ◌∷◌, ◌++◌, length}
-use Rattle.std.proofs.Common.{Option, Some, None, IsTrue, refl, sym, ◌∙◌, ap, subst, append_assoc, arith}
-use Rattle.std.proofs.Common.{if◌then◌else◌}
+-- What a hand heard, one part after the other.
+use Rattle.std.proofs.Common.{◌≡◌, ℕ, ◌<◌, ◌⊎◌, inl, inr, Bool, List, [], ◌∷◌, ◌++◌, length, IsTrue, refl, ◌∙◌, subst, arith}
 use Rattle.std.proofs.lemmas.List.{append-nil}
+use Rattle.file_formats.specs.Windows.{Range}
+use Rattle.file_parts.specs.AtPath.{AsksFile, FileAnswer, file_failed}
 use Rattle.row_types.specs.declared.limits.TheConstants.{FILE_LIMIT}
-use Rattle.row_types.specs.Name.{NameFacts}
 use Rattle.tree_trait.specs.Asks.{AsksTree}
-use Rattle.tree_trait.specs.Heard.{Heard, load, call_failed, wants_memory, with_answers}
-use Rattle.tree_trait.specs.Load.{LoadFacts, TellsLoad, loaded, too_large, gone, failed, no_memory}
-use Rattle.tree_trait.specs.Shown.{HandsOn, ShownTree}
-use Rattle.answer_core.specs.Loads.{Hand, Hears, IsAnswer, IsLoad}
-use Rattle.answer_core.specs.declared.candidate.Candidate.{Candidate}
-
-heard_none : (told : Option (List Heard)) → told ≡ with_answers told []
-heard_none None = refl
-heard_none (Some entries) = ap (λ (es : List Heard). Some es) (sym (append-nil entries))
-
-pub heard_both : (told : Option (List Heard)) (more last : List Heard)
-    → with_answers (with_answers told more) last ≡ with_answers told (more ++ last)
-heard_both None more last = refl
-heard_both (Some entries) more last = ap (λ (es : List Heard). Some es) (append_assoc entries more last)
+use Rattle.tree_trait.specs.Found.{Versions}
+use Rattle.tree_trait.specs.Heard.{Heard, open_file, call_failed}
+use Rattle.tree_trait.specs.Listens.{heard_or_none}
+use Rattle.tree_trait.specs.Shown.{HandsOn, IsPresence, ShownTree}
+use Rattle.tree_trait.proofs.ListenLemmas.{heard_none, lists_all, lists_both, listens_one}
+use Rattle.answer_core.specs.Loads.{Hand, Hears}
+use Rattle.answer_core.proofs.SinceLemmas.{since}
 
 -- nothing was asked
 pub hears_none : (hand : Hand) → Hears hand hand.start [] ⊥
 hears_none hand = record {
-  heard = heard_none hand.start.heard;
+  heard = lists_all (heard_none hand.start.heard);
   hands = record {
     cause = record { later = omega arith; rose = λ f. absurd f };
     known = λ told asked. absurd (omega (arith, asked));
@@ -46,83 +38,66 @@ hears_as f hears = record {
   };
 }
 
--- what some calls leave of a tree, and then one more
-hands_more : {hand : Hand} {now after : ShownTree} {asked : Heard} {Before After : Type 0} (answers more : List Heard)
-    → HandsOn hand.told hand.version hand.start now (0 < length answers) Before
-    → AsksTree hand.told hand.version now after asked
-    → (After → Before ⊎ IsTrue (call_failed asked))
-    → HandsOn hand.told hand.version hand.start after (0 < length more) After
-hands_more answers more first asks fails =
-    let second = asks.hands in
-    let earlier = first.cause.later in
-    let later = second.cause.later in
+-- what is known of the names behind two parts
+known_then : {hand : Hand} {now after : ShownTree} {A B : Type 0} (xs ys : List Heard)
+    → HandsOn hand.told hand.version hand.start now (0 < length xs) A
+    → HandsOn hand.told hand.version now after (0 < length ys) B
+    → IsTrue hand.told → 0 < length (xs ++ ys) → IsPresence hand.version after
+known_then xs [] first second told asked =
+    second.keeps told (first.known told (subst (λ (es : List Heard). 0 < length es) (append-nil xs) asked))
+known_then xs (y ∷ ys) first second told asked = second.known told (omega arith)
+
+-- one part after the other
+pub hears_then : {hand : Hand} {now after : ShownTree} {xs ys : List Heard} {A B C : Type 0} → Hears hand now xs A
+    → Hears (since hand now) after ys B → (C → A ⊎ B) → Hears hand after (xs ++ ys) C
+hears_then {hand} {now} {after} {xs} {ys} first second fails =
+    let earlier = first.hands.cause.later in
+    let later = second.hands.cause.later in
     record {
-      cause = record {
-        later = omega (arith, earlier, later);
-        rose = λ f. elim (fails f) [
-          | inl a ↦ let risen = first.cause.rose a in omega (arith, risen, later)
-          | inr b ↦ let risen = second.cause.rose b in omega (arith, risen, earlier)
-        ];
+      heard = lists_both hand.start.heard now.heard after.heard xs ys first.heard second.heard;
+      hands = record {
+        cause = record {
+          later = omega (arith, earlier, later);
+          rose = λ f. elim (fails f) [
+            | inl a ↦ let risen = first.hands.cause.rose a in omega (arith, risen, later)
+            | inr b ↦ let risen = second.hands.cause.rose b in omega (arith, risen, earlier)
+          ];
+        };
+        known = known_then {hand = hand} {now = now} {after = after} xs ys first.hands second.hands;
+        keeps = λ told known. second.hands.keeps told (first.hands.keeps told known);
+        still = λ still.
+            let a = first.hands.still still in
+            let b = second.hands.still a.still in
+            record { still = b.still; same = b.same ∙ a.same };
       };
-      known = λ told asked. second.known told tt;
-      keeps = λ told known. second.keeps told (first.keeps told known);
-      still = λ still.
-          let a = first.still still in
-          let b = second.still a.still in
-          record { still = b.still; same = b.same ∙ a.same };
     }
 
--- one more answer was heard
-pub hears_more : {hand : Hand} {now after : ShownTree} {answers : List Heard} {Before After : Type 0} (asked : Heard)
-    → wants_memory asked ≡ false → Hears hand now answers Before
-    → AsksTree hand.told hand.version now after asked
-    → (After → Before ⊎ IsTrue (call_failed asked)) → Hears hand after (answers ++ asked ∷ []) After
-hears_more {hand} {now} {after} {answers} asked given hears asks fails = record {
-  heard = asks.listed
-      ∙ ap (λ b. if b then now.heard else with_answers now.heard (asked ∷ [])) given
-      ∙ ap (λ told. with_answers told (asked ∷ [])) hears.heard
-      ∙ heard_both hand.start.heard answers (asked ∷ []);
-  hands = hands_more answers (answers ++ asked ∷ []) hears.hands asks fails;
-}
+module _ {told : Bool} {version : Versions} {before after : ShownTree} where
+  -- one call, as a part of what was heard
+  pub hears_asked : {Fails : Type 0} (asked : Heard) → AsksTree told version before after asked
+      → (Fails → IsTrue (call_failed asked))
+      → Hears (record { told = told; version = version; start = before }) after (heard_or_none asked) Fails
+  hears_asked asked asks fails = record {
+    heard = (listens_one asked asks).heard;
+    hands = record {
+      cause = record { later = asks.hands.cause.later; rose = λ f. asks.hands.cause.rose (fails f) };
+      known = λ is _. asks.hands.known is tt;
+      keeps = asks.hands.keeps;
+      still = asks.hands.still;
+    };
+  }
 
--- memory was refused for one more answer
-pub hears_less : {hand : Hand} {now after : ShownTree} {answers : List Heard} {Before : Type 0} (asked : Heard)
-    → wants_memory asked ≡ true → Hears hand now answers Before
-    → AsksTree hand.told hand.version now after asked → Hears hand after answers ⊥
-hears_less {hand} {now} {after} {answers} asked refused hears asks = record {
-  heard = asks.listed
-      ∙ ap (λ b. if b then now.heard else with_answers now.heard (asked ∷ [])) refused
-      ∙ hears.heard;
-  hands = hands_more answers answers hears.hands asks (λ f. absurd f);
-}
-
--- the load of a candidate is a part of what was heard
-pub load_is : {hand : Hand} {now after : ShownTree} {answers : List Heard} {Before : Type 0} (one : Candidate)
-    (answer : LoadFacts) → Hears hand now answers Before
-    → AsksTree hand.told hand.version now after (load one.path FILE_LIMIT answer)
-    → IsLoad hand one answer (load one.path FILE_LIMIT answer ∷ [])
-load_is one answer hears asks = record {
-  asked = refl;
-  fits = asks.fits;
-  tells = λ told still.
-      let a = hears.hands.still still in
-      let b = asks.hands.still a.still in
-      subst (λ (present : List NameFacts). TellsLoad present one.path answer) (b.same ∙ a.same) (asks.tells told);
-}
-
--- an answer that says what stands at the path is listed, and is no failure
-pub is_given : (path : List ℕ) (limit : ℕ) (answer : LoadFacts) → IsAnswer answer
-    → wants_memory (load path limit answer) ≡ false
-is_given path limit (loaded found) h = refl
-is_given path limit (too_large stamp) h = refl
-is_given path limit gone h = refl
-is_given path limit failed h = absurd h
-is_given path limit no_memory h = absurd h
-
-pub is_no_failure : (path : List ℕ) (limit : ℕ) (answer : LoadFacts) → IsAnswer answer
-    → call_failed (load path limit answer) ≡ false
-is_no_failure path limit (loaded found) h = refl
-is_no_failure path limit (too_large stamp) h = refl
-is_no_failure path limit gone h = refl
-is_no_failure path limit failed h = absurd h
-is_no_failure path limit no_memory h = absurd h
+  -- an opening with the reads behind it
+  pub hears_file : {Fails : Type 0} {Of : List ℕ → Range → Type 0} {path : List ℕ} {answer : FileAnswer}
+      (asks : AsksFile Of told version path before after answer) → (Fails → answer ≡ file_failed)
+      → Hears (record { told = told; version = version; start = before }) after
+      (heard_or_none (open_file path FILE_LIMIT asks.opening) ++ asks.reads) Fails
+  hears_file asks fails = record {
+    heard = asks.listens.heard;
+    hands = record {
+      cause = record { later = asks.hands.cause.later; rose = λ f. asks.hands.cause.rose (fails f) };
+      known = λ is _. asks.hands.known is tt;
+      keeps = asks.hands.keeps;
+      still = asks.hands.still;
+    };
+  }

@@ -1,5 +1,9 @@
 pub mod CompleteLemmas
 pub mod HearLemmas
+pub mod LocalLemmas
 pub mod RowsLemmas
-mod LocalLemmas
+pub mod SinceLemmas
+mod FileLemmas
+mod FitLemmas
+mod TriedLemmas
 mod TryLemmas

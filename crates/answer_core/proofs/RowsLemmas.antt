@@ -29,9 +29,7 @@ would_pass hand route class id row world sound there passes =
       stamp = row.name.stamp;
       there = there.at;
       small = (read_of hand.version row class id reads there.is).0;
-      passes = λ found fits same. passes found.bytes
-          (subst (λ stamp. hand.version row.name.path stamp found.bytes) same fits.known)
-          (row_certified hand.version world.one row class id reads there.is found fits same);
+      passes = λ b known sized. passes b known (row_certified hand.version world.one row class id reads there.is b known);
     }
 
 -- a candidate more
@@ -75,7 +73,7 @@ source_has hand folders id path rows row in_ there =
     list_any_at (λ r. lists_source id path r.reading) rows in_.0 row in_.1 (ap (λ r. lists_source id path r.reading) in_.2 ∙ there.lists) in
     let both : (is_source_listed rows id path && is_in_one folders path) ≡ true =
     ap (λ b. b && is_in_one folders path) listed ∙ there.inside in
-    rw both (inl (record { stamp = there.stamp; there = there.at; small = there.small; passes = λ found fits same. tt }))
+    rw both (inl (record { stamp = there.stamp; there = there.at; small = there.small; passes = λ b known sized. tt }))
 
 -- a row by which something has to be found gives a candidate that would pass
 has_to_find : {true_row : RowFacts → Type 0} (hand : Hand) (folders : List (List ℕ)) (route : Route) (rows : List RowFacts)

@@ -1,5 +1,5 @@
 -- Completeness (this project's rule): which candidates a hand that tells what it has, and is still, has to find.
-use Rattle.std.specs.Prelude.{◌≡◌, ℕ, ◌≤◌, ◌⊎◌, true, List, [], ◌∷◌, Contains, Some}
+use Rattle.std.specs.Prelude.{◌≡◌, ℕ, ◌≤◌, ◌⊎◌, true, List, [], ◌∷◌, length, Contains, Some}
 use Rattle.index_rows.specs.Classes.{has_class, lists_source}
 use Rattle.row_types.specs.Name.{stamp_at}
 use Rattle.row_types.specs.Reading.{IsTrueRow}
@@ -8,8 +8,7 @@ use Rattle.row_types.specs.Stamp.{StampFacts}
 use Rattle.row_types.specs.declared.identity.Kind.{Kind}
 use Rattle.row_types.specs.declared.identity.Kind.TheVariants as kind
 use Rattle.row_types.specs.declared.limits.TheConstants.{FILE_LIMIT}
-use Rattle.tree_trait.specs.Found.{FoundFacts, Versions}
-use Rattle.tree_trait.specs.Load.{IsAskedFile}
+use Rattle.tree_trait.specs.Found.{Versions}
 use Rattle.webapi_routes.specs.declared.route.Route.{Route}
 use Rattle.webapi_routes.specs.declared.route.Route.TheVariants.{Debuginfo, Executable, Source, Section, Metrics}
 use Rattle.answer_core.specs.Candidates.{is_in_one}
@@ -19,13 +18,12 @@ use Rattle.answer_check.specs.Passing.{Passes}
 use Rattle.answer_check.specs.Section.{HasSectionOf}
 use Rattle.answer_core.specs.declared.candidate.Candidate.{Candidate}
 
--- the candidate is there at this stamp, within the limit, and the file of its path and stamp passes
+-- the candidate is there at this stamp, within the limit, and each version of its path and stamp passes, whole as the stamp says
 pub record WouldPass (hand : Hand) (route : Route) (one : Candidate) : Type 0 where
   pub stamp : StampFacts
   pub there : stamp_at hand.start.present one.path ≡ Some stamp
   pub small : stamp.size ≤ FILE_LIMIT
-  pub passes : (found : FoundFacts) → IsAskedFile hand.version one.path FILE_LIMIT found → found.stamp ≡ stamp
-      → Passes route one.class found.bytes
+  pub passes : (b : List ℕ) → hand.version one.path stamp b → length b ≡ stamp.size → Passes route one.class b
 
 -- some candidate is there and would pass
 abbrev pub SomeWouldPass : Hand → Route → List Candidate → Type 0

@@ -1,19 +1,26 @@
--- The loads of the files that may answer a route (this project's rule): one after the other, until one passes. Each has a
--- part of what was heard.
-use Rattle.std.specs.Prelude.{◌≡◌, ℕ, ◌<◌, Bool, List, [], ◌∷◌, ◌++◌, flat_map, length, take, Option, IsTrue, slice_index_or}
+-- What is heard of the files that may answer a route (this project's rule): one after the other, until one passes. A source is
+-- loaded whole; every other file is opened, and of it the ranges are read on which the answer rests. Each candidate has a part of
+-- what was heard.
+use Rattle.std.specs.Prelude.{◌≡◌, ℕ, ◌<◌, Bool, true, false, List, [], ◌∷◌, ◌++◌, flat_map, length, take, Option, IsTrue, slice_index_or}
 use Rattle.std.specs.List.{AllZip, list_any}
-use Rattle.answer_check.specs.Passing.{GivesPassed, Passes}
-use Rattle.answer_check.specs.declared.passed.Passed.{Passed}
+use Rattle.answer_check.specs.Passing.{Passes}
+use Rattle.file_parts.specs.AtPath.{FileAnswer, OpeningGives, ReadsRanges, file_read, file_no_memory, stamped_name}
+use Rattle.row_types.specs.Name.{NameFacts}
+use Rattle.row_types.specs.Stamp.{StampFacts}
 use Rattle.row_types.specs.declared.identity.Kind.{Kind}
 use Rattle.row_types.specs.declared.limits.TheConstants.{FILE_LIMIT}
-use Rattle.tree_trait.specs.Asks.{AsksTree}
 use Rattle.tree_trait.specs.Found.{FoundFacts, Versions}
-use Rattle.tree_trait.specs.Heard.{Heard, load, call_failed, with_answers}
-use Rattle.tree_trait.specs.Load.{FitsLoad, LoadFacts, TellsLoad, loaded, failed, no_memory}
+use Rattle.tree_trait.specs.Heard.{Heard, load, open_file, call_failed}
+use Rattle.tree_trait.specs.Listens.{ListsAnswers}
+use Rattle.tree_trait.specs.Load.{FitsLoad, LoadFacts, TellsLoad, loaded, no_memory}
+use Rattle.tree_trait.specs.Needs.{IsOfReads}
+use Rattle.tree_trait.specs.Open.{FitsOpening, OpenFacts, TellsOpening}
 use Rattle.tree_trait.specs.Shown.{HandsOn, ShownTree}
 use Rattle.webapi_routes.specs.declared.route.Route.{Route}
-use Rattle.answer_core.specs.declared.attempt.Tried.{Tried}
-use Rattle.answer_core.specs.declared.attempt.Tried.TheVariants as tried
+use Rattle.webapi_routes.specs.declared.route.Route.TheVariants.{Source}
+use Rattle.answer_core.specs.Given.{GivenFacts, GivesRead, given_facts, needs_for, source_given}
+use Rattle.answer_core.specs.declared.given.Tried.{Tried}
+use Rattle.answer_core.specs.declared.given.Tried.TheVariants as tried
 use Rattle.answer_core.specs.declared.attempts.Outcome.{Outcome}
 use Rattle.answer_core.specs.declared.attempts.Outcome.TheVariants as outcome
 use Rattle.answer_core.specs.declared.candidate.Candidate.{Candidate}
@@ -25,31 +32,72 @@ pub record Hand : Type 1 where
   pub version : Versions
   pub start : ShownTree
 
--- a part of what was heard is the load of a candidate with this answer: within the limit, and by the files that are there,
+-- a part of what was heard is the load of a source with this answer: within the limit, and by the files that are there,
 -- where the hand is told and still
 pub record IsLoad (hand : Hand) (one : Candidate) (answer : LoadFacts) (part : List Heard) : Type 0 where
   pub asked : part ≡ load one.path FILE_LIMIT answer ∷ []
   pub fits : FitsLoad hand.version one.path FILE_LIMIT answer
   pub tells : IsTrue hand.told → hand.start.Still → TellsLoad hand.start.present one.path answer
 
--- the answer to a load gives no bytes that pass; it isn't that memory was refused
-abbrev pub GivesNothing : Route → Option Kind → LoadFacts → Type 0
-GivesNothing route class (loaded found) = ¬ Passes route class found.bytes
-GivesNothing route class no_memory = ⊥
-GivesNothing route class _ = Unit {0}
+-- a part of what was heard is the opening of a candidate's file, with the reads of it behind that, and this is what they gave: the
+-- opening within the limit, and by the files that are there, where the hand is told and still; and reads of such ranges alone
+pub record IsOpening (hand : Hand) (route : Route) (one : Candidate) (answer : FileAnswer) (part : List Heard) : Type 0 where
+  pub opening : OpenFacts
+  pub reads : List Heard
+  pub asked : part ≡ open_file one.path FILE_LIMIT opening ∷ reads
+  pub fits : FitsOpening hand.version one.path FILE_LIMIT opening
+  pub tells : IsTrue hand.told → hand.start.Still → TellsOpening hand.start.present one.path opening
+  pub ranges : ReadsRanges (needs_for route) one.path opening reads
+  pub gives : OpeningGives hand.version one.path opening reads answer
 
--- what was heard of a candidate gave nothing that passes
-pub record DoesNotPass (hand : Hand) (route : Route) (one : Candidate) (part : List Heard) : Type 0 where
+-- the load of a source gives no bytes; it isn't that memory was refused
+abbrev pub LoadsNothing : LoadFacts → Type 0
+LoadsNothing (loaded found) = ⊥
+LoadsNothing no_memory = ⊥
+LoadsNothing _ = Unit {0}
+
+-- what was read of a file doesn't pass: there is none, it is too large, or a call failed; or no file that has what was read passes;
+-- it isn't that memory was refused
+abbrev pub ReadsNothing : Route → Option Kind → FileAnswer → Type 0
+ReadsNothing route class (file_read stamp reads) = IsOfReads stamp.size reads (λ b. ¬ Passes route class b)
+ReadsNothing route class file_no_memory = ⊥
+ReadsNothing route class _ = Unit {0}
+
+-- a source was loaded, and not found
+pub record IsSourceMissed (hand : Hand) (one : Candidate) (part : List Heard) : Type 0 where
   pub answer : LoadFacts
   pub loads : IsLoad hand one answer part
-  pub nothing : GivesNothing route one.class answer
+  pub nothing : LoadsNothing answer
 
--- what was heard of a candidate gave bytes that pass, of which this is given
-pub record LoadPasses (hand : Hand) (route : Route) (one : Candidate) (given : Passed) (part : List Heard) : Type 0 where
+-- a file was opened and read, and doesn't pass
+pub record IsFileMissed (hand : Hand) (route : Route) (one : Candidate) (part : List Heard) : Type 0 where
+  pub answer : FileAnswer
+  pub opens : IsOpening hand route one answer part
+  pub nothing : ReadsNothing route one.class answer
+
+-- what was heard of a candidate gave nothing that passes
+abbrev pub DoesNotPass : Hand → Route → Candidate → List Heard → Type 0
+DoesNotPass hand (Source id path) one part = IsSourceMissed hand one part
+DoesNotPass hand route one part = IsFileMissed hand route one part
+
+-- a source was loaded, and its bytes are given
+pub record IsSourceGiven (hand : Hand) (one : Candidate) (given : GivenFacts) (part : List Heard) : Type 0 where
   pub found : FoundFacts
   pub loads : IsLoad hand one (loaded found) part
-  pub passes : Passes route one.class found.bytes
-  pub gives : GivesPassed route one.class found.bytes given
+  pub gives : given ≡ source_given found.bytes
+
+-- a file was opened and read: each file that has what was read passes, and this is given of it
+pub record IsFileGiven (hand : Hand) (route : Route) (one : Candidate) (given : GivenFacts) (part : List Heard) : Type 0 where
+  pub stamp : StampFacts
+  pub reads : List Heard
+  pub opens : IsOpening hand route one (file_read stamp reads) part
+  pub passes : IsOfReads stamp.size reads (Passes route one.class)
+  pub gives : GivesRead hand.version route one.class (stamped_name one.path stamp) reads given
+
+-- what was heard of a candidate makes it pass, and this is given of it
+abbrev pub CandidatePasses : Hand → Route → Candidate → GivenFacts → List Heard → Type 0
+CandidatePasses hand (Source id path) one given part = IsSourceGiven hand one given part
+CandidatePasses hand route one given part = IsFileGiven hand route one given part
 
 -- parts, one behind the other
 abbrev pub joined_parts : List (List Heard) → List Heard
@@ -64,7 +112,7 @@ pub record NonePasses (hand : Hand) (route : Route) (all : List Candidate) (answ
 
 -- what was heard is a part for each candidate, in order, up to the one at this place, which is the first that passed
 pub record PassesAt
-    (hand : Hand) (route : Route) (all : List Candidate) (answers : List Heard) (place : ℕ) (given : Passed) : Type 0 where
+    (hand : Hand) (route : Route) (all : List Candidate) (answers : List Heard) (place : ℕ) (given : GivenFacts) : Type 0 where
   pub within : place < length all
   pub one : Candidate
   pub there : one ≡ slice_index_or all place one
@@ -72,40 +120,29 @@ pub record PassesAt
   pub none : AllZip (DoesNotPass hand route) (take place all) before
   pub last : List Heard
   pub heard : answers ≡ joined_parts before ++ last
-  pub passes : LoadPasses hand route one given last
+  pub passes : CandidatePasses hand route one given last
 
--- the answer says what stands at the path
-abbrev pub IsAnswer : LoadFacts → Type 0
-IsAnswer failed = ⊥
-IsAnswer no_memory = ⊥
-IsAnswer _ = Unit {0}
-
--- what came of a file that was found
-abbrev pub FitsFound : Route → Candidate → FoundFacts → Tried → Type 0
-FitsFound route one found (tried.Passed given) = Passes route one.class found.bytes × GivesPassed route one.class found.bytes given
-FitsFound route one found tried.Refused = ¬ Passes route one.class found.bytes
-FitsFound route one found tried.Failed = ⊥
-FitsFound route one found tried.OutOfMemory = Unit {0}
-
--- what came of the load of a candidate
-abbrev pub Tries : Bool → Versions → Route → Candidate → ShownTree → ShownTree → Tried → Type 0
-Tries told version route one before after (tried.Passed given) =
-    (found : FoundFacts) × AsksTree told version before after (load one.path FILE_LIMIT (loaded found))
-    × Passes route one.class found.bytes × GivesPassed route one.class found.bytes given
-Tries told version route one before after tried.Refused =
-    (answer : LoadFacts) × AsksTree told version before after (load one.path FILE_LIMIT answer)
-    × GivesNothing route one.class answer × IsAnswer answer
-Tries told version route one before after tried.Failed =
-    AsksTree told version before after (load one.path FILE_LIMIT failed)
-Tries told version route one before after tried.OutOfMemory =
-    (answer : LoadFacts) × AsksTree told version before after (load one.path FILE_LIMIT answer)
-
--- what a hand is known to have been asked since the call began, and whether a load failed
+-- what a hand is known to have been asked since the call began, in order, and whether a call failed; where memory for a line was
+-- refused behind a read of an open file, its questions aren't told from there on
 pub record Hears (hand : Hand) (now : ShownTree) (answers : List Heard) (Fails : Type 0) : Type 0 where
-  pub heard : now.heard ≡ with_answers hand.start.heard answers
+  pub heard : ListsAnswers hand.start.heard answers now.heard
   pub hands : HandsOn hand.told hand.version hand.start now (0 < length answers) Fails
 
--- these candidates were loaded, in order, and none passed
+-- what came of a candidate of which this was heard: it passed; it didn't, and no call failed or one did; want of memory says no more
+abbrev pub ComesOf : {F : Type 0} → (F → NameFacts) → Hand → Route → Candidate → List Heard → Tried F → Type 0
+ComesOf opened hand route one part (tried.Passed given) = CandidatePasses hand route one (given_facts opened given) part
+ComesOf opened hand route one part tried.Refused = DoesNotPass hand route one part × (list_any call_failed part ≡ false)
+ComesOf opened hand route one part tried.Failed = DoesNotPass hand route one part × (list_any call_failed part ≡ true)
+ComesOf opened hand route one part tried.OutOfMemory = Unit {0}
+
+-- a candidate was tried
+pub record TriesOne {F : Type 0} (opened : F → NameFacts) (hand : Hand) (route : Route) (one : Candidate) (came : Tried F)
+    (now : ShownTree) : Type 0 where
+  pub part : List Heard
+  pub hears : Hears hand now part (came ≡ tried.Failed)
+  pub comes : ComesOf opened hand route one part came
+
+-- these candidates were tried, in order, and none passed
 pub record HasTried (hand : Hand) (route : Route) (done : List Candidate) (failed : Bool) (now : ShownTree) : Type 0 where
   pub answers : List Heard
   pub none : NonePasses hand route done answers failed
@@ -113,13 +150,14 @@ pub record HasTried (hand : Hand) (route : Route) (done : List Candidate) (faile
 
 -- the candidate at this place is the first that passed, and this is given
 pub record HasCandidatePassed
-    (hand : Hand) (route : Route) (all : List Candidate) (place : ℕ) (given : Passed) (now : ShownTree) : Type 0 where
+    (hand : Hand) (route : Route) (all : List Candidate) (place : ℕ) (given : GivenFacts) (now : ShownTree) : Type 0 where
   pub answers : List Heard
   pub first : PassesAt hand route all answers place given
   pub hears : Hears hand now answers ⊥
 
--- what came of the loads of all candidates
-abbrev pub TriesAllCandidates : Hand → Route → List Candidate → Outcome → ShownTree → Type 0
-TriesAllCandidates hand route all (outcome.Passed given place) now = HasCandidatePassed hand route all place given now
-TriesAllCandidates hand route all (outcome.Nothing fails) now = HasTried hand route all fails now
-TriesAllCandidates hand route all outcome.OutOfMemory now = (answers : List Heard) × Hears hand now answers ⊥
+-- what came of all candidates
+abbrev pub TriesAllCandidates : {F : Type 0} → (F → NameFacts) → Hand → Route → List Candidate → Outcome F → ShownTree → Type 0
+TriesAllCandidates opened hand route all (outcome.Passed given place) now =
+    HasCandidatePassed hand route all place (given_facts opened given) now
+TriesAllCandidates opened hand route all (outcome.Nothing fails) now = HasTried hand route all fails now
+TriesAllCandidates opened hand route all outcome.OutOfMemory now = (answers : List Heard) × Hears hand now answers ⊥

@@ -1,28 +1,28 @@
-//! The loads of candidates, one after the other.
+//! The candidates, one after the other.
 
 ghost use Rattle.answer_core.specs.Loads.{TriesAllCandidates};
 
-use crate::attempt::{Tried, try_one};
+use crate::attempt::try_one;
 use crate::candidate::Candidate;
-use answer_check::Passed;
+use crate::given::{Given, Tried};
 use row_types::Truth;
 use std::alloc::Global;
 use std::sync::Wait;
 use tree_trait::{Gate, Tree};
 use webapi_routes::Route;
 
-/// What came of the loads.
+/// What came of the candidates.
 #[derive(Drop)]
-pub(crate) enum Outcome {
+pub(crate) enum Outcome<F: Drop> {
     /// The candidate at this place is the first that passed.
-    Passed { given: Passed, place: usize },
-    /// None passed.
+    Passed { given: Given<F>, place: usize },
+    /// None passed, and a call failed or none did.
     Nothing { fails: bool },
     /// There was not enough memory.
     OutOfMemory,
 }
 
-/// Loads the candidates in order, until one passes.
+/// Tries the candidates in order, until one passes.
 pub(crate) fn try_all<W: Truth, T: Tree<W>, G: Gate, R: Wait + Sync>(
     rt: &R,
     alloc: Global,
@@ -30,8 +30,9 @@ pub(crate) fn try_all<W: Truth, T: Tree<W>, G: Gate, R: Wait + Sync>(
     route: &Route,
     all: &[Candidate],
     gate: &G,
-) -> Outcome
-    ensures { TriesAllCandidates (record { told = T.told; version = W.version; start = T.shows hand.old })
+) -> Outcome<T::File>
+    ensures { TriesAllCandidates T.opened
+        (record { told = T.told; version = W.version; start = T.shows hand.old })
         route.now all.now result (T.shows hand.new) }
 {
     let mut fails = false;

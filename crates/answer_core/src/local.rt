@@ -1,15 +1,17 @@
 //! The local answer.
 
-ghost use Rattle.std.specs.Prelude.{◌≡◌, ◌≢◌, ◌<◌, length, slice_index_or};
-ghost use Rattle.answer_core.specs.Local.{AnswersRoute, AnswersFrom, IsGiven};
+ghost use Rattle.std.specs.Prelude.{◌≡◌, ◌≢◌, ◌<◌, true, length, slice_index_or};
+ghost use Rattle.answer_core.specs.Local.{AgreesWithFile, AnswersRoute, AnswersFrom, HandsFile};
+ghost use Rattle.answer_core.specs.Local.{IsGiven, local_facts};
 ghost use Rattle.index_lock.specs.Tokens.{IsLater};
 ghost use Rattle.answer_core.specs.declared.candidate.Candidate.{Candidate};
 ghost use Rattle.webapi_routes.specs.declared.route.Route.TheVariants.{Metrics};
 
 use crate::attempts::{Outcome, try_all};
 use crate::candidate::Candidate;
+use crate::given::Given;
 use crate::look_up::{Picked, look_up};
-use answer_check::{Certified, FileSection, Passed};
+use answer_check::{Checked, CheckedSection};
 use index_keeper::Keeper;
 use index_lock::{Seat, TurnLock};
 use index_state::State;
@@ -20,13 +22,15 @@ use tree_trait::{Gate, Tree};
 use webapi_routes::Route;
 
 /// The local answer to a route. Its generation, `gen_`, is the length of the index's log as the
-/// candidates were picked.
+/// candidates were picked. `F` is the hand's open file.
 #[derive(Drop)]
-pub enum Local {
+pub enum Local<F: Drop> {
     /// A file of the build-id and the class that are asked.
     File {
-        /// The file.
-        from: Certified,
+        /// What was read of the file, and checked. It has all that its identity rests on.
+        from: Checked,
+        /// The open file, of which the rest may be read.
+        file: F,
         /// Its path.
         path: CanonPath,
         /// The generation.
@@ -34,8 +38,8 @@ pub enum Local {
     },
     /// The section that is asked, of a file of the build-id.
     Section {
-        /// The section, with its file.
-        from: FileSection,
+        /// The section, with what was read of its file.
+        from: CheckedSection,
         /// The file's path.
         path: CanonPath,
         /// The generation.
@@ -43,19 +47,19 @@ pub enum Local {
     },
     /// The source that is asked.
     Source {
-        /// Its bytes.
+        /// All its bytes.
         bytes: Vec<u8>,
         /// Its path.
         path: CanonPath,
         /// The generation.
         gen_: u64,
     },
-    /// No candidate passed, and no load failed.
+    /// No candidate passed, and no load, opening or read failed.
     Nothing {
         /// The generation.
         gen_: u64,
     },
-    /// No candidate passed, and a load failed.
+    /// No candidate passed, and a load, an opening or a read failed.
     Fault {
         /// The generation.
         gen_: u64,
@@ -65,9 +69,10 @@ pub enum Local {
 }
 
 /// Answers a route of a build-id from the index and the hand. The lock is taken once, to pick the
-/// candidates, and left before the first of them is loaded. They are loaded in path order, for a
-/// section those with debug information first, and the first that passes is taken. The gate is
-/// passed before each load.
+/// candidates, and left before the first of them is opened. They are opened in path order, for a
+/// section those with debug information first, up to 1 GiB each; of each what its identity rests on
+/// is read, for a section that section too, and the first that passes is taken. A source is loaded
+/// whole, up to 1 GiB. The gate is passed before each opening or load.
 pub fn answer_local<W: Truth, K: Keeper<W>, T: Tree<W>, G: Gate, R: Wait + Sync>(
     rt: &R,
     alloc: Global,
@@ -77,13 +82,15 @@ pub fn answer_local<W: Truth, K: Keeper<W>, T: Tree<W>, G: Gate, R: Wait + Sync>
     route: &Route,
     folders: &[CanonPath],
     gate: &G,
-) -> (Seat<State<W, K>>, Local)
+) -> (Seat<State<W, K>>, Local<T::File>)
     requires lock { seat.lock ≡ lock.now }
     requires route { route.now ≢ Metrics }
     ensures later { IsLater seat result.0 }
     ensures answer { AnswersRoute W.true_row result.0.seen folders.now
         (record { told = T.told; version = W.version; start = T.shows hand.old })
-        route.now result.1 (T.shows hand.new) }
+        route.now (local_facts T.opened result.1) (T.shows hand.new) }
+    ensures file { HandsFile W.version (local_facts T.opened result.1) }
+    ensures version { W.told ≡ true → AgreesWithFile W.version (local_facts T.opened result.1) }
 {
     let (seat, picked) = look_up(rt, alloc, lock, seat, route, folders);
     let Picked { generation, list } = picked;
@@ -105,10 +112,12 @@ fn answer_from<W: Truth, T: Tree<W>, G: Gate, R: Wait + Sync>(
     list: Vec<Candidate>,
     generation: u64,
     gate: &G,
-) -> Local
-    ensures { AnswersFrom
+) -> Local<T::File>
+    ensures answer { AnswersFrom
         (record { told = T.told; version = W.version; start = T.shows hand.old })
-        route.now list.items generation result (T.shows hand.new) }
+        route.now list.items generation (local_facts T.opened result) (T.shows hand.new) }
+    ensures file { HandsFile W.version (local_facts T.opened result) }
+    ensures version { W.told ≡ true → AgreesWithFile W.version (local_facts T.opened result) }
 {
     match try_all(rt, alloc, hand, route, list.as_slice(), gate) {
         Outcome::Passed { given, place } => local_of(given, take_path(list, place), generation),
@@ -129,21 +138,22 @@ fn take_path(list: Vec<Candidate>, place: usize) -> CanonPath
 }
 
 /// The answer that gives this.
-fn local_of(given: Passed, path: CanonPath, generation: u64) -> Local
+fn local_of<F: Drop>(given: Given<F>, path: CanonPath, generation: u64) -> Local<F>
     ensures { IsGiven given path generation result }
 {
     match given {
-        Passed::File(from) => Local::File {
+        Given::File { from, file } => Local::File {
+            from,
+            file,
+            path,
+            gen_: generation,
+        },
+        Given::Section(from) => Local::Section {
             from,
             path,
             gen_: generation,
         },
-        Passed::Section(from) => Local::Section {
-            from,
-            path,
-            gen_: generation,
-        },
-        Passed::Source(bytes) => Local::Source {
+        Given::Source(bytes) => Local::Source {
             bytes,
             path,
             gen_: generation,

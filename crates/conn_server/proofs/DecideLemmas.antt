@@ -7,9 +7,8 @@ use Rattle.std.proofs.lemmas.Bool.Decides.{nat_tests}
 use Rattle.webapi_routes.specs.declared.route.Route.{Route}
 use Rattle.webapi_routes.specs.declared.route.Route.TheVariants.{Debuginfo, Executable, Source, Section, Metrics}
 use Rattle.answer_check.specs.declared.passed.Passed.TheVariants as passing
-use Rattle.answer_core.specs.Local.{AnswersRoute, IsFault}
-use Rattle.answer_core.specs.declared.local.Local.{Local}
-use Rattle.answer_core.specs.declared.local.Local.TheVariants as local
+use Rattle.answer_core.specs.Local.{AnswersRoute, IsFault, LocalFacts}
+use Rattle.answer_core.specs.Local.{file_found, section_found, source_found, nothing_found, fault_found, no_memory_found}
 use Rattle.answer_core.proofs.HearLemmas.{hears_as, hears_none}
 use Rattle.dbgd_metrics.specs.Shares.{ShareFacts}
 use Rattle.dbgd_metrics.specs.Totals.{IsPage, OnlyNotes}
@@ -17,14 +16,13 @@ use Rattle.federation.specs.AskAll.{AsksLinks}
 use Rattle.federation.specs.declared.asking.Upstream.{Upstream}
 use Rattle.federation.specs.declared.asking.Upstream.TheVariants as told
 use Rattle.conn_server.specs.Asked.{AsksForRoute, HeadFacts, readable}
+use Rattle.conn_server.specs.Bodies.{DecidedFacts, found_here, own_line}
 use Rattle.conn_server.specs.Cases.{IsCase, IsFileRoute, metrics, no_page, passed, upstream, read_fault, hop_limit, upstream_fault, not_found, no_memory, links_memory}
 use Rattle.conn_server.specs.Decided.{Decides, DecidesRoute, FollowsLocal, by_links, by_page, for_route, plain}
 use Rattle.conn_server.specs.Exchange.{LoadFailed}
 use Rattle.conn_server.specs.Lawful.{AsksLinksFor}
 use Rattle.conn_server.specs.Links.{AsksEachLink, LinksHear}
 use Rattle.conn_server.specs.Scene.{Scene, Stand, hand_at, with_share}
-use Rattle.conn_server.specs.declared.body.Body.TheVariants as bodies
-use Rattle.conn_server.specs.declared.decide.Decided.{Decided}
 use Rattle.conn_server.specs.declared.reason.Reason.TheVariants as reason
 use Rattle.conn_server.specs.declared.report.Asked.TheVariants as asked
 use Rattle.conn_server.proofs.LinksLemmas.{asks_each, links_none}
@@ -40,7 +38,7 @@ is_file Metrics other = absurd (other refl)
 module _ {T : Type 0} (scene : Scene T) (a b : Stand T) (route : Route) (other : route ≢ Metrics)
     (notes : OnlyNotes a.share b.share) where
   -- no link is asked
-  unasked : (answer : Local) (decided : Decided) (head : HeadFacts)
+  unasked : (answer : LocalFacts) (decided : DecidedFacts) (head : HeadFacts)
       → (given : AnswersRoute scene.true_row b.log scene.folders (hand_at scene a) route answer (scene.shows b.hand))
       → (LoadFailed decided.reason given.answers → IsFault answer) → b.links ≡ a.links
       → IsCase scene a a.share b.share b.log (readable head) decided.asked decided.reason decided.generation decided.body given.answers None
@@ -57,17 +55,17 @@ module _ {T : Type 0} (scene : Scene T) (a b : Stand T) (route : Route) (other :
   }
 
   -- what passed here is sent
-  found : (answer : Local) (n : ℕ) (head : HeadFacts)
+  found : (answer : LocalFacts) (n : ℕ) (head : HeadFacts)
       → (given : AnswersRoute scene.true_row b.log scene.folders (hand_at scene a) route answer (scene.shows b.hand))
-      → (decided : Decided) → decided ≡ for_route route reason.Local n (bodies.Found answer) → b.links ≡ a.links
-      → IsCase scene a a.share b.share b.log (readable head) (asked.Route route) reason.Local n (bodies.Found answer) given.answers None
+      → (decided : DecidedFacts) → decided ≡ for_route route reason.Local n (found_here answer) → b.links ≡ a.links
+      → IsCase scene a a.share b.share b.log (readable head) (asked.Route route) reason.Local n (found_here answer) given.answers None
       → Decides scene a (readable head) decided b
   found answer n head given decided is same case_ =
-      subst (λ (d : Decided). Decides scene a (readable head) d b) (sym is)
-      (unasked answer (for_route route reason.Local n (bodies.Found answer)) head given (λ f. absurd f) same case_)
+      subst (λ (d : DecidedFacts). Decides scene a (readable head) d b) (sym is)
+      (unasked answer (for_route route reason.Local n (found_here answer)) head given (λ f. absurd f) same case_)
 
   -- the links are asked, and this is told of them
-  asked_them : (answer : Local) (decided : Decided) (hops : ℕ) (head : HeadFacts)
+  asked_them : (answer : LocalFacts) (decided : DecidedFacts) (hops : ℕ) (head : HeadFacts)
       → (given : AnswersRoute scene.true_row b.log scene.folders (hand_at scene a) route answer (scene.shows b.hand))
       → (said : Upstream) → AsksLinks a.links route hops b.links said → head.hops ≡ hops → decided.asked ≡ asked.Route route
       → (LoadFailed decided.reason given.answers → IsFault answer)
@@ -89,95 +87,95 @@ module _ {T : Type 0} (scene : Scene T) (a b : Stand T) (route : Route) (other :
 
   -- of what was told, where no candidate passed and no load failed
   module _ (n hops : ℕ) (head : HeadFacts) (asks : AsksForRoute head route) (same_hops : head.hops ≡ hops)
-      (given : AnswersRoute scene.true_row b.log scene.folders (hand_at scene a) route (local.Nothing n) (scene.shows b.hand)) where
+      (given : AnswersRoute scene.true_row b.log scene.folders (hand_at scene a) route (nothing_found n) (scene.shows b.hand)) where
     none_failed : LoadFailed reason.Upstream given.answers → ⊥
     none_failed failed = false≢true (sym given.says.0.are.failed ∙ failed)
 
     behind_nothing : (said : Upstream) → AsksLinks a.links route hops b.links said
         → Decides scene a (readable head) (by_links route n false said) b
     behind_nothing (told.File file) links =
-        asked_them (local.Nothing n) (by_links route n false (told.File file)) hops head given (told.File file) links same_hops refl
-        none_failed (upstream head route (local.Nothing n) given.answers (passing.File file) refl asks (is_file route other) given.says tt)
+        asked_them (nothing_found n) (by_links route n false (told.File file)) hops head given (told.File file) links same_hops refl
+        none_failed (upstream head route (nothing_found n) given.answers (passing.File file) refl asks (is_file route other) given.says tt)
     behind_nothing (told.Section section) links =
-        asked_them (local.Nothing n) (by_links route n false (told.Section section)) hops head given (told.Section section) links
+        asked_them (nothing_found n) (by_links route n false (told.Section section)) hops head given (told.Section section) links
         same_hops refl none_failed
-        (upstream head route (local.Nothing n) given.answers (passing.Section section) refl asks (is_file route other) given.says tt)
+        (upstream head route (nothing_found n) given.answers (passing.Section section) refl asks (is_file route other) given.says tt)
     behind_nothing (told.Source bytes) links =
-        asked_them (local.Nothing n) (by_links route n false (told.Source bytes)) hops head given (told.Source bytes) links same_hops
+        asked_them (nothing_found n) (by_links route n false (told.Source bytes)) hops head given (told.Source bytes) links same_hops
         refl none_failed
-        (upstream head route (local.Nothing n) given.answers (passing.Source bytes) refl asks (is_file route other) given.says tt)
+        (upstream head route (nothing_found n) given.answers (passing.Source bytes) refl asks (is_file route other) given.says tt)
     behind_nothing told.HopLimit links =
-        asked_them (local.Nothing n) (by_links route n false told.HopLimit) hops head given told.HopLimit links same_hops refl
+        asked_them (nothing_found n) (by_links route n false told.HopLimit) hops head given told.HopLimit links same_hops refl
         (λ f. f) (hop_limit head route n given.answers refl asks (is_file route other) given.says)
     behind_nothing told.OutOfMemory links =
-        asked_them (local.Nothing n) (by_links route n false told.OutOfMemory) hops head given told.OutOfMemory links same_hops refl
-        (λ f. f) (links_memory head route (local.Nothing n) given.answers refl asks (is_file route other) given.says tt)
+        asked_them (nothing_found n) (by_links route n false told.OutOfMemory) hops head given told.OutOfMemory links same_hops refl
+        (λ f. f) (links_memory head route (nothing_found n) given.answers refl asks (is_file route other) given.says tt)
     behind_nothing (told.Nobody refused failed) links = by_count (failed == 0) refl
       where
         by_count : (is : Bool) → (failed == 0) ≡ is
             → Decides scene a (readable head)
-            (for_route route (if is then reason.NotFound else reason.UpstreamFault) n bodies.Line) b
+            (for_route route (if is then reason.NotFound else reason.UpstreamFault) n own_line) b
         by_count true e =
             let zero : failed ≡ 0 = grind (arith, nat_tests, e) in
-            asked_them (local.Nothing n) (for_route route reason.NotFound n bodies.Line) hops head given (told.Nobody refused failed)
+            asked_them (nothing_found n) (for_route route reason.NotFound n own_line) hops head given (told.Nobody refused failed)
             links same_hops refl (λ f. f)
-            (subst (λ (count : ℕ). IsCase scene a a.share b.share b.log (readable head) (asked.Route route) reason.NotFound n bodies.Line
+            (subst (λ (count : ℕ). IsCase scene a a.share b.share b.log (readable head) (asked.Route route) reason.NotFound n own_line
             given.answers (Some (told.Nobody refused count))) (sym zero)
             (not_found head route n given.answers refused refl asks (is_file route other) given.says))
         by_count false e =
             let some : 0 < failed = grind (arith, nat_tests, e) in
-            asked_them (local.Nothing n) (for_route route reason.UpstreamFault n bodies.Line) hops head given
+            asked_them (nothing_found n) (for_route route reason.UpstreamFault n own_line) hops head given
             (told.Nobody refused failed) links same_hops refl (λ f. f)
             (upstream_fault head route n given.answers refused failed refl asks (is_file route other) given.says some)
 
   -- and where a load failed
   module _ (n hops : ℕ) (head : HeadFacts) (asks : AsksForRoute head route) (same_hops : head.hops ≡ hops)
-      (given : AnswersRoute scene.true_row b.log scene.folders (hand_at scene a) route (local.Fault n) (scene.shows b.hand)) where
+      (given : AnswersRoute scene.true_row b.log scene.folders (hand_at scene a) route (fault_found n) (scene.shows b.hand)) where
     behind_fault : (said : Upstream) → AsksLinks a.links route hops b.links said
         → Decides scene a (readable head) (by_links route n true said) b
     behind_fault (told.File file) links =
-        asked_them (local.Fault n) (by_links route n true (told.File file)) hops head given (told.File file) links same_hops refl
-        (λ f. tt) (upstream head route (local.Fault n) given.answers (passing.File file) refl asks (is_file route other) given.says tt)
+        asked_them (fault_found n) (by_links route n true (told.File file)) hops head given (told.File file) links same_hops refl
+        (λ f. tt) (upstream head route (fault_found n) given.answers (passing.File file) refl asks (is_file route other) given.says tt)
     behind_fault (told.Section section) links =
-        asked_them (local.Fault n) (by_links route n true (told.Section section)) hops head given (told.Section section) links
+        asked_them (fault_found n) (by_links route n true (told.Section section)) hops head given (told.Section section) links
         same_hops refl (λ f. tt)
-        (upstream head route (local.Fault n) given.answers (passing.Section section) refl asks (is_file route other) given.says tt)
+        (upstream head route (fault_found n) given.answers (passing.Section section) refl asks (is_file route other) given.says tt)
     behind_fault (told.Source bytes) links =
-        asked_them (local.Fault n) (by_links route n true (told.Source bytes)) hops head given (told.Source bytes) links same_hops
+        asked_them (fault_found n) (by_links route n true (told.Source bytes)) hops head given (told.Source bytes) links same_hops
         refl (λ f. tt)
-        (upstream head route (local.Fault n) given.answers (passing.Source bytes) refl asks (is_file route other) given.says tt)
+        (upstream head route (fault_found n) given.answers (passing.Source bytes) refl asks (is_file route other) given.says tt)
     behind_fault told.HopLimit links =
-        asked_them (local.Fault n) (by_links route n true told.HopLimit) hops head given told.HopLimit links same_hops refl (λ f. tt)
+        asked_them (fault_found n) (by_links route n true told.HopLimit) hops head given told.HopLimit links same_hops refl (λ f. tt)
         (read_fault head route n given.answers told.HopLimit refl asks (is_file route other) given.says tt)
     behind_fault told.OutOfMemory links =
-        asked_them (local.Fault n) (by_links route n true told.OutOfMemory) hops head given told.OutOfMemory links same_hops refl
-        (λ f. tt) (links_memory head route (local.Fault n) given.answers refl asks (is_file route other) given.says tt)
+        asked_them (fault_found n) (by_links route n true told.OutOfMemory) hops head given told.OutOfMemory links same_hops refl
+        (λ f. tt) (links_memory head route (fault_found n) given.answers refl asks (is_file route other) given.says tt)
     behind_fault (told.Nobody refused failed) links =
-        asked_them (local.Fault n) (by_links route n true (told.Nobody refused failed)) hops head given (told.Nobody refused failed)
+        asked_them (fault_found n) (by_links route n true (told.Nobody refused failed)) hops head given (told.Nobody refused failed)
         links same_hops refl (λ f. tt)
         (read_fault head route n given.answers (told.Nobody refused failed) refl asks (is_file route other) given.says tt)
 
-  pub decides_local : (answer : Local) (hops : ℕ) (decided : Decided)
+  pub decides_local : (answer : LocalFacts) (hops : ℕ) (decided : DecidedFacts)
       → AnswersRoute scene.true_row b.log scene.folders (hand_at scene a) route answer (scene.shows b.hand)
       → FollowsLocal a.links route hops answer decided b.links → DecidesRoute scene a route hops decided b
-  decides_local (local.File from path n) hops decided given follows head asks same_hops =
-      found (local.File from path n) n head given decided follows.0 follows.1
-      (passed head route (local.File from path n) given.answers refl asks (is_file route other) given.says tt)
-  decides_local (local.Section from path n) hops decided given follows head asks same_hops =
-      found (local.Section from path n) n head given decided follows.0 follows.1
-      (passed head route (local.Section from path n) given.answers refl asks (is_file route other) given.says tt)
-  decides_local (local.Source bytes path n) hops decided given follows head asks same_hops =
-      found (local.Source bytes path n) n head given decided follows.0 follows.1
-      (passed head route (local.Source bytes path n) given.answers refl asks (is_file route other) given.says tt)
-  decides_local (local.Nothing n) hops decided given follows head asks same_hops =
-      subst (λ (d : Decided). Decides scene a (readable head) d b) (sym follows.by)
+  decides_local (file_found from name path n) hops decided given follows head asks same_hops =
+      found (file_found from name path n) n head given decided follows.0 follows.1
+      (passed head route (file_found from name path n) given.answers refl asks (is_file route other) given.says tt)
+  decides_local (section_found from path n) hops decided given follows head asks same_hops =
+      found (section_found from path n) n head given decided follows.0 follows.1
+      (passed head route (section_found from path n) given.answers refl asks (is_file route other) given.says tt)
+  decides_local (source_found bytes path n) hops decided given follows head asks same_hops =
+      found (source_found bytes path n) n head given decided follows.0 follows.1
+      (passed head route (source_found bytes path n) given.answers refl asks (is_file route other) given.says tt)
+  decides_local (nothing_found n) hops decided given follows head asks same_hops =
+      subst (λ (d : DecidedFacts). Decides scene a (readable head) d b) (sym follows.by)
       (behind_nothing n hops head asks same_hops given follows.told follows.asks)
-  decides_local (local.Fault n) hops decided given follows head asks same_hops =
-      subst (λ (d : Decided). Decides scene a (readable head) d b) (sym follows.by)
+  decides_local (fault_found n) hops decided given follows head asks same_hops =
+      subst (λ (d : DecidedFacts). Decides scene a (readable head) d b) (sym follows.by)
       (behind_fault n hops head asks same_hops given follows.told follows.asks)
-  decides_local local.OutOfMemory hops decided given follows head asks same_hops =
-      subst (λ (d : Decided). Decides scene a (readable head) d b) (sym follows.0)
-      (unasked local.OutOfMemory (plain (asked.Route route) reason.OutOfMemory) head given (λ f. absurd f) follows.1
+  decides_local no_memory_found hops decided given follows head asks same_hops =
+      subst (λ (d : DecidedFacts). Decides scene a (readable head) d b) (sym follows.0)
+      (unasked no_memory_found (plain (asked.Route route) reason.OutOfMemory) head given (λ f. absurd f) follows.1
       (no_memory head route given.answers refl asks (is_file route other)))
 
 -- by the page of the counters, for which neither the hand nor a link is asked

@@ -19,12 +19,13 @@ use Rattle.http_wire.specs.declared.door.DoorAnswer.TheVariants.{Came}
 use Rattle.http_wire.specs.declared.door.DoorSaid.TheVariants as said
 use Rattle.answer_core.specs.Loads.{Hears}
 use Rattle.answer_core.proofs.HearLemmas.{hears_none}
+use Rattle.answer_core.proofs.SinceLemmas.{StillTo}
 use Rattle.federation.specs.Heard.{LinkHeard}
 use Rattle.conn_server.specs.Connection.{AreExchanges, LogsGrow, Serves, is_last_request, links_heard}
 use Rattle.conn_server.specs.Tallied.{TalliesServed}
 use Rattle.conn_server.specs.Doors.{AreVisits, ServesDoor, ServesVisits, TakesNobody, TakesVisit, Visit, all_exchanges, another, nobody, said_at, visit_answers, visit_parts}
-use Rattle.conn_server.specs.Exchange.{Exchange}
-use Rattle.conn_server.specs.Links.{HeardFor, LinksFailed, LinksHear, all_parts, both_parts}
+use Rattle.conn_server.specs.Exchange.{Exchange, asked_for}
+use Rattle.conn_server.specs.Links.{HeardFor, LinksFailed, LinksHear, all_parts, both_parts, hand_heard}
 use Rattle.conn_server.specs.Replies.{says_read_fault, says_upstream_fault}
 use Rattle.conn_server.specs.Scene.{Scene, Stand, hand_at}
 use Rattle.conn_server.specs.declared.door.DoorEnd.{DoorEnd}
@@ -34,7 +35,6 @@ use Rattle.conn_server.specs.declared.report.Served.{Served}
 use Rattle.conn_server.proofs.CountLemmas.{notes_none, tallies_append, tallies_notes}
 use Rattle.conn_server.proofs.JoinLemmas.{exchange_at, hears_append}
 use Rattle.conn_server.proofs.LinksLemmas.{all_more, failed_then, links_none, links_then, same_links}
-use Rattle.conn_server.proofs.SinceLemmas.{StillTo}
 
 -- Lists that are told
 
@@ -149,10 +149,10 @@ visits_then scene a b c before mid after some next =
   where
     heard : Hears (hand_at scene b) (scene.shows c.hand) (visit_answers next.one) ⊥
     heard =
-        subst (λ (xs : List Exchange). Hears (hand_at scene b) (scene.shows c.hand) (flat_map (λ x. x.answers) xs ++ next.one.rest.answers) ⊥)
+        subst (λ (xs : List Exchange). Hears (hand_at scene b) (scene.shows c.hand) (flat_map asked_for xs ++ hand_heard next.one.rest) ⊥)
         (sym next.is.are)
         (subst (λ (rest : HeardFor). Hears (hand_at scene b) (scene.shows c.hand)
-        (flat_map (λ x. x.answers) next.is.serves.2.xs ++ rest.answers) ⊥) (sym next.is.left) next.is.serves.2.flat.hears)
+        (flat_map asked_for next.is.serves.2.xs ++ hand_heard rest) ⊥) (sym next.is.left) next.is.serves.2.flat.hears)
 
     asked : LinksHear b.links (visit_parts next.one) c.links
     asked =

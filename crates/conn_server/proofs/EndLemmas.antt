@@ -183,7 +183,8 @@ module _ {T : Type 0} (scene : Scene T) (a : Stand T) (v : Wire) (told : List Se
           let start = (flat_row base.xs b w base.row).moves.write_faults in
           let risen = cause.1 in
           (base.goes, cause.0, omega (arith, start, risen))
-      by_why u rest part end.OutOfMemory cause = (base.goes, cause.0, inr cause.1)
+      by_why u rest part (end.BodyFault why) cause = (base.goes, cause)
+      by_why u rest part end.OutOfMemory cause = (base.goes, cause.0, cause.1, inr cause.2)
       by_why u rest part end.Refused cause = absurd cause
       by_why u rest part end.Limit cause = absurd cause
 
@@ -206,7 +207,7 @@ ends_at_once {T} scene a before report nothing is = (
     tallies = subst (λ (told : List Served). TalliesServed told a.share a.share) (sym nothing)
         (tallies_notes a.share a.share (notes_none a.share));
     ends = subst (λ (why : ConnEnd). EndsConnection scene a (fresh_wire before) why [] a unheard [] a (fresh_wire before)) (sym is)
-        (tt, refl, inl (record { none = refl; stands = refl; stays = refl }));
+        (tt, refl, refl, inl (record { none = refl; stands = refl; stays = refl }));
   },
 )
 

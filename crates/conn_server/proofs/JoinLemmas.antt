@@ -1,6 +1,6 @@
 -- What follows of a row, object by object.
-use Rattle.std.proofs.Common.{◌≡◌, ℕ, ◌+◌, ◌<◌, ◌≤◌, Bool, true, false, List, [], ◌∷◌, ◌++◌, map, length, Option, Some, None}
-use Rattle.std.proofs.Common.{IsTrue, inr, refl, sym, ◌∙◌, ap, subst, append_assoc, append-nil, arith, cond}
+use Rattle.std.proofs.Common.{◌≡◌, ℕ, ◌+◌, ◌≤◌, Bool, true, false, List, [], ◌∷◌, ◌++◌, map, length, Option, Some, None}
+use Rattle.std.proofs.Common.{inl, inr, refl, sym, ◌∙◌, ap, subst, append_assoc, append-nil, arith, cond}
 use Rattle.std.proofs.lemmas.Bool.{false≢true}
 use Rattle.std.proofs.lemmas.Grind.{flat_map-append}
 use Rattle.std.proofs.lemmas.List.{map-append}
@@ -11,20 +11,21 @@ use mathlib.Core.List.{IsPrefix}
 use Rattle.row_types.specs.Faults.{HasCause, summed}
 use Rattle.index_lock.proofs.Prefixes.{prefix_self, prefix_trans}
 use Rattle.index_rows.specs.declared.change.Change.{Change}
-use Rattle.tree_trait.specs.Heard.{Heard, with_answers}
-use Rattle.tree_trait.specs.Shown.{IsPresence, ShownTree}
+use Rattle.tree_trait.specs.Heard.{Heard}
+use Rattle.tree_trait.specs.Shown.{ShownTree}
 use Rattle.http_wire.specs.Sink.{Appends}
 use Rattle.http_wire.specs.Source.{ComesFrom}
 use Rattle.answer_core.specs.Loads.{Hand, Hears}
-use Rattle.answer_core.proofs.HearLemmas.{heard_both, hears_none}
+use Rattle.answer_core.proofs.HearLemmas.{hears_none, hears_then}
+use Rattle.answer_core.proofs.SinceLemmas.{StillTo, since}
 use Rattle.federation.specs.AskAll.{all_heard}
 use Rattle.federation.specs.Heard.{LinkHeard, link_failed}
 use Rattle.federation.specs.Link.{ShownLink}
 use Rattle.conn_server.specs.Connection.{AreExchanges, GoOn, IsRow, LogsGrow, ExchangesRow, none, more, is_last_request, links_heard}
-use Rattle.conn_server.specs.Exchange.{Exchange, IsExchange, LeadsByExchange, LeavesUnanswered, LoadFailed, Moves}
+use Rattle.conn_server.specs.Exchange.{Exchange, IsExchange, LeadsByExchange, LeavesUnanswered, LoadFailed, Moves, asked_for}
 use Rattle.conn_server.specs.Asked.{closes_after}
 use Rattle.conn_server.specs.Lawful.{AsksLinksFor}
-use Rattle.conn_server.specs.Links.{HeardFor, LinksFailed, LinksHear, all_parts, both_parts, unheard}
+use Rattle.conn_server.specs.Links.{HeardFor, LinksFailed, LinksHear, all_parts, both_parts, hand_heard, unheard}
 use Rattle.conn_server.specs.Replies.{says_read_fault, says_upstream_fault}
 use Rattle.conn_server.specs.Scene.{Scene, Stand, Wire, hand_at}
 use Rattle.conn_server.specs.declared.reason.Reason.{Reason}
@@ -32,7 +33,6 @@ use Rattle.conn_server.specs.declared.reason.Reason.TheVariants as reason
 use Rattle.conn_server.proofs.CaseLemmas.{a_link_failed, case_at, finds_all}
 use Rattle.conn_server.proofs.CountLemmas.{notes_none}
 use Rattle.conn_server.proofs.LinksLemmas.{all_more, both_none, counts_rose, failed_later, failed_then, links_none, links_then, same_links}
-use Rattle.conn_server.proofs.SinceLemmas.{StillTo, since}
 
 -- Places and logs
 
@@ -72,30 +72,10 @@ logs_more first log (y ∷ xs) x g p = (g.0, logs_more y.log log xs x g.1 p)
 
 -- The hand
 
+-- some was heard, and then more; the reason for a fault is that of the first
 pub hears_append : (hand : Hand) (now later : ShownTree) (a b : List Heard) {F G : Type 0} → Hears hand now a F
-    → Hears (since hand now) later b G → Hears hand later (a ++ b) ⊥
-hears_append hand now later a b first second = record {
-  heard = second.heard
-      ∙ (ap (λ (told : Option (List Heard)). with_answers told b) first.heard ∙ heard_both hand.start.heard a b);
-  hands = record {
-    cause =
-        let one = first.hands.cause.later in
-        let two = second.hands.cause.later in
-        record { later = omega (arith, one, two); rose = λ f. absurd f };
-    known = λ told asked. known b second.hands.known told asked;
-    keeps = λ told is. second.hands.keeps told (first.hands.keeps told is);
-    still = λ still.
-        let one = first.hands.still still in
-        let two = second.hands.still one.still in
-        record { still = two.still; same = two.same ∙ one.same };
-  };
-}
-  where
-    known : (es : List Heard) → (IsTrue hand.told → 0 < length es → IsPresence hand.version later) → IsTrue hand.told
-        → 0 < length (a ++ es) → IsPresence hand.version later
-    known [] two told asked =
-        second.hands.keeps told (first.hands.known told (subst (λ (es : List Heard). 0 < length es) (append-nil a) asked))
-    known (y ∷ ys) two told asked = two told (omega arith)
+    → Hears (since hand now) later b G → Hears hand later (a ++ b) F
+hears_append hand now later a b first second = hears_then first second (λ f. inl f)
 
 is_fault_of : (why : Reason) (answers : List Heard) → says_read_fault why ≡ true → LoadFailed why answers
 is_fault_of reason.ReadFault answers e = tt
@@ -228,6 +208,7 @@ exchange_at scene last a b x keeps same is =
         is = case_;
         asks = subst (λ (links : ℕ). AsksLinksFor is.lawful.told links x.request x.served.asked x.links) same is.lawful.asks;
         replied = is.lawful.replied;
+        content = is.lawful.content;
       };
       complete = finds_all scene a x.own x.noted x.log x.request case_;
       fronts = is.fronts;
@@ -260,9 +241,9 @@ flat_more {T} {scene} {a} {b} {c} {v} {w} {u} {xs} x row is leads moves = record
   logs = subst (λ (log : List Change). LogsGrow a.log (xs ++ x ∷ []) log) leads.seen
       (logs_more a.log b.log xs x row.logs (subst (λ (log : List Change). IsPrefix b.log log) (sym leads.seen) leads.log));
   hears = subst (λ (es : List Heard). Hears (hand_at scene a) (scene.shows c.hand) es ⊥)
-      (ap (λ (l : List Heard). l ++ x.answers) (append-nil (flat_map (λ y. y.answers) xs))
-      ∙ (sym (flat_one (λ y. y.answers) xs x) ∙ sym (append-nil (flat_map (λ y. y.answers) (xs ++ x ∷ [])))))
-      (hears_append (hand_at scene a) (scene.shows b.hand) (scene.shows c.hand) (flat_map (λ y. y.answers) xs ++ []) x.answers
+      (ap (λ (l : List Heard). l ++ asked_for x) (append-nil (flat_map asked_for xs))
+      ∙ (sym (flat_one asked_for xs x) ∙ sym (append-nil (flat_map asked_for (xs ++ x ∷ [])))))
+      (hears_append (hand_at scene a) (scene.shows b.hand) (scene.shows c.hand) (flat_map asked_for xs ++ []) (asked_for x)
       row.hears leads.hand);
   asks = subst (λ (parts : List (List LinkHeard)). LinksHear a.links parts c.links)
       (ap (λ (parts : List (List LinkHeard)). both_parts parts x.links) (both_none (links_heard xs))
@@ -291,8 +272,8 @@ flat_leaves {T} {scene} {a} {b} {c} {v} {w} {u} {xs} {rest} {part} row leaves = 
   are = row.are;
   logs = logs_later a.log b.log c.log xs row.logs leaves.log;
   hears = subst (λ (es : List Heard). Hears (hand_at scene a) (scene.shows c.hand) es ⊥)
-      (ap (λ (l : List Heard). l ++ rest.answers) (append-nil (flat_map (λ y. y.answers) xs)))
-      (hears_append (hand_at scene a) (scene.shows b.hand) (scene.shows c.hand) (flat_map (λ y. y.answers) xs ++ []) rest.answers
+      (ap (λ (l : List Heard). l ++ hand_heard rest) (append-nil (flat_map asked_for xs)))
+      (hears_append (hand_at scene a) (scene.shows b.hand) (scene.shows c.hand) (flat_map asked_for xs ++ []) (hand_heard rest)
       row.hears leaves.hand);
   asks = subst (λ (parts : List (List LinkHeard)). LinksHear a.links parts c.links)
       (ap (λ (parts : List (List LinkHeard)). both_parts parts rest.links) (both_none (links_heard xs)))

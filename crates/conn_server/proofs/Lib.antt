@@ -6,6 +6,8 @@ pub mod DoorLemmas
 mod EndLemmas
 pub mod JoinLemmas
 pub mod LinksLemmas
+mod PiecesLemmas
+mod PlanLemmas
 mod SentLemmas
 pub mod SinceLemmas
 mod TurnLemmas

@@ -1,15 +1,15 @@
 -- What came of a request, as one exchange, or as what is left without one.
 use Rattle.std.proofs.Common.{◌≡◌, ℕ, ◌≤◌, Bool, true, false, List, [], ◌++◌, length, Option, None, MatchBool, IsTrue, take}
-use Rattle.std.proofs.Common.{refl, sym, ◌∙◌, ap, subst, arith}
-use Rattle.std.proofs.lemmas.Bool.{false≢true}
+use Rattle.std.proofs.Common.{Result, Ok, Err, refl, sym, ◌∙◌, ap, subst, arith}
 use mathlib.Core.List.{IsPrefix}
 use Rattle.httparse.specs.Grammar.{RequestHead, print_request}
 use Rattle.row_types.specs.Faults.{HasCause}
 use Rattle.index_rows.specs.declared.change.Change.{Change}
+use Rattle.tree_trait.specs.Heard.{Heard}
+use Rattle.tree_trait.specs.Shown.{ShownTree}
 use Rattle.http_wire.specs.Heads.{RefusesAsHead, TellsHead}
 use Rattle.http_wire.specs.Reader.{AnswersNext, head_failed}
 use Rattle.http_wire.specs.ReaderFacts.{ReaderFacts}
-use Rattle.http_wire.specs.ReplyFault.{FailsReply}
 use Rattle.http_wire.specs.Sink.{Appends, GetsAll}
 use Rattle.http_wire.specs.Source.{ComesFrom, HasEnded}
 use Rattle.http_wire.specs.Stream.{LeavesWriting, ShownStream}
@@ -18,41 +18,45 @@ use Rattle.http_wire.specs.declared.head.HeadAnswer.{HeadAnswer}
 use Rattle.http_wire.specs.declared.head.HeadAnswer.TheVariants as answer
 use Rattle.http_wire.specs.declared.head.HeadFault.{HeadFault}
 use Rattle.http_wire.specs.declared.head.HeadFault.TheVariants as head_fault
-use Rattle.http_wire.specs.declared.reply.ReplyFault.{ReplyFault}
 use Rattle.http_wire.specs.declared.reply.ReplyFault.TheVariants as reply_fault
-use Rattle.answer_core.specs.Loads.{Hears}
+use Rattle.answer_core.specs.Loads.{Hand, Hears}
+use Rattle.answer_core.specs.Local.{file_found, section_found, source_found, nothing_found, fault_found, no_memory_found}
 use Rattle.answer_core.proofs.HearLemmas.{hears_as, hears_none}
+use Rattle.answer_core.proofs.SinceLemmas.{since}
 use Rattle.dbgd_metrics.specs.Shares.{ShareFacts}
 use Rattle.dbgd_metrics.specs.Totals.{OnlyNotes}
+use Rattle.federation.specs.Heard.{LinkHeard}
 use Rattle.federation.specs.declared.asking.Upstream.{Upstream}
 use Rattle.conn_server.specs.Asked.{HeadFacts, Request, closes_after, head_facts, readable, refused, sends_body, told_facts}
+use Rattle.conn_server.specs.Bodies.{BodyFacts, DecidedFacts, counters_page, found_here, found_upstream, own_line}
 use Rattle.conn_server.specs.Cases.{IsCase, bad_head, too_long, too_many}
-use Rattle.conn_server.specs.Tallied.{CountsRequest, CountsServed}
+use Rattle.conn_server.specs.Tallied.{CountsServed}
 use Rattle.conn_server.specs.Decided.{plain}
-use Rattle.conn_server.specs.Exchange.{Exchange, IsExchange, IsFrontOf, IsWhy, LoadFailed, Moves, heard_for}
+use Rattle.conn_server.specs.Exchange.{Exchange, IsExchange, IsFrontOf, IsReplyDue, IsWhy, LeavesUnanswered, LoadFailed, Moves}
 use Rattle.conn_server.specs.Lawful.{AsksLinksFor}
 use Rattle.conn_server.specs.Links.{HeardFor, LinksHear, unheard}
-use Rattle.conn_server.specs.Replies.{Shows, bytes_of}
-use Rattle.conn_server.specs.Scene.{Scene, Stand, Wire, hand_at, wire_of, with_share}
-use Rattle.conn_server.specs.Sent.{sent_len, served_as}
-use Rattle.conn_server.specs.Turns.{ClosesConnection, CountsAlone, CountsAnswered, EndsBehind, Exchanges, Replies, StopsFor, StopsOn, TakesWhatCame, TakesNextRequest, Turns, Writing, end_after, end_by_fault}
-use Rattle.conn_server.specs.declared.body.Body.TheVariants as bodies
-use Rattle.conn_server.specs.declared.decide.Decided.{Decided}
+use Rattle.conn_server.specs.Plans.{CarriesOut, EndsSo, TurnPlan, Plans, PlansNext, RepliesSo, ends_so, replies_so}
+use Rattle.conn_server.specs.Replies.{bytes_of}
+use Rattle.conn_server.specs.Scene.{Scene, Stand, Wire, hand_at, stand_of, wire_of}
+use Rattle.conn_server.specs.Sent.{CountsSent, Delivers, LeavesCarried, Sends, sent_len, served_as, told_as}
+use Rattle.conn_server.specs.Turns.{ClosesOn, EndsBehind, Exchanges, StopsFor, StopsOn, Turns, end_by_fault, end_of_head, turn_by}
 use Rattle.conn_server.specs.declared.reason.Reason.{Reason}
 use Rattle.conn_server.specs.declared.reason.Reason.TheVariants as reason
 use Rattle.conn_server.specs.declared.report.Asked.TheVariants as asked
+use Rattle.conn_server.specs.declared.report.BodyCause.{BodyCause}
 use Rattle.conn_server.specs.declared.report.ConnEnd.{ConnEnd}
 use Rattle.conn_server.specs.declared.report.ConnEnd.TheVariants as end
+use Rattle.conn_server.specs.declared.send_fault.SendFault.{SendFault}
+use Rattle.conn_server.specs.declared.send_fault.SendFault.TheVariants as sending
 use Rattle.conn_server.specs.declared.turn.Turn.{Turn}
-use Rattle.conn_server.specs.declared.turn.Turn.TheVariants as turn
-use Rattle.conn_server.specs.declared.report.Served.{Served}
 use Rattle.conn_server.proofs.CaseLemmas.{carries, finds_all}
 use Rattle.conn_server.proofs.CountLemmas.{notes_none}
-use Rattle.conn_server.proofs.JoinLemmas.{appends_none}
+use Rattle.conn_server.proofs.JoinLemmas.{appends_none, hears_append}
 use Rattle.conn_server.proofs.LinksLemmas.{links_none}
+use Rattle.conn_server.proofs.PiecesLemmas.{cause_since}
 
 -- the exchange of a request that was decided so
-abbrev pub exchange_of : Request → List ℕ → Decided → List ℕ → Option (List ℕ) → Bool → HeardFor → List Change → ShareFacts
+abbrev pub exchange_of : Request → List ℕ → DecidedFacts → List ℕ → Option (List ℕ) → Bool → HeardFor → List Change → ShareFacts
     → ShareFacts → Exchange
 exchange_of request front decided body file last heard log own noted = record {
   request = request;
@@ -60,37 +64,35 @@ exchange_of request front decided body file last heard log own noted = record {
   served = served_as decided (sent_len (sends_body request) body);
   bytes = bytes_of decided.reason body file (closes_after request last) (sends_body request);
   answers = heard.answers;
+  sent = heard.sent;
   links = heard.links;
   log = log;
   own = own;
   noted = noted;
 }
 
-exchange_is : {T : Type 0} (scene : Scene T) (a : Stand T) (noted : ShareFacts) (log : List Change) (request : Request) (front : List ℕ)
-    (decided : Decided) (body : List ℕ) (file : Option (List ℕ)) (last : Bool) (heard : HeardFor) (told : Option Upstream)
-    → IsCase scene a a.share noted log request decided.asked decided.reason decided.generation decided.body heard.answers told
-    → AsksLinksFor told (length a.links) request decided.asked heard.links
-    → Shows decided.reason decided.body body file → IsFrontOf request front
-    → IsExchange scene last a (exchange_of request front decided body file last heard log a.share noted)
-exchange_is scene a noted log request front decided body file last heard told case_ asks shows fronts = record {
-  lawful = record {
-    carried = decided.body;
-    told = told;
-    is = case_;
-    asks = asks;
-    replied = record {
-      body = body;
-      file = file;
-      shows = shows;
-      carries = carries scene a a.share noted log request (length a.links) heard.links body file case_ asks shows;
-      status = refl;
-      len = refl;
-      spelled = refl;
-    };
-  };
-  complete = finds_all scene a a.share noted log request case_;
-  fronts = fronts;
+-- what stopped a file since a later moment stopped it since an earlier one
+carried_since : (hand : Hand) (between now : ShownTree) → hand.start.faults ≤ between.faults → (carried : BodyFacts)
+    (sent heard : List Heard) (at : ℕ) (why : BodyCause) → LeavesCarried (since hand between) carried sent heard at now why
+    → LeavesCarried hand carried sent heard at now why
+carried_since hand between now earlier (found_here (file_found from name path n)) sent heard at why l = record {
+  whole = l.whole;
+  answer = l.answer;
+  heard_is = l.heard_is;
+  goes_on = l.goes_on;
+  place = l.place;
+  below = l.below;
+  asked = l.asked;
+  is = cause_since hand between now from.picture at earlier l.answer why l.is;
 }
+carried_since hand between now earlier (found_here (section_found from path n)) sent heard at why l = absurd l
+carried_since hand between now earlier (found_here (source_found bytes path n)) sent heard at why l = absurd l
+carried_since hand between now earlier (found_here (nothing_found n)) sent heard at why l = absurd l
+carried_since hand between now earlier (found_here (fault_found n)) sent heard at why l = absurd l
+carried_since hand between now earlier (found_here no_memory_found) sent heard at why l = absurd l
+carried_since hand between now earlier own_line sent heard at why l = absurd l
+carried_since hand between now earlier (found_upstream given) sent heard at why l = absurd l
+carried_since hand between now earlier (counters_page text) sent heard at why l = absurd l
 
 -- what is told of a head is what it says
 facts_are : (head : Head) (h : RequestHead) → TellsHead head h → told_facts head ≡ head_facts h
@@ -127,8 +129,10 @@ module _ {T : Type 0} (scene : Scene T) (last : Bool) (a b : Stand T) (v : Wire)
   abbrev held_of : ShownStream → Wire
   held_of stream = record { stream = stream; held = v.held ++ came; over = true }
 
-  quiet : (why : ConnEnd) → b ≡ a → StopsFor scene last a v unheard [] b (held_of mid) why → StopsOn scene last a v why b mid
-  quiet why keeps cause = (
+  -- nothing was asked and written
+  quiet : (why : ConnEnd) → Hears (hand_at scene a) (scene.shows b.hand) [] ⊥ → LinksHear a.links [] b.links
+      → OnlyNotes a.share b.share → StopsFor scene last a v unheard [] b (held_of mid) why → StopsOn scene last a v why b mid
+  quiet why hears links notes cause = (
     held_of mid,
     refl,
     record {
@@ -136,244 +140,316 @@ module _ {T : Type 0} (scene : Scene T) (last : Bool) (a b : Stand T) (v : Wire)
       part = [];
       leaves = record {
         log = grows;
-        hand = subst (λ (s : Stand T). Hears (hand_at scene a) (scene.shows s.hand) [] ⊥) (sym keeps) (hears_none (hand_at scene a));
-        links = subst (λ (s : Stand T). LinksHear a.links [] s.links) (sym keeps) (links_none a.links);
-        share = subst (λ (s : Stand T). OnlyNotes a.share s.share) (sym keeps) (notes_none a.share);
+        hand = hears;
+        links = links;
+        share = notes;
         moves = moves_of came mid comes refl later apart refl refl (omega arith) (appends_none mid.written);
       };
       cause = cause;
     },
   )
 
-  -- the reply to a request wasn't written, or not whole
-  broken : (x : Exchange) (behind : List ℕ) {Fails : Type 0} → IsExchange scene last a x → x.log ≡ b.log → x.own ≡ a.share
-      → x.noted ≡ b.share → OnlyNotes a.share b.share
-      → Hears (hand_at scene a) (scene.shows b.hand) x.answers Fails → LinksHear a.links x.links b.links
-      → v.held ++ came ≡ x.front ++ behind
-      → IsWhy x.request (v.held ++ came) mid.left → (fault : ReplyFault) (after : ShownStream)
-      → FailsReply fault x.bytes mid after → StopsOn scene last a v (end_by_fault fault) b after
-  broken x behind {Fails} is logged own noted notes hears links cut why reply_fault.OutOfMemory after same =
-      subst (λ (s : ShownStream). StopsOn scene last a v end.OutOfMemory b s) (sym same) (
-        held_of mid,
-        refl,
-        record {
-          rest = heard_for x;
-          part = [];
-          leaves = record {
-            log = grows;
-            hand = hears_as (λ f. absurd f) hears;
-            links = links;
-            share = notes;
-            moves = moves_of came mid comes refl later apart refl refl (omega arith) (appends_none mid.written);
-          };
-          cause = (
-            refl,
-            record { one = x; is = is; heard = refl; logged = logged; own = own; noted = noted; behind = behind; held_is = cut; why = why },
-          );
-        },
-      )
-  broken x behind {Fails} is logged own noted notes hears links cut why reply_fault.WriteFault after gets = (
-    held_of after,
-    refl,
-    record {
-      rest = heard_for x;
-      part = take gets.count x.bytes;
-      leaves = record {
-        log = grows;
-        hand = hears_as (λ f. absurd f) hears;
-        links = links;
-        share = notes;
-        moves = moves_of came mid comes refl later apart gets.reading.left gets.reading.read_faults gets.later gets.appends;
+  -- a request that was decided so, by what the hand and the links were asked first; and what came of its reply
+  module _ (request : Request) (front : List ℕ) (decided : DecidedFacts) (told : Option Upstream) (answers : List Heard)
+      (parts : List (List LinkHeard)) (noted : ShareFacts) (between : ShownTree) (after : ShownStream) (result : Result ℕ SendFault)
+      (s : Sends (since (hand_at scene a) between) decided.reason decided.body (closes_after request last) (sends_body request) mid
+      (scene.shows b.hand) after result)
+      (case_ : IsCase scene a a.share noted b.log request decided.asked decided.reason decided.generation decided.body answers told)
+      (asks : AsksLinksFor told (length a.links) request decided.asked parts) (fronts : IsFrontOf request front)
+      (first : Hears (hand_at scene a) between answers (LoadFailed decided.reason answers))
+      (links : LinksHear a.links parts b.links) (notes : OnlyNotes a.share noted) where
+    -- the lawful exchange
+    abbrev one : Exchange
+    one = exchange_of request front decided s.body s.file last (record { answers = answers; sent = s.sent; links = parts }) b.log
+        a.share noted
+
+    abbrev one_is : IsExchange scene last a one
+    one_is = record {
+      lawful = record {
+        carried = decided.body;
+        told = told;
+        is = case_;
+        asks = asks;
+        replied = record {
+          body = s.body;
+          file = s.file;
+          shows = s.shows;
+          reads = s.reads;
+          carries = carries scene a a.share noted b.log request (length a.links) parts s.body s.file case_ asks s.shows;
+          status = refl;
+          len = refl;
+          spelled = refl;
+        };
+        content = s.content;
       };
-      cause = (
-        record {
-          due = record {
-            one = x;
-            is = is;
-            heard = refl;
-            logged = logged;
-            own = own;
-            noted = noted;
-            behind = behind;
-            held_is = cut;
-            why = subst (λ (left : Option (List ℕ)). IsWhy x.request (v.held ++ came) left) (sym gets.reading.left) why;
-          };
-          count = gets.count;
-          proper = gets.proper;
-          part_is = refl;
-        },
-        let wrote = apart.write_faults in
-            let risen = gets.rose in
-            omega (arith, wrote, risen),
-      );
-    },
-  )
+      complete = finds_all scene a a.share noted b.log request case_;
+      fronts = fronts;
+    }
 
-  -- a request was answered whole
-  abbrev whole : (x : Exchange) (w : Wire) (closes : Bool) → IsExchange scene last a x → x.log ≡ b.log → x.own ≡ a.share
-      → CountsRequest x.served a.share x.noted b.share
-      → Hears (hand_at scene a) (scene.shows b.hand) x.answers (LoadFailed x.served.reason x.answers)
-      → LinksHear a.links x.links b.links → v.held ++ came ≡ x.front ++ w.held → GetsAll x.bytes mid w.stream → closes_after x.request last ≡ closes
-      → Exchanges scene last a v x.served closes b w
-  whole x w closes is logged own counts hears links cut gets ends = record {
-    x = x;
-    told = refl;
-    is = is;
-    leads = record { log = grows; seen = logged; hand = hears; links = links; own = own; share = counts };
-    moves = moves_of came mid comes cut later apart gets.reading.left gets.reading.read_faults gets.later gets.appends;
-    ends = ends;
-  }
+    -- what the hand heard in all
+    heard_all : (heard : List Heard) → s.heard ≡ heard
+        → Hears (hand_at scene a) (scene.shows b.hand) (answers ++ heard) (LoadFailed decided.reason answers)
+    heard_all heard same =
+        subst (λ (es : List Heard). Hears (hand_at scene a) (scene.shows b.hand) (answers ++ es) (LoadFailed decided.reason answers)) same
+        (hears_append (hand_at scene a) between (scene.shows b.hand) answers s.heard first s.hears)
 
-  -- the request of an exchange is counted, by what is told of it
-  counted_as : (x : Exchange) (served : Served) → OnlyNotes a.share x.noted → x.served ≡ served
-      → CountsServed served x.noted b.share → CountsRequest x.served a.share x.noted b.share
-  counted_as x served notes told counts = record {
-    notes = notes;
-    counts = subst (λ (s : Served). CountsServed s x.noted b.share) (sym told) counts;
-  }
+    -- what was asked for it, where its reply isn't whole
+    abbrev rest_of : HeardFor
+    rest_of = record { answers = answers; sent = s.heard; links = parts }
 
-  -- the share that was decided with, where nothing was counted
-  noted_as : (noted : ShareFacts) → OnlyNotes a.share noted → b.share ≡ noted → OnlyNotes a.share b.share
-  noted_as noted notes same = subst (λ (s : ShareFacts). OnlyNotes a.share s) (sym same) notes
+    -- what is left then
+    leaves_of : (w : Wire) (part : List ℕ) → Moves [] part v w → b.share ≡ noted → LeavesUnanswered scene rest_of part a v b w
+    leaves_of w part moves same = record {
+      log = grows;
+      hand = hears_as (λ f. absurd f) (heard_all s.heard refl);
+      links = links;
+      share = subst (λ (share : ShareFacts). OnlyNotes a.share share) (sym same) notes;
+      moves = moves;
+    }
 
-  -- the reply to a head, by what came of writing it
-  head_written : (reader_after : ReaderFacts) (x : Exchange) (head : HeadFacts) → x.request ≡ readable head
-      → IsExchange scene last a x → x.log ≡ b.log → x.own ≡ a.share → OnlyNotes a.share x.noted
-      → Hears (hand_at scene a) (scene.shows b.hand) x.answers (LoadFailed x.served.reason x.answers)
-      → LinksHear a.links x.links b.links → v.held ++ came ≡ x.front ++ reader_after.held → reader_after.over ≡ false → (decided : Decided) (len : ℕ)
-      → x.served ≡ served_as decided len → (what : Turn) (after : ShownStream)
-      → Writing decided x.request last x.bytes len mid what after → CountsAnswered what x.noted b.share
-      → Turns scene last a v what b (wire_of after reader_after)
-  head_written reader_after x head asks is logged own notes hears links cut open_ decided len told (turn.Replied served) after writes counts = record {
-    one = subst (λ s. Exchanges scene last a v s false b (wire_of after reader_after)) (told ∙ sym writes.2)
-        (whole x (wire_of after reader_after) false is logged own (counted_as x served notes (told ∙ sym writes.2) counts) hears links cut
-        writes.1 writes.0);
-    open_ = open_;
-  }
-  head_written reader_after x head asks is logged own notes hears links cut open_ decided len told (turn.Last served why) after writes counts =
-      subst (λ s. (w : Wire) × (w.stream ≡ after) × ClosesConnection scene last a v s why b w) (told ∙ sym writes.2) (
-        wire_of after reader_after,
-        refl,
-        record {
-          one = whole x (wire_of after reader_after) true is logged own (counted_as x served notes (told ∙ sym writes.2) counts) hears
-              links cut writes.1 writes.0;
-          cause = ends_behind x.request asks writes.3;
-        },
-      )
-    where
-      ends_behind : (r : Request) → r ≡ readable head → why ≡ end_after r last → EndsBehind last r (wire_of after reader_after) why
-      ends_behind (readable facts) e is_why = is_why
-      ends_behind (refused fault) e is_why = absurd (cc)
-  head_written reader_after x head asks is logged own notes hears links cut open_ decided len told (turn.Ended why) after writes counts =
-      subst (λ (e : ConnEnd). StopsOn scene last a v e b after) (sym writes.2)
-      (broken x reader_after.held is logged own (sym counts) (noted_as x.noted notes counts) hears links cut (rw asks tt) writes.0 after
-      writes.1)
+    -- the reply is due
+    abbrev due_of : (w : Wire) (behind : List ℕ) → w.held ≡ front ++ behind → IsWhy request w.held w.stream.left → b.share ≡ noted
+        → IsReplyDue scene last a rest_of b.log b.share w
+    due_of w behind cut why same = record {
+      one = one;
+      is = one_is;
+      answers = refl;
+      links = refl;
+      logged = refl;
+      own = refl;
+      noted = sym same;
+      behind = behind;
+      held_is = cut;
+      why = why;
+    }
 
-  -- the reply to bytes that are no head, by what came of writing it
-  refused_written : (reader_after : ReaderFacts) (fault : HeadFault) (said : Reason) → (LoadFailed said [] → ⊥)
-      → IsCase scene a a.share a.share b.log (refused fault) (asked.Head fault) said 0 bodies.Line [] None
-      → RefusesAsHead fault (v.held ++ came) mid.left → CountsAlone a b → (what : Turn) (after : ShownStream)
-      → Replies (plain (asked.Head fault) said) (refused fault) true mid what after → CountsAnswered what a.share b.share
-      → Turns scene last a v what b (wire_of after reader_after)
-  refused_written reader_after fault said sound case_ refuses keeps what after r counts = by_turn what r.ends counts
-    where
-      x : Exchange
-      x = exchange_of (refused fault) [] (plain (asked.Head fault) said) r.body r.file last unheard b.log a.share a.share
+    -- it wasn't written, or not whole
+    broken : (behind : List ℕ) → v.held ++ came ≡ front ++ behind → IsWhy request (v.held ++ came) mid.left → b.share ≡ noted
+        → (fault : SendFault)
+        → Delivers (since (hand_at scene a) between) decided.body (sends_body request) one.bytes s.body s.sent s.heard mid
+        (scene.shows b.hand) after (Err fault) → StopsOn scene last a v (end_by_fault fault) b after
+    broken behind cut why same (sending.Reply reply_fault.OutOfMemory) d =
+        subst (λ (stream : ShownStream). StopsOn scene last a v end.OutOfMemory b stream) (sym d.1) (
+          held_of mid,
+          refl,
+          record {
+            rest = rest_of;
+            part = [];
+            leaves = leaves_of (held_of mid) []
+                (moves_of came mid comes refl later apart refl refl (omega arith) (appends_none mid.written)) same;
+            cause = (refl, d.0, due_of (held_of mid) behind cut why same);
+          },
+        )
+    broken behind cut why same (sending.Reply reply_fault.WriteFault) d =
+        let gets = d.1 in
+        let still : IsWhy request (v.held ++ came) after.left =
+        subst (λ (left : Option (List ℕ)). IsWhy request (v.held ++ came) left) (sym gets.reading.left) why in (
+          held_of after,
+          refl,
+          record {
+            rest = rest_of;
+            part = take gets.count one.bytes;
+            leaves = leaves_of (held_of after) (take gets.count one.bytes)
+                (moves_of came mid comes refl later apart gets.reading.left gets.reading.read_faults gets.later gets.appends) same;
+            cause = (
+              record {
+                written = record {
+                  due = due_of (held_of after) behind cut still same;
+                  count = gets.count;
+                  proper = gets.proper;
+                  part_is = refl;
+                };
+                read = d.0;
+              },
+              let wrote = apart.write_faults in
+                  let risen = gets.rose in
+                  omega (arith, wrote, risen),
+            );
+          },
+        )
+    broken behind cut why same (sending.Body stop) d =
+        let gets = d.gets in
+        let still : IsWhy request (v.held ++ came) after.left =
+        subst (λ (left : Option (List ℕ)). IsWhy request (v.held ++ came) left) (sym gets.reading.left) why in
+        let rest = d.left in
+        let under = d.below in (
+          held_of after,
+          refl,
+          record {
+            rest = rest_of;
+            part = take d.count one.bytes;
+            leaves = leaves_of (held_of after) (take d.count one.bytes)
+                (moves_of came mid comes refl later apart gets.reading.left gets.reading.read_faults gets.later gets.appends) same;
+            cause = record {
+              written = record {
+                due = due_of (held_of after) behind cut still same;
+                count = d.count;
+                proper = omega (arith, rest, under);
+                part_is = refl;
+              };
+              get = d.get;
+              place = d.at;
+              left = d.left;
+              leaves = carried_since (hand_at scene a) between (scene.shows b.hand) first.hands.cause.later decided.body s.sent s.heard
+                  d.at stop d.leaves;
+            };
+          },
+        )
 
-      is : IsExchange scene last a x
-      is = exchange_is scene a a.share b.log (refused fault) [] (plain (asked.Head fault) said) r.body r.file last unheard None case_ refl
-          r.shows refl
+    -- it was written whole
+    abbrev whole : (w : Wire) (closes : Bool) → v.held ++ came ≡ front ++ w.held → s.heard ≡ s.sent → GetsAll one.bytes mid w.stream
+        → CountsServed one.served noted b.share → closes_after request last ≡ closes → Exchanges scene last a v one.served closes b w
+    whole w closes cut all gets counts ends = record {
+      x = one;
+      told = refl;
+      is = one_is;
+      leads = record {
+        log = grows;
+        seen = refl;
+        hand = heard_all s.sent all;
+        links = links;
+        own = refl;
+        share = record { notes = notes; counts = counts };
+      };
+      moves = moves_of came mid comes cut later apart gets.reading.left gets.reading.read_faults gets.later gets.appends;
+      ends = ends;
+    }
 
-      hears : Hears (hand_at scene a) (scene.shows b.hand) [] (LoadFailed said [])
-      hears = hears_as sound
-          (subst (λ (s : Stand T). Hears (hand_at scene a) (scene.shows s.hand) [] ⊥) (sym keeps) (hears_none (hand_at scene a)))
+    -- what is counted is what is told of it
+    counts_one : (n : ℕ) → n ≡ sent_len (sends_body request) s.body → CountsServed (served_as decided n) noted b.share
+        → CountsServed one.served noted b.share
+    counts_one n len counts = subst (λ (k : ℕ). CountsServed (served_as decided k) noted b.share) len counts
 
-      links : LinksHear a.links [] b.links
-      links = subst (λ (s : Stand T). LinksHear a.links [] s.links) (sym keeps) (links_none a.links)
+    -- the connection ends behind it
+    turn_last : (w : Wire) (why : ConnEnd) (n : ℕ) → v.held ++ came ≡ front ++ w.held → s.heard ≡ s.sent
+        → GetsAll one.bytes mid w.stream → n ≡ sent_len (sends_body request) s.body → CountsServed (served_as decided n) noted b.share
+        → closes_after request last ≡ true → EndsBehind last request w why
+        → ClosesOn scene last a v (served_as decided n) why b w.stream
+    turn_last w why n cut all gets len counts ends behind =
+        subst (λ (k : ℕ). ClosesOn scene last a v (served_as decided k) why b w.stream) (sym len)
+        (w, refl, record { one = whole w true cut all gets (counts_one n len counts) ends; cause = behind })
 
-      by_turn : (what : Turn) → Writing (plain (asked.Head fault) said) (refused fault) true x.bytes (sent_len true r.body) mid what after
-          → CountsAnswered what a.share b.share → Turns scene last a v what b (wire_of after reader_after)
-      by_turn (turn.Replied served) writes counts = absurd (false≢true (sym writes.0))
-      by_turn (turn.Last served why) writes counts =
-          subst (λ s. (w : Wire) × (w.stream ≡ after) × ClosesConnection scene last a v s why b w) (sym writes.2) (
-            held_of after,
-            refl,
-            record {
-              one = whole x (held_of after) true is refl refl
-                  (counted_as x served (notes_none a.share) (sym writes.2) counts) hears links refl writes.1 refl;
-              cause = (
-                writes.3,
-                subst (λ (left : Option (List ℕ)). RefusesAsHead fault (v.held ++ came) left) (sym writes.1.reading.left) refuses,
-              );
-            },
-          )
-      by_turn (turn.Ended why) writes counts =
-          subst (λ (e : ConnEnd). StopsOn scene last a v e b after) (sym writes.2)
-          (broken x (v.held ++ came) is refl refl (sym counts) (noted_as a.share (notes_none a.share) counts) hears links refl refuses
-          writes.0 after writes.1)
+    -- what came of a head, by whether its reply closes
+    head_closes : (reader_after : ReaderFacts) (head : HeadFacts) → request ≡ readable head
+        → v.held ++ came ≡ front ++ reader_after.held → reader_after.over ≡ false → (n : ℕ) → s.heard ≡ s.sent
+        → GetsAll one.bytes mid after → n ≡ sent_len (sends_body request) s.body → CountsServed (served_as decided n) noted b.share
+        → (closes : Bool) → closes_after request last ≡ closes
+        → Turns scene last a v (turn_by (Ok (served_as decided n)) closes (end_of_head last)) b (wire_of after reader_after)
+    head_closes reader_after head is cut open_ n all gets len counts true ends =
+        turn_last (wire_of after reader_after) (end_of_head last) n cut all gets len counts ends
+        (subst (λ (r : Request). EndsBehind last r (wire_of after reader_after) (end_of_head last)) (sym is) refl)
+    head_closes reader_after head is cut open_ n all gets len counts false ends = record {
+      one = subst (λ (k : ℕ). Exchanges scene last a v (served_as decided k) false b (wire_of after reader_after)) (sym len)
+          (whole (wire_of after reader_after) false cut all gets (counts_one n len counts) ends);
+      open_ = open_;
+    }
 
--- what came of the next request
-pub turn_of : {T : Type 0} (scene : Scene T) (last : Bool) (a b : Stand T) (reader reader_after : ReaderFacts)
-    (before after : ShownStream) (what : Turn) → reader.over ≡ false → IsPrefix a.log b.log
-    → TakesNextRequest scene a reader last before what b reader_after after
-    → Turns scene last a (wire_of before reader) what b (wire_of after reader_after)
-turn_of {T} scene last a b reader reader_after before after what open_ grows t = by_answer t.answer t.reads t.cause t.takes
+    -- what came of a head
+    head_turn : (reader_after : ReaderFacts) (head : HeadFacts) → request ≡ readable head
+        → v.held ++ came ≡ front ++ reader_after.held → reader_after.over ≡ false → (r : Result ℕ SendFault)
+        → Delivers (since (hand_at scene a) between) decided.body (sends_body request) one.bytes s.body s.sent s.heard mid
+        (scene.shows b.hand) after r → CountsSent (told_as decided r) noted b.share
+        → Turns scene last a v (turn_by (told_as decided r) (closes_after request last) (end_of_head last)) b
+        (wire_of after reader_after)
+    head_turn reader_after head is cut open_ (Ok n) d counts =
+        head_closes reader_after head is cut open_ n d.0 d.1 d.2 counts (closes_after request last) refl
+    head_turn reader_after head is cut open_ (Err fault) d counts =
+        broken reader_after.held cut (subst (λ (r : Request). IsWhy r (v.held ++ came) mid.left) (sym is) tt) counts fault d
+
+    -- what came of bytes that are no head
+    refused_turn : (reader_after : ReaderFacts) (fault : HeadFault) → request ≡ refused fault → front ≡ []
+        → RefusesAsHead fault (v.held ++ came) mid.left → (r : Result ℕ SendFault)
+        → Delivers (since (hand_at scene a) between) decided.body (sends_body request) one.bytes s.body s.sent s.heard mid
+        (scene.shows b.hand) after r → CountsSent (told_as decided r) noted b.share
+        → Turns scene last a v (turn_by (told_as decided r) true end.Refused) b (wire_of after reader_after)
+    refused_turn reader_after fault is none refuses (Ok n) d counts =
+        let gets = d.1 in
+        turn_last (held_of after) end.Refused n
+        (subst (λ (l : List ℕ). v.held ++ came ≡ l ++ (v.held ++ came)) (sym none) refl) d.0 d.1 d.2 counts
+        (subst (λ (r : Request). closes_after r last ≡ true) (sym is) refl)
+        (subst (λ (r : Request). EndsBehind last r (held_of after) end.Refused) (sym is)
+        (refl, subst (λ (left : Option (List ℕ)). RefusesAsHead fault (v.held ++ came) left) (sym gets.reading.left) refuses))
+    refused_turn reader_after fault is none refuses (Err stop) d counts =
+        broken (v.held ++ came) (subst (λ (l : List ℕ). v.held ++ came ≡ l ++ (v.held ++ came)) (sym none) refl)
+        (subst (λ (r : Request). IsWhy r (v.held ++ came) mid.left) (sym is) refuses) counts stop d
+
+-- what came of the next request: of what was planned, by the objects as they stood then, and by what came of doing it
+pub turn_of : {T : Type 0} (scene : Scene T) (last : Bool) (a between : Stand T) (hand : T) (share : ShareFacts)
+    (reader reader_after : ReaderFacts) (before mid after : ShownStream) (plan : TurnPlan) (what : Turn) → reader.over ≡ false
+    → IsPrefix a.log between.log → PlansNext scene a reader last before plan between reader_after mid
+    → CarriesOut (hand_at scene between) plan between.share mid what share (scene.shows hand) after
+    → Turns scene last a (wire_of before reader) what (stand_of between.log hand share between.links) (wire_of after reader_after)
+turn_of {T} scene last a between hand share reader reader_after before mid after plan what open_ grows next does =
+    by_answer next.answer next.reads next.cause next.plans
   where
     v : Wire
     v = wire_of before reader
 
-    by_refusal : (fault : HeadFault) (said : Reason) → (LoadFailed said [] → ⊥)
-        → IsCase scene a a.share a.share b.log (refused fault) (asked.Head fault) said 0 bodies.Line [] None
-        → AnswersNext reader before reader_after t.mid (answer.Refused fault) → HasCause before.read_faults t.mid.read_faults ⊥
-        → CountsAlone a b → Replies (plain (asked.Head fault) said) (refused fault) true t.mid what after
-        → CountsAnswered what a.share b.share → Turns scene last a v what b (wire_of after reader_after)
-    by_refusal fault said sound case_ reads cause keeps r counts =
-        refused_written scene last a b v t.mid reads.came grows reads.comes cause.later t.apart reader_after fault said sound
-        case_ reads.says.2 keeps what after r counts
+    b : Stand T
+    b = stand_of between.log hand share between.links
 
-    by_answer : (given : HeadAnswer) → AnswersNext reader before reader_after t.mid given
-        → HasCause before.read_faults t.mid.read_faults (IsTrue (head_failed given)) → TakesWhatCame scene a given last t.mid what b after
+    done : (p : TurnPlan) → plan ≡ p → CarriesOut (hand_at scene between) p between.share mid what share (scene.shows hand) after
+    done p is = subst (λ (q : TurnPlan). CarriesOut (hand_at scene between) q between.share mid what share (scene.shows hand) after) is does
+
+    silent : (why : ConnEnd) (came : List ℕ) → ComesFrom v.stream.left came mid.left → plan ≡ ends_so why → between ≡ a
+        → StopsFor scene last a v unheard [] b (record { stream = mid; held = v.held ++ came; over = true }) why
         → Turns scene last a v what b (wire_of after reader_after)
-    by_answer answer.Closed reads cause takes =
+    silent why came comes is stays cause =
+        let e : EndsSo (hand_at scene between) why between.share mid what share (scene.shows hand) after = done (ends_so why) is in
+        let counted : share ≡ a.share = e.uncounted ∙ ap (λ (s : Stand T). s.share) stays in
+        subst (λ (w : Turn). Turns scene last a v w b (wire_of after reader_after)) (sym e.is)
+        (subst (λ (stream : ShownStream). StopsOn scene last a v why b stream) (sym e.same)
+        (quiet scene last a b v mid came grows comes next.cause.later next.apart why
+        (subst (λ (s : Stand T). Hears (hand_at scene s) (scene.shows hand) [] ⊥) stays e.hears)
+        (subst (λ (s : Stand T). LinksHear a.links [] s.links) (sym stays) (links_none a.links))
+        (subst (λ (s : ShareFacts). OnlyNotes a.share s) (sym counted) (notes_none a.share)) cause))
+
+    by_refusal : (fault : HeadFault) (said : Reason) → (LoadFailed said [] → ⊥)
+        → IsCase scene a a.share between.share b.log (refused fault) (asked.Head fault) said 0 own_line [] None
+        → AnswersNext reader before reader_after mid (answer.Refused fault)
+        → plan ≡ replies_so (plain (asked.Head fault) said) true true end.Refused → between ≡ a
+        → Turns scene last a v what b (wire_of after reader_after)
+    by_refusal fault said sound case_ reads is stays =
+        let r : RepliesSo (hand_at scene between) (plain (asked.Head fault) said) true true end.Refused between.share mid what share
+        (scene.shows hand) after = done (replies_so (plain (asked.Head fault) said) true true end.Refused) is in
+        subst (λ (w : Turn). Turns scene last a v w b (wire_of after reader_after)) (sym r.is)
+        (refused_turn scene last a b v mid reads.came grows reads.comes next.cause.later next.apart (refused fault) []
+        (plain (asked.Head fault) said) None [] [] between.share (scene.shows between.hand) after r.result r.sends case_ refl refl
+        (hears_as sound (subst (λ (s : Stand T). Hears (hand_at scene a) (scene.shows s.hand) [] ⊥) (sym stays)
+        (hears_none (hand_at scene a))))
+        (subst (λ (s : Stand T). LinksHear a.links [] s.links) (sym stays) (links_none a.links))
+        (subst (λ (s : Stand T). OnlyNotes a.share s.share) (sym stays) (notes_none a.share)) reader_after fault refl refl
+        reads.says.2 r.result r.sends.delivers r.counts)
+
+    by_answer : (given : HeadAnswer) → AnswersNext reader before reader_after mid given
+        → HasCause before.read_faults mid.read_faults (IsTrue (head_failed given)) → Plans scene a given last plan between
+        → Turns scene last a v what b (wire_of after reader_after)
+    by_answer answer.Closed reads cause plans =
         let closed = subst (λ (o : Bool). MatchBool o ((reads.came ≡ []) × (reader_after ≡ reader))
-        ((reader.held ++ reads.came ≡ []) × HasEnded t.mid.left × (reader_after.held ≡ []) × (reader_after.over ≡ false)))
+        ((reader.held ++ reads.came ≡ []) × HasEnded mid.left × (reader_after.held ≡ []) × (reader_after.over ≡ false)))
         open_ reads.says in
-        subst (λ (w : Turn). Turns scene last a v w b (wire_of after reader_after)) (sym takes.0)
-        (subst (λ (s : ShownStream). StopsOn scene last a v end.Closed b s) (sym takes.1)
-        (quiet scene last a b v t.mid reads.came grows reads.comes cause.later t.apart end.Closed takes.2
-        ((refl, refl), closed.0, closed.1)))
-    by_answer answer.ReadFault reads cause takes =
-        subst (λ (w : Turn). Turns scene last a v w b (wire_of after reader_after)) (sym takes.0)
-        (subst (λ (s : ShownStream). StopsOn scene last a v end.ReadFault b s) (sym takes.1)
-        (quiet scene last a b v t.mid reads.came grows reads.comes cause.later t.apart end.ReadFault takes.2
-        ((refl, refl), cause.rose refl)))
-    by_answer (answer.Refused (head_fault.Cut len)) reads cause takes =
-        let refusal = subst (λ (n : ℕ). RefusesAsHead (head_fault.Cut n) (reader.held ++ reads.came) t.mid.left) reads.says.2.0
+        silent end.Closed reads.came reads.comes plans.0 plans.1 ((refl, refl), closed.0, closed.1)
+    by_answer answer.ReadFault reads cause plans =
+        silent end.ReadFault reads.came reads.comes plans.0 plans.1 ((refl, refl), cause.rose refl)
+    by_answer (answer.Refused (head_fault.Cut len)) reads cause plans =
+        let refusal = subst (λ (n : ℕ). RefusesAsHead (head_fault.Cut n) (reader.held ++ reads.came) mid.left) reads.says.2.0
         reads.says.2 in
-        let same : b.share ≡ a.share = subst (λ (w : Turn). CountsAnswered w a.share b.share) takes.0.0 takes.2 in
-        subst (λ (w : Turn). Turns scene last a v w b (wire_of after reader_after)) (sym takes.0.0)
-        (subst (λ (s : ShownStream). StopsOn scene last a v end.Cut b s) (sym takes.0.1)
-        (quiet scene last a b v t.mid reads.came grows reads.comes cause.later t.apart end.Cut
-        (takes.1 ∙ ap (λ (s : ShareFacts). with_share a s) same) ((refl, refl), refusal)))
-    by_answer (answer.Refused (head_fault.Bad len)) reads cause takes =
-        by_refusal (head_fault.Bad len) reason.BadHead (λ f. f) (bad_head len refl) reads
-        (record { later = cause.later; rose = λ f. absurd f }) takes.1 takes.0 takes.2
-    by_answer (answer.Refused head_fault.TooLong) reads cause takes =
-        by_refusal head_fault.TooLong reason.TooLarge (λ f. f) (too_long refl) reads
-        (record { later = cause.later; rose = λ f. absurd f }) takes.1 takes.0 takes.2
-    by_answer (answer.Refused head_fault.TooMany) reads cause takes =
-        by_refusal head_fault.TooMany reason.TooLarge (λ f. f) (too_many refl) reads
-        (record { later = cause.later; rose = λ f. absurd f }) takes.1 takes.0 takes.2
-    by_answer (answer.Head head) reads cause takes =
+        silent end.Cut reads.came reads.comes plans.0 plans.1 ((refl, refl), refusal)
+    by_answer (answer.Refused (head_fault.Bad len)) reads cause plans =
+        by_refusal (head_fault.Bad len) reason.BadHead (λ f. f) (bad_head len refl) reads plans.0 plans.1
+    by_answer (answer.Refused head_fault.TooLong) reads cause plans =
+        by_refusal head_fault.TooLong reason.TooLarge (λ f. f) (too_long refl) reads plans.0 plans.1
+    by_answer (answer.Refused head_fault.TooMany) reads cause plans =
+        by_refusal head_fault.TooMany reason.TooLarge (λ f. f) (too_many refl) reads plans.0 plans.1
+    by_answer (answer.Head head) reads cause plans =
         let facts : HeadFacts = told_facts head in
         let h : RequestHead = reads.says.2 in
-        let d = takes.decides in
-        let r = takes.replies in
-        let front : List ℕ = print_request h in
-        let heard : HeardFor = record { answers = d.answers; links = d.parts } in
-        let x : Exchange = exchange_of (readable facts) front takes.decided r.body r.file last heard b.log a.share takes.noted in
-        let is : IsExchange scene last a x = exchange_is scene a takes.noted b.log (readable facts) front takes.decided r.body r.file last
-        heard d.told d.is d.asks r.shows (record { head = h; valid = reads.says.3; says = facts_are head h reads.says.5; printed = refl }) in
-        head_written scene last a b v t.mid reads.came grows reads.comes cause.later t.apart reader_after x facts refl is refl refl
-        d.notes d.hears d.links reads.says.4 reads.says.1 takes.decided (sent_len (sends_body (readable facts)) r.body) refl what
-        after r.ends takes.counts
+        let d = plans.decides in
+        let r : RepliesSo (hand_at scene between) plans.decided (closes_after (readable facts) last) (sends_body (readable facts))
+        (end_of_head last) between.share mid what share (scene.shows hand) after =
+        done (replies_so plans.decided (closes_after (readable facts) last) (sends_body (readable facts)) (end_of_head last)) plans.is in
+        subst (λ (w : Turn). Turns scene last a v w b (wire_of after reader_after)) (sym r.is)
+        (head_turn scene last a b v mid reads.came grows reads.comes next.cause.later next.apart (readable facts) (print_request h)
+        plans.decided d.told d.answers d.parts between.share (scene.shows between.hand) after r.result r.sends d.is d.asks
+        (record { head = h; valid = reads.says.3; says = facts_are head h reads.says.5; printed = refl }) d.hears d.links d.notes
+        reader_after facts refl reads.says.4 reads.says.1 r.result r.sends.delivers r.counts)

@@ -10,35 +10,32 @@ use Rattle.webapi_routes.specs.declared.fault.RouteFault.{RouteFault}
 use Rattle.webapi_routes.specs.declared.route.Route.{Route}
 use Rattle.webapi_routes.specs.declared.route.Route.TheVariants as route
 use Rattle.answer_check.specs.declared.passed.Passed.{Passed}
-use Rattle.answer_core.specs.Local.{IsLocal}
-use Rattle.answer_core.specs.declared.local.Local.{Local}
-use Rattle.answer_core.specs.declared.local.Local.TheVariants as local
+use Rattle.answer_core.specs.Local.{IsLocal, LocalFacts, file_found, section_found, source_found, nothing_found, fault_found, no_memory_found}
 use Rattle.dbgd_metrics.specs.Shares.{ShareFacts}
 use Rattle.dbgd_metrics.specs.Totals.{IsPage}
 use Rattle.federation.specs.Rows.{upstream_given}
 use Rattle.federation.specs.declared.asking.Upstream.{Upstream}
 use Rattle.federation.specs.declared.asking.Upstream.TheVariants as links
 use Rattle.conn_server.specs.Asked.{AsksForRoute, HeadFacts, IsTaken, Request, is_served, readable, refused}
+use Rattle.conn_server.specs.Bodies.{BodyFacts, own_line, found_here, found_upstream, counters_page}
 use Rattle.conn_server.specs.Replies.{reason_of_route}
 use Rattle.conn_server.specs.Scene.{Scene, Stand, sight_at}
-use Rattle.conn_server.specs.declared.body.Body.{Body}
-use Rattle.conn_server.specs.declared.body.Body.TheVariants as bodies
 use Rattle.conn_server.specs.declared.reason.Reason.{Reason}
 use Rattle.conn_server.specs.declared.reason.Reason.TheVariants as reason
 use Rattle.conn_server.specs.declared.report.Asked as declared
 use Rattle.conn_server.specs.declared.report.Asked.TheVariants as asked
 
 -- a candidate passed
-abbrev pub IsPassed : Local → Type 0
-IsPassed (local.File from path generation) = Unit {0}
-IsPassed (local.Section from path generation) = Unit {0}
-IsPassed (local.Source bytes path generation) = Unit {0}
+abbrev pub IsPassed : LocalFacts → Type 0
+IsPassed (file_found from name path generation) = Unit {0}
+IsPassed (section_found from path generation) = Unit {0}
+IsPassed (source_found bytes path generation) = Unit {0}
 IsPassed _ = ⊥
 
 -- no candidate passed
-abbrev pub IsUnfound : Local → Type 0
-IsUnfound (local.Nothing generation) = Unit {0}
-IsUnfound (local.Fault generation) = Unit {0}
+abbrev pub IsUnfound : LocalFacts → Type 0
+IsUnfound (nothing_found generation) = Unit {0}
+IsUnfound (fault_found generation) = Unit {0}
 IsUnfound _ = ⊥
 
 -- no answer of a link passed
@@ -48,13 +45,13 @@ NothingPassed links.HopLimit = Unit {0}
 NothingPassed _ = ⊥
 
 -- the generation of an answer
-abbrev pub generation_of : Local → ℕ
-generation_of (local.File from path generation) = generation
-generation_of (local.Section from path generation) = generation
-generation_of (local.Source bytes path generation) = generation
-generation_of (local.Nothing generation) = generation
-generation_of (local.Fault generation) = generation
-generation_of local.OutOfMemory = 0
+abbrev pub generation_of : LocalFacts → ℕ
+generation_of (file_found from name path generation) = generation
+generation_of (section_found from path generation) = generation
+generation_of (source_found bytes path generation) = generation
+generation_of (nothing_found generation) = generation
+generation_of (fault_found generation) = generation
+generation_of no_memory_found = 0
 
 -- the routes that a file answers
 abbrev pub IsFileRoute : Route → Type 0
@@ -68,50 +65,50 @@ IsFileRoute route.Metrics = ⊥
 -- was told of the links, if they were to be asked; the page of the counters is by the own share as it was then, and by the loads
 -- that it has noted behind it
 pub data IsCase {T : Type 0} (scene : Scene T) (at : Stand T) (own noted : ShareFacts) (log : List Change) (request : Request)
-    : declared.Asked → Reason → ℕ → Body → List Heard → Option Upstream → Type 0 where
+    : declared.Asked → Reason → ℕ → BodyFacts → List Heard → Option Upstream → Type 0 where
   bad_head : (len : ℕ) → request ≡ refused (head_fault.Bad len)
-      → IsCase scene at own noted log request (asked.Head (head_fault.Bad len)) reason.BadHead 0 bodies.Line [] None
+      → IsCase scene at own noted log request (asked.Head (head_fault.Bad len)) reason.BadHead 0 own_line [] None
   too_long : request ≡ refused head_fault.TooLong
-      → IsCase scene at own noted log request (asked.Head head_fault.TooLong) reason.TooLarge 0 bodies.Line [] None
+      → IsCase scene at own noted log request (asked.Head head_fault.TooLong) reason.TooLarge 0 own_line [] None
   too_many : request ≡ refused head_fault.TooMany
-      → IsCase scene at own noted log request (asked.Head head_fault.TooMany) reason.TooLarge 0 bodies.Line [] None
+      → IsCase scene at own noted log request (asked.Head head_fault.TooMany) reason.TooLarge 0 own_line [] None
   method : (head : HeadFacts) → request ≡ readable head → is_served head.method ≡ false
-      → IsCase scene at own noted log request asked.Method reason.Method 0 bodies.Line [] None
+      → IsCase scene at own noted log request asked.Method reason.Method 0 own_line [] None
   has_body : (head : HeadFacts) → request ≡ readable head → is_served head.method ≡ true → head.body ≡ true
-      → IsCase scene at own noted log request asked.Body reason.Body 0 bodies.Line [] None
+      → IsCase scene at own noted log request asked.Body reason.Body 0 own_line [] None
   no_route : (head : HeadFacts) (fault : RouteFault) → request ≡ readable head → IsTaken head
       → IsSaidBy head.target (Err fault)
-      → IsCase scene at own noted log request (asked.NotRoute fault) (reason_of_route fault) 0 bodies.Line [] None
+      → IsCase scene at own noted log request (asked.NotRoute fault) (reason_of_route fault) 0 own_line [] None
   metrics : (head : HeadFacts) (text : String Global) → request ≡ readable head → AsksForRoute head route.Metrics
       → IsPage scene.rows own noted (string_bytes text)
-      → IsCase scene at own noted log request (asked.Route route.Metrics) reason.Metrics 0 (bodies.Page text) [] None
+      → IsCase scene at own noted log request (asked.Route route.Metrics) reason.Metrics 0 (counters_page text) [] None
   no_page : (head : HeadFacts) → request ≡ readable head → AsksForRoute head route.Metrics
-      → IsCase scene at own noted log request (asked.Route route.Metrics) reason.OutOfMemory 0 bodies.Line [] None
-  passed : (head : HeadFacts) (route : Route) (answer : Local) (answers : List Heard) → request ≡ readable head
+      → IsCase scene at own noted log request (asked.Route route.Metrics) reason.OutOfMemory 0 own_line [] None
+  passed : (head : HeadFacts) (route : Route) (answer : LocalFacts) (answers : List Heard) → request ≡ readable head
       → AsksForRoute head route → IsFileRoute route → IsLocal (sight_at scene at log answers) route answer → IsPassed answer
-      → IsCase scene at own noted log request (asked.Route route) reason.Local (generation_of answer) (bodies.Found answer) answers None
-  upstream : (head : HeadFacts) (route : Route) (answer : Local) (answers : List Heard) (given : Passed) → request ≡ readable head
+      → IsCase scene at own noted log request (asked.Route route) reason.Local (generation_of answer) (found_here answer) answers None
+  upstream : (head : HeadFacts) (route : Route) (answer : LocalFacts) (answers : List Heard) (given : Passed) → request ≡ readable head
       → AsksForRoute head route → IsFileRoute route → IsLocal (sight_at scene at log answers) route answer → IsUnfound answer
-      → IsCase scene at own noted log request (asked.Route route) reason.Upstream (generation_of answer) (bodies.Upstream given) answers
+      → IsCase scene at own noted log request (asked.Route route) reason.Upstream (generation_of answer) (found_upstream given) answers
       (Some (upstream_given given))
   read_fault : (head : HeadFacts) (route : Route) (n : ℕ) (answers : List Heard) (told : Upstream) → request ≡ readable head
-      → AsksForRoute head route → IsFileRoute route → IsLocal (sight_at scene at log answers) route (local.Fault n)
+      → AsksForRoute head route → IsFileRoute route → IsLocal (sight_at scene at log answers) route (fault_found n)
       → NothingPassed told
-      → IsCase scene at own noted log request (asked.Route route) reason.ReadFault n bodies.Line answers (Some told)
+      → IsCase scene at own noted log request (asked.Route route) reason.ReadFault n own_line answers (Some told)
   hop_limit : (head : HeadFacts) (route : Route) (n : ℕ) (answers : List Heard) → request ≡ readable head
-      → AsksForRoute head route → IsFileRoute route → IsLocal (sight_at scene at log answers) route (local.Nothing n)
-      → IsCase scene at own noted log request (asked.Route route) reason.HopLimit n bodies.Line answers (Some links.HopLimit)
+      → AsksForRoute head route → IsFileRoute route → IsLocal (sight_at scene at log answers) route (nothing_found n)
+      → IsCase scene at own noted log request (asked.Route route) reason.HopLimit n own_line answers (Some links.HopLimit)
   upstream_fault : (head : HeadFacts) (route : Route) (n : ℕ) (answers : List Heard) (others failed : ℕ) → request ≡ readable head
-      → AsksForRoute head route → IsFileRoute route → IsLocal (sight_at scene at log answers) route (local.Nothing n) → 0 < failed
-      → IsCase scene at own noted log request (asked.Route route) reason.UpstreamFault n bodies.Line answers
+      → AsksForRoute head route → IsFileRoute route → IsLocal (sight_at scene at log answers) route (nothing_found n) → 0 < failed
+      → IsCase scene at own noted log request (asked.Route route) reason.UpstreamFault n own_line answers
       (Some (links.Nobody others failed))
   not_found : (head : HeadFacts) (route : Route) (n : ℕ) (answers : List Heard) (others : ℕ) → request ≡ readable head
-      → AsksForRoute head route → IsFileRoute route → IsLocal (sight_at scene at log answers) route (local.Nothing n)
-      → IsCase scene at own noted log request (asked.Route route) reason.NotFound n bodies.Line answers
+      → AsksForRoute head route → IsFileRoute route → IsLocal (sight_at scene at log answers) route (nothing_found n)
+      → IsCase scene at own noted log request (asked.Route route) reason.NotFound n own_line answers
       (Some (links.Nobody others 0))
   no_memory : (head : HeadFacts) (route : Route) (answers : List Heard) → request ≡ readable head
       → AsksForRoute head route → IsFileRoute route
-      → IsCase scene at own noted log request (asked.Route route) reason.OutOfMemory 0 bodies.Line answers None
-  links_memory : (head : HeadFacts) (route : Route) (answer : Local) (answers : List Heard) → request ≡ readable head
+      → IsCase scene at own noted log request (asked.Route route) reason.OutOfMemory 0 own_line answers None
+  links_memory : (head : HeadFacts) (route : Route) (answer : LocalFacts) (answers : List Heard) → request ≡ readable head
       → AsksForRoute head route → IsFileRoute route → IsLocal (sight_at scene at log answers) route answer → IsUnfound answer
-      → IsCase scene at own noted log request (asked.Route route) reason.OutOfMemory 0 bodies.Line answers (Some links.OutOfMemory)
+      → IsCase scene at own noted log request (asked.Route route) reason.OutOfMemory 0 own_line answers (Some links.OutOfMemory)

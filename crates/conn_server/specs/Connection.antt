@@ -13,8 +13,8 @@ use Rattle.answer_core.specs.Loads.{Hears}
 use Rattle.federation.specs.Heard.{LinkHeard}
 use Rattle.conn_server.specs.Asked.{HeadFacts, Request, closes_after, readable, refused}
 use Rattle.conn_server.specs.Tallied.{TalliesServed}
-use Rattle.conn_server.specs.Exchange.{Exchange, IsReplyDue, IsExchange, IsPartWritten, LeadsByExchange, LeavesUnanswered, Moves, NoMore}
-use Rattle.conn_server.specs.Links.{HeardFor, LinksFailed, LinksHear, all_parts, both_parts}
+use Rattle.conn_server.specs.Exchange.{Exchange, IsBodyCut, IsReplyDue, IsExchange, IsWriteCut, LeadsByExchange, LeavesUnanswered, Moves, NoMore, asked_for}
+use Rattle.conn_server.specs.Links.{HeardFor, LinksFailed, LinksHear, all_parts, both_parts, hand_heard}
 use Rattle.conn_server.specs.Replies.{says_read_fault, says_upstream_fault}
 use Rattle.conn_server.specs.Scene.{Scene, Stand, Wire, hand_at}
 use Rattle.conn_server.specs.declared.connection.TheConstants.{REQUESTS}
@@ -61,7 +61,7 @@ pub record IsRow
     (b : Stand T) (w : Wire) : Type 0 where
   pub are : AreExchanges scene a 0 xs
   pub logs : LogsGrow a.log xs b.log
-  pub hears : Hears (hand_at scene a) (scene.shows b.hand) (flat_map (λ x. x.answers) xs ++ rest.answers) ⊥
+  pub hears : Hears (hand_at scene a) (scene.shows b.hand) (flat_map asked_for xs ++ hand_heard rest) ⊥
   pub asks : LinksHear a.links (both_parts (links_heard xs) rest.links) b.links
   pub failed : summed (scene.shows a.hand).faults (count_by (λ x. says_read_fault x.served.reason) xs) ≤ (scene.shows b.hand).faults
   pub links_failed : LinksFailed a.links (count_by (λ x. says_upstream_fault x.served.reason) xs) b.links
@@ -93,7 +93,8 @@ pub record IsConnectionUntouched {T : Type 0} (a : Stand T) (v : Wire) (xs : Lis
   pub stays : w ≡ v
 
 -- how a connection ended behind these requests, of which the last was answered where the objects stood like this, with its
--- cause; memory was wanted before anything was read, or for a reply that was due
+-- cause; a reply that was due wasn't written whole where a write failed, or where its file couldn't be read as it was checked;
+-- memory was wanted before anything was read, or for a reply that was due
 abbrev pub EndsConnection : {T : Type 0} → Scene T → Stand T → Wire → ConnEnd → List Exchange → Stand T → HeardFor → List ℕ → Stand T
     → Wire → Type 0
 EndsConnection scene a v end.Closed xs at rest part b w =
@@ -106,9 +107,11 @@ EndsConnection scene a v end.Limit xs at rest part b w = (length xs ≡ REQUESTS
 EndsConnection scene a v end.ReadFault xs at rest part b w =
     GoOn 0 xs × NoMore rest part × Rose v.stream.read_faults w.stream.read_faults
 EndsConnection scene a v end.WriteFault xs at rest part b w =
-    GoOn 0 xs × IsPartWritten scene (is_last_request (length xs)) at rest part b.log b.share w × Rose v.stream.write_faults w.stream.write_faults
+    GoOn 0 xs × IsWriteCut scene (is_last_request (length xs)) at rest part b.log b.share w × Rose v.stream.write_faults w.stream.write_faults
+EndsConnection scene a v (end.BodyFault why) xs at rest part b w =
+    GoOn 0 xs × IsBodyCut scene (is_last_request (length xs)) at rest part b w why
 EndsConnection scene a v end.OutOfMemory xs at rest part b w =
-    GoOn 0 xs × (part ≡ []) × (IsConnectionUntouched a v xs b w ⊎ IsReplyDue scene (is_last_request (length xs)) at rest b.log b.share w)
+    GoOn 0 xs × (part ≡ []) × (rest.sent ≡ []) × (IsConnectionUntouched a v xs b w ⊎ IsReplyDue scene (is_last_request (length xs)) at rest b.log b.share w)
 
 -- a connection from its first moment to its last: the requests that were answered, what is told and counted of them, and how it
 -- ended

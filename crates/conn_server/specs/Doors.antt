@@ -13,8 +13,8 @@ use Rattle.answer_core.specs.Loads.{Hears}
 use Rattle.federation.specs.Heard.{LinkHeard}
 use Rattle.conn_server.specs.Connection.{AreExchanges, LogsGrow, Serves, links_heard}
 use Rattle.conn_server.specs.Tallied.{TalliesServed}
-use Rattle.conn_server.specs.Exchange.{Exchange}
-use Rattle.conn_server.specs.Links.{HeardFor, LinksFailed, LinksHear, all_parts, both_parts}
+use Rattle.conn_server.specs.Exchange.{Exchange, asked_for}
+use Rattle.conn_server.specs.Links.{HeardFor, LinksFailed, LinksHear, all_parts, both_parts, hand_heard}
 use Rattle.conn_server.specs.Replies.{says_read_fault, says_upstream_fault}
 use Rattle.conn_server.specs.Scene.{Scene, Stand, hand_at}
 use Rattle.conn_server.specs.declared.door.DoorEnd.{DoorEnd}
@@ -48,7 +48,7 @@ all_exchanges visits = flat_map (λ one. one.xs) visits
 
 -- what the hand was asked for a connection and answered: a part for each of its requests, and the rest
 abbrev pub visit_answers : Visit → List Heard
-visit_answers one = flat_map (λ x. x.answers) one.xs ++ one.rest.answers
+visit_answers one = flat_map asked_for one.xs ++ hand_heard one.rest
 
 -- what each link was asked for a connection and answered
 abbrev pub visit_parts : Visit → List (List LinkHeard)

@@ -1,5 +1,5 @@
 -- One request with its reply (this project's rule), what it leads to, and what stands behind the last one.
-use Rattle.std.specs.Prelude.{◌≡◌, ℕ, ◌<◌, ◌≤◌, Bool, true, List, [], ◌++◌, Option, length, take}
+use Rattle.std.specs.Prelude.{◌≡◌, ℕ, ◌+◌, ◌-◌, ◌<◌, ◌≤◌, Bool, true, List, [], ◌++◌, Option, length, take}
 use Rattle.std.specs.List.{list_any}
 use mathlib.Core.List.{IsPrefix}
 use Rattle.httparse.specs.Grammar.{RequestHead, print_request}
@@ -12,25 +12,28 @@ use Rattle.answer_core.specs.Loads.{Hears}
 use Rattle.dbgd_metrics.specs.Shares.{ShareFacts}
 use Rattle.dbgd_metrics.specs.Totals.{OnlyNotes}
 use Rattle.federation.specs.Heard.{LinkHeard}
-use Rattle.conn_server.specs.Asked.{HeadFacts, Request, head_facts, readable, refused}
+use Rattle.conn_server.specs.Asked.{HeadFacts, Request, head_facts, readable, refused, sends_body}
 use Rattle.conn_server.specs.Tallied.{CountsRequest}
 use Rattle.conn_server.specs.Lawful.{IsLawful}
-use Rattle.conn_server.specs.Links.{HeardFor, LinksHear, unheard}
+use Rattle.conn_server.specs.Links.{HeardFor, LinksHear, hand_heard, unheard}
 use Rattle.conn_server.specs.PassedOver.{FindsAll}
 use Rattle.conn_server.specs.Scene.{Scene, Stand, Wire, hand_at, sight_at}
+use Rattle.conn_server.specs.Sent.{LeavesCarried}
 use Rattle.conn_server.specs.declared.reason.Reason.{Reason}
 use Rattle.conn_server.specs.declared.reason.Reason.TheVariants as reason
+use Rattle.conn_server.specs.declared.report.BodyCause.{BodyCause}
 use Rattle.conn_server.specs.declared.report.Served.{Served}
 
 -- one request with its reply: the bytes of its head, what is told of it, the bytes of the reply, what the hand was asked for
--- it and answered, and each of the links, the log that the token had seen behind it, and the share before the request was decided
--- and behind that
+-- it and answered, before its reply was written and in the meantime, and each of the links, the log that the token had seen behind
+-- it, and the share before the request was decided and behind that
 pub record Exchange : Type 0 where
   pub request : Request
   pub front : List ℕ
   pub served : Served
   pub bytes : List ℕ
   pub answers : List Heard
+  pub sent : List Heard
   pub links : List (List LinkHeard)
   pub log : List Change
   pub own : ShareFacts
@@ -38,7 +41,11 @@ pub record Exchange : Type 0 where
 
 -- what was asked for it and answered
 abbrev pub heard_for : Exchange → HeardFor
-heard_for x = record { answers = x.answers; links = x.links }
+heard_for x = record { answers = x.answers; sent = x.sent; links = x.links }
+
+-- what the hand was asked for it in all
+abbrev pub asked_for : Exchange → List Heard
+asked_for x = hand_heard (heard_for x)
 
 -- the bytes are those of a head that is served, and that says this
 pub record IsHeadThatSays (facts : HeadFacts) (front : List ℕ) : Type 0 where
@@ -55,7 +62,7 @@ IsFrontOf (refused fault) front = front ≡ []
 -- the exchange is lawful by the objects as they stood, passes over no candidate, and its head is that of its request; it may be
 -- the last that a connection has
 pub record IsExchange {T : Type 0} (scene : Scene T) (last : Bool) (at : Stand T) (x : Exchange) : Type 0 where
-  pub lawful : IsLawful scene at x.own x.noted x.log x.answers x.links x.request last x.served x.bytes
+  pub lawful : IsLawful scene at x.own x.noted x.log x.answers x.sent x.links x.request last x.served x.bytes
   pub complete : FindsAll (sight_at scene at x.log x.answers) x.served.asked x.served.reason
   pub fronts : IsFrontOf x.request x.front
 
@@ -69,7 +76,7 @@ LoadFailed _ answers = ⊥
 pub record LeadsByExchange {T : Type 0} (scene : Scene T) (x : Exchange) (a b : Stand T) : Type 0 where
   pub log : IsPrefix a.log b.log
   pub seen : x.log ≡ b.log
-  pub hand : Hears (hand_at scene a) (scene.shows b.hand) x.answers (LoadFailed x.served.reason x.answers)
+  pub hand : Hears (hand_at scene a) (scene.shows b.hand) (asked_for x) (LoadFailed x.served.reason x.answers)
   pub links : LinksHear a.links x.links b.links
   pub own : x.own ≡ a.share
   pub share : CountsRequest x.served a.share x.noted b.share
@@ -87,7 +94,7 @@ pub record Moves (front bytes : List ℕ) (a b : Wire) : Type 0 where
 pub record LeavesUnanswered {T : Type 0} (scene : Scene T) (rest : HeardFor) (part : List ℕ) (a : Stand T) (v : Wire) (b : Stand T) (w : Wire)
     : Type 0 where
   pub log : IsPrefix a.log b.log
-  pub hand : Hears (hand_at scene a) (scene.shows b.hand) rest.answers ⊥
+  pub hand : Hears (hand_at scene a) (scene.shows b.hand) (hand_heard rest) ⊥
   pub links : LinksHear a.links rest.links b.links
   pub share : OnlyNotes a.share b.share
   pub moves : Moves [] part v w
@@ -101,13 +108,14 @@ abbrev pub IsWhy : Request → List ℕ → Option (List ℕ) → Type 0
 IsWhy (readable head) held left = Unit {0}
 IsWhy (refused fault) held left = RefusesAsHead fault held left
 
--- a lawful reply to the next request is due: it was decided by what was heard, and its head is in front of what is held
+-- a lawful reply to the next request is due: it was decided by what was heard before, and its head is in front of what is held
 pub record IsReplyDue
     {T : Type 0} (scene : Scene T) (last : Bool) (at : Stand T) (rest : HeardFor) (log : List Change) (share : ShareFacts) (w : Wire)
     : Type 0 where
   pub one : Exchange
   pub is : IsExchange scene last at one
-  pub heard : heard_for one ≡ rest
+  pub answers : one.answers ≡ rest.answers
+  pub links : one.links ≡ rest.links
   pub logged : one.log ≡ log
   pub own : one.own ≡ at.share
   pub noted : one.noted ≡ share
@@ -123,3 +131,22 @@ pub record IsPartWritten
   pub count : ℕ
   pub proper : count < length due.one.bytes
   pub part_is : part ≡ take count due.one.bytes
+
+-- a write failed in it: of its body no more was read than it has
+pub record IsWriteCut
+    {T : Type 0} (scene : Scene T) (last : Bool) (at : Stand T) (rest : HeardFor) (part : List ℕ) (log : List Change)
+    (share : ShareFacts) (w : Wire) : Type 0 where
+  pub written : IsPartWritten scene last at rest part log share w
+  pub read : IsPrefix rest.sent written.due.one.sent
+
+-- it is sent with its body, and of that it was written up to a place, at which a piece of the file wasn't read as it was checked
+pub record IsBodyCut
+    {T : Type 0} (scene : Scene T) (last : Bool) (at : Stand T) (rest : HeardFor) (part : List ℕ) (b : Stand T) (w : Wire)
+    (why : BodyCause) : Type 0 where
+  pub written : IsPartWritten scene last at rest part b.log b.share w
+  pub get : sends_body written.due.one.request ≡ true
+  pub place : ℕ
+  pub left :
+      written.count + (length written.due.is.lawful.replied.body - place) ≡ length written.due.one.bytes
+  pub leaves :
+      LeavesCarried (hand_at scene at) written.due.is.lawful.carried written.due.one.sent rest.sent place (scene.shows b.hand) why

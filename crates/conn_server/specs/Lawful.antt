@@ -1,17 +1,16 @@
 -- The lawful reply (this project's rule): a case of the table, told and spelled so. Below it stands what follows of every case.
-use Rattle.std.specs.Prelude.{◌≡◌, ℕ, ◌<◌, Bool, List, [], length, Option, Some, None, if◌then◌else◌, string_bytes}
+use Rattle.std.specs.Prelude.{◌≡◌, ℕ, ◌<◌, Bool, true, List, [], length, Option, Some, None, if◌then◌else◌, string_bytes}
 use Rattle.answer_check.specs.Certified.{IsCertified}
 use Rattle.index_rows.specs.declared.change.Change.{Change}
 use Rattle.row_types.specs.declared.identity.Kind.{Kind}
 use Rattle.row_types.specs.declared.identity.Kind.TheVariants as kind
+use Rattle.tree_trait.specs.Found.{Versions}
 use Rattle.tree_trait.specs.Heard.{Heard}
 use Rattle.webapi_routes.specs.declared.fault.RouteFault.TheVariants as route_fault
 use Rattle.webapi_routes.specs.declared.route.Route.TheVariants as route
 use Rattle.http_wire.specs.declared.head.HeadFault.TheVariants as head_fault
 use Rattle.file_formats.specs.Table.{IsSectionAnswer}
-use Rattle.answer_core.specs.Local.{IsLocal, Sight}
-use Rattle.answer_core.specs.declared.local.Local.{Local}
-use Rattle.answer_core.specs.declared.local.Local.TheVariants as local
+use Rattle.answer_core.specs.Local.{IsLocal, LocalFacts, Sight, file_found, nothing_found, fault_found, no_memory_found}
 use Rattle.dbgd_metrics.specs.Shares.{ShareFacts}
 use Rattle.dbgd_metrics.specs.Totals.{IsPage}
 use Rattle.answer_check.specs.declared.passed.Passed.{Passed}
@@ -20,12 +19,12 @@ use Rattle.federation.specs.Rows.{upstream_given}
 use Rattle.federation.specs.declared.asking.Upstream.{Upstream}
 use Rattle.federation.specs.declared.asking.Upstream.TheVariants as upstream
 use Rattle.conn_server.specs.Asked.{Request, closes_after, readable, sends_body}
+use Rattle.conn_server.specs.Bodies.{BodyFacts, own_line, found_here, found_upstream, counters_page}
 use Rattle.conn_server.specs.Cases.{IsCase, IsFileRoute, IsPassed, IsUnfound, NothingPassed, generation_of}
 use Rattle.conn_server.specs.Links.{AsksEachLink}
+use Rattle.conn_server.specs.Pieces.{ArePiecesRead, AreContentOf}
 use Rattle.conn_server.specs.Replies.{Shows, bytes_of, status_of}
 use Rattle.conn_server.specs.Scene.{Scene, Stand}
-use Rattle.conn_server.specs.declared.body.Body.{Body}
-use Rattle.conn_server.specs.declared.body.Body.TheVariants as bodies
 use Rattle.conn_server.specs.declared.reason.Reason.{Reason}
 use Rattle.conn_server.specs.declared.reason.Reason.TheVariants as reason
 use Rattle.conn_server.specs.declared.report.Asked as declared
@@ -46,11 +45,24 @@ Carries (asked.Route (route.Executable id)) body = IsCertified kind.Executable i
 Carries (asked.Route (route.Section id name)) body = (file : List ℕ) × IsSectionOfFile id name file body
 Carries _ _ = Unit {0}
 
--- what is told of a request and its reply, in whole
-pub record IsReplied (request : Request) (last : Bool) (served : Served) (bytes : List ℕ) (carried : Body) : Type 0 where
+-- the bytes of a body are those of these reads: where a file that was found here is sent, it is read from its start on, of the
+-- open file, in pieces; else nothing is read
+abbrev pub IsBodySent : BodyFacts → Bool → List ℕ → List Heard → Type 0
+IsBodySent (found_here (file_found from name path generation)) true body sent = ArePiecesRead name sent body
+IsBodySent _ _ body sent = sent ≡ []
+
+-- the body of a file that was found here is its content, where a path and a stamp name one
+abbrev pub IsContentSent : Versions → BodyFacts → List ℕ → Type 0
+IsContentSent version (found_here (file_found from name path generation)) body = AreContentOf version name body
+IsContentSent version _ body = Unit {0}
+
+-- what is told of a request and its reply, in whole, and what was read while it was written
+pub record IsReplied (request : Request) (last : Bool) (served : Served) (bytes : List ℕ) (carried : BodyFacts) (sent : List Heard)
+    : Type 0 where
   pub body : List ℕ
   pub file : Option (List ℕ)
   pub shows : Shows served.reason carried body file
+  pub reads : IsBodySent carried (sends_body request) body sent
   pub carries : served.status ≡ 200 → Carries served.asked body
   pub status : served.status ≡ status_of served.reason
   pub len : served.len ≡ (if sends_body request then length body else 0)
@@ -63,25 +75,26 @@ AsksLinksFor (Some told) links (readable head) (asked.Route given) parts = AsksE
 AsksLinksFor _ _ _ _ _ = ⊥
 
 -- the reply to a request is lawful: a case of the table, by the hand and the own share as they stood, and by what the hand and the
--- links were asked and answered
+-- links were asked and answered; and what the hand was asked behind that gave its body
 pub record IsLawful
-    {T : Type 0} (scene : Scene T) (at : Stand T) (own noted : ShareFacts) (log : List Change) (answers : List Heard)
+    {T : Type 0} (scene : Scene T) (at : Stand T) (own noted : ShareFacts) (log : List Change) (answers sent : List Heard)
     (parts : List (List LinkHeard)) (request : Request) (last : Bool) (served : Served) (bytes : List ℕ) : Type 0 where
-  pub carried : Body
+  pub carried : BodyFacts
   pub told : Option Upstream
   pub is : IsCase scene at own noted log request served.asked served.reason served.gen_ carried answers told
   pub asks : AsksLinksFor told (length at.links) request served.asked parts
-  pub replied : IsReplied request last served bytes carried
+  pub replied : IsReplied request last served bytes carried sent
+  pub content : IsContentSent scene.version carried replied.body
 
 -- the local answer to a route of files is this one, by what was seen and heard; where none is asked the hand isn't either
-abbrev pub RestsOn : Sight → declared.Asked → Local → Type 0
+abbrev pub RestsOn : Sight → declared.Asked → LocalFacts → Type 0
 RestsOn sight (asked.Route route.Metrics) answer = sight.answers ≡ []
 RestsOn sight (asked.Route given) answer = IsLocal sight given answer
 RestsOn sight _ answer = sight.answers ≡ []
 
 -- the table of the replies that are a line: what is asked, and the local answer to a route and what is told of the links, with the
 -- reason of the reply and the generation
-abbrev pub EarnsText : declared.Asked → Local → Option Upstream → Reason → ℕ → Type 0
+abbrev pub EarnsText : declared.Asked → LocalFacts → Option Upstream → Reason → ℕ → Type 0
 EarnsText (asked.Head (head_fault.Bad len)) answer told reason.BadHead n = n ≡ 0
 EarnsText (asked.Head head_fault.TooLong) answer told reason.TooLarge n = n ≡ 0
 EarnsText (asked.Head head_fault.TooMany) answer told reason.TooLarge n = n ≡ 0
@@ -92,13 +105,13 @@ EarnsText (asked.NotRoute route_fault.NoRoute) answer told reason.NoRoute n = n 
 EarnsText (asked.NotRoute route_fault.BadId) answer told reason.BadId n = n ≡ 0
 EarnsText (asked.NotRoute route_fault.BadPath) answer told reason.BadPath n = n ≡ 0
 EarnsText (asked.NotRoute route_fault.OutOfMemory) answer told reason.OutOfMemory n = n ≡ 0
-EarnsText (asked.Route given) answer (Some told) reason.ReadFault n = IsFileRoute given × (answer ≡ local.Fault n) × NothingPassed told
-EarnsText (asked.Route given) answer (Some upstream.HopLimit) reason.HopLimit n = IsFileRoute given × (answer ≡ local.Nothing n)
+EarnsText (asked.Route given) answer (Some told) reason.ReadFault n = IsFileRoute given × (answer ≡ fault_found n) × NothingPassed told
+EarnsText (asked.Route given) answer (Some upstream.HopLimit) reason.HopLimit n = IsFileRoute given × (answer ≡ nothing_found n)
 EarnsText (asked.Route given) answer (Some (upstream.Nobody refused failed)) reason.UpstreamFault n =
-    IsFileRoute given × (answer ≡ local.Nothing n) × (0 < failed)
+    IsFileRoute given × (answer ≡ nothing_found n) × (0 < failed)
 EarnsText (asked.Route given) answer (Some (upstream.Nobody refused failed)) reason.NotFound n =
-    IsFileRoute given × (answer ≡ local.Nothing n) × (failed ≡ 0)
-EarnsText (asked.Route given) answer None reason.OutOfMemory n = (answer ≡ local.OutOfMemory) × (n ≡ 0)
+    IsFileRoute given × (answer ≡ nothing_found n) × (failed ≡ 0)
+EarnsText (asked.Route given) answer None reason.OutOfMemory n = (answer ≡ no_memory_found) × (n ≡ 0)
 EarnsText (asked.Route given) answer (Some upstream.OutOfMemory) reason.OutOfMemory n =
     IsFileRoute given × IsUnfound answer × (n ≡ 0)
 EarnsText _ _ _ _ _ = ⊥
@@ -110,7 +123,7 @@ IsFileAsked _ = ⊥
 
 -- what passed is sent where it is the local answer to a route
 pub record EarnsPassed
-    (what : declared.Asked) (answer : Local) (told : Option Upstream) (why : Reason) (passed : Local) (n : ℕ) : Type 0 where
+    (what : declared.Asked) (answer : LocalFacts) (told : Option Upstream) (why : Reason) (passed : LocalFacts) (n : ℕ) : Type 0 where
   pub files : IsFileAsked what
   pub local : why ≡ reason.Local
   pub is : IsPassed passed
@@ -120,7 +133,7 @@ pub record EarnsPassed
 
 -- what passed of a link's answer is sent where no candidate passed
 pub record EarnsUpstream
-    (what : declared.Asked) (answer : Local) (told : Option Upstream) (why : Reason) (given : Passed) (n : ℕ) : Type 0 where
+    (what : declared.Asked) (answer : LocalFacts) (told : Option Upstream) (why : Reason) (given : Passed) (n : ℕ) : Type 0 where
   pub files : IsFileAsked what
   pub upstream : why ≡ reason.Upstream
   pub unfound : IsUnfound answer
@@ -136,16 +149,16 @@ pub record EarnsPage
   pub is : IsPage rows own noted text
 
 -- a reply is earned: a line, what passed here or of a link's answer, or the page of the counters
-abbrev pub Earns : ℕ → ShareFacts → ShareFacts → declared.Asked → Local → Option Upstream → Reason → Body → ℕ → Type 0
-Earns rows own noted what answer told why bodies.Line n = EarnsText what answer told why n
-Earns rows own noted what answer told why (bodies.Found passed) n = EarnsPassed what answer told why passed n
-Earns rows own noted what answer told why (bodies.Upstream given) n = EarnsUpstream what answer told why given n
-Earns rows own noted what answer told why (bodies.Page text) n = EarnsPage rows own noted what why (string_bytes text) n
+abbrev pub Earns : ℕ → ShareFacts → ShareFacts → declared.Asked → LocalFacts → Option Upstream → Reason → BodyFacts → ℕ → Type 0
+Earns rows own noted what answer told why own_line n = EarnsText what answer told why n
+Earns rows own noted what answer told why (found_here passed) n = EarnsPassed what answer told why passed n
+Earns rows own noted what answer told why (found_upstream given) n = EarnsUpstream what answer told why given n
+Earns rows own noted what answer told why (counters_page text) n = EarnsPage rows own noted what why (string_bytes text) n
 
 -- what is decided rests on a local answer and on what is told of the links, which earn it, or on the own share as it stood
 pub record IsEarned
     (rows : ℕ) (own noted : ShareFacts) (sight : Sight) (told : Option Upstream) (what : declared.Asked) (why : Reason)
-    (carried : Body) (n : ℕ) : Type 0 where
-  pub answer : Local
+    (carried : BodyFacts) (n : ℕ) : Type 0 where
+  pub answer : LocalFacts
   pub rests : RestsOn sight what answer
   pub earns : Earns rows own noted what answer told why carried n

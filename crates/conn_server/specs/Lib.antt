@@ -7,6 +7,11 @@ pub use Rattle.http_wire.specs.Sink
 pub use Rattle.http_wire.specs.Source
 pub use Rattle.http_wire.specs.Stream
 pub use Rattle.http_wire.specs.Told
+pub use Rattle.file_picture.specs.Agrees
+pub use Rattle.file_picture.specs.Difference
+pub use Rattle.file_picture.specs.Picture
+pub use Rattle.tree_trait.specs.Open
+pub use Rattle.tree_trait.specs.Opened
 pub use Rattle.answer_core.specs.Complete
 pub use Rattle.answer_core.specs.Local
 pub use Rattle.dbgd_metrics.specs.Counts
@@ -20,6 +25,7 @@ pub use Rattle.federation.specs.Replies as LinkReplies
 pub use Rattle.federation.specs.Rows
 pub use Rattle.webapi_routes.specs.Targets
 pub mod Asked
+pub mod Bodies
 pub mod Cases
 pub mod Connection
 pub mod Decided
@@ -28,6 +34,8 @@ pub mod Exchange
 pub mod Lawful
 pub mod Links
 pub mod PassedOver
+pub mod Pieces
+pub mod Plans
 pub mod Replies
 pub mod Scene
 pub mod Sent

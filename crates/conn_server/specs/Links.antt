@@ -11,14 +11,20 @@ use Rattle.federation.specs.declared.asking.TheConstants.{HOP_LIMIT}
 use Rattle.federation.specs.declared.asking.Upstream.{Upstream}
 use Rattle.federation.specs.declared.asking.Upstream.TheVariants.{HopLimit}
 
--- what was asked for a request and answered: of the hand, and of each link a part; no part where no link was to be asked
+-- what was asked for a request and answered: of the hand, to find the answer and while the reply was written, and of each link a
+-- part; no part where no link was to be asked
 pub record HeardFor : Type 0 where
   pub answers : List Heard
+  pub sent : List Heard
   pub links : List (List LinkHeard)
 
 -- nothing was asked
 abbrev pub unheard : HeardFor
-unheard = record { answers = []; links = [] }
+unheard = record { answers = []; sent = []; links = [] }
+
+-- what the hand was asked in all
+abbrev pub hand_heard : HeardFor → List Heard
+hand_heard heard = heard.answers ++ heard.sent
 
 -- so many links were asked for a route with these hops, each for its part, and this is told of their answers; below the limit
 -- of hops each is asked until an answer passes

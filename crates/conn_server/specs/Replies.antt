@@ -1,6 +1,7 @@
 -- Replies (this project's rule): the status and the text of each reason (RFC 9110, section 15; RFC 6585, section 5).
 use Rattle.std.specs.Prelude.{◌≡◌, ℕ, Bool, true, false, List, [], codes, length, Option, Some, None, string_bytes}
 use Rattle.file_formats.specs.Table.{IsSectionAnswer}
+use Rattle.file_picture.specs.Agrees.{AgreesWithPicture}
 use Rattle.http_wire.specs.Reply.{reply_bytes}
 use Rattle.http_wire.specs.declared.head.HeadFault.{HeadFault}
 use Rattle.http_wire.specs.declared.head.HeadFault.TheVariants as head_fault
@@ -9,10 +10,8 @@ use Rattle.webapi_routes.specs.declared.fault.RouteFault.{RouteFault}
 use Rattle.webapi_routes.specs.declared.fault.RouteFault.TheVariants as route_fault
 use Rattle.answer_check.specs.declared.passed.Passed.{Passed}
 use Rattle.answer_check.specs.declared.passed.Passed.TheVariants as passing
-use Rattle.answer_core.specs.declared.local.Local.{Local}
-use Rattle.answer_core.specs.declared.local.Local.TheVariants as local
-use Rattle.conn_server.specs.declared.body.Body.{Body}
-use Rattle.conn_server.specs.declared.body.Body.TheVariants as bodies
+use Rattle.answer_core.specs.Local.{LocalFacts, file_found, section_found, source_found}
+use Rattle.conn_server.specs.Bodies.{BodyFacts, own_line, found_here, found_upstream, counters_page}
 use Rattle.conn_server.specs.declared.reason.Reason.{Reason}
 use Rattle.conn_server.specs.declared.reason.Reason.TheVariants as reason
 
@@ -79,12 +78,13 @@ reason_of_head head_fault.TooLong = Some reason.TooLarge
 reason_of_head head_fault.TooMany = Some reason.TooLarge
 reason_of_head (head_fault.Cut len) = None
 
--- the bytes of what passed, and the path of its file
-abbrev pub ShowsPassed : Local → List ℕ → Option (List ℕ) → Type 0
-ShowsPassed (local.File from path generation) bytes file = (bytes ≡ from.bytes) × (file ≡ Some path)
-ShowsPassed (local.Section from path generation) bytes file =
-    IsSectionAnswer from.file.bytes from.name (Some bytes) × (file ≡ Some path)
-ShowsPassed (local.Source source path generation) bytes file = (bytes ≡ source.items) × (file ≡ Some path)
+-- the bytes of what passed, and the path of its file: a file's agree with what was checked of it, and a section's are the section
+-- of each file that does
+abbrev pub ShowsPassed : LocalFacts → List ℕ → Option (List ℕ) → Type 0
+ShowsPassed (file_found from name path generation) bytes file = AgreesWithPicture bytes from.picture × (file ≡ Some path)
+ShowsPassed (section_found from path generation) bytes file =
+    ((b : List ℕ) → AgreesWithPicture b from.file.picture → IsSectionAnswer b from.name (Some bytes)) × (file ≡ Some path)
+ShowsPassed (source_found source path generation) bytes file = (bytes ≡ source) × (file ≡ Some path)
 ShowsPassed _ bytes file = ⊥
 
 -- the bytes that are given of what passed
@@ -95,11 +95,11 @@ ShowsGiven (passing.Source source) bytes = bytes ≡ source.items
 
 -- the bytes of what a reply carries, and the path that it is told to come from: a line of text, the page of the counters, or
 -- what passed of a link's answer, without one; or what passed here
-abbrev pub Shows : Reason → Body → List ℕ → Option (List ℕ) → Type 0
-Shows why bodies.Line bytes file = (bytes ≡ reason_text why) × (file ≡ None)
-Shows why (bodies.Found answer) bytes file = ShowsPassed answer bytes file
-Shows why (bodies.Upstream given) bytes file = ShowsGiven given bytes × (file ≡ None)
-Shows why (bodies.Page text) bytes file = (bytes ≡ string_bytes text) × (file ≡ None)
+abbrev pub Shows : Reason → BodyFacts → List ℕ → Option (List ℕ) → Type 0
+Shows why own_line bytes file = (bytes ≡ reason_text why) × (file ≡ None)
+Shows why (found_here answer) bytes file = ShowsPassed answer bytes file
+Shows why (found_upstream given) bytes file = ShowsGiven given bytes × (file ≡ None)
+Shows why (counters_page text) bytes file = (bytes ≡ string_bytes text) × (file ≡ None)
 
 -- whether the reply of a reason is a text
 abbrev pub is_text : Reason → Bool
@@ -107,16 +107,16 @@ is_text reason.Local = false
 is_text reason.Upstream = false
 is_text _ = true
 
--- the head of a reply
-abbrev pub reply_head : Reason → List ℕ → Option (List ℕ) → Bool → ReplyHead
-reply_head why body file close = record {
+-- the head of a reply with a body of so many bytes
+abbrev pub reply_head : Reason → ℕ → Option (List ℕ) → Bool → ReplyHead
+reply_head why len file close = record {
   status = status_of why;
   text = is_text why;
-  len = length body;
+  len = len;
   file = file;
   close = close;
 }
 
 -- the bytes of a reply
 abbrev pub bytes_of : Reason → List ℕ → Option (List ℕ) → Bool → Bool → List ℕ
-bytes_of why body file close with_body = reply_bytes (reply_head why body file close) body with_body
+bytes_of why body file close with_body = reply_bytes (reply_head why (length body) file close) body with_body

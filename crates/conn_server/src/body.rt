@@ -1,61 +1,46 @@
 //! What a reply carries.
 
-ghost use Rattle.std.specs.Prelude.{option_copied};
-ghost use Rattle.conn_server.specs.Cases.{IsPassed};
-ghost use Rattle.conn_server.specs.Replies.{Shows, ShowsGiven, ShowsPassed};
-ghost use Rattle.conn_server.specs.Sent.{CanCarry};
+ghost use Rattle.conn_server.specs.Replies.{ShowsGiven};
 
-use crate::reason::Reason;
-use answer_check::Passed;
-use answer_core::Local;
+use answer_check::{Checked, CheckedSection, Passed};
 use row_types::CanonPath;
 
-/// What a reply carries.
+/// What a reply carries. `F` is the hand's open file.
 #[derive(Drop)]
-pub(crate) enum Body {
+pub(crate) enum Body<F: Drop> {
     /// The line of its reason.
     Line,
-    /// What passed here.
-    Found(Local),
+    /// A file that passed here, which is sent in pieces.
+    File {
+        /// What was read of the file, and checked.
+        from: Checked,
+        /// The open file.
+        file: F,
+        /// Its path.
+        path: CanonPath,
+    },
+    /// A section that passed here.
+    Section {
+        /// The section, with what was read of its file.
+        from: CheckedSection,
+        /// The file's path.
+        path: CanonPath,
+    },
+    /// A source that passed here.
+    Source {
+        /// Its bytes.
+        bytes: Vec<u8>,
+        /// Its path.
+        path: CanonPath,
+    },
     /// What passed of the answers of links.
     Upstream(Passed),
     /// The page of the counters.
     Page(String),
 }
 
-impl Body {
-    /// The bytes of the reply's body, and the path that it is told to come from, if it is told.
-    pub(crate) fn parts(&self, why: Reason) -> (&[u8], Option<&CanonPath>)
-        requires { CanCarry self.now }
-        ensures { Shows why self.now result.0.now (option_copied result.1) }
-    {
-        match self {
-            Body::Line => (why.text(), None),
-            Body::Found(local) => passed(local),
-            Body::Upstream(passed) => (given(passed), None),
-            Body::Page(text) => (text.as_bytes(), None),
-        }
-    }
-}
-
-/// The bytes of what passed, and the path of its file.
-fn passed(local: &Local) -> (&[u8], Option<&CanonPath>)
-    requires { IsPassed local.now }
-    ensures { ShowsPassed local.now result.0.now (option_copied result.1) }
-{
-    match local {
-        Local::File { from, path, .. } => (from.bytes(), Some(path)),
-        Local::Section { from, path, .. } => {
-            let part = from.bytes();
-            (part, Some(path))
-        }
-        Local::Source { bytes, path, .. } => (bytes.as_slice(), Some(path)),
-        Local::Nothing { .. } | Local::Fault { .. } | Local::OutOfMemory => unreachable!(),
-    }
-}
-
-/// The bytes that are given of what passed.
-fn given(passed: &Passed) -> &[u8]
+/// The bytes that are given of what passed of the answers of links.
+pub(crate) fn given(passed: &Passed) -> &[u8]
     ensures { ShowsGiven passed.now result.now }
 {
     match passed {

@@ -6,12 +6,14 @@ ghost use Rattle.conn_server.specs.Connection.{Serves};
 ghost use Rattle.conn_server.specs.Tallied.{HasRowIn};
 ghost use Rattle.conn_server.specs.Scene.{scene_of, stand_of};
 
+use crate::desk::{Desk, open_desk};
+use crate::pieces::PIECE;
 use crate::report::{ConnEnd, ConnReport, Served};
 use crate::service::Service;
 use crate::turn::{Turn, next_turn};
 use dbgd_metrics::{Book, Share};
 use federation::Link;
-use http_wire::{HeadReader, Sink, Source};
+use http_wire::{Sink, Source};
 use index_keeper::Keeper;
 use index_lock::{Seat, TurnLock};
 use index_state::State;
@@ -23,7 +25,7 @@ use tree_trait::{Gate, Point, Tree};
 /// The memory of a connection, which is taken before the first read.
 #[derive(Drop)]
 struct Room {
-    reader: HeadReader,
+    desk: Desk,
     served: Vec<Served>,
 }
 
@@ -31,9 +33,11 @@ struct Room {
 pub const REQUESTS: usize = 100;
 
 /// Answers the requests of a connection, in order, until one closes it, the source ends, or
-/// something fails. Where no file here passes, the links are asked in order. All memory of the report
-/// and of the reader is taken before the first read. The gate is passed under this number each time
-/// before the index is asked, and behind each reply that was written whole and counted.
+/// something fails. Where no file here passes, the links are asked in order. A file that passes is sent
+/// in pieces of 64 KiB, each of which is compared with what was checked of it. All memory of the
+/// report and of the reader is taken before the first read, and room for a piece before the head of the
+/// first reply that needs so much of it. The gate is passed under this number each time before the index
+/// is asked, and behind each reply that was written whole and counted.
 pub fn serve_connection<
     W: Truth,
     K: Keeper<W>,
@@ -65,6 +69,7 @@ pub fn serve_connection<
         (stand_of seat.seen hand.old share.old (map L.shows links.old)) (N.shows conn.old) result.1
         (stand_of result.0.seen hand.new share.new (map L.shows links.new)) (N.shows conn.new) }
     ensures requests { REQUESTS ≡ 100 }
+    ensures pieces { PIECE ≡ 65536 }
 {
     let service = Service {
         rt,
@@ -79,7 +84,7 @@ pub fn serve_connection<
     serve_by(&service, seat, hand, links, share, conn)
 }
 
-/// Answers the requests, where there is memory for the report and the reader.
+/// Answers the requests, where there is memory for the report and for what is read into.
 pub(crate) fn serve_by<
     W: Truth,
     K: Keeper<W>,
@@ -106,9 +111,9 @@ pub(crate) fn serve_by<
         (stand_of result.0.seen hand.new share.new (map L.shows links.new)) (N.shows conn.new) }
 {
     let alloc = service.alloc;
-    match (Vec::with_capacity(alloc, REQUESTS), HeadReader::new(alloc)) {
-        (Ok(served), Ok(reader)) => {
-            let room = Room { reader, served };
+    match (Vec::with_capacity(alloc, REQUESTS), open_desk(alloc)) {
+        (Ok(served), Ok(desk)) => {
+            let room = Room { desk, served };
             serve_all(service, seat, hand, links, share, conn, room)
         }
         _ => (
@@ -141,7 +146,7 @@ fn serve_all<
 ) -> (Seat<State<W, K>>, ConnReport)
     requires seat { seat.lock ≡ service.now.lock.now }
     requires share { HasRowIn service.now.book.now share.old }
-    requires fresh { room.reader ≡ record { all = []; held = []; over = false } }
+    requires fresh { room.desk.reader ≡ record { all = []; held = []; over = false } }
     requires none { room.served.items ≡ [] }
     requires room { REQUESTS ≤ vec_capacity room.served }
     ensures later { IsLater seat result.0 }
@@ -153,7 +158,7 @@ fn serve_all<
 {
     let (rt, gate, number) = (service.rt, service.gate, service.number);
     let Room {
-        mut reader,
+        mut desk,
         mut served,
     } = room;
     let mut seat = seat;
@@ -168,7 +173,7 @@ fn serve_all<
             gate,
             last: served.len() + 1 == REQUESTS,
         };
-        let (next, turn) = next_turn(&current, seat, hand, links, share, &mut reader, conn);
+        let (next, turn) = next_turn(&current, seat, hand, links, share, &mut desk, conn);
         seat = next;
         match turn {
             Turn::Replied(entry) => {

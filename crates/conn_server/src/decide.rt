@@ -3,8 +3,10 @@
 ghost use Rattle.std.specs.Prelude.{◌≡◌, ◌≢◌, map};
 ghost use Rattle.dbgd_metrics.specs.Shares.{ShareFacts};
 ghost use Rattle.index_lock.specs.Tokens.{IsLater};
+ghost use Rattle.row_types.specs.Name.{NameFacts};
 ghost use Rattle.webapi_routes.specs.declared.route.Route.TheVariants.{Metrics};
 ghost use Rattle.conn_server.specs.Asked.{readable, told_facts};
+ghost use Rattle.conn_server.specs.Bodies.{body_facts, decided_facts};
 ghost use Rattle.conn_server.specs.Tallied.{HasRowIn};
 ghost use Rattle.conn_server.specs.Decided.{Decides, DecidesRoute, by_page, for_route, plain};
 ghost use Rattle.conn_server.specs.Scene.{scene_of, stand_of};
@@ -28,9 +30,9 @@ use std::sync::Wait;
 use tree_trait::{Gate, Point, Tree};
 use webapi_routes::{Route, parse};
 
-/// What is asked, and how it is answered.
+/// What is asked, and how it is answered. `F` is the hand's open file.
 #[derive(Drop)]
-pub(crate) struct Decided {
+pub(crate) struct Decided<F: Drop> {
     /// What is asked.
     pub asked: Asked,
     /// Why it gets its reply.
@@ -38,7 +40,7 @@ pub(crate) struct Decided {
     /// The length of the index's log as it was asked.
     pub generation: u64,
     /// What its reply carries.
-    pub body: Body,
+    pub body: Body<F>,
 }
 
 /// Decides by the head alone, or by what answers its route.
@@ -49,7 +51,7 @@ pub(crate) fn decide<W: Truth, K: Keeper<W>, T: Tree<W>, L: Link, G: Gate, R: Wa
     links: &mut [L],
     share: &mut Share,
     head: &Head<'_>,
-) -> (Seat<State<W, K>>, Decided)
+) -> (Seat<State<W, K>>, Decided<T::File>)
     requires lock { seat.lock ≡ service.now.lock.now }
     requires share { HasRowIn service.now.book.now share.old }
     ensures later { IsLater seat result.0 }
@@ -57,7 +59,8 @@ pub(crate) fn decide<W: Truth, K: Keeper<W>, T: Tree<W>, L: Link, G: Gate, R: Wa
     ensures decided { Decides
         (scene_of W.true_row T.told W.version T.shows service.now.folders.now
         service.now.book.now.rows)
-        (stand_of seat.seen hand.old share.old (map L.shows links.old)) (readable (told_facts head.now)) result.1
+        (stand_of seat.seen hand.old share.old (map L.shows links.old)) (readable (told_facts head.now))
+        (decided_facts T.opened result.1)
         (stand_of result.0.seen hand.new share.new (map L.shows links.new)) }
 {
     if !is_served(head.method) {
@@ -81,7 +84,7 @@ fn decide_route<W: Truth, K: Keeper<W>, T: Tree<W>, L: Link, G: Gate, R: Wait + 
     share: &mut Share,
     route: Route,
     hops: u64,
-) -> (Seat<State<W, K>>, Decided)
+) -> (Seat<State<W, K>>, Decided<T::File>)
     requires lock { seat.lock ≡ service.now.lock.now }
     requires share { HasRowIn service.now.book.now share.old }
     ensures later { IsLater seat result.0 }
@@ -89,7 +92,8 @@ fn decide_route<W: Truth, K: Keeper<W>, T: Tree<W>, L: Link, G: Gate, R: Wait + 
     ensures decided { DecidesRoute
         (scene_of W.true_row T.told W.version T.shows service.now.folders.now
         service.now.book.now.rows)
-        (stand_of seat.seen hand.old share.old (map L.shows links.old)) route hops result.1
+        (stand_of seat.seen hand.old share.old (map L.shows links.old)) route hops
+        (decided_facts T.opened result.1)
         (stand_of result.0.seen hand.new share.new (map L.shows links.new)) }
 {
     match route {
@@ -106,14 +110,15 @@ fn decide_file<W: Truth, K: Keeper<W>, T: Tree<W>, L: Link, G: Gate, R: Wait + S
     links: &mut [L],
     route: Route,
     hops: u64,
-) -> (Seat<State<W, K>>, Decided)
+) -> (Seat<State<W, K>>, Decided<T::File>)
     requires lock { seat.lock ≡ service.now.lock.now }
     requires route { route ≢ Metrics }
     ensures later { IsLater seat result.0 }
     ensures decided { (own : ShareFacts) → DecidesRoute
         (scene_of W.true_row T.told W.version T.shows service.now.folders.now
         service.now.book.now.rows)
-        (stand_of seat.seen hand.old own (map L.shows links.old)) route hops result.1
+        (stand_of seat.seen hand.old own (map L.shows links.old)) route hops
+        (decided_facts T.opened result.1)
         (stand_of result.0.seen hand.new own (map L.shows links.new)) }
 {
     let (rt, gate) = (service.rt, service.gate);
@@ -133,8 +138,8 @@ fn decide_file<W: Truth, K: Keeper<W>, T: Tree<W>, L: Link, G: Gate, R: Wait + S
 }
 
 /// What is decided without the index.
-pub(crate) fn plain(asked: Asked, why: Reason) -> Decided
-    ensures { result ≡ plain asked why }
+pub(crate) fn plain<F: Drop>(asked: Asked, why: Reason) -> Decided<F>
+    ensures { (opened : F → NameFacts) → decided_facts opened result ≡ plain asked why }
 {
     Decided {
         asked,
@@ -145,8 +150,8 @@ pub(crate) fn plain(asked: Asked, why: Reason) -> Decided
 }
 
 /// What is decided by the page of the counters.
-fn by_page(page: Result<String, AllocError>) -> Decided
-    ensures { result ≡ by_page page }
+fn by_page<F: Drop>(page: Result<String, AllocError>) -> Decided<F>
+    ensures { (opened : F → NameFacts) → decided_facts opened result ≡ by_page page }
 {
     match page {
         Ok(text) => for_route(Route::Metrics, Reason::Metrics, 0, Body::Page(text)),
@@ -155,8 +160,14 @@ fn by_page(page: Result<String, AllocError>) -> Decided
 }
 
 /// What is decided for a route.
-pub(crate) fn for_route(route: Route, why: Reason, generation: u64, body: Body) -> Decided
-    ensures { result ≡ for_route route why generation body }
+pub(crate) fn for_route<F: Drop>(
+    route: Route,
+    why: Reason,
+    generation: u64,
+    body: Body<F>,
+) -> Decided<F>
+    ensures { (opened : F → NameFacts) → decided_facts opened result
+        ≡ for_route route why generation (body_facts opened generation body) }
 {
     Decided {
         asked: Asked::Route(route),

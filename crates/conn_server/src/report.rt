@@ -35,6 +35,22 @@ pub struct Served {
     pub len: u64,
 }
 
+/// Why a file that is a reply's body wasn't sent whole.
+#[derive(Clone, Copy, PartialEq, Eq)]
+pub enum BodyCause {
+    /// A read of it failed, and the hand's count of faults rose.
+    ReadFault,
+    /// A byte isn't the one that was checked, the first one that isn't.
+    Changed {
+        /// Where it stands, in bytes from the file's start.
+        at: u64,
+        /// The byte that was checked.
+        checked: u8,
+        /// The one that was read in its place.
+        seen: u8,
+    },
+}
+
 /// How a connection ended.
 #[derive(Clone, Copy, PartialEq, Eq)]
 pub enum ConnEnd {
@@ -50,6 +66,9 @@ pub enum ConnEnd {
     ReadFault,
     /// A write failed.
     WriteFault,
+    /// A file that is the body of a reply couldn't be read as it was checked. What stands in front of
+    /// that place was written, and nothing behind it.
+    BodyFault(BodyCause),
     /// There was not enough memory.
     OutOfMemory,
 }

@@ -1,27 +1,45 @@
 //! Writing the reply to what was decided.
 
+ghost use Rattle.std.specs.Prelude.{◌≡◌, ℕ, IfOk, option_copied};
 ghost use Rattle.dbgd_metrics.specs.Numbers.{IsCountedStatus};
+ghost use Rattle.conn_server.specs.Bodies.{body_facts, decided_facts};
 ghost use Rattle.conn_server.specs.Replies.{reply_head};
-ghost use Rattle.conn_server.specs.Sent.{CanSend, Sends, SendsBytes, told_of};
-ghost use Rattle.std.specs.Prelude.{◌≡◌, IfOk, option_copied};
+ghost use Rattle.conn_server.specs.Sent.{CanCarry, CanSend, Sends, SendsBytes, SendsDecided};
+ghost use Rattle.conn_server.specs.Sent.{WritesBytes, told_of};
 
+use crate::body::{Body, given};
 use crate::decide::Decided;
+use crate::found_file::{FoundFile, send_file};
 use crate::reason::Reason;
 use crate::report::{Asked, Served};
+use crate::send_fault::SendFault;
 use http_wire::{ReplyFault, ReplyHead, Sink, write_reply};
-use row_types::CanonPath;
+use row_types::{CanonPath, Truth};
 use std::alloc::{AllocError, Global};
+use tree_trait::Tree;
+
+/// How a reply is written.
+#[derive(Clone, Copy, PartialEq, Eq)]
+pub(crate) struct ReplyForm {
+    /// Whether no other reply follows.
+    pub close: bool,
+    /// Whether its body is written.
+    pub with_body: bool,
+}
 
 /// Writes the reply. Gives what is told of it.
-pub(crate) fn send<N: Sink>(
+pub(crate) fn send<W: Truth, T: Tree<W>, N: Sink>(
     alloc: Global,
+    hand: &mut T,
     conn: &mut N,
-    decided: Decided,
-    close: bool,
-    with_body: bool,
-) -> Result<Served, ReplyFault>
-    requires { CanSend decided }
-    ensures sends { Sends decided close with_body (N.shows conn.old) (N.shows conn.new) result }
+    room: &mut Vec<u8>,
+    decided: Decided<T::File>,
+    form: ReplyForm,
+) -> Result<Served, SendFault>
+    requires send { CanSend W.version (decided_facts T.opened decided) }
+    ensures sends { SendsDecided (record { told = T.told; version = W.version; start = T.shows hand.old })
+        (decided_facts T.opened decided) form.close form.with_body (N.shows conn.old) (T.shows hand.new)
+        (N.shows conn.new) result }
     ensures status { IfOk result (λ served. IsCountedStatus served.status) }
 {
     let Decided {
@@ -30,8 +48,7 @@ pub(crate) fn send<N: Sink>(
         generation,
         body,
     } = decided;
-    let (bytes, file) = body.parts(reason);
-    let sent = send_bytes(alloc, conn, reason, bytes, file, close, with_body);
+    let sent = send_body(alloc, hand, conn, room, reason, body, form);
     told(asked, reason, generation, sent)
 }
 
@@ -40,8 +57,8 @@ fn told(
     asked: Asked,
     why: Reason,
     generation: u64,
-    sent: Result<u64, ReplyFault>,
-) -> Result<Served, ReplyFault>
+    sent: Result<u64, SendFault>,
+) -> Result<Served, SendFault>
     ensures value { result ≡ told_of asked why generation sent }
     ensures status { IfOk result (λ served. IsCountedStatus served.status) }
 {
@@ -55,6 +72,40 @@ fn told(
     })
 }
 
+/// Writes a reply that carries this. Gives how many bytes of a body were written. A file is read in
+/// the meantime; everything else is held.
+fn send_body<W: Truth, T: Tree<W>, N: Sink>(
+    alloc: Global,
+    hand: &mut T,
+    conn: &mut N,
+    room: &mut Vec<u8>,
+    why: Reason,
+    body: Body<T::File>,
+    form: ReplyForm,
+) -> Result<u64, SendFault>
+    requires carry { (n : ℕ) → CanCarry W.version (body_facts T.opened n body) }
+    ensures { (n : ℕ) → Sends (record { told = T.told; version = W.version; start = T.shows hand.old }) why
+        (body_facts T.opened n body) form.close form.with_body (N.shows conn.old) (T.shows hand.new)
+        (N.shows conn.new) result }
+{
+    match body {
+        Body::Line => send_bytes(alloc, conn, why, why.text(), None, form),
+        Body::File { from, file, path } => {
+            let found = FoundFile { from, file, path };
+            send_file(alloc, hand, conn, room, why, found, form)
+        }
+        Body::Section { from, path } => {
+            let part = from.bytes();
+            send_bytes(alloc, conn, why, part, Some(&path), form)
+        }
+        Body::Source { bytes, path } => {
+            send_bytes(alloc, conn, why, bytes.as_slice(), Some(&path), form)
+        }
+        Body::Upstream(passed) => send_bytes(alloc, conn, why, given(&passed), None, form),
+        Body::Page(text) => send_bytes(alloc, conn, why, text.as_bytes(), None, form),
+    }
+}
+
 /// Writes a reply with these bytes of a body. Gives how many of them were written.
 fn send_bytes<N: Sink>(
     alloc: Global,
@@ -62,31 +113,48 @@ fn send_bytes<N: Sink>(
     why: Reason,
     body: &[u8],
     file: Option<&CanonPath>,
-    close: bool,
-    with_body: bool,
-) -> Result<u64, ReplyFault>
-    ensures { SendsBytes why body.now (option_copied file.entry) close with_body (N.shows conn.old)
-        (N.shows conn.new) result }
+    form: ReplyForm,
+) -> Result<u64, SendFault>
+    ensures { SendsBytes why body.now (option_copied file.entry) form.close form.with_body
+        (N.shows conn.old) (N.shows conn.new) result }
 {
-    let head = head_of(alloc, why, body, file, close)?;
-    write_reply(alloc, conn, &head, body, with_body)?;
-    Ok(if with_body { head.len } else { 0 })
+    match write_bytes(alloc, conn, why, body, file, form) {
+        Ok(len) => Ok(len),
+        Err(fault) => Err(SendFault::Reply(fault)),
+    }
 }
 
-/// The head of a reply with this body.
-fn head_of(
+/// The same, with the fault of the writing alone.
+fn write_bytes<N: Sink>(
     alloc: Global,
+    conn: &mut N,
     why: Reason,
     body: &[u8],
     file: Option<&CanonPath>,
+    form: ReplyForm,
+) -> Result<u64, ReplyFault>
+    ensures { WritesBytes why body.now (option_copied file.entry) form.close form.with_body
+        (N.shows conn.old) (N.shows conn.new) result }
+{
+    let head = head_of(alloc, why, body.len() as u64, file, form.close)?;
+    write_reply(alloc, conn, &head, body, form.with_body)?;
+    Ok(if form.with_body { head.len } else { 0 })
+}
+
+/// The head of a reply with a body of so many bytes.
+pub(crate) fn head_of(
+    alloc: Global,
+    why: Reason,
+    len: u64,
+    file: Option<&CanonPath>,
     close: bool,
 ) -> Result<ReplyHead, AllocError>
-    ensures { IfOk result (λ head. head ≡ reply_head why body.now (option_copied file.entry) close) }
+    ensures { IfOk result (λ head. head ≡ reply_head why len (option_copied file.entry) close) }
 {
     Ok(ReplyHead {
         status: why.status(),
         text: why.is_text(),
-        len: body.len() as u64,
+        len,
         file: copy_of(alloc, file)?,
         close,
     })

@@ -6,9 +6,8 @@ use Rattle.tree_trait.specs.Heard.{Heard}
 use Rattle.webapi_routes.specs.declared.fault.RouteFault.{RouteFault}
 use Rattle.webapi_routes.specs.declared.fault.RouteFault.TheVariants as route_fault
 use Rattle.webapi_routes.specs.declared.route.Route.{Route}
-use Rattle.answer_core.specs.Local.{IsLocal, Sight}
-use Rattle.answer_core.specs.declared.local.Local.{Local}
-use Rattle.answer_core.specs.declared.local.Local.TheVariants as local
+use Rattle.answer_core.specs.Local.{IsLocal, LocalFacts, Sight}
+use Rattle.answer_core.specs.Local.{file_found, section_found, source_found, nothing_found, fault_found, no_memory_found}
 use Rattle.dbgd_metrics.specs.Shares.{ShareFacts}
 use Rattle.federation.specs.declared.asking.Upstream.{Upstream}
 use Rattle.conn_server.specs.Asked.{Request}
@@ -31,24 +30,24 @@ no_route_asks route_fault.BadPath h = false≢true h
 no_route_asks route_fault.OutOfMemory h = false≢true h
 
 -- of an answer that passed
-passed_at : (sight : Sight) (route : Route) (answer : Local) → IsLocal sight route answer → IsPassed answer
+passed_at : (sight : Sight) (route : Route) (answer : LocalFacts) → IsLocal sight route answer → IsPassed answer
     → generation_of answer ≡ length sight.log
-passed_at sight route (local.File from path n) is files = is.1
-passed_at sight route (local.Section from path n) is files = is.1
-passed_at sight route (local.Source bytes path n) is files = is.1
-passed_at sight route (local.Nothing n) is files = absurd files
-passed_at sight route (local.Fault n) is files = absurd files
-passed_at sight route local.OutOfMemory is files = absurd files
+passed_at sight route (file_found from name path n) is files = is.1
+passed_at sight route (section_found from path n) is files = is.1
+passed_at sight route (source_found bytes path n) is files = is.1
+passed_at sight route (nothing_found n) is files = absurd files
+passed_at sight route (fault_found n) is files = absurd files
+passed_at sight route no_memory_found is files = absurd files
 
 -- of an answer behind which the links were asked
-unfound_at : (sight : Sight) (route : Route) (answer : Local) → IsLocal sight route answer → IsUnfound answer
+unfound_at : (sight : Sight) (route : Route) (answer : LocalFacts) → IsLocal sight route answer → IsUnfound answer
     → generation_of answer ≡ length sight.log
-unfound_at sight route (local.Nothing n) is missed = is.1
-unfound_at sight route (local.Fault n) is missed = is.1
-unfound_at sight route (local.File from path n) is missed = absurd missed
-unfound_at sight route (local.Section from path n) is missed = absurd missed
-unfound_at sight route (local.Source bytes path n) is missed = absurd missed
-unfound_at sight route local.OutOfMemory is missed = absurd missed
+unfound_at sight route (nothing_found n) is missed = is.1
+unfound_at sight route (fault_found n) is missed = is.1
+unfound_at sight route (file_found from name path n) is missed = absurd missed
+unfound_at sight route (section_found from path n) is missed = absurd missed
+unfound_at sight route (source_found bytes path n) is missed = absurd missed
+unfound_at sight route no_memory_found is missed = absurd missed
 
 module _ {T : Type 0} (scene : Scene T) (at : Stand T) (own noted : ShareFacts) (log : List Change) (request : Request) where
   at_log : {what : given.Asked} {why : Reason} {n : ℕ} {carried : _} {answers : List Heard} {told : Option Upstream}

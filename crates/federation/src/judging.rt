@@ -7,7 +7,7 @@ ghost use Rattle.federation.specs.Replies.{class_asked};
 ghost use Rattle.federation.specs.Rows.{JudgesOne};
 
 use crate::link::{Link, LinkAnswer};
-use answer_check::{Checked, Passed, check};
+use answer_check::{Checking, Passed, check};
 use row_types::Kind;
 use std::alloc::Global;
 use std::sync::Wait;
@@ -55,9 +55,9 @@ fn judge(alloc: Global, route: &Route, class: Option<Kind>, body: Vec<u8>) -> Qu
     ensures { JudgesBody route.now class body.items result }
 {
     match check(alloc, route, class, body) {
-        Checked::Passed(given) => QuestionEnd::Passed(given),
-        Checked::Refused => QuestionEnd::Refused,
-        Checked::OutOfMemory => QuestionEnd::OutOfMemory,
+        Checking::Passed(given) => QuestionEnd::Passed(given),
+        Checking::Refused => QuestionEnd::Refused,
+        Checking::OutOfMemory => QuestionEnd::OutOfMemory,
     }
 }
 

@@ -8,3 +8,4 @@ pub mod AgreeLaws
 pub mod PassedLaws
 pub mod UniqueLaw
 pub mod WholeLaws
+pub mod DifferenceLemmas

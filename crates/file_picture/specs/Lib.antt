@@ -4,3 +4,4 @@ pub mod Passed
 pub mod Pieces
 pub mod Whole
 pub mod Lent
+pub mod Difference

@@ -1,6 +1,6 @@
 -- Pieces of a picture, one by one.
-use Rattle.std.specs.Prelude.{◌≡◌, ◌≢◌, ◌⊎◌, MatchBool, Bool, Some, All, ℕ, ◌+◌, ◌-◌, ◌<◌, ◌≤◌, ◌^◌, List, ◌∷◌, ◌++◌, true, is_some, length, take, drop, slice_index, slice_index_or, slice_set}
-use Rattle.file_picture.specs.Picture.{PieceFacts, ArePiecesApart, AreFree, IsPicture, byte_among, piece_end, sum_of}
+use Rattle.std.specs.Prelude.{◌≡◌, ◌≢◌, ◌⊎◌, MatchBool, Bool, Some, All, ℕ, ◌+◌, ◌-◌, ◌<◌, ◌≤◌, ◌^◌, List, [], ◌∷◌, ◌++◌, true, is_some, length, take, drop, slice_index, slice_index_or, slice_set}
+use Rattle.file_picture.specs.Picture.{PieceFacts, PictureFacts, ArePiecesApart, AreFree, IsPicture, byte_among, piece_end, sum_of}
 
 -- what a piece keeps: room before its bytes, which end below 2^64
 pub record IsPiece (at room : ℕ) (kept : List ℕ) : Type 0 where
@@ -16,6 +16,14 @@ pub record ArePiecesKept (size sum : ℕ) (ps : List PieceFacts) : Type 0 where
 -- the piece of these bytes
 abbrev pub piece_of : ℕ → List ℕ → PieceFacts
 piece_of at bytes = record { at = at; bytes = bytes }
+
+-- pieces as a picture, whatever its size
+abbrev pub pieces_alone : List PieceFacts → PictureFacts
+pieces_alone ps = record { size = 0; pieces = ps }
+
+-- one piece as a picture
+abbrev pub piece_alone : PieceFacts → PictureFacts
+piece_alone q = pieces_alone (q ∷ [])
 
 -- a piece with bytes put before its own
 abbrev pub put_before : List ℕ → PieceFacts → PieceFacts
@@ -89,3 +97,10 @@ pub record ArePiecesPut (old : List PieceFacts) (at : ℕ) (bytes : List ℕ) (n
   pub there : (i : ℕ) → i < length bytes → byte_among new (at + i) ≡ Some (slice_index bytes i)
   pub others : (place : ℕ) → (place < at) ⊎ (at + length bytes ≤ place) → byte_among new place ≡ byte_among old place
   pub sum : sum_of new ≡ sum_of old + length bytes
+
+-- the first index at which two lists of bytes differ
+pub record IsFirstUnequal (xs ys : List ℕ) (i : ℕ) : Type 0 where
+  pub inside : i < length xs
+  pub there : i < length ys
+  pub before : (k : ℕ) → k < i → slice_index xs k ≡ slice_index ys k
+  pub other : slice_index xs i ≢ slice_index ys i

@@ -2,11 +2,13 @@
 //! How they are read, and what they mean, is left out.
 #![tactic(auto)]
 
+mod difference;
 mod joins;
 mod picture;
 mod piece;
 mod places;
 mod view;
 
+pub use difference::Difference;
 pub use picture::Picture;
 pub use view::{Need, View};

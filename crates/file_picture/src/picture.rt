@@ -1,8 +1,10 @@
 //! A picture.
 
-ghost use Rattle.std.specs.Prelude.{◌≡◌, ◌+◌, ◌≤◌, [], length, IfErr, OnErr, OnOk, MatchOption};
+ghost use Rattle.std.specs.Prelude.{◌≡◌, ◌+◌, ◌≤◌, [], length, IfErr, IfNone, IfSome, OnErr, OnOk, MatchOption};
+ghost use Rattle.file_picture.specs.Difference.{AgreesAt, IsFirstDifference};
 ghost use Rattle.file_picture.specs.Picture.{GivesRange, IsAdded, IsCovered, IsFirstGap, IsRangeFree, IsPicture, sum_of};
 
+use crate::difference::{Difference, first_difference};
 use crate::joins::put;
 use crate::piece::Piece;
 use crate::places::{begun, known_to, next_begin};
@@ -87,6 +89,16 @@ impl Picture {
         }
         let to = next_begin(&self.pieces, count, end);
         Some((from, to - from))
+    }
+
+    /// The first of these bytes, which stand in a file from a place on, that isn't the one that is
+    /// known there. Where no byte is known, none is looked at.
+    pub fn difference(&self, at: u64, bytes: &[u8]) -> Option<Difference>
+        requires inside { at + length bytes.now ≤ self.now.size }
+        ensures none { IfNone result (AgreesAt self.now at bytes.now) }
+        ensures some { IfSome result (IsFirstDifference self.now at bytes.now) }
+    {
+        first_difference(&self.pieces, at, bytes)
     }
 
     /// Puts bytes at a place, none of which was known there, or gives them back where memory is

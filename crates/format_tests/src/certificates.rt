@@ -7,7 +7,7 @@ use std::alloc::AllocError;
 use std::process::Abort;
 
 /// The id of these 20 bytes.
-fn id_of(rt: &impl Abort, bytes: &[u8]) -> BuildId {
+pub fn id_of(rt: &impl Abort, bytes: &[u8]) -> BuildId {
     BuildId::new(bytes).expect(rt, "20 bytes are an id")
 }
 

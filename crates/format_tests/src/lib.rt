@@ -5,7 +5,11 @@
 #[cfg(test)]
 mod certificates;
 #[cfg(test)]
+mod checked_pictures;
+#[cfg(test)]
 mod cursors;
+#[cfg(test)]
+mod differences;
 #[cfg(test)]
 mod forging;
 #[cfg(test)]

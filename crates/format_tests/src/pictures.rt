@@ -5,7 +5,7 @@ use std::alloc::Global;
 use std::process::Abort;
 
 /// The file, 19 bytes.
-const FILE: &[u8] = b"the bytes of a file";
+pub const FILE: &[u8] = b"the bytes of a file";
 
 /// Puts a part of a file into its picture, and says whether that was done: none of it was there.
 pub fn puts(
@@ -51,7 +51,7 @@ pub fn fill(rt: &impl Abort, alloc: Global, picture: &mut Picture, file: &[u8], 
 }
 
 /// The picture with "e by" at 2 and " of" at 9.
-fn two_parts(rt: &impl Abort, alloc: Global) -> Picture {
+pub fn two_parts(rt: &impl Abort, alloc: Global) -> Picture {
     let mut picture = Picture::new(alloc, FILE.len() as u64);
     assert!(rt; puts(rt, alloc, &mut picture, FILE, 2, 6), "the first part");
     assert!(rt;

@@ -27,7 +27,7 @@ pub use mem_conn::MemConn;
 pub use mem_door::MemDoor;
 pub use mem_sink::MemSink;
 pub use reader::HeadReader;
-pub use reply::{ReplyFault, ReplyHead, write_reply};
+pub use reply::{ReplyFault, ReplyHead, write_head, write_reply};
 pub use room::Room;
 pub use sink::{Sink, WriteAnswer, WriteFault, write_all, write_both};
 pub use source::{ReadAnswer, Source};

@@ -57,6 +57,17 @@ impl From<WriteFault> for ReplyFault {
     }
 }
 
+/// Writes the head of a reply, whose body is sent apart or not at all. Memory is taken before the
+/// first write.
+pub fn write_head<S: Sink>(alloc: Global, sink: &mut S, head: &ReplyHead) -> Result<(), ReplyFault>
+    requires { IsStatus head.now.status }
+    ensures { MatchResult result
+        (λ _. GetsAll (head_bytes head.now) (S.shows sink.old) (S.shows sink.new))
+        (λ fault. FailsReply fault (head_bytes head.now) (S.shows sink.old) (S.shows sink.new)) }
+{
+    write_whole(alloc, sink, head, &[])
+}
+
 /// Writes a reply: its head, and the body where `with_body` is true. Memory is taken before the
 /// first write.
 pub fn write_reply<S: Sink>(
@@ -75,7 +86,7 @@ pub fn write_reply<S: Sink>(
     if with_body {
         write_whole(alloc, sink, head, body)
     } else {
-        write_whole(alloc, sink, head, &[])
+        write_head(alloc, sink, head)
     }
 }
 

@@ -8,4 +8,5 @@ pub mod NameLemmas
 pub mod NeedLemmas
 pub mod OpenLemmas
 pub mod OpenedLemmas
+pub mod SwapLemmas
 pub mod TreeLemmas

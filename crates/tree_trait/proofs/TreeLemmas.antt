@@ -18,10 +18,11 @@ use Rattle.tree_trait.specs.Found.{FoundFacts, IsFound, Versions, found_name}
 use Rattle.tree_trait.specs.Heard.{Heard, call_failed, wants_memory, with_answers}
 use Rattle.tree_trait.specs.HeardCalls.{IsListedAs}
 use Rattle.tree_trait.specs.MemTree.{TreeFacts, IsScripted, IsStill, IsStageAnswer, RunsRead, answered, next_stage}
-use Rattle.tree_trait.specs.MemTree.{moved_to, present_in, tree_shows, with_heard}
+use Rattle.tree_trait.specs.MemTree.{is_bad_call, moved_to, present_in, tree_shows, with_heard, with_swaps}
 use Rattle.tree_trait.specs.Present.{IsKnownName, are_apart, are_distinct}
 use Rattle.tree_trait.specs.Script.{ScriptFacts, is_script, is_stage, is_call_listed, stage_for, names_at}
 use Rattle.tree_trait.specs.Shown.{HandsOn, IsPresence, StaysStill}
+use Rattle.tree_trait.specs.Swaps.{SwapsFacts, read_once}
 
 -- a sound script's first stage is there
 pub scripted_first : {version : Versions} (script : ScriptFacts) → IsTrue (is_script script)
@@ -66,12 +67,13 @@ next_placed moves call stage count placed =
       | false ↦ λ t. (omega arith, placed)
     ] refl
 
--- a call that is answered by the files of the next stage hands the tree on, whatever questions are told from there on
+-- a call that is answered by the files of the next stage hands the tree on, whatever questions are told from there on, and
+-- whatever is swapped
 hands_answered : {version : Versions} {next : TreeFacts} (tree : TreeFacts) (asked : Heard)
-    (heard : Option (List Heard)) → IsScripted version tree.script tree.stage
-    → next ≡ with_heard (answered tree asked) heard → tree.faults ≤ next.faults
+    (heard : Option (List Heard)) (swaps : SwapsFacts) → IsScripted version tree.script tree.stage
+    → next ≡ with_swaps (with_heard (answered tree asked) heard) swaps → tree.faults ≤ next.faults
     → HandsOn true version (tree_shows tree) (tree_shows next) (Unit {0}) (IsTrue (call_failed asked))
-hands_answered {version} tree asked heard scripted e later =
+hands_answered {version} tree asked heard swaps scripted e later =
     subst (λ (t : TreeFacts). HandsOn true version (tree_shows tree) (tree_shows t) (Unit {0}) (IsTrue (call_failed asked)))
     (sym e) (record {
       cause = cause;
@@ -83,8 +85,8 @@ hands_answered {version} tree asked heard scripted e later =
     placed : (tree.stage ≤ next_stage tree) × (next_stage tree < length tree.script.stages)
     placed = next_placed tree.script.moves tree.calls tree.stage (length tree.script.stages) scripted.placed
 
-    known : IsPresence version (tree_shows (with_heard (answered tree asked) heard))
-    known = tree_known (with_heard (answered tree asked) heard)
+    known : IsPresence version (tree_shows (with_swaps (with_heard (answered tree asked) heard) swaps))
+    known = tree_known (with_swaps (with_heard (answered tree asked) heard) swaps)
         (record { sound = scripted.sound; placed = placed.1; known = scripted.known })
 
     cause : HasCause tree.faults (if call_failed asked then raised tree.faults else tree.faults)
@@ -99,7 +101,8 @@ hands_answered {version} tree asked heard scripted e later =
               (omega arith);
         }
 
-    stays : IsStill tree → StaysStill (tree_shows tree) (tree_shows (with_heard (answered tree asked) heard))
+    stays : IsStill tree
+        → StaysStill (tree_shows tree) (tree_shows (with_swaps (with_heard (answered tree asked) heard) swaps))
     stays still =
         let same : names_at tree.script (next_stage tree) ≡ present_in tree =
         still.rests (next_stage tree) placed.0 placed.1 in
@@ -124,7 +127,8 @@ asks_answered {version} tree {asked} scripted answer answers e later =
       fits = answer.fits;
       tells = λ _. answer.tells;
       listed = rw answers refl;
-      hands = hands_answered {next = answered tree asked} tree asked (with_answers tree.heard (asked ∷ [])) scripted refl
+      hands = hands_answered {next = answered tree asked} tree asked (with_answers tree.heard (asked ∷ [])) tree.swaps scripted
+          refl
           (subst (λ (t : TreeFacts). tree.faults ≤ t.faults) e later);
     })
 
@@ -171,7 +175,21 @@ pub reads_answered : {version : Versions} (tree next : TreeFacts) (asked : Heard
     → ReadsOpened true version (tree_shows tree) (tree_shows next) asked
 reads_answered tree next asked scripted runs later = record {
   listed = runs.listed;
-  hands = hands_answered tree asked next.heard scripted runs.ends later;
+  hands = hands_answered tree asked next.heard (read_once tree.swaps) scripted runs.ends later;
+}
+
+-- a read that is listed, or not, and then counted
+pub read_counted : (tree mid next : TreeFacts) (asked : Heard) → call_failed asked ≡ is_bad_call tree
+    → (IsSome mid.heard → mid.heard ≡ with_answers tree.heard (asked ∷ [])) → mid ≡ with_heard (answered tree asked) mid.heard
+    → next ≡ with_swaps mid (read_once mid.swaps) → RunsRead tree next asked
+read_counted tree mid next asked fails told same counted = record {
+  fails = fails;
+  listed = subst (λ (heard : Option (List Heard)). IsSome heard → heard ≡ with_answers tree.heard (asked ∷ []))
+      (sym (ap (λ (t : TreeFacts). t.heard) counted)) told;
+  ends =
+      counted ∙ ap (λ (t : TreeFacts). with_swaps t (read_once t.swaps)) same
+      ∙ ap (λ (heard : Option (List Heard)). with_swaps (with_heard (answered tree asked) heard) (read_once tree.swaps))
+      (sym (ap (λ (t : TreeFacts). t.heard) counted));
 }
 
 -- a call of which an answer was kept

@@ -24,4 +24,5 @@ pub mod Reader
 pub mod Script
 pub mod Shown
 pub mod Stat
+pub mod Swaps
 pub mod TwoWorld

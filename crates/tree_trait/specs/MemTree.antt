@@ -9,19 +9,21 @@ use Rattle.tree_trait.specs.Heard.{Heard, call_failed, wants_memory, with_answer
 use Rattle.tree_trait.specs.Present.{are_apart}
 use Rattle.tree_trait.specs.Script.{ScriptFacts, is_script, is_call_listed, stage_for, names_at}
 use Rattle.tree_trait.specs.Shown.{ShownTree}
+use Rattle.tree_trait.specs.Swaps.{SwapsFacts, no_swaps, read_once}
 
--- the script, the stage that stands, the next call's number, the questions so far, where they are told, and the count of
--- faults
+-- the script, the stage that stands, the next call's number, the questions so far, where they are told, the count of faults, and
+-- what is swapped
 pub record TreeFacts : Type 0 where
   pub script : ScriptFacts
   pub stage : ℕ
   pub calls : ℕ
   pub heard : Option (List Heard)
   pub faults : ℕ
+  pub swaps : SwapsFacts
 
 -- a tree that was asked nothing yet
 abbrev pub fresh_tree : ScriptFacts → TreeFacts
-fresh_tree script = record { script = script; stage = 0; calls = 0; heard = Some []; faults = 0 }
+fresh_tree script = record { script = script; stage = 0; calls = 0; heard = Some []; faults = 0; swaps = no_swaps }
 
 -- the script is sound, the stage is one of its, and each file is a version of the world
 pub record IsScripted (version : Versions) (script : ScriptFacts) (stage : ℕ) : Type 0 where
@@ -54,8 +56,7 @@ tree_shows tree = record {
 
 -- the tree after a call that was answered
 abbrev pub answered : TreeFacts → Heard → TreeFacts
-answered tree asked = record {
-  script = tree.script;
+answered tree asked = record tree {
   stage = next_stage tree;
   calls = raised tree.calls;
   heard = with_answers tree.heard (asked ∷ []);
@@ -69,6 +70,10 @@ tree_after tree asked = if wants_memory asked then tree else answered tree asked
 -- the tree with these questions
 abbrev pub with_heard : TreeFacts → Option (List Heard) → TreeFacts
 with_heard tree heard = record tree { heard = heard }
+
+-- the tree with this swapped
+abbrev pub with_swaps : TreeFacts → SwapsFacts → TreeFacts
+with_swaps tree swaps = record tree { swaps = swaps }
 
 -- the tree with one more call counted, which was answered in this stage
 abbrev pub moved_to : TreeFacts → ℕ → Bool → TreeFacts
@@ -103,4 +108,4 @@ pub record RunsScript (before after : TreeFacts) (asked : Heard) : Type 0 where
 pub record RunsRead (before after : TreeFacts) (asked : Heard) : Type 0 where
   pub fails : call_failed asked ≡ is_bad_call before
   pub listed : IsSome after.heard → after.heard ≡ with_answers before.heard (asked ∷ [])
-  pub ends : after ≡ with_heard (answered before asked) after.heard
+  pub ends : after ≡ with_swaps (with_heard (answered before asked) after.heard) (read_once before.swaps)

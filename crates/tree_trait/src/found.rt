@@ -96,7 +96,7 @@ impl<W: Truth> Found<W> {
 }
 
 /// Copies bytes from a place on into all of a room.
-fn copy_part(bytes: &[u8], at: u64, room: &mut [u8])
+pub fn copy_part(bytes: &[u8], at: u64, room: &mut [u8])
     requires { at + length room.old ≤ length bytes.now }
     ensures len { length room.new ≡ length room.old }
     ensures own { room.new ≡ bytes_at bytes.now at (length room.old) }

@@ -21,6 +21,7 @@ mod reader;
 mod script;
 mod stage;
 mod stat;
+mod swaps;
 mod tree;
 mod turn_gate;
 mod two_world;

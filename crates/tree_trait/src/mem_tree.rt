@@ -1,6 +1,6 @@
 //! A tree in memory that answers by a script.
 
-ghost use Rattle.std.specs.Prelude.{◌≡◌, ℕ, ◌+◌, ◌≤◌, ◌<◌, List, [], ◌∷◌, true, map, length, IsTrue, IsSome, IsSomeAnd};
+ghost use Rattle.std.specs.Prelude.{◌≡◌, ℕ, ◌+◌, ◌≤◌, ◌<◌, List, [], ◌∷◌, true, false, map, length, IsTrue, IsSome, IsSomeAnd, OnErr, OnOk};
 ghost use Rattle.std.specs.Bool.{OnTrue, OnFalse};
 ghost use Rattle.file_formats.specs.Numbers.{bytes_at};
 ghost use Rattle.tree_trait.specs.Asks.{AsksTree, ReadsOpened};
@@ -12,9 +12,10 @@ ghost use Rattle.tree_trait.specs.HeardCalls.{heard_facts};
 ghost use Rattle.tree_trait.specs.Load.{load_facts};
 ghost use Rattle.tree_trait.specs.MemTree.{IsScripted, RunsRead, RunsScript, TreeFacts, answered};
 ghost use Rattle.tree_trait.specs.MemTree.{fresh_tree, is_bad_call, next_stage, tree_shows};
-ghost use Rattle.tree_trait.specs.MemTree.{moved_to, with_heard};
+ghost use Rattle.tree_trait.specs.MemTree.{moved_to, with_heard, with_swaps};
 ghost use Rattle.tree_trait.specs.Open.{IsOpenedAs, open_facts, room_facts};
 ghost use Rattle.tree_trait.specs.Script.{is_script, names_at};
+ghost use Rattle.tree_trait.specs.Swaps.{bytes_seen, read_once, swapped};
 
 use crate::answer::LoadAnswer;
 use crate::dir::DirAnswer;
@@ -24,17 +25,18 @@ use crate::opening::{OpenAnswer, RoomAnswer};
 use crate::script::Script;
 use crate::stage::{dir_in, files_at, is_listed, load_in, open_in, stage_for, stat_in};
 use crate::stat::StatAnswer;
+use crate::swaps::Swaps;
 use crate::tree::Tree;
 use row_types::{Faults, Truth};
-use std::alloc::Global;
+use std::alloc::{AllocError, Global};
 use std::marker::Model;
 
 /// A tree in memory. It tells what it has and what it was asked, moves to its script's next stage
 /// before the calls that the script lists, and fails exactly at the calls that the script lists.
-/// A file that was opened keeps its bytes, whatever stands at its path since. Where memory to list
-/// a read of it is refused, the questions aren't told from then on. Contracts see it as a record of
-/// the script, the stage, the next call's number, the questions so far, where they are told, and the
-/// faults.
+/// A file that was opened keeps its bytes, whatever stands at its path since, but for those that are
+/// swapped. Where memory to list a read of it is refused, the questions aren't told from then on.
+/// Contracts see it as a record of the script, the stage, the next call's number, the questions so
+/// far, where they are told, the faults, and what is swapped.
 #[derive(Drop)]
 pub struct MemTree<W: Truth> {
     script: Script<W>,
@@ -42,6 +44,7 @@ pub struct MemTree<W: Truth> {
     calls: u64,
     heard: Option<Vec<HeardCall<W>>>,
     faults: Faults,
+    swaps: Swaps<W>,
 }
 
 impl<W: Truth> Model for MemTree<W> {
@@ -58,6 +61,7 @@ impl<W: Truth> Model for MemTree<W> {
       calls = t.calls;
       heard = option_map (λ calls. map heard_facts calls.items) t.heard;
       faults = t.faults;
+      swaps = t.swaps;
     } };
 
     ghost invariant = { λ t. IsScripted W.version t.script t.stage };
@@ -76,7 +80,20 @@ impl<W: Truth> MemTree<W> {
             calls: 0,
             heard: Some(Vec::new(alloc)),
             faults: Faults::new(),
+            swaps: Swaps::new(alloc),
         }
+    }
+
+    /// Lets these bytes stand for those of the files of a path that have as many, from the read of a
+    /// number on, counted from 0 over all open files: what is read of them is no version of a told
+    /// world.
+    pub fn swap(&mut self, call: u64, path: &str, bytes: Vec<u8>) -> Result<(), AllocError>
+        requires { W.told ≡ false }
+        ensures ok { OnOk result (self.new
+            ≡ with_swaps self.old (swapped self.old.swaps call path.now bytes.items)) }
+        ensures err { OnErr result (self.new ≡ self.old) }
+    {
+        self.swaps.add(call, path, bytes)
     }
 
     /// Whether the next call fails.
@@ -193,6 +210,26 @@ impl<W: Truth> MemTree<W> {
         self.end_in(stage, answer.has_failed());
     }
 
+    /// Counts a read of an open file.
+    fn count_read(&mut self)
+        ensures { self.new ≡ with_swaps self.old (read_once self.old.swaps) }
+    {
+        self.swaps.count();
+    }
+
+    /// Copies what the next read of an open file gives, from a place on, into all of a room.
+    fn read_next(&self, file: &Found<W>, at: u64, room: &mut [u8])
+        requires { at + length room.old ≤ file.now.stamp.size }
+        ensures len { length room.new ≡ length room.old }
+        ensures seen { room.new
+            ≡ bytes_at (bytes_seen self.now.swaps file.now) at (length room.old) }
+        ensures bytes { W.told ≡ true → (b : List ℕ)
+            → W.version file.now.path file.now.stamp b
+            → room.new ≡ bytes_at b at (length room.old) }
+    {
+        self.swaps.read_into(file, at, room);
+    }
+
     /// Ends a read of an open file, by the room that it left, which failed if it was to.
     fn end_read(&mut self, file: &Found<W>, at: u64, answer: RoomAnswer, room: &[u8])
         requires { call_failed (read_at (found_name file.now) at (room_facts answer room.now))
@@ -205,6 +242,7 @@ impl<W: Truth> MemTree<W> {
         // For its clause: the stage is one of the script's.
         self.know_script();
         self.move_on(file, at, answer, room);
+        self.count_read();
     }
 }
 
@@ -296,8 +334,8 @@ impl<W: Truth + Send> Tree<W> for MemTree<W> {
         ensures bytes { result ≡ RoomAnswer.Filled → W.told ≡ true → (b : List ℕ)
             → W.version file.old.path file.old.stamp b
             → room.new ≡ bytes_at b at (length room.old) }
-        ensures own { result ≡ RoomAnswer.Filled
-            → room.new ≡ bytes_at file.old.bytes at (length room.old) }
+        ensures seen { result ≡ RoomAnswer.Filled → room.new
+            ≡ bytes_at (bytes_seen self.old.swaps file.old) at (length room.old) }
         ensures keeps { file.new ≡ file.old }
         ensures script { RunsRead self.old self.new
             (read_at (found_name file.old) at (room_facts result room.new)) }
@@ -306,7 +344,7 @@ impl<W: Truth + Send> Tree<W> for MemTree<W> {
             self.end_read(file, at, RoomAnswer::Failed, room);
             RoomAnswer::Failed
         } else {
-            file.read_into(at, room);
+            self.read_next(file, at, room);
             self.end_read(file, at, RoomAnswer::Filled, room);
             RoomAnswer::Filled
         }

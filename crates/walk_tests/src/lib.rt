@@ -4,6 +4,8 @@
 #[cfg(test)]
 mod fills;
 #[cfg(test)]
+mod swaps;
+#[cfg(test)]
 mod trees;
 #[cfg(test)]
 mod walks;

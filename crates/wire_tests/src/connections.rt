@@ -1,10 +1,13 @@
 //! What no clause says: that memory suffices, and the whole bytes of replies.
 
+mod changed;
 mod cut;
 mod edges;
 mod gates;
 pub mod helpers;
 mod metrics;
+mod open;
+mod pieces;
 mod replies;
 pub mod texts;
 mod upstream;

@@ -11,6 +11,8 @@ mod counters;
 #[cfg(test)]
 mod doors;
 #[cfg(test)]
+mod files;
+#[cfg(test)]
 mod routes;
 #[cfg(test)]
 mod wire;

@@ -2,5 +2,6 @@
 
 mod conns;
 mod heads;
+mod heads_apart;
 mod replies;
 mod sinks;

@@ -106,9 +106,10 @@ fn a_request_that_wants_memory_ends_nothing_else(rt: HostRuntime) {
 
 /// How often each hand is asked, in order: the first looks at the folder, reads it and looks at two
 /// files; the second looks for no row's file, since there was none; the third opens both files, and
-/// reads four parts of one and one of the other; the fourth loads the one that is asked at the door;
-/// and the fifth isn't needed.
-static CALLS: [u64; 5] = [4, 0, 7, 1, 0];
+/// reads four parts of one and one of the other; the fourth opens the one that is asked at the door,
+/// reads the same four parts of it, and reads it once more as it is sent, in one piece; and the fifth
+/// isn't needed.
+static CALLS: [u64; 5] = [4, 0, 7, 6, 0];
 
 /// Hands that fail at the first call behind these, and at no other.
 fn counting(rt: &impl Abort, alloc: Global) -> Vec<MemTree<OpenWorld>> {

@@ -26,8 +26,8 @@ pub enum Wanted {
     Text(&'static str),
 }
 
-/// The id, what is asked, the folders of sources, the loads that fail, counted from 0, and the
-/// answer.
+/// The id, what is asked, the folders of sources, the calls of the hand that fail, counted from 0,
+/// and the answer. An opening is a call, and each read of what was opened, and each load.
 #[derive(Clone, Copy)]
 pub struct Case(
     pub &'static [u8],
@@ -53,12 +53,18 @@ pub fn route(rt: &impl Abort, alloc: Global, id: &[u8], wanted: Wanted) -> Route
     }
 }
 
-/// An answer as a text: its kind, its path, the length of its body, and its generation.
-fn text_of(alloc: Global, local: &Local) -> Result<String, AllocError> {
+/// An answer as a text: its kind, its path, how many bytes of the file were read and how many it has,
+/// or the length of its body, and its generation.
+fn text_of<F: Drop>(alloc: Global, local: &Local<F>) -> Result<String, AllocError> {
     match local {
-        Local::File { from, path, gen_ } => {
-            let len = from.bytes().len();
-            format!(in alloc; "file {} {len} at {gen_}", path.text())
+        Local::File {
+            from,
+            path,
+            gen_,
+            ..
+        } => {
+            let (known, size) = (from.picture().bytes(), from.picture().size());
+            format!(in alloc; "file {} {known} of {size} at {gen_}", path.text())
         }
         Local::Section { from, path, gen_ } => {
             let len = from.bytes().len();

@@ -3,8 +3,9 @@
 ghost use Rattle.std.specs.Prelude.{◌≡◌};
 
 use crate::answers::helpers::{Case, Wanted, answer_to};
+use crate::files::file_at;
 use index_state::Published;
-use row_types::{Name, OpenWorld, Stamp, TrueRow};
+use row_types::{Name, OpenWorld, TrueRow};
 use sample_files::{ID_A, ID_C, debug_companion, executable};
 use sample_index::{Index, passing};
 use sample_rows::{elf, name, row};
@@ -53,25 +54,12 @@ fn index(rt: &impl Abort, alloc: Global) -> Index<OpenWorld> {
     index
 }
 
-/// The file at a path with these bytes.
-fn file(rt: &impl Abort, alloc: Global, path: &str, bytes: Vec<u8>) -> Found<OpenWorld>
-    ensures { result.path ≡ path.now }
-{
-    let stamp = Stamp {
-        size: bytes.len() as u64,
-        secs: 1,
-        nanos: 0,
-    };
-    let path = String::from_str(alloc, path).expect(rt, "memory");
-    Found::new(path, stamp, bytes)
-}
-
 /// A text at a path.
 fn text(rt: &impl Abort, alloc: Global, path: &str, bytes: &[u8]) -> Found<OpenWorld>
     ensures { result.path ≡ path.now }
 {
     let bytes = Vec::from_slice(alloc, bytes).expect(rt, "memory");
-    file(rt, alloc, path, bytes)
+    file_at(rt, alloc, path, bytes)
 }
 
 /// An executable at a path.
@@ -79,7 +67,7 @@ fn code(rt: &impl Abort, alloc: Global, path: &str) -> Found<OpenWorld>
     ensures { result.path ≡ path.now }
 {
     let bytes = executable(alloc).expect(rt, "memory");
-    file(rt, alloc, path, bytes)
+    file_at(rt, alloc, path, bytes)
 }
 
 /// The debug information of the executable, at a path.
@@ -87,7 +75,7 @@ fn debug(rt: &impl Abort, alloc: Global, path: &str) -> Found<OpenWorld>
     ensures { result.path ≡ path.now }
 {
     let bytes = debug_companion(alloc).expect(rt, "memory");
-    file(rt, alloc, path, bytes)
+    file_at(rt, alloc, path, bytes)
 }
 
 /// The tree: `/bin/a` has become a text, `/bin/b` has debug information and no code, `/dbg/a` is
@@ -117,13 +105,31 @@ fn compare<R: Abort + Wait + Sync>(rt: &R, alloc: Global, cases: &[Case]) {
     }
 }
 
-/// `/bin/a` is no ELF file, and `/bin/b` has no code; `/bin/c` is the first that passes.
-static EXECUTABLE: [Case; 5] = [
-    Case(&ID_C, Wanted::Code, &[], &[], "file /bin/c 408 at 6"),
-    Case(&ID_C, Wanted::Code, &[], &[0, 1], "file /bin/c 408 at 6"),
-    Case(&ID_C, Wanted::Code, &[], &[3], "file /bin/c 408 at 6"),
-    Case(&ID_C, Wanted::Code, &[], &[2], "file /bin/d 408 at 6"),
-    Case(&ID_C, Wanted::Code, &[], &[2, 3], "fault at 6"),
+/// What is read of an executable, of 408 bytes: the header (64), four section headers (256), their
+/// names (36) and the note (36).
+const OF_C: &str = "file /bin/c 392 of 408 at 6";
+
+/// The same of the next one.
+const OF_D: &str = "file /bin/d 392 of 408 at 6";
+
+/// `/bin/a` is no ELF file, and `/bin/b` has no code; `/bin/c` is the first that passes. The opening
+/// of `/bin/a` is call 0, and the read of its four bytes call 1; the opening of `/bin/b` is call 2, and
+/// the reads of its four windows are calls 3 to 6; those of `/bin/c` are 7, and 8 to 11; the opening of
+/// `/bin/d` would be call 12. A call that fails is the last of its file.
+static EXECUTABLE: [Case; 8] = [
+    Case(&ID_C, Wanted::Code, &[], &[], OF_C),
+    // The openings of the first two.
+    Case(&ID_C, Wanted::Code, &[], &[0, 1], OF_C),
+    // The read of the first; and then the second read of the next, which was opened by call 2.
+    Case(&ID_C, Wanted::Code, &[], &[1, 4], OF_C),
+    Case(&ID_C, Wanted::Code, &[], &[12], OF_C),
+    // The opening of the third, and its last read.
+    Case(&ID_C, Wanted::Code, &[], &[7], OF_D),
+    Case(&ID_C, Wanted::Code, &[], &[11], OF_D),
+    // The openings of the last two.
+    Case(&ID_C, Wanted::Code, &[], &[7, 8], "fault at 6"),
+    // The first reads of the last two: the fourth is opened by call 9.
+    Case(&ID_C, Wanted::Code, &[], &[8, 10], "fault at 6"),
 ];
 
 #[test]
@@ -131,11 +137,17 @@ fn the_first_executable_that_passes_is_taken(rt: HostRuntime) {
     compare(&rt, rt.alloc(), &EXECUTABLE);
 }
 
-/// `/dbg/a` is gone.
-static DEBUGINFO: [Case; 3] = [
-    Case(&ID_C, Wanted::Debug, &[], &[], "file /dbg/b 584 at 6"),
-    Case(&ID_C, Wanted::Debug, &[], &[0], "file /dbg/b 584 at 6"),
+/// What is read of debug information, of 584 bytes: the header (64), six section headers (384), their
+/// names (58) and the note (36).
+const OF_DEBUG: &str = "file /dbg/b 542 of 584 at 6";
+
+/// `/dbg/a` is gone, which call 0 says; `/dbg/b` is opened by call 1, and its four windows are read by
+/// calls 2 to 5.
+static DEBUGINFO: [Case; 4] = [
+    Case(&ID_C, Wanted::Debug, &[], &[], OF_DEBUG),
+    Case(&ID_C, Wanted::Debug, &[], &[0], OF_DEBUG),
     Case(&ID_C, Wanted::Debug, &[], &[1], "fault at 6"),
+    Case(&ID_C, Wanted::Debug, &[], &[5], "fault at 6"),
 ];
 
 #[test]
@@ -157,10 +169,14 @@ fn another_id_is_found_nowhere(rt: HostRuntime) {
 /// The name of the section that holds a build-id.
 const NOTE: Wanted = Wanted::Part(b".note.gnu.build-id");
 
-/// Both files have the note; the code stands in the executable alone.
-static SECTIONS: [Case; 5] = [
+/// Both files have the note, which is read as a window of the file; the code stands in the executable
+/// alone, and is one read more. `/dbg/a` is asked by call 0, `/dbg/b` by calls 1 to 5, `/bin/a` by 6 and
+/// 7, `/bin/b` by 8 to 12, `/bin/c` by 13 to 17 and for its code by call 18 too, `/bin/d` by 18 to 22
+/// where no code was read before.
+static SECTIONS: [Case; 8] = [
     Case(&ID_C, NOTE, &[], &[], "section /dbg/b 36 at 6"),
     Case(&ID_C, NOTE, &[], &[1], "section /bin/c 36 at 6"),
+    Case(&ID_C, NOTE, &[], &[5], "section /bin/c 36 at 6"),
     Case(
         &ID_C,
         Wanted::Part(b".text"),
@@ -168,8 +184,16 @@ static SECTIONS: [Case; 5] = [
         &[],
         "section /bin/c 1 at 6",
     ),
+    Case(
+        &ID_C,
+        Wanted::Part(b".text"),
+        &[],
+        &[18],
+        "section /bin/d 1 at 6",
+    ),
     Case(&ID_C, Wanted::Part(b".debug_zz"), &[], &[], "nothing at 6"),
-    Case(&ID_C, Wanted::Part(b".debug_zz"), &[], &[5], "fault at 6"),
+    Case(&ID_C, Wanted::Part(b".debug_zz"), &[], &[18], "fault at 6"),
+    Case(&ID_C, Wanted::Part(b".debug_zz"), &[], &[22], "fault at 6"),
 ];
 
 #[test]

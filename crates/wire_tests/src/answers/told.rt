@@ -9,7 +9,7 @@ use std::alloc::Global;
 use std::process::Abort;
 use tree_trait::MemTree;
 
-/// The hand of the reference tree, of which the loads of these numbers fail.
+/// The hand of the reference tree, of which the calls of these numbers fail.
 fn hand(rt: &impl Abort, alloc: Global, bad_calls: &[u64]) -> MemTree<SampleWorld> {
     let bad_calls = Vec::from_slice(alloc, bad_calls).expect(rt, "memory");
     MemTree::new(
@@ -18,37 +18,32 @@ fn hand(rt: &impl Abort, alloc: Global, bad_calls: &[u64]) -> MemTree<SampleWorl
     )
 }
 
-/// The program with the id B was made from `/w/src/main.c`.
-static CASES: [Case; 11] = [
+/// What is read of the program with the id B, of 1016 bytes: the header (64), ten section headers
+/// (640), their names (120) and the note (36).
+const OF_PROG: &str = "file /srv/bin/prog 860 of 1016 at 12";
+
+/// The program with the id B was made from `/w/src/main.c`. A file is asked by its opening and by the
+/// reads of its four windows, calls 0 to 4. For a section `/srv/debug/tool.debug` is asked so, and then
+/// `/srv/bin/tool` by calls 5 to 9, and for its code, which is no window, by call 10.
+static CASES: [Case; 13] = [
     Case(
         &ID_C,
         Wanted::Code,
         &["/w"],
         &[],
-        "file /srv/bin/tool 408 at 12",
+        "file /srv/bin/tool 392 of 408 at 12",
     ),
     Case(&ID_C, Wanted::Code, &["/w"], &[0], "fault at 12"),
+    Case(&ID_C, Wanted::Code, &["/w"], &[4], "fault at 12"),
     Case(
         &ID_C,
         Wanted::Debug,
         &["/w"],
         &[],
-        "file /srv/debug/tool.debug 584 at 12",
+        "file /srv/debug/tool.debug 542 of 584 at 12",
     ),
-    Case(
-        &ID_B,
-        Wanted::Code,
-        &["/w"],
-        &[],
-        "file /srv/bin/prog 1016 at 12",
-    ),
-    Case(
-        &ID_B,
-        Wanted::Debug,
-        &["/w"],
-        &[],
-        "file /srv/bin/prog 1016 at 12",
-    ),
+    Case(&ID_B, Wanted::Code, &["/w"], &[], OF_PROG),
+    Case(&ID_B, Wanted::Debug, &["/w"], &[], OF_PROG),
     Case(
         &ID_C,
         Wanted::Part(b".text"),
@@ -56,7 +51,8 @@ static CASES: [Case; 11] = [
         &[],
         "section /srv/bin/tool 1 at 12",
     ),
-    Case(&ID_C, Wanted::Part(b".text"), &["/w"], &[1], "fault at 12"),
+    Case(&ID_C, Wanted::Part(b".text"), &["/w"], &[5], "fault at 12"),
+    Case(&ID_C, Wanted::Part(b".text"), &["/w"], &[10], "fault at 12"),
     Case(
         &ID_C,
         Wanted::Part(b".debug_zz"),

@@ -16,7 +16,7 @@ use std::sync::atomic::{AtomicBool, AtomicUsize, Ordering};
 use std::thread::{Threads, join};
 use tree_trait::{Gate, Hold, Point, TurnGate};
 
-/// The points that are wanted: the first request asks the index and loads its one candidate, the
+/// The points that are wanted: the first request asks the index and opens its one candidate, the
 /// second asks for no route, the third is no request.
 static WANTED: [Point<'static>; 5] = [
     Point::Asking(7),

@@ -7,7 +7,7 @@ use conn_server::{ConnEnd, ConnReport, DoorEnd, serve_connection, serve_door};
 use dbgd_metrics::{Book, Share};
 use federation::MemLink;
 use http_wire::{Door, MemConn, Sink, Source};
-use row_types::CanonPath;
+use row_types::{CanonPath, Truth};
 use sample_index::{Index, Lock, Shared, Token, empty_index, put_behind, reference_index};
 use sample_rows::paths;
 use sample_world::{SampleWorld, changed_file_script, reference_script};
@@ -17,14 +17,14 @@ use std::sync::Wait;
 use tree_trait::{Gate, MemTree, NoGate};
 
 /// How a connection is read and written: the bytes that come, how many reads give one byte each
-/// before the others, and the reads, the writes and the loads that fail, counted from 0.
+/// before the others, and the reads, the writes and the hand's calls that fail, counted from 0.
 #[derive(Clone, Copy)]
 pub struct Plan<'a> {
     pub input: &'a str,
     pub cuts: usize,
     pub bad_reads: &'a [u64],
     pub bad_writes: &'a [u64],
-    pub bad_loads: &'a [u64],
+    pub bad_calls: &'a [u64],
 }
 
 /// These bytes come whole, and nothing fails.
@@ -34,7 +34,7 @@ pub fn whole(input: &str) -> Plan<'_> {
         cuts: 0,
         bad_reads: &[],
         bad_writes: &[],
-        bad_loads: &[],
+        bad_calls: &[],
     }
 }
 
@@ -62,11 +62,11 @@ fn no_links(alloc: Global) -> Vec<MemLink> {
 }
 
 /// Serves a connection by an index, a hand and links.
-fn serve_by<N: Source + Sink, G: Gate, R: Abort + Wait + Sync>(
+fn serve_by<W: Truth + Send, N: Source + Sink, G: Gate, R: Abort + Wait + Sync>(
     rt: &R,
     alloc: Global,
-    index: Index<SampleWorld>,
-    hand: &mut MemTree<SampleWorld>,
+    index: Index<W>,
+    hand: &mut MemTree<W>,
     links: &mut [MemLink],
     conn: &mut N,
     gate: &G,
@@ -130,26 +130,26 @@ fn folders(rt: &impl Abort, alloc: Global) -> Vec<CanonPath> {
     paths(alloc, &["/w"]).expect(rt, "a canonical path")
 }
 
-/// The hand of the reference tree, of which the loads of these numbers fail.
-fn hand(rt: &impl Abort, alloc: Global, bad_loads: &[u64]) -> MemTree<SampleWorld> {
-    let bad_loads = Vec::from_slice(alloc, bad_loads).expect(rt, "memory");
+/// The hand of the reference tree, of which the calls of these numbers fail.
+fn hand(rt: &impl Abort, alloc: Global, bad_calls: &[u64]) -> MemTree<SampleWorld> {
+    let bad_calls = Vec::from_slice(alloc, bad_calls).expect(rt, "memory");
     MemTree::new(
         alloc,
-        reference_script(alloc, bad_loads).expect(rt, "memory"),
+        reference_script(alloc, bad_calls).expect(rt, "memory"),
     )
 }
 
 /// What comes of a connection by the reference tree, its index and links, past a gate, which gets the
-/// number 7. The loads of these numbers fail.
+/// number 7. The hand's calls of these numbers fail.
 pub fn report_linked<N: Source + Sink, G: Gate, R: Abort + Wait + Sync>(
     rt: &R,
     alloc: Global,
     conn: &mut N,
     links: &mut [MemLink],
-    bad_loads: &[u64],
+    bad_calls: &[u64],
     gate: &G,
 ) -> ConnReport {
-    let mut hand = hand(rt, alloc, bad_loads);
+    let mut hand = hand(rt, alloc, bad_calls);
     let index = reference_index(alloc).expect(rt, "an index");
     serve_by(rt, alloc, index, &mut hand, links, conn, gate)
 }
@@ -159,11 +159,11 @@ pub fn report_of<N: Source + Sink, G: Gate, R: Abort + Wait + Sync>(
     rt: &R,
     alloc: Global,
     conn: &mut N,
-    bad_loads: &[u64],
+    bad_calls: &[u64],
     gate: &G,
 ) -> ConnReport {
     let mut links = no_links(alloc);
-    report_linked(rt, alloc, conn, links.as_mut_slice(), bad_loads, gate)
+    report_linked(rt, alloc, conn, links.as_mut_slice(), bad_calls, gate)
 }
 
 /// How the serving of a door ends by the reference tree and its index, past a gate. Its connections are
@@ -248,6 +248,18 @@ pub fn serve_on<N: Source + Sink, R: Abort + Wait + Sync>(
     (report.served.len(), report.end)
 }
 
+/// What comes of a connection by an index and a hand without links, past no gate.
+pub fn report_by<W: Truth + Send, N: Source + Sink, R: Abort + Wait + Sync>(
+    rt: &R,
+    alloc: Global,
+    index: Index<W>,
+    hand: &mut MemTree<W>,
+    conn: &mut N,
+) -> ConnReport {
+    let mut links = no_links(alloc);
+    serve_by(rt, alloc, index, hand, links.as_mut_slice(), conn, &NoGate)
+}
+
 /// What comes of a connection by an index without rows and links, past no gate.
 pub fn report_without_rows<N: Source + Sink, R: Abort + Wait + Sync>(
     rt: &R,
@@ -279,7 +291,7 @@ pub fn serve<R: Abort + Wait + Sync>(
     plan: &Plan<'_>,
 ) -> (MemConn, usize, ConnEnd) {
     let mut conn = conn(rt, alloc, plan);
-    let report = report_of(rt, alloc, &mut conn, plan.bad_loads, &NoGate);
+    let report = report_of(rt, alloc, &mut conn, plan.bad_calls, &NoGate);
     (conn, report.served.len(), report.end)
 }
 

@@ -55,13 +55,13 @@ fn is_answered<R: Abort + Wait + Sync>(
     rt: &R,
     alloc: Global,
     asked: (&str, &str, &str),
-    bad_loads: &[u64],
+    bad_calls: &[u64],
     wanted: &[u8],
 ) {
     let (method, id, rest) = asked;
     let asked = request(alloc, method, id, rest).expect(rt, "memory");
     let plan = Plan {
-        bad_loads,
+        bad_calls,
         ..whole(asked.as_str())
     };
     compare(rt, alloc, &plan, wanted, 1, ConnEnd::Closed);
@@ -74,6 +74,49 @@ fn a_file_is_sent_with_its_head(rt: HostRuntime) {
         let wanted = file_reply(&rt, alloc, *sample, path);
         is_answered(&rt, alloc, ("GET", id, rest), &[], wanted.as_slice());
     }
+}
+
+/// Adds a request for what is asked of an id.
+fn push_request(rt: &impl Abort, alloc: Global, input: &mut String, id: &str, rest: &str) {
+    let one = request(alloc, "GET", id, rest).expect(rt, "memory");
+    input.push_str(one.as_str()).expect(rt, "memory");
+}
+
+/// Adds the reply that sends a file, whose path is written so.
+fn push_file(rt: &impl Abort, alloc: Global, replies: &mut Vec<u8>, sample: Sample, path: &str) {
+    let one = file_reply(rt, alloc, sample, path);
+    replies
+        .extend_from_slice(one.as_slice())
+        .expect(rt, "memory");
+}
+
+/// Requests for the last eight files, in one read.
+fn asked_in_a_row(rt: &impl Abort, alloc: Global) -> String {
+    let mut input = String::new(alloc);
+    for (id, rest, _, _) in FILES.iter().skip(2) {
+        push_request(rt, alloc, &mut input, id, rest);
+    }
+    input
+}
+
+/// The replies to them.
+fn sent_in_a_row(rt: &impl Abort, alloc: Global) -> Vec<u8> {
+    let mut replies = Vec::new(alloc);
+    for (_, _, sample, path) in FILES.iter().skip(2) {
+        push_file(rt, alloc, &mut replies, *sample, path);
+    }
+    replies
+}
+
+/// `/srv/bin/tool` has 408 bytes, its debug file has 584, and `/srv/bin/prog` has 1,016: more room is
+/// taken for a file that is longer than those before it, and it is kept for a shorter one.
+#[test]
+fn files_of_other_lengths_follow_one_another(rt: HostRuntime) {
+    let alloc = rt.alloc();
+    let input = asked_in_a_row(&rt, alloc);
+    let wanted = sent_in_a_row(&rt, alloc);
+    let plan = whole(input.as_str());
+    compare(&rt, alloc, &plan, wanted.as_slice(), 8, ConnEnd::Closed);
 }
 
 #[test]
@@ -119,7 +162,7 @@ fn what_is_nowhere_is_not_found(rt: HostRuntime) {
 }
 
 #[test]
-fn a_failed_load_is_a_read_fault(rt: HostRuntime) {
+fn a_failed_opening_is_a_read_fault(rt: HostRuntime) {
     let alloc = rt.alloc();
     let status = "503 Service Unavailable";
     let wanted = text_reply(&rt, alloc, status, "read fault", "keep-alive");

@@ -318,19 +318,19 @@ fn are_asked(rt: &impl Abort, links: &[MemLink], counts: &[usize], hops: u64) {
     }
 }
 
-/// The connection of a request, served by links: by an index without rows, or by the reference tree, of which these
-/// loads fail.
+/// The connection of a request, served by links: by an index without rows, or by the reference tree, of which
+/// these calls fail.
 fn served<R: Abort + Wait + Sync>(
     rt: &R,
     alloc: Global,
     input: &str,
     links: &mut [MemLink],
-    bad_loads: Option<&[u64]>,
+    bad_calls: Option<&[u64]>,
 ) -> MemConn {
     let mut conn = conn(rt, alloc, &whole(input));
-    let report = match bad_loads {
+    let report = match bad_calls {
         None => report_without_rows(rt, alloc, &mut conn, links),
-        Some(bad_loads) => report_linked(rt, alloc, &mut conn, links, bad_loads, &NoGate),
+        Some(bad_calls) => report_linked(rt, alloc, &mut conn, links, bad_calls, &NoGate),
     };
     assert!(rt; report.served.len() == 1, "{input}");
     conn
@@ -341,12 +341,12 @@ fn is_replied<R: Abort + Wait + Sync>(
     rt: &R,
     alloc: Global,
     case: &Case,
-    bad_loads: Option<&[u64]>,
+    bad_calls: Option<&[u64]>,
 ) {
     let Case(path, fields, said, wanted, asked, hops) = case;
     let input = input(alloc, path, fields).expect(rt, "memory");
     let mut links = links_of(rt, alloc, said);
-    let conn = served(rt, alloc, input.as_str(), links.as_mut_slice(), bad_loads);
+    let conn = served(rt, alloc, input.as_str(), links.as_mut_slice(), bad_calls);
     are_asked(rt, links.as_slice(), asked, *hops);
     let wanted = bytes_of(rt, alloc, *wanted);
     assert!(rt;
@@ -362,7 +362,7 @@ fn the_first_answer_that_passes_is_sent(rt: HostRuntime) {
     }
 }
 
-/// The loads of the reference tree that fail, and the case.
+/// The calls of the reference tree that fail, and the case.
 static BESIDE_FILES: [(&[u64], Case); 5] = [
     (
         &[],
@@ -405,8 +405,8 @@ static BESIDE_FILES: [(&[u64], Case); 5] = [
 ];
 
 #[test]
-fn a_file_here_comes_first_and_a_failed_load_before_what_links_say(rt: HostRuntime) {
-    for (bad_loads, case) in &BESIDE_FILES {
-        is_replied(&rt, rt.alloc(), case, Some(*bad_loads));
+fn a_file_here_comes_first_and_a_failed_opening_before_what_links_say(rt: HostRuntime) {
+    for (bad_calls, case) in &BESIDE_FILES {
+        is_replied(&rt, rt.alloc(), case, Some(*bad_calls));
     }
 }

@@ -147,8 +147,8 @@ static CASES: [Case<'static>; 11] = [
 
 /// A sink in memory that takes one byte at a time.
 #[derive(Drop)]
-struct Slow {
-    sink: MemSink,
+pub struct Slow {
+    pub sink: MemSink,
 }
 
 impl Stream for Slow {
@@ -164,7 +164,7 @@ impl Sink for Slow {
 }
 
 /// A sink that fails at one write.
-fn sink(rt: &impl Abort, alloc: Global, bad_write: u64) -> MemSink {
+pub fn sink(rt: &impl Abort, alloc: Global, bad_write: u64) -> MemSink {
     MemSink::new(alloc, vec![in alloc; bad_write].expect(rt, "memory"))
 }
 
@@ -176,7 +176,7 @@ fn is_status(status: u16) -> bool
 }
 
 /// The file of a path, if there is one.
-fn file_of(rt: &impl Abort, alloc: Global, text: &str) -> Option<CanonPath> {
+pub fn file_of(rt: &impl Abort, alloc: Global, text: &str) -> Option<CanonPath> {
     if text.is_empty() {
         return None;
     }

@@ -35,10 +35,10 @@ loop-entry-preserved g c =
     let told : List Served = c.loop-entry.served.items in
     let base = c.loop-entry.invariant in
     let b = stand_of c.loop-entry.seat.seen c.loop-entry.hand c.loop-entry.share (map g.L.Link.shows c.loop-entry.links) in
-    let w = wire_of (g.N.Stream.shows c.loop-entry.conn) c.loop-entry.reader in
+    let w = wire_of (g.N.Stream.shows c.loop-entry.conn) c.loop-entry.desk.reader in
     let next = stand_of c.next_turn-next.result.0.seen c.next_turn-next.new.hand c.next_turn-next.new.share
     (map g.L.Link.shows c.next_turn-next.new.links) in
-    let u = wire_of (g.N.Stream.shows c.next_turn-next.new.conn) c.next_turn-next.new.reader in
+    let u = wire_of (g.N.Stream.shows c.next_turn-next.new.conn) c.next_turn-next.new.desk.reader in
     let later = c.next_turn-next.ensures.later in
     let count : c.len.result ≡ length c.loop-entry.served.items =
     omega (arith, c.len.ensures, c.loop-entry.served.ok.0) in
@@ -64,10 +64,10 @@ returns-in-Last-clause-serves g c =
     let scene = scene_of g.W.Truth.true_row g.T.Tree.told g.W.Truth.version g.T.Tree.shows c.args.service.now.folders.now
     c.args.service.now.book.now.rows in
     let b = stand_of c.loop-entry.seat.seen c.loop-entry.hand c.loop-entry.share (map g.L.Link.shows c.loop-entry.links) in
-    let w = wire_of (g.N.Stream.shows c.loop-entry.conn) c.loop-entry.reader in
+    let w = wire_of (g.N.Stream.shows c.loop-entry.conn) c.loop-entry.desk.reader in
     let next = stand_of c.next_turn-next.result.0.seen c.next_turn-next.new.hand c.next_turn-next.new.share
     (map g.L.Link.shows c.next_turn-next.new.links) in
-    let u = wire_of (g.N.Stream.shows c.next_turn-next.new.conn) c.next_turn-next.new.reader in
+    let u = wire_of (g.N.Stream.shows c.next_turn-next.new.conn) c.next_turn-next.new.desk.reader in
     let base = c.loop-entry.invariant in
     let count : c.len.result ≡ length c.loop-entry.served.items =
     omega (arith, c.len.ensures, c.loop-entry.served.ok.0) in
@@ -84,10 +84,10 @@ returns-in-Ended-clause-serves g c =
     let scene = scene_of g.W.Truth.true_row g.T.Tree.told g.W.Truth.version g.T.Tree.shows c.args.service.now.folders.now
     c.args.service.now.book.now.rows in
     let b = stand_of c.loop-entry.seat.seen c.loop-entry.hand c.loop-entry.share (map g.L.Link.shows c.loop-entry.links) in
-    let w = wire_of (g.N.Stream.shows c.loop-entry.conn) c.loop-entry.reader in
+    let w = wire_of (g.N.Stream.shows c.loop-entry.conn) c.loop-entry.desk.reader in
     let next = stand_of c.next_turn-next.result.0.seen c.next_turn-next.new.hand c.next_turn-next.new.share
     (map g.L.Link.shows c.next_turn-next.new.links) in
-    let u = wire_of (g.N.Stream.shows c.next_turn-next.new.conn) c.next_turn-next.new.reader in
+    let u = wire_of (g.N.Stream.shows c.next_turn-next.new.conn) c.next_turn-next.new.desk.reader in
     let base = c.loop-entry.invariant in
     let count : c.len.result ≡ length c.loop-entry.served.items =
     omega (arith, c.len.ensures, c.loop-entry.served.ok.0) in

@@ -14,7 +14,7 @@ invariant-loop-entry g l =
     l.service.book.now.rows) (stand_of l.fn.seat.seen l.fn.hand l.fn.share
     (map g.L.Link.shows l.fn.links)) (fresh_wire (g.N.Stream.shows l.fn.conn)) l.served.items
     (stand_of l.seat.seen l.hand l.share (map g.L.Link.shows l.links))
-    (wire_of (g.N.Stream.shows l.conn) l.reader)
+    (wire_of (g.N.Stream.shows l.conn) l.desk.reader)
     × IsLater l.fn.seat l.seat
     × (l.seat.lock ≡ l.service.lock.now)
     × (length l.served.items < REQUESTS)

@@ -2,10 +2,10 @@
 use Rattle.std.proofs.Common.{map, None, ◌≡◌, true, false, [], sym, ◌∙◌, ap, subst, refl}
 use Rattle.answer_core.proofs.HearLemmas.{hears_as, hears_none}
 use Rattle.conn_server.specs.Asked.{HeadFacts, is_served, readable, told_facts}
+use Rattle.conn_server.specs.Bodies.{DecidedFacts}
 use Rattle.conn_server.specs.Cases.{method, has_body, no_route}
 use Rattle.conn_server.specs.Decided.{Decides, plain}
 use Rattle.conn_server.specs.Scene.{hand_at, scene_of, stand_of}
-use Rattle.conn_server.specs.declared.decide.Decided.{Decided}
 use Rattle.conn_server.specs.declared.reason.Reason.{Reason}
 use Rattle.conn_server.specs.declared.report.Asked.TheVariants as asked
 use Rattle.conn_server.proofs.CaseLemmas.{no_fault}
@@ -20,7 +20,7 @@ returns-then-not-is_served-clause-decided g c =
     let a = stand_of c.args.seat.seen c.args.hand.now c.args.share.now (map g.L.Link.shows c.args.links.now) in
     let head : HeadFacts = told_facts c.args.head.now in
     let refused : is_served head.method ≡ false = sym c.is_served.ensures ∙ c.if-not-is_served.true in
-    subst (λ (d : Decided). Decides scene a (readable head) d a) (sym c.plain.ensures)
+    subst (λ (d : DecidedFacts). Decides scene a (readable head) d a) (sym (c.plain.ensures g.T.Tree.opened))
     (record {
       answers = [];
       parts = [];
@@ -39,7 +39,7 @@ returns-then-head-clause-decided g c =
     let a = stand_of c.args.seat.seen c.args.hand.now c.args.share.now (map g.L.Link.shows c.args.links.now) in
     let head : HeadFacts = told_facts c.args.head.now in
     let served : is_served head.method ≡ true = sym c.is_served.ensures ∙ c.if-not-is_served.false in
-    subst (λ (d : Decided). Decides scene a (readable head) d a) (sym c.plain-then-head.ensures)
+    subst (λ (d : DecidedFacts). Decides scene a (readable head) d a) (sym (c.plain-then-head.ensures g.T.Tree.opened))
     (record {
       answers = [];
       parts = [];
@@ -65,8 +65,8 @@ returns-in-Err-clause-decided g c =
     let a = stand_of c.args.seat.seen c.args.hand.now c.args.share.now (map g.L.Link.shows c.args.links.now) in
     let head : HeadFacts = told_facts c.args.head.now in
     let served : is_served head.method ≡ true = sym c.is_served.ensures ∙ c.if-not-is_served.false in
-    subst (λ (d : Decided). Decides scene a (readable head) d a)
-    (sym (c.plain-in-Err.ensures ∙ ap (λ (why : Reason). plain (asked.NotRoute c.in-Err.fault) why) c.reason_of_route.ensures))
+    subst (λ (d : DecidedFacts). Decides scene a (readable head) d a)
+    (sym (c.plain-in-Err.ensures g.T.Tree.opened ∙ ap (λ (why : Reason). plain (asked.NotRoute c.in-Err.fault) why) c.reason_of_route.ensures))
     (record {
       answers = [];
       parts = [];

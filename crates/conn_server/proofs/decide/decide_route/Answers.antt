@@ -2,9 +2,9 @@
 use Rattle.std.proofs.Common.{map, sym, subst}
 use Rattle.webapi_routes.specs.declared.route.Route.{Route}
 use Rattle.webapi_routes.specs.declared.route.Route.TheVariants.{Metrics}
+use Rattle.conn_server.specs.Bodies.{DecidedFacts, decided_facts}
 use Rattle.conn_server.specs.Decided.{DecidesRoute}
 use Rattle.conn_server.specs.Scene.{scene_of, stand_of, with_share}
-use Rattle.conn_server.specs.declared.decide.Decided.{Decided}
 use Rattle.conn_server.proofs.CountLemmas.{has_row_noted}
 use Rattle.conn_server.proofs.DecideLemmas.{decides_page}
 use Rattle.conn_server.proofs.decide.decide_route.Goals as goal
@@ -19,8 +19,8 @@ returns-in-Metrics-clause-decided g c =
     c.args.service.now.book.now.rows in
     let a = stand_of c.args.seat.seen c.args.hand.now c.args.share.now (map g.L.Link.shows c.args.links.now) in
     let b = with_share a c.text.new.share in
-    subst (λ (r : Route). DecidesRoute scene a r c.args.hops c.by_page.result b) (sym c.in-Metrics.is)
-    (subst (λ (d : Decided). DecidesRoute scene a Metrics c.args.hops d b) (sym c.by_page.ensures)
+    subst (λ (r : Route). DecidesRoute scene a r c.args.hops (decided_facts g.T.Tree.opened c.by_page.result) b) (sym c.in-Metrics.is)
+    (subst (λ (d : DecidedFacts). DecidesRoute scene a Metrics c.args.hops d b) (sym (c.by_page.ensures g.T.Tree.opened))
     (decides_page scene a c.text.new.share c.text.result c.args.hops c.text.ensures.same c.text.ensures.page))
 
 pub returns-in_default-clause-decided : goal.returns-in_default-clause-decided
