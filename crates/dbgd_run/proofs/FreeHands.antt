@@ -3,8 +3,8 @@ use Rattle.std.proofs.Common.{◌≡◌, ℕ, zero, suc, ◌<◌, ◌≤◌, Boo
 use Rattle.row_types.specs.Name.{NameFacts}
 use Rattle.tree_trait.specs.Shown.{ShownTree, StaysStill}
 use Rattle.tree_walk.specs.Files.{HasManyEntries, HasManyFiles}
-use Rattle.dbgd_run.specs.Causes.{HasRootGone, IsFreeHand}
-use Rattle.dbgd_run.specs.Scene.{OfFirst, Setting}
+use Rattle.dbgd_commands.specs.CommandCauses.{HasRootGone, IsFreeHand}
+use Rattle.dbgd_commands.specs.Scene.{OfFirst, Setting}
 
 -- a hand later: its count never fell, and what stood still does
 pub record HandLater (before after : ShownTree) : Type 0 where

@@ -3,7 +3,7 @@ use Rattle.std.proofs.Common.{ℕ, List, true}
 use Rattle.index_keeper.specs.Keeper.{ShownKeeper}
 use Rattle.index_state.specs.Opening.{Opens}
 use Rattle.index_state.specs.State.{StateFacts}
-use Rattle.dbgd_run.specs.Endings.{Streams}
+use Rattle.dbgd_commands.specs.Endings.{Streams}
 use Rattle.dbgd_run.specs.Rounds.{PassingScene}
 use Rattle.dbgd_run.specs.ServeSaid.{Announces}
 use Rattle.dbgd_run.specs.Serving.{CrewFacts, ServeRules, ServesIndex, ServesKeeper}

@@ -14,11 +14,11 @@ use Rattle.http_wire.specs.Told.{Gains}
 use Rattle.http_wire.proofs.Pieces.{gets_both, gets_none}
 use Rattle.dbgd_metrics.specs.Shares.{ShareFacts}
 use Rattle.dbgd_metrics.specs.declared.number.Number.{Number}
-use Rattle.dbgd_run.specs.Endings.{Gets, Streams}
+use Rattle.dbgd_commands.specs.Endings.{Gets, Streams}
+use Rattle.dbgd_commands.specs.Scene.{Setting}
 use Rattle.dbgd_run.specs.RoundSaid.{GrowsShare, added_by, err_told, is_cut, is_unmade}
 use Rattle.dbgd_run.specs.Rounds.{GetsLines, IsRound, KeepsPassing, PassingScene, Round, RoundsGo, StopsPassing}
 use Rattle.dbgd_run.specs.Rounds.{err_lines, is_any_cut, is_any_unmade, out_lines, stopped_by, waits_by}
-use Rattle.dbgd_run.specs.Scene.{Setting}
 use Rattle.dbgd_run.specs.declared.line_fate.LineFate.TheVariants.{Written, Cut, Unmade}
 use Rattle.dbgd_run.specs.declared.passes_end.PassesEnd.{PassesEnd}
 use Rattle.dbgd_run.specs.declared.passes_end.PassesEnd.TheVariants.{Stopped, OutFailed, OutOfMemory}

@@ -4,27 +4,28 @@ use Rattle.std.proofs.lemmas.Bool.{true≢false}
 use Rattle.index_state.specs.declared.open_fault.OpenFault.TheVariants as refusal
 use Rattle.dbgd_words.specs.Words.{Line, asks_help, asks_ident, asks_query, asks_scan, asks_section, asks_serve, asks_sources, asks_trial, line_of, unreadable}
 use Rattle.dbgd_words.proofs.OptionLemmas.{AsksByOptions, options_ask}
-use Rattle.dbgd_run.specs.Causes.{HasStatus, HelpStatus, TrialStatus}
-use Rattle.dbgd_run.specs.Endings.{EndsSaying, SaysMemory, out_saying}
+use Rattle.dbgd_commands.specs.CommandCauses.{TrialStatus}
+use Rattle.dbgd_commands.specs.Endings.{EndsSaying, SaysMemory, out_saying}
+use Rattle.dbgd_commands.specs.Query.{RunsQuery}
+use Rattle.dbgd_commands.specs.Scan.{RunsScan, Scans}
+use Rattle.dbgd_commands.specs.Scene.{ProgramScene, Setting}
+use Rattle.dbgd_commands.specs.Statuses.{code_of}
+use Rattle.dbgd_commands.specs.Trial.{RunsTrial, SaysTrial, trial_end_line}
+use Rattle.dbgd_commands.specs.declared.query_end.QueryEnd.TheVariants as looked
+use Rattle.dbgd_commands.specs.declared.scan_end.ScanEnd.TheVariants as scanned
+use Rattle.dbgd_commands.specs.declared.status.Status.{Status}
+use Rattle.dbgd_commands.specs.declared.status.Status.TheVariants as status
+use Rattle.dbgd_commands.proofs.CauseLemmas.{by_ends, ident_status, section_status, sources_status}
+use Rattle.dbgd_commands.proofs.QueryLemmas.{queries_wanting, query_ends, query_status}
+use Rattle.dbgd_commands.proofs.ScanLemmas.{scan_ends, scan_status}
+use Rattle.dbgd_commands.proofs.StoreLemmas.{scans_wanting}
+use Rattle.dbgd_run.specs.Causes.{HasStatus, HelpStatus}
 use Rattle.dbgd_run.specs.Needs.{is_serve}
-use Rattle.dbgd_run.specs.Query.{RunsQuery}
 use Rattle.dbgd_run.specs.Runs.{DoesLine, DoesWords, IsRun, LacksRoom, Runs, SaysHelp}
-use Rattle.dbgd_run.specs.Scan.{RunsScan, Scans}
-use Rattle.dbgd_run.specs.Scene.{ProgramScene, Setting}
 use Rattle.dbgd_run.specs.Serve.{RunsServe, ServeWords, serve_words}
 use Rattle.dbgd_run.specs.Stage.{LeavesRest, ProgramStage}
-use Rattle.dbgd_run.specs.Statuses.{code_of}
-use Rattle.dbgd_run.specs.Trial.{RunsTrial, SaysTrial, trial_end_line}
-use Rattle.dbgd_run.specs.declared.query_end.QueryEnd.TheVariants as looked
-use Rattle.dbgd_run.specs.declared.scan_end.ScanEnd.TheVariants as scanned
-use Rattle.dbgd_run.specs.declared.status.Status.{Status}
-use Rattle.dbgd_run.specs.declared.status.Status.TheVariants as status
-use Rattle.dbgd_run.proofs.CauseLemmas.{by_ends, ident_status, section_status, sources_status}
-use Rattle.dbgd_run.proofs.QueryLemmas.{queries_wanting, query_ends, query_status}
-use Rattle.dbgd_run.proofs.ScanLemmas.{scan_ends, scan_status}
 use Rattle.dbgd_run.proofs.ServeComplete.{serve_complete}
 use Rattle.dbgd_run.proofs.ServeLemmas.{serve_ends, serve_status, serve_wanting}
-use Rattle.dbgd_run.proofs.StoreLemmas.{scans_wanting}
 
 module _ {T : Type 0} (s : Setting T) (words : List (List ℕ)) (before after : ProgramScene T) (end : Status) where
   -- what the status of a help or version says

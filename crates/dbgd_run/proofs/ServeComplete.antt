@@ -22,11 +22,15 @@ use Rattle.pass_runner.specs.SharedPass.{IsDoneShared, IsUnhinderedPass}
 use Rattle.pass_runner.specs.declared.pass_end.PassEnd.{PassEnd}
 use Rattle.pass_runner.specs.declared.pass_end.PassEnd.TheVariants as pass
 use Rattle.pass_runner.specs.Owned.{HandsGo, is_hand_fault}
-use Rattle.dbgd_run.specs.Causes.{IsFreeHand}
-use Rattle.dbgd_run.specs.Endings.{Streams}
+use Rattle.dbgd_commands.specs.CommandCauses.{IsFreeHand}
+use Rattle.dbgd_commands.specs.Endings.{Streams}
+use Rattle.dbgd_commands.specs.Scene.{OfFirst, Setting}
+use Rattle.dbgd_commands.specs.declared.status.Status.{Status}
+use Rattle.dbgd_commands.specs.declared.status.Status.TheVariants as status
+use Rattle.dbgd_commands.proofs.HandLemmas.{by_first, of_first}
+use Rattle.dbgd_commands.proofs.RowLemmas.{first_held, none_bad, none_overfull}
 use Rattle.dbgd_run.specs.RoundSaid.{TellsPass, is_cut}
 use Rattle.dbgd_run.specs.Rounds.{EndsPassing, KeepsPassing, PassesShared, PassingScene, Round, RoundsGo}
-use Rattle.dbgd_run.specs.Scene.{OfFirst, Setting}
 use Rattle.dbgd_run.specs.Serve.{IsServed, IsUnopened, PassesOn, RunsServe, SaysUnserved, ServeWords, served, unopened, unserved}
 use Rattle.dbgd_run.specs.ServeCauses.{rounds_behind}
 use Rattle.dbgd_run.specs.ServeComplete.{CompletesServe, IsFreeServe, WritesPassLine}
@@ -35,12 +39,8 @@ use Rattle.dbgd_run.specs.declared.line_fate.LineFate.{LineFate}
 use Rattle.dbgd_run.specs.declared.line_fate.LineFate.TheVariants.{Written, Cut, Unmade}
 use Rattle.dbgd_run.specs.declared.passes_end.PassesEnd.{PassesEnd}
 use Rattle.dbgd_run.specs.declared.passes_end.PassesEnd.TheVariants.{Stopped, OutFailed, OutOfMemory}
-use Rattle.dbgd_run.specs.declared.status.Status.{Status}
-use Rattle.dbgd_run.specs.declared.status.Status.TheVariants as status
 use Rattle.dbgd_run.proofs.FreeHands.{HandLater, free_split, front_first, hands_both, same_later}
-use Rattle.dbgd_run.proofs.HandLemmas.{by_first, of_first}
 use Rattle.dbgd_run.proofs.RoundLemmas.{later_out}
-use Rattle.dbgd_run.proofs.RowLemmas.{first_held, none_bad, none_overfull}
 use Rattle.dbgd_run.proofs.TellLemmas.{out_later, out_rose}
 
 -- Logs

@@ -15,14 +15,20 @@ use Rattle.index_rows.specs.declared.change.Change.{Change}
 use Rattle.index_state.proofs.VoidEnds.{never_both}
 use Rattle.index_state.specs.declared.open_fault.OpenFault.{OpenFault}
 use Rattle.index_state.specs.declared.open_fault.OpenFault.TheVariants as refusal
-use Rattle.dbgd_run.specs.Endings.{SaysMemory}
-use Rattle.dbgd_run.specs.Kept.{StoreHoldsRows}
-use Rattle.dbgd_run.specs.Opened.{EndsOnlyWith}
+use Rattle.dbgd_commands.specs.Endings.{SaysMemory}
+use Rattle.dbgd_commands.specs.Kept.{StoreHoldsRows}
+use Rattle.dbgd_commands.specs.Opened.{EndsOnlyWith}
+use Rattle.dbgd_commands.specs.Scan.{Scans}
+use Rattle.dbgd_commands.specs.ScanSaid.{pass_saying}
+use Rattle.dbgd_commands.specs.Scene.{Setting}
+use Rattle.dbgd_commands.specs.declared.scan_end.ScanEnd.TheVariants as scanned
+use Rattle.dbgd_commands.specs.declared.status.Status.{Status}
+use Rattle.dbgd_commands.specs.declared.status.Status.TheVariants as status
+use Rattle.dbgd_commands.proofs.RowLemmas.{none_bad, none_overfull}
+use Rattle.dbgd_commands.proofs.ScanLemmas.{bad_end, full_end}
+use Rattle.dbgd_commands.proofs.StoreLemmas.{scans_wanting}
 use Rattle.dbgd_run.specs.RoundSaid.{is_cut, is_unmade}
 use Rattle.dbgd_run.specs.Rounds.{KeepsPassing, PassingScene, Round}
-use Rattle.dbgd_run.specs.Scan.{Scans}
-use Rattle.dbgd_run.specs.ScanSaid.{pass_saying}
-use Rattle.dbgd_run.specs.Scene.{Setting}
 use Rattle.dbgd_run.specs.Serve.{IsServed, IsUnopened, PassesOn, RunsServe, SaysUnserved, ServeWords, served, served_scene, unopened, unserved}
 use Rattle.dbgd_run.specs.ServeCauses.{IsServedWell, ServeEnds, ServeStatus, SomeDoorRose, lines_behind}
 use Rattle.dbgd_run.specs.ServeSaid.{has_cut, is_any_failed, served_status, serving_line, wants_line}
@@ -31,14 +37,8 @@ use Rattle.dbgd_run.specs.Workers.{WorkerFacts}
 use Rattle.dbgd_run.specs.declared.line_fate.LineFate.{LineFate}
 use Rattle.dbgd_run.specs.declared.passes_end.PassesEnd.{PassesEnd}
 use Rattle.dbgd_run.specs.declared.passes_end.PassesEnd.TheVariants.{Stopped, OutFailed, OutOfMemory}
-use Rattle.dbgd_run.specs.declared.scan_end.ScanEnd.TheVariants as scanned
-use Rattle.dbgd_run.specs.declared.status.Status.{Status}
-use Rattle.dbgd_run.specs.declared.status.Status.TheVariants as status
 use Rattle.dbgd_run.proofs.FailedDoors.{all_closed, some_rose}
 use Rattle.dbgd_run.proofs.RoundLemmas.{later_out}
-use Rattle.dbgd_run.proofs.RowLemmas.{none_bad, none_overfull}
-use Rattle.dbgd_run.proofs.ScanLemmas.{bad_end, full_end}
-use Rattle.dbgd_run.proofs.StoreLemmas.{scans_wanting}
 use Rattle.dbgd_run.proofs.TellLemmas.{out_later, out_rose, out_whole}
 
 -- The standard output

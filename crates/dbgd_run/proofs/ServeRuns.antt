@@ -20,11 +20,15 @@ use Rattle.conn_server.specs.Tallied.{HasRowIn}
 use Rattle.conn_server.specs.declared.door.DoorEnd.{DoorEnd}
 use Rattle.conn_server.specs.declared.door.DoorEnd.TheVariants as end
 use Rattle.tree_trait.specs.declared.clock.Waited.{Waited}
-use Rattle.dbgd_run.specs.Endings.{EndsCut, EndsWhole, Streams}
+use Rattle.dbgd_commands.specs.Endings.{EndsCut, EndsWhole, Streams}
+use Rattle.dbgd_commands.specs.Scan.{Scans}
+use Rattle.dbgd_commands.specs.ScanSaid.{refusal_saying}
+use Rattle.dbgd_commands.specs.Scene.{Setting, scene}
+use Rattle.dbgd_commands.specs.declared.scan_end.ScanEnd.TheVariants as scanned
+use Rattle.dbgd_commands.specs.declared.status.Status.{Status}
+use Rattle.dbgd_commands.specs.declared.status.Status.TheVariants as status
+use Rattle.dbgd_commands.proofs.HandLemmas.{hands_stay}
 use Rattle.dbgd_run.specs.Rounds.{GetsLines, passing_scene}
-use Rattle.dbgd_run.specs.Scan.{Scans}
-use Rattle.dbgd_run.specs.ScanSaid.{refusal_saying}
-use Rattle.dbgd_run.specs.Scene.{Setting, scene}
 use Rattle.dbgd_run.specs.Serve.{IsUnopened, MakesRound, RunsServe, ServeWords, served, served_scene, unopened, unserved}
 use Rattle.dbgd_run.specs.ServeSaid.{SaysServeEnd, door_line, door_lines, end_line, ended_badly, has_cut, has_failed, is_any_failed, served_status, serving_line, serving_saying, wants_line}
 use Rattle.dbgd_run.specs.Serving.{CrewFacts, RefusesStore, ServesStore, serve_rules}
@@ -32,12 +36,8 @@ use Rattle.dbgd_run.specs.Stage.{rows_shown, stage}
 use Rattle.dbgd_run.specs.Workers.{AreWorkers, IsFreshShare, PlaceServed, ServedBy, WorkerFacts, doors_at, ends_at, hands_at, links_at, shares_at, worker_in, workers_at}
 use Rattle.dbgd_run.specs.declared.line_fate.LineFate.{LineFate}
 use Rattle.dbgd_run.specs.declared.places.DoorPlace.{DoorPlace}
-use Rattle.dbgd_run.specs.declared.scan_end.ScanEnd.TheVariants as scanned
 use Rattle.dbgd_run.specs.declared.serve_end.ServeEnd.{ServeEnd}
 use Rattle.dbgd_run.specs.declared.serve_end.ServeEnd.TheVariants.{Refused, Unannounced, Unlocked, Served}
-use Rattle.dbgd_run.specs.declared.status.Status.{Status}
-use Rattle.dbgd_run.specs.declared.status.Status.TheVariants as status
-use Rattle.dbgd_run.proofs.HandLemmas.{hands_stay}
 
 -- lists
 

@@ -12,20 +12,20 @@ use Rattle.index_rows.specs.declared.change.Change.{Change}
 use Rattle.index_state.specs.Invariant.{IndexInvariant}
 use Rattle.index_state.specs.Opening.{Opens, current, puts_of}
 use Rattle.index_state.specs.State.{Origin, StateFacts, lasting}
-use Rattle.dbgd_run.specs.Endings.{Streams}
-use Rattle.dbgd_run.specs.Passing.{IsLent}
+use Rattle.dbgd_commands.specs.Endings.{Streams}
+use Rattle.dbgd_commands.specs.Passing.{IsLent}
+use Rattle.dbgd_commands.specs.Scan.{Scans}
+use Rattle.dbgd_commands.specs.declared.scan_end.ScanEnd.TheVariants as scanned
+use Rattle.dbgd_commands.proofs.HandLemmas.{hands_stay}
+use Rattle.dbgd_commands.proofs.PassLemmas.{has_found, has_rows, held, made_found, may_have, told_since}
+use Rattle.dbgd_commands.proofs.StoreLemmas.{refused_by, refused_fault, rose_counted, scans_opened}
 use Rattle.dbgd_run.specs.Rounds.{PassingScene}
-use Rattle.dbgd_run.specs.Scan.{Scans}
 use Rattle.dbgd_run.specs.Serve.{HasServedLog, StoreServes}
 use Rattle.dbgd_run.specs.ServeSaid.{Announces}
 use Rattle.dbgd_run.specs.Serving.{CrewFacts, ServeRules, ServesFrom, ServesKeeper, ServesStore}
 use Rattle.dbgd_run.specs.declared.places.DoorPlace.{DoorPlace}
-use Rattle.dbgd_run.specs.declared.scan_end.ScanEnd.TheVariants as scanned
 use Rattle.dbgd_run.specs.declared.serve_end.ServeEnd.{ServeEnd}
 use Rattle.dbgd_run.specs.declared.serve_end.ServeEnd.TheVariants.{Refused, Unannounced, Unlocked, Served}
-use Rattle.dbgd_run.proofs.HandLemmas.{hands_stay}
-use Rattle.dbgd_run.proofs.PassLemmas.{has_found, has_rows, held, made_found, may_have, told_since}
-use Rattle.dbgd_run.proofs.StoreLemmas.{refused_by, refused_fault, rose_counted, scans_opened}
 
 -- two beginnings of one list that are as long are the same
 same_front : (xs ys zs : List Change) → IsPrefix xs zs → IsPrefix ys zs → length xs ≡ length ys → xs ≡ ys

@@ -7,13 +7,13 @@ use Rattle.scan_queue.specs.declared.miss.Cause.TheVariants as cause
 use Rattle.http_wire.specs.Sink.{GetsAll}
 use Rattle.pass_runner.specs.declared.pass_end.PassEnd.{PassEnd}
 use Rattle.pass_runner.specs.declared.pass_end.PassEnd.TheVariants as ended
-use Rattle.dbgd_run.specs.Endings.{EndsWhole, Gets, Saying, Streams}
+use Rattle.dbgd_commands.specs.Endings.{EndsWhole, Gets, Saying, Streams}
+use Rattle.dbgd_commands.specs.ScanSaid.{SaysMiss, SaysPass, pass_saying}
+use Rattle.dbgd_commands.specs.declared.status.Status.{Status}
+use Rattle.dbgd_commands.specs.declared.status.Status.TheVariants as status
 use Rattle.dbgd_run.specs.RoundSaid.{TellsPass, err_told, fate_by, is_cut, is_unmade}
-use Rattle.dbgd_run.specs.ScanSaid.{SaysMiss, SaysPass, pass_saying}
 use Rattle.dbgd_run.specs.declared.line_fate.LineFate.{LineFate}
 use Rattle.dbgd_run.specs.declared.line_fate.LineFate.TheVariants as fated
-use Rattle.dbgd_run.specs.declared.status.Status.{Status}
-use Rattle.dbgd_run.specs.declared.status.Status.TheVariants as status
 
 -- it ends as its saying says
 as_said : {saying : Saying} {old new : Streams} {end : Status} → EndsWhole saying old new end

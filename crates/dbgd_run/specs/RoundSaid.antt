@@ -11,12 +11,12 @@ use Rattle.dbgd_metrics.specs.declared.number.Number.TheVariants.{Added, Replace
 use Rattle.pass_runner.specs.Owned.{is_read_fault}
 use Rattle.pass_runner.specs.declared.pass_end.PassEnd.{PassEnd}
 use Rattle.pass_runner.specs.declared.pass_end.PassEnd.TheVariants as pass
-use Rattle.dbgd_run.specs.Endings.{EndsCut, EndsWhole, Streams, SaysMemory, fault_saying, no_memory_saying}
-use Rattle.dbgd_run.specs.ScanSaid.{pass_saying}
+use Rattle.dbgd_commands.specs.Endings.{EndsCut, EndsWhole, Streams, SaysMemory, fault_saying, no_memory_saying}
+use Rattle.dbgd_commands.specs.ScanSaid.{pass_saying}
+use Rattle.dbgd_commands.specs.declared.status.Status.{Status}
+use Rattle.dbgd_commands.specs.declared.status.Status.TheVariants as status
 use Rattle.dbgd_run.specs.declared.line_fate.LineFate.{LineFate}
 use Rattle.dbgd_run.specs.declared.line_fate.LineFate.TheVariants.{Written, Cut, Unmade}
-use Rattle.dbgd_run.specs.declared.status.Status.{Status}
-use Rattle.dbgd_run.specs.declared.status.Status.TheVariants as status
 
 -- whether the standard output refused the line
 abbrev pub is_cut : LineFate → Bool

@@ -17,10 +17,10 @@ use Rattle.dbgd_metrics.specs.Shares.{ShareFacts}
 use Rattle.pass_runner.specs.Owned.{HandsGo, Helps, is_hand_fault, is_unbegun}
 use Rattle.pass_runner.specs.SharedPass.{EndsShared, IsDoneShared, IsUnhinderedPass}
 use Rattle.pass_runner.specs.declared.pass_end.PassEnd.{PassEnd}
-use Rattle.dbgd_run.specs.Endings.{Streams}
+use Rattle.dbgd_commands.specs.Endings.{Streams}
+use Rattle.dbgd_commands.specs.ScanSaid.{pass_saying}
+use Rattle.dbgd_commands.specs.Scene.{Setting}
 use Rattle.dbgd_run.specs.RoundSaid.{CountsPass, GrowsShare, TellsPass, added_by, err_told, is_cut, is_unmade}
-use Rattle.dbgd_run.specs.ScanSaid.{pass_saying}
-use Rattle.dbgd_run.specs.Scene.{Setting}
 use Rattle.dbgd_run.specs.declared.line_fate.LineFate.{LineFate}
 use Rattle.dbgd_run.specs.declared.line_fate.LineFate.TheVariants.{Unmade}
 use Rattle.dbgd_run.specs.declared.passes_end.PassesEnd.{PassesEnd}

@@ -5,27 +5,28 @@ use Rattle.file_formats.specs.Parts.{IsSomePart, IsSomeSection}
 use Rattle.file_formats.specs.Windows.{IsSomeWindow}
 use Rattle.dbgd_words.specs.Words.{Line, asks_help, asks_ident, asks_query, asks_scan, asks_section}
 use Rattle.dbgd_words.specs.Words.{asks_serve, asks_sources, asks_trial, has_options, line_of, unreadable}
-use Rattle.dbgd_run.specs.Causes.{HasStatus, ScanEnds}
-use Rattle.dbgd_run.specs.Endings.{EndsSaying, EndsWhole, Saying, SaysMemory, error_saying}
-use Rattle.dbgd_run.specs.Endings.{no_memory_saying, out_saying}
-use Rattle.dbgd_run.specs.File.{RunsFile}
-use Rattle.dbgd_run.specs.Ident.{SaysIdent}
+use Rattle.dbgd_commands.specs.CommandCauses.{ScanEnds}
+use Rattle.dbgd_commands.specs.Endings.{EndsSaying, EndsWhole, Saying, SaysMemory, error_saying}
+use Rattle.dbgd_commands.specs.Endings.{no_memory_saying, out_saying}
+use Rattle.dbgd_commands.specs.File.{RunsFile}
+use Rattle.dbgd_commands.specs.Ident.{SaysIdent}
+use Rattle.dbgd_commands.specs.Query.{RunsQuery}
+use Rattle.dbgd_commands.specs.QueryCauses.{QueryEnds}
+use Rattle.dbgd_commands.specs.Scan.{RunsScan}
+use Rattle.dbgd_commands.specs.Scene.{ProgramScene, Setting}
+use Rattle.dbgd_commands.specs.Section.{SaysSection}
+use Rattle.dbgd_commands.specs.Sources.{SaysSources}
+use Rattle.dbgd_commands.specs.Statuses.{code_of}
+use Rattle.dbgd_commands.specs.Texts.{usage_text}
+use Rattle.dbgd_commands.specs.Trial.{RunsTrial}
+use Rattle.dbgd_commands.specs.declared.status.Status.{Status}
+use Rattle.dbgd_commands.specs.declared.status.Status.TheVariants.{Done, Usage}
+use Rattle.dbgd_run.specs.Causes.{HasStatus}
 use Rattle.dbgd_run.specs.Needs.{is_serve}
-use Rattle.dbgd_run.specs.Query.{RunsQuery}
-use Rattle.dbgd_run.specs.QueryCauses.{QueryEnds}
-use Rattle.dbgd_run.specs.Scan.{RunsScan}
-use Rattle.dbgd_run.specs.Scene.{ProgramScene, Setting}
-use Rattle.dbgd_run.specs.Section.{SaysSection}
 use Rattle.dbgd_run.specs.Serve.{RunsServe, ServeWords, serve_words}
 use Rattle.dbgd_run.specs.ServeCauses.{ServeEnds}
 use Rattle.dbgd_run.specs.ServeComplete.{CompletesServe, IsFreeServe}
-use Rattle.dbgd_run.specs.Sources.{SaysSources}
 use Rattle.dbgd_run.specs.Stage.{LeavesRest, ProgramStage}
-use Rattle.dbgd_run.specs.Statuses.{code_of}
-use Rattle.dbgd_run.specs.Texts.{usage_text}
-use Rattle.dbgd_run.specs.Trial.{RunsTrial}
-use Rattle.dbgd_run.specs.declared.status.Status.{Status}
-use Rattle.dbgd_run.specs.declared.status.Status.TheVariants.{Done, Usage}
 
 -- of words that can't be read
 abbrev pub usage_saying : Saying

@@ -17,21 +17,21 @@ use Rattle.index_state.specs.State.{lasting}
 use Rattle.index_state.specs.declared.open_fault.OpenFault.{OpenFault}
 use Rattle.dbgd_metrics.specs.Shares.{BookFacts, ShareFacts}
 use Rattle.conn_server.specs.Scene.{Scene, scene_of}
-use Rattle.dbgd_run.specs.Endings.{EndsCut, EndsWhole, Streams, SaysMemory}
-use Rattle.dbgd_run.specs.Kept.{HasRows, MayHaveRows, StoreHoldsRows}
+use Rattle.dbgd_commands.specs.Endings.{EndsCut, EndsWhole, Streams, SaysMemory}
+use Rattle.dbgd_commands.specs.Kept.{HasRows, MayHaveRows, StoreHoldsRows}
+use Rattle.dbgd_commands.specs.Scan.{Scans}
+use Rattle.dbgd_commands.specs.ScanSaid.{refusal_saying}
+use Rattle.dbgd_commands.specs.Scene.{Setting}
+use Rattle.dbgd_commands.specs.declared.scan_end.ScanEnd.TheVariants.{Refused}
+use Rattle.dbgd_commands.specs.declared.status.Status.{Status}
+use Rattle.dbgd_commands.specs.declared.status.Status.TheVariants.{Done}
 use Rattle.dbgd_run.specs.RoundSaid.{CountsPass, TellsPass}
 use Rattle.dbgd_run.specs.Rounds.{GetsLines, KeepsPassing, PassesShared, PassingScene, Round, passing_scene}
-use Rattle.dbgd_run.specs.Scan.{Scans}
-use Rattle.dbgd_run.specs.ScanSaid.{refusal_saying}
-use Rattle.dbgd_run.specs.Scene.{Setting}
 use Rattle.dbgd_run.specs.ServeSaid.{door_lines, has_cut, is_any_failed, served_status, serving_saying, wants_line}
 use Rattle.dbgd_run.specs.Stage.{LeavesRest, ProgramStage}
 use Rattle.dbgd_run.specs.Workers.{AreWorkers, IsFreshShare, ServedBy, WorkerFacts}
 use Rattle.dbgd_run.specs.declared.line_fate.LineFate.TheVariants.{Unmade}
 use Rattle.dbgd_run.specs.declared.passes_end.PassesEnd.{PassesEnd}
-use Rattle.dbgd_run.specs.declared.scan_end.ScanEnd.TheVariants.{Refused}
-use Rattle.dbgd_run.specs.declared.status.Status.{Status}
-use Rattle.dbgd_run.specs.declared.status.Status.TheVariants.{Done}
 
 -- what the words of a server ask
 pub record ServeWords : Type 0 where

@@ -6,16 +6,16 @@ use Rattle.http_wire.specs.Sink.{GetsAll}
 use Rattle.http_wire.specs.declared.door.DoorSaid.TheVariants as said
 use Rattle.index_state.specs.Changes.{EndsVoid}
 use Rattle.index_state.specs.Opening.{IsOverfull}
-use Rattle.dbgd_run.specs.Opened.{EndsOnlyWith, HasBad, HasSomeBad, StoreOpensOn}
+use Rattle.dbgd_commands.specs.Opened.{EndsOnlyWith, HasBad, HasSomeBad, StoreOpensOn}
+use Rattle.dbgd_commands.specs.ScanSaid.{pass_saying}
+use Rattle.dbgd_commands.specs.Scene.{Setting}
+use Rattle.dbgd_commands.specs.declared.status.Status.{Status}
+use Rattle.dbgd_commands.specs.declared.status.Status.TheVariants.{Done, Fault, Limit, OutOfMemory, BadRow}
 use Rattle.dbgd_run.specs.Rounds.{PassingScene, Round, out_lines}
-use Rattle.dbgd_run.specs.ScanSaid.{pass_saying}
-use Rattle.dbgd_run.specs.Scene.{Setting}
 use Rattle.dbgd_run.specs.Serve.{IsServed, PassesOn, RunsServe, ServeWords}
 use Rattle.dbgd_run.specs.ServeSaid.{serving_line}
 use Rattle.dbgd_run.specs.Stage.{ProgramStage}
 use Rattle.dbgd_run.specs.declared.passes_end.PassesEnd.{PassesEnd}
-use Rattle.dbgd_run.specs.declared.status.Status.{Status}
-use Rattle.dbgd_run.specs.declared.status.Status.TheVariants.{Done, Fault, Limit, OutOfMemory, BadRow}
 
 -- the count of faults of some door rose
 abbrev pub SomeDoorRose : List ShownDoor → List ShownDoor → Type 0

@@ -8,16 +8,16 @@ use Rattle.index_state.specs.declared.open_fault.OpenFault.TheVariants as refusa
 use Rattle.tree_walk.specs.declared.fault.WalkFault.TheVariants as stop
 use Rattle.pass_runner.specs.declared.pass_end.PassEnd.{PassEnd}
 use Rattle.pass_runner.specs.declared.pass_end.PassEnd.TheVariants as pass
-use Rattle.dbgd_run.specs.Causes.{IsFreeHand}
+use Rattle.dbgd_commands.specs.CommandCauses.{IsFreeHand}
+use Rattle.dbgd_commands.specs.Scene.{OfFirst, Setting}
+use Rattle.dbgd_commands.specs.declared.status.Status.{Status}
+use Rattle.dbgd_commands.specs.declared.status.Status.TheVariants.{OutOfMemory}
 use Rattle.dbgd_run.specs.Rounds.{Round}
-use Rattle.dbgd_run.specs.Scene.{OfFirst, Setting}
 use Rattle.dbgd_run.specs.Serve.{RunsServe, ServeWords, served, unopened, unserved}
 use Rattle.dbgd_run.specs.ServeCauses.{rounds_behind}
 use Rattle.dbgd_run.specs.Stage.{ProgramStage}
 use Rattle.dbgd_run.specs.declared.line_fate.LineFate.{LineFate}
 use Rattle.dbgd_run.specs.declared.line_fate.LineFate.TheVariants.{Written, Unmade}
-use Rattle.dbgd_run.specs.declared.status.Status.{Status}
-use Rattle.dbgd_run.specs.declared.status.Status.TheVariants.{OutOfMemory}
 
 -- nothing stands against the passes of a server: so it is of the first hand, the store tells that each of its values is a
 -- row, not too many of them of the edition, and neither the store's count nor that of the standard output rose

@@ -7,18 +7,18 @@ use Rattle.http_wire.specs.declared.door.DoorSaid.{DoorSaid}
 use Rattle.http_wire.specs.declared.door.DoorSaid.TheVariants as said
 use Rattle.conn_server.specs.declared.door.DoorEnd.{DoorEnd}
 use Rattle.conn_server.specs.declared.door.DoorEnd.TheVariants as end
-use Rattle.dbgd_run.specs.Endings.{EndsCut, EndsWhole, Saying, SaysMemory, Streams, fault_saying, out_saying}
+use Rattle.dbgd_commands.specs.Endings.{EndsCut, EndsWhole, Saying, SaysMemory, Streams, fault_saying, out_saying}
+use Rattle.dbgd_commands.specs.ScanSaid.{refusal_saying}
+use Rattle.dbgd_commands.specs.Texts.{fed_line}
+use Rattle.dbgd_commands.specs.declared.status.Status.{Status}
+use Rattle.dbgd_commands.specs.declared.status.Status.TheVariants as status
 use Rattle.dbgd_run.specs.RoundSaid.{is_cut, is_unmade}
 use Rattle.dbgd_run.specs.Rounds.{GetsLines}
-use Rattle.dbgd_run.specs.ScanSaid.{refusal_saying}
-use Rattle.dbgd_run.specs.Texts.{fed_line}
 use Rattle.dbgd_run.specs.declared.line_fate.LineFate.{LineFate}
 use Rattle.dbgd_run.specs.declared.passes_end.PassesEnd.{PassesEnd}
 use Rattle.dbgd_run.specs.declared.passes_end.PassesEnd.TheVariants.{OutFailed, OutOfMemory}
 use Rattle.dbgd_run.specs.declared.serve_end.ServeEnd.{ServeEnd}
 use Rattle.dbgd_run.specs.declared.serve_end.ServeEnd.TheVariants.{Refused, Unannounced, Unlocked, Served}
-use Rattle.dbgd_run.specs.declared.status.Status.{Status}
-use Rattle.dbgd_run.specs.declared.status.Status.TheVariants as status
 
 -- the first line of a server
 abbrev pub serving_line : ℕ → ℕ → List ℕ

@@ -15,11 +15,12 @@ use Rattle.index_state.specs.declared.open_fault.OpenFault.{OpenFault}
 use Rattle.index_state.specs.declared.open_fault.OpenFault.TheVariants as refusal
 use Rattle.conn_server.specs.Scene.{Scene}
 use Rattle.tree_trait.specs.declared.clock.Waited.{Waited}
-use Rattle.dbgd_run.specs.Endings.{Streams}
-use Rattle.dbgd_run.specs.Kept.{HasRows, StoreHoldsRows}
+use Rattle.dbgd_commands.specs.Endings.{Streams}
+use Rattle.dbgd_commands.specs.Kept.{HasRows, StoreHoldsRows}
+use Rattle.dbgd_commands.specs.Scan.{Scans}
+use Rattle.dbgd_commands.specs.Scene.{Setting}
+use Rattle.dbgd_commands.specs.declared.scan_end.ScanEnd.TheVariants as scanned
 use Rattle.dbgd_run.specs.Rounds.{KeepsPassing, PassingScene, Round}
-use Rattle.dbgd_run.specs.Scan.{Scans}
-use Rattle.dbgd_run.specs.Scene.{Setting}
 use Rattle.dbgd_run.specs.ServeSaid.{Announces}
 use Rattle.dbgd_run.specs.Serve.{HasServedLog, MakesRound, PassesOn, StoreServes}
 use Rattle.dbgd_run.specs.Workers.{PlaceServed}
@@ -27,7 +28,6 @@ use Rattle.dbgd_run.specs.declared.line_fate.LineFate.{LineFate}
 use Rattle.dbgd_run.specs.declared.line_fate.LineFate.TheVariants.{Unmade}
 use Rattle.dbgd_run.specs.declared.passes_end.PassesEnd.{PassesEnd}
 use Rattle.dbgd_run.specs.declared.places.DoorPlace.{DoorPlace}
-use Rattle.dbgd_run.specs.declared.scan_end.ScanEnd.TheVariants as scanned
 use Rattle.dbgd_run.specs.declared.serve_end.ServeEnd.{ServeEnd}
 use Rattle.dbgd_run.specs.declared.serve_end.ServeEnd.TheVariants.{Refused, Unannounced, Unlocked, Served}
 

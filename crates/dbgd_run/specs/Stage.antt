@@ -5,7 +5,7 @@ use Rattle.std.specs.Global.{Vec}
 use Rattle.federation.specs.Link.{ShownLink}
 use Rattle.http_wire.specs.Door.{ShownDoor}
 use Rattle.tree_trait.specs.declared.clock.Waited.{Waited}
-use Rattle.dbgd_run.specs.Scene.{ProgramScene}
+use Rattle.dbgd_commands.specs.Scene.{ProgramScene}
 
 -- what all commands have, what the doors show, in order, and what the links of each row do, and the waits of the clock so far,
 -- where they are told

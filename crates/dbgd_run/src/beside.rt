@@ -7,10 +7,10 @@ ghost use Rattle.index_lock.specs.Tokens.{IsLater};
 ghost use Rattle.lock_crew.specs.Runs.{SlotHas, SlotRan};
 ghost use Rattle.conn_server.specs.Scene.{scene_of};
 ghost use Rattle.conn_server.specs.Tallied.{HasRowIn};
+ghost use Rattle.dbgd_commands.specs.Endings.{streams};
+ghost use Rattle.dbgd_commands.specs.Scene.{setting};
 ghost use Rattle.dbgd_run.specs.Beside.{DoesWork, TakesWork};
-ghost use Rattle.dbgd_run.specs.Endings.{streams};
 ghost use Rattle.dbgd_run.specs.Rounds.{KeepsPassing, passing_scene};
-ghost use Rattle.dbgd_run.specs.Scene.{setting};
 ghost use Rattle.dbgd_run.specs.Workers.{RunsPlace};
 
 use crate::door_crew::run_doors;

@@ -7,9 +7,9 @@ ghost use Rattle.conn_server.specs.Scene.{scene_of};
 ghost use Rattle.conn_server.specs.Tallied.{HasRowIn};
 ghost use Rattle.pass_runner.specs.declared.pass_end.PassEnd.{PassEnd};
 ghost use Rattle.tree_trait.specs.declared.clock.Waited.{Waited};
-ghost use Rattle.dbgd_run.specs.Endings.{streams};
+ghost use Rattle.dbgd_commands.specs.Endings.{streams};
+ghost use Rattle.dbgd_commands.specs.Scene.{setting};
 ghost use Rattle.dbgd_run.specs.Rounds.{passing_scene};
-ghost use Rattle.dbgd_run.specs.Scene.{setting};
 ghost use Rattle.dbgd_run.specs.Serve.{MakesRound};
 ghost use Rattle.dbgd_run.specs.Serving.{ServesFrom, crew_of, goes_on, serve_rules};
 

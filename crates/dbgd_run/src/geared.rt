@@ -3,23 +3,21 @@
 ghost use Rattle.std.specs.Prelude.{◌≡◌, ℕ, ◌+◌, ◌≤◌, List, [], ◌++◌, length, map, All, vec_capacity, vec_len};
 ghost use Rattle.std.specs.String.{string_bytes};
 ghost use Rattle.row_types.specs.Rules.{rules};
-ghost use Rattle.dbgd_run.specs.Endings.{streams};
-ghost use Rattle.dbgd_run.specs.Scene.{scene, setting};
+ghost use Rattle.dbgd_commands.specs.Endings.{streams};
+ghost use Rattle.dbgd_commands.specs.Scene.{scene, setting};
 ghost use Rattle.dbgd_run.specs.Serve.{RunsServe, serve_words};
 ghost use Rattle.dbgd_run.specs.ServeSaid.{serving_line};
 ghost use Rattle.dbgd_run.specs.Stage.{rows_shown, stage};
 ghost use Rattle.dbgd_run.specs.Workers.{IsFreshShare};
 
 use crate::gear::Gear;
-use crate::handed::Outside;
-use crate::lent::rejoin;
 use crate::lent_crew::{Lent, Loan, rejoin_crew};
 use crate::posts::{Posts, parts_of, places_of};
 use crate::serve_said::say_serve_end;
 use crate::serving::serve_store;
 use crate::shares::Shares;
 use crate::site::{Back, Crew, Site};
-use crate::status::Status;
+use dbgd_commands::{Outside, Status, rejoin};
 use elf_reading::ElfTruth;
 use federation::Link;
 use http_wire::{Door, Sink};

@@ -2,7 +2,7 @@
 
 ghost use Rattle.std.specs.Prelude.{◌≡◌, ◌+◌, ◌≤◌, [], ◌++◌, drop, take, vec_capacity, vec_len, IfOk, OnErr, OnOk};
 
-use crate::lent::{Others, lend, rejoin};
+use dbgd_commands::{Others, lend, rejoin};
 use std::alloc::{AllocError, Global};
 
 /// The hands of workers, those that aren't asked, and room for all behind the first ones, and for all.

@@ -1,11 +1,10 @@
 //! What is said of a pass between waits, and what comes of its line.
 
 ghost use Rattle.std.specs.Prelude.{◌≡◌};
-ghost use Rattle.dbgd_run.specs.Endings.{streams};
+ghost use Rattle.dbgd_commands.specs.Endings.{streams};
 ghost use Rattle.dbgd_run.specs.RoundSaid.{TellsPass, fate_by, missed_fate, whole_fate};
 
-use crate::scan_sayings::say_pass;
-use crate::status::Status;
+use dbgd_commands::{Status, say_pass};
 use http_wire::Sink;
 use pass_runner::PassEnd;
 use std::alloc::Global;

@@ -6,24 +6,19 @@ ghost use Rattle.row_types.specs.Rules.{rules};
 ghost use Rattle.dbgd_words.specs.Limits.{FitsLimits};
 ghost use Rattle.dbgd_words.specs.Lines.{asked_by};
 ghost use Rattle.dbgd_words.specs.Words.{line_of};
-ghost use Rattle.dbgd_run.specs.Endings.{EndsWhole, streams};
+ghost use Rattle.dbgd_commands.specs.Endings.{EndsWhole, streams};
+ghost use Rattle.dbgd_commands.specs.Scene.{scene, setting};
+ghost use Rattle.dbgd_commands.specs.Statuses.{code_of};
+ghost use Rattle.dbgd_commands.specs.declared.status.Status.TheVariants.{OutOfMemory};
 ghost use Rattle.dbgd_run.specs.Needs.{HasEnough};
 ghost use Rattle.dbgd_run.specs.Runs.{DoesLine, DoesWords, IsRun, Runs, takes_threads, usage_saying};
-ghost use Rattle.dbgd_run.specs.Scene.{scene, setting};
 ghost use Rattle.dbgd_run.specs.Stage.{rows_shown, stage};
-ghost use Rattle.dbgd_run.specs.Statuses.{code_of};
-ghost use Rattle.dbgd_run.specs.declared.status.Status.TheVariants.{OutOfMemory};
 
-use crate::handed::Outside;
-use crate::ident::run_ident;
-use crate::query::run_query;
-use crate::scan::run_scan;
-use crate::section::run_section;
 use crate::serve::{ServeLine, run_serve};
-use crate::sources::run_sources;
-use crate::speech::{say, say_error, say_no_memory};
-use crate::status::Status;
-use crate::trial::run_trial;
+use dbgd_commands::{
+    Outside, Status, run_ident, run_query, run_scan, run_section, run_sources, run_trial, say,
+    say_error, say_no_memory,
+};
 use dbgd_words::{Line, read_line};
 use elf_reading::ElfTruth;
 use federation::Link;

@@ -3,10 +3,10 @@
 ghost use Rattle.std.specs.Prelude.{◌≡◌, ◌<◌, vec_len, None, IsSome};
 ghost use Rattle.row_types.specs.Rules.{rules};
 ghost use Rattle.index_lock.specs.Tokens.{IsLater};
-ghost use Rattle.dbgd_run.specs.Endings.{streams};
+ghost use Rattle.dbgd_commands.specs.Endings.{streams};
+ghost use Rattle.dbgd_commands.specs.Scene.{setting};
 ghost use Rattle.dbgd_run.specs.RoundSaid.{CountsPass, TellsPass};
 ghost use Rattle.dbgd_run.specs.Rounds.{KeepsPassing, passing_scene, stopped_by};
-ghost use Rattle.dbgd_run.specs.Scene.{setting};
 
 use crate::line_fate::{LineFate, tell_pass};
 use crate::passes_end::PassesEnd;

@@ -3,17 +3,15 @@
 ghost use Rattle.std.specs.Prelude.{◌≡◌, ◌+◌, ◌*◌, ◌≤◌, map, IfOk, OnErr, vec_len};
 ghost use Rattle.row_types.specs.Rules.{rules};
 ghost use Rattle.dbgd_words.specs.Limits.{IsServeFit};
-ghost use Rattle.dbgd_run.specs.Endings.{streams};
-ghost use Rattle.dbgd_run.specs.Scene.{scene, setting};
+ghost use Rattle.dbgd_commands.specs.Endings.{streams};
+ghost use Rattle.dbgd_commands.specs.Scene.{scene, setting};
 ghost use Rattle.dbgd_run.specs.Serve.{RunsServe, serve_words};
 ghost use Rattle.dbgd_run.specs.Stage.{rows_shown, stage};
 
 use crate::gear::{joined_folders, new_gear};
 use crate::geared::{Order, serve_geared};
-use crate::handed::Outside;
 use crate::lent_crew::lend_all;
-use crate::speech::say_no_memory;
-use crate::status::Status;
+use dbgd_commands::{Outside, Status, say_no_memory};
 use elf_reading::ElfTruth;
 use federation::Link;
 use http_wire::{Door, Sink};

@@ -3,7 +3,7 @@
 ghost use Rattle.std.specs.Prelude.{◌≡◌, ◌||◌, IfOk};
 ghost use Rattle.std.specs.List.{flat_map, list_any};
 ghost use Rattle.std.specs.String.{string_bytes};
-ghost use Rattle.dbgd_run.specs.Endings.{streams};
+ghost use Rattle.dbgd_commands.specs.Endings.{streams};
 ghost use Rattle.dbgd_run.specs.Rounds.{GetsLines};
 ghost use Rattle.dbgd_run.specs.ServeSaid.{Announces, end_line, ended_badly, has_cut, served_status};
 ghost use Rattle.dbgd_run.specs.ServeSaid.{SaysServeEnd, serving_line, wants_line};
@@ -12,12 +12,9 @@ ghost use Rattle.dbgd_run.specs.Workers.{ends_at};
 use crate::line_fate::LineFate;
 use crate::passes_end::PassesEnd;
 use crate::places::DoorPlace;
-use crate::scan_sayings::say_refusal;
-use crate::scan_texts::push_count;
 use crate::serve_end::ServeEnd;
-use crate::speech::{say, say_no_memory, tell};
-use crate::status::Status;
 use conn_server::DoorEnd;
+use dbgd_commands::{Status, push_count, say, say_no_memory, say_refusal, tell};
 use http_wire::Sink;
 use std::alloc::{AllocError, Global};
 

@@ -7,9 +7,9 @@ ghost use Rattle.row_types.specs.Rules.{rules};
 ghost use Rattle.index_lock.specs.Tokens.{IsLater};
 ghost use Rattle.conn_server.specs.Scene.{scene_of};
 ghost use Rattle.conn_server.specs.Tallied.{HasRowIn};
-ghost use Rattle.dbgd_run.specs.Endings.{streams};
+ghost use Rattle.dbgd_commands.specs.Endings.{streams};
+ghost use Rattle.dbgd_commands.specs.Scene.{setting};
 ghost use Rattle.dbgd_run.specs.Rounds.{KeepsPassing, passing_scene};
-ghost use Rattle.dbgd_run.specs.Scene.{setting};
 ghost use Rattle.dbgd_run.specs.Serving.{GoesOn, crew_of};
 ghost use Rattle.dbgd_run.specs.Workers.{PlaceServed};
 

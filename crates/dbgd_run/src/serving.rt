@@ -6,9 +6,9 @@ ghost use Rattle.index_lock.specs.Tokens.{IsLater};
 ghost use Rattle.index_state.specs.Opening.{CanOpen};
 ghost use Rattle.conn_server.specs.Scene.{scene_of};
 ghost use Rattle.conn_server.specs.Tallied.{HasRowIn};
-ghost use Rattle.dbgd_run.specs.Endings.{streams};
+ghost use Rattle.dbgd_commands.specs.Endings.{streams};
+ghost use Rattle.dbgd_commands.specs.Scene.{setting};
 ghost use Rattle.dbgd_run.specs.Rounds.{passing_scene};
-ghost use Rattle.dbgd_run.specs.Scene.{setting};
 ghost use Rattle.dbgd_run.specs.Serving.{ServesFrom, ServesIndex, ServesKeeper};
 ghost use Rattle.dbgd_run.specs.Serving.{ServesStore, crew_of, serve_rules};
 

@@ -1,6 +1,6 @@
 -- The first pass, whatever the clock told.
 use Rattle.std.proofs.Common.{refl, arith}
-use Rattle.dbgd_run.proofs.HandLemmas.{goes_length}
+use Rattle.dbgd_commands.proofs.HandLemmas.{goes_length}
 use Rattle.dbgd_run.proofs.first_pass.pass_first.Goals as goal
 
 pub returns-clause-made : goal.returns-clause-made

@@ -1,9 +1,9 @@
 -- The first pass, and then the doors with or without passes beside them.
 use Rattle.row_types.specs.Rules.{rules}
 use Rattle.conn_server.specs.Scene.{scene_of}
-use Rattle.dbgd_run.specs.Endings.{streams}
+use Rattle.dbgd_commands.specs.Endings.{streams}
+use Rattle.dbgd_commands.specs.Scene.{setting}
 use Rattle.dbgd_run.specs.Rounds.{passing_scene}
-use Rattle.dbgd_run.specs.Scene.{setting}
 use Rattle.dbgd_run.specs.Serving.{crew_of, serve_rules}
 use Rattle.dbgd_run.proofs.ServeSteps.{serves_from}
 use Rattle.dbgd_run.proofs.first_pass.serve_from.Goals as goal

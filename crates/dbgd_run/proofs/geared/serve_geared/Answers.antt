@@ -2,8 +2,8 @@
 use Rattle.std.proofs.Common.{◌≡◌, ◌∙◌, All, length, take, sym, ap, subst, arith}
 use Rattle.std.specs.Prelude.{vec_len}
 use Rattle.row_types.specs.Rules.{rules}
-use Rattle.dbgd_run.specs.Endings.{streams}
-use Rattle.dbgd_run.specs.Scene.{setting}
+use Rattle.dbgd_commands.specs.Endings.{streams}
+use Rattle.dbgd_commands.specs.Scene.{setting}
 use Rattle.dbgd_run.specs.Serve.{serve_words}
 use Rattle.dbgd_run.specs.Serving.{crew_of}
 use Rattle.dbgd_run.specs.Workers.{IsFreshShare}

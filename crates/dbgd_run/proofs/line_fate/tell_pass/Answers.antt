@@ -1,6 +1,6 @@
 -- What came of the line, by the status with which it was said.
 use Rattle.std.proofs.Common.{sym, subst}
-use Rattle.dbgd_run.specs.Endings.{streams}
+use Rattle.dbgd_commands.specs.Endings.{streams}
 use Rattle.dbgd_run.specs.RoundSaid.{TellsPass}
 use Rattle.dbgd_run.specs.declared.line_fate.LineFate.{LineFate}
 use Rattle.dbgd_run.proofs.TellLemmas.{told_by}

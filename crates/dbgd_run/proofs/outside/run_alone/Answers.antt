@@ -2,11 +2,11 @@ use Rattle.std.proofs.Common.{◌<◌, length, inl, refl, arith}
 use Rattle.file_formats.specs.Parts.{IsSomePart, IsSomeSection}
 use Rattle.file_formats.specs.Windows.{IsSomeWindow}
 use Rattle.row_types.specs.Rules.{rules}
-use Rattle.dbgd_run.specs.Ident.{SaysIdent}
-use Rattle.dbgd_run.specs.Scene.{setting}
-use Rattle.dbgd_run.specs.Section.{SaysSection}
-use Rattle.dbgd_run.specs.Sources.{SaysSources}
-use Rattle.dbgd_run.proofs.HandLemmas.{runs_file}
+use Rattle.dbgd_commands.specs.Ident.{SaysIdent}
+use Rattle.dbgd_commands.specs.Scene.{setting}
+use Rattle.dbgd_commands.specs.Section.{SaysSection}
+use Rattle.dbgd_commands.specs.Sources.{SaysSources}
+use Rattle.dbgd_commands.proofs.HandLemmas.{runs_file}
 use Rattle.dbgd_run.proofs.outside.run_alone.Goals as goal
 
 pub returns-in-Ident-clause-law : goal.returns-in-Ident-clause-law

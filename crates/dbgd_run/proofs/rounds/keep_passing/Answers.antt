@@ -5,11 +5,11 @@ use Rattle.row_types.specs.Rules.{rules}
 use Rattle.index_lock.proofs.Later.{later_self, later_trans}
 use Rattle.tree_trait.specs.Clock.{Wakes}
 use Rattle.tree_trait.specs.declared.clock.Wake.{Wake}
-use Rattle.dbgd_run.specs.Endings.{streams}
+use Rattle.dbgd_commands.specs.Endings.{streams}
+use Rattle.dbgd_commands.specs.Scene.{setting}
+use Rattle.dbgd_commands.proofs.HandLemmas.{goes_length}
 use Rattle.dbgd_run.specs.Rounds.{IsRound, KeepsPassing, PassingScene, Round, passing_scene}
-use Rattle.dbgd_run.specs.Scene.{setting}
 use Rattle.dbgd_run.specs.declared.passes_end.PassesEnd.{PassesEnd}
-use Rattle.dbgd_run.proofs.HandLemmas.{goes_length}
 use Rattle.dbgd_run.proofs.RoundLemmas.{keeps_cut, keeps_none, keeps_stopped, keeps_unmade, keeps_written}
 use Rattle.dbgd_run.proofs.rounds.keep_passing.Goals as goal
 

@@ -3,9 +3,9 @@ use Rattle.std.proofs.Common.{◌≡◌, vec_len}
 use Rattle.std.specs.Option.{IsSome}
 use Rattle.row_types.specs.Rules.{rules}
 use Rattle.index_lock.specs.Tokens.{IsLater}
-use Rattle.dbgd_run.specs.Endings.{streams}
+use Rattle.dbgd_commands.specs.Endings.{streams}
+use Rattle.dbgd_commands.specs.Scene.{setting}
 use Rattle.dbgd_run.specs.Rounds.{passing_scene}
-use Rattle.dbgd_run.specs.Scene.{setting}
 use Rattle.dbgd_run.proofs.RoundLemmas.{KeepsOn}
 use Rattle.dbgd_run.proofs.rounds.keep_passing.Given as goal
 

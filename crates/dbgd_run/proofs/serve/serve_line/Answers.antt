@@ -2,8 +2,8 @@
 use Rattle.std.proofs.Common.{◌+◌, ◌++◌, drop, take, refl, subst, arith}
 use Rattle.std.proofs.lemmas.List.{take-append-drop}
 use Rattle.row_types.specs.Rules.{rules}
-use Rattle.dbgd_run.specs.Endings.{streams}
-use Rattle.dbgd_run.specs.Scene.{scene, setting}
+use Rattle.dbgd_commands.specs.Endings.{streams}
+use Rattle.dbgd_commands.specs.Scene.{scene, setting}
 use Rattle.dbgd_run.specs.Serve.{RunsServe, serve_words}
 use Rattle.dbgd_run.specs.Stage.{rows_shown, stage}
 use Rattle.dbgd_run.proofs.ServeRuns.{three_parts}

@@ -3,12 +3,12 @@ use Rattle.std.proofs.Common.{Bool, [], ap, refl, subst}
 use Rattle.row_types.specs.Rules.{rules}
 use Rattle.index_state.specs.State.{StateFacts}
 use Rattle.conn_server.specs.Scene.{scene_of}
-use Rattle.dbgd_run.specs.Endings.{streams}
+use Rattle.dbgd_commands.specs.Endings.{streams}
+use Rattle.dbgd_commands.specs.Scene.{setting}
+use Rattle.dbgd_commands.proofs.StoreLemmas.{rose_some}
 use Rattle.dbgd_run.specs.Rounds.{passing_scene}
-use Rattle.dbgd_run.specs.Scene.{setting}
 use Rattle.dbgd_run.specs.ServeSaid.{Announces}
 use Rattle.dbgd_run.specs.Serving.{crew_of, serve_rules}
-use Rattle.dbgd_run.proofs.StoreLemmas.{rose_some}
 use Rattle.dbgd_run.proofs.KeeperServed.{keeper_opened}
 use Rattle.dbgd_run.proofs.serving.serve_keeper.Goals as goal
 

@@ -2,9 +2,9 @@
 use Rattle.std.proofs.Common.{◌<◌, length, refl, arith}
 use Rattle.row_types.specs.Rules.{rules}
 use Rattle.conn_server.specs.Scene.{scene_of}
-use Rattle.dbgd_run.specs.Scene.{setting}
+use Rattle.dbgd_commands.specs.Scene.{setting}
+use Rattle.dbgd_commands.proofs.StoreLemmas.{scans_closed, scans_wanting}
 use Rattle.dbgd_run.specs.Serving.{serve_rules}
-use Rattle.dbgd_run.proofs.StoreLemmas.{scans_closed, scans_wanting}
 use Rattle.dbgd_run.proofs.StoreServed.{store_opened}
 use Rattle.dbgd_run.proofs.serving.serve_store.Goals as goal
 

@@ -1,0 +1,16 @@
+pub mod CauseLemmas
+pub mod ChangedLemmas
+pub mod Codes
+pub mod CountLemmas
+pub mod FileLemmas
+pub mod ForgedLemmas
+pub mod HandLemmas
+pub mod LimitInstances
+pub mod OtherHands
+pub mod PassLemmas
+pub mod QueryLemmas
+pub mod RowLemmas
+pub mod ScanLemmas
+pub mod StoreLemmas
+pub mod TrialEnds
+pub mod TrialLemmas

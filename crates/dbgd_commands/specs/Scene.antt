@@ -1,0 +1,45 @@
+-- What contracts know of the outside (this project's rule): what the types of its objects tell, and what the objects
+-- show at a moment.
+use Rattle.std.specs.Prelude.{◌≡◌, Bool, List, ◌∷◌}
+use Rattle.row_types.specs.Faults.{Rose}
+use Rattle.row_types.specs.Rules.{Rules}
+use Rattle.tree_trait.specs.Shown.{ShownTree}
+use Rattle.index_keeper.specs.Store.{ShownStore}
+use Rattle.pass_runner.specs.Owned.{HandsGo}
+use Rattle.dbgd_commands.specs.Endings.{Streams}
+
+-- the world; whether the hands tell the files that are there, and what a hand shows; whether the store's keepers tell
+-- their tables
+pub record Setting (T : Type 0) : Type 1 where
+  pub world : Rules
+  pub tells_files : Bool
+  pub sees : T → ShownTree
+  pub tells_tables : Bool
+
+-- the setting of these
+abbrev pub setting : {T : Type 0} → Rules → Bool → (T → ShownTree) → Bool → Setting T
+setting world tells_files sees tells_tables =
+    record { world = world; tells_files = tells_files; sees = sees; tells_tables = tells_tables }
+
+-- all that the program is handed, at a moment: the hands in order, the store and the two sinks
+pub record ProgramScene (T : Type 0) : Type 0 where
+  pub hands : List T
+  pub store : ShownStore
+  pub streams : Streams
+
+-- the scene of these
+abbrev pub scene : {T : Type 0} → List T → ShownStore → Streams → ProgramScene T
+scene hands store streams = record { hands = hands; store = store; streams = streams }
+
+-- the first hand went so, and the others are as they were
+abbrev pub FirstGoes : {T : Type 0} → (T → T → Type 0) → List T → List T → Type 0
+FirstGoes First hands later = HandsGo First (λ hand left. left ≡ hand) hands later
+
+-- this is so of the first hand, at a moment and later
+abbrev pub OfFirst : {T : Type 0} → Setting T → (ShownTree → ShownTree → Type 0) → List T → List T → Type 0
+OfFirst s Holds (hand ∷ hands) (later ∷ left) = Holds (s.sees hand) (s.sees later)
+OfFirst s Holds _ _ = ⊥
+
+-- the first hand's count of faults rose
+abbrev pub FirstRose : {T : Type 0} → Setting T → List T → List T → Type 0
+FirstRose s hands later = OfFirst s (λ before after. Rose before.faults after.faults) hands later

@@ -1,0 +1,239 @@
+//! The command `scan`.
+
+ghost use Rattle.std.specs.Prelude.{◌≡◌, ◌+◌, ◌<◌, drop, false, vec_len, IsTrue};
+ghost use Rattle.row_types.specs.Canon.{IsCanonPath};
+ghost use Rattle.row_types.specs.Rules.{rules};
+ghost use Rattle.index_keeper.specs.Store.{HasAll, ShownStore, TakesKeeperBack};
+ghost use Rattle.index_state.specs.Opening.{CanOpen};
+ghost use Rattle.tree_trait.specs.Shown.{HandsOn};
+ghost use Rattle.pass_runner.specs.Owned.{HandsGo, is_hand_fault as is_hand_fault_of};
+ghost use Rattle.dbgd_words.specs.Limits.{IsScanFit};
+ghost use Rattle.dbgd_commands.specs.Endings.{streams};
+ghost use Rattle.dbgd_commands.specs.Passing.{HasMissedPath, ScansIndex};
+ghost use Rattle.dbgd_commands.specs.Scan.{EndsScan, LoadsBy, RunsScan, Scans};
+ghost use Rattle.dbgd_commands.specs.ScanSaid.{is_first_hand_fault, is_store_fault};
+ghost use Rattle.dbgd_commands.specs.Scene.{scene, setting};
+
+use crate::handed::Outside;
+use crate::lent::{asked, lend, rejoin};
+use crate::scan_end::ScanEnd;
+use crate::scan_sayings::say_end;
+use crate::status::Status;
+use elf_reading::{ElfReader, ElfTruth};
+use federation::Link;
+use http_wire::{Door, Sink};
+use index_keeper::{Keeper, Store, StoreAnswer};
+use index_state::{OpenFault, State, open_state};
+use pass_runner::{PassEnd, scan_state};
+use row_types::CanonPath;
+use std::alloc::Global;
+use std::mem;
+use std::sync::Wait;
+use std::thread::Threads;
+use tree_trait::{Clock, Gate, Tree};
+
+/// Shows that a path is one that is kept. It is called for its clause alone.
+fn show_path(path: &CanonPath)
+    ensures { IsCanonPath path.now }
+{
+    // For its clause: the path is canonical.
+    let _text = path.text();
+}
+
+/// Shows the same of the path of a name that was missed. It is called for its clause alone.
+pub fn show_end(end: &PassEnd)
+    ensures { HasMissedPath end.now }
+{
+    if let PassEnd::Missed(miss) = end {
+        show_path(&miss.name.path);
+    }
+}
+
+/// Lets an index make one pass over the folders, and hands its keeper out.
+fn scan_index<
+    W: ElfTruth + Send + Sync,
+    T: Tree<W>,
+    K: Keeper<W>,
+    G: Gate,
+    Rt: Threads + Wait + Sync,
+>(
+    rt: &Rt,
+    alloc: Global,
+    state: State<W, K>,
+    roots: &[CanonPath],
+    hands: &mut Vec<T>,
+    gate: &G,
+) -> (PassEnd, K)
+    requires hand { 0 < vec_len hands.old }
+    requires sound { state.broken ≡ false }
+    ensures pass { ScansIndex (setting (rules W.version W.true_row W.told) T.told T.shows K.told)
+        K.shows roots.now hands.old.items hands.new.items state result.1 result.0 }
+    ensures hands { HandsGo
+        (λ hand later. HandsOn T.told W.version (T.shows hand) (T.shows later) ⊥
+        (IsTrue (is_hand_fault_of result.0)))
+        (λ hand later. HandsOn T.told W.version (T.shows hand) (T.shows later) ⊥ ⊥)
+        hands.old.items hands.new.items }
+    ensures keeper { result.0 ≡ PassEnd.KeeperFault → 0 < (K.shows result.1).faults }
+    ensures count { vec_len hands.new ≡ vec_len hands.old }
+{
+    let lent = mem::replace(hands, Vec::new(alloc));
+    let (state, back, end) = scan_state(rt, alloc, state, lent, roots, &ElfReader, gate);
+    *hands = back;
+    // For its clause: the path of a name that was missed is one that is kept.
+    show_end(&end);
+    (end, state.into_keeper())
+}
+
+/// Scans the folders into the index on a keeper, and hands the keeper out.
+fn scan_keeper<
+    W: ElfTruth + Send + Sync,
+    T: Tree<W>,
+    K: Keeper<W>,
+    G: Gate,
+    Rt: Threads + Wait + Sync,
+>(
+    rt: &Rt,
+    alloc: Global,
+    keeper: K,
+    roots: &[CanonPath],
+    hands: &mut Vec<T>,
+    gate: &G,
+) -> (ScanEnd, K)
+    requires hand { 0 < vec_len hands.old }
+    requires opens { CanOpen K.told (K.shows keeper) }
+    ensures ends { (from mid into : ShownStore) → HasAll K.told from (K.shows keeper)
+        → TakesKeeperBack K.told (K.shows result.1) mid into
+        → EndsScan (setting (rules W.version W.true_row W.told) T.told T.shows K.told) roots.now
+        hands.old.items hands.new.items from into result.0 }
+    ensures hands { HandsGo
+        (λ hand later. HandsOn T.told W.version (T.shows hand) (T.shows later) ⊥
+        (IsTrue (is_first_hand_fault result.0)))
+        (λ hand later. HandsOn T.told W.version (T.shows hand) (T.shows later) ⊥ ⊥)
+        hands.old.items hands.new.items }
+    ensures loads { LoadsBy T.shows hands.old.items hands.new.items result.0 }
+    ensures keeper { IsTrue (is_store_fault result.0) → 0 < (K.shows result.1).faults }
+    ensures count { vec_len hands.new ≡ vec_len hands.old }
+{
+    match open_state(alloc, keeper) {
+        Ok(state) => {
+            let (end, keeper) = scan_index(rt, alloc, state, roots, hands, gate);
+            (ScanEnd::Passed(end), keeper)
+        }
+        Err((fault, keeper)) => (ScanEnd::Refused(fault), keeper),
+    }
+}
+
+/// Scans the folders into a store, and says how the scan ended. The store has its keeper back by
+/// then.
+fn scan<W: ElfTruth + Send + Sync, T: Tree<W>, S: Store<W>, G: Gate, Rt: Threads + Wait + Sync>(
+    rt: &Rt,
+    alloc: Global,
+    path: &str,
+    roots: &[CanonPath],
+    hands: &mut Vec<T>,
+    store: &mut S,
+    gate: &G,
+) -> ScanEnd
+    requires { 0 < vec_len hands.old }
+    ensures scans { Scans (setting (rules W.version W.true_row W.told) T.told T.shows S.K.told)
+        path.now roots.now hands.old.items hands.new.items (S.shows store.old) (S.shows store.new)
+        result }
+    ensures count { vec_len hands.new ≡ vec_len hands.old }
+{
+    match store.open_store(alloc, path) {
+        StoreAnswer::Opened(keeper) => {
+            let (end, keeper) = scan_keeper(rt, alloc, keeper, roots, hands, gate);
+            store.give_back(keeper);
+            end
+        }
+        StoreAnswer::Failed => ScanEnd::Refused(OpenFault::KeeperFault),
+        StoreAnswer::OutOfMemory => ScanEnd::Refused(OpenFault::OutOfMemory),
+    }
+}
+
+/// Scans the folders into a store by so many workers, and says how the scan ended: one hand walks, one
+/// looks for the files of rows, and one for each worker reads. The hands behind these aren't asked.
+fn scan_by<
+    W: ElfTruth + Send + Sync,
+    T: Tree<W>,
+    S: Store<W>,
+    D: Door,
+    L: Link,
+    C: Clock + Drop,
+    O: Sink,
+    G: Gate + Drop,
+    Rt: Threads + Wait + Sync,
+>(
+    rt: &Rt,
+    alloc: Global,
+    path: &str,
+    workers: u64,
+    roots: &[CanonPath],
+    outside: &mut Outside<W, T, S, D, L, C, O, G>,
+) -> ScanEnd
+    requires hand { 0 < vec_len outside.old.hands }
+    requires fits { IsScanFit workers }
+    ensures scans { Scans (setting (rules W.version W.true_row W.told) T.told T.shows S.K.told)
+        path.now roots.now outside.old.hands.items outside.new.hands.items
+        (S.shows outside.old.store) (S.shows outside.new.store) result }
+    ensures others { drop (workers + 2) outside.new.hands.items
+        ≡ drop (workers + 2) outside.old.hands.items }
+    ensures count { vec_len outside.new.hands ≡ vec_len outside.old.hands }
+    ensures sinks { (outside.new.out ≡ outside.old.out) × (outside.new.err ≡ outside.old.err) }
+    ensures rest { (outside.new.doors ≡ outside.old.doors) × (outside.new.links ≡ outside.old.links)
+        × (outside.new.clock ≡ outside.old.clock) }
+{
+    let hands = &mut outside.hands;
+    let count = asked(workers, hands.len());
+    match lend(alloc, hands, count) {
+        Ok(others) => {
+            let end = scan(
+                rt,
+                alloc,
+                path,
+                roots,
+                hands,
+                &mut outside.store,
+                &outside.gate,
+            );
+            rejoin(hands, others);
+            end
+        }
+        Err(_) => ScanEnd::Refused(OpenFault::OutOfMemory),
+    }
+}
+
+/// Scans the folders into a store by so many workers, and says how that ended.
+pub fn run_scan<
+    W: ElfTruth + Send + Sync,
+    T: Tree<W>,
+    S: Store<W>,
+    D: Door,
+    L: Link,
+    C: Clock + Drop,
+    O: Sink,
+    G: Gate + Drop,
+    Rt: Threads + Wait + Sync,
+>(
+    rt: &Rt,
+    alloc: Global,
+    path: &str,
+    workers: u64,
+    roots: &[CanonPath],
+    outside: &mut Outside<W, T, S, D, L, C, O, G>,
+) -> Status
+    requires hand { 0 < vec_len outside.old.hands }
+    requires fits { IsScanFit workers }
+    ensures runs { RunsScan (setting (rules W.version W.true_row W.told) T.told T.shows S.K.told)
+        path.now workers roots.now
+        (scene outside.old.hands.items (S.shows outside.old.store)
+        (streams O.shows outside.old.out outside.old.err))
+        (scene outside.new.hands.items (S.shows outside.new.store)
+        (streams O.shows outside.new.out outside.new.err)) result }
+    ensures count { vec_len outside.new.hands ≡ vec_len outside.old.hands }
+    ensures rest { (outside.new.doors ≡ outside.old.doors) × (outside.new.links ≡ outside.old.links)
+        × (outside.new.clock ≡ outside.old.clock) }
+{
+    let end = scan_by(rt, alloc, path, workers, roots, outside);
+    say_end(alloc, &end, &mut outside.out, &mut outside.err)
+}

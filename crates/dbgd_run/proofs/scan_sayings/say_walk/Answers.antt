@@ -1,7 +1,0 @@
-use Rattle.dbgd_run.proofs.scan_sayings.say_walk.Goals as goal
-
-pub returns-in-TooManyEntries : goal.returns-in-TooManyEntries
-returns-in-TooManyEntries g c = rw c.in-TooManyEntries.is c.say_limit-in-TooManyEntries.ensures
-
-pub returns-in-RootGone : goal.returns-in-RootGone
-returns-in-RootGone g c = rw (c.in-RootGone.is, ← c.text.ensures.value) c.say_gone.ensures

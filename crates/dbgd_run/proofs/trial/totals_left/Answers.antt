@@ -1,5 +1,0 @@
--- What was added up of an index, which is let go.
-use Rattle.dbgd_run.proofs.trial.totals_left.Goals as goal
-
-pub returns : goal.returns
-returns c = c.totals_in.ensures

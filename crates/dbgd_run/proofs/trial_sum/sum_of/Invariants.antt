@@ -1,6 +1,0 @@
--- The digest holds the bytes of the rows so far.
-use Rattle.dbgd_run.proofs.TrialLemmas.{Completes}
-use Rattle.dbgd_run.proofs.trial_sum.sum_of.Given as goal
-
-abbrev pub invariant-loop-row : goal.invariant-loop-row
-invariant-loop-row g l = Completes l.digest l.row-iterator l.fn.state.rows
