@@ -138,6 +138,48 @@ else
   say "a path that is a blob: skipped, the tool doesn't write it"
 fi
 
+# Second tables of other shapes than the store's, beside its own table of rows: a scan and a query are refused, and the file
+# stays byte for byte. The log that the opening leaves beside it has no page.
+strange=0
+foreign() { # WHAT COLUMNS ROW
+  makes "$kept_table INSERT INTO kept VALUES ('/a', $row); CREATE TABLE epoch$2; INSERT INTO epoch VALUES $3;"
+  if [ "$(ask "$other" 'SELECT count(*) FROM kept, epoch' 2>&1)" != 1 ]; then
+    say "$1: skipped, the tool doesn't write it"
+    return
+  fi
+  strange=$((strange + 1))
+  cp "$other" "$work/before.db"
+  ends "scan beside $1" 1 '' $'dbgd: fault store\n' scan -d "$other" "$tree"
+  ends "query beside $1" 1 '' $'dbgd: fault store\n' query -d "$other" ffff
+  cmp -s "$other" "$work/before.db" || differs "$1: the file isn't as it was"
+  [ ! -e "$other-wal" ] || [ "$(stat -c %s "$other-wal")" -lt 512 ] || differs "$1: its log has a page"
+}
+key='one INTEGER PRIMARY KEY CHECK (one = 1)'
+foreign 'a further column' "($key, n INTEGER NOT NULL, more TEXT) STRICT" "(1, 41, 'more')"
+foreign 'a column fewer' '(n INTEGER PRIMARY KEY) STRICT' '(41)'
+foreign 'columns in another order' "(n INTEGER NOT NULL, $key) STRICT" '(41, 1)'
+foreign 'a key of another name' '(once INTEGER PRIMARY KEY, n INTEGER NOT NULL) STRICT' '(1, 41)'
+foreign 'a text' "($key, n TEXT NOT NULL) STRICT" "(1, '41')"
+foreign 'a real number' "($key, n REAL NOT NULL) STRICT" '(1, 41.0)'
+foreign 'any type' "($key, n ANY NOT NULL) STRICT" '(1, 41)'
+foreign 'no NOT NULL' "($key, n INTEGER) STRICT" '(1, 41)'
+foreign 'a table that is not strict' "($key, n INTEGER NOT NULL)" '(1, 41)'
+foreign 'a default' "($key, n INTEGER NOT NULL DEFAULT 7) STRICT" '(1, 41)'
+foreign 'a computed default' "($key, n INTEGER NOT NULL DEFAULT (7 + 1)) STRICT" '(1, 41)'
+foreign 'a key elsewhere' '(one INTEGER NOT NULL, n INTEGER PRIMARY KEY NOT NULL) STRICT' '(1, 41)'
+foreign 'no key' '(one INTEGER NOT NULL, n INTEGER NOT NULL) STRICT' '(1, 41)'
+foreign 'a counted key' '(one INTEGER PRIMARY KEY AUTOINCREMENT, n INTEGER NOT NULL) STRICT' '(1, 41)'
+foreign 'a key without a rowid' '(one INTEGER PRIMARY KEY, n INTEGER NOT NULL) STRICT, WITHOUT ROWID' '(1, 41)'
+foreign 'a unique number' "($key, n INTEGER NOT NULL UNIQUE) STRICT" '(1, 41)'
+foreign 'a reference' "($key, n INTEGER NOT NULL REFERENCES epoch) STRICT" '(1, 1)'
+foreign 'a computed column' "($key, n INTEGER NOT NULL, more INTEGER AS (n + 1)) STRICT" '(1, 41)'
+[ "$strange" -gt 0 ] || differs 'the tool writes no strange table'
+
+# The store's own tables, as the tool writes them, are opened.
+makes "$kept_table $epoch_table"
+ends 'query of its own tables' 3 '' $'dbgd: nothing found\n' query -d "$other" ffff
+[ "$(ask "$other" 'SELECT one, n FROM epoch')" = '1|42' ] || differs "its own tables: the number is $(ask "$other" 'SELECT * FROM epoch')"
+
 # 10,000 rows of files that are there, a hundred of them with the id abcd as those of an executable. A scan keeps them all
 # and reads none of the files, and a query finds the hundred.
 many=$work/many
@@ -183,5 +225,5 @@ for step in $(seq 1 20); do
   wants "rows after kill $step" "$files" 'SELECT count(*) FROM kept'
 done
 
-say "$files files kept; $killed of 20 scans killed; $differing differ"
+say "$files files kept; $strange strange tables refused; $killed of 20 scans killed; $differing differ"
 [ "$differing" = 0 ]

@@ -1,5 +1,5 @@
 -- Records of the parts that they are compared by.
-use Rattle.std.proofs.Common.{◌≡◌, ℕ, Bool, true, false, List, [], ◌∷◌, Option, None, codes, ◌∙◌, ap}
+use Rattle.std.proofs.Common.{◌≡◌, ℕ, Bool, true, false, List, [], ◌∷◌, Option, None, Some, codes, ◌∙◌, ap}
 use Rattle.sqlite.specs.Kind.{Kind}
 use Rattle.sqlite.specs.Term.{Term}
 use Rattle.sqlite.specs.Table.{Table}
@@ -17,14 +17,14 @@ use Rattle.sqlite_keeper.specs.Schema.{column_of, kept_index, rows_table, second
 abbrev column : List ℕ → Kind → Bool → Bool → Value → Collation → Column
 column n k s o d c = record { name = n; kind = k; is_strict = s; not_null = o; default = d; collation = c }
 
-pub column_is : (it : Column) (name : List ℕ) (kind : Kind) → it.name ≡ name → it.kind ≡ kind → it.is_strict ≡ true → it.not_null ≡ true → it.default ≡ Null → it.collation ≡ Binary → it ≡ column_of name kind
-column_is it name kind a b c d e f =
+pub column_is : (it : Column) (name : List ℕ) (kind : Kind) (not_null : Bool) → it.name ≡ name → it.kind ≡ kind → it.is_strict ≡ true → it.not_null ≡ not_null → it.default ≡ Null → it.collation ≡ Binary → it ≡ column_of name kind not_null
+column_is it name kind not_null a b c d e f =
     ap (λ x. column x it.kind it.is_strict it.not_null it.default it.collation) a
     ∙ ap (λ x. column name x it.is_strict it.not_null it.default it.collation) b
     ∙ ap (λ x. column name kind x it.not_null it.default it.collation) c
     ∙ ap (λ x. column name kind true x it.default it.collation) d
-    ∙ ap (λ x. column name kind true true x it.collation) e
-    ∙ ap (λ x. column name kind true true Null x) f
+    ∙ ap (λ x. column name kind true not_null x it.collation) e
+    ∙ ap (λ x. column name kind true not_null Null x) f
 
 abbrev stamps : List ℕ → List Term → List (List ℕ) → Stamps
 stamps p t f = record { places = p; terms = t; formats = f }
@@ -64,9 +64,18 @@ index_is it a b c d e f =
     ∙ ap (λ x. index kept_index.name 1 0 (1 ∷ []) (record { digits = x }) it.is_unique) e
     ∙ ap (λ x. index kept_index.name 1 0 (1 ∷ []) (record { digits = 0 }) x) f
 
--- a table of this name and place that refers to no other
-pub second_is : (it : Table) → it.name ≡ codes "epoch" → it.tree ≡ 2 → it.references ≡ [] → it ≡ second_of it
-second_is it a b c =
-    ap (λ x. record it { name = x }) a
-    ∙ ap (λ x. record it { name = codes "epoch"; tree = x }) b
-    ∙ ap (λ x. record it { name = codes "epoch"; tree = 2; references = x }) c
+-- the table of the number of openings
+pub second_is : (it : Table) → it.name ≡ codes "epoch" → it.tree ≡ 2 → it.columns ≡ (second_of it).columns → it.key ≡ Some 0 → it.primary ≡ 0 ∷ [] → it.uniques ≡ [] → it.orders ≡ []
+    → it.references ≡ [] → it.computed ≡ [] → it.stamps ≡ rows_table.stamps → it.is_counted ≡ false → it ≡ second_of it
+second_is it a b c d e f g h i j k =
+    ap (λ x. table x it.tree it.columns it.key it.primary it.uniques it.orders it.checks it.references it.computed it.stamps it.is_counted) a
+    ∙ ap (λ x. table (codes "epoch") x it.columns it.key it.primary it.uniques it.orders it.checks it.references it.computed it.stamps it.is_counted) b
+    ∙ ap (λ x. table (codes "epoch") 2 x it.key it.primary it.uniques it.orders it.checks it.references it.computed it.stamps it.is_counted) c
+    ∙ ap (λ x. table (codes "epoch") 2 (second_of it).columns x it.primary it.uniques it.orders it.checks it.references it.computed it.stamps it.is_counted) d
+    ∙ ap (λ x. table (codes "epoch") 2 (second_of it).columns (Some 0) x it.uniques it.orders it.checks it.references it.computed it.stamps it.is_counted) e
+    ∙ ap (λ x. table (codes "epoch") 2 (second_of it).columns (Some 0) (0 ∷ []) x it.orders it.checks it.references it.computed it.stamps it.is_counted) f
+    ∙ ap (λ x. table (codes "epoch") 2 (second_of it).columns (Some 0) (0 ∷ []) [] x it.checks it.references it.computed it.stamps it.is_counted) g
+    ∙ ap (λ x. table (codes "epoch") 2 (second_of it).columns (Some 0) (0 ∷ []) [] [] it.checks x it.computed it.stamps it.is_counted) h
+    ∙ ap (λ x. table (codes "epoch") 2 (second_of it).columns (Some 0) (0 ∷ []) [] [] it.checks [] x it.stamps it.is_counted) i
+    ∙ ap (λ x. table (codes "epoch") 2 (second_of it).columns (Some 0) (0 ∷ []) [] [] it.checks [] [] x it.is_counted) j
+    ∙ ap (λ x. table (codes "epoch") 2 (second_of it).columns (Some 0) (0 ∷ []) [] [] it.checks [] [] rows_table.stamps x) k

@@ -1,6 +1,6 @@
--- The statement that raises the number of openings writes the second table alone, whatever columns that has.
-use Rattle.std.proofs.Common.{◌≡◌, inl, inr, ℕ, ℤ, Bool, true, false, List, [], ◌∷◌, Ok, Option, None, Some, refl, sym, ◌∙◌, ap, subst}
-use Rattle.std.specs.Prelude.{IfOk, MatchBool, if◌then◌else◌, ◌==◌, codes, length}
+-- The statement that raises the number of openings writes the second table alone, whatever the CHECKs of that one ask.
+use Rattle.std.proofs.Common.{◌≡◌, inl, inr, ℕ, ℤ, true, false, List, [], ◌∷◌, Ok, Option, None, Some, refl, sym, ◌∙◌, ap, subst}
+use Rattle.std.specs.Prelude.{IfOk, MatchBool, ◌==◌, codes, length}
 use Rattle.sqlite_value.specs.Order.{Row}
 use Rattle.sqlite_trees.specs.Tree.{Trees}
 use Rattle.sqlite_ast.specs.declared.Conflict.TheVariants as conflict
@@ -32,7 +32,7 @@ use Rattle.sqlite_tied.specs.Compute.{everything}
 use Rattle.sqlite.specs.Does.{Does, Tally}
 use Rattle.sqlite.specs.Effect.{Database, edit_error}
 use Rattle.sqlite.specs.Listing.{if_select, listing_schema, reads_listing, understood}
-use Rattle.sqlite.specs.Rows.{Clears, Counts, CountsIn, Edited, Gives, InsertsOr, Judged, Meets, Puts, Refuses, Resolves, Task, Tries, TriesEach, Updates, Upserts, Written, nothing, passes_over, sequence}
+use Rattle.sqlite.specs.Rows.{Clears, Counts, Edited, Gives, InsertsOr, Judged, Meets, Puts, Refuses, Resolves, Task, Tries, TriesEach, Updates, Upserts, Written, nothing, passes_over}
 use Rattle.sqlite.specs.State.{State, Shown, ShowsRows, Writes, mode_of}
 use Rattle.sqlite.specs.declared.run.Mode.{Mode}
 use Rattle.sqlite.proofs.Callers.{one_step}
@@ -87,11 +87,6 @@ unfolding understood
 raise_second second =
     (either_holds (λ c. OnSecond c.command) (reads_listing (store_of second) raise_text) (if_select (compiled listing_schema raise_text)) (compiled (store_of second) raise_text) (record { it = own_none })
     (compiled_by IsRaise OnSecond (store_of second) raise_text (command_second second) (record { it = is_raise }))).it
-
--- the database counts no rowids
-no_sequence : (second : Table) → sequence (store_of second) ≡ None
-unfolding everything
-no_sequence second = refl
 
 -- ---- what it writes
 
@@ -156,11 +151,7 @@ module _ (limit : Option ℕ) (keys : Keys) (params : Row) (second : Table) wher
       each_stay way clauses more _ _ all tried.2 ∙ tries_stay way clauses _ done.trees tried.0 tried.1
 
   counts_stay : (db next : Trees) (counter : Option Row) (top : ℤ) → Counts task db counter top (Ok next) → Stay db next
-  counts_stay db next counter top h = counted (if second.is_counted then _ else false) h
-    where
-      counted : (b : Bool) → MatchBool b (CountsIn task db counter top (sequence (store_of second)) (Ok next)) (Gives db (Ok next)) → Stay db next
-      counted true it = absurd (let e = rw (no_sequence second) at it in cc)
-      counted false it = ap (λ (t : Trees). t 0) (same_value it)
+  counts_stay db next counter top h = ap (λ (t : Trees). t 0) (same_value h)
 
   inserts_stay : (way : Conflict) (clauses : List Upsert) (from : Source) (db : Trees) (w : Written) → InsertsOr task way clauses from db (Ok w) → Stay db w.trees
   inserts_stay way clauses from db w h =

@@ -3,8 +3,8 @@
 use sqlite::{Alter, FileStore, MemStore};
 use sqlite_disk::Disk;
 
-/// A store of bytes below a database, which may tell what it holds. One in memory does; over a disk
-/// it doesn't, since another program may write the file.
+/// A store of bytes below a database, which may tell what it holds. One in memory does; over a disk it doesn't, since another
+/// program may write the file. Its laws are the premises of the clauses on a told database.
 pub trait Telling: Alter {
     ghost use Rattle.std.specs.Prelude.{◌≡◌, Bool, true, IsTrue};
     ghost use Rattle.sqlite.specs.Held.{Held, state};
