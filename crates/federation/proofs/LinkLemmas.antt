@@ -7,6 +7,7 @@ use Rattle.std.proofs.lemmas.List.Sums.{sum_by-append}
 use Rattle.std.proofs.lemmas.Option.{same_Some}
 use Rattle.row_types.specs.Faults.{Rose, summed}
 use Rattle.http_wire.specs.Told.{Gains}
+use Rattle.http_wire.proofs.CallLemmas.{gains_both, gains_nothing}
 use Rattle.federation.specs.AskAll.{AreFirstQuestions, AreQuestions, HearsPart, IsQuestion}
 use Rattle.federation.specs.Heard.{LinkHeard, link_failed, link_refused}
 use Rattle.federation.specs.Link.{ShownLink}
@@ -17,21 +18,6 @@ use Rattle.federation.specs.declared.judging.QuestionEnd.TheVariants as ended
 use Rattle.federation.specs.declared.one_link.LinkEnd.TheVariants as link
 use Rattle.answer_check.specs.declared.passed.Passed.{Passed}
 use Rattle.webapi_routes.specs.declared.route.Route.{Route}
-
--- some and then more were heard
-pub gains_both : {A : Type 0} (old mid new : Option (List A)) (a b : List A) → Gains old a mid → Gains mid b new
-    → Gains old (a ++ b) new
-gains_both old None None a b first next_ some = absurd (cc)
-gains_both old None (Some n) a b first next_ some = let e = next_ refl in absurd (cc)
-gains_both None (Some m) new a b first next_ some = let e = first refl in absurd (cc)
-gains_both (Some o) (Some m) new a b first next_ some =
-    let same = same_Some m (o ++ a) (first refl) in
-    next_ some ∙ ap (λ x. Some (x ++ b)) same ∙ ap Some (append_assoc o a b)
-
--- nothing was heard
-pub gains_nothing : {A : Type 0} (told : Option (List A)) → Gains told [] told
-gains_nothing None some = absurd (cc)
-gains_nothing (Some all) some = ap Some (sym (append-nil all))
 
 -- a link heard nothing
 part_nothing : (shown : ShownLink) → HearsPart shown [] shown

@@ -6,7 +6,7 @@ use Rattle.federation.specs.Heard.{LinkHeard, LinkSaid, failed, memory, reply, s
 use Rattle.federation.specs.Link.{AsksOfLink, ShownLink, heard_by}
 use Rattle.federation.specs.MemLink.{AnswersScript, GivesScripted, MemLinkFacts, after_answer, count_said, heard_one, later_said, next_said, shown_mem_link}
 use Rattle.federation.specs.declared.link.LinkAnswer.{LinkAnswer}
-use Rattle.federation.proofs.LinkLemmas.{gains_nothing}
+use Rattle.http_wire.proofs.CallLemmas.{gains_nothing}
 use Rattle.webapi_routes.specs.declared.route.Route.{Route}
 
 -- what memory is refused for isn't heard

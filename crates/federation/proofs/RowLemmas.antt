@@ -16,7 +16,8 @@ use Rattle.federation.specs.declared.asking.Upstream.TheVariants.{HopLimit, Nobo
 use Rattle.federation.specs.declared.link_row.RowEnd.{RowEnd}
 use Rattle.federation.specs.declared.link_row.RowEnd.TheVariants as row
 use Rattle.federation.specs.declared.one_link.LinkEnd.TheVariants as link
-use Rattle.federation.proofs.LinkLemmas.{first_of_all, gains_nothing}
+use Rattle.http_wire.proofs.CallLemmas.{gains_nothing}
+use Rattle.federation.proofs.LinkLemmas.{first_of_all}
 use Rattle.webapi_routes.specs.declared.route.Route.{Route}
 
 -- the parts of links that aren't asked

@@ -61,9 +61,9 @@ AllAsked hops qs parts = All (AreQuestions hops qs) parts
 abbrev pub capped : ℕ → ℕ
 capped n = min n (2 ^ 64 - 1)
 
--- what is told of the answers: the first that passes is the last that was heard; or each link was asked and none passes, with
--- the numbers of those that failed and of the others; or the hops are too many and no link was asked; where memory was refused
--- none passes but perhaps the last that was heard
+-- what is told of the answers: the first that passes is the last that was heard; or each link was asked and none passes, with the
+-- numbers of those that failed and of the others; or the hops are too many and no link was asked; where memory was refused none
+-- passes but perhaps the last that was heard, of whose answer the section may have wanted it
 abbrev pub TellsUpstream : Route → ℕ → List (List LinkHeard) → Upstream → Type 0
 TellsUpstream route hops parts (File file) = LastReplyPasses route (all_heard parts) (passed.File file)
 TellsUpstream route hops parts (Section section) = LastReplyPasses route (all_heard parts) (passed.Section section)

@@ -35,7 +35,8 @@ count_said failed faults = raised faults
 count_said (reply status body) faults = faults
 count_said memory faults = faults
 
--- the next answer was given, and no question noted
+-- the next answer was given, and no question noted. What a link is to answer is said of this form alone: no clause above rests on
+-- it
 pub record GivesScripted (old : MemLinkFacts) (said : LinkSaid) (new : MemLinkFacts) (script : List LinkSaid) : Type 0 where
   pub gives : said ≡ next_said script
   pub after : new ≡ record old { script = later_said script; faults = count_said (next_said script) old.faults }

@@ -1,16 +1,21 @@
 -- Bytes that come one after the other.
-use Rattle.std.proofs.Common.{◌≡◌, ℕ, ◌-◌, List, [], ◌∷◌, ◌++◌, drop, length, Option, Some, None}
+use Rattle.std.proofs.Common.{◌≡◌, ℕ, ◌-◌, ◌<◌, List, [], ◌∷◌, ◌++◌, drop, length, map, Option, Some, None}
 use Rattle.std.proofs.Common.{refl, sym, ap, ◌∙◌, subst, arith, append_assoc, length-append}
 use Rattle.std.proofs.Math.Seq.{drop-append_seam}
+use Rattle.std.specs.List.{concat}
 use Rattle.std.specs.Option.{option_map}
 use Rattle.std.proofs.lemmas.List.{append-nil}
 use Rattle.httparse.specs.Grammar.{HasNoRequest}
-use Rattle.http_wire.specs.Find.{EndsInRead, Gathers, ReadsForHead}
+use Rattle.http_wire.specs.Calls.{gave, one_call}
+use Rattle.http_wire.specs.Find.{AreReadsWanted, Gathers, ReadsAsWanted}
+use Rattle.http_wire.specs.Heads.{IsStillOpen}
 use Rattle.http_wire.specs.Room.{Fills}
 use Rattle.http_wire.specs.Source.{ComesFrom}
 use Rattle.http_wire.specs.Stream.{LeavesWriting, ShownStream}
+use Rattle.http_wire.specs.Told.{Gains}
 use Rattle.http_wire.specs.declared.source.ReadAnswer.{ReadAnswer}
 use Rattle.http_wire.specs.declared.source.ReadAnswer.TheVariants.{Bytes, End, Failed}
+use Rattle.http_wire.proofs.CallLemmas.{calls_both, calls_none, gains_both, one_call_some}
 
 -- bytes and then more
 pub comes-comes : (old mid new : Option (List ℕ)) (a b : List ℕ) → ComesFrom old a mid → ComesFrom mid b new
@@ -28,10 +33,47 @@ leaves_both : {before between after : ShownStream} → LeavesWriting before betw
     → LeavesWriting between after → LeavesWriting before after
 leaves_both first then = record { written = then.written ∙ first.written; write_faults = then.write_faults ∙ first.write_faults }
 
--- what came ends in a read that was made where no head was held
-wanted_more : (held came : List ℕ) → EndsInRead held came → ReadsForHead held came
-wanted_more held [] ends = tt
-wanted_more held (byte ∷ came) ends = ends
+-- one read more, where it is wanted
+wanted_more : (held : List ℕ) (pieces : List (List ℕ)) (last : List ℕ) → AreReadsWanted held pieces
+    → HasNoRequest (held ++ concat pieces) → IsStillOpen (held ++ concat pieces) → AreReadsWanted held (pieces ++ last ∷ [])
+wanted_more held [] last had none still =
+    (subst HasNoRequest (append-nil held) none, subst IsStillOpen (append-nil held) still, tt)
+wanted_more held (piece ∷ pieces) last had none still =
+    let here = sym (append_assoc held piece (concat pieces)) in (
+      had.0,
+      had.1,
+      wanted_more (held ++ piece) pieces last had.2 (subst HasNoRequest here none) (subst IsStillOpen here still),
+    )
+
+-- nothing was read
+pub reads_nothing : (held : List ℕ) (shown : ShownStream) → ReadsAsWanted held [] shown shown
+reads_nothing held shown = record { reads = calls_none gave shown.calls; wanted = tt }
+
+-- some bytes were read where they were wanted
+reads_some : {held came : List ℕ} {before between after : ShownStream} (more : List ℕ) → ReadsAsWanted held came before between
+    → HasNoRequest (held ++ came) → IsStillOpen (held ++ came) → 0 < length more
+    → Gains between.calls (one_call gave more) after.calls → ReadsAsWanted held (came ++ more) before after
+reads_some {held} {came} {before} {between} {after} more had none still some told =
+    let one = subst (λ calls. Gains between.calls calls after.calls) (one_call_some gave more some) told in
+    record {
+      reads = calls_both had.reads (record { pieces = more ∷ []; all = sym (append-nil more); told = one });
+      wanted = wanted_more held had.reads.pieces more had.wanted
+          (subst (λ front. HasNoRequest (held ++ front)) had.reads.all none)
+          (subst (λ front. IsStillOpen (held ++ front)) had.reads.all still);
+    }
+
+-- a read gave nothing
+reads_none : {held came : List ℕ} {before between after : ShownStream} → ReadsAsWanted held came before between
+    → Gains between.calls [] after.calls → ReadsAsWanted held came before after
+reads_none {held} {came} {before} {between} {after} had told = record {
+  reads = record {
+    pieces = had.reads.pieces;
+    all = had.reads.all;
+    told = subst (λ calls. Gains before.calls calls after.calls) (append-nil (map gave had.reads.pieces))
+        (gains_both before.calls between.calls after.calls (map gave had.reads.pieces) [] had.reads.told told);
+  };
+  wanted = had.wanted;
+}
 
 -- nothing came yet
 pub gathers_none : (held : List ℕ) (shown : ShownStream) → Gathers held shown held shown
@@ -39,26 +81,21 @@ gathers_none held shown = record {
   came = [];
   all = sym (append-nil held);
   comes = comes_none shown.left;
-  wanted = tt;
+  wanted = reads_nothing held shown;
   later = omega arith;
   writing = record { written = refl; write_faults = refl };
 }
 
--- a read gave some bytes more, where no head was held
+-- a read gave some bytes more, where it was wanted
 pub gathers_fill : {held bytes more : List ℕ} {before between after : ShownStream} {n : ℕ}
-    → Gathers held before bytes between → HasNoRequest bytes → Fills bytes between more after (Bytes n)
+    → Gathers held before bytes between → HasNoRequest bytes → IsStillOpen bytes → Fills bytes between more after (Bytes n)
     → Gathers held before more after
-gathers_fill {held} {bytes} {more} {before} {between} {after} {n} had none fills = record {
+gathers_fill {held} {bytes} {more} {before} {between} {after} {n} had none still fills = record {
   came = had.came ++ fills.came;
   all = fills.all ∙ ap (λ front. front ++ fills.came) had.all ∙ append_assoc held had.came fills.came;
   comes = comes-comes before.left between.left after.left had.came fills.came had.comes fills.comes;
-  wanted = wanted_more held (had.came ++ fills.came) (record {
-    front = had.came;
-    last = fills.came;
-    cut = refl;
-    some = let one = fills.is.1 in let len = fills.is.0 in omega arith;
-    none = subst HasNoRequest had.all none;
-  });
+  wanted = reads_some fills.came had.wanted (subst HasNoRequest had.all none) (subst IsStillOpen had.all still)
+      (let one = fills.is.1 in let len = fills.is.0 in omega arith) fills.told;
   later = let first = had.later in let then = fills.cause.later in omega arith;
   writing = leaves_both had.writing fills.writing;
 }
@@ -83,7 +120,7 @@ none_came {held} {bytes} {more} {before} {between} {after} {answer} had fills no
       let here = subst (λ came. ComesFrom between.left came after.left) none fills.comes in
       subst (λ came. ComesFrom before.left came after.left) (append-nil had.came)
       (comes-comes before.left between.left after.left had.came [] had.comes here);
-  wanted = had.wanted;
+  wanted = reads_none had.wanted (subst (λ came. Gains between.calls (one_call gave came) after.calls) none fills.told);
   later = let first = had.later in let then = fills.cause.later in omega arith;
   writing = leaves_both had.writing fills.writing;
 }

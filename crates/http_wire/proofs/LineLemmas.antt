@@ -1,6 +1,6 @@
 -- Line feeds of heads, and bytes in which none came.
-use Rattle.std.proofs.Common.{◌≡◌, ℕ, ◌+◌, ◌≤◌, inl, inr, true, false, List, [], ◌∷◌, ◌++◌, length, take, drop}
-use Rattle.std.proofs.Common.{refl, sym, ap, ◌∙◌, arith, append_assoc, length-append, take-append-drop}
+use Rattle.std.proofs.Common.{◌≡◌, ℕ, ◌+◌, ◌-◌, ◌≤◌, inl, inr, true, false, List, [], ◌∷◌, ◌++◌, length, take, drop}
+use Rattle.std.proofs.Common.{refl, sym, ap, ◌∙◌, ◌||◌, Bool, subst, arith, append_assoc, length-append, length-drop, take-append-drop}
 use Rattle.std.specs.Prelude.{count_by}
 use Rattle.std.specs.List.{flat_map, list_any}
 use Rattle.std.proofs.lemmas.Bool.{cases_lt}
@@ -9,10 +9,15 @@ use Rattle.std.proofs.lemmas.List.Folds.{list_any-append}
 use Rattle.std.proofs.lemmas.List.Sums.{sum_by-append}
 use Rattle.std.proofs.Math.Seq.{drop-append_seam, take-append_seam}
 use Rattle.std.proofs.Math.Bool.{or-true}
-use Rattle.httparse.specs.Grammar.{Field, HasNoRequest, LineEnd, ReadsRequest, RequestHead, crlf, lf, print_blank, print_end, print_field, print_request, print_section, print_version}
-use Rattle.httparse.specs.Spans.{RequestExceeds, RequestOverflows}
-use Rattle.http_wire.specs.Heads.{HasTooMany}
-use Rattle.http_wire.specs.Room.{is_feed}
+use Rattle.httparse.specs.Grammar.{Field, HasNoRequest, LineEnd, NeverHasRequest, ReadsRequest, RequestHead, crlf, lf, print_blank, print_end, print_field, print_request, print_section, print_version}
+use Rattle.httparse.specs.Spans.{IsWithin, RequestExceeds, RequestOverflows, span_bytes}
+use Rattle.httparse.specs.declared.spans.Span.{Span}
+use Rattle.http_wire.specs.Heads.{HasTooMany, IsRuledOut, IsStillOpen}
+use Rattle.http_wire.specs.Look.{Covers, IsFoundIn, IsFoundInLines}
+use Rattle.http_wire.specs.Room.{AreLines, is_feed}
+use Rattle.http_wire.specs.declared.look.Found.{Found}
+use Rattle.http_wire.specs.declared.look.Look.{Look}
+use Rattle.http_wire.specs.declared.look.Look.TheVariants.{Bad, Partial, TooMany, Whole}
 
 -- how many line feeds there are
 abbrev feeds : List ℕ → ℕ
@@ -108,3 +113,84 @@ no_head_yet a b none quiet h rest reads =
           absurd (cc)
       | inr fits ↦ none h _ (within_front a b h rest reads fits)
     ]
+
+-- where no line ends in what comes, the lines are those of before
+lines_quiet : {bytes lines : List ℕ} (came : List ℕ) → AreLines bytes lines → list_any is_feed came ≡ false
+    → AreLines (bytes ++ came) lines
+lines_quiet {bytes} {lines} came are quiet = record {
+  rest = are.rest ++ came;
+  all = ap (λ b. b ++ came) are.all ∙ append_assoc lines are.rest came;
+  quiet = list_any-append is_feed are.rest came ∙ ap (λ (b : Bool). b || list_any is_feed came) are.quiet ∙ quiet;
+  ends = are.ends;
+}
+
+pub open_more : {bytes : List ℕ} (came : List ℕ) → IsStillOpen bytes → list_any is_feed came ≡ false
+    → IsStillOpen (bytes ++ came)
+open_more came still quiet = record { lines = still.lines; are = lines_quiet came still.are quiet; may = still.may }
+
+-- what can follow lines that never begin with a head can follow the bytes
+pub never_by_lines : (bytes : List ℕ) → IsRuledOut bytes → NeverHasRequest bytes
+never_by_lines bytes out more =
+    subst HasNoRequest (sym (ap (λ b. b ++ more) out.are.all ∙ append_assoc out.lines out.are.rest more))
+    (out.never (out.are.rest ++ more))
+
+-- the bytes that a span in the front covers
+span_front : (a b : List ℕ) (s : Span) → IsWithin (length a) s → span_bytes (a ++ b) s ≡ span_bytes a s
+span_front a b s within =
+    let order = within.0 in
+    let inside = within.1 in
+    let fits : s.end - s.start ≤ length (drop s.start a) = omega (arith, length-drop s.start a) in
+    ap (take (s.end - s.start)) (drop-append-le s.start a b (omega arith))
+    ∙ take-append-le (s.end - s.start) (drop s.start a) b fits
+
+within_more : (a b : List ℕ) (s : Span) → IsWithin (length a) s → IsWithin (length (a ++ b)) s
+within_more a b s within =
+    let size = length-append a b in
+    let inside = within.1 in
+    (within.0, omega arith)
+
+-- a head in front stays one where bytes follow
+covers_more : (a b : List ℕ) (found : Found) (h : RequestHead) → Covers a found h → Covers (a ++ b) found h
+covers_more a b found h covers = record {
+  len = let size = length-append a b in let inside = covers.len in omega arith;
+  reads = ap (λ bytes. bytes ++ b) covers.reads ∙ append_assoc (print_request h) (drop found.len a) b
+      ∙ ap (λ tail. print_request h ++ tail) (sym (drop-append-le found.len a b covers.len));
+  method_in = within_more a b found.method covers.method_in;
+  target_in = within_more a b found.target covers.target_in;
+  method = span_front a b found.method covers.method_in ∙ covers.method;
+  target = span_front a b found.target covers.target_in ∙ covers.target;
+  minor = covers.minor;
+  close = covers.close;
+  has_body = covers.has_body;
+  hops = covers.hops;
+}
+
+-- and so do too many fields
+many_more : (a b : List ℕ) → HasTooMany a → HasTooMany (a ++ b)
+many_more a b many = record {
+  none = λ more h rest reads. many.none (b ++ more) h rest (reads.0, sym (append_assoc a b more) ∙ reads.1);
+  more = (
+    many.more.0,
+    many.more.1 ++ b,
+    ap (λ bytes. bytes ++ b) many.more.2 ∙ append_assoc many.more.0 many.more.1 b,
+    many.more.3,
+    many.more.4,
+    many.more.5,
+  );
+  lines = let all = feeds-append a b in let had = many.lines in omega arith;
+}
+
+-- what is found in the lines is found in the bytes
+pub found_in_lines : (bytes lines : List ℕ) (look : Look) → AreLines bytes lines → IsFoundIn lines look
+    → IsFoundInLines bytes look
+found_in_lines bytes lines (Whole found) are found_is = (
+  found_is.0,
+  found_is.1,
+  subst (λ b. Covers b found found_is.0) (sym are.all) (covers_more lines are.rest found found_is.0 found_is.2),
+)
+found_in_lines bytes lines Partial are found_is = (
+  subst HasNoRequest (sym are.all) (no_head_yet lines are.rest found_is.0 are.quiet),
+  record { lines = lines; are = are; may = found_is.1 },
+)
+found_in_lines bytes lines Bad are found_is = record { lines = lines; are = are; never = found_is }
+found_in_lines bytes lines TooMany are found_is = subst HasTooMany (sym are.all) (many_more lines are.rest found_is)

@@ -6,9 +6,11 @@ use Rattle.std.specs.Option.{option_map}
 use Rattle.std.proofs.Common.{append_assoc, length-append, length-drop}
 use Rattle.std.proofs.Math.Seq.{take-add, take-append-add}
 use Rattle.std.proofs.lemmas.List.{append-nil}
+use Rattle.http_wire.specs.Calls.{took}
 use Rattle.http_wire.specs.Sink.{Appends, GetsAll, GetsPart, WritesStream}
 use Rattle.http_wire.specs.Stream.{LeavesReading, ShownStream}
 use Rattle.http_wire.specs.declared.sink.WriteAnswer.TheVariants.{Took}
+use Rattle.http_wire.proofs.CallLemmas.{calls_both, calls_none, calls_one}
 
 -- two pieces in a row
 appends-append : (old mid new : Option (List ℕ)) (a b : List ℕ) → Appends old a mid
@@ -32,6 +34,7 @@ pub gets_both : {before between after : ShownStream} {a b : List ℕ} → GetsAl
     → GetsAll b between after → GetsAll (a ++ b) before after
 gets_both {before} {between} {after} {a} {b} first then = record {
   appends = appends-append before.written between.written after.written a b first.appends then.appends;
+  calls = calls_both first.calls then.calls;
   later = let one = first.later in let two = then.later in omega arith;
   reading = leaves_both first.reading then.reading;
 }
@@ -45,6 +48,7 @@ gets_then_part {before} {between} {after} {a} {b} first then = record {
   appends =
       rw (take-append-add a b then.count)
       (appends-append before.written between.written after.written a (take then.count b) first.appends then.appends);
+  calls = rw (take-append-add a b then.count) (calls_both first.calls then.calls);
   later = let one = first.later in let two = then.later in omega arith;
   rose = let one = first.later in let two = then.rose in omega arith;
   reading = leaves_both first.reading then.reading;
@@ -58,12 +62,22 @@ pub gets_more : {before between after : ShownStream} (bytes : List ℕ) (at n : 
 gets_more {before} {between} {after} bytes at n had writes = (
   let taken = writes.takes.1 in let was = had.0 in omega (arith, length-drop at bytes),
   rw (take-add at n bytes)
-      (gets_both had.1 (record { appends = writes.appends; later = writes.cause.later; reading = writes.reading })),
+      (gets_both had.1 (record {
+        appends = writes.appends;
+        calls = calls_one took (take n (drop at bytes)) between.calls after.calls writes.told;
+        later = writes.cause.later;
+        reading = writes.reading;
+      })),
 )
 
 -- nothing is written of no bytes
 pub gets_none : (shown : ShownStream) → GetsAll [] shown shown
-gets_none shown = record { appends = λ told. nothing shown.written; later = omega arith; reading = record { left = refl; read_faults = refl } }
+gets_none shown = record {
+  appends = λ told. nothing shown.written;
+  calls = calls_none took shown.calls;
+  later = omega arith;
+  reading = record { left = refl; read_faults = refl };
+}
   where
     nothing : (written : Option (List ℕ)) → written ≡ option_map (λ w. w ++ []) written
     nothing None = refl

@@ -14,7 +14,7 @@ use Rattle.http_wire.specs.declared.head.HeadAnswer.{HeadAnswer}
 use Rattle.http_wire.specs.declared.head.HeadAnswer.TheVariants as answer
 use Rattle.http_wire.specs.declared.head.HeadFault.{HeadFault}
 use Rattle.http_wire.specs.declared.head.HeadFault.TheVariants.{Bad, Cut, TooLong, TooMany}
-use Rattle.http_wire.proofs.LineLemmas.{ends_in_feed, within_front}
+use Rattle.http_wire.proofs.LineLemmas.{ends_in_feed, never_by_lines, within_front}
 
 -- the answer tells this head, and these bytes are behind it
 abbrev pub Gives : RequestHead → List ℕ → List ℕ → List ℕ → HeadAnswer → Type 0
@@ -43,7 +43,7 @@ not_empty h rest none =
 -- bytes that go on to a served head aren't refused
 not_refused : (bytes now : List ℕ) (left : Option (List ℕ)) (h : RequestHead) (rest : List ℕ) (fault : HeadFault)
     → IsServed h → left ≡ Some now → ReadsRequest (bytes ++ now) h rest → RefusesAsHead fault bytes left → ⊥
-not_refused bytes now left h rest (Bad len) served is reads refuses = refuses.1 now h rest reads
+not_refused bytes now left h rest (Bad len) served is reads refuses = never_by_lines bytes refuses.1 now h rest reads
 not_refused bytes now left h rest TooLong served is reads refuses =
     let short = served.short in
     let whole = refuses.0 in

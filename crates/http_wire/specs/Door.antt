@@ -8,12 +8,16 @@ use Rattle.http_wire.specs.declared.door.DoorAnswer.TheVariants.{Came, Closed, F
 use Rattle.http_wire.specs.declared.door.DoorSaid.{DoorSaid}
 use Rattle.http_wire.specs.declared.door.DoorSaid.TheVariants as said
 
--- its last answer, where it gave one; the connections that came, as they came, and those that were taken back, as they
--- were then, in order, where they are told; and the count of faults
+-- a connection came, as it was then, or was handed back, as it was then
+pub data DoorCall : Type 0 where
+  arrived : ShownStream → DoorCall
+  handed_back : ShownStream → DoorCall
+
+-- its last answer, where it gave one; the connections that came and those that were handed back, in one list in order, where
+-- they are told; and the count of faults
 pub record ShownDoor : Type 0 where
   pub last : Option DoorSaid
-  pub came : Option (List ShownStream)
-  pub ended : Option (List ShownStream)
+  pub calls : Option (List DoorCall)
   pub faults : ℕ
 
 -- an answer without its connection
@@ -22,22 +26,20 @@ said_of (Came conn) = said.Came
 said_of Closed = said.Closed
 said_of Failed = said.Failed
 
--- the connection that came, if one did, as it is shown
-abbrev pub comers : {C : Type 0} → (C → ShownStream) → DoorAnswer C → List ShownStream
-comers shows (Came conn) = shows conn ∷ []
-comers shows _ = []
+-- the connection that came, if one did
+abbrev pub arrivals : {C : Type 0} → (C → ShownStream) → DoorAnswer C → List DoorCall
+arrivals shows (Came conn) = arrived (shows conn) ∷ []
+arrivals shows _ = []
 
 -- an accept was answered: what came is told, and it failed only where the count rose
 pub record Accepts {C : Type 0} (shows : C → ShownStream) (before : ShownDoor) (answer : DoorAnswer C) (after : ShownDoor)
     : Type 0 where
   pub last : after.last ≡ Some (said_of answer)
-  pub came : Gains before.came (comers shows answer) after.came
-  pub ended : after.ended ≡ before.ended
+  pub told : Gains before.calls (arrivals shows answer) after.calls
   pub cause : HasCause before.faults after.faults (said_of answer ≡ said.Failed)
 
--- a connection was taken back
+-- a connection was taken back, which is told
 pub record TakesConnectionBack (conn : ShownStream) (before after : ShownDoor) : Type 0 where
   pub last : after.last ≡ before.last
-  pub came : after.came ≡ before.came
-  pub ended : Gains before.ended (conn ∷ []) after.ended
+  pub told : Gains before.calls (handed_back conn ∷ []) after.calls
   pub faults : after.faults ≡ before.faults

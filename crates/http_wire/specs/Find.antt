@@ -1,8 +1,9 @@
 -- What reading on finds (this project's rule over the grammar of heads).
-use Rattle.std.specs.Prelude.{◌≡◌, ℕ, ◌<◌, ◌≤◌, ◌==◌, Bool, true, false, List, [], ◌∷◌, ◌++◌, Option, IsTrue, length, if◌then◌else◌}
+use Rattle.std.specs.Prelude.{◌≡◌, ℕ, ◌≤◌, ◌==◌, Bool, true, false, List, [], ◌∷◌, ◌++◌, Option, IsTrue, if◌then◌else◌}
 use Rattle.httparse.specs.Grammar.{HasNoRequest}
 use Rattle.row_types.specs.Faults.{Rose}
-use Rattle.http_wire.specs.Heads.{RefusesAsHead}
+use Rattle.http_wire.specs.Calls.{AreCalls, gave}
+use Rattle.http_wire.specs.Heads.{IsStillOpen, RefusesAsHead}
 use Rattle.http_wire.specs.Look.{HasHead}
 use Rattle.http_wire.specs.Source.{ComesFrom, HasEnded}
 use Rattle.http_wire.specs.Stream.{LeavesWriting, ShownStream}
@@ -26,25 +27,22 @@ IsFind bytes left Closed = (bytes ≡ []) × HasEnded left
 IsFind bytes left (Refused fault) = RefusesAsHead fault bytes left
 IsFind bytes left Failed = Unit {0}
 
--- what came ends in a last read, which gave some bytes: with those before it, no head stood in what was held
-pub record EndsInRead (held came : List ℕ) : Type 0 where
-  pub front : List ℕ
-  pub last : List ℕ
-  pub cut : came ≡ front ++ last
-  pub some : 0 < length last
-  pub none : HasNoRequest (held ++ front)
+-- each of these pieces was read where no head stood in what was held, and one could still come of its lines
+abbrev pub AreReadsWanted : List ℕ → List (List ℕ) → Type 0
+AreReadsWanted held [] = Unit {0}
+AreReadsWanted held (piece ∷ pieces) = HasNoRequest held × IsStillOpen held × AreReadsWanted (held ++ piece) pieces
 
--- nothing came, or each read was made where no head was held
-abbrev pub ReadsForHead : List ℕ → List ℕ → Type 0
-ReadsForHead held [] = Unit {0}
-ReadsForHead held (byte ∷ came) = EndsInRead held (byte ∷ came)
+-- what came was read behind what was held, each piece where it was wanted
+pub record ReadsAsWanted (held came : List ℕ) (before after : ShownStream) : Type 0 where
+  pub reads : AreCalls gave came before.calls after.calls
+  pub wanted : AreReadsWanted held reads.pieces
 
 -- bytes came behind the held ones, and now all are these
 pub record Gathers (held : List ℕ) (before : ShownStream) (bytes : List ℕ) (after : ShownStream) : Type 0 where
   pub came : List ℕ
   pub all : bytes ≡ held ++ came
   pub comes : ComesFrom before.left came after.left
-  pub wanted : ReadsForHead held came
+  pub wanted : ReadsAsWanted held came before after
   pub later : before.read_faults ≤ after.read_faults
   pub writing : LeavesWriting before after
 

@@ -1,8 +1,10 @@
+pub mod Calls
 pub mod Door
 pub mod Fields
 pub mod Find
 pub mod Heads
 pub mod Look
+pub mod MemCalls
 pub mod MemConn
 pub mod MemDoor
 pub mod MemSink

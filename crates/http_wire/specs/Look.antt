@@ -1,9 +1,9 @@
 -- What one look at bytes finds (this project's rule over the grammar of heads).
 use Rattle.std.specs.Prelude.{◌≡◌, ℕ, ◌≤◌, List, ◌++◌, drop, length}
-use Rattle.httparse.specs.Grammar.{HasNoRequest, NeverHasRequest, RequestHead, print_request}
+use Rattle.httparse.specs.Grammar.{HasNoRequest, MayBecomeRequest, NeverHasRequest, RequestHead, print_request}
 use Rattle.httparse.specs.Spans.{IsWithin, span_bytes}
 use Rattle.http_wire.specs.Fields.{closes, has_body, hops}
-use Rattle.http_wire.specs.Heads.{HasTooMany, IsServed}
+use Rattle.http_wire.specs.Heads.{HasTooMany, IsRuledOut, IsServed, IsStillOpen}
 use Rattle.http_wire.specs.declared.look.Found.{Found}
 use Rattle.http_wire.specs.declared.look.Look.{Look}
 use Rattle.http_wire.specs.declared.look.Look.TheVariants.{Bad, Partial, TooMany, Whole}
@@ -28,6 +28,13 @@ HasHead bytes found = (h : RequestHead) × IsServed h × Covers bytes found h
 -- what is found in the bytes
 abbrev pub IsFoundIn : List ℕ → Look → Type 0
 IsFoundIn bytes (Whole found) = HasHead bytes found
-IsFoundIn bytes Partial = HasNoRequest bytes
+IsFoundIn bytes Partial = HasNoRequest bytes × MayBecomeRequest bytes
 IsFoundIn bytes Bad = NeverHasRequest bytes
 IsFoundIn bytes TooMany = HasTooMany bytes
+
+-- what is found in the bytes by their lines alone
+abbrev pub IsFoundInLines : List ℕ → Look → Type 0
+IsFoundInLines bytes (Whole found) = HasHead bytes found
+IsFoundInLines bytes Partial = HasNoRequest bytes × IsStillOpen bytes
+IsFoundInLines bytes Bad = IsRuledOut bytes
+IsFoundInLines bytes TooMany = HasTooMany bytes

@@ -46,13 +46,13 @@ Says old came new left answer.Closed = IsReaderClosed old came new left
 Says old came new left (answer.Refused fault) = IsHeadRefused old came new left fault
 Says old came new left answer.ReadFault = IsCutOff old new
 
--- bytes came from the source, none of them where a whole head was held, and what the answer says of them
+-- bytes came from the source, each read as it was wanted, and what the answer says of them
 pub record AnswersNext
     (old : ReaderFacts) (before : ShownStream) (new : ReaderFacts) (after : ShownStream)
     (answer : HeadAnswer) : Type 0 where
   pub came : List ℕ
   pub comes : ComesFrom before.left came after.left
-  pub wanted : find.ReadsForHead old.held came
+  pub wanted : find.ReadsAsWanted old.held came before after
   pub says : Says old came new after.left answer
   pub quiet : old.over ≡ true → after ≡ before
 
@@ -71,7 +71,7 @@ pub record StepsReader
     (what : Find) : Type 0 where
   pub came : List ℕ
   pub comes : ComesFrom before.left came after.left
-  pub wanted : find.ReadsForHead old.held came
+  pub wanted : find.ReadsAsWanted old.held came before after
   pub step : IsStep old came new after.left what
   pub quiet : old.over ≡ true → after ≡ before
   pub cause : HasCause before.read_faults after.read_faults (IsTrue (find.find_failed what))

@@ -3,7 +3,9 @@ use Rattle.std.specs.Prelude.{◌≡◌, ℕ, ◌<◌, ◌≤◌, Bool, true, fa
 use Rattle.std.specs.Prelude.{IsTrue, length, take}
 use Rattle.std.specs.Option.{option_map}
 use Rattle.row_types.specs.Faults.{HasCause, Rose}
+use Rattle.http_wire.specs.Calls.{AreCalls, one_call, took}
 use Rattle.http_wire.specs.Stream.{LeavesReading, ShownStream}
+use Rattle.http_wire.specs.Told.{Gains}
 use Rattle.http_wire.specs.declared.sink.WriteAnswer.{WriteAnswer}
 use Rattle.http_wire.specs.declared.sink.WriteAnswer.TheVariants.{Took, Failed}
 
@@ -26,16 +28,18 @@ write_failed _ = false
 abbrev pub Appends : Option (List ℕ) → List ℕ → Option (List ℕ) → Type 0
 Appends old bytes new = IsSome new → new ≡ option_map (λ written. written ++ bytes) old
 
--- a write of these bytes: what it took was written, it failed only where the count rose, and the other side stays
+-- a write of these bytes: what it took was written and is told; it failed only where the count rose, and the other side stays
 pub record WritesStream (bytes : List ℕ) (before after : ShownStream) (answer : WriteAnswer) : Type 0 where
   pub takes : TakesSome bytes answer
   pub appends : Appends before.written (front bytes answer) after.written
+  pub told : Gains before.calls (one_call took (front bytes answer)) after.calls
   pub cause : HasCause before.write_faults after.write_faults (IsTrue (write_failed answer))
   pub reading : LeavesReading before after
 
 -- all the bytes were written
 pub record GetsAll (bytes : List ℕ) (before after : ShownStream) : Type 0 where
   pub appends : Appends before.written bytes after.written
+  pub calls : AreCalls took bytes before.calls after.calls
   pub later : before.write_faults ≤ after.write_faults
   pub reading : LeavesReading before after
 
@@ -44,6 +48,7 @@ pub record GetsPart (bytes : List ℕ) (before after : ShownStream) : Type 0 whe
   pub count : ℕ
   pub proper : count < length bytes
   pub appends : Appends before.written (take count bytes) after.written
+  pub calls : AreCalls took (take count bytes) before.calls after.calls
   pub later : before.write_faults ≤ after.write_faults
   pub rose : Rose before.write_faults after.write_faults
   pub reading : LeavesReading before after

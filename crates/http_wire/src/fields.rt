@@ -14,7 +14,7 @@ use httparse::spans::HeaderSpan;
 
 /// What the fields of a head say together.
 #[derive(Clone, Copy)]
-pub(crate) struct Said {
+pub struct Said {
     /// Whether one asks to close the connection.
     pub close: bool,
     /// Whether one says that a body follows.

@@ -2,6 +2,7 @@
 
 ghost use Rattle.std.specs.Prelude.{◌≡◌};
 ghost use Rattle.http_wire.specs.Find.{FindsHead, found_at_end};
+ghost use Rattle.http_wire.specs.Look.{IsFoundInLines};
 
 use crate::head::HeadFault;
 use crate::limits::HEAD_LIMIT;
@@ -22,8 +23,8 @@ pub(crate) enum Find {
     Failed,
 }
 
-/// Reads on until what is held begins with a head, or can't. New bytes are looked at only where a line
-/// ends in them, since a head does.
+/// Reads on until what is held begins with a head, or can't. The lines that ended are looked at, as often
+/// as one ended in what came last: so what is found doesn't depend on how the bytes were cut.
 #[tactic(auto, using(crate::proofs::GatherLemmas::gathering))]
 pub(crate) fn find_next<S: Source>(room: &mut Room, source: &mut S) -> Find
     ensures { FindsHead room.old (S.shows source.old) room.new (S.shows source.new) result }
@@ -32,7 +33,7 @@ pub(crate) fn find_next<S: Source>(room: &mut Room, source: &mut S) -> Find
     loop {
         let held = room.held().len();
         if look {
-            match look_at(room.held()) {
+            match look_at_lines(room) {
                 Look::Whole(found) => return Find::Whole(found),
                 Look::Bad => return Find::Refused(HeadFault::Bad { len: held }),
                 Look::TooMany => return Find::Refused(HeadFault::TooMany),
@@ -48,6 +49,13 @@ pub(crate) fn find_next<S: Source>(room: &mut Room, source: &mut S) -> Find
             ReadAnswer::Failed => return Find::Failed,
         }
     }
+}
+
+/// Looks at the lines that are held.
+fn look_at_lines(room: &Room) -> Look
+    ensures { IsFoundInLines room.now result }
+{
+    look_at(room.lines())
 }
 
 /// What the end is behind so many bytes that hold no whole head.

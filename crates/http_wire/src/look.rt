@@ -11,9 +11,12 @@ use httparse::{Error, Status};
 
 /// Where the parts of a whole head are, and what it says.
 #[derive(Clone, Copy)]
-pub(crate) struct Found {
+pub struct Found {
+    /// Where the method is, in bytes from the head's first one.
     pub method: Span,
+    /// Where the target is, likewise.
     pub target: Span,
+    /// The version's last number: 0 or 1.
     pub minor: u8,
     /// The head's length in bytes.
     pub len: usize,
@@ -21,22 +24,22 @@ pub(crate) struct Found {
     pub said: Said,
 }
 
-/// What some bytes are.
+/// What some bytes are, to a reader of heads.
 #[derive(Clone, Copy)]
-pub(crate) enum Look {
+pub enum Look {
     /// They begin with a head.
     Whole(Found),
-    /// They hold no whole head.
+    /// They begin with no whole head, and with more bytes behind them they are one.
     Partial,
-    /// They begin no head.
+    /// They begin with no head, whatever comes behind them.
     Bad,
     /// They begin with more fields than a head has.
     TooMany,
 }
 
-/// Looks at bytes.
+/// Says whether bytes begin with a head, or can, as far as the limits let one be.
 #[tactic(auto, using(crate::proofs::LineLemmas::has_too_many))]
-pub(crate) fn look_at(bytes: &[u8]) -> Look
+pub fn look_at(bytes: &[u8]) -> Look
     requires { length bytes.now ≤ HEAD_LIMIT }
     ensures { IsFoundIn bytes.now result }
 {

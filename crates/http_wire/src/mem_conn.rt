@@ -3,11 +3,14 @@
 ghost use Rattle.std.specs.Prelude.{◌≡◌, ◌<◌, ◌≤◌, [], Some, All, length, take};
 ghost use Rattle.std.specs.Option.{option_copied};
 ghost use Rattle.row_types.specs.Faults.{raised};
+ghost use Rattle.http_wire.specs.Calls.{gave, one_call};
 ghost use Rattle.http_wire.specs.MemConn.{after_read, next_count, next_read, shown_conn, taken};
 ghost use Rattle.http_wire.specs.MemSink.{next_answer, next_faults};
 ghost use Rattle.http_wire.specs.Sink.{WritesStream};
-ghost use Rattle.http_wire.specs.Source.{ReadsStream};
+ghost use Rattle.http_wire.specs.Source.{ReadsStream, bytes_given};
+ghost use Rattle.http_wire.specs.Told.{Gains};
 
+use crate::mem_calls::{MemCall, MemCalls};
 use crate::mem_sink::MemSink;
 use crate::sink::{Sink, WriteAnswer};
 use crate::source::{ReadAnswer, Source};
@@ -18,7 +21,8 @@ use std::marker::Model;
 
 /// A connection in memory: bytes to read, and a sink in memory. Reads and writes are numbered from
 /// 0, each for itself. A read whose number is listed fails; another gives as many bytes as fit, but
-/// no more than the cut of its number where there is one.
+/// no more than the cut of its number where there is one. Where memory for a call is refused, its calls
+/// aren't told from then on.
 #[derive(Drop)]
 pub struct MemConn {
     input: Vec<u8>,
@@ -28,6 +32,7 @@ pub struct MemConn {
     reads: u64,
     faults: Faults,
     sink: MemSink,
+    calls: MemCalls,
 }
 
 impl Model for MemConn {
@@ -43,6 +48,7 @@ impl Model for MemConn {
       reads = c.reads;
       read_faults = c.faults;
       sink = c.sink;
+      calls = c.calls;
     } };
 
     ghost invariant = { λ c. (c.at ≤ length c.input.items) × All (λ n. 0 < n) c.cuts.items };
@@ -69,7 +75,9 @@ impl MemConn {
             bad_writes = bad_writes.items;
             writes = 0;
             faults = 0;
+            calls = Some [];
           };
+          calls = Some [];
         } }
     {
         MemConn {
@@ -80,6 +88,7 @@ impl MemConn {
             reads: 0,
             faults: Faults::new(),
             sink: MemSink::new(alloc, bad_writes),
+            calls: MemCalls::new(alloc),
         }
     }
 
@@ -88,6 +97,13 @@ impl MemConn {
         ensures { option_copied result ≡ self.now.sink.written }
     {
         self.sink.written()
+    }
+
+    /// The calls that gave or took bytes, in order, where they are told.
+    pub fn calls(&self) -> Option<&[MemCall]>
+        ensures { option_copied result ≡ self.now.calls }
+    {
+        self.calls.told()
     }
 
     // How many bytes the next read gives, where it doesn't fail.
@@ -105,7 +121,8 @@ impl MemConn {
     // The next read.
     fn give(&mut self, room: &mut [u8]) -> ReadAnswer
         ensures exact { result ≡ next_read self.old (length room.old) }
-        ensures state { self.new ≡ after_read self.old (length room.old) }
+        ensures state { self.new ≡ record (after_read self.old (length room.old)) { calls = self.new.calls } }
+        ensures told { Gains self.old.calls (one_call gave (bytes_given room.new result)) self.new.calls }
         ensures came { let n = taken self.old (length room.old) in
             take n room.new ≡ take n self.old.left }
         ensures cuts { All (λ n. 0 < n) self.old.cuts }
@@ -123,6 +140,7 @@ impl MemConn {
         }
         room[..count].copy_from_slice(&self.input[self.at..self.at + count]);
         self.at += count;
+        self.calls.gave(&room[..count]);
         ReadAnswer::Bytes(count)
     }
 }
@@ -138,7 +156,7 @@ impl Source for MemConn {
         requires { 0 < length room.old }
         ensures reads { ReadsStream room.new (shown_conn self.old) (shown_conn self.new) result }
         ensures exact { result ≡ next_read self.old (length room.old) }
-        ensures state { self.new ≡ after_read self.old (length room.old) }
+        ensures state { self.new ≡ record (after_read self.old (length room.old)) { calls = self.new.calls } }
     {
         self.give(room)
     }
@@ -154,8 +172,14 @@ impl Sink for MemConn {
         ensures bad { self.new.sink.bad_writes ≡ self.old.sink.bad_writes }
         ensures kept { result ≡ WriteAnswer.Failed
             → self.new.sink.written ≡ self.old.sink.written }
-        ensures same { self.new ≡ record self.old { sink = self.new.sink } }
+        ensures same { self.new ≡ record self.old { sink = self.new.sink; calls = self.new.calls } }
     {
-        self.sink.write(bytes)
+        match self.sink.write(bytes) {
+            WriteAnswer::Took(n) => {
+                self.calls.took(&bytes[..n]);
+                WriteAnswer::Took(n)
+            }
+            WriteAnswer::Failed => WriteAnswer::Failed,
+        }
     }
 }

@@ -6,6 +6,7 @@ ghost use Rattle.row_types.specs.Faults.{raised};
 ghost use Rattle.http_wire.specs.MemSink.{next_answer, next_faults, shown_sink};
 ghost use Rattle.http_wire.specs.Sink.{WritesStream};
 
+use crate::mem_calls::{MemCall, MemCalls};
 use crate::sink::{Sink, WriteAnswer};
 use crate::stream::Stream;
 use row_types::Faults;
@@ -13,13 +14,15 @@ use std::alloc::Global;
 use std::marker::Model;
 
 /// A sink in memory that fails at listed writes and takes each other piece whole. Writes are
-/// numbered from 0. Where memory for a piece is refused, what was written isn't told from then on.
+/// numbered from 0. Where memory for a piece is refused, what was written isn't told from then on, and
+/// where memory for a call is, the calls aren't.
 #[derive(Drop)]
 pub struct MemSink {
     written: Option<Vec<u8>>,
     bad_writes: Vec<u64>,
     writes: u64,
     faults: Faults,
+    calls: MemCalls,
 }
 
 impl Model for MemSink {
@@ -33,6 +36,7 @@ impl Model for MemSink {
       bad_writes = s.bad_writes.items;
       writes = s.writes;
       faults = s.faults;
+      calls = s.calls;
     } };
 }
 
@@ -44,6 +48,7 @@ impl MemSink {
           bad_writes = bad_writes.items;
           writes = 0;
           faults = 0;
+          calls = Some [];
         } }
     {
         MemSink {
@@ -51,6 +56,7 @@ impl MemSink {
             bad_writes,
             writes: 0,
             faults: Faults::new(),
+            calls: MemCalls::new(alloc),
         }
     }
 
@@ -59,6 +65,13 @@ impl MemSink {
         ensures { option_copied result ≡ self.now.written }
     {
         self.written.as_ref().map(|bytes| bytes.as_slice())
+    }
+
+    /// The calls that took bytes, in order, where they are told.
+    pub fn calls(&self) -> Option<&[MemCall]>
+        ensures { option_copied result ≡ self.now.calls }
+    {
+        self.calls.told()
     }
 }
 
@@ -89,6 +102,7 @@ impl Sink for MemSink {
         {
             self.written = None;
         }
+        self.calls.took(bytes);
         WriteAnswer::Took(bytes.len())
     }
 }

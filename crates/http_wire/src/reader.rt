@@ -70,6 +70,7 @@ impl HeadReader {
     }
 
     // Finds the next head.
+    #[tactic(auto, using(crate::proofs::ReaderLemmas::stays_over))]
     fn advance<S: Source>(&mut self, source: &mut S) -> Find
         ensures { StepsReader self.old (S.shows source.old) self.new (S.shows source.new) result }
     {

@@ -2,7 +2,7 @@
 
 ghost use Rattle.std.specs.Prelude.{◌≡◌, ◌<◌, ◌≤◌, ◌-◌, [], length, take, drop, IfOk};
 ghost use Rattle.std.specs.List.{list_any};
-ghost use Rattle.http_wire.specs.Room.{Fills, is_feed};
+ghost use Rattle.http_wire.specs.Room.{AreLines, Fills, is_feed};
 ghost use Rattle.http_wire.specs.Source.{ReadsStream};
 
 use crate::limits::HEAD_LIMIT;
@@ -51,6 +51,15 @@ impl Room {
         &self.bytes[self.start..self.end]
     }
 
+    /// What is held up to the last line feed, and nothing where none is held.
+    pub fn lines(&self) -> &[u8]
+        ensures value { AreLines self.now result.now }
+        ensures short { length result.now ≤ HEAD_LIMIT }
+    {
+        let held = self.held();
+        &held[..lines_len(held)]
+    }
+
     /// Whether a line feed is among so many bytes at the end.
     pub fn ends_line(&self, came: usize) -> bool
         requires { came ≤ length self.now }
@@ -78,6 +87,18 @@ impl Room {
         self.end = end;
         answer
     }
+}
+
+/// How many bytes there are up to the last line feed.
+fn lines_len(bytes: &[u8]) -> usize
+    ensures inside { result ≤ length bytes.now }
+    ensures lines { AreLines bytes.now (take result bytes.now) }
+{
+    let mut end = bytes.len();
+    while end > 0 && bytes[end - 1] != b'\n' {
+        end -= 1;
+    }
+    end
 }
 
 /// Moves the held bytes to the front, and reads behind them.

@@ -1,14 +1,15 @@
 -- Bodies by their frames, and whole responses.
-use Rattle.std.proofs.Common.{◌≡◌, ℕ, ◌<◌, ◌≤◌, List, [], ◌++◌, length, Result, Ok, Err, Some, refl, sym, ap, ◌∙◌, subst, arith, append_assoc, length-append, MatchResult}
+use Rattle.std.proofs.Common.{◌≡◌, ℕ, ◌<◌, ◌≤◌, List, [], ◌++◌, length, Result, Ok, Err, sym, ap, ◌∙◌, subst, arith, append_assoc, length-append, MatchResult}
 use Rattle.std.specs.List.{flat_map}
 use Rattle.std.proofs.lemmas.List.{append-nil}
-use Rattle.httparse.specs.Grammar.{ResponseHead, print_response, status_code}
+use Rattle.httparse.specs.Grammar.{ResponseHead, print_response}
 use Rattle.httparse.proofs.GrammarLemmas.{response_unique}
 use Rattle.http_wire.specs.Stream.{LeavesWriting, ShownStream}
 use Rattle.upstream_wire.specs.Bodies.{FailsBody, FaultSays, ReadsChunked, ReadsData, ReadsToEnd}
 use Rattle.upstream_wire.specs.Chunked.{HasNoChunked, IsChunked, print_chunk, print_last_chunk}
 use Rattle.upstream_wire.specs.Heads.{HasNoReadHead, ReadsHeadOf}
 use Rattle.upstream_wire.specs.Reads.{FailsResponse, HasNoBody, ReadsBody, ReadsResponseOf, ReadsWhole}
+use Rattle.upstream_wire.specs.Takes.{OnlyGives}
 use Rattle.upstream_wire.specs.Response.{HasNoWholeResponse, IsFramed, IsReadHead, IsWholeResponse, framing_by}
 use Rattle.upstream_wire.specs.declared.fault.ResponseFault.{ResponseFault}
 use Rattle.upstream_wire.specs.declared.fault.ResponseFault.TheVariants.{NoResponse, OutOfMemory, ReadFault}
@@ -16,7 +17,7 @@ use Rattle.upstream_wire.specs.declared.framing.Framing.TheVariants.{Chunked, Si
 use Rattle.upstream_wire.specs.declared.head.FoundResponse.{FoundResponse}
 use Rattle.upstream_wire.specs.declared.response.Response.{Response}
 use Rattle.upstream_wire.proofs.FailLemmas.{fails_as, fails_behind}
-use Rattle.upstream_wire.proofs.RoomLemmas.{at_end, behind, takes_both}
+use Rattle.upstream_wire.proofs.RoomLemmas.{at_end, behind, gives_of, takes_both}
 
 -- what follows from both answers
 pub match_each : {A E : Type 0} {P Q : A → Type 0} {F G : E → Type 0} (r : Result A E) → ((a : A) → P a → Q a)
@@ -174,3 +175,11 @@ pub reads_apart : (held : List ℕ) (before after : ShownStream) (r : Result Res
     → LeavesWriting before after
 reads_apart held before after (Ok x) reads = reads.takes.writing
 reads_apart held before after (Err fault) fails = fails.takes.writing
+
+-- and each call gave some of what came
+pub reads_given : (held : List ℕ) (before after : ShownStream) (r : Result Response ResponseFault)
+    → MatchResult r (λ x. ReadsWhole held before x.status x.body.items after)
+    (λ fault. FailsBody fault HasNoWholeResponse held before after)
+    → OnlyGives before after
+reads_given held before after (Ok x) reads = gives_of reads.takes
+reads_given held before after (Err fault) fails = gives_of fails.takes

@@ -1,5 +1,5 @@
 -- Bytes of a chunk that are taken.
-use Rattle.std.proofs.Common.{◌≡◌, ℕ, ◌+◌, ◌<◌, ◌≤◌, List, [], ◌∷◌, ◌++◌, length, take, drop, Option, Some, refl, sym, ap, ◌∙◌, subst, arith, append_assoc, take-append-drop, length-append, length-take-le}
+use Rattle.std.proofs.Common.{◌≡◌, ℕ, ◌+◌, ◌-◌, ◌<◌, List, [], ◌++◌, length, take, sym, ap, ◌∙◌, subst, arith, append_assoc, take-append-drop, length-append, length-take-le}
 use Rattle.std.proofs.lemmas.List.{append-nil}
 use Rattle.httparse.specs.Grammar.{crlf, print_end}
 use Rattle.upstream_wire.specs.Bodies.{FailsBody, FailsSome, FaultSays, MovesBytes, ReadsData, SomeSays}
@@ -10,7 +10,17 @@ use Rattle.upstream_wire.specs.declared.fault.ResponseFault.TheVariants.{NoRespo
 use Rattle.upstream_wire.proofs.FailLemmas.{fails_lacking}
 use Rattle.http_wire.specs.Source.{HasEnded}
 use Rattle.http_wire.specs.Stream.{ShownStream}
-use Rattle.upstream_wire.proofs.RoomLemmas.{at_end, behind, of_all, takes_both, takes_front}
+use Rattle.upstream_wire.proofs.RoomLemmas.{at_end, behind, of_all, takes_both, takes_front, takes_none}
+
+-- nothing was moved yet
+pub data_none : (held : List ℕ) (shown : ShownStream) (size : ℕ) (old : List ℕ)
+    → ReadsData held shown (size - size) old held shown old
+data_none held shown size old = record {
+  data_of = [];
+  count = omega arith;
+  takes = takes_none held shown;
+  body = sym (append-nil old);
+}
 
 -- some of the data was moved
 pub moves_more : {held mid now old mid_body new : List ℕ} {before between : ShownStream} {had_count most n size : ℕ}

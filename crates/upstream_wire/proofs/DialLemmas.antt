@@ -1,12 +1,15 @@
 -- A question over a dial.
-use Rattle.std.proofs.Common.{◌≡◌, ℕ, ◌+◌, ◌≤◌, ◌⊎◌, inl, inr, List, [], ◌∷◌, sym, subst, ◌∙◌, arith}
+use Rattle.std.proofs.Common.{◌≡◌, ℕ, ◌≤◌, ◌⊎◌, inl, inr, List, [], ◌∷◌, map, sym, subst, ◌∙◌, arith}
 use Rattle.row_types.specs.Faults.{Rose}
+use Rattle.http_wire.specs.Calls.{gave, took}
 use Rattle.http_wire.specs.Sink.{Appends, GetsAll, GetsPart}
 use Rattle.http_wire.specs.Stream.{LeavesWriting, ShownStream}
 use Rattle.http_wire.specs.Told.{Gains}
-use Rattle.upstream_wire.specs.Ask.{AsksDial, ExchangesOver, ReadsAnswerOf, SaysOfHeld, StreamFailed, failed_by}
+use Rattle.upstream_wire.specs.Ask.{AsksDial, ExchangesOver, ReadsAnswerOf, SaysOfHeld, StreamFailed, WritesFirst, failed_by}
 use Rattle.upstream_wire.specs.Dial.{Connects, ShownDial, TakesDialledBack, connected}
 use Rattle.upstream_wire.specs.Reads.{FailsResponse}
+use Rattle.upstream_wire.specs.Takes.{OnlyGives}
+use Rattle.http_wire.proofs.CallLemmas.{gains_both}
 use Rattle.upstream_wire.specs.declared.exchange.Answer.{Answer}
 use Rattle.upstream_wire.specs.declared.exchange.Answer.TheVariants.{Failed, OutOfMemory, Response}
 use Rattle.upstream_wire.specs.declared.fault.ResponseFault.{ResponseFault}
@@ -45,8 +48,8 @@ asks_conn before mid after host port request came gone answer connects exchanges
   later = later_by before mid after gone connects.2 ends;
 }
   where
-    by_writes : Appends came.written request gone.written ⊎ Rose came.write_faults gone.write_faults
-        → Appends came.written request gone.written ⊎ Rose before.faults after.faults
+    by_writes : WritesFirst request came gone ⊎ Rose came.write_faults gone.write_faults
+        → WritesFirst request came gone ⊎ Rose before.faults after.faults
     by_writes (inl all) = inl all
     by_writes (inr rose) = inr (rose_by before mid after came gone connects.2 ends (inr rose))
 
@@ -62,7 +65,14 @@ says_from OutOfMemory came mid gone left count says = tt
 pub exchanges : (came mid gone : ShownStream) (request : List ℕ) (answer : Answer) → GetsAll request came mid
     → ReadsAnswerOf mid answer gone → ExchangesOver came request gone answer
 exchanges came mid gone request answer gets reads = record {
-  writes = inl (subst (λ w. Appends came.written request w) (sym reads.writing.written) gets.appends);
+  writes = inl record {
+    written = subst (λ w. Appends came.written request w) (sym reads.writing.written) gets.appends;
+    taken = gets.calls.pieces;
+    given = reads.given.reads.pieces;
+    all = gets.calls.all;
+    told = gains_both came.calls mid.calls gone.calls (map took gets.calls.pieces) (map gave reads.given.reads.pieces)
+        gets.calls.told reads.given.reads.told;
+  };
   says = says_from answer came mid gone gets.reading.left gets.reading.read_faults reads.says;
   later =
       let a = gets.later in
@@ -86,7 +96,11 @@ exchanges_none came gone request gets = record {
 
 -- no response was read
 pub answers_failed : (came gone : ShownStream) (f : ResponseFault) → FailsResponse f came gone
-    → came.read_faults ≤ gone.read_faults → LeavesWriting came gone → ReadsAnswerOf came (failed_by f) gone
-answers_failed came gone fault.NoResponse fails later writing = record { says = inr fails; later = later; writing = writing }
-answers_failed came gone fault.ReadFault fails later writing = record { says = inl fails; later = later; writing = writing }
-answers_failed came gone fault.OutOfMemory fails later writing = record { says = tt; later = later; writing = writing }
+    → came.read_faults ≤ gone.read_faults → OnlyGives came gone → LeavesWriting came gone
+    → ReadsAnswerOf came (failed_by f) gone
+answers_failed came gone fault.NoResponse fails later given writing =
+    record { says = inr fails; later = later; given = given; writing = writing }
+answers_failed came gone fault.ReadFault fails later given writing =
+    record { says = inl fails; later = later; given = given; writing = writing }
+answers_failed came gone fault.OutOfMemory fails later given writing =
+    record { says = tt; later = later; given = given; writing = writing }

@@ -1,9 +1,9 @@
 -- The dial in memory.
-use Rattle.std.proofs.Common.{◌≡◌, ℕ, ◌<◌, ◌≤◌, List, [], ◌∷◌, ◌++◌, length, Option, Some, None, refl, sym, ap, subst, ◌∙◌, arith}
+use Rattle.std.proofs.Common.{◌≡◌, ℕ, ◌<◌, List, [], ◌∷◌, ◌++◌, length, refl, sym, ap, subst, arith}
 use Rattle.row_types.specs.Faults.{raised}
 use Rattle.http_wire.specs.MemConn.{ConnFacts}
 use Rattle.upstream_wire.specs.Dial.{Connects, dialled}
-use Rattle.upstream_wire.specs.MemDial.{DialConnFacts, DialFacts, GivesConn, GivesFirst, fresh_conn, given_of, shown_dial, shown_dialled}
+use Rattle.upstream_wire.specs.MemDial.{DialConnFacts, DialFacts, GivesConn, fresh_conn, given_of, shown_dial, shown_dialled}
 use Rattle.upstream_wire.specs.declared.dial.DialAnswer.{DialAnswer}
 use Rattle.upstream_wire.specs.declared.dial.DialAnswer.TheVariants.{Connected, Failed, OutOfMemory}
 

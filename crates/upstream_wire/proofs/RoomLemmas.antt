@@ -1,13 +1,15 @@
 -- Bytes that come one after the other, and what is left behind them.
-use Rattle.std.proofs.Common.{◌≡◌, ℕ, ◌≤◌, List, [], ◌++◌, Option, Some, None, refl, sym, ap, ◌∙◌, subst, arith, append_assoc}
-use Rattle.std.specs.Option.{option_map}
+use Rattle.std.proofs.Common.{◌≡◌, ℕ, ◌<◌, List, [], ◌++◌, length, Option, Some, None, refl, sym, ap, ◌∙◌, subst, arith, append_assoc, length-append}
 use Rattle.std.proofs.lemmas.List.{append-nil}
 use Rattle.std.proofs.lemmas.Option.{same_Some}
+use Rattle.http_wire.specs.Calls.{gave}
 use Rattle.http_wire.specs.Room.{Fills}
-use Rattle.upstream_wire.specs.Takes.{OfAll, Takes}
+use Rattle.upstream_wire.specs.Takes.{OfAll, OnlyGives, Takes}
 use Rattle.http_wire.specs.Source.{ComesFrom, HasEnded}
 use Rattle.http_wire.specs.Stream.{LeavesWriting, ShownStream}
 use Rattle.http_wire.specs.declared.source.ReadAnswer.{ReadAnswer}
+use Rattle.http_wire.specs.declared.source.ReadAnswer.TheVariants.{Bytes}
+use Rattle.http_wire.proofs.CallLemmas.{calls_both, calls_none, calls_one}
 use Rattle.http_wire.proofs.GatherLemmas.{comes-comes, comes_none}
 
 leaves_both : {before between after : ShownStream} → LeavesWriting before between
@@ -20,9 +22,19 @@ takes_none held shown = record {
   came = [];
   all = append-nil held;
   comes = comes_none shown.left;
+  reads = calls_none gave shown.calls;
   later = omega arith;
   writing = record { written = refl; write_faults = refl };
 }
+
+-- nothing came
+pub gives_none : (shown : ShownStream) → OnlyGives shown shown
+gives_none shown = record { came = []; comes = comes_none shown.left; reads = calls_none gave shown.calls }
+
+-- what came was given
+pub gives_of : {held taken now : List ℕ} {before after : ShownStream} → Takes held before taken now after
+    → OnlyGives before after
+gives_of takes = record { came = takes.came; comes = takes.comes; reads = takes.reads }
 
 -- more came behind what was taken
 pub takes_fill : {held taken mid now : List ℕ} {before between after : ShownStream} {answer : ReadAnswer}
@@ -32,9 +44,18 @@ takes_fill {held} {taken} {mid} {now} {before} {between} {after} had fills = rec
   all = sym (append_assoc held had.came fills.came) ∙ ap (λ front. front ++ fills.came) had.all
       ∙ append_assoc taken mid fills.came ∙ ap (λ tail. taken ++ tail) (sym fills.all);
   comes = comes-comes before.left between.left after.left had.came fills.came had.comes fills.comes;
+  reads = calls_both had.reads (calls_one gave fills.came between.calls after.calls fills.told);
   later = let first = had.later in let then = fills.cause.later in omega arith;
   writing = leaves_both had.writing fills.writing;
 }
+
+-- where some came, some are held
+pub fill_some : {held now : List ℕ} {before after : ShownStream} {n : ℕ} → Fills held before now after (Bytes n) → 0 < length now
+fill_some {held} {now} {before} {after} {n} fills =
+    let count = fills.is.0 in
+    let some = fills.is.1 in
+    let size = ap length fills.all ∙ length-append held fills.came in
+    omega arith
 
 -- bytes and then more were taken
 pub takes_both : {held one mid two now : List ℕ} {before between after : ShownStream}
@@ -44,6 +65,7 @@ takes_both {held} {one} {mid} {two} {now} {before} {between} {after} first then 
   all = sym (append_assoc held first.came then.came) ∙ ap (λ front. front ++ then.came) first.all
       ∙ append_assoc one mid then.came ∙ ap (λ tail. one ++ tail) then.all ∙ sym (append_assoc one two now);
   comes = comes-comes before.left between.left after.left first.came then.came first.comes then.comes;
+  reads = calls_both first.reads then.reads;
   later = let a = first.later in let b = then.later in omega arith;
   writing = leaves_both first.writing then.writing;
 }
@@ -55,6 +77,7 @@ takes_front {held} {taken} {now} {before} {after} front rest had splits = record
   came = had.came;
   all = had.all ∙ ap (λ tail. taken ++ tail) splits ∙ sym (append_assoc taken front rest);
   comes = had.comes;
+  reads = had.reads;
   later = had.later;
   writing = had.writing;
 }

@@ -1,5 +1,5 @@
 -- The exits of reading a chunk and a chunked body.
-use Rattle.std.proofs.Common.{◌≡◌, ℕ, ◌<◌, List, length}
+use Rattle.std.proofs.Common.{ℕ, ◌<◌, List, length}
 use Rattle.httparse.specs.Grammar.{crlf, print_end}
 use Rattle.http_wire.specs.Stream.{ShownStream}
 use Rattle.upstream_wire.specs.Bodies.{FailsBody, ReadsData, ReadsLine}

@@ -1,13 +1,13 @@
 -- Trailers.
-use Rattle.std.proofs.Common.{◌≡◌, ℕ, ◌+◌, ◌*◌, ◌<◌, ◌≤◌, List, [], ◌∷◌, ◌++◌, length, take, drop, All, Option, Some, refl, sym, ap, ◌∙◌, subst, arith, append_assoc, take-append-drop, length-append}
+use Rattle.std.proofs.Common.{◌≡◌, ℕ, ◌+◌, ◌*◌, ◌≤◌, List, [], ◌∷◌, ◌++◌, length, take, drop, All, sym, ap, ◌∙◌, arith, take-append-drop, length-append}
 use Rattle.std.specs.List.{flat_map}
 use Rattle.std.proofs.lemmas.List.{take-append-le}
 use Rattle.std.proofs.lemmas.List.Elements.{All-head, All-tail}
 use Rattle.std.proofs.Math.Seq.{take-append_seam}
 use Rattle.httparse.specs.Grammar.{Field, HasNoSection, IsField, LineEnd, crlf, lf, print_end, print_field, print_section}
-use Rattle.httparse.specs.Spans.{IsSectionAt, IsSectionOf, SectionOverflows}
+use Rattle.httparse.specs.Spans.{SectionOverflows}
 use Rattle.upstream_wire.specs.Bodies.{FindsTrailers}
-use Rattle.upstream_wire.specs.Chunked.{HasNoTrailers, IsTrailers}
+use Rattle.upstream_wire.specs.Chunked.{HasNoTrailers}
 use Rattle.upstream_wire.specs.Takes.{OfAll, Takes}
 use Rattle.http_wire.specs.Stream.{ShownStream}
 use Rattle.upstream_wire.proofs.RoomLemmas.{of_all, takes_front}

@@ -1,6 +1,7 @@
 -- Waiting for the end of a line.
-use Rattle.std.proofs.Common.{◌≡◌, ℕ, ◌+◌, ◌-◌, ◌<◌, ◌≤◌, Bool, false, ◌||◌, List, [], ◌++◌, length, drop, refl, sym, ap, ◌∙◌, arith, append_assoc, length-append}
+use Rattle.std.proofs.Common.{◌≡◌, ℕ, ◌-◌, ◌<◌, ◌≤◌, inl, inr, false, ◌||◌, List, [], ◌++◌, length, drop, refl, sym, ap, ◌∙◌, arith, append_assoc, length-append}
 use Rattle.std.specs.List.{list_any}
+use Rattle.std.proofs.lemmas.Bool.{cases_lt}
 use Rattle.std.proofs.lemmas.List.{append-nil}
 use Rattle.std.proofs.lemmas.List.Folds.{list_any-append}
 use Rattle.std.proofs.Math.Seq.{drop-append_seam}
@@ -18,6 +19,14 @@ pub record IsWaiting (held : List ℕ) (before : ShownStream) (now : List ℕ) (
   pub takes : Takes held before [] now after
   pub quiet : ComesQuiet held now
   pub short : length now < 16384
+
+-- a room that isn't full has place
+pub has_place : (n : ℕ) → n ≤ 16384 → (n ≡ 16384 → ⊥) → n < 16384
+has_place n fits apart =
+    elim (cases_lt n 16384) [
+      | inl less ↦ less
+      | inr full ↦ absurd (apart (omega arith))
+    ]
 
 pub waits_none : (held : List ℕ) (shown : ShownStream) → length held < 16384 → IsWaiting held shown held shown
 waits_none held shown short = record {

@@ -1,11 +1,14 @@
 -- Questions over a dial (this project's rule).
-use Rattle.std.specs.Prelude.{◌≡◌, ℕ, ◌≤◌, ◌⊎◌, List, [], ◌∷◌}
+use Rattle.std.specs.Prelude.{◌≡◌, ℕ, ◌≤◌, ◌⊎◌, List, [], ◌∷◌, ◌++◌, map}
+use Rattle.std.specs.List.{concat}
 use Rattle.row_types.specs.Faults.{Rose}
+use Rattle.http_wire.specs.Calls.{gave, took}
 use Rattle.http_wire.specs.Sink.{Appends}
 use Rattle.http_wire.specs.Stream.{LeavesWriting, ShownStream}
 use Rattle.http_wire.specs.Told.{Gains}
 use Rattle.upstream_wire.specs.Dial.{ShownDial}
 use Rattle.upstream_wire.specs.Reads.{IsOnlyResponse, OfLeft}
+use Rattle.upstream_wire.specs.Takes.{OnlyGives}
 use Rattle.upstream_wire.specs.Response.{HasNoWholeResponse, IsWholeResponse}
 use Rattle.upstream_wire.specs.declared.exchange.Answer.{Answer}
 use Rattle.upstream_wire.specs.declared.exchange.Answer.TheVariants.{Failed, OutOfMemory, Response}
@@ -24,9 +27,17 @@ SaysOfHeld OutOfMemory came Fails = Unit {0}
 abbrev pub StreamFailed : ShownStream → ShownStream → Type 0
 StreamFailed came gone = Rose came.read_faults gone.read_faults ⊎ Rose came.write_faults gone.write_faults
 
+-- a request was written whole, and all of it was taken before the first byte that was given
+pub record WritesFirst (request : List ℕ) (came gone : ShownStream) : Type 0 where
+  pub written : Appends came.written request gone.written
+  pub taken : List (List ℕ)
+  pub given : List (List ℕ)
+  pub all : request ≡ concat taken
+  pub told : Gains came.calls (map took taken ++ map gave given) gone.calls
+
 -- a request was written whole unless a write failed, and then an answer was read
 pub record ExchangesOver (came : ShownStream) (request : List ℕ) (gone : ShownStream) (answer : Answer) : Type 0 where
-  pub writes : Appends came.written request gone.written ⊎ Rose came.write_faults gone.write_faults
+  pub writes : WritesFirst request came gone ⊎ Rose came.write_faults gone.write_faults
   pub says : SaysOfHeld answer came (StreamFailed came gone)
   pub later : (came.read_faults ≤ gone.read_faults) × (came.write_faults ≤ gone.write_faults)
 
@@ -34,6 +45,7 @@ pub record ExchangesOver (came : ShownStream) (request : List ℕ) (gone : Shown
 pub record ReadsAnswerOf (came : ShownStream) (answer : Answer) (gone : ShownStream) : Type 0 where
   pub says : SaysOfHeld answer came (Rose came.read_faults gone.read_faults)
   pub later : came.read_faults ≤ gone.read_faults
+  pub given : OnlyGives came gone
   pub writing : LeavesWriting came gone
 
 -- what came of a question whose response wasn't read
@@ -42,15 +54,15 @@ failed_by fault.NoResponse = Failed
 failed_by fault.ReadFault = Failed
 failed_by fault.OutOfMemory = OutOfMemory
 
--- a connection came and went: the request was written whole unless the dial's count rose, and the answer is that of what the
--- connection held as it came
+-- a connection came and went: the request was written whole, before the response was read, unless the dial's count rose; and
+-- the answer is that of what the connection held as it came
 pub record AsksConn
     (before : ShownDial) (host : List ℕ) (port : ℕ) (request : List ℕ) (answer : Answer) (after : ShownDial) : Type 0 where
   pub came : ShownStream
   pub gone : ShownStream
   pub given : Gains before.given (record { host = host; port = port; shown = came } ∷ []) after.given
   pub ended : Gains before.ended (gone ∷ []) after.ended
-  pub writes : Appends came.written request gone.written ⊎ Rose before.faults after.faults
+  pub writes : WritesFirst request came gone ⊎ Rose before.faults after.faults
   pub says : SaysOfHeld answer came (Rose before.faults after.faults)
   pub later : before.faults ≤ after.faults
 

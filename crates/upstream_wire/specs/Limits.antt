@@ -1,5 +1,5 @@
 -- The limits of responses, pinned: code and definitions share the constants (this project's limits).
-use Rattle.std.specs.Prelude.{◌≡◌, ℕ, ◌+◌, ◌*◌}
+use Rattle.std.specs.Prelude.{◌≡◌, ◌+◌, ◌*◌}
 use Rattle.http_wire.specs.declared.limits.TheConstants.{FIELD_LIMIT, HEAD_LIMIT}
 use Rattle.upstream_wire.specs.declared.limits.TheConstants.{BODY_LIMIT, TRAILERS}
 

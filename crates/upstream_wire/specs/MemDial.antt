@@ -1,5 +1,5 @@
 -- The dial in memory (this project's rule): it gives its connections in order, and then fails.
-use Rattle.std.specs.Prelude.{◌≡◌, ℕ, ◌⊎◌, List, [], ◌∷◌, ◌++◌, map, Option, Some}
+use Rattle.std.specs.Prelude.{◌≡◌, ℕ, List, [], ◌∷◌, ◌++◌, map, Option, Some}
 use Rattle.std.specs.Option.{option_map}
 use Rattle.row_types.specs.Faults.{raised, summed}
 use Rattle.http_wire.specs.MemConn.{ConnFacts}
@@ -25,6 +25,7 @@ shown_dialled c = record {
   read_faults = c.reads;
   written = c.conn.sink.written;
   write_faults = c.writes;
+  calls = c.conn.calls;
 }
 
 -- a connection that was given to a host and a port

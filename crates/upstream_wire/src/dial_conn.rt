@@ -6,7 +6,7 @@ ghost use Rattle.http_wire.specs.Sink.{WritesStream};
 ghost use Rattle.http_wire.specs.Source.{ReadsStream};
 ghost use Rattle.upstream_wire.specs.MemDial.{fresh_conn, shown_dialled};
 
-use http_wire::{MemConn, ReadAnswer, Sink, Source, Stream, WriteAnswer};
+use http_wire::{MemCall, MemConn, ReadAnswer, Sink, Source, Stream, WriteAnswer};
 use row_types::Faults;
 use std::marker::Model;
 
@@ -44,6 +44,13 @@ impl DialConn {
         ensures { option_copied result ≡ self.now.conn.sink.written }
     {
         self.conn.written()
+    }
+
+    /// The calls that gave or took bytes, in order, where they are told.
+    pub fn calls(&self) -> Option<&[MemCall]>
+        ensures { option_copied result ≡ self.now.conn.calls }
+    {
+        self.conn.calls()
     }
 
     /// How many reads have failed.

@@ -6,6 +6,7 @@ ghost use Rattle.upstream_wire.specs.Bodies.{FailsBody};
 ghost use Rattle.upstream_wire.specs.Limits.{ArePinnedResponseLimits};
 ghost use Rattle.upstream_wire.specs.Reads.{FailsResponse, HasNoBody, IsOnlyResponse, OfLeft, ReadsBody, ReadsResponseOf, ReadsWhole};
 ghost use Rattle.upstream_wire.specs.Response.{HasNoWholeResponse};
+ghost use Rattle.upstream_wire.specs.Takes.{OnlyGives};
 
 use crate::chunked::read_chunked;
 use crate::data::read_data;
@@ -26,6 +27,7 @@ pub struct Response {
 
 /// Reads a response from a source, up to its body's stated end and not beyond. The body's room grows
 /// with what comes, whatever length is stated.
+#[tactic(auto, using(crate::proofs::RoomLemmas::gives_none))]
 pub fn read_response<S: Source>(alloc: Global, source: &mut S) -> Result<Response, ResponseFault>
     ensures reads { MatchResult result
         (λ r. ReadsResponseOf (S.shows source.old) r.status r.body.items)
@@ -33,6 +35,7 @@ pub fn read_response<S: Source>(alloc: Global, source: &mut S) -> Result<Respons
     ensures only { IfOk result (λ r. OfLeft (S.shows source.old)
         (λ left. IsOnlyResponse left r.status r.body.items)) }
     ensures later { (S.shows source.old).read_faults ≤ (S.shows source.new).read_faults }
+    ensures given { OnlyGives (S.shows source.old) (S.shows source.new) }
     ensures apart { LeavesWriting (S.shows source.old) (S.shows source.new) }
     ensures limits { ArePinnedResponseLimits }
 {

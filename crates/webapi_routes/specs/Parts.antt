@@ -1,4 +1,4 @@
--- What contracts see of the parts that a text is cut into, and what is made of them.
+-- What is seen of the parts that a text is cut into, and what is made of them (this crate's bookkeeping, which no public clause cites).
 use Rattle.std.specs.Prelude.{◌≡◌, ℕ, ◌<◌, List, length, Result, Ok, Err}
 use Rattle.row_types.specs.declared.limits.TheConstants.{PATH_LIMIT}
 use Rattle.webapi_routes.specs.Routes.{IsShort, route_of}

@@ -11,6 +11,7 @@ returns-in-Bytes-clause-fills g c =
       came = came;
       all = take-add c.args.held n new ∙ ap (λ front. front ++ came) c.in-Bytes.ensures.front;
       comes = reads.gives.2;
+      told = reads.told;
       is = (sym (length-take-le n (drop c.args.held new) reads.gives.1), reads.gives.0);
       cause = reads.cause;
       writing = reads.writing;

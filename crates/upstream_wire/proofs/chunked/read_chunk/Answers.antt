@@ -1,4 +1,4 @@
-use Rattle.std.proofs.Common.{◌≡◌, ◌<◌, arith}
+use Rattle.std.proofs.Common.{◌<◌, arith}
 use Rattle.upstream_wire.proofs.ChunkedLemmas.{takes_chunk}
 use Rattle.upstream_wire.proofs.StepLemmas.{fails_by_data, fails_by_end, fails_by_line, fails_by_size}
 use Rattle.upstream_wire.proofs.chunked.read_chunk.Goals as goal

@@ -1,4 +1,4 @@
-use Rattle.std.proofs.Common.{◌≡◌, ◌-◌, ◌+◌, sym, subst, arith}
+use Rattle.std.proofs.Common.{sym, subst, arith}
 use Rattle.upstream_wire.specs.Bodies.{ReadsChunked, StepsChunk}
 use Rattle.upstream_wire.proofs.ChunkedLemmas.{reads_chunked, so_far_more}
 use Rattle.upstream_wire.proofs.StepLemmas.{fails_by_trailers, fails_so_far}

@@ -1,7 +1,11 @@
-use Rattle.std.proofs.Common.{◌≡◌, ◌-◌, ◌+◌, ◌<◌, ◌≤◌, length, arith}
-use Rattle.upstream_wire.proofs.DataLemmas.{data_stops, data_waits, moves_more}
+use Rattle.std.proofs.Common.{◌<◌, length, arith}
+use Rattle.upstream_wire.proofs.DataLemmas.{data_none, data_stops, data_waits, moves_more}
 use Rattle.upstream_wire.proofs.FailLemmas.{fails_by_memory}
 use Rattle.upstream_wire.proofs.data.read_data.Goals as goal
+
+pub loop-left-init : goal.loop-left-init
+loop-left-init g c =
+    (omega arith, data_none c.args.room.now (g.S.Stream.shows c.args.source.now) c.args.size c.args.body.now.items)
 
 pub loop-left-preserved : goal.loop-left-preserved
 loop-left-preserved g c =

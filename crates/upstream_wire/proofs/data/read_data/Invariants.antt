@@ -1,4 +1,4 @@
-use Rattle.std.proofs.Common.{◌≡◌, ◌-◌, ◌≤◌, length}
+use Rattle.std.proofs.Common.{◌-◌, ◌≤◌}
 use Rattle.upstream_wire.specs.Bodies.{ReadsData}
 use Rattle.upstream_wire.proofs.data.read_data.Given as goal
 

@@ -1,4 +1,4 @@
-use Rattle.std.proofs.Common.{◌≡◌, ◌<◌, MatchResult, length, subst, sym}
+use Rattle.std.proofs.Common.{◌<◌, MatchResult, length, subst, sym}
 use Rattle.upstream_wire.specs.Bodies.{FailsBody}
 use Rattle.upstream_wire.specs.Chunked.{HasNoChunked}
 use Rattle.upstream_wire.specs.Reads.{HasNoBody, ReadsBody}

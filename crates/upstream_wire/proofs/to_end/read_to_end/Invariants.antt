@@ -1,4 +1,4 @@
-use Rattle.std.proofs.Common.{◌+◌, ◌-◌, ◌≤◌, length}
+use Rattle.std.proofs.Common.{◌+◌, ◌-◌, length}
 use Rattle.upstream_wire.specs.Takes.{Takes}
 use Rattle.upstream_wire.proofs.to_end.read_to_end.Given as goal
 

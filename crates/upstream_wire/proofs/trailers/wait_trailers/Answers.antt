@@ -1,4 +1,4 @@
-use Rattle.std.proofs.Common.{◌≡◌, length, sym, ap, ◌∙◌}
+use Rattle.std.proofs.Common.{length, sym, ap, ◌∙◌}
 use Rattle.httparse.specs.Grammar.{HasNoSection}
 use Rattle.upstream_wire.specs.Chunked.{HasNoTrailers}
 use Rattle.upstream_wire.proofs.FailLemmas.{fails_lacking, fails_waiting}
