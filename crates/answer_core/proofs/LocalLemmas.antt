@@ -1,5 +1,5 @@
 -- The answer by the candidates, as the answer to the route; and the file that it hands on.
-use Rattle.std.proofs.Common.{◌≡◌, ℕ, List, length, Option, Some, None, refl, sym, ◌∙◌, ap, subst, slice_index_or, Result, Ok, Err, IfOk}
+use Rattle.std.proofs.Common.{inr, ◌≡◌, ℕ, List, length, Option, Some, None, refl, sym, ◌∙◌, ap, subst, slice_index_or, Result, Ok, Err, IfOk}
 use Rattle.file_picture.specs.Agrees.{AgreesWithPicture}
 use Rattle.row_types.specs.Name.{NameFacts}
 use Rattle.row_types.specs.Row.{RowFacts}
@@ -75,7 +75,8 @@ to_route all generation (nothing_found n) stood at a =
     record { answers = a.answers; hears = a.hears; says = (record { all = all; stood = stood; are = a.is }, a.at ∙ at) }
 to_route all generation (fault_found n) stood at a =
     record { answers = a.answers; hears = a.hears; says = (record { all = all; stood = stood; are = a.is }, a.at ∙ at) }
-to_route all generation no_memory_found stood at a = record { answers = a.answers; hears = a.hears; says = tt }
+to_route all generation no_memory_found stood at a =
+    record { answers = a.answers; hears = a.hears; says = inr (record { all = all; stood = stood; are = a.is }) }
 
 -- no file is given of a section
 pub no_file : (version : Versions) (id section : List ℕ) (class : Option Kind) (name opened : NameFacts) (reads : List Heard)

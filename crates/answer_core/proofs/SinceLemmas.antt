@@ -1,7 +1,7 @@
 -- What was heard since a later moment, as seen from an earlier one: a still hand has had the same files since.
-use Rattle.std.proofs.Common.{ℕ, Bool, true, false, List, [], ◌∷◌, take, subst}
+use Rattle.std.proofs.Common.{◌≡◌, ◌⊎◌, inl, inr, ℕ, Bool, true, false, List, [], ◌∷◌, take, subst}
 use Rattle.std.specs.List.{AllZip}
-use Rattle.file_parts.specs.AtPath.{FileAnswer, file_read}
+use Rattle.file_parts.specs.AtPath.{FileAnswer, file_read, file_no_memory}
 use Rattle.row_types.specs.Name.{NameFacts}
 use Rattle.tree_trait.specs.Heard.{Heard}
 use Rattle.tree_trait.specs.Load.{LoadFacts, TellsLoad, loaded}
@@ -11,7 +11,7 @@ use Rattle.webapi_routes.specs.declared.route.Route.{Route}
 use Rattle.webapi_routes.specs.declared.route.Route.TheVariants.{Debuginfo, Executable, Source, Section, Metrics}
 use Rattle.answer_core.specs.Given.{GivenFacts}
 use Rattle.answer_core.specs.Loads.{CandidatePasses, DoesNotPass, Hand, IsFileGiven, IsFileMissed, IsLoad, IsOpening, IsSourceGiven, IsSourceMissed}
-use Rattle.answer_core.specs.Loads.{NonePasses}
+use Rattle.answer_core.specs.Loads.{IsFileLeft, IsLeft, NonePasses, StopsTrying}
 use Rattle.answer_core.specs.Local.{IsAnswerOf, LocalFacts, PassesFirst}
 use Rattle.answer_core.specs.Local.{file_found, section_found, source_found, nothing_found, fault_found, no_memory_found}
 use Rattle.answer_core.specs.declared.candidate.Candidate.{Candidate}
@@ -98,6 +98,22 @@ passes_before hand now keeps (Executable id) one given part p = file_passed hand
 passes_before hand now keeps (Section id name) one given part p = file_passed hand now keeps (Section id name) one given part p
 passes_before hand now keeps Metrics one given part p = file_passed hand now keeps Metrics one given part p
 
+file_left : (hand : Hand) (now : ShownTree) → StillTo hand now → (route : Route) (one : Candidate) (part : List Heard)
+    → (part ≡ []) ⊎ IsFileLeft (since hand now) route one part → (part ≡ []) ⊎ IsFileLeft hand route one part
+unfolding opening_before
+file_left hand now keeps route one part (inl none) = inl none
+file_left hand now keeps route one part (inr l) =
+    inr (record { opens = opening_before hand now keeps route one file_no_memory part l.opens; stamp = l.stamp; there = l.there })
+
+-- one at which memory was refused
+pub left_before : (hand : Hand) (now : ShownTree) → StillTo hand now → (route : Route) (one : Candidate)
+    (part : List Heard) → IsLeft (since hand now) route one part → IsLeft hand route one part
+left_before hand now keeps (Source id path) one part l = l
+left_before hand now keeps (Debuginfo id) one part l = file_left hand now keeps (Debuginfo id) one part l
+left_before hand now keeps (Executable id) one part l = file_left hand now keeps (Executable id) one part l
+left_before hand now keeps (Section id name) one part l = file_left hand now keeps (Section id name) one part l
+left_before hand now keeps Metrics one part l = file_left hand now keeps Metrics one part l
+
 all_before : (hand : Hand) (now : ShownTree) → StillTo hand now → (route : Route) (all : List Candidate)
     (parts : List (List Heard)) → AllZip (DoesNotPass (since hand now) route) all parts
     → AllZip (DoesNotPass hand route) all parts
@@ -135,6 +151,21 @@ nothing_before hand now keeps route all answers fails h =
       failed = h.failed;
     }
 
+-- memory was refused at a candidate
+stops_before : (hand : Hand) (now : ShownTree) → StillTo hand now → (route : Route) (all : List Candidate)
+    (answers : List Heard) → StopsTrying (since hand now) route all answers → StopsTrying hand route all answers
+stops_before hand now keeps route all answers h = record {
+  place = h.place;
+  within = h.within;
+  one = h.one;
+  there = h.there;
+  before = h.before;
+  none = all_before hand now keeps route (take h.place all) h.before h.none;
+  last = h.last;
+  heard = h.heard;
+  left = left_before hand now keeps route h.one h.last h.left;
+}
+
 -- a local answer
 pub answer_before : (hand : Hand) (now : ShownTree) → StillTo hand now → (route : Route) (answers : List Heard)
     (answer : LocalFacts) (all : List Candidate) → IsAnswerOf (since hand now) route answers answer all
@@ -147,4 +178,4 @@ answer_before hand now keeps route answers (source_found bytes path n) all h =
     first_before hand now keeps route answers _ path all h
 answer_before hand now keeps route answers (nothing_found n) all h = nothing_before hand now keeps route all answers false h
 answer_before hand now keeps route answers (fault_found n) all h = nothing_before hand now keeps route all answers true h
-answer_before hand now keeps route answers no_memory_found all h = tt
+answer_before hand now keeps route answers no_memory_found all h = stops_before hand now keeps route all answers h

@@ -33,7 +33,8 @@ use Rattle.answer_core.specs.declared.given.Given.{Given}
 use Rattle.answer_core.specs.declared.given.Given.TheVariants as given
 use Rattle.answer_core.specs.declared.given.Tried.{Tried}
 use Rattle.answer_core.specs.declared.given.Tried.TheVariants as tried
-use Rattle.answer_core.proofs.FileLemmas.{tells_failure, file_misses, file_passes, has_failed, is_opening, source_misses, source_passes}
+use Rattle.answer_core.proofs.FileLemmas.{tells_failure, file_left, file_misses, file_passes, has_failed, is_left, is_opening, source_left, source_misses}
+use Rattle.answer_core.proofs.FileLemmas.{source_passes, wanting_behind}
 use Rattle.answer_core.proofs.HearLemmas.{hears_asked, hears_file}
 
 -- a checked file is that of what was read, at the path that was asked
@@ -134,14 +135,15 @@ module _ {F : Type 0} {name_of : F → NameFacts} {told : Bool} {version : Versi
       }
 
   -- memory was refused
-  pub tries_wanting : (answer : FileAnswer) → AsksFile (needs_for route) told version path before after answer
+  pub tries_wanting : asks_source route ≡ false → AsksFile (needs_for route) told version path before after file_no_memory
       → TriesOne name_of (record { told = told; version = version; start = before }) route one tried.OutOfMemory after
-  tries_wanting answer said =
-      let asks : AsksFile (needs_for route) told version one.path before after answer = at_path route one at said in
+  tries_wanting is said =
+      let asks : AsksFile (needs_for route) told version one.path before after file_no_memory = at_path route one at said in
+      let part : List Heard = heard_or_none (open_file one.path FILE_LIMIT asks.opening) ++ asks.reads in
       record {
-        part = heard_or_none (open_file one.path FILE_LIMIT asks.opening) ++ asks.reads;
+        part = part;
         hears = hears_file asks (λ never. absurd (cc));
-        comes = tt;
+        comes = file_left (record { told = told; version = version; start = before }) route one part is (is_left asks);
       }
 
   -- it passes
@@ -173,7 +175,7 @@ module _ {F : Type 0} {name_of : F → NameFacts} {told : Bool} {version : Versi
       let other : file_read opened.stamp sees.reads ≢ file_no_memory = λ e. absurd (cc) in
       tries_refused is (file_read opened.stamp sees.reads) other refl (of_reads sees.whole holds.seen fits) sees.asks
   tries_read is opened sees holds tried.Failed fits = absurd fits
-  tries_read is opened sees holds tried.OutOfMemory fits = tries_wanting (file_read opened.stamp sees.reads) sees.asks
+  tries_read is opened sees holds tried.OutOfMemory fits = tries_wanting is (wanting_behind sees.asks)
 
 -- ---- a source
 
@@ -267,12 +269,12 @@ module _ {F : Type 0} {name_of : F → NameFacts} {told : Bool} {version : Versi
       }
 
   -- memory was refused
-  pub tries_unmade : AsksTree told version before after (load path FILE_LIMIT no_memory)
+  pub tries_unmade : asks_source route ≡ true → AsksTree told version before after (load path FILE_LIMIT no_memory)
       → TriesOne name_of (record { told = told; version = version; start = before }) route one tried.OutOfMemory after
-  tries_unmade said =
+  tries_unmade is said =
       let asks = at_load one at no_memory said in
       record {
-        part = heard_or_none (load one.path FILE_LIMIT no_memory);
+        part = [];
         hears = hears_asked (load one.path FILE_LIMIT no_memory) asks (λ never. absurd (cc));
-        comes = tt;
+        comes = source_left (record { told = told; version = version; start = before }) route one is;
       }

@@ -11,12 +11,12 @@ use Rattle.tree_trait.specs.Heard.{Heard, call_failed}
 use Rattle.tree_trait.specs.Shown.{ShownTree}
 use Rattle.webapi_routes.specs.declared.route.Route.{Route}
 use Rattle.answer_core.specs.Given.{given_facts}
-use Rattle.answer_core.specs.Loads.{DoesNotPass, Hand, HasCandidatePassed, HasTried, Hears, NonePasses, TriesOne, joined_parts}
+use Rattle.answer_core.specs.Loads.{DoesNotPass, Hand, HasCandidatePassed, HasStopped, HasTried, Hears, NonePasses, TriesOne, joined_parts}
 use Rattle.answer_core.specs.declared.candidate.Candidate.{Candidate}
 use Rattle.answer_core.specs.declared.given.Given.{Given}
 use Rattle.answer_core.specs.declared.given.Tried.TheVariants as tried
 use Rattle.answer_core.proofs.HearLemmas.{hears_as, hears_none, hears_then}
-use Rattle.answer_core.proofs.SinceLemmas.{none_before, passes_before, since}
+use Rattle.answer_core.proofs.SinceLemmas.{left_before, none_before, passes_before, since}
 
 zip_more : {A B : Type 0} (R : A → B → Type 0) (xs : List A) (ys : List B) (x : A) (y : B)
     → AllZip R xs ys → R x y → AllZip R (xs ++ x ∷ []) (ys ++ y ∷ [])
@@ -109,7 +109,21 @@ module _ {F : Type 0} {name_of : F → NameFacts} {hand : Hand} {route : Route} 
   }
 
   -- memory was refused for one more
-  pub tried_memory : {done : List Candidate} (one : Candidate) → HasTried hand route done fails now
-      → TriesOne {F = F} name_of (since hand now) route one tried.OutOfMemory after
-      → (answers : List Heard) × Hears hand after answers ⊥
-  tried_memory one h t = (h.answers ++ t.part, hears_then h.hears t.hears (λ f. absurd f))
+  pub tried_memory : {all : List Candidate} (place : ℕ) (one : Candidate) → place < length all → one ≡ get_or all place one
+      → HasTried hand route (take place all) fails now
+      → TriesOne {F = F} name_of (since hand now) route one tried.OutOfMemory after → HasStopped hand route all after
+  tried_memory place one within there h t = record {
+    answers = h.answers ++ t.part;
+    stops = record {
+      place = place;
+      within = within;
+      one = one;
+      there = there;
+      before = h.none.parts;
+      none = h.none.none;
+      last = t.part;
+      heard = ap (λ (before : List Heard). before ++ t.part) h.none.are;
+      left = left_before hand now h.hears.hands.still route one t.part t.comes;
+    };
+    hears = hears_then h.hears t.hears (λ f. absurd f);
+  }

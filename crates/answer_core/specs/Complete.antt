@@ -56,7 +56,8 @@ pub record IsSourceThere (hand : Hand) (folders : List (List ℕ)) (id path : Li
   pub at : stamp_at hand.start.present path ≡ Some stamp
   pub small : stamp.size ≤ FILE_LIMIT
 
--- by this row the route has to find something
+-- by this row the route has to find something. It is said of rows, and not of requests, since in a told world a true row says what
+-- its file is
 abbrev pub HasToFind : Hand → List (List ℕ) → Route → RowFacts → Type 0
 HasToFind hand folders (Debuginfo id) row = IsThere hand kind.Debuginfo id row
 HasToFind hand folders (Executable id) row = IsThere hand kind.Executable id row

@@ -1,4 +1,6 @@
--- What comes of the check of a file of which all was read that the answer rests on (this project's rule): by its picture alone.
+-- What comes of the check of a file of which all was read that the answer rests on (this project's rule): by its picture alone, and
+-- not by a version of it. So it holds in a world that isn't told, too, and who sends bytes that agree with the picture sends a
+-- certified file.
 use Rattle.std.specs.Prelude.{◌≡◌, ℕ, List, Option, Some}
 use Rattle.file_picture.specs.Agrees.{AgreesWithPicture}
 use Rattle.file_picture.specs.Picture.{PictureFacts}

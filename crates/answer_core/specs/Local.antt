@@ -1,6 +1,6 @@
 -- The local answer (this project's rule): by the rows of the index at one moment, and by what was heard of the files of its
 -- candidates.
-use Rattle.std.specs.Prelude.{◌≡◌, ℕ, false, true, List, length, IfOk}
+use Rattle.std.specs.Prelude.{◌≡◌, ◌⊎◌, ℕ, false, true, List, [], length, IfOk}
 use Rattle.file_picture.specs.Agrees.{AgreesWithPicture}
 use Rattle.row_types.specs.Name.{NameFacts}
 use Rattle.row_types.specs.Row.{RowFacts}
@@ -17,7 +17,7 @@ use Rattle.answer_check.specs.Checked.{CheckedFacts}
 use Rattle.answer_check.specs.CheckedSection.{CheckedSectionFacts}
 use Rattle.answer_core.specs.Candidates.{candidates}
 use Rattle.answer_core.specs.Given.{GivenFacts, file_given, section_given, source_given}
-use Rattle.answer_core.specs.Loads.{Hand, Hears, NonePasses, PassesAt}
+use Rattle.answer_core.specs.Loads.{Hand, Hears, NonePasses, PassesAt, StopsTrying}
 use Rattle.answer_core.specs.declared.candidate.Candidate.{Candidate}
 use Rattle.answer_core.specs.declared.given.Given.{Given}
 use Rattle.answer_core.specs.declared.given.Given.TheVariants as given
@@ -92,7 +92,7 @@ IsAnswerOf hand route answers (section_found from path generation) all = PassesF
 IsAnswerOf hand route answers (source_found bytes path generation) all = PassesFirst hand route answers (source_given bytes) path all
 IsAnswerOf hand route answers (nothing_found generation) all = NonePasses hand route all answers false
 IsAnswerOf hand route answers (fault_found generation) all = NonePasses hand route all answers true
-IsAnswerOf hand route answers no_memory_found all = Unit {0}
+IsAnswerOf hand route answers no_memory_found all = StopsTrying hand route all answers
 
 -- the answer has this generation; want of memory has none
 abbrev pub HasGeneration : LocalFacts → ℕ → Type 0
@@ -103,9 +103,10 @@ HasGeneration (nothing_found generation) n = generation ≡ n
 HasGeneration (fault_found generation) n = generation ≡ n
 HasGeneration no_memory_found n = Unit {0}
 
--- the local answer to a route, by what it rests on
+-- the local answer to a route, by what it rests on; where memory was refused before the first candidate, nothing was heard
 abbrev pub IsLocal : Sight → Route → LocalFacts → Type 0
-IsLocal sight route no_memory_found = Unit {0}
+IsLocal sight route no_memory_found =
+    (sight.answers ≡ []) ⊎ OfCandidates sight route (IsAnswerOf sight.hand route sight.answers no_memory_found)
 IsLocal sight route answer =
     OfCandidates sight route (IsAnswerOf sight.hand route sight.answers answer) × HasGeneration answer (length sight.log)
 

@@ -2,11 +2,13 @@
 use Rattle.std.specs.Prelude.{◌≡◌, ℕ, nat_lt, false, if◌then◌else◌, List, [], ◌∷◌, Option, Some, None, IsSome}
 use Rattle.std.specs.String.{string_bytes}
 use Rattle.tree_trait.specs.Dir.{DirFacts, listed, no_dir}
-use Rattle.tree_trait.specs.Found.{found_facts}
+use Rattle.tree_trait.specs.Found.{FoundFacts, found_facts}
 use Rattle.tree_trait.specs.Heard.{Heard, load, stat, read_dir, open_file, read_at, wants_memory, with_answers}
 use Rattle.tree_trait.specs.Load.{LoadFacts, loaded, too_large, gone}
 use Rattle.tree_trait.specs.Open.{OpenFacts, was_opened, was_too_large, open_gone, room_filled}
 use Rattle.tree_trait.specs.Shown.{ShownTree}
+use Rattle.tree_trait.specs.declared.opening.OpenAnswer.{OpenAnswer}
+use Rattle.tree_trait.specs.declared.opening.OpenAnswer.TheVariants.{Opened}
 use Rattle.tree_trait.specs.declared.stat.StatAnswer.{StatAnswer}
 use Rattle.tree_trait.specs.declared.stat.StatAnswer.TheVariants as found
 use Rattle.elf_forge.specs.Forge.{forged}
@@ -45,6 +47,16 @@ open_answered seed limit (Some k) =
 -- what an opening answers
 abbrev pub open_answer : ℕ → ℕ → List ℕ → ℕ → OpenFacts
 open_answer seed files path limit = open_answered seed limit (forged_number_at files path)
+
+-- the file is the generated one of the number at its path
+abbrev pub IsForgedOf : ℕ → List ℕ → FoundFacts → Option ℕ → Type 0
+IsForgedOf seed path file None = ⊥
+IsForgedOf seed path file (Some k) = file ≡ found_facts path (forged_stamp seed k) (forged seed k)
+
+-- the file that was opened, if one was, has the bytes of the generated one at the path
+abbrev pub OpensForged : ℕ → ℕ → List ℕ → OpenAnswer FoundFacts → Type 0
+OpensForged seed files path (Opened file stamp) = IsForgedOf seed path file (forged_number_at files path)
+OpensForged seed files path _ = Unit {0}
 
 -- what a look answers, by the folder and the number of the file there
 abbrev pub stat_answered : ℕ → Option Folder → Option ℕ → StatAnswer

@@ -14,7 +14,7 @@ ghost use Rattle.tree_trait.specs.Open.{IsOpenedAs, open_facts, room_facts, room
 ghost use Rattle.elf_forge.specs.Forge.{IsPinnedFilesLimit, forged};
 ghost use Rattle.elf_forge.specs.Place.{forged_stamp};
 ghost use Rattle.elf_forge.specs.Tree.{RunsForged, dir_answer, fresh_forge, heard_question, load_answer};
-ghost use Rattle.elf_forge.specs.Tree.{ReadsForged, forge_shows, open_answer, stat_answer};
+ghost use Rattle.elf_forge.specs.Tree.{OpensForged, ReadsForged, forge_shows, open_answer, stat_answer};
 
 use crate::digits::FILES_LIMIT;
 use crate::folder::{entries_of, folder_among};
@@ -141,6 +141,7 @@ fn open_in(
     ensures value { IfOk result (λ answer.
         open_facts answer ≡ open_answer seed files path.now limit) }
     ensures name { IfOk result (IsOpenedAs found_name path.now) }
+    ensures opens { IfOk result (OpensForged seed files path.now) }
 {
     let Some(k) = number_at(files, path) else {
         return Ok(OpenAnswer::Gone);
@@ -228,6 +229,7 @@ impl ForgeTree {
             (open_file path.now limit (open_facts result)) }
         ensures few { self.old.files ≤ FILES_LIMIT }
         ensures name { IsOpenedAs found_name path.now result }
+        ensures opens { OpensForged self.old.seed self.old.files path.now result }
     {
         let Ok(answer) = open_in(alloc, self.seed, self.files, path, limit) else {
             return OpenAnswer::OutOfMemory;
@@ -318,6 +320,7 @@ impl Tree<OpenWorld> for ForgeTree {
             → self.new ≡ self.old }
         ensures forged { RunsForged self.old self.new
             (open_file path.now limit (open_facts result)) }
+        ensures opens { OpensForged self.old.seed self.old.files path.now result }
     {
         self.open_forged(alloc, path, limit)
     }

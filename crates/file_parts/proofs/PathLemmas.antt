@@ -17,7 +17,7 @@ use Rattle.tree_trait.specs.Open.{OpenFacts, was_opened}
 use Rattle.tree_trait.specs.Opened.{HoldsPicture, OpenedFacts, opened_name}
 use Rattle.tree_trait.specs.Shown.{ShownTree}
 use Rattle.tree_trait.specs.declared.filling.FillAnswer.{FillAnswer}
-use Rattle.tree_trait.specs.declared.filling.FillAnswer.TheVariants.{Done, Failed}
+use Rattle.tree_trait.specs.declared.filling.FillAnswer.TheVariants.{Done, Failed, OutOfMemory}
 use Rattle.tree_trait.proofs.FillLemmas.{listens_reads, reads_none}
 use Rattle.tree_trait.proofs.ListenLemmas.{listens_one, listens_then, stays_on}
 use Rattle.file_parts.specs.AtPath.{AsksOpening, IsSeenAs, IsSeenWhole, OpeningGives, ReadsRanges, SeesAtPath, SeesOpened}
@@ -35,7 +35,7 @@ sees_nothing {Of = Of} {path = path} {stamp = stamp} = record {
   hears = reads_none;
   own = All-nil (IsReadOfFile (stamped_name path stamp));
   ranges = λ b h. All-nil (IsReadAmong (stamped_name path stamp) (Of b));
-  gives = tt;
+  gives = refl;
   whole = tt;
   rose = λ is. absurd (cc);
   named = tt;
@@ -91,9 +91,9 @@ module _ {W F : Type 0} {name_of : F → NameFacts} {Of : List ℕ → Range →
       }
 
   -- memory was refused
-  pub sees_wanting : {now : PictureFacts} {end : FillAnswer} → FillsWhole Of told version own before after now end
+  pub sees_wanting : {now : PictureFacts} {end : FillAnswer} → FillsWhole Of told version own before after now end → end ≡ OutOfMemory
       → SeesOpened {W = W} {F = F} name_of Of told version path stamp before after seen.OutOfMemory
-  sees_wanting {now} {end} fills =
+  sees_wanting {now} {end} fills is =
       let all : FillsWhole Of told version (stamped_name path stamp) before after now end =
       subst (λ (n : NameFacts). FillsWhole Of told version n before after now end) same fills in
       record {
@@ -101,7 +101,7 @@ module _ {W F : Type 0} {name_of : F → NameFacts} {Of : List ℕ → Range →
         hears = all.hears;
         own = all.own;
         ranges = all.ranges;
-        gives = tt;
+        gives = all.wanting is;
         whole = tt;
         rose = λ is. absurd (cc);
         named = tt;

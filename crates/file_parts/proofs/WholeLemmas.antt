@@ -1,12 +1,15 @@
 -- How the reading of all that an answer rests on ends, by what was read so far.
-use Rattle.std.proofs.Common.{◌≡◌, ℕ, ◌+◌, Bool, List, ◌++◌, subst, arith}
+use Rattle.std.proofs.Common.{◌≡◌, ℕ, ◌+◌, ◌||◌, Bool, false, List, ◌++◌, refl, ◌∙◌, ap, subst, arith}
+use Rattle.std.specs.List.{list_any}
+use Rattle.std.proofs.lemmas.List.Folds.{list_any-append}
 use Rattle.file_formats.specs.Windows.{Range}
 use Rattle.file_picture.specs.Agrees.{AsksOf}
 use Rattle.file_picture.specs.Picture.{PictureFacts}
 use Rattle.row_types.specs.Faults.{Rose}
 use Rattle.row_types.specs.Name.{NameFacts}
-use Rattle.tree_trait.specs.Fills.{FillsRange}
+use Rattle.tree_trait.specs.Fills.{AreRunsRead, FillsRange, none_left, run_read, run_failed, no_room, not_kept}
 use Rattle.tree_trait.specs.Found.{Versions}
+use Rattle.tree_trait.specs.Heard.{Heard, call_failed}
 use Rattle.tree_trait.specs.Needs.{FillsNeed, ReadsSoFar}
 use Rattle.tree_trait.specs.Shown.{ShownTree}
 use Rattle.tree_trait.specs.declared.filling.FillAnswer.{FillAnswer}
@@ -14,6 +17,15 @@ use Rattle.tree_trait.specs.declared.filling.FillAnswer.TheVariants.{Done, Faile
 use Rattle.tree_trait.proofs.FillLemmas.{reads_then}
 use Rattle.tree_trait.proofs.NeedLemmas.{failed_last, own_more, ranges_more}
 use Rattle.file_parts.specs.Wholes.{FillsWhole, IsThereWhole}
+
+-- where memory was refused, no read had failed
+runs_wanting : {name : NameFacts} {p : PictureFacts} {at to : ℕ} {end : FillAnswer} {reads : List Heard}
+    → AreRunsRead name p at to end reads → end ≡ OutOfMemory → list_any call_failed reads ≡ false
+runs_wanting (none_left at to covered) is = refl
+runs_wanting (run_read at to place bytes end rest gap runs) is = runs_wanting runs is
+runs_wanting (run_failed at to place count gap) is = absurd (cc)
+runs_wanting (no_room at to) is = refl
+runs_wanting (not_kept at to place bytes gap) is = refl
 
 module _ {Of : List ℕ → Range → Type 0} {told : Bool} {version : Versions} {name : NameFacts} where
   -- a range that was filled, of the file of the name
@@ -39,6 +51,7 @@ module _ {Of : List ℕ → Range → Type 0} {told : Bool} {version : Versions}
     filled = λ _. s.filled;
     failed = λ is. absurd (cc);
     rose = λ is. absurd (cc);
+    wanting = λ is. absurd (cc);
   }
 
   -- a read failed
@@ -56,6 +69,7 @@ module _ {Of : List ℕ → Range → Type 0} {told : Bool} {version : Versions}
         filled = λ is. absurd (cc);
         failed = λ _. failed_last s p;
         rose = λ _. omega (arith, later, rose);
+        wanting = λ is. absurd (cc);
       }
 
   -- memory was refused
@@ -71,4 +85,8 @@ module _ {Of : List ℕ → Range → Type 0} {told : Bool} {version : Versions}
     filled = λ is. absurd (cc);
     failed = λ is. absurd (cc);
     rose = λ is. absurd (cc);
+    wanting = λ _.
+        list_any-append call_failed s.reads p.fills.reads
+        ∙ ap (λ (b : Bool). b || list_any call_failed p.fills.reads) s.filled
+        ∙ runs_wanting p.fills.runs refl;
   }

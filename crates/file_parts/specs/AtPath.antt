@@ -38,12 +38,12 @@ ReadsRanges Of path (was_opened stamp) reads =
 ReadsRanges Of path _ reads = reads ≡ []
 
 -- what the opening and the reads behind it give: the file, of which a version has what was read, where no read failed; or that none
--- is there, one that is too large, a fault of the opening or of the last read, or want of memory
+-- is there, one that is too large, a fault of the opening or of the last read, or want of memory, where no read failed
 abbrev pub OpeningGives : Versions → List ℕ → OpenFacts → List Heard → FileAnswer → Type 0
 OpeningGives version path (was_opened stamp) reads (file_read given all) =
     (given ≡ stamp) × (all ≡ reads) × HasVersion version (stamped_name path stamp) reads × (list_any call_failed reads ≡ false)
 OpeningGives version path (was_opened stamp) reads file_failed = HasFailedLast reads
-OpeningGives version path (was_opened stamp) reads file_no_memory = Unit {0}
+OpeningGives version path (was_opened stamp) reads file_no_memory = list_any call_failed reads ≡ false
 OpeningGives version path (was_too_large stamp) reads file_too_large = Unit {0}
 OpeningGives version path open_gone reads file_gone = Unit {0}
 OpeningGives version path open_failed reads file_failed = Unit {0}

@@ -16,7 +16,7 @@ use Rattle.tree_trait.specs.Heard.{Heard, call_failed}
 use Rattle.tree_trait.specs.Needs.{AsksRanges}
 use Rattle.tree_trait.specs.Shown.{ShownTree}
 use Rattle.tree_trait.specs.declared.filling.FillAnswer.{FillAnswer}
-use Rattle.tree_trait.specs.declared.filling.FillAnswer.TheVariants.{Done, Failed}
+use Rattle.tree_trait.specs.declared.filling.FillAnswer.TheVariants.{Done, Failed, OutOfMemory}
 use Rattle.file_parts.specs.declared.part.FilePart.{FilePart}
 use Rattle.file_parts.specs.declared.part.FilePart.TheVariants as part
 use Rattle.file_parts.specs.declared.part.PartNeed.{PartNeed}
@@ -62,3 +62,4 @@ pub record FillsWhole (Of : List ℕ → Range → Type 0) (told : Bool) (versio
   pub filled : end ≡ Done → list_any call_failed reads ≡ false
   pub failed : end ≡ Failed → HasFailedLast reads
   pub rose : end ≡ Failed → Rose before.faults after.faults
+  pub wanting : end ≡ OutOfMemory → list_any call_failed reads ≡ false

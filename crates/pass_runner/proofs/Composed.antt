@@ -18,30 +18,32 @@ use Rattle.tree_trait.specs.Found.{Versions}
 use Rattle.tree_trait.specs.Heard.{Heard, load, stat, read_dir, open_file, read_at}
 use Rattle.tree_trait.specs.Listens.{Listens}
 use Rattle.tree_trait.specs.Shown.{ShownTree}
-use Rattle.pass_runner.specs.Settled.{Advances, AlteredAreMissed, IsHeardAltered, HadNoRow, IsPassOn, Proceeds, Settles, Wants, is_missed, times_loaded}
+use Rattle.pass_runner.specs.Settled.{AreReadingsAndLooks, Advances, AlteredAreMissed, IsHeardAltered, HadNoRow, IsPassOn, Proceeds, Settles, Wants, is_missed, times_loaded}
 use Rattle.pass_runner.specs.Turns.{TakesNames}
 use Rattle.tree_trait.proofs.ListenLemmas.{listens_none, listens_then}
 use Rattle.pass_runner.proofs.Altered.{unaltered_none}
 use Rattle.pass_runner.proofs.Loads.{loads_append, todo_once}
 use Rattle.pass_runner.proofs.Moves.{advances_then, moves_same, rose_after, rose_before, same_listing, still_missed}
 use Rattle.pass_runner.proofs.NameLists.{in_by_stamp}
+use Rattle.pass_runner.proofs.ReadsHeard.{readings_both, readings_none}
 
 module _ {K : Type 0} {told : Bool} {version : Versions} {shows : K → ShownKeeper} where
   -- by what was heard, and where the index went
   abbrev pub settles_by : {before after : ShownTree} {old new : StateFacts K} {answers : List Heard}
       → Listens told version before after answers
       → All (Wants old) answers
+      → AreReadingsAndLooks old.roots answers
       → AlteredAreMissed (pass_or_none old.pass).listing answers new
       → Advances shows answers (Rose before.faults after.faults) old new
       → Proceeds told version shows before after old new
-  settles_by {answers = answers} listens wanted altered on =
-      record { answers = answers; listens = listens; wanted = wanted; on = on; altered = altered }
+  settles_by {answers = answers} listens wanted parts altered on =
+      record { answers = answers; listens = listens; wanted = wanted; parts = parts; on = on; altered = altered }
 
   -- nothing was done
   abbrev pub settles_none : {hand : ShownTree} {state : StateFacts K} → IsPassOn state.pass state.pass
       → Proceeds told version shows hand hand state state
   settles_none {hand} {state} opened =
-      settles_by listens_none (All-nil (Wants state))
+      settles_by listens_none (All-nil (Wants state)) readings_none
       (unaltered_none (pass_or_none state.pass).listing state) (record {
         keeper = omega arith;
         pass = opened;
@@ -105,6 +107,8 @@ module _ {K : Type 0} {told : Bool} {version : Versions} {shows : K → ShownKee
       (All-append (Wants old) p.answers q.answers p.wanted
       (All-weaker (Wants mid)
       (Wants old) (wanted_before p) q.answers q.wanted))
+      (readings_both q.answers p.parts
+      (subst (λ (roots : List (List ℕ)). AreReadingsAndLooks roots q.answers) p.on.roots q.parts))
       (altered_then p q)
       (advances_then (λ rose. rose_before before.faults rose q.listens.hand.cause.later) (λ rose. rose_after p.listens.hand.cause.later rose)
       p.on q.on)

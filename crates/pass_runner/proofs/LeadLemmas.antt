@@ -1,5 +1,5 @@
 -- What the hand that leads a pass heard and noted, from nothing and one after the other.
-use Rattle.std.proofs.Common.{inl, inr, Bool, List, [], ◌∷◌, ◌++◌, sym, subst}
+use Rattle.std.proofs.Common.{inl, inr, ℕ, Bool, List, [], ◌∷◌, ◌++◌, sym, subst}
 use Rattle.std.specs.List.{All, Contains}
 use Rattle.std.proofs.lemmas.List.Elements.{All-append, All-cons, All-contains, All-contains_itself, All-nil, All-weaker, Contains-append_left, Contains-append_right}
 use mathlib.Core.List.{IsPrefix}
@@ -18,10 +18,11 @@ use Rattle.tree_trait.specs.Heard.{Heard}
 use Rattle.tree_trait.specs.Listens.{Listens}
 use Rattle.tree_trait.specs.Shown.{ShownTree}
 use Rattle.tree_trait.proofs.ListenLemmas.{listens_none, listens_then}
-use Rattle.pass_runner.specs.Helped.{IsSparing}
 use Rattle.pass_runner.specs.Leading.{IsMissNoted, LeadsInSettling, MayNote}
+use Rattle.pass_runner.specs.Settled.{AreReadingsAndLooks}
 use Rattle.pass_runner.specs.SharedPass.{IsMetByHand}
 use Rattle.pass_runner.proofs.Moves.{rose_after, rose_before}
+use Rattle.pass_runner.proofs.ReadsHeard.{readings_both, readings_none}
 
 -- what a hand met stays met, of an earlier log up to a later one, and among more answers
 pub met_as : (brought log first last : List Change) (some more : List Heard) {Failed Fails : Type 0}
@@ -46,11 +47,11 @@ still_noted brought log answers Failed missed =
     All-weaker (Contains missed) (IsMissNoted brought log answers Failed missed) (λ m before. inl before) missed
     (All-contains_itself missed)
 
-module _ {told : Bool} {version : Versions} {missed : List Miss} where
+module _ {told : Bool} {version : Versions} {roots : List (List ℕ)} {missed : List Miss} where
   -- nothing was noted
   pub leads_quiet : {seat later : SeatFacts Change Origin} {before after : ShownTree} (more : List Heard)
-      → IsLater seat later → Listens told version before after more → All (IsSparing []) more
-      → LeadsInSettling told version seat before later after missed missed
+      → IsLater seat later → Listens told version before after more → AreReadingsAndLooks roots more
+      → LeadsInSettling told version roots seat before later after missed missed
   leads_quiet {seat} {later} {before} {after} more on listens asks = record {
     later = on;
     more = more;
@@ -61,20 +62,20 @@ module _ {told : Bool} {version : Versions} {missed : List Miss} where
 
   -- the token alone went on
   pub leads_later : {seat later : SeatFacts Change Origin} {hand : ShownTree} → IsLater seat later
-      → LeadsInSettling told version seat hand later hand missed missed
-  leads_later on = leads_quiet [] on listens_none (All-nil (IsSparing []))
+      → LeadsInSettling told version roots seat hand later hand missed missed
+  leads_later on = leads_quiet [] on listens_none readings_none
 
   -- nothing was done
   pub leads_none : {seat : SeatFacts Change Origin} {hand : ShownTree}
-      → LeadsInSettling told version seat hand seat hand missed missed
+      → LeadsInSettling told version roots seat hand seat hand missed missed
   leads_none {seat} = leads_later (later_self seat)
 
   -- a miss may have been noted
   pub leads_by : {seat later : SeatFacts Change Origin} {before after : ShownTree} {last : List Miss} (miss : Miss)
-      (more : List Heard) → IsLater seat later → Listens told version before after more → All (IsSparing []) more
+      (more : List Heard) → IsLater seat later → Listens told version before after more → AreReadingsAndLooks roots more
       → MayNote miss missed last
       → IsMetByHand seat.seen later.seen more (Rose before.faults after.faults) miss.name miss.cause
-      → LeadsInSettling told version seat before later after missed last
+      → LeadsInSettling told version roots seat before later after missed last
   leads_by {seat} {later} {before} {after} {last} miss more on listens asks noted why = record {
     later = on;
     more = more;
@@ -97,15 +98,15 @@ module _ {told : Bool} {version : Versions} {missed : List Miss} where
           (All-cons Noted miss [] (inr why) (All-nil Noted)))
 
 -- one after the other
-pub leads_then : {told : Bool} {version : Versions} {seat between later : SeatFacts Change Origin}
+pub leads_then : {told : Bool} {version : Versions} {roots : List (List ℕ)} {seat between later : SeatFacts Change Origin}
     {before mid after : ShownTree} {missed some last : List Miss}
-    → LeadsInSettling told version seat before between mid missed some → LeadsInSettling told version between mid later after some last
-    → LeadsInSettling told version seat before later after missed last
-leads_then {told} {version} {seat} {between} {later} {before} {mid} {after} {missed} {some} {last} p q = record {
+    → LeadsInSettling told version roots seat before between mid missed some → LeadsInSettling told version roots between mid later after some last
+    → LeadsInSettling told version roots seat before later after missed last
+leads_then {told} {version} {roots} {seat} {between} {later} {before} {mid} {after} {missed} {some} {last} p q = record {
   later = later_trans p.later q.later;
   more = p.more ++ q.more;
   listens = listens_then p.listens q.listens;
-  asks = All-append (IsSparing []) p.more q.more p.asks q.asks;
+  asks = readings_both q.more p.asks q.asks;
   noted = All-weaker Second All_ on last q.noted;
 }
   where

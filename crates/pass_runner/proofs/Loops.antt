@@ -31,6 +31,7 @@ use Rattle.tree_trait.proofs.ListenLemmas.{listens_none}
 use Rattle.pass_runner.proofs.Altered.{unaltered_none}
 use Rattle.pass_runner.proofs.Appearing.{appears_same, none_stand}
 use Rattle.pass_runner.proofs.Moves.{rose_after}
+use Rattle.pass_runner.proofs.ReadsHeard.{readings_none}
 use Rattle.pass_runner.proofs.Composed.{settles_by, settles_none, settles_then, takes_then}
 use Rattle.pass_runner.proofs.Loads.{loads_append, same_names, same_todo, times_cons}
 use Rattle.pass_runner.proofs.Steps.{pass_on}
@@ -115,12 +116,12 @@ module _ {K : Type 0} {told : Bool} {version : Versions} {shows : K → ShownKee
   abbrev takes_on : {hand : ShownTree} {old mid : StateFacts K} (answer : Option NameFacts) → IsPassOn old.pass old.pass → TakesNextName old answer mid
       → Proceeds told version shows hand hand old mid
   takes_on {old = old} {mid = mid} None opened takes =
-      settles_by listens_none (All-nil (Wants old))
+      settles_by listens_none (All-nil (Wants old)) readings_none
       (unaltered_none (pass_or_none old.pass).listing mid)
       (pass_on (subst (λ (o : Option PassFacts). IsPassOn old.pass o) (sym takes.taken.same) opened)
       (ap (λ (o : Option PassFacts). (pass_or_none o).missed) takes.taken.same) (same_todo takes.taken.same) takes.same)
   takes_on {old = old} {mid = mid} (Some name) opened takes =
-      settles_by listens_none (All-nil (Wants old))
+      settles_by listens_none (All-nil (Wants old)) readings_none
       (unaltered_none (pass_or_none old.pass).listing mid)
       (pass_on (record {
         from = takes.taken.from;
@@ -136,12 +137,12 @@ module _ {K : Type 0} {told : Bool} {version : Versions} {shows : K → ShownKee
   abbrev grooms_on : {hand : ShownTree} {old mid : StateFacts K} (answer : Option GroomTask) → IsPassOn old.pass old.pass → GroomsNext old answer mid
       → Proceeds told version shows hand hand old mid
   grooms_on {old = old} {mid = mid} None opened takes =
-      settles_by listens_none (All-nil (Wants old))
+      settles_by listens_none (All-nil (Wants old)) readings_none
       (unaltered_none (pass_or_none old.pass).listing mid)
       (pass_on (subst (λ (o : Option PassFacts). IsPassOn old.pass o) (sym takes.taken.same) opened)
       (ap (λ (o : Option PassFacts). (pass_or_none o).missed) takes.taken.same) (same_todo takes.taken.same) takes.same)
   grooms_on {old = old} {mid = mid} (Some task) opened takes =
-      settles_by listens_none (All-nil (Wants old))
+      settles_by listens_none (All-nil (Wants old)) readings_none
       (unaltered_none (pass_or_none old.pass).listing mid)
       (pass_on (record {
         from = takes.taken.from;

@@ -79,6 +79,7 @@ module _ (world : Rules) {told : Bool} {roots : List (List ℕ)} {before met aft
           hears_walked (MayBeAsked walk.listing roots (row_names found.rows)) (λ path answer never. never) settles.does.answers
           settles.does.listens settles.does.wanted;
       wanted = settles.does.wanted;
+      parts = settles.does.parts;
       once = settles.once;
     }
 

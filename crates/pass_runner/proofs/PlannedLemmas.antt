@@ -16,7 +16,7 @@ use Rattle.index_state.proofs.VoidEnds.{never_both}
 use Rattle.tree_trait.specs.Shown.{ShownTree}
 use Rattle.index_lock.specs.Tokens.{SeatFacts}
 use Rattle.index_state.specs.State.{Origin}
-use Rattle.pass_runner.specs.Helped.{IsSparing}
+use Rattle.pass_runner.proofs.ReadsHeard.{readings_none}
 use Rattle.pass_runner.specs.Leading.{EndsPlanned, IsMissNoted, IsPlanned, LastShows, LeadsInSettling, LeadsPass, SettlesLast}
 use Rattle.pass_runner.specs.Numbers.{summary_of}
 use Rattle.pass_runner.specs.SharedPass.{EndsListed, IsMetByHand}
@@ -30,7 +30,7 @@ use Rattle.tree_trait.proofs.ListenLemmas.{listens_none}
 -- the settling, and what the last hold shows
 pub settles_last : {told : Bool} (world : Rules) {listing : List NameFacts} {roots : List (List ℕ)} {plan : Plan}
     {seat mid : SeatFacts Change Origin} (log : List Change) {before after : ShownTree} {met : List Miss}
-    → LeadsInSettling told world.version seat before mid after [] met → IsPrefix mid.seen log → (end : PassEnd)
+    → LeadsInSettling told world.version roots seat before mid after [] met → IsPrefix mid.seen log → (end : PassEnd)
     → LastShows world listing roots plan met log end
     → SettlesLast world told listing roots plan seat.seen log before after end
 settles_last world {listing} {roots} {plan} {seat} {mid} log {before} {after} {met} led on end shows = record {
@@ -151,7 +151,7 @@ pub leads_early : {told : Bool} (world : Rules) (listing : List NameFacts) (root
     {hand : ShownTree} (end : PassEnd) → EndsListed world listing roots brought log [] (Rose hand.faults hand.faults) end
     → LeadsPass world told listing roots brought log hand hand end
 leads_early world listing roots brought log end ends =
-    record { more = []; listens = listens_none; asks = All-nil (IsSparing []); ends = ends }
+    record { more = []; listens = listens_none; asks = readings_none; ends = ends }
 
 -- a pass that was begun doesn't end as one that could not be
 pub settled_sound : {told : Bool} (world : Rules) {listing : List NameFacts} {roots : List (List ℕ)} {plan : Plan}

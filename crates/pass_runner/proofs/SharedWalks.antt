@@ -18,8 +18,10 @@ use Rattle.tree_walk.specs.declared.fault.WalkFault.{WalkFault}
 use Rattle.tree_walk.specs.declared.fault.WalkFault.TheVariants as stop
 use Rattle.tree_walk.specs.declared.walked.Walk.{Walk as WalkFacts}
 use Rattle.pass_runner.specs.Helped.{IsSparing}
+use Rattle.pass_runner.proofs.ReadsHeard.{readings_spare}
 use Rattle.pass_runner.specs.Leading.{LeadsPass}
 use Rattle.pass_runner.specs.Owned.{TellsStill, is_hand_fault, is_unwalked}
+use Rattle.pass_runner.specs.Settled.{AreReadingsAndLooks}
 use Rattle.pass_runner.specs.SharedPass.{EndsListed, EndsShared, HearsShared, IsDoneShared, IsMetByHand, IsOfPass, IsUnhinderedPass, RunsShared}
 use Rattle.pass_runner.specs.declared.pass_end.PassEnd.{PassEnd}
 use Rattle.pass_runner.specs.declared.pass_end.PassEnd.TheVariants.{Whole, Missed, Walk, Broken}
@@ -84,10 +86,10 @@ module _ (world : Rules) {told : Bool} {roots : List (List ℕ)} (brought log : 
     (under : TellsStill told before → AreFilesUnder before.present roots walk.listing)
     (hands : HandsOn told world.version before met Asked Fails) where
   -- what the hand heard, of the walk and of the settling
-  hears_shared : (more : List Heard) → Listens told world.version met after more → All (IsSparing []) more
+  hears_shared : (more : List Heard) → Listens told world.version met after more → AreReadingsAndLooks roots more
       → HearsShared told world.version roots walk walks.goes.more more before after
   hears_shared more listens asks = record {
-    walks = hears_walked world walks under hands (IsSparing []) (λ path answer never. never) more listens asks;
+    walks = hears_walked world walks under hands (IsSparing []) (λ path answer never. never) more listens (readings_spare asks);
     asks = asks;
   }
 

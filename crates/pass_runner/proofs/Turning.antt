@@ -3,7 +3,7 @@ use Rattle.std.proofs.Common.{◌≡◌, ◌≢◌, ℕ, ◌≤◌, Bool, true, 
 use Rattle.std.specs.List.{All, Contains}
 use Rattle.std.specs.Bool.{OnTrue, OnFalse}
 use Rattle.std.proofs.lemmas.Bool.{OnTrue_at, OnFalse_at, true≢false}
-use Rattle.std.proofs.lemmas.List.Elements.{All-contains_itself, All-nil, All-weaker}
+use Rattle.std.proofs.lemmas.List.Elements.{All-contains_itself, All-head, All-nil, All-tail, All-weaker}
 use Rattle.row_types.specs.Faults.{Rose}
 use Rattle.row_types.specs.Name.{NameFacts}
 use Rattle.row_types.specs.Row.{RowFacts}
@@ -36,7 +36,7 @@ use Rattle.tree_trait.specs.Shown.{ShownTree}
 use Rattle.tree_trait.specs.declared.stat.StatAnswer.{StatAnswer}
 use Rattle.tree_trait.specs.declared.stat.StatAnswer.TheVariants as said
 use Rattle.pass_runner.specs.Ends.{IsOutOfRoom, TurnsBy}
-use Rattle.pass_runner.specs.Settled.{Advances, AlteredAreMissed, HadNoRow, IsBacked, IsPassOn, IsReadOf, MayBeAsked, Wants, is_missed, times_loaded, times_named}
+use Rattle.pass_runner.specs.Settled.{AreReadingsAndLooks, none_heard, one_look, Advances, AlteredAreMissed, HadNoRow, IsBacked, IsPassOn, IsReadOf, MayBeAsked, Wants, is_missed, times_loaded, times_named}
 use Rattle.pass_runner.specs.Turns.{AppearsBy, HasSeenFile, IsLookUnder, JudgesLeft, LooksForFile, LooksTo, PublishesNew, TurnsOver, after_judged}
 use Rattle.groomer.specs.Looks.{LooksAtName, looked_of}
 use Rattle.groomer.specs.declared.looking.Looked.{Looked}
@@ -45,7 +45,7 @@ use Rattle.pass_runner.proofs.Altered.{altered_by, failed_same, missed_self, rea
 use Rattle.pass_runner.proofs.Appearing.{appears_same, dropped_stand, left_none, left_stand, missed_none, missed_stand}
 use Rattle.pass_runner.proofs.Bounding.{bounded_void}
 use Rattle.pass_runner.proofs.Loads.{loads_heard, loads_looks}
-use Rattle.pass_runner.proofs.ReadsHeard.{all_reading, opening_heard}
+use Rattle.pass_runner.proofs.ReadsHeard.{all_reading, opening_heard, readings_of}
 use Rattle.tree_trait.proofs.ListenLemmas.{all_heard, is_heard, listens_none, listens_one}
 use Rattle.pass_runner.proofs.NameLists.{stamp_listed}
 use Rattle.pass_runner.proofs.Composed.{settles_by}
@@ -203,6 +203,22 @@ wanted_looks listing roots names answers asked =
     each (open_file path limit answer) h = absurd h
     each (read_at name at answer) h = absurd h
 
+-- and are looks
+readings_looks : (roots : List (List ℕ)) (answers : List Heard) → All (IsLookUnder roots) answers
+    → AreReadingsAndLooks roots answers
+readings_looks roots [] asked = none_heard
+readings_looks roots (stat path answer ∷ more) asked =
+    one_look path answer more (stat path answer ∷ more) (All-head (IsLookUnder roots) (stat path answer) more asked) refl
+    (readings_looks roots more (All-tail (IsLookUnder roots) (stat path answer) more asked))
+readings_looks roots (load path limit answer ∷ more) asked =
+    absurd (All-head (IsLookUnder roots) (load path limit answer) more asked)
+readings_looks roots (read_dir path answer ∷ more) asked =
+    absurd (All-head (IsLookUnder roots) (read_dir path answer) more asked)
+readings_looks roots (open_file path limit answer ∷ more) asked =
+    absurd (All-head (IsLookUnder roots) (open_file path limit answer) more asked)
+readings_looks roots (read_at name at answer ∷ more) asked =
+    absurd (All-head (IsLookUnder roots) (read_at name at answer) more asked)
+
 -- and load nothing
 unloaded : (roots : List (List ℕ)) (answers : List Heard) → All (IsLookUnder roots) answers → (path : List ℕ)
     → times_loaded answers path ≤ times_named [] path
@@ -290,7 +306,7 @@ module _ {K : Type 0} {told : Bool} {version : Versions} {shows : K → ShownKee
       (read_of name does.answer does.reads row does.leads.0 named) waits h in
       record {
         settles =
-            settles_by does.listens (wanted_reading name does.answer does.reads does.own holds awaited)
+            settles_by does.listens (wanted_reading name does.answer does.reads does.own holds awaited) (readings_of name does)
             (unaltered_by (pass_or_none old.pass).listing name does.answer does.reads does.own (awaited_by_path holds awaited)
             awaited.listed new (read_same name does.answer does.reads row does.leads.0)) on;
         loads = loads_heard name does.answer does.reads does.own;
@@ -303,14 +319,15 @@ module _ {K : Type 0} {told : Bool} {version : Versions} {shows : K → ShownKee
   missed_so : {cause : Cause} {answers : List Heard} (reads : List NameFacts) (was_out : Bool) → old.broken ≡ false
       → is_in (pass_or_none old.pass).out name ≡ true → Listens told version before after answers
       → All (Wants old) answers
+      → AreReadingsAndLooks old.roots answers
       → IsBacked (pass_or_none old.pass).listing (row_names old.rows) answers (Rose before.faults after.faults) name cause
       → (is_missed new name ≡ true → AlteredAreMissed (pass_or_none old.pass).listing answers new) → ((path : List ℕ) → times_loaded answers path ≤ times_named reads path) → MissesOut name cause old was_out new
       → AppearsBy reads old new → TurnsOver told version shows reads name before after old new None
-  missed_so {answers = answers} reads was_out sound out listens wanted why altered loads misses appears =
+  missed_so {answers = answers} reads was_out sound out listens wanted parts why altered loads misses appears =
       let on : Advances shows answers (Rose before.faults after.faults) old new
       = missed_on was_out (out_open old.pass name out) misses why in
       record {
-        settles = settles_by listens wanted (altered (missed_self was_out out misses)) on;
+        settles = settles_by listens wanted parts (altered (missed_self was_out out misses)) on;
         loads = loads;
         ends = missed_over was_out out sound misses;
         appears = appears;
@@ -324,7 +341,7 @@ module _ {K : Type 0} {told : Bool} {version : Versions} {shows : K → ShownKee
       → MissesOut name (Altered met) old was_out new → TurnsOver told version shows (name ∷ []) name before after old new None
   turns_altered {met = met} was_out holds sound awaited out does misses =
       missed_so {cause = Altered met} (name ∷ []) was_out sound out does.listens
-      (wanted_reading name does.answer does.reads does.own holds awaited)
+      (wanted_reading name does.answer does.reads does.own holds awaited) (readings_of name does)
       (record {
         listed = awaited.listed;
         answer = does.answer;
@@ -342,7 +359,7 @@ module _ {K : Type 0} {told : Bool} {version : Versions} {shows : K → ShownKee
       → MissesOut name ReadFault old was_out new → TurnsOver told version shows (name ∷ []) name before after old new None
   turns_unread was_out holds sound awaited out does misses =
       missed_so {cause = ReadFault} (name ∷ []) was_out sound out does.listens
-      (wanted_reading name does.answer does.reads does.own holds awaited) (does.hands.cause.rose refl)
+      (wanted_reading name does.answer does.reads does.own holds awaited) (readings_of name does) (does.hands.cause.rose refl)
       (λ missed. unaltered_by (pass_or_none old.pass).listing name does.answer does.reads does.own (awaited_by_path holds awaited)
       awaited.listed new (failed_same name does.answer does.reads does.leads))
       (loads_heard name does.answer does.reads does.own) misses
@@ -353,7 +370,7 @@ module _ {K : Type 0} {told : Bool} {version : Versions} {shows : K → ShownKee
       → LooksForFile told version old.roots name before after looked.Failed → MissesOut name ReadFault old was_out new
       → TurnsOver told version shows [] name before after old new None
   turns_unseen was_out sound out looks misses =
-      missed_so {cause = ReadFault} [] was_out sound out looks.listens (wanted_looks (pass_or_none old.pass).listing old.roots (row_names old.rows) looks.answers looks.asked) looks.leads
+      missed_so {cause = ReadFault} [] was_out sound out looks.listens (wanted_looks (pass_or_none old.pass).listing old.roots (row_names old.rows) looks.answers looks.asked) (readings_looks old.roots looks.answers looks.asked) looks.leads
       (λ missed. unaltered_looks (pass_or_none old.pass).listing old.roots looks.answers new looks.asked)
       (unloaded old.roots looks.answers looks.asked) misses
       (λ stood. missed_stand old new {cause = ReadFault} was_out (λ is. absurd (cc)) misses stood)
@@ -368,7 +385,7 @@ module _ {K : Type 0} {told : Bool} {version : Versions} {shows : K → ShownKee
       = judged_on tells shows old new name met sound unlisted out h.answer holds looks.leads h.judged in
       record {
         settles =
-            settles_by looks.listens (wanted_looks (pass_or_none old.pass).listing old.roots (row_names old.rows) looks.answers looks.asked)
+            settles_by looks.listens (wanted_looks (pass_or_none old.pass).listing old.roots (row_names old.rows) looks.answers looks.asked) (readings_looks old.roots looks.answers looks.asked)
             (unaltered_looks (pass_or_none old.pass).listing old.roots looks.answers new looks.asked) on;
         loads = unloaded old.roots looks.answers looks.asked;
         ends = subst (λ (e : Option WorkEnd). TurnsBy name old new e) (sym h.ends) (judged_ends tells shows old new name met sound unlisted out h.answer h.judged);
@@ -382,11 +399,12 @@ module _ {K : Type 0} {told : Bool} {version : Versions} {shows : K → ShownKee
 module _ {K : Type 0} {told : Bool} {version : Versions} {shows : K → ShownKeeper} {before after : ShownTree} {state : StateFacts K} {name : NameFacts} where
   wanting : {answers : List Heard} (reads : List NameFacts) → IsPassOn state.pass state.pass → state.broken ≡ false → Listens told version before after answers
       → All (Wants state) answers
+      → AreReadingsAndLooks state.roots answers
       → AlteredAreMissed (pass_or_none state.pass).listing answers state
       → ((path : List ℕ) → times_loaded answers path ≤ times_named reads path)
       → TurnsOver told version shows reads name before after state state (Some OutOfMemory)
-  wanting reads opened sound listens wanted altered loads = record {
-    settles = settles_by listens wanted altered (same_on opened (omega arith) refl refl refl refl (omega arith));
+  wanting reads opened sound listens wanted parts altered loads = record {
+    settles = settles_by listens wanted parts altered (same_on opened (omega arith) refl refl refl refl (omega arith));
     loads = loads;
     ends = sound;
     appears = appears_same state state reads refl refl;
@@ -399,7 +417,7 @@ module _ {K : Type 0} {told : Bool} {version : Versions} {shows : K → ShownKee
       → TurnsOver told version shows (name ∷ []) name before after state state (Some OutOfMemory)
   turns_wanting holds sound awaited does =
       wanting (name ∷ []) (listed_open state.pass name awaited.listed) sound does.listens
-      (wanted_reading name does.answer does.reads does.own holds awaited)
+      (wanted_reading name does.answer does.reads does.own holds awaited) (readings_of name does)
       (unaltered_by (pass_or_none state.pass).listing name does.answer does.reads does.own (awaited_by_path holds awaited)
       awaited.listed state (wanting_same name does.answer does.leads)) (loads_heard name does.answer does.reads does.own)
 
@@ -408,7 +426,7 @@ module _ {K : Type 0} {told : Bool} {version : Versions} {shows : K → ShownKee
       → LooksForFile told version state.roots name before after looked.OutOfMemory
       → TurnsOver told version shows [] name before after state state (Some OutOfMemory)
   turns_blind sound out looks =
-      wanting [] (out_open state.pass name out) sound looks.listens (wanted_looks (pass_or_none state.pass).listing state.roots (row_names state.rows) looks.answers looks.asked)
+      wanting [] (out_open state.pass name out) sound looks.listens (wanted_looks (pass_or_none state.pass).listing state.roots (row_names state.rows) looks.answers looks.asked) (readings_looks state.roots looks.answers looks.asked)
       (unaltered_looks (pass_or_none state.pass).listing state.roots looks.answers state looks.asked)
       (unloaded state.roots looks.answers looks.asked)
 

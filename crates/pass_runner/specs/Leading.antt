@@ -27,8 +27,8 @@ use Rattle.tree_trait.specs.Found.{Versions}
 use Rattle.tree_trait.specs.Heard.{Heard}
 use Rattle.tree_trait.specs.Listens.{Listens}
 use Rattle.tree_trait.specs.Shown.{ShownTree}
-use Rattle.pass_runner.specs.Helped.{IsSparing}
 use Rattle.pass_runner.specs.Numbers.{summary_of}
+use Rattle.pass_runner.specs.Settled.{AreReadingsAndLooks}
 use Rattle.pass_runner.specs.SharedPass.{AreRowsOf, EndsListed, HasNoRoom, IsMetByHand, IsOfPass, IsOwnMiss, StillStands}
 use Rattle.pass_runner.specs.declared.pass_end.PassEnd.{PassEnd}
 use Rattle.pass_runner.specs.declared.pass_end.PassEnd.TheVariants.{Whole, Missed, Walk as Unwalked, Broken}
@@ -40,14 +40,14 @@ abbrev pub IsMissNoted : List Change → List Change → List Heard → Type 0 �
 IsMissNoted brought log answers Failed missed miss =
     Contains missed miss ⊎ IsMetByHand brought log answers Failed miss.name miss.cause
 
--- from one moment of the settling to a later one: the token is a later one, the hand heard nothing but openings, reads and looks, and
--- each miss that was noted since it met itself
-pub record LeadsInSettling (told : Bool) (version : Versions) (seat : SeatFacts Change Origin) (before : ShownTree)
+-- from one moment of the settling to a later one: the token is a later one, the hand heard nothing but openings, reads of parts and
+-- looks under the roots, and each miss that was noted since it met itself
+pub record LeadsInSettling (told : Bool) (version : Versions) (roots : List (List ℕ)) (seat : SeatFacts Change Origin) (before : ShownTree)
     (later_seat : SeatFacts Change Origin) (after : ShownTree) (missed later_missed : List Miss) : Type 0 where
   pub later : IsLater seat later_seat
   pub more : List Heard
   pub listens : Listens told version before after more
-  pub asks : All (IsSparing []) more
+  pub asks : AreReadingsAndLooks roots more
   pub noted : All (IsMissNoted seat.seen later_seat.seen more (Rose before.faults after.faults) missed) later_missed
 
 -- the list has the miss more, or is as it was
@@ -166,13 +166,14 @@ pub record SettlesLast (world : Rules) (told : Bool) (listing : List NameFacts) 
     (brought log : List Change) (before after : ShownTree) (end : PassEnd) : Type 0 where
   pub more : List Heard
   pub listens : Listens told world.version before after more
-  pub asks : All (IsSparing []) more
+  pub asks : AreReadingsAndLooks roots more
   pub ends : EndsPlanned world listing roots plan brought log more (Rose before.faults after.faults) end
 
--- what came of a pass over a listing: the first hand heard nothing but openings, reads and looks, and the pass ended so
+-- what came of a pass over a listing: the first hand heard nothing but openings, reads of parts and looks under the roots, and the
+-- pass ended so
 pub record LeadsPass (world : Rules) (told : Bool) (listing : List NameFacts) (roots : List (List ℕ))
     (brought log : List Change) (before after : ShownTree) (end : PassEnd) : Type 0 where
   pub more : List Heard
   pub listens : Listens told world.version before after more
-  pub asks : All (IsSparing []) more
+  pub asks : AreReadingsAndLooks roots more
   pub ends : EndsListed world listing roots brought log more (Rose before.faults after.faults) end

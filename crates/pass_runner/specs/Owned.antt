@@ -37,7 +37,7 @@ use Rattle.tree_walk.specs.declared.walked.Walk.{Walk}
 use Rattle.pass_runner.specs.Ends.{IsOutOfRoom}
 use Rattle.pass_runner.specs.Helped.{IsSparing, ReadsPartsOrLooks}
 use Rattle.pass_runner.specs.Numbers.{summary_of}
-use Rattle.pass_runner.specs.Settled.{IsBacked, IsHeardAltered, KeepsListed, MayBeAsked, MovesRows, times_loaded}
+use Rattle.pass_runner.specs.Settled.{AreReadingsAndLooks, IsBacked, IsHeardAltered, KeepsListed, MayBeAsked, MovesRows, times_loaded}
 use Rattle.pass_runner.specs.declared.pass_end.PassEnd.{PassEnd}
 use Rattle.pass_runner.specs.declared.pass_end.PassEnd.TheVariants.{Whole, Missed, Walk as Unwalked, Broken}
 use Rattle.pass_runner.specs.declared.pass_end.PassEnd.TheVariants.{KeeperFault, LogFull, OutOfMemory}
@@ -60,12 +60,13 @@ pub record HearsWalked (told : Bool) (version : Versions) (roots : List (List �
   pub tells : TellsStill told before → All (IsAnswerTold before.present) (walked ++ more)
   pub under : TellsStill told before → AreFilesUnder before.present roots walk.listing
 
--- and behind the walk nothing but openings and reads of listed files whose names had no row, and looks at paths under a root; no
--- path was opened twice
+-- and behind the walk nothing but openings and reads of listed files whose names had no row, of each file its parts alone, and
+-- looks at paths under a root; no path was opened twice
 pub record HearsPass (told : Bool) (version : Versions) (roots : List (List ℕ)) (names : List NameFacts) (walk : Walk)
     (walked more : List Heard) (before after : ShownTree) : Type 0 where
   pub walks : HearsWalked told version roots walk walked more before after
   pub wanted : All (MayBeAsked walk.listing roots names) more
+  pub parts : AreReadingsAndLooks roots more
   pub once : (path : List ℕ) → times_loaded more path ≤ 1
 
 -- what the pass left of the index, however it ended: a pass over the listing is open; the rows went and came as in a pass; a
@@ -82,10 +83,11 @@ pub record LeavesIndex {K : Type 0} (folders : List (List ℕ)) (listing : List 
   pub moves : MovesRows listing folders more old.rows new.rows
   pub missed : All (λ miss. IsBacked listing (row_names old.rows) more Failed miss.name miss.cause) pass.missed
 
--- what the other hands left of an index over which a pass had begun: its log goes on from the one before, no row of a
--- listed name went, and but for the names that were skipped it has the same origin; the log did not grow more than what is
--- open became less, but for a void change, and what was open is no more than what the plan allows; where there is one hand
--- alone, nothing happened
+-- what the other hands left of an index over which a pass had begun: its log goes on from the one before, no row of a listed name
+-- went, and but for the names that were skipped it has the same origin; the log did not grow more than what is open became less,
+-- but for a void change, and what was open is no more than what the plan allows; where there is one hand alone, nothing happened.
+-- It is said by the log and the rows: a function that holds the lock several times can't say what it did to the value in each of
+-- them
 pub record IsHelped {K : Type 0} (hands : ℕ) (listing : List NameFacts) (old found : StateFacts K) : Type 0 where
   pub log : IsPrefix old.log found.log
   pub stays : KeepsListed listing old.rows found.rows
@@ -130,7 +132,8 @@ pub record IsWholePass {K : Type 0} (world : Rules) (tells : Bool) (shows : K �
   pub sound : new.broken ≡ false
   pub numbers : summary ≡ summary_of plan new.rows
 
--- no listed file that was heard to be another stands before this name, by path
+-- no listed file that was heard to be another stands before this name, by path. It is said of an index that is owned, and not of
+-- one that is shared: there another token may settle such a file, or try it again, before the last hold
 abbrev pub NoneAlteredBefore : List NameFacts → List Heard → NameFacts → Type 0
 NoneAlteredBefore listing answers name =
     (other : NameFacts) (met : Seen) → IsHeardAltered listing answers other met → ¬ IsBefore other.path name.path

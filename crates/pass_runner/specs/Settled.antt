@@ -1,7 +1,7 @@
 -- Settling (this project's rule): with one hand the names of a pass that are to be read are opened and read, and their rows
 -- published, then the names that are to be looked for are looked for and judged. What is said here holds from one moment
 -- of it to any later one.
-use Rattle.std.specs.Prelude.{◌≡◌, ◌≢◌, ◌⊎◌, ℕ, ◌≤◌, Bool, true, false, List, All, Contains, count_by, Option, Some, None}
+use Rattle.std.specs.Prelude.{◌≡◌, ◌≢◌, ◌⊎◌, ℕ, ◌≤◌, Bool, true, false, List, [], ◌∷◌, ◌++◌, All, Contains, count_by, Option, Some, None}
 use Rattle.std.specs.Str.{bytes_eq}
 use Rattle.row_types.specs.Faults.{Rose}
 use Rattle.row_types.specs.Name.{NameFacts, stamp_at}
@@ -19,7 +19,8 @@ use Rattle.scan_queue.specs.declared.miss.Cause.{Cause}
 use Rattle.scan_queue.specs.declared.miss.Cause.TheVariants.{ReadFault, Altered, Appeared}
 use Rattle.scan_queue.specs.declared.miss.Miss.{Miss}
 use Rattle.scan_queue.specs.declared.miss.Seen.{Seen}
-use Rattle.scan_worker.specs.Read.{FindsOther, ReadsListed, heard_opening, heard_reading}
+use Rattle.scan_worker.specs.Read.{AsksParts, FindsOther, ReadsListed, heard_opening, heard_reading}
+use Rattle.tree_trait.specs.Fills.{IsReadOfFile}
 use Rattle.tree_trait.specs.Found.{Versions}
 use Rattle.tree_trait.specs.Heard.{Heard, load, stat, read_dir, open_file, read_at}
 use Rattle.tree_trait.specs.Listens.{Listens}
@@ -45,6 +46,16 @@ MayBeAsked listing roots names (read_at name at answer) = HadNoRow listing names
 -- what may be asked of an index at a moment
 abbrev pub Wants : {K : Type 0} → StateFacts K → Heard → Type 0
 Wants state = MayBeAsked (pass_or_none state.pass).listing state.roots (row_names state.rows)
+
+-- one thing after the other: a file of at most 1 GiB was opened, and none of its bytes was read but those of its parts; or a look
+-- was made at a path under a root
+pub data AreReadingsAndLooks (roots : List (List ℕ)) : List Heard → Type 0 where
+  none_heard : AreReadingsAndLooks roots []
+  one_look : (path : List ℕ) (answer : StatAnswer) (more all : List Heard) → is_under roots path ≡ true
+      → all ≡ stat path answer ∷ more → AreReadingsAndLooks roots more → AreReadingsAndLooks roots all
+  one_file : (name : NameFacts) (answer : OpenFacts) (reads more all : List Heard)
+      → all ≡ heard_reading name answer reads ++ more → All (IsReadOfFile name) reads → AsksParts name reads
+      → AreReadingsAndLooks roots more → AreReadingsAndLooks roots all
 
 -- whether this is a load of the path, or its opening
 abbrev pub is_load_of : List ℕ → Heard → Bool
@@ -143,9 +154,10 @@ KeepsListed listing old new =
     (name : NameFacts) → is_in listing name ≡ true
     → is_in (row_names old) name ≡ true → is_in (row_names new) name ≡ true
 
--- what a pass does to rows from one moment to a later one, while this was heard: no row of a listed name went; a row whose
--- path isn't listed and lies under a root went only where a look did not find its file; a row that came is of a listed
--- name; and a row that wasn't there says what was read
+-- what a pass does to rows from one moment to a later one, while this was heard: no row of a listed name went; a row whose path
+-- isn't listed and lies under a root went only where a look did not find its file; a row that came is of a listed name; and a row
+-- that wasn't there says what was read. Of two lists of rows, and not of two indexes, since a scan says it of the rows that its
+-- store held and has
 pub record MovesRows (listing : List NameFacts) (roots : List (List ℕ)) (answers : List Heard) (old new : List RowFacts)
     : Type 0 where
   pub stays : KeepsListed listing old new
@@ -194,13 +206,14 @@ pub record Advances {K : Type 0} (shows : K → ShownKeeper) (answers : List Hea
       → times_named (pass_or_none new.pass).todo path ≤ times_named (pass_or_none old.pass).todo path
   pub bounded : StaysBounded (pass_or_none old.pass).listing old new
 
--- what the settling did from one moment to a later one: nothing else was heard, all of it was wanted, the index went on so,
--- and a listed name for which an opening found another file is missed
+-- what the settling did from one moment to a later one: nothing else was heard, all of it was wanted, of each file none but its
+-- parts was read, the index went on so, and a listed name for which an opening found another file is missed
 pub record Proceeds {K : Type 0} (told : Bool) (version : Versions) (shows : K → ShownKeeper)
     (before after : ShownTree) (old new : StateFacts K) : Type 0 where
   pub answers : List Heard
   pub listens : Listens told version before after answers
   pub wanted : All (Wants old) answers
+  pub parts : AreReadingsAndLooks old.roots answers
   pub on : Advances shows answers (Rose before.faults after.faults) old new
   pub altered : AlteredAreMissed (pass_or_none old.pass).listing answers new
 

@@ -33,19 +33,20 @@ use Rattle.tree_walk.specs.Files.{HasManyEntries, HasManyFiles}
 use Rattle.tree_walk.specs.declared.fault.WalkFault.{WalkFault}
 use Rattle.tree_walk.specs.declared.fault.WalkFault.TheVariants as stop
 use Rattle.tree_walk.specs.declared.walked.Walk.{Walk}
-use Rattle.pass_runner.specs.Helped.{IsSparing}
 use Rattle.pass_runner.specs.Numbers.{summary_of}
 use Rattle.pass_runner.specs.Owned.{HearsWalked, TellsStill, WalksInto}
+use Rattle.pass_runner.specs.Settled.{AreReadingsAndLooks}
 use Rattle.pass_runner.specs.declared.pass_end.PassEnd.{PassEnd}
 use Rattle.pass_runner.specs.declared.pass_end.PassEnd.TheVariants.{Whole, Missed, Walk as Unwalked, Broken}
 use Rattle.pass_runner.specs.declared.pass_end.PassEnd.TheVariants.{KeeperFault, LogFull, OutOfMemory}
 use Rattle.pass_runner.specs.declared.summary.Summary.{Summary}
 
--- what the first hand heard: a whole walk of the roots, and then nothing but openings, up to 1 GiB, reads and looks
+-- what the first hand heard: a whole walk of the roots, and then nothing but openings, up to 1 GiB, reads of what was opened, of
+-- each file its parts alone, and looks at paths under a root
 pub record HearsShared (told : Bool) (version : Versions) (roots : List (List ℕ)) (walk : Walk) (walked more : List Heard)
     (before after : ShownTree) : Type 0 where
   pub walks : HearsWalked told version roots walk walked more before after
-  pub asks : All (IsSparing []) more
+  pub asks : AreReadingsAndLooks roots more
 
 -- the log is no shorter than the one that was brought, and no longer than the one that came back
 pub record IsBetween (brought log at : List Change) : Type 0 where

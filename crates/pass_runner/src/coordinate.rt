@@ -151,7 +151,7 @@ fn settle_last<'a, W: Truth, K: Keeper<W>, T: Tree<W>, R: Reader<W>, G, Rt: Wait
         plan.now desk.entry.seat.seen result.0.seat.seen (T.shows hand.old) (T.shows hand.new)
         result.1 }
 {
-    let (desk, met) = settle_shared(ground, desk, hand);
+    let (desk, met) = settle_shared(ground, desk, hand, roots.as_slice());
     end_one(
         ground.rt,
         ground.alloc,

@@ -219,7 +219,7 @@ fn is_stray(path: &CanonPath, listing: &Listing, roots: &[CanonPath]) -> bool
 }
 
 /// Whether the path is that of a root, or lies under one.
-fn is_under_any(roots: &[CanonPath], path: &CanonPath) -> bool
+pub(crate) fn is_under_any(roots: &[CanonPath], path: &CanonPath) -> bool
     ensures { result ≡ is_under roots.now path.now }
 {
     roots.iter().any(|root| is_under(path, root))

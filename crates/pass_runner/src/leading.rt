@@ -1,15 +1,18 @@
 //! What the hand that leads a pass settles itself over a shared index.
 
-ghost use Rattle.std.specs.Prelude.{◌≡◌, []};
+ghost use Rattle.std.specs.Prelude.{◌≡◌, ℕ, List, [], true};
+ghost use Rattle.std.specs.Bool.{OnFalse};
 ghost use Rattle.index_lock.specs.Tokens.{IsLater};
+ghost use Rattle.index_state.specs.Judge.{is_under};
 ghost use Rattle.pass_runner.specs.Leading.{LeadsInSettling, MayNote, MayNoteThere};
 
 use crate::holds::{is_open, judge_one};
+use crate::last_hold::is_under_any;
 use groomer::{Looked, look};
 use index_desk::{Desk, Ground};
 use index_keeper::Keeper;
 use index_state::{GroomTask, Judged};
-use row_types::{Name, Truth};
+use row_types::{CanonPath, Name, Truth};
 use scan_queue::{Cause, Miss, Seen};
 use scan_worker::{NameRead, read_name};
 use std::alloc::Global;
@@ -17,14 +20,16 @@ use std::sync::Wait;
 use tree_trait::{Reader, Tree};
 
 /// Tries again what is left of a pass with the hand that leads it: the listed files without a row
-/// are read, and the rows that are no longer listed are judged by looks at their paths. What the
-/// hand missed itself is told. How it ends isn't: the pass shows what is left.
+/// are read, and the rows that are no longer listed are judged by looks at their paths, which are
+/// made under these roots alone. What the hand missed itself is told. How it ends isn't: the pass
+/// shows what is left.
 pub(crate) fn settle_shared<'a, W: Truth, K: Keeper<W>, T: Tree<W>, R: Reader<W>, G, Rt: Wait>(
     ground: Ground<'_, R, G, Rt>,
     desk: Desk<'a, W, K>,
     hand: &mut T,
+    roots: &[CanonPath],
 ) -> (Desk<'a, W, K>, Vec<Miss>)
-    ensures { LeadsInSettling T.told W.version desk.entry.seat (T.shows hand.old) result.0.seat
+    ensures { LeadsInSettling T.told W.version roots.now desk.entry.seat (T.shows hand.old) result.0.seat
         (T.shows hand.new) [] result.1.items }
 {
     let mut met = Vec::new(ground.alloc);
@@ -33,7 +38,7 @@ pub(crate) fn settle_shared<'a, W: Truth, K: Keeper<W>, T: Tree<W>, R: Reader<W>
         return (desk, met);
     }
     let desk = read_left(ground, desk, hand, &mut met);
-    let desk = look_left(ground.rt, ground.alloc, desk, hand, &mut met);
+    let desk = look_left(ground.rt, ground.alloc, desk, hand, roots, &mut met);
     (desk, met)
 }
 
@@ -44,8 +49,8 @@ fn read_left<'a, W: Truth, K: Keeper<W>, T: Tree<W>, R: Reader<W>, G, Rt: Wait>(
     hand: &mut T,
     met: &mut Vec<Miss>,
 ) -> Desk<'a, W, K>
-    ensures { LeadsInSettling T.told W.version desk.entry.seat (T.shows hand.old) result.seat
-        (T.shows hand.new) met.old.items met.new.items }
+    ensures { (roots : List (List ℕ)) → LeadsInSettling T.told W.version roots desk.entry.seat
+        (T.shows hand.old) result.seat (T.shows hand.new) met.old.items met.new.items }
 {
     let Desk { lock, mut seat } = desk;
     for _ in ground.rt.forever() {
@@ -69,8 +74,8 @@ fn read_next<'a, W: Truth, K: Keeper<W>, T: Tree<W>, R: Reader<W>, G, Rt: Wait>(
     hand: &mut T,
     met: &mut Vec<Miss>,
 ) -> (Desk<'a, W, K>, bool)
-    ensures { LeadsInSettling T.told W.version desk.entry.seat (T.shows hand.old) result.0.seat
-        (T.shows hand.new) met.old.items met.new.items }
+    ensures { (roots : List (List ℕ)) → LeadsInSettling T.told W.version roots desk.entry.seat
+        (T.shows hand.old) result.0.seat (T.shows hand.new) met.old.items met.new.items }
 {
     let (desk, name) = desk.take(ground.rt);
     let Some(name) = name else {
@@ -100,14 +105,15 @@ fn look_left<'a, W: Truth, K: Keeper<W>, T: Tree<W>, Rt: Wait>(
     alloc: Global,
     desk: Desk<'a, W, K>,
     hand: &mut T,
+    roots: &[CanonPath],
     met: &mut Vec<Miss>,
 ) -> Desk<'a, W, K>
-    ensures { LeadsInSettling T.told W.version desk.entry.seat (T.shows hand.old) result.seat
+    ensures { LeadsInSettling T.told W.version roots.now desk.entry.seat (T.shows hand.old) result.seat
         (T.shows hand.new) met.old.items met.new.items }
 {
     let Desk { lock, mut seat } = desk;
     for _ in rt.forever() {
-        let (desk, goes_on) = look_next(rt, alloc, Desk { lock, seat }, hand, met);
+        let (desk, goes_on) = look_next(rt, alloc, Desk { lock, seat }, hand, roots, met);
         if !goes_on {
             return desk;
         }
@@ -127,15 +133,20 @@ fn look_next<'a, W: Truth, K: Keeper<W>, T: Tree<W>, Rt: Wait>(
     alloc: Global,
     desk: Desk<'a, W, K>,
     hand: &mut T,
+    roots: &[CanonPath],
     met: &mut Vec<Miss>,
 ) -> (Desk<'a, W, K>, bool)
-    ensures { LeadsInSettling T.told W.version desk.entry.seat (T.shows hand.old) result.0.seat
+    ensures { LeadsInSettling T.told W.version roots.now desk.entry.seat (T.shows hand.old) result.0.seat
         (T.shows hand.new) met.old.items met.new.items }
 {
     let (desk, task) = desk.groom_take(rt);
     let Some(task) = task else {
         return (desk, false);
     };
+    // Another token's pass may stand there by now: its rows are not this hand's to look for.
+    if is_elsewhere(&task, roots) {
+        return (desk, false);
+    }
     match look(alloc, hand, &task) {
         Looked::Saw(seen) => judge_own(rt, alloc, desk, met, task, seen),
         Looked::Failed => {
@@ -145,6 +156,13 @@ fn look_next<'a, W: Truth, K: Keeper<W>, T: Tree<W>, Rt: Wait>(
         }
         Looked::OutOfMemory => (desk, false),
     }
+}
+
+/// Whether the file would be looked for under none of these roots.
+fn is_elsewhere(task: &GroomTask, roots: &[CanonPath]) -> bool
+    ensures { OnFalse result (task.now.under ≡ true → is_under roots.now task.now.name.path ≡ true) }
+{
+    task.under && !is_under_any(roots, &task.name.path)
 }
 
 /// Judges a row by what the hand saw at its path, and notes it where its file stands there. Says

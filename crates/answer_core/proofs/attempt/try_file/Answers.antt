@@ -1,6 +1,6 @@
 -- What the opening of a file and the reads behind it make of the candidate.
 use Rattle.std.proofs.Common.{refl}
-use Rattle.file_parts.specs.AtPath.{file_too_large, file_gone, file_no_memory}
+use Rattle.file_parts.specs.AtPath.{file_too_large, file_gone}
 use Rattle.answer_core.proofs.TriedLemmas.{tries_failed, tries_read, tries_refused, tries_wanting}
 use Rattle.answer_core.proofs.attempt.try_file.Goals as goal
 
@@ -31,4 +31,4 @@ returns-in-Failed g c =
 
 pub returns-in-OutOfMemory : goal.returns-in-OutOfMemory
 returns-in-OutOfMemory g c =
-    tries_wanting c.args.route.now c.args.candidate.now c.text.ensures.value file_no_memory c.in-OutOfMemory.ensures.asks
+    tries_wanting c.args.route.now c.args.candidate.now c.text.ensures.value c.requires c.in-OutOfMemory.ensures.asks

@@ -25,4 +25,4 @@ returns-in-Failed g c =
 
 pub returns-in-OutOfMemory : goal.returns-in-OutOfMemory
 returns-in-OutOfMemory g c =
-    tries_unmade c.args.route.now c.args.candidate.now c.text.ensures.value c.in-OutOfMemory.ensures.asks
+    tries_unmade c.args.route.now c.args.candidate.now c.text.ensures.value c.requires c.in-OutOfMemory.ensures.asks

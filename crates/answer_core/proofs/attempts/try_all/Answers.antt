@@ -21,7 +21,10 @@ returns-in-Passed g c =
 
 pub returns-in-OutOfMemory : goal.returns-in-OutOfMemory
 returns-in-OutOfMemory g c =
-    tried_memory c.index-all-place.result c.loop-place.invariant c.in-OutOfMemory.ensures
+    let all : List Candidate = c.args.all.now in
+    let place : ℕ = c.loop-place.place in
+    let within : place < length all = omega arith in
+    tried_memory place c.index-all-place.result within c.index-all-place.is c.loop-place.invariant c.in-OutOfMemory.ensures
 
 pub loop-place-preserved : goal.loop-place-preserved
 loop-place-preserved g c =

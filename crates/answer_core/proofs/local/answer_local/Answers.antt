@@ -1,5 +1,5 @@
 -- The candidates are those of the log that the token has seen.
-use Rattle.std.proofs.Common.{[]}
+use Rattle.std.proofs.Common.{[], inl, refl}
 use Rattle.answer_core.specs.Local.{local_facts}
 use Rattle.answer_core.proofs.HearLemmas.{hears_none}
 use Rattle.answer_core.proofs.LocalLemmas.{to_route}
@@ -15,5 +15,5 @@ pub returns-in-Err-clause-answer : goal.returns-in-Err-clause-answer
 returns-in-Err-clause-answer g c = record {
   answers = [];
   hears = hears_none (record { told = g.T.Tree.told; version = g.W.Truth.version; start = g.T.Tree.shows c.args.hand.now });
-  says = tt;
+  says = inl refl;
 }

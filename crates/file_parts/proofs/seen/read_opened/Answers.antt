@@ -39,4 +39,4 @@ pub returns-in-OutOfMemory : goal.returns-in-OutOfMemory
 returns-in-OutOfMemory g c =
     let same = ap (λ o. opened_name o) c.new-opened.ensures
     ∙ ap {B = NameFacts} (λ (p : List ℕ). stamped_name p c.args.stamp) c.in-Ok.ensures.ok in
-    sees_wanting same c.fill_whole-end.ensures.fills
+    sees_wanting same c.fill_whole-end.ensures.fills c.in-OutOfMemory.is

@@ -1,10 +1,10 @@
 -- The settling, and then the last hold.
-use Rattle.std.proofs.Common.{List, ap, subst, ◌∙◌}
+use Rattle.std.proofs.Common.{ℕ, List, [], ap, subst, ◌∙◌}
 use Rattle.row_types.specs.Rules.{rules}
 use Rattle.index_lock.proofs.Later.{later_trans}
 use Rattle.index_state.specs.State.{Origin}
 use Rattle.scan_queue.specs.declared.miss.Miss.{Miss}
-use Rattle.pass_runner.specs.Leading.{LastShows}
+use Rattle.pass_runner.specs.Leading.{LastShows, LeadsInSettling}
 use Rattle.pass_runner.proofs.PlannedLemmas.{settles_last}
 use Rattle.pass_runner.proofs.coordinate.settle_last.Goals as goal
 
@@ -18,7 +18,10 @@ returns-clause-later g c = later_trans c.settle_shared-desk.ensures.later c.end_
 pub returns-clause-over : goal.returns-clause-over
 returns-clause-over g c =
     settles_last (rules g.W.Truth.version g.W.Truth.true_row g.W.Truth.told) c.end_one.result.0.seat.seen
-    c.settle_shared-desk.ensures c.end_one.ensures.later.log c.end_one.result.1
+    (subst (λ (roots : List (List ℕ)). LeadsInSettling g.T.Tree.told g.W.Truth.version roots c.args.desk.seat
+    (g.T.Tree.shows c.args.hand.now) c.settle_shared-desk.result.0.seat (g.T.Tree.shows c.settle_shared-desk.new.hand) []
+    c.settle_shared-desk.result.1.items) c.as_slice.ensures.value c.settle_shared-desk.ensures)
+    c.end_one.ensures.later.log c.end_one.result.1
     (subst (λ (met : List Miss). LastShows (rules g.W.Truth.version g.W.Truth.true_row g.W.Truth.told) c.args.listing
-    c.args.roots.items c.args.plan.now met c.end_one.result.0.seat.seen c.end_one.result.1) c.as_slice.ensures.value
+    c.args.roots.items c.args.plan.now met c.end_one.result.0.seat.seen c.end_one.result.1) c.as_slice-2.ensures.value
     c.end_one.ensures.shows)

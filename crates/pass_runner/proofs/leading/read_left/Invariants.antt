@@ -1,8 +1,12 @@
 -- The reading so far.
+use Rattle.std.proofs.Common.{ℕ, List}
+use Rattle.index_lock.specs.Tokens.{IsLater}
 use Rattle.pass_runner.specs.Leading.{LeadsInSettling}
 use Rattle.pass_runner.proofs.leading.read_left.Given as goal
 
 abbrev pub invariant-loop : goal.invariant-loop
 invariant-loop g l =
-    LeadsInSettling g.T.Tree.told g.W.Truth.version l.fn.desk.seat (g.T.Tree.shows l.fn.hand) l.seat (g.T.Tree.shows l.hand)
-    l.fn.met.items l.met.items
+    IsLater l.fn.desk.seat l.seat
+    × ((roots : List (List ℕ))
+    → LeadsInSettling g.T.Tree.told g.W.Truth.version roots l.fn.desk.seat (g.T.Tree.shows l.fn.hand) l.seat (g.T.Tree.shows l.hand)
+    l.fn.met.items l.met.items)

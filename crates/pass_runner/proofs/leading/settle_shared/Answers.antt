@@ -7,13 +7,13 @@ use Rattle.pass_runner.proofs.leading.settle_shared.Goals as goal
 
 pub returns-then-is_err : goal.returns-then-is_err
 returns-then-is_err g c =
-    subst (λ (l : List Miss). LeadsInSettling g.T.Tree.told g.W.Truth.version c.args.desk.seat (g.T.Tree.shows c.args.hand.now)
+    subst (λ (l : List Miss). LeadsInSettling g.T.Tree.told g.W.Truth.version c.args.roots.now c.args.desk.seat (g.T.Tree.shows c.args.hand.now)
     c.retry-desk.result.0.seat (g.T.Tree.shows c.args.hand.now) [] l) (sym c.new-met.ensures.items)
     (leads_later c.retry-desk.ensures.later)
 
 pub returns : goal.returns
 returns g c =
     leads_then (leads_then (leads_later c.retry-desk.ensures.later)
-    (subst (λ (l : List Miss). LeadsInSettling g.T.Tree.told g.W.Truth.version c.retry-desk.result.0.seat
+    (subst (λ (l : List Miss). LeadsInSettling g.T.Tree.told g.W.Truth.version c.args.roots.now c.retry-desk.result.0.seat
     (g.T.Tree.shows c.args.hand.now) c.read_left-desk.result.seat (g.T.Tree.shows c.read_left-desk.new.hand) l
-    c.read_left-desk.new.met.items) c.new-met.ensures.items c.read_left-desk.ensures)) c.look_left-desk.ensures
+    c.read_left-desk.new.met.items) c.new-met.ensures.items (c.read_left-desk.ensures c.args.roots.now))) c.look_left-desk.ensures

@@ -8,4 +8,5 @@ returns c = record {
   name = c.open_forged.ensures.name;
   memory = stays_refused _ _ _ c.open_forged.ensures.forged;
   forged = c.open_forged.ensures.forged;
+  opens = c.open_forged.ensures.opens;
 }
