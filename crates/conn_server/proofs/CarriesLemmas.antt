@@ -40,13 +40,9 @@ gives_no_source version id name (Some class) of reads bytes gives = gives
 -- a file that was found here was read of a version of its name, as far as it was
 pub holds_local : (sight : Sight) (route : Route) (answer : LocalFacts) → IsLocal sight route answer
     → CanCarry sight.hand.version (found_here answer)
-holds_local sight route (nothing_found n) l = tt
-holds_local sight route (fault_found n) l = tt
-holds_local sight route no_memory_found l = tt
-holds_local sight route (section_found from path n) l = tt
-holds_local sight route (source_found bytes path n) l = tt
 holds_local sight route (file_found from name path n) l =
     (hands_file sight.hand route sight.answers (file_found from name path n) l.0.all l.0.are).1
+holds_local sight route _ l = tt
 
 pub carries_local : (sight : Sight) (route : Route) (answer : LocalFacts) (why : Reason) (body : List ℕ) (file : Option (List ℕ))
     → IsLocal sight route answer → IsPassed answer → Shows why (found_here answer) body file → Carries (asked.Route route) body

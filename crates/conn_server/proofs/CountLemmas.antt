@@ -12,7 +12,7 @@ use Rattle.dbgd_metrics.specs.declared.view.Load.{Load}
 use Rattle.conn_server.specs.Connection.{ExchangesRow, none, more}
 use Rattle.conn_server.specs.Tallied.{CountsRequest, HasRowIn, TalliesServed, count_for, numbers_with}
 use Rattle.conn_server.specs.Exchange.{Exchange}
-use Rattle.conn_server.specs.Scene.{Scene, Stand, Wire}
+use Rattle.conn_server.specs.Stage.{ConnSetting, ConnStage, Wire}
 use Rattle.conn_server.specs.declared.report.Served.{Served}
 
 -- nothing was loaded
@@ -78,19 +78,19 @@ tallies_one served old noted new counts =
     (tallies_count served noted new counts.counts.0 counts.counts.1)
 
 -- the requests of a row
-pub row_tallies : {T : Type 0} {scene : Scene T} {a : Stand T} {v : Wire} (xs : List Exchange) (b : Stand T) (w : Wire)
-    → ExchangesRow scene a v xs b w → TalliesServed (map (λ x. x.served) xs) a.share b.share
-row_tallies {T} {scene} {a} {v} xs b w none = tallies_notes a.share a.share (notes_none a.share)
-row_tallies {T} {scene} {a} {v} xs b w (more ys c u x d t row is leads moves) =
+pub row_tallies : {T : Type 0} {setting : ConnSetting T} {a : ConnStage T} {v : Wire} (xs : List Exchange) (b : ConnStage T) (w : Wire)
+    → ExchangesRow setting a v xs b w → TalliesServed (map (λ x. x.served) xs) a.share b.share
+row_tallies {T} {setting} {a} {v} xs b w none = tallies_notes a.share a.share (notes_none a.share)
+row_tallies {T} {setting} {a} {v} xs b w (more ys c u x d t row is leads moves) =
     subst (λ (told : List Served). TalliesServed told a.share d.share) (sym (map-append (λ (y : Exchange). y.served) ys (x ∷ [])))
     (tallies_append (map (λ y. y.served) ys) (x.served ∷ []) a.share c.share d.share (row_tallies ys c u row)
     (tallies_one x.served c.share x.noted d.share leads.share))
 
 -- the requests of a row, of which this is told, and loads behind them
-pub told_tallies : {T : Type 0} {scene : Scene T} {a b : Stand T} {v w : Wire} (xs : List Exchange) (told : List Served)
-    (last : ShareFacts) → map (λ x. x.served) xs ≡ told → ExchangesRow scene a v xs b w → OnlyNotes b.share last
+pub told_tallies : {T : Type 0} {setting : ConnSetting T} {a b : ConnStage T} {v w : Wire} (xs : List Exchange) (told : List Served)
+    (last : ShareFacts) → map (λ x. x.served) xs ≡ told → ExchangesRow setting a v xs b w → OnlyNotes b.share last
     → TalliesServed told a.share last
-told_tallies {T} {scene} {a} {b} {v} {w} xs told last is row notes =
+told_tallies {T} {setting} {a} {b} {v} {w} xs told last is row notes =
     subst (λ (served : List Served). TalliesServed served a.share last) (append-nil (map (λ x. x.served) xs) ∙ is)
     (tallies_append (map (λ x. x.served) xs) [] a.share b.share last (row_tallies xs b w row)
     (tallies_notes b.share last notes))

@@ -5,7 +5,7 @@ use Rattle.std.specs.Global.{Global}
 use Rattle.std.proofs.lemmas.Bool.{false≢true}
 use Rattle.std.proofs.lemmas.Bool.Decides.{nat_tests}
 use Rattle.webapi_routes.specs.declared.route.Route.{Route}
-use Rattle.webapi_routes.specs.declared.route.Route.TheVariants.{Debuginfo, Executable, Source, Section, Metrics}
+use Rattle.webapi_routes.specs.declared.route.Route.TheVariants.{Metrics}
 use Rattle.answer_check.specs.declared.passed.Passed.TheVariants as passing
 use Rattle.answer_core.specs.Local.{AnswersRoute, IsFault, LocalFacts}
 use Rattle.answer_core.specs.Local.{file_found, section_found, source_found, nothing_found, fault_found, no_memory_found}
@@ -15,34 +15,32 @@ use Rattle.dbgd_metrics.specs.Totals.{IsPage, OnlyNotes}
 use Rattle.federation.specs.AskAll.{AsksLinks}
 use Rattle.federation.specs.declared.asking.Upstream.{Upstream}
 use Rattle.federation.specs.declared.asking.Upstream.TheVariants as told
-use Rattle.conn_server.specs.Asked.{AsksForRoute, HeadFacts, readable}
+use Rattle.answer_core.specs.Loads.{Hears}
+use Rattle.conn_server.specs.Asked.{AsksForRoute, HeadFacts, Request, readable}
 use Rattle.conn_server.specs.Bodies.{DecidedFacts, found_here, own_line}
 use Rattle.conn_server.specs.Cases.{IsCase, IsFileRoute, metrics, no_page, passed, upstream, read_fault, hop_limit, upstream_fault, not_found, no_memory, links_memory}
 use Rattle.conn_server.specs.Decided.{Decides, DecidesRoute, FollowsLocal, by_links, by_page, for_route, plain}
 use Rattle.conn_server.specs.Exchange.{LoadFailed}
 use Rattle.conn_server.specs.Lawful.{AsksLinksFor}
 use Rattle.conn_server.specs.Links.{AsksEachLink, LinksHear}
-use Rattle.conn_server.specs.Scene.{Scene, Stand, hand_at, with_share}
+use Rattle.conn_server.specs.Stage.{ConnSetting, ConnStage, hand_at, with_share}
 use Rattle.conn_server.specs.declared.reason.Reason.TheVariants as reason
 use Rattle.conn_server.specs.declared.report.Asked.TheVariants as asked
 use Rattle.conn_server.proofs.LinksLemmas.{asks_each, links_none}
 
 is_file : (route : Route) → route ≢ Metrics → IsFileRoute route
-is_file (Debuginfo id) other = tt
-is_file (Executable id) other = tt
-is_file (Section id name) other = tt
-is_file (Source id path) other = tt
 is_file Metrics other = absurd (other refl)
+is_file _ other = tt
 
 -- where the links are asked for a route behind the local answer, or aren't
-module _ {T : Type 0} (scene : Scene T) (a b : Stand T) (route : Route) (other : route ≢ Metrics)
+module _ {T : Type 0} (setting : ConnSetting T) (a b : ConnStage T) (route : Route) (other : route ≢ Metrics)
     (notes : OnlyNotes a.share b.share) where
   -- no link is asked
   unasked : (answer : LocalFacts) (decided : DecidedFacts) (head : HeadFacts)
-      → (given : AnswersRoute scene.true_row b.log scene.folders (hand_at scene a) route answer (scene.shows b.hand))
+      → (given : AnswersRoute setting.true_row b.log setting.folders (hand_at setting a) route answer (setting.shows b.hand))
       → (LoadFailed decided.reason given.answers → IsFault answer) → b.links ≡ a.links
-      → IsCase scene a a.share b.share b.log (readable head) decided.asked decided.reason decided.generation decided.body given.answers None
-      → Decides scene a (readable head) decided b
+      → IsCase setting a a.share b.share b.log (readable head) decided.asked decided.reason decided.generation decided.body given.answers None
+      → Decides setting a (readable head) decided b
   unasked answer decided head given fails same case_ = record {
     answers = given.answers;
     parts = [];
@@ -56,21 +54,21 @@ module _ {T : Type 0} (scene : Scene T) (a b : Stand T) (route : Route) (other :
 
   -- what passed here is sent
   found : (answer : LocalFacts) (n : ℕ) (head : HeadFacts)
-      → (given : AnswersRoute scene.true_row b.log scene.folders (hand_at scene a) route answer (scene.shows b.hand))
+      → (given : AnswersRoute setting.true_row b.log setting.folders (hand_at setting a) route answer (setting.shows b.hand))
       → (decided : DecidedFacts) → decided ≡ for_route route reason.Local n (found_here answer) → b.links ≡ a.links
-      → IsCase scene a a.share b.share b.log (readable head) (asked.Route route) reason.Local n (found_here answer) given.answers None
-      → Decides scene a (readable head) decided b
+      → IsCase setting a a.share b.share b.log (readable head) (asked.Route route) reason.Local n (found_here answer) given.answers None
+      → Decides setting a (readable head) decided b
   found answer n head given decided is same case_ =
-      subst (λ (d : DecidedFacts). Decides scene a (readable head) d b) (sym is)
+      subst (λ (d : DecidedFacts). Decides setting a (readable head) d b) (sym is)
       (unasked answer (for_route route reason.Local n (found_here answer)) head given (λ f. absurd f) same case_)
 
   -- the links are asked, and this is told of them
   asked_them : (answer : LocalFacts) (decided : DecidedFacts) (hops : ℕ) (head : HeadFacts)
-      → (given : AnswersRoute scene.true_row b.log scene.folders (hand_at scene a) route answer (scene.shows b.hand))
+      → (given : AnswersRoute setting.true_row b.log setting.folders (hand_at setting a) route answer (setting.shows b.hand))
       → (said : Upstream) → AsksLinks a.links route hops b.links said → head.hops ≡ hops → decided.asked ≡ asked.Route route
       → (LoadFailed decided.reason given.answers → IsFault answer)
-      → IsCase scene a a.share b.share b.log (readable head) decided.asked decided.reason decided.generation decided.body given.answers (Some said)
-      → Decides scene a (readable head) decided b
+      → IsCase setting a a.share b.share b.log (readable head) decided.asked decided.reason decided.generation decided.body given.answers (Some said)
+      → Decides setting a (readable head) decided b
   asked_them answer decided hops head given said asks same_hops what fails case_ =
       let each = asks_each a.links b.links route hops said asks in
       record {
@@ -87,12 +85,12 @@ module _ {T : Type 0} (scene : Scene T) (a b : Stand T) (route : Route) (other :
 
   -- of what was told, where no candidate passed and no load failed
   module _ (n hops : ℕ) (head : HeadFacts) (asks : AsksForRoute head route) (same_hops : head.hops ≡ hops)
-      (given : AnswersRoute scene.true_row b.log scene.folders (hand_at scene a) route (nothing_found n) (scene.shows b.hand)) where
+      (given : AnswersRoute setting.true_row b.log setting.folders (hand_at setting a) route (nothing_found n) (setting.shows b.hand)) where
     none_failed : LoadFailed reason.Upstream given.answers → ⊥
     none_failed failed = false≢true (sym given.says.0.are.failed ∙ failed)
 
     behind_nothing : (said : Upstream) → AsksLinks a.links route hops b.links said
-        → Decides scene a (readable head) (by_links route n false said) b
+        → Decides setting a (readable head) (by_links route n false said) b
     behind_nothing (told.File file) links =
         asked_them (nothing_found n) (by_links route n false (told.File file)) hops head given (told.File file) links same_hops refl
         none_failed (upstream head route (nothing_found n) given.answers (passing.File file) refl asks (is_file route other) given.says tt)
@@ -113,13 +111,13 @@ module _ {T : Type 0} (scene : Scene T) (a b : Stand T) (route : Route) (other :
     behind_nothing (told.Nobody refused failed) links = by_count (failed == 0) refl
       where
         by_count : (is : Bool) → (failed == 0) ≡ is
-            → Decides scene a (readable head)
+            → Decides setting a (readable head)
             (for_route route (if is then reason.NotFound else reason.UpstreamFault) n own_line) b
         by_count true e =
             let zero : failed ≡ 0 = grind (arith, nat_tests, e) in
             asked_them (nothing_found n) (for_route route reason.NotFound n own_line) hops head given (told.Nobody refused failed)
             links same_hops refl (λ f. f)
-            (subst (λ (count : ℕ). IsCase scene a a.share b.share b.log (readable head) (asked.Route route) reason.NotFound n own_line
+            (subst (λ (count : ℕ). IsCase setting a a.share b.share b.log (readable head) (asked.Route route) reason.NotFound n own_line
             given.answers (Some (told.Nobody refused count))) (sym zero)
             (not_found head route n given.answers refused refl asks (is_file route other) given.says))
         by_count false e =
@@ -130,9 +128,9 @@ module _ {T : Type 0} (scene : Scene T) (a b : Stand T) (route : Route) (other :
 
   -- and where a load failed
   module _ (n hops : ℕ) (head : HeadFacts) (asks : AsksForRoute head route) (same_hops : head.hops ≡ hops)
-      (given : AnswersRoute scene.true_row b.log scene.folders (hand_at scene a) route (fault_found n) (scene.shows b.hand)) where
+      (given : AnswersRoute setting.true_row b.log setting.folders (hand_at setting a) route (fault_found n) (setting.shows b.hand)) where
     behind_fault : (said : Upstream) → AsksLinks a.links route hops b.links said
-        → Decides scene a (readable head) (by_links route n true said) b
+        → Decides setting a (readable head) (by_links route n true said) b
     behind_fault (told.File file) links =
         asked_them (fault_found n) (by_links route n true (told.File file)) hops head given (told.File file) links same_hops refl
         (λ f. tt) (upstream head route (fault_found n) given.answers (passing.File file) refl asks (is_file route other) given.says tt)
@@ -156,8 +154,8 @@ module _ {T : Type 0} (scene : Scene T) (a b : Stand T) (route : Route) (other :
         (read_fault head route n given.answers (told.Nobody refused failed) refl asks (is_file route other) given.says tt)
 
   pub decides_local : (answer : LocalFacts) (hops : ℕ) (decided : DecidedFacts)
-      → AnswersRoute scene.true_row b.log scene.folders (hand_at scene a) route answer (scene.shows b.hand)
-      → FollowsLocal a.links route hops answer decided b.links → DecidesRoute scene a route hops decided b
+      → AnswersRoute setting.true_row b.log setting.folders (hand_at setting a) route answer (setting.shows b.hand)
+      → FollowsLocal a.links route hops answer decided b.links → DecidesRoute setting a route hops decided b
   decides_local (file_found from name path n) hops decided given follows head asks same_hops =
       found (file_found from name path n) n head given decided follows.0 follows.1
       (passed head route (file_found from name path n) given.answers refl asks (is_file route other) given.says tt)
@@ -168,37 +166,38 @@ module _ {T : Type 0} (scene : Scene T) (a b : Stand T) (route : Route) (other :
       found (source_found bytes path n) n head given decided follows.0 follows.1
       (passed head route (source_found bytes path n) given.answers refl asks (is_file route other) given.says tt)
   decides_local (nothing_found n) hops decided given follows head asks same_hops =
-      subst (λ (d : DecidedFacts). Decides scene a (readable head) d b) (sym follows.by)
+      subst (λ (d : DecidedFacts). Decides setting a (readable head) d b) (sym follows.by)
       (behind_nothing n hops head asks same_hops given follows.told follows.asks)
   decides_local (fault_found n) hops decided given follows head asks same_hops =
-      subst (λ (d : DecidedFacts). Decides scene a (readable head) d b) (sym follows.by)
+      subst (λ (d : DecidedFacts). Decides setting a (readable head) d b) (sym follows.by)
       (behind_fault n hops head asks same_hops given follows.told follows.asks)
   decides_local no_memory_found hops decided given follows head asks same_hops =
-      subst (λ (d : DecidedFacts). Decides scene a (readable head) d b) (sym follows.0)
+      subst (λ (d : DecidedFacts). Decides setting a (readable head) d b) (sym follows.0)
       (unasked no_memory_found (plain (asked.Route route) reason.OutOfMemory) head given (λ f. absurd f) follows.1
-      (no_memory head route given.answers refl asks (is_file route other)))
+      (no_memory head route given.answers refl asks (is_file route other) given.says))
 
--- by the page of the counters, for which neither the hand nor a link is asked
-pub decides_page : {T E : Type 0} (scene : Scene T) (a : Stand T) (later : ShareFacts) (page : Result (String Global) E) (hops : ℕ)
-    → OnlyNotes a.share later → IfOk page (λ text. IsPage scene.rows a.share later (string_bytes text))
-    → DecidesRoute scene a Metrics hops (by_page page) (with_share a later)
-decides_page scene a later (Ok text) hops notes is head asks same_hops = record {
-  answers = [];
-  parts = [];
-  told = None;
-  hears = hears_as (λ f. absurd f) (hears_none (hand_at scene a));
-  links = links_none a.links;
-  asks = refl;
-  notes = notes;
-  is = metrics head text refl asks is;
-}
-decides_page scene a later (Err fault) hops notes is head asks same_hops = record {
-  answers = [];
-  parts = [];
-  told = None;
-  hears = hears_as (λ f. absurd f) (hears_none (hand_at scene a));
-  links = links_none a.links;
-  asks = refl;
-  notes = notes;
-  is = no_page head refl asks;
-}
+-- what is decided without the hand and the links
+pub decides_alone : {T : Type 0} {setting : ConnSetting T} {a b : ConnStage T} {request : Request} {given : DecidedFacts} (decided : DecidedFacts)
+    → given ≡ decided → b.hand ≡ a.hand → b.links ≡ a.links → OnlyNotes a.share b.share → (LoadFailed decided.reason [] → ⊥)
+    → IsCase setting a a.share b.share b.log request decided.asked decided.reason decided.generation decided.body [] None
+    → Decides setting a request given b
+decides_alone {T} {setting} {a} {b} {request} decided is hand links notes sound case_ =
+    subst (λ (d : DecidedFacts). Decides setting a request d b) (sym is) (record {
+      answers = [];
+      parts = [];
+      told = None;
+      hears = hears_as sound (subst (λ (h : T). Hears (hand_at setting a) (setting.shows h) [] ⊥) (sym hand) (hears_none (hand_at setting a)));
+      links = subst (λ views. LinksHear a.links [] views) (sym links) (links_none a.links);
+      asks = refl;
+      notes = notes;
+      is = case_;
+    })
+
+-- by the page of the counters
+pub decides_page : {T E : Type 0} (setting : ConnSetting T) (a : ConnStage T) (later : ShareFacts) (page : Result (String Global) E) (hops : ℕ)
+    → OnlyNotes a.share later → IfOk page (λ text. IsPage setting.rows a.share later (string_bytes text))
+    → DecidesRoute setting a Metrics hops (by_page page) (with_share a later)
+decides_page setting a later (Ok text) hops notes is head asks same_hops =
+    decides_alone _ refl refl refl notes (λ f. f) (metrics head text refl asks is)
+decides_page setting a later (Err fault) hops notes is head asks same_hops =
+    decides_alone _ refl refl refl notes (λ f. f) (no_page head refl asks)

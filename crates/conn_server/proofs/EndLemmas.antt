@@ -10,39 +10,46 @@ use Rattle.conn_server.specs.Connection.{EndsConnection, GoOn, LastCloses, Excha
 use Rattle.conn_server.specs.Tallied.{TalliesServed}
 use Rattle.conn_server.specs.Exchange.{Exchange}
 use Rattle.conn_server.specs.Links.{HeardFor, unheard}
-use Rattle.conn_server.specs.Scene.{Scene, Stand, Wire}
+use Rattle.conn_server.specs.Stage.{ConnSetting, ConnStage, Wire}
 use Rattle.conn_server.specs.Turns.{ClosesConnection, EndsBehind, Exchanges, GoesOnBehind, Stops, StopsFor, Turns, end_of_head}
 use Rattle.conn_server.specs.declared.connection.TheConstants.{REQUESTS}
 use Rattle.conn_server.specs.declared.report.ConnEnd.{ConnEnd}
 use Rattle.conn_server.specs.declared.report.ConnEnd.TheVariants as end
 use Rattle.conn_server.specs.declared.report.ConnReport.{ConnReport}
 use Rattle.conn_server.specs.declared.report.Served.{Served}
-use Rattle.conn_server.specs.declared.turn.Turn.{Turn}
+use Rattle.conn_server.specs.declared.turn.ConnTurn.{ConnTurn}
 use Rattle.conn_server.proofs.CountLemmas.{notes_none, tallies_notes, told_tallies}
 use Rattle.conn_server.proofs.JoinLemmas.{flat_leaves, flat_row, goes_more, leaves_none}
 
 -- these requests were answered, and the connection goes on
-pub record IsOpen {T : Type 0} (scene : Scene T) (a : Stand T) (v : Wire) (told : List Served) (b : Stand T) (w : Wire)
+pub record IsOpen {T : Type 0} (setting : ConnSetting T) (a : ConnStage T) (v : Wire) (told : List Served) (b : ConnStage T) (w : Wire)
     : Type 0 where
   pub xs : List Exchange
   pub told_is : map (λ x. x.served) xs ≡ told
   pub goes : GoOn 0 xs
-  pub row : ExchangesRow scene a v xs b w
+  pub row : ExchangesRow setting a v xs b w
   pub open_ : w.over ≡ false
 
 -- before the first request
-pub open_first : {T : Type 0} (scene : Scene T) (a : Stand T) (v : Wire) (told : List Served) → told ≡ [] → v.over ≡ false
-    → IsOpen scene a v told a v
-open_first scene a v told is open_ = record { xs = []; told_is = sym is; goes = tt; row = none; open_ = open_ }
+pub open_first : {T : Type 0} (setting : ConnSetting T) (a : ConnStage T) (v : Wire) (told : List Served) → told ≡ [] → v.over ≡ false
+    → IsOpen setting a v told a v
+open_first setting a v told is open_ = record { xs = []; told_is = sym is; goes = tt; row = none; open_ = open_ }
 
--- what came of a request, with its place and what came of it as they are known to be
-pub turn_as : {T : Type 0} (scene : Scene T) (last place : Bool) (a : Stand T) (v : Wire) (what known : Turn) (b : Stand T)
-    (w : Wire) → last ≡ place → what ≡ known → Turns scene last a v what b w → Turns scene place a v known b w
-turn_as scene last place a v what known b w at is t =
-    subst (λ (k : Turn). Turns scene place a v k b w) is (subst (λ (l : Bool). Turns scene l a v what b w) at t)
+-- the same requests
+pub open_as : {T : Type 0} {setting : ConnSetting T} {a : ConnStage T} {v : Wire} {told known : List Served} {b : ConnStage T} {w : Wire}
+    → told ≡ known → IsOpen setting a v told b w → IsOpen setting a v known b w
+open_as {T} {setting} {a} {v} {told} {known} {b} {w} is open_ = subst (λ (l : List Served). IsOpen setting a v l b w) is open_
 
-module _ {T : Type 0} (scene : Scene T) (a : Stand T) (v : Wire) (told : List Served) (b : Stand T) (w : Wire)
-    (base : IsOpen scene a v told b w) where
+-- what came of a request, with the rows, its place and what came of it as they are known to be
+pub turn_as : {T : Type 0} (setting : ℕ → ConnSetting T) (a : ConnStage T) (v : Wire) (b : ConnStage T) (w : Wire) {rows known_rows : ℕ}
+    {last place : Bool} {what known : ConnTurn} → rows ≡ known_rows → last ≡ place → what ≡ known → Turns (setting rows) last a v what b w
+    → Turns (setting known_rows) place a v known b w
+turn_as {T} setting a v b w {rows} {known_rows} {last} {place} {what} {known} same at is t =
+    subst (λ (n : ℕ). Turns (setting n) place a v known b w) same
+    (subst (λ (k : ConnTurn). Turns (setting rows) place a v k b w) is (subst (λ (l : Bool). Turns (setting rows) l a v what b w) at t))
+
+module _ {T : Type 0} {setting : ConnSetting T} {a : ConnStage T} {v : Wire} {told : List Served} {b : ConnStage T} {w : Wire}
+    (base : IsOpen setting a v told b w) where
   -- as many requests were answered as are told
   pub same_length : length base.xs ≡ length told
   same_length = sym (length-map base.xs (λ x. x.served)) ∙ ap length base.told_is
@@ -53,16 +60,16 @@ module _ {T : Type 0} (scene : Scene T) (a : Stand T) (v : Wire) (told : List Se
       map-append (λ x. x.served) base.xs (x ∷ [])
       ∙ (ap (λ (l : List Served). l ++ x.served ∷ []) base.told_is ∙ ap (λ (s : Served). told ++ s ∷ []) one)
 
-  one_more : (served : Served) (closes : Bool) (c : Stand T) (u : Wire)
-      → (e : Exchanges scene (is_last_request (length base.xs)) b w served closes c u) → ExchangesRow scene a v (base.xs ++ e.x ∷ []) c u
+  one_more : (served : Served) (closes : Bool) (c : ConnStage T) (u : Wire)
+      → (e : Exchanges setting (is_last_request (length base.xs)) b w served closes c u) → ExchangesRow setting a v (base.xs ++ e.x ∷ []) c u
   one_more served closes c u e = more base.xs b w e.x c u base.row e.is e.leads e.moves
 
   -- a request that was answered, behind which the connection goes on
-  pub goes_on : (served : Served) (c : Stand T) (u : Wire) → GoesOnBehind scene (is_last_request (length told)) b w served c u
-      → IsOpen scene a v (told ++ served ∷ []) c u
+  pub goes_on : (served : Served) (c : ConnStage T) (u : Wire) → GoesOnBehind setting (is_last_request (length told)) b w served c u
+      → IsOpen setting a v (told ++ served ∷ []) c u
   goes_on served c u goes =
-      let at : GoesOnBehind scene (is_last_request (length base.xs)) b w served c u =
-      subst (λ (n : ℕ). GoesOnBehind scene (is_last_request n) b w served c u) (sym same_length) goes in
+      let at : GoesOnBehind setting (is_last_request (length base.xs)) b w served c u =
+      subst (λ (n : ℕ). GoesOnBehind setting (is_last_request n) b w served c u) (sym same_length) goes in
       record {
         xs = base.xs ++ at.one.x ∷ [];
         told_is = told_more at.one.x served at.one.told;
@@ -76,17 +83,17 @@ module _ {T : Type 0} (scene : Scene T) (a : Stand T) (v : Wire) (told : List Se
       zero_more n = omega arith
 
   -- a connection whose last reply closes
-  pub ends_last : (served : Served) (why : ConnEnd) (report : ConnReport) (c : Stand T) (after : ShownStream)
+  pub ends_last : (served : Served) (why : ConnEnd) (report : ConnReport) (c : ConnStage T) (after : ShownStream)
       → length told < REQUESTS
-      → (u : Wire) × (u.stream ≡ after) × ClosesConnection scene (is_last_request (length told)) b w served why c u
+      → (u : Wire) × (u.stream ≡ after) × ClosesConnection setting (is_last_request (length told)) b w served why c u
       → report.served.items ≡ told ++ served ∷ [] → report.end ≡ why
-      → (u : Wire) × (u.stream ≡ after) × ServesAll scene a v report c u
+      → (u : Wire) × (u.stream ≡ after) × ServesAll setting a v report c u
   ends_last served why report c after few closes items is =
       let u : Wire = closes.0 in
-      let at : ClosesConnection scene (is_last_request (length base.xs)) b w served why c u =
-      subst (λ (n : ℕ). ClosesConnection scene (is_last_request n) b w served why c u) (sym same_length) closes.2 in
+      let at : ClosesConnection setting (is_last_request (length base.xs)) b w served why c u =
+      subst (λ (n : ℕ). ClosesConnection setting (is_last_request n) b w served why c u) (sym same_length) closes.2 in
       let x : Exchange = at.one.x in
-      let row : ExchangesRow scene a v (base.xs ++ x ∷ []) c u = one_more served true c u at.one in (
+      let row : ExchangesRow setting a v (base.xs ++ x ∷ []) c u = one_more served true c u at.one in (
         u,
         closes.1,
         record {
@@ -97,11 +104,11 @@ module _ {T : Type 0} (scene : Scene T) (a : Stand T) (v : Wire) (told : List Se
           row = row;
           rest = unheard;
           part = [];
-          leaves = leaves_none scene c u;
+          leaves = leaves_none setting c u;
           flat = flat_row (base.xs ++ x ∷ []) c u row;
           tallies = told_tallies (base.xs ++ x ∷ []) report.served.items c.share (told_more x served at.one.told ∙ sym items) row
               (notes_none c.share);
-          ends = subst (λ (e : ConnEnd). EndsConnection scene a v e (base.xs ++ x ∷ []) c unheard [] c u) (sym is)
+          ends = subst (λ (e : ConnEnd). EndsConnection setting a v e (base.xs ++ x ∷ []) c unheard [] c u) (sym is)
               (by_request x u at.one.ends x.request refl at.cause);
         },
       )
@@ -122,7 +129,7 @@ module _ {T : Type 0} (scene : Scene T) (a : Stand T) (v : Wire) (told : List Se
 
       -- Limit exactly at the last place
       by_head : (x : Exchange) (u : Wire) (head : HeadFacts) → LastCloses (readable head) (base.xs ++ x ∷ []) → (l : Bool)
-          → is_last_request (length base.xs) ≡ l → EndsConnection scene a v (end_of_head l) (base.xs ++ x ∷ []) c unheard [] c u
+          → is_last_request (length base.xs) ≡ l → EndsConnection setting a v (end_of_head l) (base.xs ++ x ∷ []) c unheard [] c u
       by_head x u head last true e =
           let all = length-append base.xs (x ∷ []) in
           (grind (arith, nat_tests, e, all), (refl, refl), (head, last))
@@ -132,23 +139,23 @@ module _ {T : Type 0} (scene : Scene T) (a : Stand T) (v : Wire) (told : List Se
           (grind (arith, nat_tests, e, all, less), (refl, refl), inl (head, last))
 
       by_request : (x : Exchange) (u : Wire) → closes_after x.request (is_last_request (length base.xs)) ≡ true → (r : Request)
-          → x.request ≡ r → EndsBehind (is_last_request (length base.xs)) r u why → EndsConnection scene a v why (base.xs ++ x ∷ []) c unheard [] c u
+          → x.request ≡ r → EndsBehind (is_last_request (length base.xs)) r u why → EndsConnection setting a v why (base.xs ++ x ∷ []) c unheard [] c u
       by_request x u ends (readable head) asks cause =
-          subst (λ (e : ConnEnd). EndsConnection scene a v e (base.xs ++ x ∷ []) c unheard [] c u) (sym cause)
+          subst (λ (e : ConnEnd). EndsConnection setting a v e (base.xs ++ x ∷ []) c unheard [] c u) (sym cause)
           (by_head x u head (closing x (readable head) asks ends) (is_last_request (length base.xs)) refl)
       by_request x u ends (refused fault) asks cause =
-          subst (λ (e : ConnEnd). EndsConnection scene a v e (base.xs ++ x ∷ []) c unheard [] c u) (sym cause.0)
+          subst (λ (e : ConnEnd). EndsConnection setting a v e (base.xs ++ x ∷ []) c unheard [] c u) (sym cause.0)
           ((refl, refl), fault, closing x (refused fault) asks ends, cause.1)
 
   -- a connection that ended without a further whole reply
-  pub ends_by : (why : ConnEnd) (report : ConnReport) (c : Stand T) (after : ShownStream) → length told < REQUESTS
-      → (u : Wire) × (u.stream ≡ after) × Stops scene (is_last_request (length told)) b w why c u
+  pub ends_by : (why : ConnEnd) (report : ConnReport) (c : ConnStage T) (after : ShownStream) → length told < REQUESTS
+      → (u : Wire) × (u.stream ≡ after) × Stops setting (is_last_request (length told)) b w why c u
       → report.served.items ≡ told → report.end ≡ why
-      → (u : Wire) × (u.stream ≡ after) × ServesAll scene a v report c u
+      → (u : Wire) × (u.stream ≡ after) × ServesAll setting a v report c u
   ends_by why report c after few stops items is =
       let u : Wire = stops.0 in
-      let at : Stops scene (is_last_request (length base.xs)) b w why c u =
-      subst (λ (n : ℕ). Stops scene (is_last_request n) b w why c u) (sym same_length) stops.2 in (
+      let at : Stops setting (is_last_request (length base.xs)) b w why c u =
+      subst (λ (n : ℕ). Stops setting (is_last_request n) b w why c u) (sym same_length) stops.2 in (
         u,
         stops.1,
         record {
@@ -162,7 +169,7 @@ module _ {T : Type 0} (scene : Scene T) (a : Stand T) (v : Wire) (told : List Se
           leaves = at.leaves;
           flat = flat_leaves (flat_row base.xs b w base.row) at.leaves;
           tallies = told_tallies base.xs report.served.items c.share (base.told_is ∙ sym items) base.row at.leaves.share;
-          ends = subst (λ (e : ConnEnd). EndsConnection scene a v e base.xs b at.rest at.part c u) (sym is)
+          ends = subst (λ (e : ConnEnd). EndsConnection setting a v e base.xs b at.rest at.part c u) (sym is)
               (by_why u at.rest at.part why at.cause);
         },
       )
@@ -171,7 +178,7 @@ module _ {T : Type 0} (scene : Scene T) (a : Stand T) (v : Wire) (told : List Se
       short = subst (λ (n : ℕ). n < REQUESTS) (sym same_length) few
 
       by_why : (u : Wire) (rest : HeardFor) (part : List ℕ) (e : ConnEnd)
-          → StopsFor scene (is_last_request (length base.xs)) b w rest part c u e → EndsConnection scene a v e base.xs b rest part c u
+          → StopsFor setting (is_last_request (length base.xs)) b w rest part c u e → EndsConnection setting a v e base.xs b rest part c u
       by_why u rest part end.Closed cause =
           (short, cause.0, inr (record { goes = base.goes; none = cause.1; ended = cause.2 }))
       by_why u rest part end.Cut cause = (base.goes, cause.0, cause.1)
@@ -189,9 +196,9 @@ module _ {T : Type 0} (scene : Scene T) (a : Stand T) (v : Wire) (told : List Se
       by_why u rest part end.Limit cause = absurd cause
 
 -- no memory for the report or the reader: nothing was read or written
-pub ends_at_once : {T : Type 0} (scene : Scene T) (a : Stand T) (before : ShownStream) (report : ConnReport)
-    → report.served.items ≡ [] → report.end ≡ end.OutOfMemory → Serves scene a before report a before
-ends_at_once {T} scene a before report nothing is = (
+pub ends_at_once : {T : Type 0} (setting : ConnSetting T) (a : ConnStage T) (before : ShownStream) (report : ConnReport)
+    → report.served.items ≡ [] → report.end ≡ end.OutOfMemory → Serves setting a before report a before
+ends_at_once {T} setting a before report nothing is = (
   fresh_wire before,
   refl,
   record {
@@ -202,11 +209,11 @@ ends_at_once {T} scene a before report nothing is = (
     row = none;
     rest = unheard;
     part = [];
-    leaves = leaves_none scene a (fresh_wire before);
+    leaves = leaves_none setting a (fresh_wire before);
     flat = flat_row [] a (fresh_wire before) none;
     tallies = subst (λ (told : List Served). TalliesServed told a.share a.share) (sym nothing)
         (tallies_notes a.share a.share (notes_none a.share));
-    ends = subst (λ (why : ConnEnd). EndsConnection scene a (fresh_wire before) why [] a unheard [] a (fresh_wire before)) (sym is)
+    ends = subst (λ (why : ConnEnd). EndsConnection setting a (fresh_wire before) why [] a unheard [] a (fresh_wire before)) (sym is)
         (tt, refl, refl, inl (record { none = refl; stands = refl; stays = refl }));
   },
 )

@@ -15,6 +15,7 @@ use Rattle.tree_trait.specs.Heard.{Heard}
 use Rattle.tree_trait.specs.Shown.{ShownTree}
 use Rattle.http_wire.specs.Sink.{Appends}
 use Rattle.http_wire.specs.Source.{ComesFrom}
+use Rattle.http_wire.proofs.CallLemmas.{gains_nothing}
 use Rattle.answer_core.specs.Loads.{Hand, Hears}
 use Rattle.answer_core.proofs.HearLemmas.{hears_none, hears_then}
 use Rattle.answer_core.proofs.SinceLemmas.{StillTo, since}
@@ -22,12 +23,12 @@ use Rattle.federation.specs.AskAll.{all_heard}
 use Rattle.federation.specs.Heard.{LinkHeard, link_failed}
 use Rattle.federation.specs.Link.{ShownLink}
 use Rattle.conn_server.specs.Connection.{AreExchanges, GoOn, IsRow, LogsGrow, ExchangesRow, none, more, is_last_request, links_heard}
-use Rattle.conn_server.specs.Exchange.{Exchange, IsExchange, LeadsByExchange, LeavesUnanswered, LoadFailed, Moves, asked_for}
+use Rattle.conn_server.specs.Exchange.{Exchange, IsExchange, LeadsByExchange, LeavesUnanswered, LoadFailed, Moves, MovesInOrder, asked_for}
 use Rattle.conn_server.specs.Asked.{closes_after}
 use Rattle.conn_server.specs.Lawful.{AsksLinksFor}
 use Rattle.conn_server.specs.Links.{HeardFor, LinksFailed, LinksHear, all_parts, both_parts, hand_heard, unheard}
 use Rattle.conn_server.specs.Replies.{says_read_fault, says_upstream_fault}
-use Rattle.conn_server.specs.Scene.{Scene, Stand, Wire, hand_at}
+use Rattle.conn_server.specs.Stage.{ConnSetting, ConnStage, Wire, hand_at}
 use Rattle.conn_server.specs.declared.reason.Reason.{Reason}
 use Rattle.conn_server.specs.declared.reason.Reason.TheVariants as reason
 use Rattle.conn_server.proofs.CaseLemmas.{a_link_failed, case_at, finds_all}
@@ -39,16 +40,16 @@ use Rattle.conn_server.proofs.LinksLemmas.{all_more, both_none, counts_rose, fai
 zero_more : (n : ℕ) → n ≡ 0 + n
 zero_more n = omega arith
 
-are_more : {T : Type 0} (scene : Scene T) (at : Stand T) (place : ℕ) (xs : List Exchange) (x : Exchange)
-    → AreExchanges scene at place xs → IsExchange scene (is_last_request (place + length xs)) at x
-    → AreExchanges scene at place (xs ++ x ∷ [])
-are_more scene at place [] x a b =
+are_more : {T : Type 0} (setting : ConnSetting T) (at : ConnStage T) (place : ℕ) (xs : List Exchange) (x : Exchange)
+    → AreExchanges setting at place xs → IsExchange setting (is_last_request (place + length xs)) at x
+    → AreExchanges setting at place (xs ++ x ∷ [])
+are_more setting at place [] x a b =
     let same : place + length {A = Exchange} [] ≡ place = omega arith in
-    (subst (λ (p : ℕ). IsExchange scene (is_last_request p) at x) same b, tt)
-are_more scene at place (y ∷ xs) x a b =
+    (subst (λ (p : ℕ). IsExchange setting (is_last_request p) at x) same b, tt)
+are_more setting at place (y ∷ xs) x a b =
     let same : place + length (y ∷ xs) ≡ (place + 1) + length xs = omega arith in (
       a.0,
-      are_more scene at (place + 1) xs x a.1 (subst (λ (p : ℕ). IsExchange scene (is_last_request p) at x) same b),
+      are_more setting at (place + 1) xs x a.1 (subst (λ (p : ℕ). IsExchange setting (is_last_request p) at x) same b),
     )
 
 pub goes_more : (place : ℕ) (xs : List Exchange) (x : Exchange) → GoOn place xs
@@ -79,21 +80,7 @@ hears_append hand now later a b first second = hears_then first second (λ f. in
 
 is_fault_of : (why : Reason) (answers : List Heard) → says_read_fault why ≡ true → LoadFailed why answers
 is_fault_of reason.ReadFault answers e = tt
-is_fault_of reason.Local answers e = absurd (false≢true e)
-is_fault_of reason.Upstream answers e = absurd (false≢true e)
-is_fault_of reason.Metrics answers e = absurd (false≢true e)
-is_fault_of reason.BadHead answers e = absurd (false≢true e)
-is_fault_of reason.TooLarge answers e = absurd (false≢true e)
-is_fault_of reason.Method answers e = absurd (false≢true e)
-is_fault_of reason.Body answers e = absurd (false≢true e)
-is_fault_of reason.BadEscape answers e = absurd (false≢true e)
-is_fault_of reason.NoRoute answers e = absurd (false≢true e)
-is_fault_of reason.BadId answers e = absurd (false≢true e)
-is_fault_of reason.BadPath answers e = absurd (false≢true e)
-is_fault_of reason.HopLimit answers e = absurd (false≢true e)
-is_fault_of reason.NotFound answers e = absurd (false≢true e)
-is_fault_of reason.UpstreamFault answers e = absurd (false≢true e)
-is_fault_of reason.OutOfMemory answers e = absurd (false≢true e)
+is_fault_of _ answers e = absurd (false≢true e)
 
 -- a load failed for a request that was answered so
 counted : (x : Exchange) (now later : ℕ) → HasCause now later (LoadFailed x.served.reason x.answers)
@@ -112,16 +99,16 @@ counted x now later c =
 -- The links
 
 -- a link failed for a request that was answered so
-counted_link : {T : Type 0} (scene : Scene T) (last : Bool) (at : Stand T) (x : Exchange) (now later : List ShownLink)
-    → IsExchange scene last at x → LinksHear now x.links later
+counted_link : {T : Type 0} (setting : ConnSetting T) (last : Bool) (at : ConnStage T) (x : Exchange) (now later : List ShownLink)
+    → IsExchange setting last at x → LinksHear now x.links later
     → LinksFailed now (count_by (λ y. says_upstream_fault y.served.reason) (x ∷ [])) later
-counted_link scene last at x now later is hears =
+counted_link setting last at x now later is hears =
     counts_rose now later x.links (count_by (λ y. says_upstream_fault y.served.reason) (x ∷ [])) hears
     (by_test (says_upstream_fault x.served.reason) refl)
   where
     by_test : (b : Bool) → says_upstream_fault x.served.reason ≡ b → 0 + cond b 1 0 ≤ count_by link_failed (all_heard x.links)
     by_test true e =
-        let some = a_link_failed scene at x.own x.noted x.log x.request (length at.links) x.links is.lawful.is is.lawful.asks e in
+        let some = a_link_failed setting at x.own x.noted x.log x.request (length at.links) x.links is.lawful.is is.lawful.asks e in
         omega (arith, some)
     by_test false e = omega arith
 
@@ -157,7 +144,7 @@ pub appends_none : (a : Option (List ℕ)) → Appends a [] a
 appends_none None = λ some. refl
 appends_none (Some w) = λ some. ap (λ (l : List ℕ). Some l) (sym (append-nil w))
 
-moves_none : (v : Wire) → Moves [] [] v v
+abbrev moves_none : (v : Wire) → Moves [] [] v v
 moves_none v = record {
   came = [];
   comes = comes_none v.stream.left;
@@ -165,6 +152,12 @@ moves_none v = record {
   written = appends_none v.stream.written;
   read_faults = omega arith;
   write_faults = omega arith;
+}
+
+in_order_none : (v : Wire) → MovesInOrder [] [] v v
+in_order_none v = record {
+  moves = moves_none v;
+  order = record { given = []; taken = []; reads = refl; writes = refl; told = gains_nothing v.stream.calls; wanted = tt };
 }
 
 moves_then : {f g d e : List ℕ} {v w u : Wire} → Moves f d v w → Moves g e w u → Moves (f ++ g) (d ++ e) v u
@@ -192,16 +185,16 @@ moves_as {f} {f'} {d} {d'} {v} {w} same also m =
 
 -- All of them
 
-still_to : {T : Type 0} {scene : Scene T} {a b : Stand T} {v w : Wire} {xs : List Exchange} {rest : HeardFor}
-    {part : List ℕ} → IsRow scene a v xs rest part b w → StillTo (hand_at scene a) (scene.shows b.hand)
+still_to : {T : Type 0} {setting : ConnSetting T} {a b : ConnStage T} {v w : Wire} {xs : List Exchange} {rest : HeardFor}
+    {part : List ℕ} → IsRow setting a v xs rest part b w → StillTo (hand_at setting a) (setting.shows b.hand)
 still_to row still = row.hears.hands.still still
 
--- an exchange, as seen from an earlier stand
-pub exchange_at : {T : Type 0} (scene : Scene T) (last : Bool) (a b : Stand T) (x : Exchange)
-    → StillTo (hand_at scene a) (scene.shows b.hand) → length b.links ≡ length a.links → IsExchange scene last b x
-    → IsExchange scene last a x
-exchange_at scene last a b x keeps same is =
-    let case_ = case_at scene a b keeps x.log is.lawful.is in record {
+-- an exchange, as seen from an earlier stage
+pub exchange_at : {T : Type 0} (setting : ConnSetting T) (last : Bool) (a b : ConnStage T) (x : Exchange)
+    → StillTo (hand_at setting a) (setting.shows b.hand) → b.epoch ≡ a.epoch → length b.links ≡ length a.links
+    → IsExchange setting last b x → IsExchange setting last a x
+exchange_at setting last a b x keeps origin same is =
+    let case_ = case_at setting a b keeps origin x.log is.lawful.is in record {
       lawful = record {
         carried = is.lawful.carried;
         told = is.lawful.told;
@@ -210,15 +203,16 @@ exchange_at scene last a b x keeps same is =
         replied = is.lawful.replied;
         content = is.lawful.content;
       };
-      complete = finds_all scene a x.own x.noted x.log x.request case_;
+      complete = finds_all setting a x.own x.noted x.log x.request case_;
       fronts = is.fronts;
     }
 
-flat_none : {T : Type 0} (scene : Scene T) (a : Stand T) (v : Wire) → IsRow scene a v [] unheard [] a v
-flat_none scene a v = record {
+flat_none : {T : Type 0} (setting : ConnSetting T) (a : ConnStage T) (v : Wire) → IsRow setting a v [] unheard [] a v
+flat_none setting a v = record {
   are = tt;
   logs = prefix_self a.log;
-  hears = hears_none (hand_at scene a);
+  epoch = refl;
+  hears = hears_none (hand_at setting a);
   asks = links_none a.links;
   failed = omega arith;
   links_failed = inr (omega arith);
@@ -231,19 +225,20 @@ flat_one : {A : Type 0} (f : Exchange → List A) (xs : List Exchange) (x : Exch
 flat_one f xs x =
     flat_map-append f xs (x ∷ []) ∙ ap (λ l. flat_map f xs ++ l) (append-nil (f x))
 
-flat_more : {T : Type 0} {scene : Scene T} {a b c : Stand T} {v w u : Wire} {xs : List Exchange} (x : Exchange)
-    → IsRow scene a v xs unheard [] b w → IsExchange scene (is_last_request (length xs)) b x → LeadsByExchange scene x b c
-    → Moves x.front x.bytes w u → IsRow scene a v (xs ++ x ∷ []) unheard [] c u
-flat_more {T} {scene} {a} {b} {c} {v} {w} {u} {xs} x row is leads moves = record {
-  are = are_more scene a 0 xs x row.are (subst (λ (p : ℕ). IsExchange scene (is_last_request p) a x) (zero_more (length xs))
-      (exchange_at scene (is_last_request (length xs)) a b x (still_to row)
+flat_more : {T : Type 0} {setting : ConnSetting T} {a b c : ConnStage T} {v w u : Wire} {xs : List Exchange} (x : Exchange)
+    → IsRow setting a v xs unheard [] b w → IsExchange setting (is_last_request (length xs)) b x → LeadsByExchange setting x b c
+    → Moves x.front x.bytes w u → IsRow setting a v (xs ++ x ∷ []) unheard [] c u
+flat_more {T} {setting} {a} {b} {c} {v} {w} {u} {xs} x row is leads moves = record {
+  are = are_more setting a 0 xs x row.are (subst (λ (p : ℕ). IsExchange setting (is_last_request p) a x) (zero_more (length xs))
+      (exchange_at setting (is_last_request (length xs)) a b x (still_to row) row.epoch
       (same_links a.links b.links (both_parts (links_heard xs) []) row.asks) is));
   logs = subst (λ (log : List Change). LogsGrow a.log (xs ++ x ∷ []) log) leads.seen
       (logs_more a.log b.log xs x row.logs (subst (λ (log : List Change). IsPrefix b.log log) (sym leads.seen) leads.log));
-  hears = subst (λ (es : List Heard). Hears (hand_at scene a) (scene.shows c.hand) es ⊥)
+  epoch = leads.epoch ∙ row.epoch;
+  hears = subst (λ (es : List Heard). Hears (hand_at setting a) (setting.shows c.hand) es ⊥)
       (ap (λ (l : List Heard). l ++ asked_for x) (append-nil (flat_map asked_for xs))
       ∙ (sym (flat_one asked_for xs x) ∙ sym (append-nil (flat_map asked_for (xs ++ x ∷ [])))))
-      (hears_append (hand_at scene a) (scene.shows b.hand) (scene.shows c.hand) (flat_map asked_for xs ++ []) (asked_for x)
+      (hears_append (hand_at setting a) (setting.shows b.hand) (setting.shows c.hand) (flat_map asked_for xs ++ []) (asked_for x)
       row.hears leads.hand);
   asks = subst (λ (parts : List (List LinkHeard)). LinksHear a.links parts c.links)
       (ap (λ (parts : List (List LinkHeard)). both_parts parts x.links) (both_none (links_heard xs))
@@ -251,14 +246,14 @@ flat_more {T} {scene} {a} {b} {c} {v} {w} {u} {xs} x row is leads moves = record
       (links_then a.links b.links c.links (both_parts (links_heard xs) []) x.links row.asks leads.links);
   failed =
       let one = row.failed in
-      let two = counted x (scene.shows b.hand).faults (scene.shows c.hand).faults leads.hand.hands.cause in
+      let two = counted x (setting.shows b.hand).faults (setting.shows c.hand).faults leads.hand.hands.cause in
       let all = sum_by-append (λ (y : Exchange). cond (says_read_fault y.served.reason) 1 0) xs (x ∷ []) in
       omega (arith, one, two, all);
   links_failed = subst (λ (count : ℕ). LinksFailed a.links count c.links)
       (sym (sum_by-append (λ (y : Exchange). cond (says_upstream_fault y.served.reason) 1 0) xs (x ∷ [])))
       (failed_then a.links b.links c.links x.links (count_by (λ y. says_upstream_fault y.served.reason) xs)
       (count_by (λ y. says_upstream_fault y.served.reason) (x ∷ [])) leads.links row.links_failed
-      (counted_link scene (is_last_request (length xs)) b x b.links c.links is leads.links));
+      (counted_link setting (is_last_request (length xs)) b x b.links c.links is leads.links));
   moves = moves_as (sym (flat_one (λ y. y.front) xs x))
       (ap (λ (l : List ℕ). l ++ x.bytes) (append-nil (flat_map (λ y. y.bytes) xs))
       ∙ (sym (flat_one (λ y. y.bytes) xs x) ∙ sym (append-nil (flat_map (λ y. y.bytes) (xs ++ x ∷ [])))))
@@ -266,14 +261,15 @@ flat_more {T} {scene} {a} {b} {c} {v} {w} {u} {xs} x row is leads moves = record
 }
 
 -- what stands behind a row
-pub flat_leaves : {T : Type 0} {scene : Scene T} {a b c : Stand T} {v w u : Wire} {xs : List Exchange} {rest : HeardFor}
-    {part : List ℕ} → IsRow scene a v xs unheard [] b w → LeavesUnanswered scene rest part b w c u → IsRow scene a v xs rest part c u
-flat_leaves {T} {scene} {a} {b} {c} {v} {w} {u} {xs} {rest} {part} row leaves = record {
+pub flat_leaves : {T : Type 0} {setting : ConnSetting T} {a b c : ConnStage T} {v w u : Wire} {xs : List Exchange} {rest : HeardFor}
+    {part : List ℕ} → IsRow setting a v xs unheard [] b w → LeavesUnanswered setting rest part b w c u → IsRow setting a v xs rest part c u
+flat_leaves {T} {setting} {a} {b} {c} {v} {w} {u} {xs} {rest} {part} row leaves = record {
   are = row.are;
   logs = logs_later a.log b.log c.log xs row.logs leaves.log;
-  hears = subst (λ (es : List Heard). Hears (hand_at scene a) (scene.shows c.hand) es ⊥)
+  epoch = leaves.epoch ∙ row.epoch;
+  hears = subst (λ (es : List Heard). Hears (hand_at setting a) (setting.shows c.hand) es ⊥)
       (ap (λ (l : List Heard). l ++ hand_heard rest) (append-nil (flat_map asked_for xs)))
-      (hears_append (hand_at scene a) (scene.shows b.hand) (scene.shows c.hand) (flat_map asked_for xs ++ []) (hand_heard rest)
+      (hears_append (hand_at setting a) (setting.shows b.hand) (setting.shows c.hand) (flat_map asked_for xs ++ []) (hand_heard rest)
       row.hears leaves.hand);
   asks = subst (λ (parts : List (List LinkHeard)). LinksHear a.links parts c.links)
       (ap (λ (parts : List (List LinkHeard)). both_parts parts rest.links) (both_none (links_heard xs)))
@@ -286,21 +282,22 @@ flat_leaves {T} {scene} {a} {b} {c} {v} {w} {u} {xs} {rest} {part} row leaves = 
       row.links_failed;
   moves = moves_as (append-nil (flat_map (λ y. y.front) xs))
       (ap (λ (l : List ℕ). l ++ part) (append-nil (flat_map (λ y. y.bytes) xs)))
-      (moves_then row.moves leaves.moves);
+      (moves_then row.moves leaves.moves.moves);
 }
 
-pub leaves_none : {T : Type 0} (scene : Scene T) (a : Stand T) (v : Wire) → LeavesUnanswered scene unheard [] a v a v
-leaves_none scene a v = record {
+pub leaves_none : {T : Type 0} (setting : ConnSetting T) (a : ConnStage T) (v : Wire) → LeavesUnanswered setting unheard [] a v a v
+leaves_none setting a v = record {
   log = prefix_self a.log;
-  hand = hears_none (hand_at scene a);
+  epoch = refl;
+  hand = hears_none (hand_at setting a);
   links = links_none a.links;
   share = notes_none a.share;
-  moves = moves_none v;
+  moves = in_order_none v;
 }
 
 -- of a row all of them follow
-pub flat_row : {T : Type 0} {scene : Scene T} {a : Stand T} {v : Wire} (xs : List Exchange) (b : Stand T) (w : Wire)
-    → ExchangesRow scene a v xs b w → IsRow scene a v xs unheard [] b w
-flat_row {T} {scene} {a} {v} xs b w none = flat_none scene a v
-flat_row {T} {scene} {a} {v} xs b w (more ys c u x d t row is leads moves) =
-    flat_more x (flat_row ys c u row) is leads moves
+pub flat_row : {T : Type 0} {setting : ConnSetting T} {a : ConnStage T} {v : Wire} (xs : List Exchange) (b : ConnStage T) (w : Wire)
+    → ExchangesRow setting a v xs b w → IsRow setting a v xs unheard [] b w
+flat_row {T} {setting} {a} {v} xs b w none = flat_none setting a v
+flat_row {T} {setting} {a} {v} xs b w (more ys c u x d t row is leads moves) =
+    flat_more x (flat_row ys c u row) is leads moves.moves

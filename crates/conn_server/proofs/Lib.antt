@@ -6,6 +6,7 @@ pub mod DoorLemmas
 mod EndLemmas
 pub mod JoinLemmas
 pub mod LinksLemmas
+mod PageLemmas
 mod PiecesLemmas
 mod PlanLemmas
 mod SentLemmas

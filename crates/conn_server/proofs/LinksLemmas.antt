@@ -9,7 +9,7 @@ use Rattle.federation.specs.Heard.{LinkHeard, link_failed}
 use Rattle.federation.specs.Link.{ShownLink}
 use Rattle.federation.specs.declared.asking.TheConstants.{HOP_LIMIT}
 use Rattle.federation.specs.declared.asking.Upstream.{Upstream}
-use Rattle.federation.proofs.LinkLemmas.{gains_both}
+use Rattle.http_wire.proofs.CallLemmas.{gains_both}
 use Rattle.conn_server.specs.Links.{AsksEachLink, LinksFailed, LinksHear, SomeIsFull, all_parts, both_parts}
 
 -- Parts

@@ -21,6 +21,7 @@ use Rattle.tree_trait.specs.Heard.{Heard, IsNoRead, read_at}
 use Rattle.tree_trait.specs.Open.{RoomFacts, room_filled, room_failed}
 use Rattle.tree_trait.specs.Opened.{HoldsPicture}
 use Rattle.tree_trait.specs.Shown.{ShownTree}
+use Rattle.http_wire.specs.Calls.{AreCalls, took}
 use Rattle.http_wire.specs.Sink.{Appends, GetsAll, GetsPart}
 use Rattle.http_wire.specs.Stream.{ShownStream}
 use Rattle.http_wire.specs.declared.reply.ReplyFault.TheVariants as reply_fault
@@ -345,6 +346,8 @@ part_in bytes rest {before} {after} g =
       proper = omega (arith, less, all);
       appends = subst (λ (l : List ℕ). Appends before.written l after.written) (sym (take-append-le g.count bytes rest within))
           g.appends;
+      calls = subst (λ (l : List ℕ). AreCalls took l before.calls after.calls) (sym (take-append-le g.count bytes rest within))
+          g.calls;
       later = g.later;
       rose = g.rose;
       reading = g.reading;

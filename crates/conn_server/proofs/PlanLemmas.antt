@@ -10,9 +10,7 @@ use Rattle.conn_server.specs.declared.report.ConnEnd.{ConnEnd}
 -- a reply to bytes that are no head can be written
 pub can_refuse : (version : Versions) (fault : HeadFault) (what : TurnPlan) → PlansRefusal fault what → CanPlan version what
 can_refuse version (head_fault.Bad len) what is = subst (λ (p : TurnPlan). CanPlan version p) (sym is) tt
-can_refuse version head_fault.TooLong what is = subst (λ (p : TurnPlan). CanPlan version p) (sym is) tt
-can_refuse version head_fault.TooMany what is = subst (λ (p : TurnPlan). CanPlan version p) (sym is) tt
-can_refuse version (head_fault.Cut len) what is = subst (λ (p : TurnPlan). CanPlan version p) (sym is) tt
+can_refuse version _ what is = subst (λ (p : TurnPlan). CanPlan version p) (sym is) tt
 
 -- replies of one form
 pub replies_as : (decided : DecidedFacts) {close closes with_body sends : Bool} {why end : ConnEnd} → close ≡ closes

@@ -34,12 +34,8 @@ use Rattle.conn_server.proofs.PiecesLemmas.{part_in, pieces_of}
 -- what is known of a file that is carried doesn't depend on a generation
 pub carries_any : {F : Type 0} (opened : F → NameFacts) (version : Versions) (body : Body F) (m n : ℕ)
     → CanCarry version (body_facts opened m body) → CanCarry version (body_facts opened n body)
-carries_any opened version kept.Line m n can = tt
 carries_any opened version (kept.File from file path) m n can = can
-carries_any opened version (kept.Section from path) m n can = tt
-carries_any opened version (kept.Source bytes path) m n can = tt
-carries_any opened version (kept.Upstream given) m n can = tt
-carries_any opened version (kept.Page text) m n can = tt
+carries_any opened version _ m n can = tt
 
 -- ---- bytes that are held
 

@@ -1,6 +1,6 @@
--- What a request asks (this project's rule over RFC 9110, sections 9.3.1 and 9.3.2): the head, the method, the body and the
--- route are looked at in this order, and the first that isn't served decides.
-use Rattle.std.specs.Prelude.{◌≡◌, ℕ, ◌||◌, Bool, true, false, not, List, codes, Ok, Err}
+-- What a request asks (this project's rule over RFC 9110, sections 9.3.1 and 9.3.2): the head, the method, the body, the pages and
+-- the route are looked at in this order, and the first that isn't served decides; of the pages, the first that is asked.
+use Rattle.std.specs.Prelude.{◌≡◌, ℕ, ◌||◌, Bool, true, false, not, List, codes, Ok}
 use Rattle.std.specs.Str.{bytes_eq}
 use Rattle.httparse.specs.Grammar.{RequestHead}
 use Rattle.http_wire.specs.Fields.{closes, has_body, hops}
@@ -8,8 +8,7 @@ use Rattle.http_wire.specs.declared.head.Head.{Head}
 use Rattle.http_wire.specs.declared.head.HeadFault.{HeadFault}
 use Rattle.webapi_routes.specs.Targets.{IsSaidBy}
 use Rattle.webapi_routes.specs.declared.route.Route.{Route}
-use Rattle.conn_server.specs.declared.report.Asked as declared
-use Rattle.conn_server.specs.declared.report.Asked.TheVariants as asked
+use Rattle.conn_server.specs.Pages.{IsNoPage}
 
 -- what a reply to a head depends on: its method and target, whether it asks to close, whether a body follows, and how many
 -- forwarders it has passed
@@ -52,19 +51,15 @@ pub record IsTaken (head : HeadFacts) : Type 0 where
   pub method : is_served head.method ≡ true
   pub no_body : head.body ≡ false
 
+-- the route is looked at: the head is taken, and its target is one of no page
+pub record IsLookedUp (head : HeadFacts) : Type 0 where
+  pub taken : IsTaken head
+  pub no_page : IsNoPage head.target
+
 -- the head asks for the route
 pub record AsksForRoute (head : HeadFacts) (route : Route) : Type 0 where
-  pub taken : IsTaken head
+  pub looked : IsLookedUp head
   pub says : IsSaidBy head.target (Ok route)
-
--- what a request asks
-abbrev pub IsAsked : Request → declared.Asked → Type 0
-IsAsked (refused fault) (asked.Head given) = given ≡ fault
-IsAsked (readable head) asked.Method = is_served head.method ≡ false
-IsAsked (readable head) asked.Body = (is_served head.method ≡ true) × (head.body ≡ true)
-IsAsked (readable head) (asked.NotRoute fault) = IsTaken head × IsSaidBy head.target (Err fault)
-IsAsked (readable head) (asked.Route route) = IsTaken head × IsSaidBy head.target (Ok route)
-IsAsked _ _ = ⊥
 
 -- whether the reply has its body
 abbrev pub sends_body : Request → Bool

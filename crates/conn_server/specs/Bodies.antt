@@ -11,12 +11,12 @@ use Rattle.conn_server.specs.declared.decide.Decided.{Decided}
 use Rattle.conn_server.specs.declared.reason.Reason.{Reason}
 use Rattle.conn_server.specs.declared.report.Asked.{Asked}
 
--- what is carried: the line of a reason, what passed here, what passed of a link's answer, or the page of the counters
+-- what is carried: the line of a reason, what passed here, what passed of a link's answer, or the text of a page
 pub data BodyFacts : Type 0 where
   own_line : BodyFacts
   found_here : (answer : LocalFacts) → BodyFacts
   found_upstream : (given : Passed) → BodyFacts
-  counters_page : (text : String Global) → BodyFacts
+  page_text : (text : String Global) → BodyFacts
 
 -- what is carried, by the path and the stamp with which files were opened; what passed here has this generation
 abbrev pub body_facts : {F : Type 0} → (F → NameFacts) → ℕ → Body F → BodyFacts
@@ -25,7 +25,7 @@ body_facts opened n (kept.File from file path) = found_here (file_found from (op
 body_facts opened n (kept.Section from path) = found_here (section_found from path n)
 body_facts opened n (kept.Source bytes path) = found_here (source_found bytes.items path n)
 body_facts opened n (kept.Upstream given) = found_upstream given
-body_facts opened n (kept.Page text) = counters_page text
+body_facts opened n (kept.Page text) = page_text text
 
 -- what is asked, why it gets its reply, the length of the index's log as it was asked, and what the reply carries
 pub record DecidedFacts : Type 0 where

@@ -16,10 +16,11 @@ use Rattle.dbgd_metrics.specs.Totals.{IsPage}
 use Rattle.federation.specs.Rows.{upstream_given}
 use Rattle.federation.specs.declared.asking.Upstream.{Upstream}
 use Rattle.federation.specs.declared.asking.Upstream.TheVariants as links
-use Rattle.conn_server.specs.Asked.{AsksForRoute, HeadFacts, IsTaken, Request, is_served, readable, refused}
-use Rattle.conn_server.specs.Bodies.{BodyFacts, own_line, found_here, found_upstream, counters_page}
+use Rattle.conn_server.specs.Asked.{AsksForRoute, HeadFacts, IsLookedUp, IsTaken, Request, is_served, readable, refused}
+use Rattle.conn_server.specs.Bodies.{BodyFacts, DecidedFacts, own_line, found_here, found_upstream, page_text}
+use Rattle.conn_server.specs.Pages.{IsPageReply}
 use Rattle.conn_server.specs.Replies.{reason_of_route}
-use Rattle.conn_server.specs.Scene.{Scene, Stand, sight_at}
+use Rattle.conn_server.specs.Stage.{ConnSetting, ConnStage, page_at, sight_at}
 use Rattle.conn_server.specs.declared.reason.Reason.{Reason}
 use Rattle.conn_server.specs.declared.reason.Reason.TheVariants as reason
 use Rattle.conn_server.specs.declared.report.Asked as declared
@@ -53,7 +54,8 @@ generation_of (nothing_found generation) = generation
 generation_of (fault_found generation) = generation
 generation_of no_memory_found = 0
 
--- the routes that a file answers
+-- the routes that a file answers; what the loads gave is the reply to these alone, so that no other route can be answered with 'not
+-- found' by them
 abbrev pub IsFileRoute : Route → Type 0
 IsFileRoute (route.Debuginfo id) = Unit {0}
 IsFileRoute (route.Executable id) = Unit {0}
@@ -64,51 +66,54 @@ IsFileRoute route.Metrics = ⊥
 -- what is asked, the reason of the reply, its generation, what it carries, what the hand was asked and answered for it, and what
 -- was told of the links, if they were to be asked; the page of the counters is by the own share as it was then, and by the loads
 -- that it has noted behind it
-pub data IsCase {T : Type 0} (scene : Scene T) (at : Stand T) (own noted : ShareFacts) (log : List Change) (request : Request)
+pub data IsCase {T : Type 0} (setting : ConnSetting T) (at : ConnStage T) (own noted : ShareFacts) (log : List Change) (request : Request)
     : declared.Asked → Reason → ℕ → BodyFacts → List Heard → Option Upstream → Type 0 where
   bad_head : (len : ℕ) → request ≡ refused (head_fault.Bad len)
-      → IsCase scene at own noted log request (asked.Head (head_fault.Bad len)) reason.BadHead 0 own_line [] None
+      → IsCase setting at own noted log request (asked.Head (head_fault.Bad len)) reason.BadHead 0 own_line [] None
   too_long : request ≡ refused head_fault.TooLong
-      → IsCase scene at own noted log request (asked.Head head_fault.TooLong) reason.TooLarge 0 own_line [] None
+      → IsCase setting at own noted log request (asked.Head head_fault.TooLong) reason.TooLarge 0 own_line [] None
   too_many : request ≡ refused head_fault.TooMany
-      → IsCase scene at own noted log request (asked.Head head_fault.TooMany) reason.TooLarge 0 own_line [] None
+      → IsCase setting at own noted log request (asked.Head head_fault.TooMany) reason.TooLarge 0 own_line [] None
   method : (head : HeadFacts) → request ≡ readable head → is_served head.method ≡ false
-      → IsCase scene at own noted log request asked.Method reason.Method 0 own_line [] None
+      → IsCase setting at own noted log request asked.Method reason.Method 0 own_line [] None
   has_body : (head : HeadFacts) → request ≡ readable head → is_served head.method ≡ true → head.body ≡ true
-      → IsCase scene at own noted log request asked.Body reason.Body 0 own_line [] None
-  no_route : (head : HeadFacts) (fault : RouteFault) → request ≡ readable head → IsTaken head
+      → IsCase setting at own noted log request asked.Body reason.Body 0 own_line [] None
+  page : (head : HeadFacts) (decided : DecidedFacts) → request ≡ readable head → IsTaken head
+      → IsPageReply (page_at setting at log) head.target decided
+      → IsCase setting at own noted log request decided.asked decided.reason decided.generation decided.body [] None
+  no_route : (head : HeadFacts) (fault : RouteFault) → request ≡ readable head → IsLookedUp head
       → IsSaidBy head.target (Err fault)
-      → IsCase scene at own noted log request (asked.NotRoute fault) (reason_of_route fault) 0 own_line [] None
+      → IsCase setting at own noted log request (asked.NotRoute fault) (reason_of_route fault) 0 own_line [] None
   metrics : (head : HeadFacts) (text : String Global) → request ≡ readable head → AsksForRoute head route.Metrics
-      → IsPage scene.rows own noted (string_bytes text)
-      → IsCase scene at own noted log request (asked.Route route.Metrics) reason.Metrics 0 (counters_page text) [] None
+      → IsPage setting.rows own noted (string_bytes text)
+      → IsCase setting at own noted log request (asked.Route route.Metrics) reason.Metrics 0 (page_text text) [] None
   no_page : (head : HeadFacts) → request ≡ readable head → AsksForRoute head route.Metrics
-      → IsCase scene at own noted log request (asked.Route route.Metrics) reason.OutOfMemory 0 own_line [] None
+      → IsCase setting at own noted log request (asked.Route route.Metrics) reason.OutOfMemory 0 own_line [] None
   passed : (head : HeadFacts) (route : Route) (answer : LocalFacts) (answers : List Heard) → request ≡ readable head
-      → AsksForRoute head route → IsFileRoute route → IsLocal (sight_at scene at log answers) route answer → IsPassed answer
-      → IsCase scene at own noted log request (asked.Route route) reason.Local (generation_of answer) (found_here answer) answers None
+      → AsksForRoute head route → IsFileRoute route → IsLocal (sight_at setting at log answers) route answer → IsPassed answer
+      → IsCase setting at own noted log request (asked.Route route) reason.Local (generation_of answer) (found_here answer) answers None
   upstream : (head : HeadFacts) (route : Route) (answer : LocalFacts) (answers : List Heard) (given : Passed) → request ≡ readable head
-      → AsksForRoute head route → IsFileRoute route → IsLocal (sight_at scene at log answers) route answer → IsUnfound answer
-      → IsCase scene at own noted log request (asked.Route route) reason.Upstream (generation_of answer) (found_upstream given) answers
+      → AsksForRoute head route → IsFileRoute route → IsLocal (sight_at setting at log answers) route answer → IsUnfound answer
+      → IsCase setting at own noted log request (asked.Route route) reason.Upstream (generation_of answer) (found_upstream given) answers
       (Some (upstream_given given))
   read_fault : (head : HeadFacts) (route : Route) (n : ℕ) (answers : List Heard) (told : Upstream) → request ≡ readable head
-      → AsksForRoute head route → IsFileRoute route → IsLocal (sight_at scene at log answers) route (fault_found n)
+      → AsksForRoute head route → IsFileRoute route → IsLocal (sight_at setting at log answers) route (fault_found n)
       → NothingPassed told
-      → IsCase scene at own noted log request (asked.Route route) reason.ReadFault n own_line answers (Some told)
+      → IsCase setting at own noted log request (asked.Route route) reason.ReadFault n own_line answers (Some told)
   hop_limit : (head : HeadFacts) (route : Route) (n : ℕ) (answers : List Heard) → request ≡ readable head
-      → AsksForRoute head route → IsFileRoute route → IsLocal (sight_at scene at log answers) route (nothing_found n)
-      → IsCase scene at own noted log request (asked.Route route) reason.HopLimit n own_line answers (Some links.HopLimit)
+      → AsksForRoute head route → IsFileRoute route → IsLocal (sight_at setting at log answers) route (nothing_found n)
+      → IsCase setting at own noted log request (asked.Route route) reason.HopLimit n own_line answers (Some links.HopLimit)
   upstream_fault : (head : HeadFacts) (route : Route) (n : ℕ) (answers : List Heard) (others failed : ℕ) → request ≡ readable head
-      → AsksForRoute head route → IsFileRoute route → IsLocal (sight_at scene at log answers) route (nothing_found n) → 0 < failed
-      → IsCase scene at own noted log request (asked.Route route) reason.UpstreamFault n own_line answers
+      → AsksForRoute head route → IsFileRoute route → IsLocal (sight_at setting at log answers) route (nothing_found n) → 0 < failed
+      → IsCase setting at own noted log request (asked.Route route) reason.UpstreamFault n own_line answers
       (Some (links.Nobody others failed))
   not_found : (head : HeadFacts) (route : Route) (n : ℕ) (answers : List Heard) (others : ℕ) → request ≡ readable head
-      → AsksForRoute head route → IsFileRoute route → IsLocal (sight_at scene at log answers) route (nothing_found n)
-      → IsCase scene at own noted log request (asked.Route route) reason.NotFound n own_line answers
+      → AsksForRoute head route → IsFileRoute route → IsLocal (sight_at setting at log answers) route (nothing_found n)
+      → IsCase setting at own noted log request (asked.Route route) reason.NotFound n own_line answers
       (Some (links.Nobody others 0))
   no_memory : (head : HeadFacts) (route : Route) (answers : List Heard) → request ≡ readable head
-      → AsksForRoute head route → IsFileRoute route
-      → IsCase scene at own noted log request (asked.Route route) reason.OutOfMemory 0 own_line answers None
+      → AsksForRoute head route → IsFileRoute route → IsLocal (sight_at setting at log answers) route no_memory_found
+      → IsCase setting at own noted log request (asked.Route route) reason.OutOfMemory 0 own_line answers None
   links_memory : (head : HeadFacts) (route : Route) (answer : LocalFacts) (answers : List Heard) → request ≡ readable head
-      → AsksForRoute head route → IsFileRoute route → IsLocal (sight_at scene at log answers) route answer → IsUnfound answer
-      → IsCase scene at own noted log request (asked.Route route) reason.OutOfMemory 0 own_line answers (Some links.OutOfMemory)
+      → AsksForRoute head route → IsFileRoute route → IsLocal (sight_at setting at log answers) route answer → IsUnfound answer
+      → IsCase setting at own noted log request (asked.Route route) reason.OutOfMemory 0 own_line answers (Some links.OutOfMemory)

@@ -14,12 +14,12 @@ use Rattle.federation.specs.Link.{ShownLink}
 use Rattle.federation.specs.declared.asking.Upstream.{Upstream}
 use Rattle.federation.specs.declared.asking.Upstream.TheVariants as upstream
 use Rattle.conn_server.specs.Asked.{AsksForRoute, HeadFacts, Request, readable}
-use Rattle.conn_server.specs.Bodies.{BodyFacts, DecidedFacts, own_line, found_here, found_upstream, counters_page}
+use Rattle.conn_server.specs.Bodies.{BodyFacts, DecidedFacts, own_line, found_here, found_upstream, page_text}
 use Rattle.conn_server.specs.Cases.{IsCase}
 use Rattle.conn_server.specs.Exchange.{LoadFailed}
 use Rattle.conn_server.specs.Lawful.{AsksLinksFor}
 use Rattle.conn_server.specs.Links.{LinksHear}
-use Rattle.conn_server.specs.Scene.{Scene, Stand, hand_at}
+use Rattle.conn_server.specs.Stage.{ConnSetting, ConnStage, hand_at}
 use Rattle.conn_server.specs.declared.reason.Reason.{Reason}
 use Rattle.conn_server.specs.declared.reason.Reason.TheVariants as reason
 use Rattle.conn_server.specs.declared.report.Asked as given
@@ -73,24 +73,24 @@ FollowsLocal olds route hops no_memory_found decided news =
 
 -- what is decided by the page of the counters, where there is memory for it
 abbrev pub by_page : {E : Type 0} → Result (String Global) E → DecidedFacts
-by_page (Ok text) = for_route Metrics reason.Metrics 0 (counters_page text)
+by_page (Ok text) = for_route Metrics reason.Metrics 0 (page_text text)
 by_page (Err fault) = for_route Metrics reason.OutOfMemory 0 own_line
 
 -- what is decided for a request is a case of the table, by the objects as they stood and by what they were asked and answered
 pub record Decides
-    {T : Type 0} (scene : Scene T) (before : Stand T) (request : Request) (decided : DecidedFacts) (after : Stand T)
+    {T : Type 0} (setting : ConnSetting T) (before : ConnStage T) (request : Request) (decided : DecidedFacts) (after : ConnStage T)
     : Type 0 where
   pub answers : List Heard
   pub parts : List (List LinkHeard)
   pub told : Option Upstream
-  pub hears : Hears (hand_at scene before) (scene.shows after.hand) answers (LoadFailed decided.reason answers)
+  pub hears : Hears (hand_at setting before) (setting.shows after.hand) answers (LoadFailed decided.reason answers)
   pub links : LinksHear before.links parts after.links
   pub asks : AsksLinksFor told (length before.links) request decided.asked parts
   pub notes : OnlyNotes before.share after.share
-  pub is : IsCase scene before before.share after.share after.log request decided.asked decided.reason decided.generation decided.body
+  pub is : IsCase setting before before.share after.share after.log request decided.asked decided.reason decided.generation decided.body
       answers told
 
 -- the same of whichever head asks for this route with these hops
-abbrev pub DecidesRoute : {T : Type 0} → Scene T → Stand T → Route → ℕ → DecidedFacts → Stand T → Type 0
-DecidesRoute scene before route hops decided after =
-    (head : HeadFacts) → AsksForRoute head route → head.hops ≡ hops → Decides scene before (readable head) decided after
+abbrev pub DecidesRoute : {T : Type 0} → ConnSetting T → ConnStage T → Route → ℕ → DecidedFacts → ConnStage T → Type 0
+DecidesRoute setting before route hops decided after =
+    (head : HeadFacts) → AsksForRoute head route → head.hops ≡ hops → Decides setting before (readable head) decided after

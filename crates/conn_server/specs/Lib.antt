@@ -33,11 +33,13 @@ pub mod Doors
 pub mod Exchange
 pub mod Lawful
 pub mod Links
+pub mod Objects
+pub mod Pages
 pub mod PassedOver
 pub mod Pieces
 pub mod Plans
 pub mod Replies
-pub mod Scene
 pub mod Sent
+pub mod Stage
 pub mod Tallied
 pub mod Turns

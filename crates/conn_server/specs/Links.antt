@@ -12,7 +12,8 @@ use Rattle.federation.specs.declared.asking.Upstream.{Upstream}
 use Rattle.federation.specs.declared.asking.Upstream.TheVariants.{HopLimit}
 
 -- what was asked for a request and answered: of the hand, to find the answer and while the reply was written, and of each link a
--- part; no part where no link was to be asked
+-- part; no part where no link was to be asked. Parts, and not one list of questions in the order of time: who is asked what, and in
+-- which order, is said over them
 pub record HeardFor : Type 0 where
   pub answers : List Heard
   pub sent : List Heard

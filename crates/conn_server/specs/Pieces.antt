@@ -36,7 +36,8 @@ abbrev pub asked_len : RoomFacts → ℕ
 asked_len (room_filled bytes) = length bytes
 asked_len (room_failed len) = len
 
--- a path and a stamp name one content, as they do in a told world
+-- a path and a stamp name one content, as they do in a told world; that no change is told, and that a body is the content, is said
+-- where they do, and not of a told world, for each of which a law of `Truth` gives it
 abbrev pub NamesOneContent : Versions → Type 0
 NamesOneContent version =
     (path : List ℕ) (stamp : StampFacts) (a b : List ℕ) → version path stamp a → version path stamp b → a ≡ b
@@ -55,7 +56,8 @@ abbrev pub byte_change : ℕ → ℕ → ℕ → Difference
 byte_change at checked seen = record { at = at; checked = checked; seen = seen }
 
 -- why a piece of a file isn't written, by what the read of it answered: the read failed, and the hand's count rose; or the first
--- byte that isn't the one that was checked is this one, which no file has where a path and a stamp name one content
+-- byte that isn't the one that was checked is this one, which no file has where a path and a stamp name one content. That the count
+-- rose is said from the moment on at which the request came, as of its loads
 abbrev pub IsBodyCause : Hand → PictureFacts → ℕ → RoomFacts → ShownTree → BodyCause → Type 0
 IsBodyCause hand p at (room_failed len) now cause.ReadFault = Rose hand.start.faults now.faults
 IsBodyCause hand p at (room_filled bytes) now (cause.Changed place checked seen) =

@@ -1,4 +1,4 @@
--- Replies (this project's rule): the status and the text of each reason (RFC 9110, section 15; RFC 6585, section 5).
+-- Replies (this project's rule): a row for each reason (RFC 9110, section 15; RFC 6585, section 5).
 use Rattle.std.specs.Prelude.{◌≡◌, ℕ, Bool, true, false, List, [], codes, length, Option, Some, None, string_bytes}
 use Rattle.file_formats.specs.Table.{IsSectionAnswer}
 use Rattle.file_picture.specs.Agrees.{AgreesWithPicture}
@@ -11,47 +11,42 @@ use Rattle.webapi_routes.specs.declared.fault.RouteFault.TheVariants as route_fa
 use Rattle.answer_check.specs.declared.passed.Passed.{Passed}
 use Rattle.answer_check.specs.declared.passed.Passed.TheVariants as passing
 use Rattle.answer_core.specs.Local.{LocalFacts, file_found, section_found, source_found}
-use Rattle.conn_server.specs.Bodies.{BodyFacts, own_line, found_here, found_upstream, counters_page}
+use Rattle.conn_server.specs.Bodies.{BodyFacts, own_line, found_here, found_upstream, page_text}
 use Rattle.conn_server.specs.declared.reason.Reason.{Reason}
 use Rattle.conn_server.specs.declared.reason.Reason.TheVariants as reason
 
+-- what a reason makes of its reply: the status, whether the body is told to be a text, and the line that is the body
+pub record ReasonRow : Type 0 where
+  pub status : ℕ
+  pub text : Bool
+  pub line : List ℕ
+
+-- the row of these
+abbrev pub reason_row : ℕ → Bool → List ℕ → ReasonRow
+reason_row status text line = record { status = status; text = text; line = line }
+
+-- the row of each reason; what passed and the counters have no line
+abbrev pub row_of : Reason → ReasonRow
+row_of reason.Local = reason_row 200 false []
+row_of reason.Upstream = reason_row 200 false []
+row_of reason.Metrics = reason_row 200 true []
+row_of reason.BadHead = reason_row 400 true (codes "bad request\n")
+row_of reason.TooLarge = reason_row 431 true (codes "too large\n")
+row_of reason.Method = reason_row 405 true (codes "bad method\n")
+row_of reason.Body = reason_row 400 true (codes "request body\n")
+row_of reason.BadEscape = reason_row 400 true (codes "bad escape\n")
+row_of reason.NoRoute = reason_row 404 true (codes "no route\n")
+row_of reason.BadId = reason_row 400 true (codes "bad build-id\n")
+row_of reason.BadPath = reason_row 400 true (codes "bad path\n")
+row_of reason.HopLimit = reason_row 404 true (codes "hop limit\n")
+row_of reason.NotFound = reason_row 404 true (codes "not found\n")
+row_of reason.UpstreamFault = reason_row 502 true (codes "upstream fault\n")
+row_of reason.ReadFault = reason_row 503 true (codes "read fault\n")
+row_of reason.OutOfMemory = reason_row 507 true (codes "out of memory\n")
+
 -- the status of a reason
 abbrev pub status_of : Reason → ℕ
-status_of reason.Local = 200
-status_of reason.Upstream = 200
-status_of reason.Metrics = 200
-status_of reason.BadHead = 400
-status_of reason.TooLarge = 431
-status_of reason.Method = 405
-status_of reason.Body = 400
-status_of reason.BadEscape = 400
-status_of reason.NoRoute = 404
-status_of reason.BadId = 400
-status_of reason.BadPath = 400
-status_of reason.HopLimit = 404
-status_of reason.NotFound = 404
-status_of reason.UpstreamFault = 502
-status_of reason.ReadFault = 503
-status_of reason.OutOfMemory = 507
-
--- the text of a reason; what passed and the counters have none
-abbrev pub reason_text : Reason → List ℕ
-reason_text reason.Local = []
-reason_text reason.Upstream = []
-reason_text reason.Metrics = []
-reason_text reason.BadHead = codes "bad request\n"
-reason_text reason.TooLarge = codes "too large\n"
-reason_text reason.Method = codes "bad method\n"
-reason_text reason.Body = codes "request body\n"
-reason_text reason.BadEscape = codes "bad escape\n"
-reason_text reason.NoRoute = codes "no route\n"
-reason_text reason.BadId = codes "bad build-id\n"
-reason_text reason.BadPath = codes "bad path\n"
-reason_text reason.HopLimit = codes "hop limit\n"
-reason_text reason.NotFound = codes "not found\n"
-reason_text reason.UpstreamFault = codes "upstream fault\n"
-reason_text reason.ReadFault = codes "read fault\n"
-reason_text reason.OutOfMemory = codes "out of memory\n"
+status_of why = (row_of why).status
 
 -- whether a reply says that a load failed
 abbrev pub says_read_fault : Reason → Bool
@@ -93,25 +88,19 @@ ShowsGiven (passing.File from) bytes = bytes ≡ from.bytes
 ShowsGiven (passing.Section from) bytes = IsSectionAnswer from.file.bytes from.name (Some bytes)
 ShowsGiven (passing.Source source) bytes = bytes ≡ source.items
 
--- the bytes of what a reply carries, and the path that it is told to come from: a line of text, the page of the counters, or
+-- the bytes of what a reply carries, and the path that it is told to come from: a line of text, the text of a page, or
 -- what passed of a link's answer, without one; or what passed here
 abbrev pub Shows : Reason → BodyFacts → List ℕ → Option (List ℕ) → Type 0
-Shows why own_line bytes file = (bytes ≡ reason_text why) × (file ≡ None)
+Shows why own_line bytes file = (bytes ≡ (row_of why).line) × (file ≡ None)
 Shows why (found_here answer) bytes file = ShowsPassed answer bytes file
 Shows why (found_upstream given) bytes file = ShowsGiven given bytes × (file ≡ None)
-Shows why (counters_page text) bytes file = (bytes ≡ string_bytes text) × (file ≡ None)
-
--- whether the reply of a reason is a text
-abbrev pub is_text : Reason → Bool
-is_text reason.Local = false
-is_text reason.Upstream = false
-is_text _ = true
+Shows why (page_text text) bytes file = (bytes ≡ string_bytes text) × (file ≡ None)
 
 -- the head of a reply with a body of so many bytes
 abbrev pub reply_head : Reason → ℕ → Option (List ℕ) → Bool → ReplyHead
 reply_head why len file close = record {
   status = status_of why;
-  text = is_text why;
+  text = (row_of why).text;
   len = len;
   file = file;
   close = close;

@@ -72,6 +72,7 @@ abbrev pub CanCarry : Versions → BodyFacts → Type 0
 CanCarry version (found_here (file_found from name path generation)) = HoldsPicture version name.path name.stamp from.picture
 CanCarry version _ = Unit {0}
 
+-- the same of what is decided
 abbrev pub CanSend : Versions → DecidedFacts → Type 0
 CanSend version decided = CanCarry version decided.body
 

@@ -3,17 +3,21 @@
 ghost use Rattle.std.specs.Prelude.{◌≡◌, ◌≤◌, [], false, map, vec_capacity};
 ghost use Rattle.index_lock.specs.Tokens.{IsLater};
 ghost use Rattle.conn_server.specs.Connection.{Serves};
+ghost use Rattle.conn_server.specs.Objects.{StayLent, setting_by, stage_by};
 ghost use Rattle.conn_server.specs.Tallied.{HasRowIn};
-ghost use Rattle.conn_server.specs.Scene.{scene_of, stand_of};
+ghost use Rattle.conn_server.specs.Stage.{conn_setting, stage_with};
 
-use crate::desk::{Desk, open_desk};
+use crate::buffers::{Buffers, new_buffers};
+use crate::lend::lend;
+use crate::objects::Objects;
 use crate::pieces::PIECE;
 use crate::report::{ConnEnd, ConnReport, Served};
 use crate::service::Service;
-use crate::turn::{Turn, next_turn};
+use crate::turn::{ConnTurn, next_turn};
 use dbgd_metrics::{Book, Share};
 use federation::Link;
 use http_wire::{Sink, Source};
+use index_desk::Desk;
 use index_keeper::Keeper;
 use index_lock::{Seat, TurnLock};
 use index_state::State;
@@ -21,13 +25,6 @@ use row_types::{CanonPath, Truth};
 use std::alloc::Global;
 use std::sync::Wait;
 use tree_trait::{Gate, Point, Tree};
-
-/// The memory of a connection, which is taken before the first read.
-#[derive(Drop)]
-struct Room {
-    desk: Desk,
-    served: Vec<Served>,
-}
 
 /// The largest number of requests that a connection has.
 pub const REQUESTS: usize = 100;
@@ -65,27 +62,27 @@ pub fn serve_connection<
     ensures later { IsLater seat result.0 }
     ensures share { HasRowIn book.now share.new }
     ensures serves { Serves
-        (scene_of W.true_row T.told W.version T.shows folders.now book.now.rows)
-        (stand_of seat.seen hand.old share.old (map L.shows links.old)) (N.shows conn.old) result.1
-        (stand_of result.0.seen hand.new share.new (map L.shows links.new)) (N.shows conn.new) }
+        (conn_setting W.true_row T.told W.version T.shows folders.now book.now.rows)
+        (stage_with seat hand.old share.old (map L.shows links.old)) (N.shows conn.old) result.1
+        (stage_with result.0 hand.new share.new (map L.shows links.new)) (N.shows conn.new) }
     ensures requests { REQUESTS ≡ 100 }
     ensures pieces { PIECE ≡ 65536 }
 {
     let service = Service {
         rt,
         alloc,
-        lock,
         folders,
-        book,
         number,
         gate,
-        last: false,
     };
-    serve_by(&service, seat, hand, links, share, conn)
+    let mut objects = lend(hand, links, book, share);
+    let (desk, report) = serve_by(&service, Desk { lock, seat }, &mut objects, conn);
+    (desk.seat, report)
 }
 
 /// Answers the requests, where there is memory for the report and for what is read into.
 pub(crate) fn serve_by<
+    'd,
     W: Truth,
     K: Keeper<W>,
     T: Tree<W>,
@@ -94,30 +91,23 @@ pub(crate) fn serve_by<
     G: Gate,
     R: Wait + Sync,
 >(
-    service: &Service<'_, W, K, G, R>,
-    seat: Seat<State<W, K>>,
-    hand: &mut T,
-    links: &mut [L],
-    share: &mut Share,
+    service: &Service<'_, G, R>,
+    desk: Desk<'d, W, K>,
+    objects: &mut Objects<'_, T, L>,
     conn: &mut N,
-) -> (Seat<State<W, K>>, ConnReport)
-    requires lock { seat.lock ≡ service.now.lock.now }
-    requires share { HasRowIn service.now.book.now share.old }
-    ensures later { IsLater seat result.0 }
-    ensures share { HasRowIn service.now.book.now share.new }
-    ensures serves { Serves (scene_of W.true_row T.told W.version T.shows service.now.folders.now
-        service.now.book.now.rows)
-        (stand_of seat.seen hand.old share.old (map L.shows links.old)) (N.shows conn.old) result.1
-        (stand_of result.0.seen hand.new share.new (map L.shows links.new)) (N.shows conn.new) }
+) -> (Desk<'d, W, K>, ConnReport)
+    ensures later { IsLater desk.entry.seat result.0.seat }
+    ensures same { StayLent objects.old objects.new }
+    ensures serves { Serves
+        (setting_by W.true_row T.told W.version T.shows service.now.folders.now objects.old)
+        (stage_by L.shows desk.entry.seat objects.old) (N.shows conn.old) result.1
+        (stage_by L.shows result.0.seat objects.new) (N.shows conn.new) }
 {
     let alloc = service.alloc;
-    match (Vec::with_capacity(alloc, REQUESTS), open_desk(alloc)) {
-        (Ok(served), Ok(desk)) => {
-            let room = Room { desk, served };
-            serve_all(service, seat, hand, links, share, conn, room)
-        }
+    match (Vec::with_capacity(alloc, REQUESTS), new_buffers(alloc)) {
+        (Ok(served), Ok(buffers)) => serve_all(service, desk, objects, conn, buffers, served),
         _ => (
-            seat,
+            desk,
             ConnReport {
                 served: Vec::new(alloc),
                 end: ConnEnd::OutOfMemory,
@@ -128,6 +118,7 @@ pub(crate) fn serve_by<
 
 /// Answers the requests into the room that was made.
 fn serve_all<
+    'd,
     W: Truth,
     K: Keeper<W>,
     T: Tree<W>,
@@ -136,56 +127,40 @@ fn serve_all<
     G: Gate,
     R: Wait + Sync,
 >(
-    service: &Service<'_, W, K, G, R>,
-    seat: Seat<State<W, K>>,
-    hand: &mut T,
-    links: &mut [L],
-    share: &mut Share,
+    service: &Service<'_, G, R>,
+    desk: Desk<'d, W, K>,
+    objects: &mut Objects<'_, T, L>,
     conn: &mut N,
-    room: Room,
-) -> (Seat<State<W, K>>, ConnReport)
-    requires seat { seat.lock ≡ service.now.lock.now }
-    requires share { HasRowIn service.now.book.now share.old }
-    requires fresh { room.desk.reader ≡ record { all = []; held = []; over = false } }
-    requires none { room.served.items ≡ [] }
-    requires room { REQUESTS ≤ vec_capacity room.served }
-    ensures later { IsLater seat result.0 }
-    ensures share { HasRowIn service.now.book.now share.new }
-    ensures serves { Serves (scene_of W.true_row T.told W.version T.shows service.now.folders.now
-        service.now.book.now.rows)
-        (stand_of seat.seen hand.old share.old (map L.shows links.old)) (N.shows conn.old) result.1
-        (stand_of result.0.seen hand.new share.new (map L.shows links.new)) (N.shows conn.new) }
+    buffers: Buffers,
+    served: Vec<Served>,
+) -> (Desk<'d, W, K>, ConnReport)
+    requires fresh { buffers.reader ≡ record { all = []; held = []; over = false } }
+    requires none { served.items ≡ [] }
+    requires room { REQUESTS ≤ vec_capacity served }
+    ensures later { IsLater desk.entry.seat result.0.seat }
+    ensures same { StayLent objects.old objects.new }
+    ensures serves { Serves
+        (setting_by W.true_row T.told W.version T.shows service.now.folders.now objects.old)
+        (stage_by L.shows desk.entry.seat objects.old) (N.shows conn.old) result.1
+        (stage_by L.shows result.0.seat objects.new) (N.shows conn.new) }
 {
     let (rt, gate, number) = (service.rt, service.gate, service.number);
-    let Room {
-        mut desk,
-        mut served,
-    } = room;
-    let mut seat = seat;
+    let (mut desk, mut buffers, mut served) = (desk, buffers, served);
     loop {
-        let current = Service {
-            rt,
-            alloc: service.alloc,
-            lock: service.lock,
-            folders: service.folders,
-            book: service.book,
-            number,
-            gate,
-            last: served.len() + 1 == REQUESTS,
-        };
-        let (next, turn) = next_turn(&current, seat, hand, links, share, &mut desk, conn);
-        seat = next;
+        let last = served.len() + 1 == REQUESTS;
+        let (next, turn) = next_turn(service, desk, objects, last, &mut buffers, conn);
+        desk = next;
         match turn {
-            Turn::Replied(entry) => {
+            ConnTurn::Replied(entry) => {
                 gate.at(rt, &Point::Answered(number));
                 served.push_reserved(entry);
             }
-            Turn::Last(entry, end) => {
+            ConnTurn::Last(entry, end) => {
                 gate.at(rt, &Point::Answered(number));
                 served.push_reserved(entry);
-                return (seat, ConnReport { served, end });
+                return (desk, ConnReport { served, end });
             }
-            Turn::Ended(end) => return (seat, ConnReport { served, end }),
+            ConnTurn::Ended(end) => return (desk, ConnReport { served, end }),
         }
     }
 }

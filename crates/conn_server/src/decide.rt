@@ -1,29 +1,27 @@
 //! What a request is answered.
 
-ghost use Rattle.std.specs.Prelude.{◌≡◌, ◌≢◌, map};
-ghost use Rattle.dbgd_metrics.specs.Shares.{ShareFacts};
+ghost use Rattle.std.specs.Prelude.{◌≡◌, ◌≢◌};
 ghost use Rattle.index_lock.specs.Tokens.{IsLater};
 ghost use Rattle.row_types.specs.Name.{NameFacts};
 ghost use Rattle.webapi_routes.specs.declared.route.Route.TheVariants.{Metrics};
-ghost use Rattle.conn_server.specs.Asked.{readable, told_facts};
+ghost use Rattle.conn_server.specs.Asked.{IsLookedUp, readable, told_facts};
 ghost use Rattle.conn_server.specs.Bodies.{body_facts, decided_facts};
-ghost use Rattle.conn_server.specs.Tallied.{HasRowIn};
 ghost use Rattle.conn_server.specs.Decided.{Decides, DecidesRoute, by_page, for_route, plain};
-ghost use Rattle.conn_server.specs.Scene.{scene_of, stand_of};
+ghost use Rattle.conn_server.specs.Objects.{StayLent, setting_by, stage_by};
 
 use crate::body::Body;
 use crate::follow::follow_local;
 use crate::method::is_served;
+use crate::objects::Objects;
+use crate::page::decide_page;
 use crate::reason::{Reason, reason_of_route};
 use crate::report::Asked;
 use crate::service::Service;
 use answer_core::answer_local;
-use dbgd_metrics::Share;
 use federation::Link;
 use http_wire::Head;
+use index_desk::Desk;
 use index_keeper::Keeper;
-use index_lock::Seat;
-use index_state::State;
 use row_types::Truth;
 use std::alloc::AllocError;
 use std::sync::Wait;
@@ -43,98 +41,109 @@ pub(crate) struct Decided<F: Drop> {
     pub body: Body<F>,
 }
 
-/// Decides by the head alone, or by what answers its route.
-pub(crate) fn decide<W: Truth, K: Keeper<W>, T: Tree<W>, L: Link, G: Gate, R: Wait + Sync>(
-    service: &Service<'_, W, K, G, R>,
-    seat: Seat<State<W, K>>,
-    hand: &mut T,
-    links: &mut [L],
-    share: &mut Share,
+/// Decides by the head alone, by the page that its target asks for, or by what answers its route.
+pub(crate) fn decide<'d, W: Truth, K: Keeper<W>, T: Tree<W>, L: Link, G: Gate, R: Wait + Sync>(
+    service: &Service<'_, G, R>,
+    desk: Desk<'d, W, K>,
+    objects: &mut Objects<'_, T, L>,
     head: &Head<'_>,
-) -> (Seat<State<W, K>>, Decided<T::File>)
-    requires lock { seat.lock ≡ service.now.lock.now }
-    requires share { HasRowIn service.now.book.now share.old }
-    ensures later { IsLater seat result.0 }
-    ensures share { HasRowIn service.now.book.now share.new }
+) -> (Desk<'d, W, K>, Decided<T::File>)
+    ensures later { IsLater desk.entry.seat result.0.seat }
+    ensures same { StayLent objects.old objects.new }
     ensures decided { Decides
-        (scene_of W.true_row T.told W.version T.shows service.now.folders.now
-        service.now.book.now.rows)
-        (stand_of seat.seen hand.old share.old (map L.shows links.old)) (readable (told_facts head.now))
-        (decided_facts T.opened result.1)
-        (stand_of result.0.seen hand.new share.new (map L.shows links.new)) }
+        (setting_by W.true_row T.told W.version T.shows service.now.folders.now objects.old)
+        (stage_by L.shows desk.entry.seat objects.old) (readable (told_facts head.now))
+        (decided_facts T.opened result.1) (stage_by L.shows result.0.seat objects.new) }
 {
     if !is_served(head.method) {
-        return (seat, plain(Asked::Method, Reason::Method));
+        return (desk, plain(Asked::Method, Reason::Method));
     }
     if head.has_body {
-        return (seat, plain(Asked::Body, Reason::Body));
+        return (desk, plain(Asked::Body, Reason::Body));
     }
+    let (desk, page) = decide_page(service, desk, head.target);
+    match page {
+        Some(decided) => (desk, decided),
+        None => decide_target(service, desk, objects, head),
+    }
+}
+
+/// Decides by the route that a target asks for, which is none of a page.
+fn decide_target<'d, W: Truth, K: Keeper<W>, T: Tree<W>, L: Link, G: Gate, R: Wait + Sync>(
+    service: &Service<'_, G, R>,
+    desk: Desk<'d, W, K>,
+    objects: &mut Objects<'_, T, L>,
+    head: &Head<'_>,
+) -> (Desk<'d, W, K>, Decided<T::File>)
+    requires looked { IsLookedUp (told_facts head.now) }
+    ensures later { IsLater desk.entry.seat result.0.seat }
+    ensures same { StayLent objects.old objects.new }
+    ensures decided { Decides
+        (setting_by W.true_row T.told W.version T.shows service.now.folders.now objects.old)
+        (stage_by L.shows desk.entry.seat objects.old) (readable (told_facts head.now))
+        (decided_facts T.opened result.1) (stage_by L.shows result.0.seat objects.new) }
+{
     match parse(service.alloc, head.target) {
-        Ok(route) => decide_route(service, seat, hand, links, share, route, head.hops),
-        Err(fault) => (seat, plain(Asked::NotRoute(fault), reason_of_route(fault))),
+        Ok(route) => decide_route(service, desk, objects, route, head.hops),
+        Err(fault) => (desk, plain(Asked::NotRoute(fault), reason_of_route(fault))),
     }
 }
 
 /// Decides by the page of the counters, or by what answers a route that came through so many forwarders.
-fn decide_route<W: Truth, K: Keeper<W>, T: Tree<W>, L: Link, G: Gate, R: Wait + Sync>(
-    service: &Service<'_, W, K, G, R>,
-    seat: Seat<State<W, K>>,
-    hand: &mut T,
-    links: &mut [L],
-    share: &mut Share,
+fn decide_route<'d, W: Truth, K: Keeper<W>, T: Tree<W>, L: Link, G: Gate, R: Wait + Sync>(
+    service: &Service<'_, G, R>,
+    desk: Desk<'d, W, K>,
+    objects: &mut Objects<'_, T, L>,
     route: Route,
     hops: u64,
-) -> (Seat<State<W, K>>, Decided<T::File>)
-    requires lock { seat.lock ≡ service.now.lock.now }
-    requires share { HasRowIn service.now.book.now share.old }
-    ensures later { IsLater seat result.0 }
-    ensures share { HasRowIn service.now.book.now share.new }
+) -> (Desk<'d, W, K>, Decided<T::File>)
+    ensures later { IsLater desk.entry.seat result.0.seat }
+    ensures same { StayLent objects.old objects.new }
     ensures decided { DecidesRoute
-        (scene_of W.true_row T.told W.version T.shows service.now.folders.now
-        service.now.book.now.rows)
-        (stand_of seat.seen hand.old share.old (map L.shows links.old)) route hops
-        (decided_facts T.opened result.1)
-        (stand_of result.0.seen hand.new share.new (map L.shows links.new)) }
+        (setting_by W.true_row T.told W.version T.shows service.now.folders.now objects.old)
+        (stage_by L.shows desk.entry.seat objects.old) route hops
+        (decided_facts T.opened result.1) (stage_by L.shows result.0.seat objects.new) }
 {
     match route {
-        Route::Metrics => (seat, by_page(service.book.text(service.alloc, share))),
-        _ => decide_file(service, seat, hand, links, route, hops),
+        Route::Metrics => {
+            let page = objects.book.text(service.alloc, objects.share);
+            (desk, by_page(page))
+        }
+        _ => decide_file(service, desk, objects, route, hops),
     }
 }
 
-/// Decides by the local answer to a route, and then by the links. The share has no part in it.
-fn decide_file<W: Truth, K: Keeper<W>, T: Tree<W>, L: Link, G: Gate, R: Wait + Sync>(
-    service: &Service<'_, W, K, G, R>,
-    seat: Seat<State<W, K>>,
-    hand: &mut T,
-    links: &mut [L],
+/// Decides by the local answer to a route, and then by the links.
+fn decide_file<'d, W: Truth, K: Keeper<W>, T: Tree<W>, L: Link, G: Gate, R: Wait + Sync>(
+    service: &Service<'_, G, R>,
+    desk: Desk<'d, W, K>,
+    objects: &mut Objects<'_, T, L>,
     route: Route,
     hops: u64,
-) -> (Seat<State<W, K>>, Decided<T::File>)
-    requires lock { seat.lock ≡ service.now.lock.now }
+) -> (Desk<'d, W, K>, Decided<T::File>)
     requires route { route ≢ Metrics }
-    ensures later { IsLater seat result.0 }
-    ensures decided { (own : ShareFacts) → DecidesRoute
-        (scene_of W.true_row T.told W.version T.shows service.now.folders.now
-        service.now.book.now.rows)
-        (stand_of seat.seen hand.old own (map L.shows links.old)) route hops
-        (decided_facts T.opened result.1)
-        (stand_of result.0.seen hand.new own (map L.shows links.new)) }
+    ensures later { IsLater desk.entry.seat result.0.seat }
+    ensures same { StayLent objects.old objects.new }
+    ensures decided { DecidesRoute
+        (setting_by W.true_row T.told W.version T.shows service.now.folders.now objects.old)
+        (stage_by L.shows desk.entry.seat objects.old) route hops
+        (decided_facts T.opened result.1) (stage_by L.shows result.0.seat objects.new) }
 {
     let (rt, gate) = (service.rt, service.gate);
     gate.at(rt, &Point::Asking(service.number));
+    let Desk { lock, seat } = desk;
     let (seat, local) = answer_local(
         rt,
         service.alloc,
-        service.lock,
+        lock,
         seat,
-        hand,
+        objects.hand,
         &route,
         service.folders,
         gate,
     );
-    let decided = follow_local(rt, service.alloc, links, route, hops, local);
-    (seat, decided)
+    let decided = follow_local(rt, service.alloc, objects.links, route, hops, local);
+    (Desk { lock, seat }, decided)
 }
 
 /// What is decided without the index.

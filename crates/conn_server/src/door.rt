@@ -4,13 +4,17 @@ ghost use Rattle.std.specs.Prelude.{◌≡◌, map};
 ghost use Rattle.index_lock.specs.Tokens.{IsLater};
 ghost use Rattle.conn_server.specs.Tallied.{HasRowIn};
 ghost use Rattle.conn_server.specs.Doors.{ServesDoor, TakesNextVisit};
-ghost use Rattle.conn_server.specs.Scene.{scene_of, stand_of};
+ghost use Rattle.conn_server.specs.Objects.{StayLent, setting_by, stage_by};
+ghost use Rattle.conn_server.specs.Stage.{conn_setting, stage_with};
 
 use crate::connection::serve_by;
+use crate::lend::lend;
+use crate::objects::Objects;
 use crate::service::Service;
 use dbgd_metrics::{Book, Share};
 use federation::Link;
 use http_wire::{Door, DoorAnswer};
+use index_desk::Desk;
 use index_keeper::Keeper;
 use index_lock::{Seat, TurnLock};
 use index_state::State;
@@ -52,28 +56,44 @@ pub fn serve_door<W: Truth, K: Keeper<W>, T: Tree<W>, L: Link, D: Door, G: Gate,
     ensures later { IsLater seat result.0 }
     ensures share { HasRowIn book.now share.new }
     ensures serves { ServesDoor
-        (scene_of W.true_row T.told W.version T.shows folders.now book.now.rows)
-        (stand_of seat.seen hand.old share.old (map L.shows links.old)) (D.shows door.old) result.1
-        (stand_of result.0.seen hand.new share.new (map L.shows links.new)) (D.shows door.new) }
+        (conn_setting W.true_row T.told W.version T.shows folders.now book.now.rows)
+        (stage_with seat hand.old share.old (map L.shows links.old)) (D.shows door.old) result.1
+        (stage_with result.0 hand.new share.new (map L.shows links.new)) (D.shows door.new) }
 {
-    let mut seat = seat;
-    let mut number = first;
+    let service = Service {
+        rt,
+        alloc,
+        folders,
+        number: first,
+        gate,
+    };
+    let mut objects = lend(hand, links, book, share);
+    let (desk, end) = serve_visits(service, Desk { lock, seat }, &mut objects, door, step);
+    (desk.seat, end)
+}
+
+/// Serves the connections, the first one under the number that is given.
+fn serve_visits<'d, W: Truth, K: Keeper<W>, T: Tree<W>, L: Link, D: Door, G: Gate, R: Wait + Sync>(
+    service: Service<'_, G, R>,
+    desk: Desk<'d, W, K>,
+    objects: &mut Objects<'_, T, L>,
+    door: &mut D,
+    step: u64,
+) -> (Desk<'d, W, K>, DoorEnd)
+    ensures later { IsLater desk.entry.seat result.0.seat }
+    ensures same { StayLent objects.old objects.new }
+    ensures serves { ServesDoor
+        (setting_by W.true_row T.told W.version T.shows service.entry.folders.now objects.old)
+        (stage_by L.shows desk.entry.seat objects.old) (D.shows door.old) result.1
+        (stage_by L.shows result.0.seat objects.new) (D.shows door.new) }
+{
+    let (rt, mut service, mut desk) = (service.rt, service, desk);
     for _ in rt.forever() {
-        let service = Service {
-            rt,
-            alloc,
-            lock,
-            folders,
-            book,
-            number,
-            gate,
-            last: false,
-        };
-        let (next, end) = serve_next(&service, seat, hand, links, share, door);
-        seat = next;
-        number = number.saturating_add(step);
+        let (next, end) = serve_next(&service, desk, objects, door);
+        desk = next;
+        service.number = service.number.saturating_add(step);
         match end {
-            Some(end) => return (seat, end),
+            Some(end) => return (desk, end),
             None => {}
         }
     }
@@ -81,32 +101,27 @@ pub fn serve_door<W: Truth, K: Keeper<W>, T: Tree<W>, L: Link, D: Door, G: Gate,
 }
 
 /// Serves the next connection, if one comes, and hands it back.
-fn serve_next<W: Truth, K: Keeper<W>, T: Tree<W>, L: Link, D: Door, G: Gate, R: Wait + Sync>(
-    service: &Service<'_, W, K, G, R>,
-    seat: Seat<State<W, K>>,
-    hand: &mut T,
-    links: &mut [L],
-    share: &mut Share,
+fn serve_next<'d, W: Truth, K: Keeper<W>, T: Tree<W>, L: Link, D: Door, G: Gate, R: Wait + Sync>(
+    service: &Service<'_, G, R>,
+    desk: Desk<'d, W, K>,
+    objects: &mut Objects<'_, T, L>,
     door: &mut D,
-) -> (Seat<State<W, K>>, Option<DoorEnd>)
-    requires lock { seat.lock ≡ service.now.lock.now }
-    requires share { HasRowIn service.now.book.now share.old }
-    ensures later { IsLater seat result.0 }
-    ensures share { HasRowIn service.now.book.now share.new }
+) -> (Desk<'d, W, K>, Option<DoorEnd>)
+    ensures later { IsLater desk.entry.seat result.0.seat }
+    ensures same { StayLent objects.old objects.new }
     ensures next { TakesNextVisit
-        (scene_of W.true_row T.told W.version T.shows service.now.folders.now
-        service.now.book.now.rows)
-        (stand_of seat.seen hand.old share.old (map L.shows links.old)) (D.shows door.old) result.1
-        (stand_of result.0.seen hand.new share.new (map L.shows links.new)) (D.shows door.new) }
+        (setting_by W.true_row T.told W.version T.shows service.now.folders.now objects.old)
+        (stage_by L.shows desk.entry.seat objects.old) (D.shows door.old) result.1
+        (stage_by L.shows result.0.seat objects.new) (D.shows door.new) }
 {
     match door.accept(service.rt) {
         DoorAnswer::Came(conn) => {
             let mut conn = conn;
-            let (seat, _report) = serve_by(service, seat, hand, links, share, &mut conn);
+            let (desk, _report) = serve_by(service, desk, objects, &mut conn);
             door.ended(conn);
-            (seat, None)
+            (desk, None)
         }
-        DoorAnswer::Closed => (seat, Some(DoorEnd::Closed)),
-        DoorAnswer::Failed => (seat, Some(DoorEnd::Failed)),
+        DoorAnswer::Closed => (desk, Some(DoorEnd::Closed)),
+        DoorAnswer::Failed => (desk, Some(DoorEnd::Failed)),
     }
 }

@@ -5,14 +5,17 @@
 #![tactic(auto)]
 
 mod body;
+mod buffers;
 mod connection;
 mod counting;
 mod decide;
-mod desk;
 mod door;
 mod follow;
 mod found_file;
+mod lend;
 mod method;
+mod objects;
+mod page;
 mod pieces;
 mod plan;
 mod reason;

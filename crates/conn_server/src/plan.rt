@@ -1,33 +1,31 @@
 //! What is to be done about what was read of a connection.
 
-ghost use Rattle.std.specs.Prelude.{◌≡◌, map};
+ghost use Rattle.std.specs.Prelude.{◌≡◌};
 ghost use Rattle.index_lock.specs.Tokens.{IsLater};
 ghost use Rattle.row_types.specs.Name.{NameFacts};
 ghost use Rattle.conn_server.specs.Asked.{closes_after, readable, sends_body, told_facts};
+ghost use Rattle.conn_server.specs.Objects.{StayLent, setting_by, stage_by};
 ghost use Rattle.conn_server.specs.Plans.{CanPlan, Plans, PlansHead, PlansRefusal, turn_plan};
-ghost use Rattle.conn_server.specs.Scene.{scene_of, stand_of};
-ghost use Rattle.conn_server.specs.Tallied.{HasRowIn};
 ghost use Rattle.conn_server.specs.Turns.{end_of_head};
 
 use crate::decide::{Decided, decide, plain};
 use crate::method::is_head;
+use crate::objects::Objects;
 use crate::reason::reason_of_head;
 use crate::report::{Asked, ConnEnd};
 use crate::send::ReplyForm;
 use crate::service::Service;
-use dbgd_metrics::Share;
 use federation::Link;
 use http_wire::{Head, HeadAnswer, HeadFault};
+use index_desk::Desk;
 use index_keeper::Keeper;
-use index_lock::Seat;
-use index_state::State;
 use row_types::Truth;
 use std::sync::Wait;
 use tree_trait::{Gate, Tree};
 
 /// What is to be done about what was read. `F` is the hand's open file.
 #[derive(Drop)]
-pub(crate) enum Plan<F: Drop> {
+pub(crate) enum ReplyPlan<F: Drop> {
     /// Nothing is answered, and the connection ends.
     End(ConnEnd),
     /// A reply is written.
@@ -42,57 +40,49 @@ pub(crate) enum Plan<F: Drop> {
 }
 
 /// Says what is to be done about what was read. A head is decided.
-pub(crate) fn plan_for<W: Truth, K: Keeper<W>, T: Tree<W>, L: Link, G: Gate, R: Wait + Sync>(
-    service: &Service<'_, W, K, G, R>,
-    seat: Seat<State<W, K>>,
-    hand: &mut T,
-    links: &mut [L],
-    share: &mut Share,
+pub(crate) fn plan_for<'d, W: Truth, K: Keeper<W>, T: Tree<W>, L: Link, G: Gate, R: Wait + Sync>(
+    service: &Service<'_, G, R>,
+    desk: Desk<'d, W, K>,
+    objects: &mut Objects<'_, T, L>,
+    last: bool,
     answer: &HeadAnswer<'_>,
-) -> (Seat<State<W, K>>, Plan<T::File>)
-    requires lock { seat.lock ≡ service.now.lock.now }
-    requires share { HasRowIn service.now.book.now share.old }
-    ensures later { IsLater seat result.0 }
-    ensures share { HasRowIn service.now.book.now share.new }
-    ensures plans { Plans (scene_of W.true_row T.told W.version T.shows service.now.folders.now
-        service.now.book.now.rows)
-        (stand_of seat.seen hand.old share.old (map L.shows links.old)) answer.now service.now.last
+) -> (Desk<'d, W, K>, ReplyPlan<T::File>)
+    ensures later { IsLater desk.entry.seat result.0.seat }
+    ensures same { StayLent objects.old objects.new }
+    ensures plans { Plans (setting_by W.true_row T.told W.version T.shows service.now.folders.now objects.old)
+        (stage_by L.shows desk.entry.seat objects.old) answer.now last
         (turn_plan T.opened result.1)
-        (stand_of result.0.seen hand.new share.new (map L.shows links.new)) }
+        (stage_by L.shows result.0.seat objects.new) }
     ensures can { CanPlan W.version (turn_plan T.opened result.1) }
 {
     match answer {
-        HeadAnswer::Head(head) => plan_head(service, seat, hand, links, share, head),
-        HeadAnswer::Closed => (seat, Plan::End(ConnEnd::Closed)),
-        HeadAnswer::Refused(fault) => (seat, plan_refusal(*fault)),
-        HeadAnswer::ReadFault => (seat, Plan::End(ConnEnd::ReadFault)),
+        HeadAnswer::Head(head) => plan_head(service, desk, objects, last, head),
+        HeadAnswer::Closed => (desk, ReplyPlan::End(ConnEnd::Closed)),
+        HeadAnswer::Refused(fault) => (desk, plan_refusal(*fault)),
+        HeadAnswer::ReadFault => (desk, ReplyPlan::End(ConnEnd::ReadFault)),
     }
 }
 
 /// Decides a head. The last one that a connection has gets a reply that closes.
-fn plan_head<W: Truth, K: Keeper<W>, T: Tree<W>, L: Link, G: Gate, R: Wait + Sync>(
-    service: &Service<'_, W, K, G, R>,
-    seat: Seat<State<W, K>>,
-    hand: &mut T,
-    links: &mut [L],
-    share: &mut Share,
+fn plan_head<'d, W: Truth, K: Keeper<W>, T: Tree<W>, L: Link, G: Gate, R: Wait + Sync>(
+    service: &Service<'_, G, R>,
+    desk: Desk<'d, W, K>,
+    objects: &mut Objects<'_, T, L>,
+    last: bool,
     head: &Head<'_>,
-) -> (Seat<State<W, K>>, Plan<T::File>)
-    requires lock { seat.lock ≡ service.now.lock.now }
-    requires share { HasRowIn service.now.book.now share.old }
-    ensures later { IsLater seat result.0 }
-    ensures share { HasRowIn service.now.book.now share.new }
-    ensures plans { PlansHead (scene_of W.true_row T.told W.version T.shows service.now.folders.now
-        service.now.book.now.rows)
-        (stand_of seat.seen hand.old share.old (map L.shows links.old)) head.now service.now.last
+) -> (Desk<'d, W, K>, ReplyPlan<T::File>)
+    ensures later { IsLater desk.entry.seat result.0.seat }
+    ensures same { StayLent objects.old objects.new }
+    ensures plans { PlansHead (setting_by W.true_row T.told W.version T.shows service.now.folders.now objects.old)
+        (stage_by L.shows desk.entry.seat objects.old) head.now last
         (turn_plan T.opened result.1)
-        (stand_of result.0.seen hand.new share.new (map L.shows links.new)) }
+        (stage_by L.shows result.0.seat objects.new) }
     ensures can { CanPlan W.version (turn_plan T.opened result.1) }
 {
-    let form = form_of(head, service.last);
-    let end = end_behind(service.last);
-    let (seat, decided) = decide(service, seat, hand, links, share, head);
-    (seat, Plan::Reply { decided, form, end })
+    let form = form_of(head, last);
+    let end = end_behind(last);
+    let (desk, decided) = decide(service, desk, objects, head);
+    (desk, ReplyPlan::Reply { decided, form, end })
 }
 
 /// How a reply to a head is written, which may be the last that a connection has.
@@ -118,11 +108,11 @@ fn end_behind(last: bool) -> ConnEnd
 }
 
 /// Bytes that are no head get a reply that closes. Those that were cut off get none.
-fn plan_refusal<F: Drop>(fault: HeadFault) -> Plan<F>
+fn plan_refusal<F: Drop>(fault: HeadFault) -> ReplyPlan<F>
     ensures { (opened : F → NameFacts) → PlansRefusal fault (turn_plan opened result) }
 {
     match reason_of_head(fault) {
-        Some(reason) => Plan::Reply {
+        Some(reason) => ReplyPlan::Reply {
             decided: plain(Asked::Head(fault), reason),
             form: ReplyForm {
                 close: true,
@@ -130,6 +120,6 @@ fn plan_refusal<F: Drop>(fault: HeadFault) -> Plan<F>
             },
             end: ConnEnd::Refused,
         },
-        None => Plan::End(ConnEnd::Cut),
+        None => ReplyPlan::End(ConnEnd::Cut),
     }
 }

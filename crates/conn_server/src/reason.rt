@@ -3,8 +3,7 @@
 ghost use Rattle.std.specs.Prelude.{◌≡◌};
 ghost use Rattle.dbgd_metrics.specs.Numbers.{IsCountedStatus};
 ghost use Rattle.http_wire.specs.Reply.{IsStatus};
-ghost use Rattle.conn_server.specs.Replies.{is_text, reason_of_head, reason_of_route, status_of};
-ghost use Rattle.conn_server.specs.Replies.{reason_text};
+ghost use Rattle.conn_server.specs.Replies.{reason_of_head, reason_of_route, row_of, status_of};
 
 use http_wire::HeadFault;
 use webapi_routes::RouteFault;
@@ -46,6 +45,17 @@ pub enum Reason {
     OutOfMemory,
 }
 
+/// What a reason makes of its reply.
+#[derive(Clone, Copy)]
+pub(crate) struct ReasonRow {
+    /// The status (RFC 9110, section 15).
+    pub status: u16,
+    /// Whether the body is told to be a text.
+    pub text: bool,
+    /// The line that is the body. What passed and the counters have none.
+    pub line: &'static [u8],
+}
+
 impl Reason {
     /// The status of the reply (RFC 9110, section 15).
     pub fn status(self) -> u16
@@ -53,49 +63,36 @@ impl Reason {
         ensures known { IsStatus result }
         ensures counted { IsCountedStatus result }
     {
-        match self {
-            Reason::Local | Reason::Upstream | Reason::Metrics => 200,
-            Reason::BadHead | Reason::Body | Reason::BadEscape | Reason::BadId | Reason::BadPath =>
-                400,
-            Reason::NoRoute | Reason::HopLimit | Reason::NotFound => 404,
-            Reason::Method => 405,
-            Reason::TooLarge => 431,
-            Reason::UpstreamFault => 502,
-            Reason::ReadFault => 503,
-            Reason::OutOfMemory => 507,
-        }
+        self.row().status
     }
 
-    /// Whether the body of the reply is a text.
-    pub(crate) fn is_text(self) -> bool
-        ensures { result ≡ is_text self }
+    /// The row of the reason.
+    pub(crate) fn row(self) -> ReasonRow
+        ensures status { result.status ≡ (row_of self).status }
+        ensures text { result.text ≡ (row_of self).text }
+        ensures line { result.line.now ≡ (row_of self).line }
+        ensures known { IsStatus result.status }
+        ensures counted { IsCountedStatus result.status }
     {
-        match self {
-            Reason::Local | Reason::Upstream => false,
-            _ => true,
-        }
-    }
-
-    /// The line that is the body of a reply. What passed and the counters have none.
-    pub(crate) fn text(self) -> &'static [u8]
-        ensures { result.now ≡ reason_text self }
-    {
-        match self {
-            Reason::Local | Reason::Upstream | Reason::Metrics => b"",
-            Reason::BadHead => b"bad request\n",
-            Reason::TooLarge => b"too large\n",
-            Reason::Method => b"bad method\n",
-            Reason::Body => b"request body\n",
-            Reason::BadEscape => b"bad escape\n",
-            Reason::NoRoute => b"no route\n",
-            Reason::BadId => b"bad build-id\n",
-            Reason::BadPath => b"bad path\n",
-            Reason::HopLimit => b"hop limit\n",
-            Reason::NotFound => b"not found\n",
-            Reason::UpstreamFault => b"upstream fault\n",
-            Reason::ReadFault => b"read fault\n",
-            Reason::OutOfMemory => b"out of memory\n",
-        }
+        let (status, text, line): (u16, bool, &'static [u8]) = match self {
+            Reason::Local => (200, false, b""),
+            Reason::Upstream => (200, false, b""),
+            Reason::Metrics => (200, true, b""),
+            Reason::BadHead => (400, true, b"bad request\n"),
+            Reason::TooLarge => (431, true, b"too large\n"),
+            Reason::Method => (405, true, b"bad method\n"),
+            Reason::Body => (400, true, b"request body\n"),
+            Reason::BadEscape => (400, true, b"bad escape\n"),
+            Reason::NoRoute => (404, true, b"no route\n"),
+            Reason::BadId => (400, true, b"bad build-id\n"),
+            Reason::BadPath => (400, true, b"bad path\n"),
+            Reason::HopLimit => (404, true, b"hop limit\n"),
+            Reason::NotFound => (404, true, b"not found\n"),
+            Reason::UpstreamFault => (502, true, b"upstream fault\n"),
+            Reason::ReadFault => (503, true, b"read fault\n"),
+            Reason::OutOfMemory => (507, true, b"out of memory\n"),
+        };
+        ReasonRow { status, text, line }
     }
 }
 

@@ -89,7 +89,7 @@ fn send_body<W: Truth, T: Tree<W>, N: Sink>(
         (N.shows conn.new) result }
 {
     match body {
-        Body::Line => send_bytes(alloc, conn, why, why.text(), None, form),
+        Body::Line => send_bytes(alloc, conn, why, why.row().line, None, form),
         Body::File { from, file, path } => {
             let found = FoundFile { from, file, path };
             send_file(alloc, hand, conn, room, why, found, form)
@@ -151,9 +151,10 @@ pub(crate) fn head_of(
 ) -> Result<ReplyHead, AllocError>
     ensures { IfOk result (λ head. head ≡ reply_head why len (option_copied file.entry) close) }
 {
+    let row = why.row();
     Ok(ReplyHead {
-        status: why.status(),
-        text: why.is_text(),
+        status: row.status,
+        text: row.text,
         len,
         file: copy_of(alloc, file)?,
         close,

@@ -1,15 +1,17 @@
 //! One request of a connection.
 
-ghost use Rattle.std.specs.Prelude.{◌≡◌, false, map};
+ghost use Rattle.std.specs.Prelude.{◌≡◌, false};
 ghost use Rattle.index_lock.specs.Tokens.{IsLater};
+ghost use Rattle.conn_server.specs.Objects.{StayLent, setting_by, stage_by};
 ghost use Rattle.conn_server.specs.Plans.{CanPlan, CarriesOut, PlansNext, turn_plan};
 ghost use Rattle.conn_server.specs.Tallied.{HasRowIn};
-ghost use Rattle.conn_server.specs.Scene.{scene_of, stand_of, wire_of};
+ghost use Rattle.conn_server.specs.Stage.{wire_of};
 ghost use Rattle.conn_server.specs.Turns.{Turns, end_by_fault, turn_by};
 
+use crate::buffers::Buffers;
 use crate::counting::count_sent;
-use crate::desk::Desk;
-use crate::plan::{Plan, plan_for};
+use crate::objects::Objects;
+use crate::plan::{ReplyPlan, plan_for};
 use crate::report::{ConnEnd, Served};
 use crate::send::send;
 use crate::send_fault::SendFault;
@@ -17,9 +19,8 @@ use crate::service::Service;
 use dbgd_metrics::{Book, Share};
 use federation::Link;
 use http_wire::{HeadReader, ReplyFault, Sink, Source};
+use index_desk::Desk;
 use index_keeper::Keeper;
-use index_lock::Seat;
-use index_state::State;
 use row_types::Truth;
 use std::alloc::Global;
 use std::sync::Wait;
@@ -27,7 +28,7 @@ use tree_trait::{Gate, Tree};
 
 /// What came of one request.
 #[derive(Drop)]
-pub(crate) enum Turn {
+pub(crate) enum ConnTurn {
     /// It was answered, and the connection goes on.
     Replied(Served),
     /// It was answered, and the connection ends.
@@ -39,6 +40,7 @@ pub(crate) enum Turn {
 /// Reads the next request and answers it. The last one of a connection is answered with a reply
 /// that closes. It is counted once its reply was written whole.
 pub(crate) fn next_turn<
+    'd,
     W: Truth,
     K: Keeper<W>,
     T: Tree<W>,
@@ -47,41 +49,38 @@ pub(crate) fn next_turn<
     G: Gate,
     R: Wait + Sync,
 >(
-    service: &Service<'_, W, K, G, R>,
-    seat: Seat<State<W, K>>,
-    hand: &mut T,
-    links: &mut [L],
-    share: &mut Share,
-    desk: &mut Desk,
+    service: &Service<'_, G, R>,
+    desk: Desk<'d, W, K>,
+    objects: &mut Objects<'_, T, L>,
+    last: bool,
+    buffers: &mut Buffers,
     conn: &mut N,
-) -> (Seat<State<W, K>>, Turn)
-    requires lock { seat.lock ≡ service.now.lock.now }
-    requires share { HasRowIn service.now.book.now share.old }
-    requires open { desk.old.reader.over ≡ false }
-    ensures later { IsLater seat result.0 }
-    ensures share { HasRowIn service.now.book.now share.new }
-    ensures turn { Turns (scene_of W.true_row T.told W.version T.shows service.now.folders.now
-        service.now.book.now.rows) service.now.last
-        (stand_of seat.seen hand.old share.old (map L.shows links.old))
-        (wire_of (N.shows conn.old) desk.old.reader) result.1
-        (stand_of result.0.seen hand.new share.new (map L.shows links.new))
-        (wire_of (N.shows conn.new) desk.new.reader) }
+) -> (Desk<'d, W, K>, ConnTurn)
+    requires open { buffers.old.reader.over ≡ false }
+    ensures later { IsLater desk.entry.seat result.0.seat }
+    ensures same { StayLent objects.old objects.new }
+    ensures turn { Turns (setting_by W.true_row T.told W.version T.shows service.now.folders.now objects.old) last
+        (stage_by L.shows desk.entry.seat objects.old)
+        (wire_of (N.shows conn.old) buffers.old.reader) result.1
+        (stage_by L.shows result.0.seat objects.new)
+        (wire_of (N.shows conn.new) buffers.new.reader) }
 {
-    let (seat, plan) = plan_next(service, seat, hand, links, share, &mut desk.reader, conn);
+    let (desk, plan) = plan_next(service, desk, objects, last, &mut buffers.reader, conn);
     let turn = carry_out(
         service.alloc,
-        service.book,
-        hand,
-        share,
+        objects.book,
+        objects.hand,
+        objects.share,
         conn,
-        &mut desk.piece,
+        &mut buffers.piece,
         plan,
     );
-    (seat, turn)
+    (desk, turn)
 }
 
 /// Reads the next request, and says what is to be done about it.
 fn plan_next<
+    'd,
     W: Truth,
     K: Keeper<W>,
     T: Tree<W>,
@@ -90,27 +89,23 @@ fn plan_next<
     G: Gate,
     R: Wait + Sync,
 >(
-    service: &Service<'_, W, K, G, R>,
-    seat: Seat<State<W, K>>,
-    hand: &mut T,
-    links: &mut [L],
-    share: &mut Share,
+    service: &Service<'_, G, R>,
+    desk: Desk<'d, W, K>,
+    objects: &mut Objects<'_, T, L>,
+    last: bool,
     reader: &mut HeadReader,
     conn: &mut N,
-) -> (Seat<State<W, K>>, Plan<T::File>)
-    requires lock { seat.lock ≡ service.now.lock.now }
-    requires share { HasRowIn service.now.book.now share.old }
-    ensures later { IsLater seat result.0 }
-    ensures share { HasRowIn service.now.book.now share.new }
-    ensures plans { PlansNext (scene_of W.true_row T.told W.version T.shows service.now.folders.now
-        service.now.book.now.rows)
-        (stand_of seat.seen hand.old share.old (map L.shows links.old)) reader.old service.now.last
+) -> (Desk<'d, W, K>, ReplyPlan<T::File>)
+    ensures later { IsLater desk.entry.seat result.0.seat }
+    ensures same { StayLent objects.old objects.new }
+    ensures plans { PlansNext (setting_by W.true_row T.told W.version T.shows service.now.folders.now objects.old)
+        (stage_by L.shows desk.entry.seat objects.old) reader.old last
         (N.shows conn.old) (turn_plan T.opened result.1)
-        (stand_of result.0.seen hand.new share.new (map L.shows links.new)) reader.new (N.shows conn.new) }
+        (stage_by L.shows result.0.seat objects.new) reader.new (N.shows conn.new) }
     ensures can { CanPlan W.version (turn_plan T.opened result.1) }
 {
     let answer = reader.next(conn);
-    plan_for(service, seat, hand, links, share, &answer)
+    plan_for(service, desk, objects, last, &answer)
 }
 
 /// Does what is to be done. A request is counted once its reply was written whole.
@@ -121,8 +116,8 @@ fn carry_out<W: Truth, T: Tree<W>, N: Sink>(
     share: &mut Share,
     conn: &mut N,
     room: &mut Vec<u8>,
-    plan: Plan<T::File>,
-) -> Turn
+    plan: ReplyPlan<T::File>,
+) -> ConnTurn
     requires can { CanPlan W.version (turn_plan T.opened plan) }
     requires share { HasRowIn book.now share.old }
     ensures share { HasRowIn book.now share.new }
@@ -131,8 +126,8 @@ fn carry_out<W: Truth, T: Tree<W>, N: Sink>(
         (N.shows conn.new) }
 {
     match plan {
-        Plan::End(end) => Turn::Ended(end),
-        Plan::Reply { decided, form, end } => {
+        ReplyPlan::End(end) => ConnTurn::Ended(end),
+        ReplyPlan::Reply { decided, form, end } => {
             let sent = send(alloc, hand, conn, room, decided, form);
             count_sent(book, share, &sent);
             turn_by(sent, form.close, end)
@@ -141,18 +136,18 @@ fn carry_out<W: Truth, T: Tree<W>, N: Sink>(
 }
 
 /// What came of a request, by what is told of its reply.
-fn turn_by(sent: Result<Served, SendFault>, close: bool, end: ConnEnd) -> Turn
+fn turn_by(sent: Result<Served, SendFault>, close: bool, end: ConnEnd) -> ConnTurn
     ensures { result ≡ turn_by sent close end }
 {
     match sent {
         Ok(served) => {
             if close {
-                Turn::Last(served, end)
+                ConnTurn::Last(served, end)
             } else {
-                Turn::Replied(served)
+                ConnTurn::Replied(served)
             }
         }
-        Err(fault) => Turn::Ended(end_by(fault)),
+        Err(fault) => ConnTurn::Ended(end_by(fault)),
     }
 }
 

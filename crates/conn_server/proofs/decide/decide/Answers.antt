@@ -1,79 +1,30 @@
--- What is decided without the index, and by it.
-use Rattle.std.proofs.Common.{map, None, ◌≡◌, true, false, [], sym, ◌∙◌, ap, subst, refl}
-use Rattle.answer_core.proofs.HearLemmas.{hears_as, hears_none}
-use Rattle.conn_server.specs.Asked.{HeadFacts, is_served, readable, told_facts}
-use Rattle.conn_server.specs.Bodies.{DecidedFacts}
-use Rattle.conn_server.specs.Cases.{method, has_body, no_route}
-use Rattle.conn_server.specs.Decided.{Decides, plain}
-use Rattle.conn_server.specs.Scene.{hand_at, scene_of, stand_of}
-use Rattle.conn_server.specs.declared.reason.Reason.{Reason}
-use Rattle.conn_server.specs.declared.report.Asked.TheVariants as asked
-use Rattle.conn_server.proofs.CaseLemmas.{no_fault}
+-- What is decided without the index, by a page, or by the route.
+use Rattle.std.proofs.Common.{refl, sym, ◌∙◌}
+use Rattle.conn_server.specs.Asked.{told_facts}
+use Rattle.conn_server.specs.Bodies.{decided_facts}
+use Rattle.conn_server.specs.Cases.{has_body, method, page}
+use Rattle.conn_server.specs.Pages.{IsPageReply, page_sight}
 use Rattle.conn_server.proofs.CountLemmas.{notes_none}
-use Rattle.conn_server.proofs.LinksLemmas.{links_none}
+use Rattle.conn_server.proofs.DecideLemmas.{decides_alone}
+use Rattle.conn_server.proofs.PageLemmas.{page_is_plain}
 use Rattle.conn_server.proofs.decide.decide.Goals as goal
 
 pub returns-then-not-is_served-clause-decided : goal.returns-then-not-is_served-clause-decided
 returns-then-not-is_served-clause-decided g c =
-    let scene = scene_of g.W.Truth.true_row g.T.Tree.told g.W.Truth.version g.T.Tree.shows c.args.service.now.folders.now
-    c.args.service.now.book.now.rows in
-    let a = stand_of c.args.seat.seen c.args.hand.now c.args.share.now (map g.L.Link.shows c.args.links.now) in
-    let head : HeadFacts = told_facts c.args.head.now in
-    let refused : is_served head.method ≡ false = sym c.is_served.ensures ∙ c.if-not-is_served.true in
-    subst (λ (d : DecidedFacts). Decides scene a (readable head) d a) (sym (c.plain.ensures g.T.Tree.opened))
-    (record {
-      answers = [];
-      parts = [];
-      told = None;
-      hears = hears_as (λ f. absurd f) (hears_none (hand_at scene a));
-      links = links_none a.links;
-      asks = refl;
-      notes = notes_none c.args.share.now;
-      is = method head refl refused;
-    })
+    decides_alone _ (c.plain.ensures g.T.Tree.opened) refl refl (notes_none _) (λ f. f)
+    (method (told_facts c.args.head.now) refl (sym c.is_served.ensures ∙ c.if-not-is_served.true))
 
 pub returns-then-head-clause-decided : goal.returns-then-head-clause-decided
 returns-then-head-clause-decided g c =
-    let scene = scene_of g.W.Truth.true_row g.T.Tree.told g.W.Truth.version g.T.Tree.shows c.args.service.now.folders.now
-    c.args.service.now.book.now.rows in
-    let a = stand_of c.args.seat.seen c.args.hand.now c.args.share.now (map g.L.Link.shows c.args.links.now) in
-    let head : HeadFacts = told_facts c.args.head.now in
-    let served : is_served head.method ≡ true = sym c.is_served.ensures ∙ c.if-not-is_served.false in
-    subst (λ (d : DecidedFacts). Decides scene a (readable head) d a) (sym (c.plain-then-head.ensures g.T.Tree.opened))
-    (record {
-      answers = [];
-      parts = [];
-      told = None;
-      hears = hears_as (λ f. absurd f) (hears_none (hand_at scene a));
-      links = links_none a.links;
-      asks = refl;
-      notes = notes_none c.args.share.now;
-      is = has_body head refl served c.if-head.true;
-    })
+    decides_alone _ (c.plain-then-head.ensures g.T.Tree.opened) refl refl (notes_none _) (λ f. f)
+    (has_body (told_facts c.args.head.now) refl (sym c.is_served.ensures ∙ c.if-not-is_served.false) c.if-head.true)
 
-pub returns-in-Ok-clause-decided : goal.returns-in-Ok-clause-decided
-returns-in-Ok-clause-decided g c =
-    let head : HeadFacts = told_facts c.args.head.now in
-    let served : is_served head.method ≡ true = sym c.is_served.ensures ∙ c.if-not-is_served.false in
-    c.decide_route.ensures.decided head
-    (record { taken = record { method = served; no_body = c.if-head.false }; says = c.in-Ok.ensures.says }) refl
-
-pub returns-in-Err-clause-decided : goal.returns-in-Err-clause-decided
-returns-in-Err-clause-decided g c =
-    let scene = scene_of g.W.Truth.true_row g.T.Tree.told g.W.Truth.version g.T.Tree.shows c.args.service.now.folders.now
-    c.args.service.now.book.now.rows in
-    let a = stand_of c.args.seat.seen c.args.hand.now c.args.share.now (map g.L.Link.shows c.args.links.now) in
-    let head : HeadFacts = told_facts c.args.head.now in
-    let served : is_served head.method ≡ true = sym c.is_served.ensures ∙ c.if-not-is_served.false in
-    subst (λ (d : DecidedFacts). Decides scene a (readable head) d a)
-    (sym (c.plain-in-Err.ensures g.T.Tree.opened ∙ ap (λ (why : Reason). plain (asked.NotRoute c.in-Err.fault) why) c.reason_of_route.ensures))
-    (record {
-      answers = [];
-      parts = [];
-      told = None;
-      hears = hears_as (λ f. no_fault c.in-Err.fault f) (hears_none (hand_at scene a));
-      links = links_none a.links;
-      asks = refl;
-      notes = notes_none c.args.share.now;
-      is = no_route head c.in-Err.fault refl (record { method = served; no_body = c.if-head.false }) c.in-Err.ensures.says;
-    })
+pub returns-in-Some-clause-decided : goal.returns-in-Some-clause-decided
+returns-in-Some-clause-decided g c =
+    let found = rw c.in-Some.is at c.decide_page-desk.ensures.page in
+    let sight = page_sight g.W.Truth.true_row c.args.desk.seat.origin.epoch c.decide_page-desk.result.0.seat.seen in
+    let said = decided_facts g.T.Tree.opened c.in-Some.decided in
+    let reply : IsPageReply sight c.args.head.now.target.now said = found g.T.Tree.opened in
+    decides_alone said refl refl refl (notes_none _) (page_is_plain sight c.args.head.now.target.now said reply).no_load
+    (page (told_facts c.args.head.now) said refl
+    (record { method = sym c.is_served.ensures ∙ c.if-not-is_served.false; no_body = c.if-head.false }) reply)

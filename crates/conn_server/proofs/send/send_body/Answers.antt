@@ -1,7 +1,7 @@
 -- What is held is written, and a file is read in the meantime.
 use Rattle.std.proofs.Common.{None, Some, refl, sym, subst}
 use Rattle.answer_core.specs.Local.{section_found, source_found}
-use Rattle.conn_server.specs.Bodies.{body_facts, counters_page, found_here, found_upstream, own_line}
+use Rattle.conn_server.specs.Bodies.{body_facts, page_text, found_here, found_upstream, own_line}
 use Rattle.conn_server.specs.Sent.{CanCarry, Sends}
 use Rattle.conn_server.proofs.PiecesLemmas.{hand_of}
 use Rattle.conn_server.proofs.SentLemmas.{sends_held}
@@ -14,8 +14,8 @@ returns-in-Line g c = λ n.
     let after = g.N.Stream.shows c.send_bytes.new.conn in
     subst (λ body. Sends hand c.args.why (body_facts g.T.Tree.opened n body) c.args.form.close c.args.form.with_body before
     (g.T.Tree.shows c.args.hand.now) after c.send_bytes.result) (sym c.in-Line.is)
-    (sends_held hand c.args.why own_line c.text.result.now None c.args.form.close c.args.form.with_body before after
-    (c.text.ensures, refl) tt refl c.send_bytes.result c.send_bytes.ensures)
+    (sends_held hand c.args.why own_line c.row.result.line.now None c.args.form.close c.args.form.with_body before after
+    (c.row.ensures.line, refl) tt refl c.send_bytes.result c.send_bytes.ensures)
 
 pub send_file-requires-clause-holds : goal.send_file-requires-clause-holds
 send_file-requires-clause-holds g c = λ κs within.
@@ -68,6 +68,6 @@ returns-in-Page g c = λ n.
     let after = g.N.Stream.shows c.send_bytes-in-Page.new.conn in
     subst (λ body. Sends hand c.args.why (body_facts g.T.Tree.opened n body) c.args.form.close c.args.form.with_body before
     (g.T.Tree.shows c.args.hand.now) after c.send_bytes-in-Page.result) (sym c.in-Page.is)
-    (sends_held hand c.args.why (counters_page c.in-Page.text) c.as_bytes.result.now None c.args.form.close
+    (sends_held hand c.args.why (page_text c.in-Page.text) c.as_bytes.result.now None c.args.form.close
     c.args.form.with_body before after (c.as_bytes.ensures.value, refl) tt refl c.send_bytes-in-Page.result
     c.send_bytes-in-Page.ensures)

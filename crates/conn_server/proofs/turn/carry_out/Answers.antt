@@ -4,7 +4,7 @@ use Rattle.answer_core.proofs.HearLemmas.{hears_none}
 use Rattle.conn_server.specs.Plans.{CanPlan, CarriesOut, turn_plan}
 use Rattle.conn_server.specs.Sent.{CountsSent}
 use Rattle.conn_server.specs.Turns.{turn_by}
-use Rattle.conn_server.specs.declared.turn.Turn.TheVariants.{Ended}
+use Rattle.conn_server.specs.declared.turn.ConnTurn.TheVariants.{Ended}
 use Rattle.conn_server.proofs.turn.carry_out.Goals as goal
 
 pub send-sent-requires-clause-send : goal.send-sent-requires-clause-send

@@ -7,7 +7,7 @@ use std::alloc::{AllocError, Global};
 
 /// What a connection reads into: its heads, and the pieces of files that it sends.
 #[derive(Drop)]
-pub(crate) struct Desk {
+pub(crate) struct Buffers {
     /// The reader of heads.
     pub reader: HeadReader,
     /// The room for a piece of a file: so many bytes as the largest one has that was to be sent so far.
@@ -15,10 +15,11 @@ pub(crate) struct Desk {
 }
 
 /// Takes what heads are read into. Room for a piece is taken where a file is to be sent.
-pub(crate) fn open_desk(alloc: Global) -> Result<Desk, AllocError>
-    ensures { IfOk result (λ desk. desk.reader ≡ record { all = []; held = []; over = false }) }
+pub(crate) fn new_buffers(alloc: Global) -> Result<Buffers, AllocError>
+    ensures { IfOk result (λ buffers. buffers.reader
+        ≡ record { all = []; held = []; over = false }) }
 {
-    Ok(Desk {
+    Ok(Buffers {
         reader: HeadReader::new(alloc)?,
         piece: Vec::new(alloc),
     })
