@@ -38,7 +38,9 @@ ask() { # TARGET OPTIONS..
 answer() { # BYTES FILE
   local conn
   exec {conn}<>"/dev/tcp/127.0.0.1/$port" || return 1
-  printf '%b' "$1" >&"$conn"
+  # By one write: the shell's own printf makes one a line, between which a connection may be idle.
+  printf '%b' "$1" >"$work/asked"
+  cat "$work/asked" >&"$conn"
   timeout 20 cat <&"$conn" >"$2"
   exec {conn}>&-
 }

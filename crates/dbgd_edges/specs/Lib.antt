@@ -3,9 +3,12 @@ pub mod Answered
 pub mod Dials
 pub mod Errors
 pub mod FolderRead
+pub mod Fronts
 pub mod Listens
+pub mod Lobbies
 pub mod Numbers
 pub mod OpenFiles
 pub mod Stamped
 pub mod Streams
 pub mod Waits
+pub mod Wires

@@ -2,8 +2,9 @@
 
 ghost use Rattle.std.specs.Prelude.{◌≡◌, ℕ, ◌≤◌, length, IfOk};
 ghost use Rattle.std.specs.String.{string_bytes};
-ghost use Rattle.dbgd_edges.specs.OpenFiles.{IsOpenAnswered};
+ghost use Rattle.dbgd_edges.specs.OpenFiles.{IsOpenAnswered, real_name};
 
+use crate::ahead::Ahead;
 use crate::look::{regular, stamp_of, unchanged};
 use crate::read_fault::ReadFault;
 use crate::tries::settled;
@@ -20,10 +21,17 @@ pub struct RealFile<F: Drop> {
     stamp: Stamp,
     seen: Metadata,
     file: F,
+    ahead: Ahead,
 }
 
 /// The answer with an open file.
-fn opened<F: Drop>(path: String, stamp: Stamp, seen: Metadata, file: F) -> OpenAnswer<RealFile<F>>
+fn opened<F: Drop>(
+    path: String,
+    stamp: Stamp,
+    seen: Metadata,
+    file: F,
+    ahead: Ahead,
+) -> OpenAnswer<RealFile<F>>
     ensures { (limit : ℕ) → stamp.size ≤ limit
         → IsOpenAnswered (string_bytes path) limit result }
 {
@@ -33,6 +41,7 @@ fn opened<F: Drop>(path: String, stamp: Stamp, seen: Metadata, file: F) -> OpenA
             stamp,
             seen,
             file,
+            ahead,
         },
         stamp,
     }
@@ -56,7 +65,7 @@ fn open_once<R: Files>(
     let file = fs::open(files, path)?;
     let now = unchanged(&seen, file.metadata())?;
     let path = String::from_str(alloc, path)?;
-    Ok(opened(path, stamp, now, file))
+    Ok(opened(path, stamp, now, file, Ahead::new(alloc)))
 }
 
 /// Opens the file at a path. Where it changed between the look and the opening, both are made
@@ -73,12 +82,43 @@ pub fn open_real<R: Files>(
 }
 
 impl<F: FileExt + OpenFile + Drop> RealFile<F> {
-    /// Reads the bytes from a place on into all of a room. The file is looked at again behind that:
-    /// one that changed since it was opened gives none, and never will.
-    pub fn read_into(&self, at: u64, room: &mut [u8]) -> Result<(), ReadFault>
-        ensures { length room.new ≡ length room.old }
+    /// Reads the bytes from a place on into all of a room. The file is looked at again behind each read
+    /// of the system: one that changed since it was opened gives none that weren't read before.
+    pub fn read_into(&mut self, at: u64, room: &mut [u8]) -> Result<(), ReadFault>
+        ensures length { length room.new ≡ length room.old }
+        ensures name { real_name self.new ≡ real_name self.old }
     {
+        if self.ahead.give(at, room) {
+            return Ok(());
+        }
+        if self.ahead.turn_to(at, room.len(), self.stamp.size) {
+            self.read_ahead()?;
+            if self.ahead.give(at, room) {
+                return Ok(());
+            }
+        }
         self.file.read_exact_at(room, at)?;
+        unchanged(&self.seen, self.file.metadata())?;
+        Ok(())
+    }
+
+    /// Reads what there is room for ahead.
+    fn read_ahead(&mut self) -> Result<(), ReadFault>
+        ensures { real_name self.new ≡ real_name self.old }
+    {
+        let read = self.fill_ahead();
+        if read.is_err() {
+            self.ahead.forget();
+        }
+        read
+    }
+
+    /// Reads into the room ahead, and looks at the file again.
+    fn fill_ahead(&mut self) -> Result<(), ReadFault>
+        ensures { real_name self.new ≡ real_name self.old }
+    {
+        let start = self.ahead.start();
+        self.file.read_exact_at(self.ahead.room(), start)?;
         unchanged(&self.seen, self.file.metadata())?;
         Ok(())
     }

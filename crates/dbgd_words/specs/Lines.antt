@@ -1,4 +1,4 @@
--- The line that a reader of words gives.
+-- What the line asks that a reader of words gives (this project's rule).
 use Rattle.dbgd_words.specs.Words.{Line as Asked, asks_help, asks_ident, asks_query, asks_scan}
 use Rattle.dbgd_words.specs.Words.{asks_section, asks_serve, asks_sources, asks_trial, unreadable}
 use Rattle.dbgd_words.specs.declared.line.Line.{Line}

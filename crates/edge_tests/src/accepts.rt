@@ -1,9 +1,11 @@
 //! What the real door answers where accepts fail, and how it waits.
 
-use crate::sockets::{bound, client_of};
+use crate::sockets::{bound_open, client_of, usual};
 use crate::standing::{Napping, Stumbling};
-use dbgd_edges::RealDoor;
+use dbgd_edges::{LobbyDoor, lobby_doors};
 use http_wire::{Door, DoorSaid};
+use std::alloc::Global;
+use std::io::Write;
 use std::net::{Net, TcpListener, TcpStream};
 use std::process::Abort;
 use std::sync::Wait;
@@ -15,6 +17,8 @@ const EPERM: i32 = 1;
 const EINTR: i32 = 4;
 
 const EBADF: i32 = 9;
+
+const EAGAIN: i32 = 11;
 
 const ENOMEM: i32 = 12;
 
@@ -44,7 +48,7 @@ const EHOSTUNREACH: i32 = 113;
 /// milliseconds it waited.
 type Case = (&'static [i32], DoorSaid, u64, u64);
 
-static CASES: [Case; 13] = [
+static CASES: [Case; 14] = [
     (&[], DoorSaid::Came, 0, 0),
     (&[EINTR, EINTR], DoorSaid::Came, 0, 0),
     (&[ECONNABORTED], DoorSaid::Came, 1, 0),
@@ -56,37 +60,49 @@ static CASES: [Case; 13] = [
     (&[EMFILE, EINVAL], DoorSaid::Closed, 1, 100),
     (&[EBADF], DoorSaid::Failed, 1, 0),
     (&[ECONNABORTED, ENOTSOCK], DoorSaid::Failed, 2, 0),
-    (&[EMFILE; 700], DoorSaid::Failed, 601, 60_000),
-    (&[ECONNABORTED; 700], DoorSaid::Failed, 601, 0),
+    (&[EAGAIN], DoorSaid::Came, 0, 0),
+    (&[EMFILE; 700], DoorSaid::Came, 700, 70_000),
+    (&[ECONNABORTED; 700], DoorSaid::Came, 700, 0),
 ];
 
-/// What a door answers whose first accepts fail, and how often it has failed then.
-fn said_after<Rt: Wait + Sync>(
-    rt: &Rt,
-    napping: &Napping,
+/// A door whose first accepts fail with these errors.
+fn stumbling<'a, R>(
+    rt: &R,
+    alloc: Global,
+    napping: &'a Napping,
     listener: TcpListener,
     numbers: &'static [i32],
-) -> (DoorSaid, u64) {
+) -> LobbyDoor<&'a Napping, Stumbling>
+where
+    R: Net<Listener = TcpListener, Stream = TcpStream> + Abort,
+{
     let stumbling = Stumbling {
         listener,
         numbers,
         accepts: AtomicU64::new(0),
     };
-    let mut door = RealDoor::new(napping, stumbling);
-    let said = door.accept(rt).said();
-    (said, door.count())
+    let mut doors = lobby_doors(rt, alloc, napping, stumbling, usual(), 1).expect(rt, "doors");
+    doors.pop().expect(rt, "a door")
+}
+
+/// What a door answers.
+fn said_by<D: Door, Rt: Wait + Sync>(rt: &Rt, door: &mut D) -> DoorSaid {
+    door.accept(rt).said()
 }
 
 /// Asks a door whose first accepts fail, and compares. A client is there for the others.
-fn compare<R>(rt: &R, case: &Case)
+fn compare<R>(rt: &R, alloc: Global, case: &Case)
 where
     R: Net<Listener = TcpListener, Stream = TcpStream> + Wait + Sync + Abort,
 {
     let (numbers, wanted, count, millis) = case;
-    let (listener, port) = bound(rt);
-    let _client = client_of(rt, port);
+    let (listener, port) = bound_open(rt);
+    let mut client = client_of(rt, port);
+    client.write_all(b"GET").expect(rt, "a write");
     let napping = Napping::new(1000);
-    let (said, faults) = said_after(rt, &napping, listener, *numbers);
+    let mut door = stumbling(rt, alloc, &napping, listener, *numbers);
+    let said = said_by(rt, &mut door);
+    let faults = door.count();
     let (first, len) = (numbers.first().copied().unwrap_or(0), numbers.len());
     assert!(rt; said == *wanted, "answer after {len} errors, {first} first");
     assert!(rt;
@@ -102,6 +118,6 @@ where
 #[test]
 fn each_error_of_an_accept_has_its_answer(rt: HostRuntime) {
     for case in &CASES {
-        compare(&rt, case);
+        compare(&rt, rt.alloc(), case);
     }
 }

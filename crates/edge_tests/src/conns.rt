@@ -1,12 +1,9 @@
-//! What a connection makes of what its stream answers, and how it ends.
+//! What a dialled connection makes of what its stream answers.
 
-use crate::sockets::{bound, client_of};
 use crate::standing::{Napping, Scripted};
-use dbgd_edges::{DialledConn, RealConn};
+use dbgd_edges::DialledConn;
 use http_wire::{ReadAnswer, Sink, Source, WriteAnswer};
 use std::alloc::Global;
-use std::io::Write;
-use std::net::TcpStream;
 use std::process::Abort;
 use std::time::{Clock, Duration};
 
@@ -19,32 +16,26 @@ const EPIPE: i32 = -32;
 
 const ECONNRESET: i32 = -104;
 
-/// What the stream answers, one call after the other; what a read of at most 8 bytes gives of a
-/// connection that was accepted, and of one that was dialled; and what a write gives of both: so many
-/// bytes, no more (0), or a fault (-1).
-type Case = (&'static [i32], i64, i64, i64);
+/// What the stream answers, one call after the other; what a read of at most 8 bytes gives then, and
+/// what a write gives: so many bytes, no more (0), or a fault (-1).
+type Case = (&'static [i32], i64, i64);
 
 static CASES: [Case; 9] = [
-    (&[5], 5, 5, 5),
-    (&[20], 8, 8, 8),
-    (&[0], 0, 0, -1),
-    (&[EINTR, EINTR, 3], 3, 3, 3),
-    (&[EAGAIN], 0, -1, -1),
-    (&[EINTR, EAGAIN], 0, -1, -1),
-    (&[EINTR, EPIPE], -1, -1, -1),
-    (&[ECONNRESET], -1, -1, -1),
-    (&[EINTR; 1100], -1, -1, -1),
+    (&[5], 5, 5),
+    (&[20], 8, 8),
+    (&[0], 0, -1),
+    (&[EINTR, EINTR, 3], 3, 3),
+    (&[EAGAIN], -1, -1),
+    (&[EINTR, EAGAIN], -1, -1),
+    (&[EINTR, EPIPE], -1, -1),
+    (&[ECONNRESET], -1, -1),
+    (&[EINTR; 1100], -1, -1),
 ];
 
 /// A stream that answers by a list.
 fn stream_of(rt: &impl Abort, alloc: Global, answers: &[i32]) -> Scripted {
     let answers = Vec::from_slice(alloc, answers).expect(rt, "memory");
     Scripted { answers, calls: 0 }
-}
-
-/// A connection that was accepted.
-fn accepted(rt: &impl Abort, stream: Scripted) -> RealConn<Scripted> {
-    RealConn::new(stream).expect(rt, "a connection")
 }
 
 /// A connection that was dialled.
@@ -73,13 +64,6 @@ fn write_of<S: Sink>(conn: &mut S) -> i64 {
     }
 }
 
-/// What a read and a write give of a connection that was accepted.
-fn of_accepted(rt: &impl Abort, alloc: Global, answers: &[i32]) -> (i64, i64) {
-    let read = read_of(&mut accepted(rt, stream_of(rt, alloc, answers)));
-    let wrote = write_of(&mut accepted(rt, stream_of(rt, alloc, answers)));
-    (read, wrote)
-}
-
 /// What a read and a write give of a connection that was dialled so many milliseconds ago.
 fn of_dialled(rt: &impl Abort, alloc: Global, answers: &[i32], millis: u64) -> (i64, i64) {
     let clock = Napping::new(u64::MAX);
@@ -91,15 +75,11 @@ fn of_dialled(rt: &impl Abort, alloc: Global, answers: &[i32], millis: u64) -> (
 
 #[test]
 fn each_answer_of_a_stream_has_its_meaning(rt: HostRuntime) {
-    for (answers, read, owed, wrote) in &CASES {
+    for (answers, read, wrote) in &CASES {
         let first = answers.first().copied().unwrap_or(0);
         assert!(rt;
-            of_accepted(&rt, rt.alloc(), answers) == (*read, *wrote),
-            "accepted, {first} first"
-        );
-        assert!(rt;
-            of_dialled(&rt, rt.alloc(), answers, 0) == (*owed, *wrote),
-            "dialled, {first} first"
+            of_dialled(&rt, rt.alloc(), answers, 0) == (*read, *wrote),
+            "{first} first"
         );
     }
 }
@@ -112,44 +92,4 @@ fn a_question_is_over_after_its_time(rt: HostRuntime) {
             "after {millis} milliseconds"
         );
     }
-}
-
-/// A stream with its time limits in milliseconds, and whether small writes go at once.
-fn limits_of(rt: &impl Abort, stream: &TcpStream) -> (Option<Duration>, Option<Duration>, bool) {
-    let read = stream.read_timeout().expect(rt, "a time limit");
-    let write = stream.write_timeout().expect(rt, "a time limit");
-    (read, write, stream.nodelay().expect(rt, "an option"))
-}
-
-/// Another hold of a stream, as a connection.
-fn held(rt: &impl Abort, stream: &TcpStream) -> RealConn<TcpStream> {
-    let another = stream.try_clone().expect(rt, "another hold");
-    RealConn::new(another).expect(rt, "a connection")
-}
-
-#[test]
-fn a_connection_has_its_time_limits(rt: HostRuntime) {
-    let (_listener, port) = bound(&rt);
-    let stream = client_of(&rt, port);
-    let _conn = held(&rt, &stream);
-    let (read, write, at_once) = limits_of(&rt, &stream);
-    assert!(rt; read == Some(Duration::from_secs(5)), "reads");
-    assert!(rt; write == Some(Duration::from_secs(30)), "writes");
-    assert!(rt; at_once, "small writes");
-}
-
-#[test]
-fn a_connection_that_ends_is_shut_and_read_for_a_moment(rt: HostRuntime) {
-    let (_listener, port) = bound(&rt);
-    let mut stream = client_of(&rt, port);
-    held(&rt, &stream).finish(&rt);
-    let (read, _, _) = limits_of(&rt, &stream);
-    let read = read.unwrap_or(Duration::ZERO);
-    // The system counts in ticks of its own.
-    let moment = Duration::from_millis(50);
-    assert!(rt;
-        read >= moment && read < Duration::from_millis(70),
-        "a moment"
-    );
-    assert!(rt; stream.write(b"x").is_err(), "it is shut");
 }

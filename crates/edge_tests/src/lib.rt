@@ -4,7 +4,11 @@
 #[cfg(test)]
 mod accepts;
 #[cfg(test)]
+mod ahead;
+#[cfg(test)]
 mod asking;
+#[cfg(test)]
+mod begun;
 #[cfg(test)]
 mod changes;
 #[cfg(test)]
@@ -20,6 +24,12 @@ mod doors;
 #[cfg(test)]
 mod folders;
 #[cfg(test)]
+mod held;
+#[cfg(test)]
+mod late;
+#[cfg(test)]
+mod lobbies;
+#[cfg(test)]
 mod open_files;
 #[cfg(test)]
 mod paths;
@@ -31,3 +41,5 @@ mod refusing;
 mod sockets;
 #[cfg(test)]
 mod standing;
+#[cfg(test)]
+mod stays;

@@ -5,6 +5,7 @@ ghost use Rattle.std.specs.Prelude.{◌≤◌, IfOk, length};
 
 use std::io::{Error, Read, Result, Write};
 use std::net::{Ipv4Addr, Net, OpenListener, OpenStream, SocketAddr, TcpListener, TcpStream};
+use std::os::fd::{AsRawFd, RawFd};
 use std::sync::atomic::{AtomicU64, Ordering};
 use std::time::{Clock, Duration};
 
@@ -25,6 +26,12 @@ impl OpenListener for Stumbling {
             Some(number) => Err(Error::from_raw_os_error(*number)),
             None => self.listener.accept(),
         }
+    }
+}
+
+impl AsRawFd for Stumbling {
+    fn as_raw_fd(&self) -> RawFd {
+        self.listener.as_raw_fd()
     }
 }
 
