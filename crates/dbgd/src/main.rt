@@ -3,12 +3,13 @@
 //! the prover takes long for a call, and for an end, at which a type made of others is named.
 #![tactic(auto)]
 
-ghost use Rattle.std.specs.Prelude.{◌≡◌, ◌<◌, ◌≤◌, map, vec_len, IfOk};
+ghost use Rattle.std.specs.Prelude.{◌≡◌, ◌<◌, ◌≤◌, All, length, map, vec_len, IfOk};
 ghost use Rattle.std.specs.String.{string_bytes};
 ghost use Rattle.dbgd_words.specs.Words.{line_of};
-ghost use Rattle.dbgd_run.specs.Needs.{HasEnough, doors_of, hands_of};
+ghost use Rattle.dbgd.specs.Servers.{server_of};
+ghost use Rattle.dbgd_run.specs.Needs.{HasEnough, doors_of, hands_of, servers_of};
 
-use dbgd_edges::{RealClock, RealDial, RealDoor, RealSink, StdStream, real_doors, real_hands};
+use dbgd_edges::{LobbyDoor, RealClock, RealDial, RealSink, StdStream, real_doors, real_hands};
 use dbgd_run::{Needs, Outside, Status, needs, run, write_all};
 use federation::{HttpLink, Link, UpstreamAt};
 use http_wire::Door;
@@ -49,7 +50,7 @@ fn words(rt: &HostRuntime) -> Result<Vec<String>, AllocError> {
 }
 
 /// So many doors on a port, of which none is opened where none are needed.
-fn doors(rt: &HostRuntime, needs: &Needs) -> Result<Vec<RealDoor<HostRuntime>>, Early>
+fn doors(rt: &HostRuntime, needs: &Needs) -> Result<Vec<LobbyDoor<HostRuntime>>, Early>
     ensures { IfOk result (λ doors. vec_len doors ≡ needs.now.doors) }
 {
     match real_doors(rt, needs.port, needs.doors) {
@@ -64,7 +65,9 @@ fn link<R: Net + time::Clock + Copy>(
     alloc: Global,
     net: R,
     at: &UpstreamAt,
-) -> Result<HttpLink<RealDial<R>>, AllocError> {
+) -> Result<HttpLink<RealDial<R>>, AllocError>
+    ensures { IfOk result (λ link. server_of link ≡ at.now) }
+{
     let host = String::from_str(alloc, at.host.as_str())?;
     let base = String::from_str(alloc, at.base.as_str())?;
     Ok(HttpLink::new(RealDial::new(net), host, at.port, base))
@@ -75,7 +78,9 @@ fn row<R: Net + time::Clock + Copy>(
     alloc: Global,
     net: R,
     upstream: &[UpstreamAt],
-) -> Result<Vec<HttpLink<RealDial<R>>>, AllocError> {
+) -> Result<Vec<HttpLink<RealDial<R>>>, AllocError>
+    ensures { IfOk result (λ links. map server_of links.items ≡ upstream.now) }
+{
     let mut links = Vec::new(alloc);
     for at in upstream {
         links.push(link(alloc, net, at)?)?;
@@ -83,14 +88,15 @@ fn row<R: Net + time::Clock + Copy>(
     Ok(links)
 }
 
-/// So many rows of links, each with a link to each server.
+/// So many rows of links, each with a link to each server, in order.
 fn rows<R: Net + time::Clock + Copy>(
     alloc: Global,
     net: R,
     upstream: &[UpstreamAt],
     count: u64,
 ) -> Result<Vec<Vec<HttpLink<RealDial<R>>>>, AllocError>
-    ensures { IfOk result (λ rows. vec_len rows ≡ count) }
+    ensures count { IfOk result (λ rows. vec_len rows ≡ count) }
+    ensures servers { IfOk result (λ rows. All (λ row. map server_of row.items ≡ upstream.now) rows.items) }
 {
     let mut rows = Vec::new(alloc);
     for _ in 0..count {
@@ -112,7 +118,7 @@ fn run_over<T: Tree<OpenWorld>, D: Door, L: Link, C: Clock + Drop, Rt: Threads +
 ) -> u8
     requires hand { 0 < vec_len hands }
     requires enough { HasEnough (line_of (map string_bytes words.now)) (vec_len hands)
-        (vec_len doors) (vec_len links) }
+        (vec_len doors) links.items }
 {
     let mut outside = Outside {
         hands,
@@ -141,6 +147,8 @@ fn run_linked<T: Tree<OpenWorld>, L: Link, Rt: Threads + Wait + Sync>(
     requires hands { hands_of (line_of (map string_bytes words.now)) ≤ vec_len hands }
     requires doors { needs.now.doors ≡ doors_of (line_of (map string_bytes words.now)) }
     requires rows { doors_of (line_of (map string_bytes words.now)) ≤ vec_len links }
+    requires linked { All (λ row. length row.items
+        ≡ length (servers_of (line_of (map string_bytes words.now)))) links.items }
 {
     let doors = doors(rt, needs)?;
     Ok(run_over(rt, threads, words, hands, doors, links, RealClock::new(*rt)))
@@ -157,6 +165,7 @@ fn run_handed<T: Tree<OpenWorld>, Rt: Threads + Wait + Sync>(
     requires hand { 0 < vec_len hands }
     requires hands { hands_of (line_of (map string_bytes words.now)) ≤ vec_len hands }
     requires doors { needs.now.doors ≡ doors_of (line_of (map string_bytes words.now)) }
+    requires upstream { needs.now.upstream.items ≡ servers_of (line_of (map string_bytes words.now)) }
 {
     let links = rows(rt.alloc(), *rt, needs.upstream.as_slice(), needs.doors)?;
     run_linked(rt, threads, words, needs, hands, links)

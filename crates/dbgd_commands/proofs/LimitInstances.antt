@@ -5,15 +5,16 @@ use Rattle.std.proofs.lemmas.List.Sums.{count_by-le-length}
 use Rattle.row_types.specs.Name.{NameFacts, stamp_at}
 use Rattle.row_types.specs.Row.{RowFacts}
 use Rattle.index_keeper.specs.Store.{ShownStore}
+use Rattle.index_rows.specs.declared.change.Change.{Change}
 use Rattle.index_rows.specs.declared.rows.TheConstants.{LOG_LIMIT}
 use Rattle.index_state.specs.Plan.{is_other}
 use Rattle.scan_queue.specs.declared.listing.TheConstants.{LISTING_LIMIT}
 use Rattle.dbgd_commands.specs.Scan.{IsOutOfChanges}
 
 -- a scan into a store without rows never meets it, however many files are listed
-pub never_from_nothing : (told : Bool) (new : ShownStore) (listing : List NameFacts) (left : List RowFacts)
-    → length listing ≤ LISTING_LIMIT → IsOutOfChanges told new listing [] left → ⊥
-never_from_nothing told new listing left few h =
+pub never_from_nothing : (told : Bool) (new : ShownStore) (listing : List NameFacts) (changes : List Change) (left : List RowFacts)
+    → length listing ≤ LISTING_LIMIT → IsOutOfChanges told new listing changes [] left → ⊥
+never_from_nothing told new listing changes left few h =
     let added = count_by-le-length (λ (name : NameFacts). is_none (stamp_at [] name.path)) listing in
     let replaced = count_by-le-length (λ (name : NameFacts). is_other (stamp_at [] name.path) name.stamp) listing in
     let many = h.many in

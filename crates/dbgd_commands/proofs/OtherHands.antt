@@ -7,6 +7,7 @@ use Rattle.std.proofs.lemmas.List.Sums.{sum_by-append}
 use Rattle.row_types.specs.Name.{NameFacts}
 use Rattle.row_types.specs.Row.{RowFacts}
 use Rattle.index_keeper.specs.Store.{ShownStore}
+use Rattle.index_rows.specs.declared.change.Change.{Change}
 use Rattle.index_rows.specs.Rows.{row_names}
 use Rattle.index_state.specs.Opening.{current}
 use Rattle.index_state.specs.declared.open_fault.OpenFault.{OpenFault}
@@ -38,7 +39,7 @@ idle : {T : Type 0} (s : Setting T) (listing : List NameFacts) (rows : List RowF
 idle s listing rows one = helps_none s.sees s.tells_files s.world.version listing (row_names rows) one
 
 module _ {T : Type 0} (s : Setting T) (roots : List (List ℕ)) (rest : List T) (hand later : T) (hands left : List T) (old new : ShownStore) where
-  makes_beside : {Ends : List NameFacts → List Heard → List RowFacts → List RowFacts → List RowFacts → Type 0}
+  makes_beside : {Ends : List NameFacts → List Heard → List Change → List RowFacts → List RowFacts → List RowFacts → Type 0}
       → MakesPass s roots (hand ∷ hands) (later ∷ left) old new Ends → MakesPass s roots ((hand ∷ hands) ++ rest) ((later ∷ left) ++ rest) old new Ends
   makes_beside run = record {
     found = run.found;

@@ -1,5 +1,5 @@
 -- The pass of a scan: what is said of the index that made it is said of the store that it came from and went to.
-use Rattle.std.proofs.Common.{◌≡◌, ◌⊎◌, inl, inr, ℕ, ◌+◌, ◌≤◌, Bool, true, false, List, ◌∷◌, drop, Option, Some, Ok, length, refl, sym, ◌∙◌, ap, subst, arith, IsTrue}
+use Rattle.std.proofs.Common.{◌≡◌, ◌⊎◌, inl, inr, ℕ, ◌+◌, ◌≤◌, Bool, true, false, List, ◌∷◌, ◌++◌, drop, Option, Some, Ok, length, refl, sym, ◌∙◌, ap, subst, arith, IsTrue}
 use Rattle.std.specs.List.{AllZip}
 use Rattle.std.proofs.lemmas.List.{length-map}
 use Rattle.row_types.specs.Faults.{Rose}
@@ -12,7 +12,7 @@ use Rattle.index_keeper.specs.Store.{HasAll, ShownStore, TakesKeeperBack}
 use Rattle.index_keeper.specs.Tables.{KeptFacts}
 use Rattle.index_keeper.specs.declared.answer.KeptAnswer.{KeptAnswer}
 use Rattle.index_keeper.specs.declared.answer.KeptAnswer.TheVariants as kept
-use Rattle.index_rows.specs.Log.{put_of}
+use Rattle.index_rows.specs.Log.{put_of, replay}
 use Rattle.index_rows.specs.Rows.{row_names}
 use Rattle.index_rows.specs.declared.rows.TheConstants.{LOG_LIMIT}
 use Rattle.index_rows.specs.declared.change.Change.{Change}
@@ -22,7 +22,7 @@ use Rattle.index_state.specs.Kept.{AgreesOrInDoubt, IsInDoubt, IsInStore, IsNext
 use Rattle.index_state.specs.Opening.{Opens, current, made_swept}
 use Rattle.index_state.specs.Bound.{IsWithinPlan, voids}
 use Rattle.index_state.specs.Plan.{most_changes, plan_of}
-use Rattle.index_state.specs.State.{Origin, StateFacts, pass_or_none}
+use Rattle.index_state.specs.State.{Origin, StateFacts, lasting, pass_or_none}
 use Rattle.tree_trait.specs.Heard.{Heard}
 use Rattle.tree_trait.specs.Shown.{ShownTree}
 use Rattle.tree_walk.specs.Ends.{WalksTree}
@@ -185,10 +185,10 @@ module _ {K T : Type 0} (s : Setting T) {shows : K → ShownKeeper} {from into :
 
   makes : {roots : List (List ℕ)} {listing : List NameFacts} {hand later : T} {hands left : List T}
       {Ends : StateFacts K → List Heard → Type 0}
-      {Into : List NameFacts → List Heard → List RowFacts → List RowFacts → List RowFacts → Type 0}
+      {Into : List NameFacts → List Heard → List Change → List RowFacts → List RowFacts → List RowFacts → Type 0}
       (run : RunsPass s.world s.tells_files (length (hand ∷ hands)) roots listing (s.sees hand) (s.sees later) old new Ends)
       → Aided listing hands left
-      → Into listing run.more (current lent.opens.opened.rows) run.found.rows new.rows
+      → Into listing run.more holds.store_agrees_with_rows.since.since (current lent.opens.opened.rows) run.found.rows new.rows
       → MakesPass s roots (hand ∷ hands) (later ∷ left) from into Into
   makes {roots} {listing} {hand} {later} {hands} {left} {Into = Into} run helps ends =
       let stands = subst (λ (l : List NameFacts). IsHelped (length (hand ∷ hands)) l old run.found) (sym run.over) run.helped in
@@ -201,7 +201,10 @@ module _ {K T : Type 0} (s : Setting T) {shows : K → ShownKeeper} {from into :
         alone = λ one. ap (λ (st : StateFacts K). st.rows) (run.helped.alone one) ∙ old_rows;
         left = new.rows;
         sound = holds.rows_sorted_and_true;
-        made = made_since (ap (λ (o : Origin). o.made) (run.leaves.origin ∙ run.helped.origin));
+        made = record {
+          changes = holds.store_agrees_with_rows.since.since;
+          each = told_since (ap (λ (o : Origin). o.made) (run.leaves.origin ∙ run.helped.origin));
+        };
         walk = run.walk;
         walked = run.walked;
         more = run.more;
@@ -214,7 +217,7 @@ module _ {K T : Type 0} (s : Setting T) {shows : K → ShownKeeper} {from into :
         kept = kept_by run.walk.listing run.found.rows stands.stays;
         moves = leaves.moves;
         ends =
-            subst (λ (l : List NameFacts). Into l run.more (current lent.opens.opened.rows) run.found.rows new.rows) (sym run.over) ends;
+            subst (λ (l : List NameFacts). Into l run.more holds.store_agrees_with_rows.since.since (current lent.opens.opened.rows) run.found.rows new.rows) (sym run.over) ends;
       }
 
   -- a log without room has the rows that were found and the changes that the plan allows
@@ -251,10 +254,16 @@ module _ {K T : Type 0} (s : Setting T) {shows : K → ShownKeeper} {from into :
   ends_by roots listing hand later hands left ended.KeeperFault path (inl run) helps idle = inl (makes run helps (may_have run.ends))
   ends_by roots listing hand later hands left ended.KeeperFault path (inr run) helps idle = inr (helped_on run helps (may_have run.ends))
   ends_by roots listing hand later hands left ended.LogFull path run helps idle =
+      let since = holds.store_agrees_with_rows.since in
+      let parts : new.log ≡ since.first ++ since.since = subst (λ b. lasting b new.log ≡ since.first ++ since.since) run.ends.sound since.parts in
       makes run helps (record {
-        log = new.log;
-        names = holds.rows_replay_the_log.names;
-        full = run.ends.full;
+        first = since.first;
+        puts = since.puts;
+        count =
+            since.count ∙ ap (λ (o : Origin). o.puts) (run.leaves.origin ∙ run.helped.origin)
+            ∙ ap (λ (st : StateFacts K). st.origin.puts) lent.opens.opened.value;
+        names = holds.rows_replay_the_log.names ∙ ap replay parts;
+        full = sym (ap (λ (log : List Change). length log) parts) ∙ run.ends.full;
         apart = λ names.
             run.ends.apart (names ∙ sym (ap (λ (p : Option PassFacts). (pass_or_none p).listing) run.leaves.is_open ∙ run.leaves.over));
         many = many_changes listing run.ends.full run.ends.sound run.bounded;

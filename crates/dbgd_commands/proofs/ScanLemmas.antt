@@ -8,6 +8,7 @@ use Rattle.row_types.specs.Row.{RowFacts}
 use Rattle.scan_queue.specs.declared.miss.Cause.{Cause}
 use Rattle.scan_queue.specs.declared.miss.Cause.TheVariants as cause
 use Rattle.http_wire.specs.Sink.{GetsAll}
+use Rattle.index_rows.specs.declared.change.Change.{Change}
 use Rattle.index_rows.specs.Rows.{row_names}
 use Rattle.index_rows.specs.declared.rows.TheConstants.{LOG_LIMIT}
 use Rattle.index_state.specs.Opening.{AreRows, IsOverfull, current}
@@ -126,7 +127,7 @@ module _ {T : Type 0} (s : Setting T) (path : List ℕ) (roots : List (List ℕ)
 
   -- what it heard of a file that is another by now
   other_heard : (name : NameFacts) (why : Cause) → IsChange why
-      → {Ends : List NameFacts → List Heard → List RowFacts → List RowFacts → List RowFacts → Type 0}
+      → {Ends : List NameFacts → List Heard → List Change → List RowFacts → List RowFacts → List RowFacts → Type 0}
       → (pass : MakesPass s roots before.hands after.hands before.store after.store Ends) → IsCanonPath name.path
       → IsMissTold (record { name = name; cause = why }) (FirstRose s before.hands after.hands) pass.walk.listing (row_names pass.met)
       pass.more

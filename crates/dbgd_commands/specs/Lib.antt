@@ -12,6 +12,7 @@ pub mod ScanSaid
 pub mod Scene
 pub mod Section
 pub mod Sources
+pub mod Stage
 pub mod Statuses
 pub mod Texts
 pub mod Trial

@@ -1,7 +1,7 @@
 -- The command `scan` (this project's rule): the store is opened, the index on it makes one pass over the folders, and
 -- the store has its keeper back. The rows that the store held and those that it has in the end are what the pass is
 -- said of.
-use Rattle.std.specs.Prelude.{◌≡◌, ◌≢◌, ◌⊎◌, ℕ, ◌+◌, ◌≤◌, Bool, true, List, drop, length, IsTrue, Ok}
+use Rattle.std.specs.Prelude.{◌≡◌, ◌≢◌, ◌⊎◌, ℕ, ◌+◌, ◌≤◌, Bool, true, List, ◌++◌, drop, length, IsTrue, Ok}
 use Rattle.row_types.specs.Canon.{IsCanonPath}
 use Rattle.row_types.specs.Faults.{HasCause, Rose}
 use Rattle.row_types.specs.Name.{NameFacts}
@@ -14,6 +14,7 @@ use Rattle.index_rows.specs.Log.{replay}
 use Rattle.index_rows.specs.Rows.{row_names}
 use Rattle.index_rows.specs.declared.change.Change.{Change}
 use Rattle.index_rows.specs.declared.rows.TheConstants.{LOG_LIMIT}
+use Rattle.index_state.specs.Changes.{ArePuts}
 use Rattle.index_state.specs.Complete.{IsScan}
 use Rattle.index_state.specs.Invariant.{AreTrueRows}
 use Rattle.index_state.specs.Opening.{IsFirstBad, IsOverfull, current, made_swept}
@@ -107,10 +108,11 @@ pub record EndsScanHelped {T : Type 0} (s : Setting T) (roots : List (List ℕ))
 -- each heard nothing but openings and reads of parts, or looks, and none of a path of a listed name that had a row; the rows
 -- that were met stood then, and no row of a listed name had gone. The first hand heard a whole walk, and then nothing but
 -- openings and reads of listed files whose names had no row by then and looks under the folders; from then on the rows went
--- and came as in a pass, by what it heard. With one hand the rows that were met are those of the edition that were found
+-- and came as in a pass, by what it heard. With one hand the rows that were met are those of the edition that were found. How
+-- it ended may speak of the changes that the store made, too
 pub record MakesPass {T : Type 0} (s : Setting T) (roots : List (List ℕ)) (before after : List T)
     (old new : ShownStore)
-    (Ends : List NameFacts → List Heard → List RowFacts → List RowFacts → List RowFacts → Type 0)
+    (Ends : List NameFacts → List Heard → List Change → List RowFacts → List RowFacts → List RowFacts → Type 0)
     : Type 0 where
   pub found : List RowFacts
   pub held : StoreHoldsRows s.tells_tables old found
@@ -129,7 +131,7 @@ pub record MakesPass {T : Type 0} (s : Setting T) (roots : List (List ℕ)) (bef
       (HelpsWith s walk.listing (current found)) before after
   pub kept : KeepsListed walk.listing (current found) met
   pub moves : MovesRows walk.listing roots more met left
-  pub ends : Ends walk.listing more (current found) met left
+  pub ends : Ends walk.listing more made.changes (current found) met left
 
 -- the scan is whole: the rows have the listed names, in a told world they are one scan of the listing, the store has
 -- them and nothing else, and the numbers are those of the plan against the rows of the edition that it held
@@ -147,13 +149,16 @@ pub record ScanMissesName (told : Bool) (new : ShownStore) (Failed : Type 0) (mi
   pub tells : IsMissTold miss Failed listing (row_names met) more
   pub has : HasRows told new left
 
--- the log of the changes that lead to the rows has no room, and they aren't those of the listing; the rows that were found
--- and the changes that the plan against them allows are as many as the limit, or more
-pub record IsOutOfChanges (told : Bool) (new : ShownStore) (listing : List NameFacts)
+-- the log has no room, and the rows that it leads to aren't those of the listing: it is one put for each row that was found,
+-- by path, and behind them the changes that the store made. The rows that were found and the changes that the plan against
+-- them allows are as many as the limit, or more
+pub record IsOutOfChanges (told : Bool) (new : ShownStore) (listing : List NameFacts) (changes : List Change)
     (found left : List RowFacts) : Type 0 where
-  pub log : List Change
-  pub names : row_names left ≡ replay log
-  pub full : length log ≡ LOG_LIMIT
+  pub first : List Change
+  pub puts : ArePuts first
+  pub count : length first ≡ length found
+  pub names : row_names left ≡ replay (first ++ changes)
+  pub full : length (first ++ changes) ≡ LOG_LIMIT
   pub apart : row_names left ≢ listing
   pub many : LOG_LIMIT ≤ length found + most_changes (plan_of listing (row_names found))
   pub has : HasRows told new left
@@ -163,26 +168,26 @@ abbrev pub EndsPassed : {T : Type 0} → Setting T → List (List ℕ) → List 
     → ShownStore → PassEnd → Type 0
 EndsPassed s roots before after old new (pass.Whole summary) =
     MakesPass s roots before after old new
-    (λ listing more found met left.
+    (λ listing more changes found met left.
     IsWholeScan s.world s.tells_tables new summary listing found left)
 EndsPassed s roots before after old new (pass.Missed miss) =
     MakesPass s roots before after old new
-    (λ listing more found met left. ScanMissesName s.tells_tables new (FirstRose s before after) miss
+    (λ listing more changes found met left. ScanMissesName s.tells_tables new (FirstRose s before after) miss
     listing more met left)
 EndsPassed s roots before after old new (pass.Walk fault) =
     EndsInWalk s before after old new (WalksInto s.tells_files roots fault)
 EndsPassed s roots before after old new pass.Broken = ⊥
 EndsPassed s roots before after old new pass.KeeperFault =
     MakesPass s roots before after old new
-    (λ listing more found met left. MayHaveRows s.world.true_row s.tells_tables new left)
+    (λ listing more changes found met left. MayHaveRows s.world.true_row s.tells_tables new left)
     ⊎ EndsScanHelped s roots before after old new (MayHaveRows s.world.true_row s.tells_tables new)
 EndsPassed s roots before after old new pass.LogFull =
     MakesPass s roots before after old new
-    (λ listing more found met left. IsOutOfChanges s.tells_tables new listing found left)
+    (λ listing more changes found met left. IsOutOfChanges s.tells_tables new listing changes found left)
 EndsPassed s roots before after old new pass.OutOfMemory =
     EndsUnbegun s roots before after old new
     ⊎ (MakesPass s roots before after old new
-    (λ listing more found met left. HasRows s.tells_tables new left)
+    (λ listing more changes found met left. HasRows s.tells_tables new left)
     ⊎ EndsScanHelped s roots before after old new (HasRows s.tells_tables new))
 
 -- how the scan came to its end, and what it left

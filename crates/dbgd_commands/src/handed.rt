@@ -1,5 +1,12 @@
 //! What the program is handed.
 
+ghost use Rattle.std.specs.Prelude.{map};
+ghost use Rattle.row_types.specs.Rules.{rules};
+ghost use Rattle.dbgd_commands.specs.Endings.{streams};
+ghost use Rattle.dbgd_commands.specs.Scene.{Setting, scene, setting};
+ghost use Rattle.dbgd_commands.specs.Stage.{ProgramStage, rows_shown, stage};
+
+use crate::kinds::Kinds;
 use elf_reading::ElfTruth;
 use federation::Link;
 use http_wire::{Door, Sink};
@@ -30,4 +37,46 @@ pub struct Outside<
     pub err: O,
     pub gate: G,
     pub of: PhantomData<W>,
+}
+
+/// All that the program is handed, of these kinds.
+pub type Handed<X> = Outside<
+    <X as Kinds>::W,
+    <X as Kinds>::T,
+    <X as Kinds>::S,
+    <X as Kinds>::D,
+    <X as Kinds>::L,
+    <X as Kinds>::C,
+    <X as Kinds>::O,
+    <X as Kinds>::G,
+>;
+
+/// What contracts know of what is handed.
+pub trait Staged {
+    type Hand;
+
+    /// What a run rests on: what the types of the objects tell.
+    ghost setting: { Setting Self.Hand };
+
+    /// What the objects show at a moment.
+    ghost stage: { Self → ProgramStage Self.Hand };
+}
+
+impl<
+    W: ElfTruth + Send + Sync,
+    T: Tree<W>,
+    S: Store<W>,
+    D: Door,
+    L: Link,
+    C: Clock + Drop,
+    O: Sink,
+    G: Gate + Drop,
+> Staged for Outside<W, T, S, D, L, C, O, G> {
+    type Hand = T;
+
+    ghost setting = { setting (rules W.version W.true_row W.told) T.told T.shows S.K.told };
+
+    ghost stage = { λ o. stage
+        (scene o.hands.items (S.shows o.store) (streams O.shows o.out o.err))
+        (map D.shows o.doors.items) (rows_shown L.shows o.links.items) (C.woke o.clock) };
 }

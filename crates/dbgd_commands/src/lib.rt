@@ -4,6 +4,7 @@
 
 mod handed;
 mod ident;
+mod kinds;
 mod lent;
 mod query;
 mod query_end;
@@ -21,8 +22,9 @@ mod trial_keeper;
 mod trial_sum;
 mod trial_text;
 
-pub use handed::Outside;
+pub use handed::{Handed, Outside, Staged};
 pub use ident::run_ident;
+pub use kinds::{Kinds, Of};
 pub use lent::{Others, lend, rejoin};
 pub use query::run_query;
 pub use scan::run_scan;
@@ -31,6 +33,6 @@ pub use scan_sayings::{say_end, say_pass, say_refusal};
 pub use scan_texts::push_count;
 pub use section::run_section;
 pub use sources::run_sources;
-pub use speech::{say, say_error, say_no_memory, tell};
+pub use speech::{say, say_error, say_no_memory, write_line};
 pub use status::Status;
 pub use trial::run_trial;

@@ -8,20 +8,18 @@ ghost use Rattle.index_state.specs.Opening.{CanOpen};
 ghost use Rattle.tree_trait.specs.Shown.{HandsOn};
 ghost use Rattle.pass_runner.specs.Owned.{HandsGo, is_hand_fault as is_hand_fault_of};
 ghost use Rattle.dbgd_words.specs.Limits.{IsScanFit};
-ghost use Rattle.dbgd_commands.specs.Endings.{streams};
 ghost use Rattle.dbgd_commands.specs.Passing.{HasMissedPath, ScansIndex};
 ghost use Rattle.dbgd_commands.specs.Scan.{EndsScan, LoadsBy, RunsScan, Scans};
 ghost use Rattle.dbgd_commands.specs.ScanSaid.{is_first_hand_fault, is_store_fault};
-ghost use Rattle.dbgd_commands.specs.Scene.{scene, setting};
+ghost use Rattle.dbgd_commands.specs.Scene.{setting};
 
-use crate::handed::Outside;
+use crate::handed::{Handed, Staged};
+use crate::kinds::Kinds;
 use crate::lent::{asked, lend, rejoin};
 use crate::scan_end::ScanEnd;
 use crate::scan_sayings::say_end;
 use crate::status::Status;
 use elf_reading::{ElfReader, ElfTruth};
-use federation::Link;
-use http_wire::{Door, Sink};
 use index_keeper::{Keeper, Store, StoreAnswer};
 use index_state::{OpenFault, State, open_state};
 use pass_runner::{PassEnd, scan_state};
@@ -30,7 +28,7 @@ use std::alloc::Global;
 use std::mem;
 use std::sync::Wait;
 use std::thread::Threads;
-use tree_trait::{Clock, Gate, Tree};
+use tree_trait::{Gate, Tree};
 
 /// Shows that a path is one that is kept. It is called for its clause alone.
 fn show_path(path: &CanonPath)
@@ -153,29 +151,19 @@ fn scan<W: ElfTruth + Send + Sync, T: Tree<W>, S: Store<W>, G: Gate, Rt: Threads
 
 /// Scans the folders into a store by so many workers, and says how the scan ended: one hand walks, one
 /// looks for the files of rows, and one for each worker reads. The hands behind these aren't asked.
-fn scan_by<
-    W: ElfTruth + Send + Sync,
-    T: Tree<W>,
-    S: Store<W>,
-    D: Door,
-    L: Link,
-    C: Clock + Drop,
-    O: Sink,
-    G: Gate + Drop,
-    Rt: Threads + Wait + Sync,
->(
+fn scan_by<X: Kinds, Rt: Threads + Wait + Sync>(
     rt: &Rt,
     alloc: Global,
     path: &str,
     workers: u64,
     roots: &[CanonPath],
-    outside: &mut Outside<W, T, S, D, L, C, O, G>,
+    outside: &mut Handed<X>,
 ) -> ScanEnd
     requires hand { 0 < vec_len outside.old.hands }
     requires fits { IsScanFit workers }
-    ensures scans { Scans (setting (rules W.version W.true_row W.told) T.told T.shows S.K.told)
-        path.now roots.now outside.old.hands.items outside.new.hands.items
-        (S.shows outside.old.store) (S.shows outside.new.store) result }
+    ensures scans { Scans ⟦<Handed<X> as Staged>⟧.setting path.now roots.now
+        outside.old.hands.items outside.new.hands.items
+        (X.S.shows outside.old.store) (X.S.shows outside.new.store) result }
     ensures others { drop (workers + 2) outside.new.hands.items
         ≡ drop (workers + 2) outside.old.hands.items }
     ensures count { vec_len outside.new.hands ≡ vec_len outside.old.hands }
@@ -187,7 +175,7 @@ fn scan_by<
     let count = asked(workers, hands.len());
     match lend(alloc, hands, count) {
         Ok(others) => {
-            let end = scan(
+            let end = scan::<X::W, X::T, X::S, X::G, Rt>(
                 rt,
                 alloc,
                 path,
@@ -204,36 +192,23 @@ fn scan_by<
 }
 
 /// Scans the folders into a store by so many workers, and says how that ended.
-pub fn run_scan<
-    W: ElfTruth + Send + Sync,
-    T: Tree<W>,
-    S: Store<W>,
-    D: Door,
-    L: Link,
-    C: Clock + Drop,
-    O: Sink,
-    G: Gate + Drop,
-    Rt: Threads + Wait + Sync,
->(
+pub fn run_scan<X: Kinds, Rt: Threads + Wait + Sync>(
     rt: &Rt,
     alloc: Global,
     path: &str,
     workers: u64,
     roots: &[CanonPath],
-    outside: &mut Outside<W, T, S, D, L, C, O, G>,
+    outside: &mut Handed<X>,
 ) -> Status
     requires hand { 0 < vec_len outside.old.hands }
     requires fits { IsScanFit workers }
-    ensures runs { RunsScan (setting (rules W.version W.true_row W.told) T.told T.shows S.K.told)
-        path.now workers roots.now
-        (scene outside.old.hands.items (S.shows outside.old.store)
-        (streams O.shows outside.old.out outside.old.err))
-        (scene outside.new.hands.items (S.shows outside.new.store)
-        (streams O.shows outside.new.out outside.new.err)) result }
+    ensures runs { RunsScan ⟦<Handed<X> as Staged>⟧.setting path.now workers roots.now
+        (⟦<Handed<X> as Staged>⟧.stage outside.old).scene
+        (⟦<Handed<X> as Staged>⟧.stage outside.new).scene result }
     ensures count { vec_len outside.new.hands ≡ vec_len outside.old.hands }
     ensures rest { (outside.new.doors ≡ outside.old.doors) × (outside.new.links ≡ outside.old.links)
         × (outside.new.clock ≡ outside.old.clock) }
 {
-    let end = scan_by(rt, alloc, path, workers, roots, outside);
+    let end = scan_by::<X, Rt>(rt, alloc, path, workers, roots, outside);
     say_end(alloc, &end, &mut outside.out, &mut outside.err)
 }

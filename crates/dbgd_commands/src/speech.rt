@@ -24,9 +24,9 @@ fn write_both<S: Sink>(sink: &mut S, first: &[u8], second: &[u8]) -> Result<(), 
     write_all(sink, second)
 }
 
-/// Writes a line of two pieces.
+/// Writes a line of two pieces. After the fault a part of it was written.
 #[tactic(auto, using(http_wire::proofs::Pieces::in_a_row))]
-fn write_line<S: Sink>(sink: &mut S, text: &str, object: &str) -> Result<(), WriteFault>
+pub fn write_line<S: Sink>(sink: &mut S, text: &str, object: &str) -> Result<(), WriteFault>
     ensures { MatchResult result
         (λ _. GetsAll (fed_line (text.now ++ object.now)) (S.shows sink.old) (S.shows sink.new))
         (λ _. GetsPart (fed_line (text.now ++ object.now)) (S.shows sink.old) (S.shows sink.new)) }

@@ -10,7 +10,8 @@ ghost use Rattle.dbgd_commands.specs.Trial.{HasScanned, IsLineOf, SaysTrial, for
 ghost use Rattle.dbgd_commands.specs.TrialPass.{EndsWell, IsNewIndex};
 ghost use Rattle.dbgd_words.specs.Limits.{IsTrialFit};
 
-use crate::handed::Outside;
+use crate::handed::Handed;
+use crate::kinds::Kinds;
 use crate::scan::show_end;
 use crate::speech::{say, say_no_memory};
 use crate::status::Status;
@@ -18,17 +19,14 @@ use crate::trial_keeper::TrialKeeper;
 use crate::trial_sum::{Totals, totals_in};
 use crate::trial_text::totals_line;
 use elf_forge::ForgeTree;
-use elf_reading::{ElfReader, ElfTruth};
-use federation::Link;
-use http_wire::{Door, Sink};
-use index_keeper::Store;
+use elf_reading::ElfReader;
 use index_state::{OpenFault, State, open_state, show_index};
 use pass_runner::{PassEnd, Summary, scan_state};
 use row_types::{CanonPath, OpenWorld};
 use std::alloc::{AllocError, Global};
 use std::sync::Wait;
 use std::thread::Threads;
-use tree_trait::{Clock, Gate, Tree};
+use tree_trait::Gate;
 use tree_walk::WalkFault;
 
 /// The index of a trial.
@@ -138,30 +136,21 @@ fn line_of<G: Gate, Rt: Threads + Wait + Sync>(
 
 /// Scans generated files into a new index in memory, by so many workers, and says what it has then.
 /// The hands and the store that the program is handed aren't looked at.
-pub fn run_trial<
-    W: ElfTruth + Send + Sync,
-    T: Tree<W>,
-    S: Store<W>,
-    D: Door,
-    L: Link,
-    C: Clock + Drop,
-    O: Sink,
-    G: Gate + Drop,
-    Rt: Threads + Wait + Sync,
->(
+pub fn run_trial<X: Kinds, Rt: Threads + Wait + Sync>(
     rt: &Rt,
     alloc: Global,
     seed: u64,
     files: u64,
     workers: u64,
-    outside: &mut Outside<W, T, S, D, L, C, O, G>,
+    outside: &mut Handed<X>,
 ) -> Status
     requires { IsTrialFit files workers }
-    ensures says { SaysTrial seed files (streams O.shows outside.old.out outside.old.err)
-        (streams O.shows outside.new.out outside.new.err) result }
+    ensures says { SaysTrial seed files
+        (streams X.O.shows outside.old.out outside.old.err)
+        (streams X.O.shows outside.new.out outside.new.err) result }
     ensures hands { outside.new.hands.items ≡ outside.old.hands.items }
     ensures count { vec_len outside.new.hands ≡ vec_len outside.old.hands }
-    ensures store { S.shows outside.new.store ≡ S.shows outside.old.store }
+    ensures store { X.S.shows outside.new.store ≡ X.S.shows outside.old.store }
     ensures rest { (outside.new.doors ≡ outside.old.doors) × (outside.new.links ≡ outside.old.links)
         × (outside.new.clock ≡ outside.old.clock) }
 {

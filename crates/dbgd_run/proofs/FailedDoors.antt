@@ -9,7 +9,7 @@ use Rattle.http_wire.specs.declared.door.DoorSaid.{DoorSaid}
 use Rattle.http_wire.specs.declared.door.DoorSaid.TheVariants as said
 use Rattle.index_rows.specs.declared.change.Change.{Change}
 use Rattle.conn_server.specs.Doors.{said_at}
-use Rattle.conn_server.specs.Scene.{Scene}
+use Rattle.conn_server.specs.Stage.{ConnSetting}
 use Rattle.conn_server.specs.declared.door.DoorEnd.{DoorEnd}
 use Rattle.conn_server.specs.declared.door.DoorEnd.TheVariants as end
 use Rattle.dbgd_run.specs.ServeCauses.{SomeDoorRose}
@@ -18,7 +18,7 @@ use Rattle.dbgd_run.specs.Workers.{ServedBy, WorkerFacts}
 use Rattle.dbgd_run.proofs.RoundLemmas.{neither}
 
 -- a door that was served failed or closed, as it said last; it failed only where its count rose
-module _ {T : Type 0} (scene : Scene T) (first last : List Change) where
+module _ {T : Type 0} (scene : ConnSetting T) (first last : List Change) where
   rose_if : (before after : WorkerFacts T) → ServedBy scene first last before after → has_failed after.door.last ≡ true
       → Rose before.door.faults after.door.faults
   rose_if before after by failed = by_end by.ran.end by.ran.serves.ends.last by.ran.serves.ends.cause.rose

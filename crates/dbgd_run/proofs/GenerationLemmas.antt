@@ -12,11 +12,11 @@ use Rattle.dbgd_metrics.specs.Shares.{ShareFacts}
 use Rattle.federation.specs.declared.asking.Upstream.{Upstream}
 use Rattle.conn_server.specs.Asked.{Request}
 use Rattle.conn_server.specs.Cases.{IsCase, IsPassed, IsUnfound, generation_of}
-use Rattle.conn_server.specs.Cases.{bad_head, too_long, too_many, method, has_body, no_route, metrics, no_page, passed, no_memory}
+use Rattle.conn_server.specs.Cases.{bad_head, too_long, too_many, method, has_body, page, no_route, metrics, no_page, passed, no_memory}
 use Rattle.conn_server.specs.Cases.{upstream, read_fault, hop_limit, upstream_fault, not_found, links_memory}
 use Rattle.conn_server.specs.Exchange.{Exchange, IsExchange}
 use Rattle.conn_server.specs.Replies.{reason_of_route}
-use Rattle.conn_server.specs.Scene.{Scene, Stand, sight_at}
+use Rattle.conn_server.specs.Stage.{ConnSetting, ConnStage, sight_at}
 use Rattle.conn_server.specs.declared.reason.Reason.{Reason}
 use Rattle.conn_server.specs.declared.report.Asked as given
 use Rattle.dbgd_run.specs.Workers.{rests_on_index}
@@ -49,7 +49,7 @@ unfound_at sight route (section_found from path n) is missed = absurd missed
 unfound_at sight route (source_found bytes path n) is missed = absurd missed
 unfound_at sight route no_memory_found is missed = absurd missed
 
-module _ {T : Type 0} (scene : Scene T) (at : Stand T) (own noted : ShareFacts) (log : List Change) (request : Request) where
+module _ {T : Type 0} (scene : ConnSetting T) (at : ConnStage T) (own noted : ShareFacts) (log : List Change) (request : Request) where
   at_log : {what : given.Asked} {why : Reason} {n : ℕ} {carried : _} {answers : List Heard} {told : Option Upstream}
       → IsCase scene at own noted log request what why n carried answers told → IsTrue (rests_on_index why) → n ≡ length log
   at_log (bad_head len e) h = absurd (false≢true h)
@@ -57,7 +57,8 @@ module _ {T : Type 0} (scene : Scene T) (at : Stand T) (own noted : ShareFacts) 
   at_log (too_many e) h = absurd (false≢true h)
   at_log (method head e served) h = absurd (false≢true h)
   at_log (has_body head e served body) h = absurd (false≢true h)
-  at_log (no_route head fault e taken said) h = absurd (no_route_asks fault h)
+  at_log (page head decided e taken is) h = absurd is
+  at_log (no_route head fault e looked said) h = absurd (no_route_asks fault h)
   at_log (passed head route answer heard e asks file rests is) h = passed_at (sight_at scene at log heard) route answer rests is
   at_log (upstream head route answer heard given e asks file rests unfound) h =
       unfound_at (sight_at scene at log heard) route answer rests unfound
@@ -65,11 +66,11 @@ module _ {T : Type 0} (scene : Scene T) (at : Stand T) (own noted : ShareFacts) 
   at_log (hop_limit head route m heard e asks file rests) h = rests.1
   at_log (upstream_fault head route m heard refused failed e asks file rests some) h = rests.1
   at_log (not_found head route m heard refused e asks file rests) h = rests.1
-  at_log (no_memory head route heard e asks files) h = absurd (false≢true h)
+  at_log (no_memory head route heard e asks files rests) h = absurd (false≢true h)
   at_log (links_memory head route answer heard e asks file rests unfound) h = absurd (false≢true h)
-  at_log (metrics head text e asks page) h = absurd (false≢true h)
+  at_log (metrics head text e asks shown) h = absurd (false≢true h)
   at_log (no_page head e asks) h = absurd (false≢true h)
 
-pub generation_is : {T : Type 0} (scene : Scene T) (last : Bool) (at : Stand T) (x : Exchange) → IsExchange scene last at x
+pub generation_is : {T : Type 0} (scene : ConnSetting T) (last : Bool) (at : ConnStage T) (x : Exchange) → IsExchange scene last at x
     → IsTrue (rests_on_index x.served.reason) → x.served.gen_ ≡ length x.log
 generation_is scene last at x is asked = at_log scene at x.own x.noted x.log x.request is.lawful.is asked

@@ -1,5 +1,5 @@
 -- A run, by what its words ask.
-use Rattle.std.proofs.Common.{◌≡◌, ◌⊎◌, ℕ, ◌+◌, ◌<◌, false, List, [], drop, length, inl, inr, refl, sym, ap, subst}
+use Rattle.std.proofs.Common.{◌≡◌, ◌⊎◌, ℕ, ◌+◌, ◌<◌, false, List, [], drop, length, inl, inr, refl, sym, ap, subst, arith}
 use Rattle.std.proofs.lemmas.Bool.{true≢false}
 use Rattle.index_state.specs.declared.open_fault.OpenFault.TheVariants as refusal
 use Rattle.dbgd_words.specs.Words.{Line, asks_help, asks_ident, asks_query, asks_scan, asks_section, asks_serve, asks_sources, asks_trial, line_of, unreadable}
@@ -20,10 +20,10 @@ use Rattle.dbgd_commands.proofs.QueryLemmas.{queries_wanting, query_ends, query_
 use Rattle.dbgd_commands.proofs.ScanLemmas.{scan_ends, scan_status}
 use Rattle.dbgd_commands.proofs.StoreLemmas.{scans_wanting}
 use Rattle.dbgd_run.specs.Causes.{HasStatus, HelpStatus}
-use Rattle.dbgd_run.specs.Needs.{is_serve}
+use Rattle.dbgd_run.specs.Needs.{HasHand, hands_of, is_serve}
 use Rattle.dbgd_run.specs.Runs.{DoesLine, DoesWords, IsRun, LacksRoom, Runs, SaysHelp}
 use Rattle.dbgd_run.specs.Serve.{RunsServe, ServeWords, serve_words}
-use Rattle.dbgd_run.specs.Stage.{LeavesRest, ProgramStage}
+use Rattle.dbgd_commands.specs.Stage.{LeavesRest, ProgramStage}
 use Rattle.dbgd_run.proofs.ServeComplete.{serve_complete}
 use Rattle.dbgd_run.proofs.ServeLemmas.{serve_ends, serve_status, serve_wanting}
 
@@ -77,7 +77,7 @@ module _ {T : Type 0} (s : Setting T) (words : List (List ℕ)) (before after : 
   has_status (asks_trial seed files workers) run = trial_status s words before.scene after.scene end seed files run.runs
   has_status asks_help run = help_status s words before.scene after.scene end run.runs
   has_status (asks_serve path workers port secs sources upstream roots) run =
-      serve_status s (serve_words path workers port secs sources roots) before after end run
+      serve_status s (serve_words path workers port secs sources upstream roots) before after end run
   has_status unreadable run = subst (λ e. HasStatus s words unreadable before after e) (sym run.runs.says.ends) tt
 
   -- doors, links and clock are as they were, unless a server is asked for
@@ -111,12 +111,12 @@ module _ {T : Type 0} (s : Setting T) (words : List (List ℕ)) (before after : 
     trial = λ seed files workers is. (subst (λ (l : Line). DoesLine s l before after end) is run).runs;
     help = λ is. (subst (λ (l : Line). DoesLine s l before after end) is run).runs;
     serve = λ path workers port secs sources upstream roots is.
-        let does : RunsServe s (serve_words path workers port secs sources roots) before after end
+        let does : RunsServe s (serve_words path workers port secs sources upstream roots) before after end
         = subst (λ (l : Line). DoesLine s l before after end) is run in
         record {
           does = does;
-          ends = serve_ends s (serve_words path workers port secs sources roots) before after end does;
-          complete = serve_complete s (serve_words path workers port secs sources roots) before after end does;
+          ends = serve_ends s (serve_words path workers port secs sources upstream roots) before after end does;
+          complete = serve_complete s (serve_words path workers port secs sources upstream roots) before after end does;
         };
     usage = λ is. inl (subst (λ (l : Line). DoesLine s l before after end) is run).runs;
     causes = has_status (line_of words) run;
@@ -124,7 +124,7 @@ module _ {T : Type 0} (s : Setting T) (words : List (List ℕ)) (before after : 
   }
 
   -- of words that are read as options, where memory was refused
-  module _ (some : 0 < length before.scene.hands) (lacks : LacksRoom words before after end) where
+  module _ (some : HasHand (line_of words) (length before.scene.hands)) (lacks : LacksRoom words before after end) where
     query_lacks : (path id : List ℕ) → RunsQuery s path id before.scene after.scene end
     query_lacks path id = record {
       answers = record {
@@ -135,18 +135,23 @@ module _ {T : Type 0} (s : Setting T) (words : List (List ℕ)) (before after : 
       hands = lacks.alone.hands;
     }
 
-    scan_lacks : (path : List ℕ) (workers : ℕ) (roots : List (List ℕ)) → RunsScan s path workers roots before.scene after.scene end
-    scan_lacks path workers roots = record {
+    -- a line that needs a hand has one
+    some_hand : (line : Line) → line_of words ≡ line → 0 < hands_of line → 0 < length before.scene.hands
+    some_hand line is needed = some (subst (λ (l : Line). 0 < hands_of l) (sym is) needed)
+
+    scan_lacks : (path : List ℕ) (workers : ℕ) (roots : List (List ℕ)) → line_of words ≡ asks_scan path workers roots
+        → RunsScan s path workers roots before.scene after.scene end
+    scan_lacks path workers roots is = record {
       end = scanned.Refused refusal.OutOfMemory;
       scans =
           subst (λ (hands : List T). Scans s path roots before.scene.hands hands before.scene.store after.scene.store (scanned.Refused refusal.OutOfMemory))
-          (sym lacks.alone.hands) (scans_wanting s path some lacks.alone.store);
+          (sym lacks.alone.hands) (scans_wanting s path (some_hand (asks_scan path workers roots) is (omega arith)) lacks.alone.store);
       others = ap (λ (hands : List T). drop (workers + 2) hands) lacks.alone.hands;
       said = lacks.alone.says;
     }
 
-    serve_lacks : (w : ServeWords) → RunsServe s w before after end
-    serve_lacks w = serve_wanting s w before after end some lacks.alone.hands lacks.alone.store lacks.alone.says lacks.rest
+    serve_lacks : (w : ServeWords) → 0 < length before.scene.hands → RunsServe s w before after end
+    serve_lacks w hand = serve_wanting s w before after end hand lacks.alone.hands lacks.alone.store lacks.alone.says lacks.rest
 
     asks : (line : Line) → line_of words ≡ line → AsksByOptions line
     asks line is = subst AsksByOptions is (options_ask words lacks.options)
@@ -172,20 +177,15 @@ module _ {T : Type 0} (s : Setting T) (words : List (List ℕ)) (before after : 
       query = λ path id is. record { does = query_lacks path id; ends = query_ends s path id before.scene after.scene end (query_lacks path id) };
       scan = λ path workers roots is.
           record {
-            does = scan_lacks path workers roots;
-            ends = scan_ends s path roots before.scene after.scene workers end (scan_lacks path workers roots);
+            does = scan_lacks path workers roots is;
+            ends = scan_ends s path roots before.scene after.scene workers end (scan_lacks path workers roots is);
           };
       trial = λ seed files workers is. absurd (asks (asks_trial seed files workers) is);
       help = λ is. record { text = []; says = inr lacks.alone.says; hands = lacks.alone.hands; store = lacks.alone.store };
-      serve = λ path workers port secs sources upstream roots is. record {
-        does = serve_lacks (serve_words path workers port secs sources roots);
-        ends =
-            serve_ends s (serve_words path workers port secs sources roots) before after end
-            (serve_lacks (serve_words path workers port secs sources roots));
-        complete =
-            serve_complete s (serve_words path workers port secs sources roots) before after end
-            (serve_lacks (serve_words path workers port secs sources roots));
-      };
+      serve = λ path workers port secs sources upstream roots is.
+          let words = serve_words path workers port secs sources upstream roots in
+          let does = serve_lacks words (some_hand (asks_serve path workers port secs sources upstream roots) is (omega arith)) in
+          record { does = does; ends = serve_ends s words before after end does; complete = serve_complete s words before after end does };
       usage = λ is. inr lacks;
       causes =
           subst (λ e. HasStatus s words (line_of words) before after e) (sym lacks.alone.says.ends)
@@ -195,6 +195,6 @@ module _ {T : Type 0} (s : Setting T) (words : List (List ℕ)) (before after : 
 
 -- a run of words
 pub runs_words : {T : Type 0} (s : Setting T) (words : List (List ℕ)) (before after : ProgramStage T) (end : Status) (code : ℕ)
-    → code ≡ code_of end → 0 < length before.scene.hands → DoesWords s words before after end → IsRun s words before after code
-runs_words s words before after end code number some (inl run) = is_run s words before after end code number run
-runs_words s words before after end code number some (inr lacks) = lacks_room s words before after end some lacks code number
+    → code ≡ code_of end → HasHand (line_of words) (length before.scene.hands) → DoesWords s words before after end → IsRun s words before after code
+runs_words s words before after end code number hand (inl run) = is_run s words before after end code number run
+runs_words s words before after end code number hand (inr lacks) = lacks_room s words before after end hand lacks code number

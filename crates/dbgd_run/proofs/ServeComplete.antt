@@ -34,7 +34,7 @@ use Rattle.dbgd_run.specs.Rounds.{EndsPassing, KeepsPassing, PassesShared, Passi
 use Rattle.dbgd_run.specs.Serve.{IsServed, IsUnopened, PassesOn, RunsServe, SaysUnserved, ServeWords, served, unopened, unserved}
 use Rattle.dbgd_run.specs.ServeCauses.{rounds_behind}
 use Rattle.dbgd_run.specs.ServeComplete.{CompletesServe, IsFreeServe, WritesPassLine}
-use Rattle.dbgd_run.specs.Stage.{ProgramStage}
+use Rattle.dbgd_commands.specs.Stage.{ProgramStage}
 use Rattle.dbgd_run.specs.declared.line_fate.LineFate.{LineFate}
 use Rattle.dbgd_run.specs.declared.line_fate.LineFate.TheVariants.{Written, Cut, Unmade}
 use Rattle.dbgd_run.specs.declared.passes_end.PassesEnd.{PassesEnd}

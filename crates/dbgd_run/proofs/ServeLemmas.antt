@@ -32,7 +32,7 @@ use Rattle.dbgd_run.specs.Rounds.{KeepsPassing, PassingScene, Round}
 use Rattle.dbgd_run.specs.Serve.{IsServed, IsUnopened, PassesOn, RunsServe, SaysUnserved, ServeWords, served, served_scene, unopened, unserved}
 use Rattle.dbgd_run.specs.ServeCauses.{IsServedWell, ServeEnds, ServeStatus, SomeDoorRose, lines_behind}
 use Rattle.dbgd_run.specs.ServeSaid.{has_cut, is_any_failed, served_status, serving_line, wants_line}
-use Rattle.dbgd_run.specs.Stage.{LeavesRest, ProgramStage}
+use Rattle.dbgd_commands.specs.Stage.{LeavesRest, ProgramStage}
 use Rattle.dbgd_run.specs.Workers.{WorkerFacts}
 use Rattle.dbgd_run.specs.declared.line_fate.LineFate.{LineFate}
 use Rattle.dbgd_run.specs.declared.passes_end.PassesEnd.{PassesEnd}

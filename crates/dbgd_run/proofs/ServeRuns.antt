@@ -15,12 +15,12 @@ use Rattle.index_state.specs.declared.open_fault.OpenFault.{OpenFault}
 use Rattle.dbgd_metrics.specs.Shares.{BookFacts, ShareFacts}
 use Rattle.lock_crew.proofs.Zips.{front_all}
 use Rattle.conn_server.specs.Doors.{said_at}
-use Rattle.conn_server.specs.Scene.{Scene}
+use Rattle.conn_server.specs.Stage.{ConnSetting}
 use Rattle.conn_server.specs.Tallied.{HasRowIn}
 use Rattle.conn_server.specs.declared.door.DoorEnd.{DoorEnd}
 use Rattle.conn_server.specs.declared.door.DoorEnd.TheVariants as end
 use Rattle.tree_trait.specs.declared.clock.Waited.{Waited}
-use Rattle.dbgd_commands.specs.Endings.{EndsCut, EndsWhole, Streams}
+use Rattle.dbgd_commands.specs.Endings.{EndsCut, EndsWhole, Gets, Streams}
 use Rattle.dbgd_commands.specs.Scan.{Scans}
 use Rattle.dbgd_commands.specs.ScanSaid.{refusal_saying}
 use Rattle.dbgd_commands.specs.Scene.{Setting, scene}
@@ -28,11 +28,11 @@ use Rattle.dbgd_commands.specs.declared.scan_end.ScanEnd.TheVariants as scanned
 use Rattle.dbgd_commands.specs.declared.status.Status.{Status}
 use Rattle.dbgd_commands.specs.declared.status.Status.TheVariants as status
 use Rattle.dbgd_commands.proofs.HandLemmas.{hands_stay}
-use Rattle.dbgd_run.specs.Rounds.{GetsLines, passing_scene}
+use Rattle.dbgd_run.specs.Rounds.{passing_scene}
 use Rattle.dbgd_run.specs.Serve.{IsUnopened, MakesRound, RunsServe, ServeWords, served, served_scene, unopened, unserved}
 use Rattle.dbgd_run.specs.ServeSaid.{SaysServeEnd, door_line, door_lines, end_line, ended_badly, has_cut, has_failed, is_any_failed, served_status, serving_line, serving_saying, wants_line}
 use Rattle.dbgd_run.specs.Serving.{CrewFacts, RefusesStore, ServesStore, serve_rules}
-use Rattle.dbgd_run.specs.Stage.{rows_shown, stage}
+use Rattle.dbgd_commands.specs.Stage.{rows_shown, stage}
 use Rattle.dbgd_run.specs.Workers.{AreWorkers, IsFreshShare, PlaceServed, ServedBy, WorkerFacts, doors_at, ends_at, hands_at, links_at, shares_at, worker_in, workers_at}
 use Rattle.dbgd_run.specs.declared.line_fate.LineFate.{LineFate}
 use Rattle.dbgd_run.specs.declared.places.DoorPlace.{DoorPlace}
@@ -86,7 +86,7 @@ bad_at : (why : DoorEnd) → ended_badly (Some why) ≡ has_failed (Some (said_a
 bad_at end.Closed = refl
 bad_at end.Failed = refl
 
-module _ {T D L : Type 0} (sc : Scene T) (sees : D → ShownDoor) (views : L → ShownLink) (first last : List Change) where
+module _ {T D L : Type 0} (sc : ConnSetting T) (sees : D → ShownDoor) (views : L → ShownLink) (first last : List Change) where
   served_workers : (places left : List (DoorPlace T D L)) → AllZip (PlaceServed sc sees views first last) places left
       → AllZip (ServedBy sc first last) (workers_at sees views places) (workers_at sees views left)
   served_workers [] [] all = tt
@@ -139,6 +139,15 @@ module _ {T D L : Type 0} (sees : D → ShownDoor) (views : L → ShownLink) whe
       (All-head (IsFreshShare book) p.share (shares_at places) all)
       (fresh_workers book places (All-tail (IsFreshShare book) p.share (shares_at places) all))
 
+  -- a worker has the links of its row
+  linked_workers : (n : ℕ) (places : List (DoorPlace T D L)) → All (λ (row : Vec L). length row.items ≡ n) (links_at places)
+      → All (λ (worker : WorkerFacts T). length worker.links ≡ n) (workers_at sees views places)
+  linked_workers n [] all = All-nil (λ (worker : WorkerFacts T). length worker.links ≡ n)
+  linked_workers n (p ∷ places) all =
+      All-cons (λ (worker : WorkerFacts T). length worker.links ≡ n) (worker_in sees views p) (workers_at sees views places)
+      (length-map p.links.items views ∙ All-head (λ (row : Vec L). length row.items ≡ n) p.links (links_at places) all)
+      (linked_workers n places (All-tail (λ (row : Vec L). length row.items ≡ n) p.links (links_at places) all))
+
 -- the hands at a place of the whole list
 module _ {T : Type 0} (n : ℕ) (front mid rest : List T) (long : length front ≡ n + 2) (many : length mid ≡ n) where
   first_hands : take (n + 2) (front ++ (mid ++ rest)) ≡ front
@@ -187,13 +196,13 @@ module _ {T D L : Type 0} (s : Setting T) (words : ServeWords) (sees : D → Sho
   pub runs_serve : (how : ServeEnd) → length front ≡ words.workers + 2 → length mid ≡ words.workers
       → length rows ≡ words.workers → length after.hands ≡ words.workers + 2 → length after.places ≡ words.workers
       → hands_at places ≡ mid → doors_at places ≡ doors → links_at places ≡ rows → All (IsFreshShare book) (shares_at places) → IsFreshShare book share
-      → book.rows ≡ words.workers + 1
+      → book.rows ≡ words.workers + 1 → All (λ (row : Vec L). length row.items ≡ length words.upstream) rows
       → ServesStore (serve_rules s words.roots words.secs (served_scene s words) sees views) words.path
       (serving_line words.port words.workers) old new (passing_scene [] front woke before share) places how after
       → SaysServeEnd how (ends_at after.places) after.streams after_streams code
       → RunsServe s words (stage (scene (front ++ (mid ++ rest)) old before) (map sees doors) (rows_shown views (rows ++ others)) woke)
       (stage (scene (after.hands ++ (hands_at after.places ++ rest)) new after_streams) (map sees (doors_at after.places)) (rows_shown views (links_at after.places ++ others)) after.woke) code
-  runs_serve (Refused fault) long many wide back count h d l fresh own sized store said =
+  runs_serve (Refused fault) long many wide back count h d l fresh own sized linked store said =
       unopened fault (whole_refused fault store said)
     where
       whole_refused : (fault : OpenFault) → RefusesStore (serve_rules s words.roots words.secs (served_scene s words) sees views) words.path old new
@@ -225,7 +234,7 @@ module _ {T D L : Type 0} (s : Setting T) (words : ServeWords) (sees : D → Sho
               woke = ap (λ (c : CrewFacts T D L). c.woke) store.same;
             };
           }
-  runs_serve Unannounced long many wide back count h d l fresh own sized store said = unserved (record {
+  runs_serve Unannounced long many wide back count h d l fresh own sized linked store said = unserved (record {
     found = store.found;
     held = store.held;
     has = store.has;
@@ -239,7 +248,7 @@ module _ {T D L : Type 0} (s : Setting T) (words : ServeWords) (sees : D → Sho
       woke = store.woke;
     };
   })
-  runs_serve Unlocked long many wide back count h d l fresh own sized store said = unserved (record {
+  runs_serve Unlocked long many wide back count h d l fresh own sized linked store said = unserved (record {
     found = store.found;
     held = store.held;
     has = store.has;
@@ -253,7 +262,7 @@ module _ {T D L : Type 0} (s : Setting T) (words : ServeWords) (sees : D → Sho
       woke = store.woke;
     };
   })
-  runs_serve (Served fate how broken) long many wide back count h d l fresh own sized store said =
+  runs_serve (Served fate how broken) long many wide back count h d l fresh own sized linked store said =
       let from = store.serves in
       let n = words.workers in
       let end_hands = length-map after.places (λ (place : DoorPlace T D L). place.hand) ∙ count in
@@ -283,6 +292,9 @@ module _ {T D L : Type 0} (s : Setting T) (words : ServeWords) (sees : D → Sho
             (subst (λ (hands : List T). AreWorkers hands (map sees doors) (rows_shown views rows) (workers_at sees views places))
             (sym (worker_hands n front mid rest long many)) (are_workers sees views mid doors rows places h d l));
         shares = fresh_workers sees views book places fresh;
+        linked =
+            linked_workers sees views (length words.upstream) places
+            (subst (All (λ (row : Vec L). length row.items ≡ length words.upstream)) (sym l) linked);
         left = workers_at sees views after.places;
         left_are =
             subst
@@ -306,9 +318,9 @@ module _ {T D L : Type 0} (s : Setting T) (words : ServeWords) (sees : D → Sho
         woke = from.woke;
         out = said.out ∙ ap (λ (x : Streams). x.out) from.streams;
         err =
-            subst (λ (shown : ShownStream). GetsLines (door_lines (map sees (doors_at after.places))) shown after_streams.err)
+            subst (λ (shown : ShownStream). Gets (door_lines (map sees (doors_at after.places))) shown after_streams.err)
             (ap (λ (x : Streams). x.err) from.streams)
-            (subst (λ (bytes : List ℕ). GetsLines bytes after.streams.err after_streams.err)
+            (subst (λ (bytes : List ℕ). Gets bytes after.streams.err after_streams.err)
             (lines_of_doors (served_scene s words) sees views from.first.after.log store.log places after.places from.doors) said.err);
         ends =
             said.status_is

@@ -15,7 +15,7 @@ use Rattle.http_wire.specs.Door.{ShownDoor}
 use Rattle.conn_server.specs.Connection.{AreExchanges, LogsGrow, is_last_request}
 use Rattle.conn_server.specs.Doors.{AreVisits, Visit, all_exchanges}
 use Rattle.conn_server.specs.Exchange.{Exchange}
-use Rattle.conn_server.specs.Scene.{Scene, Stand}
+use Rattle.conn_server.specs.Stage.{ConnSetting, ConnStage}
 use Rattle.dbgd_run.specs.Workers.{IsServedBetween, PlaceServed, RunsPlace}
 use Rattle.dbgd_run.specs.declared.places.DoorPlace.{DoorPlace}
 use Rattle.dbgd_run.proofs.GenerationLemmas.{generation_is}
@@ -29,7 +29,7 @@ ends_within first log [] grow = grow
 ends_within first log (x ∷ xs) grow = prefix_trans first x.log log grow.0 (ends_within x.log log xs grow.1)
 
 -- each of these requests was answered by a log between the two
-exchanges_between : {T : Type 0} (scene : Scene T) (at : Stand T) (first early log last : List Change) (place : ℕ) (xs : List Exchange)
+exchanges_between : {T : Type 0} (scene : ConnSetting T) (at : ConnStage T) (first early log last : List Change) (place : ℕ) (xs : List Exchange)
     → IsPrefix first early → IsPrefix log last → AreExchanges scene at place xs → LogsGrow early xs log
     → All (IsServedBetween first last) xs
 exchanges_between scene at first early log last place [] from into are grow = All-nil (IsServedBetween first last)
@@ -47,7 +47,7 @@ exchanges_between scene at first early log last place (x ∷ xs) from into are g
     (exchanges_between scene at first x.log log last (place + 1) xs left into are.1 grow.1)
 
 -- the same of the exchanges of all visits: each visit's are lawful from its own place 0
-visits_between : {T : Type 0} (scene : Scene T) (at : Stand T) (first early log last : List Change) (visits : List Visit)
+visits_between : {T : Type 0} (scene : ConnSetting T) (at : ConnStage T) (first early log last : List Change) (visits : List Visit)
     → IsPrefix first early → IsPrefix log last → AreVisits scene at visits → LogsGrow early (all_exchanges visits) log
     → All (IsServedBetween first last) (all_exchanges visits)
 visits_between scene at first early log last [] from into are grow = All-nil (IsServedBetween first last)
@@ -65,7 +65,7 @@ visits_between scene at first early log last (one ∷ visits) from into are grow
     logs_cut early log [] ys grow = (early, prefix_self early, grow)
     logs_cut early log (x ∷ xs) ys grow = let rest = logs_cut x.log log xs ys grow.1 in (rest.0, (grow.0, rest.1), rest.2)
 
-module _ {T D L : Type 0} (scene : Scene T) (sees : D → ShownDoor) (views : L → ShownLink) where
+module _ {T D L : Type 0} (scene : ConnSetting T) (sees : D → ShownDoor) (views : L → ShownLink) where
   served_by : (start last : SeatFacts Change Origin) (before after : DoorPlace T D L)
       → RunsBy (RunsPlace scene sees views) start last before after → PlaceServed scene sees views start.seen last.seen before after
   served_by start last before after ran = record {

@@ -10,7 +10,7 @@ use Rattle.dbgd_commands.specs.declared.status.Status.{Status}
 use Rattle.dbgd_commands.specs.declared.status.Status.TheVariants.{Done, Fault, Usage, OutOfMemory}
 use Rattle.dbgd_run.specs.Serve.{serve_words}
 use Rattle.dbgd_run.specs.ServeCauses.{ServeStatus}
-use Rattle.dbgd_run.specs.Stage.{ProgramStage}
+use Rattle.dbgd_commands.specs.Stage.{ProgramStage}
 
 -- of a help or version: only the standard output can fail
 abbrev pub HelpStatus : {T : Type 0} → ProgramScene T → ProgramScene T → Status → Type 0
@@ -37,5 +37,5 @@ HasStatus s words (asks_trial seed files workers) before after status =
     TrialStatus seed files before.scene after.scene status
 HasStatus s words asks_help before after status = HelpStatus before.scene after.scene status
 HasStatus s words (asks_serve path workers port secs sources upstream roots) before after status =
-    ServeStatus s (serve_words path workers port secs sources roots) before after status
+    ServeStatus s (serve_words path workers port secs sources upstream roots) before after status
 HasStatus s words unreadable before after status = UsageStatus words status

@@ -9,5 +9,4 @@ pub mod ServeCauses
 pub mod ServeComplete
 pub mod ServeSaid
 pub mod Serving
-pub mod Stage
 pub mod Workers

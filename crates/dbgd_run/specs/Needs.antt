@@ -1,5 +1,6 @@
 -- What a run needs of the outside (this project's rule), by what its words ask.
-use Rattle.std.specs.Prelude.{◌≡◌, ℕ, ◌+◌, ◌-◌, ◌*◌, ◌<◌, ◌≤◌, ◌^◌, Bool, true, false, List, [], min}
+use Rattle.std.specs.Prelude.{◌≡◌, ℕ, ◌+◌, ◌-◌, ◌*◌, ◌<◌, ◌≤◌, ◌^◌, Bool, true, false, List, [], All, length, min}
+use Rattle.std.specs.Global.{Vec}
 use Rattle.federation.specs.Server.{ServerFacts}
 use Rattle.dbgd_words.specs.Words.{Line, asks_ident, asks_scan, asks_section, asks_serve, asks_sources}
 
@@ -32,8 +33,13 @@ abbrev pub is_serve : Line → Bool
 is_serve (asks_serve path workers port secs sources upstream roots) = true
 is_serve _ = false
 
+-- where a hand is needed there is one
+abbrev pub HasHand : Line → ℕ → Type 0
+HasHand line hands = 0 < hands_of line → 0 < hands
+
 -- where doors are needed, which a server alone does, there are exactly these, and the hands and the rows of links that are
--- needed, or more: a row for each door
-abbrev pub HasEnough : Line → ℕ → ℕ → ℕ → Type 0
+-- needed, or more: a row for each door, and in each row a link for each server that is asked
+abbrev pub HasEnough : {L : Type 0} → Line → ℕ → ℕ → List (Vec L) → Type 0
 HasEnough line hands doors rows =
-    0 < doors_of line → (hands_of line ≤ hands) × (doors ≡ doors_of line) × (doors_of line ≤ rows)
+    0 < doors_of line → (hands_of line ≤ hands) × (doors ≡ doors_of line) × (doors_of line ≤ length rows)
+    × All (λ row. length row.items ≡ length (servers_of line)) rows

@@ -26,7 +26,7 @@ use Rattle.dbgd_run.specs.Needs.{is_serve}
 use Rattle.dbgd_run.specs.Serve.{RunsServe, ServeWords, serve_words}
 use Rattle.dbgd_run.specs.ServeCauses.{ServeEnds}
 use Rattle.dbgd_run.specs.ServeComplete.{CompletesServe, IsFreeServe}
-use Rattle.dbgd_run.specs.Stage.{LeavesRest, ProgramStage}
+use Rattle.dbgd_commands.specs.Stage.{LeavesRest, ProgramStage}
 
 -- of words that can't be read
 abbrev pub usage_saying : Saying
@@ -99,7 +99,7 @@ pub record RunsApart {T : Type 0} (s : Setting T) (line : Line) (before after : 
 -- what a line of words does, by what it asks
 abbrev pub DoesLine : {T : Type 0} → Setting T → Line → ProgramStage T → ProgramStage T → Status → Type 0
 DoesLine s (asks_serve path workers port secs sources upstream roots) before after status =
-    RunsServe s (serve_words path workers port secs sources roots) before after status
+    RunsServe s (serve_words path workers port secs sources upstream roots) before after status
 DoesLine s line before after status = RunsApart s line before after status
 
 -- the words are read as options, and memory was refused for that
@@ -137,7 +137,7 @@ pub record IsRun {T : Type 0} (s : Setting T) (words : List (List ℕ)) (before 
   pub serve : (path : List ℕ) (workers port secs : ℕ) (sources : List (List ℕ)) (upstream : List ServerFacts)
       (roots : List (List ℕ))
       → line_of words ≡ asks_serve path workers port secs sources upstream roots
-      → IsServeRun s (serve_words path workers port secs sources roots) before after status
+      → IsServeRun s (serve_words path workers port secs sources upstream roots) before after status
   pub usage : line_of words ≡ unreadable
       → SaysAlone usage_saying before.scene after.scene status ⊎ LacksRoom words before after status
   pub causes : HasStatus s words (line_of words) before after status

@@ -1,7 +1,7 @@
 -- The command `serve` (this project's rule): the store is opened, the index on it makes a first pass, and then the doors are
 -- served while passes are made between waits. What each door and the passes did is said at beginnings of the one log that the
 -- index has in the end.
-use Rattle.std.specs.Prelude.{◌≡◌, ◌⊎◌, ℕ, ◌+◌, ◌*◌, ◌<◌, ◌||◌, Bool, true, false, List, ◌++◌, All, drop, take, Option, Some, None}
+use Rattle.std.specs.Prelude.{◌≡◌, ◌⊎◌, ℕ, ◌+◌, ◌*◌, ◌<◌, ◌||◌, Bool, true, false, List, ◌++◌, All, drop, length, take, Option, Some, None}
 use Rattle.std.specs.List.{AllZip}
 use mathlib.Core.List.{IsPrefix}
 use Rattle.row_types.specs.Faults.{HasCause, Rose}
@@ -15,9 +15,10 @@ use Rattle.index_state.specs.Invariant.{AreTrueRows}
 use Rattle.index_state.specs.Opening.{current, made_swept, puts_of}
 use Rattle.index_state.specs.State.{lasting}
 use Rattle.index_state.specs.declared.open_fault.OpenFault.{OpenFault}
+use Rattle.federation.specs.Server.{ServerFacts}
 use Rattle.dbgd_metrics.specs.Shares.{BookFacts, ShareFacts}
-use Rattle.conn_server.specs.Scene.{Scene, scene_of}
-use Rattle.dbgd_commands.specs.Endings.{EndsCut, EndsWhole, Streams, SaysMemory}
+use Rattle.conn_server.specs.Stage.{ConnSetting, conn_setting}
+use Rattle.dbgd_commands.specs.Endings.{EndsCut, EndsWhole, Gets, Streams, SaysMemory}
 use Rattle.dbgd_commands.specs.Kept.{HasRows, MayHaveRows, StoreHoldsRows}
 use Rattle.dbgd_commands.specs.Scan.{Scans}
 use Rattle.dbgd_commands.specs.ScanSaid.{refusal_saying}
@@ -26,9 +27,9 @@ use Rattle.dbgd_commands.specs.declared.scan_end.ScanEnd.TheVariants.{Refused}
 use Rattle.dbgd_commands.specs.declared.status.Status.{Status}
 use Rattle.dbgd_commands.specs.declared.status.Status.TheVariants.{Done}
 use Rattle.dbgd_run.specs.RoundSaid.{CountsPass, TellsPass}
-use Rattle.dbgd_run.specs.Rounds.{GetsLines, KeepsPassing, PassesShared, PassingScene, Round, passing_scene}
+use Rattle.dbgd_run.specs.Rounds.{KeepsPassing, PassesShared, PassingScene, Round, passing_scene}
 use Rattle.dbgd_run.specs.ServeSaid.{door_lines, has_cut, is_any_failed, served_status, serving_saying, wants_line}
-use Rattle.dbgd_run.specs.Stage.{LeavesRest, ProgramStage}
+use Rattle.dbgd_commands.specs.Stage.{LeavesRest, ProgramStage}
 use Rattle.dbgd_run.specs.Workers.{AreWorkers, IsFreshShare, ServedBy, WorkerFacts}
 use Rattle.dbgd_run.specs.declared.line_fate.LineFate.TheVariants.{Unmade}
 use Rattle.dbgd_run.specs.declared.passes_end.PassesEnd.{PassesEnd}
@@ -40,18 +41,29 @@ pub record ServeWords : Type 0 where
   pub port : ℕ
   pub secs : ℕ
   pub sources : List (List ℕ)
+  pub upstream : List ServerFacts
   pub roots : List (List ℕ)
 
 -- the words of these
-abbrev pub serve_words : List ℕ → ℕ → ℕ → ℕ → List (List ℕ) → List (List ℕ) → ServeWords
-serve_words path workers port secs sources roots =
-    record { path = path; workers = workers; port = port; secs = secs; sources = sources; roots = roots }
+abbrev pub serve_words : List ℕ → ℕ → ℕ → ℕ → List (List ℕ) → List ServerFacts → List (List ℕ) → ServeWords
+serve_words path workers port secs sources upstream roots = record {
+  path = path;
+  workers = workers;
+  port = port;
+  secs = secs;
+  sources = sources;
+  upstream = upstream;
+  roots = roots;
+}
 
--- what stays while doors are served: sources come from the folders that are scanned and from those for sources alone, and the
--- counter table has a row for each worker and one for the passes
-abbrev pub served_scene : {T : Type 0} → Setting T → ServeWords → Scene T
-served_scene s words =
-    scene_of s.world.true_row s.tells_files s.world.version s.sees (words.roots ++ words.sources) (words.workers + 1)
+-- what stays while doors are served: what a run rests on, the folders of sources, and how many rows the counter table has
+abbrev pub doors_scene : {T : Type 0} → Setting T → List (List ℕ) → ℕ → ConnSetting T
+doors_scene s folders rows = conn_setting s.world.true_row s.tells_files s.world.version s.sees folders rows
+
+-- that of a server: sources come from the folders that are scanned and from those for sources alone, and the counter table has
+-- a row for each worker and one for the passes
+abbrev pub served_scene : {T : Type 0} → Setting T → ServeWords → ConnSetting T
+served_scene s words = doors_scene s (words.roots ++ words.sources) (words.workers + 1)
 
 -- no index was opened on the store, which is said as a scan says it; no door, no link and no wait was asked for
 pub record IsUnopened {T : Type 0} (s : Setting T) (words : ServeWords) (before after : ProgramStage T) (fault : OpenFault)
@@ -122,9 +134,10 @@ PassesOn s roots secs first (Some end) after = (0 < secs) × KeepsPassing s root
 
 -- the doors were served beside the passes. The first line was written whole, a first pass was made with the first hands, two and
 -- one for each worker, and what it was is said of the log of the opening and of the one that its token had seen then. Each door
--- was served once, with the hand behind those and the row of links at its place, by a token that had seen that log; the passes
--- behind the first one go on from it; and all of them ended at beginnings of the log that the index has in the end. The passes and
--- the workers count in one table, which has a row for each of them. The lines of the doors that failed stand behind all others
+-- was served once, with the hand behind those and the row of links at its place, one link for each server of the words, by a
+-- token that had seen that log; the passes behind the first one go on from it; and all of them ended at beginnings of the log that the index has in the end. The passes and
+-- the workers count in one table, which has a row for each of them. The lines of the doors that failed stand behind all others:
+-- all of them, or a proper part, where the count rose
 pub record IsServed {T : Type 0} (s : Setting T) (words : ServeWords) (before after : ProgramStage T) (status : Status)
     : Type 0 where
   pub found : List RowFacts
@@ -150,6 +163,7 @@ pub record IsServed {T : Type 0} (s : Setting T) (words : ServeWords) (before af
       AreWorkers (take words.workers (drop (words.workers + 2) before.scene.hands)) before.doors
       (take words.workers before.links) workers
   pub shares : All (λ worker. IsFreshShare book worker.share) workers
+  pub linked : All (λ worker. length worker.links ≡ length words.upstream) workers
   pub left : List (WorkerFacts T)
   pub left_are :
       AreWorkers (take words.workers (drop (words.workers + 2) after.scene.hands)) after.doors
@@ -164,7 +178,7 @@ pub record IsServed {T : Type 0} (s : Setting T) (words : ServeWords) (before af
   pub other_links : drop words.workers after.links ≡ drop words.workers before.links
   pub woke : after.woke ≡ last.woke
   pub out : after.scene.streams.out ≡ last.streams.out
-  pub err : GetsLines (door_lines after.doors) last.streams.err after.scene.streams.err
+  pub err : Gets (door_lines after.doors) last.streams.err after.scene.streams.err
   pub ends :
       status
       ≡ served_status (wants_line first.fate how)

@@ -14,7 +14,7 @@ use Rattle.dbgd_commands.specs.declared.status.Status.TheVariants.{Done, Fault, 
 use Rattle.dbgd_run.specs.Rounds.{PassingScene, Round, out_lines}
 use Rattle.dbgd_run.specs.Serve.{IsServed, PassesOn, RunsServe, ServeWords}
 use Rattle.dbgd_run.specs.ServeSaid.{serving_line}
-use Rattle.dbgd_run.specs.Stage.{ProgramStage}
+use Rattle.dbgd_commands.specs.Stage.{ProgramStage}
 use Rattle.dbgd_run.specs.declared.passes_end.PassesEnd.{PassesEnd}
 
 -- the count of faults of some door rose

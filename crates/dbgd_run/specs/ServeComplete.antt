@@ -15,7 +15,7 @@ use Rattle.dbgd_commands.specs.declared.status.Status.TheVariants.{OutOfMemory}
 use Rattle.dbgd_run.specs.Rounds.{Round}
 use Rattle.dbgd_run.specs.Serve.{RunsServe, ServeWords, served, unopened, unserved}
 use Rattle.dbgd_run.specs.ServeCauses.{rounds_behind}
-use Rattle.dbgd_run.specs.Stage.{ProgramStage}
+use Rattle.dbgd_commands.specs.Stage.{ProgramStage}
 use Rattle.dbgd_run.specs.declared.line_fate.LineFate.{LineFate}
 use Rattle.dbgd_run.specs.declared.line_fate.LineFate.TheVariants.{Written, Unmade}
 

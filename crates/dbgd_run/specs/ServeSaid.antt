@@ -7,13 +7,12 @@ use Rattle.http_wire.specs.declared.door.DoorSaid.{DoorSaid}
 use Rattle.http_wire.specs.declared.door.DoorSaid.TheVariants as said
 use Rattle.conn_server.specs.declared.door.DoorEnd.{DoorEnd}
 use Rattle.conn_server.specs.declared.door.DoorEnd.TheVariants as end
-use Rattle.dbgd_commands.specs.Endings.{EndsCut, EndsWhole, Saying, SaysMemory, Streams, fault_saying, out_saying}
+use Rattle.dbgd_commands.specs.Endings.{EndsCut, EndsWhole, Gets, Saying, SaysMemory, Streams, fault_saying, out_saying}
 use Rattle.dbgd_commands.specs.ScanSaid.{refusal_saying}
 use Rattle.dbgd_commands.specs.Texts.{fed_line}
 use Rattle.dbgd_commands.specs.declared.status.Status.{Status}
 use Rattle.dbgd_commands.specs.declared.status.Status.TheVariants as status
 use Rattle.dbgd_run.specs.RoundSaid.{is_cut, is_unmade}
-use Rattle.dbgd_run.specs.Rounds.{GetsLines}
 use Rattle.dbgd_run.specs.declared.line_fate.LineFate.{LineFate}
 use Rattle.dbgd_run.specs.declared.passes_end.PassesEnd.{PassesEnd}
 use Rattle.dbgd_run.specs.declared.passes_end.PassesEnd.TheVariants.{OutFailed, OutOfMemory}
@@ -87,7 +86,7 @@ served_status false failed = fault_or_done failed
 pub record SaysServed (fate : LineFate) (how : Option PassesEnd) (broken : Bool) (ends : List (Option DoorEnd))
     (old new : Streams) (code : Status) : Type 0 where
   pub out : new.out ≡ old.out
-  pub err : GetsLines (flat_map end_line ends) old.err new.err
+  pub err : Gets (flat_map end_line ends) old.err new.err
   pub status_is : code ≡ served_status (wants_line fate how) (has_cut fate how || (list_any ended_badly ends || broken))
 
 -- what is said of the end of a server, and its status

@@ -13,7 +13,7 @@ use Rattle.index_state.specs.Opening.{LeavesRows, Opens, RefusesOpening, current
 use Rattle.index_state.specs.State.{StateFacts}
 use Rattle.index_state.specs.declared.open_fault.OpenFault.{OpenFault}
 use Rattle.index_state.specs.declared.open_fault.OpenFault.TheVariants as refusal
-use Rattle.conn_server.specs.Scene.{Scene}
+use Rattle.conn_server.specs.Stage.{ConnSetting}
 use Rattle.tree_trait.specs.declared.clock.Waited.{Waited}
 use Rattle.dbgd_commands.specs.Endings.{Streams}
 use Rattle.dbgd_commands.specs.Kept.{HasRows, StoreHoldsRows}
@@ -37,11 +37,11 @@ pub record ServeRules (T D L : Type 0) : Type 1 where
   pub setting : Setting T
   pub roots : List (List ℕ)
   pub secs : ℕ
-  pub scene : Scene T
+  pub scene : ConnSetting T
   pub sees : D → ShownDoor
   pub views : L → ShownLink
 
-abbrev pub serve_rules : {T D L : Type 0} → Setting T → List (List ℕ) → ℕ → Scene T → (D → ShownDoor) → (L → ShownLink)
+abbrev pub serve_rules : {T D L : Type 0} → Setting T → List (List ℕ) → ℕ → ConnSetting T → (D → ShownDoor) → (L → ShownLink)
     → ServeRules T D L
 serve_rules setting roots secs scene sees views =
     record { setting = setting; roots = roots; secs = secs; scene = scene; sees = sees; views = views }

@@ -1,6 +1,6 @@
 -- The workers of a server (this project's rule): each serves one door, with a hand, a share of the counter table, a row of links
 -- to other servers and a token of its own.
-use Rattle.std.specs.Prelude.{◌≡◌, ◌≤◌, Bool, true, false, List, All, length, map, Option, Some, IsSome, IsTrue}
+use Rattle.std.specs.Prelude.{◌≡◌, ◌≤◌, ℕ, Bool, true, false, List, All, length, map, Option, Some, IsSome, IsTrue}
 use Rattle.std.specs.Global.{Vec}
 use mathlib.Core.List.{IsPrefix}
 use Rattle.index_lock.specs.Tokens.{SeatFacts}
@@ -13,7 +13,7 @@ use Rattle.dbgd_metrics.specs.Shares.{BookFacts, ShareFacts}
 use Rattle.pass_runner.specs.SharedPass.{IsBetween}
 use Rattle.conn_server.specs.Doors.{ServesDoor, all_exchanges}
 use Rattle.conn_server.specs.Exchange.{Exchange}
-use Rattle.conn_server.specs.Scene.{Scene, stand_of}
+use Rattle.conn_server.specs.Stage.{ConnSetting, conn_stage}
 use Rattle.conn_server.specs.declared.door.DoorEnd.{DoorEnd}
 use Rattle.conn_server.specs.declared.reason.Reason.{Reason}
 use Rattle.conn_server.specs.declared.reason.Reason.TheVariants as reason
@@ -62,16 +62,18 @@ pub record IsServedBetween (first last : List Change) (x : Exchange) : Type 0 wh
   pub least : IsTrue (rests_on_index x.served.reason) → length first ≤ x.served.gen_
   pub most : IsTrue (rests_on_index x.served.reason) → x.served.gen_ ≤ length last
 
--- a worker's door was served once, by a token that had seen the first log and then the second one
-pub record ServesOnce {T : Type 0} (scene : Scene T) (first : List Change) (before : WorkerFacts T) (log : List Change)
+-- a worker's door was served once, by a token that had seen the first log and then the second one, with its origin's epoch
+pub record ServesOnce {T : Type 0} (scene : ConnSetting T) (first : List Change) (before : WorkerFacts T) (log : List Change)
     (after : WorkerFacts T) : Type 0 where
   pub end : DoorEnd
+  pub epoch : ℕ
+  pub epoch_after : ℕ
   pub serves :
-      ServesDoor scene (stand_of first before.hand before.share before.links) before.door end
-      (stand_of log after.hand after.share after.links) after.door
+      ServesDoor scene (conn_stage first epoch before.hand before.share before.links) before.door end
+      (conn_stage log epoch_after after.hand after.share after.links) after.door
 
 -- a worker's door was served once, at beginnings of the last log, and each of its requests at one that goes on from the first
-pub record ServedBy {T : Type 0} (scene : Scene T) (first last : List Change) (before after : WorkerFacts T) : Type 0 where
+pub record ServedBy {T : Type 0} (scene : ConnSetting T) (first last : List Change) (before after : WorkerFacts T) : Type 0 where
   pub log : List Change
   pub into : IsPrefix log last
   pub ran : ServesOnce scene first before log after
@@ -84,18 +86,18 @@ worker_in sees views place =
 
 -- what a run makes of a place: its door was served once, and how that ended is kept
 pub record PlaceRan
-    {T D L : Type 0} (scene : Scene T) (sees : D → ShownDoor) (views : L → ShownLink) (first : List Change)
+    {T D L : Type 0} (scene : ConnSetting T) (sees : D → ShownDoor) (views : L → ShownLink) (first : List Change)
     (before : DoorPlace T D L) (log : List Change) (after : DoorPlace T D L) : Type 0 where
   pub ran : ServesOnce scene first (worker_in sees views before) log (worker_in sees views after)
   pub kept : after.end ≡ Some ran.end
 
-abbrev pub RunsPlace : {T D L : Type 0} → Scene T → (D → ShownDoor) → (L → ShownLink) → SeatFacts Change Origin → DoorPlace T D L
+abbrev pub RunsPlace : {T D L : Type 0} → ConnSetting T → (D → ShownDoor) → (L → ShownLink) → SeatFacts Change Origin → DoorPlace T D L
     → SeatFacts Change Origin → DoorPlace T D L → Type 0
 RunsPlace scene sees views start before later after = PlaceRan scene sees views start.seen before later.seen after
 
 -- the same of a place, at beginnings of the last log
 pub record PlaceServed
-    {T D L : Type 0} (scene : Scene T) (sees : D → ShownDoor) (views : L → ShownLink) (first last : List Change)
+    {T D L : Type 0} (scene : ConnSetting T) (sees : D → ShownDoor) (views : L → ShownLink) (first last : List Change)
     (before after : DoorPlace T D L) : Type 0 where
   pub by : ServedBy scene first last (worker_in sees views before) (worker_in sees views after)
   pub kept : after.end ≡ Some by.ran.end

@@ -5,7 +5,7 @@ ghost use Rattle.std.specs.List.{AllZip};
 ghost use Rattle.row_types.specs.Rules.{rules};
 ghost use Rattle.index_lock.specs.Tokens.{IsLater};
 ghost use Rattle.lock_crew.specs.Runs.{SlotHas, SlotRan};
-ghost use Rattle.conn_server.specs.Scene.{scene_of};
+ghost use Rattle.conn_server.specs.Stage.{conn_setting};
 ghost use Rattle.conn_server.specs.Tallied.{HasRowIn};
 ghost use Rattle.dbgd_commands.specs.Endings.{streams};
 ghost use Rattle.dbgd_commands.specs.Scene.{setting};
@@ -65,30 +65,26 @@ fn lead_passes<
     err: &mut O,
 ) -> PassesEnd
     requires { SlotHas (λ lead. (lead.seat.lock ≡ hall.now.lock.now) × (0 < vec_len lead.hands)
-        × (lead.seat.origin.sparing ≡ None) × HasRowIn hall.now.book.now lead.share) lead.old }
+        × (lead.seat.origin.sparing ≡ None) × HasRowIn hall.now.site.now.book.now lead.share) lead.old }
     ensures { SlotRan (λ before after. IsLater before.seat after.seat
         × KeepsPassing
-        (setting (rules W.version W.true_row W.told) T.told T.shows K.told) hall.now.roots.now
-        hall.now.secs
+        (setting (rules W.version W.true_row W.told) T.told T.shows K.told) hall.now.site.now.roots.now
+        hall.now.site.now.secs
         (passing_scene before.seat.seen before.hands.items (C.woke clock.old)
         (streams O.shows out.old err.old) before.share) result
         (passing_scene after.seat.seen after.hands.items (C.woke clock.new)
         (streams O.shows out.new err.new) after.share)
         × (vec_len after.hands ≡ vec_len before.hands)) lead.old lead.new }
 {
-    let Some(
-        Lead {
-            seat,
-            hands,
-            mut share,
-        },
-    ) = lead.take()
-    else {
+    let Some(taken) = lead.take() else {
         unreachable!()
     };
+    let Lead { seat, hands, share } = taken;
+    let mut share = share;
+    let site = hall.site;
     let (seat, hands, end) = keep_passing(
-        hall.rt, hall.alloc, hall.lock, seat, hands, hall.roots, &ElfReader, clock, hall.secs,
-        hall.book, &mut share, out, err, hall.gate,
+        site.rt, site.alloc, hall.lock, seat, hands, site.roots, &ElfReader, clock, site.secs,
+        site.book, &mut share, out, err, site.gate,
     );
     *lead = Some(Lead { seat, hands, share });
     end
@@ -116,13 +112,13 @@ pub(crate) fn run_beside<
 ) -> PassesEnd
     requires lead { SlotHas (λ lead. (lead.seat.lock ≡ hall.now.lock.now)
         × (0 < vec_len lead.hands)
-        × (lead.seat.origin.sparing ≡ None) × HasRowIn hall.now.book.now lead.share) lead.old }
+        × (lead.seat.origin.sparing ≡ None) × HasRowIn hall.now.site.now.book.now lead.share) lead.old }
     requires slots { All (SlotHas (λ slot. (slot.seat.lock ≡ hall.now.lock.now)
-        × HasRowIn hall.now.book.now slot.place.share)) slots.old.items }
+        × HasRowIn hall.now.site.now.book.now slot.place.share)) slots.old.items }
     ensures lead { SlotRan (λ before after. IsLater before.seat after.seat
         × KeepsPassing
-        (setting (rules W.version W.true_row W.told) T.told T.shows K.told) hall.now.roots.now
-        hall.now.secs
+        (setting (rules W.version W.true_row W.told) T.told T.shows K.told) hall.now.site.now.roots.now
+        hall.now.site.now.secs
         (passing_scene before.seat.seen before.hands.items (C.woke clock.old)
         (streams O.shows out.old err.old) before.share) result
         (passing_scene after.seat.seen after.hands.items (C.woke clock.new)
@@ -130,51 +126,36 @@ pub(crate) fn run_beside<
         × (vec_len after.hands ≡ vec_len before.hands)) lead.old lead.new }
     ensures ran { AllZip (SlotRan (λ before after. IsLater before.seat after.seat
         × RunsPlace
-        (scene_of W.true_row T.told W.version T.shows hall.now.folders.now hall.now.book.now.rows)
+        (conn_setting W.true_row T.told W.version T.shows hall.now.site.now.folders.now hall.now.site.now.book.now.rows)
         D.shows L.shows before.seat before.place after.seat after.place)) slots.old.items slots.new.items }
     ensures locks { All (SlotHas (λ slot. slot.seat.lock ≡ hall.now.lock.now)) slots.new.items }
     ensures count { vec_len slots.new ≡ vec_len slots.old }
 {
-    let (rt, alloc, lock) = (hall.rt, hall.alloc, hall.lock);
-    let (roots, folders, book) = (hall.roots, hall.folders, hall.book);
-    let (secs, doors, gate) = (hall.secs, hall.doors, hall.gate);
     let serving = |slots: &mut Vec<Option<Slot<State<W, K>, DoorPlace<T, D, L>>>>|
-        requires { All (SlotHas (λ slot. (slot.seat.lock ≡ lock.now)
-            × HasRowIn book.now slot.place.share)) slots.now.items }
+        requires { All (SlotHas (λ slot. (slot.seat.lock ≡ hall.now.lock.now)
+            × HasRowIn hall.now.site.now.book.now slot.place.share)) slots.now.items }
         ensures { AllZip (SlotRan (λ before after. IsLater before.seat after.seat
             × RunsPlace
-            (scene_of W.true_row T.told W.version T.shows folders.entry.now book.entry.now.rows)
+            (conn_setting W.true_row T.told W.version T.shows hall.entry.now.site.now.folders.now
+            hall.entry.now.site.now.book.now.rows)
             D.shows L.shows before.seat before.place after.seat after.place))
             slots.entry.now.items slots.exit.now.items
-            × All (SlotHas (λ slot. slot.seat.lock ≡ lock.entry.now)) slots.exit.now.items
+            × All (SlotHas (λ slot. slot.seat.lock ≡ hall.entry.now.lock.now)) slots.exit.now.items
             × (vec_len slots.exit.now ≡ vec_len slots.entry.now) }
-    {
-        let hall = Hall {
-            rt,
-            alloc,
-            lock,
-            roots,
-            folders,
-            book,
-            secs,
-            doors,
-            gate,
-        };
-        run_doors(&hall, slots)
-    };
+    { run_doors(hall, slots) };
     let mut passing = || -> PassesEnd
         requires { SlotHas (λ lead. (lead.seat.lock ≡ hall.now.lock.now)
             × (0 < vec_len lead.hands)
-            × (lead.seat.origin.sparing ≡ None) × HasRowIn hall.now.book.now lead.share) lead.now }
+            × (lead.seat.origin.sparing ≡ None) × HasRowIn hall.now.site.now.book.now lead.share) lead.now }
         ensures { SlotRan (λ before after. IsLater before.seat after.seat
             × KeepsPassing
             (setting (rules W.version W.true_row W.told) T.told T.shows K.told)
-            hall.entry.now.roots.now hall.entry.now.secs
+            hall.entry.now.site.now.roots.now hall.entry.now.site.now.secs
             (passing_scene before.seat.seen before.hands.items (C.woke clock.entry.now)
             (streams O.shows out.entry.now err.entry.now) before.share) result
             (passing_scene after.seat.seen after.hands.items (C.woke clock.exit.now)
             (streams O.shows out.exit.now err.exit.now) after.share)
             × (vec_len after.hands ≡ vec_len before.hands)) lead.entry.now lead.exit.now }
     { lead_passes(hall, lead, clock, out, err) };
-    beside(rt, slots, &serving, &mut passing)
+    beside(hall.site.rt, slots, &serving, &mut passing)
 }

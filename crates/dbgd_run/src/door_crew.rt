@@ -4,7 +4,7 @@ ghost use Rattle.std.specs.Prelude.{◌≡◌, ℕ, ◌<◌, All, length, slice_
 ghost use Rattle.std.specs.List.{AllZip};
 ghost use Rattle.index_lock.specs.Tokens.{IsLater};
 ghost use Rattle.lock_crew.specs.Runs.{SlotHas, SlotRan};
-ghost use Rattle.conn_server.specs.Scene.{scene_of};
+ghost use Rattle.conn_server.specs.Stage.{conn_setting};
 ghost use Rattle.conn_server.specs.Tallied.{HasRowIn};
 ghost use Rattle.dbgd_run.specs.Workers.{RunsPlace};
 
@@ -37,45 +37,30 @@ fn run_each<
 )
     requires threads { 0 < threads }
     requires filled { All (SlotHas (λ slot. (slot.seat.lock ≡ hall.now.lock.now)
-        × HasRowIn hall.now.book.now slot.place.share)) slots.old }
+        × HasRowIn hall.now.site.now.book.now slot.place.share)) slots.old }
     ensures each { (i : ℕ) (d : _) → i < length slots.old
         → SlotRan (λ before after. IsLater before.seat after.seat
         × RunsPlace
-        (scene_of W.true_row T.told W.version T.shows hall.now.folders.now hall.now.book.now.rows)
+        (conn_setting W.true_row T.told W.version T.shows hall.now.site.now.folders.now
+        hall.now.site.now.book.now.rows)
         D.shows L.shows before.seat before.place after.seat after.place)
         (slice_index_or slots.old i d) (slice_index_or slots.new i d) }
     ensures length { length slots.new ≡ length slots.old }
 {
-    let (rt, alloc, lock) = (hall.rt, hall.alloc, hall.lock);
-    let (roots, folders, book) = (hall.roots, hall.folders, hall.book);
-    let (secs, doors, gate) = (hall.secs, hall.doors, hall.gate);
     thread::for_each_mut(
-        rt,
+        hall.site.rt,
         slots,
         threads,
         &|number, slot: &mut Option<Slot<State<W, K>, DoorPlace<T, D, L>>>|
-            requires { SlotHas (λ slot. (slot.seat.lock ≡ lock.now)
-                × HasRowIn book.now slot.place.share) slot.now }
+            requires { SlotHas (λ slot. (slot.seat.lock ≡ hall.now.lock.now)
+                × HasRowIn hall.now.site.now.book.now slot.place.share) slot.now }
             ensures { SlotRan (λ before after. IsLater before.seat after.seat
                 × RunsPlace
-                (scene_of W.true_row T.told W.version T.shows folders.entry.now
-                book.entry.now.rows)
+                (conn_setting W.true_row T.told W.version T.shows
+                hall.entry.now.site.now.folders.now hall.entry.now.site.now.book.now.rows)
                 D.shows L.shows before.seat before.place after.seat after.place)
                 slot.entry.now slot.exit.now }
-        {
-            let hall = Hall {
-                rt,
-                alloc,
-                lock,
-                roots,
-                folders,
-                book,
-                secs,
-                doors,
-                gate,
-            };
-            run_slot(&hall, number as u64, slot);
-        },
+        { run_slot(hall, number as u64, slot) },
     );
 }
 
@@ -91,10 +76,11 @@ pub(crate) fn run_doors<
     Rt: Threads + Wait + Sync,
 >(hall: &Hall<'_, W, K, G, Rt>, slots: &mut Vec<Option<Slot<State<W, K>, DoorPlace<T, D, L>>>>)
     requires filled { All (SlotHas (λ slot. (slot.seat.lock ≡ hall.now.lock.now)
-        × HasRowIn hall.now.book.now slot.place.share)) slots.old.items }
+        × HasRowIn hall.now.site.now.book.now slot.place.share)) slots.old.items }
     ensures ran { AllZip (SlotRan (λ before after. IsLater before.seat after.seat
         × RunsPlace
-        (scene_of W.true_row T.told W.version T.shows hall.now.folders.now hall.now.book.now.rows)
+        (conn_setting W.true_row T.told W.version T.shows hall.now.site.now.folders.now
+        hall.now.site.now.book.now.rows)
         D.shows L.shows before.seat before.place after.seat after.place)) slots.old.items slots.new.items }
     ensures locks { All (SlotHas (λ slot. slot.seat.lock ≡ hall.now.lock.now)) slots.new.items }
     ensures count { vec_len slots.new ≡ vec_len slots.old }

@@ -9,30 +9,29 @@ ghost use Rattle.dbgd_run.specs.Workers.{IsFreshShare};
 use crate::posts::{Posts, empty_posts};
 use crate::serve_said::serving_line;
 use crate::shares::{Shares, new_shares};
-use http_wire::Door;
-use index_keeper::Keeper;
-use row_types::{CanonPath, Truth};
+use dbgd_commands::Kinds;
+use row_types::CanonPath;
 use std::alloc::{AllocError, Global};
 use std::sync::Wait;
 
 /// The first line, the counters, and room for the places of workers and for what comes back of them.
 #[derive(Drop)]
-pub(crate) struct Gear<W: Truth, K: Keeper<W>, T: Drop, D: Door, L: Drop> {
+pub(crate) struct Gear<X: Kinds> {
     pub(crate) line: String,
     pub(crate) shares: Shares,
-    pub(crate) posts: Posts<W, K, T, D, L>,
-    pub(crate) hands: Vec<T>,
-    pub(crate) doors: Vec<D>,
-    pub(crate) links: Vec<Vec<L>>,
+    pub(crate) posts: Posts<X>,
+    pub(crate) hands: Vec<X::T>,
+    pub(crate) doors: Vec<X::D>,
+    pub(crate) links: Vec<Vec<X::L>>,
 }
 
 /// What a server of so many workers on a port wants.
-pub(crate) fn new_gear<W: Truth, K: Keeper<W>, T: Drop, D: Door, L: Drop, R: Wait>(
-    rt: &R,
+pub(crate) fn new_gear<X: Kinds, Rt: Wait>(
+    rt: &Rt,
     alloc: Global,
     workers: u64,
     port: u64,
-) -> Result<Gear<W, K, T, D, L>, AllocError>
+) -> Result<Gear<X>, AllocError>
     requires fits { IsScanFit workers }
     ensures line { IfOk result (λ gear. string_bytes gear.line ≡ serving_line port workers) }
     ensures rows { IfOk result (λ gear. gear.shares.book.rows ≡ workers + 1) }

@@ -2,12 +2,12 @@
 
 ghost use Rattle.std.specs.Prelude.{◌≡◌, ℕ, ◌+◌, ◌≤◌, List, [], ◌++◌, length, map, All, vec_capacity, vec_len};
 ghost use Rattle.std.specs.String.{string_bytes};
-ghost use Rattle.row_types.specs.Rules.{rules};
+ghost use Rattle.federation.specs.Server.{ServerFacts};
 ghost use Rattle.dbgd_commands.specs.Endings.{streams};
-ghost use Rattle.dbgd_commands.specs.Scene.{scene, setting};
+ghost use Rattle.dbgd_commands.specs.Scene.{scene};
 ghost use Rattle.dbgd_run.specs.Serve.{RunsServe, serve_words};
 ghost use Rattle.dbgd_run.specs.ServeSaid.{serving_line};
-ghost use Rattle.dbgd_run.specs.Stage.{rows_shown, stage};
+ghost use Rattle.dbgd_commands.specs.Stage.{rows_shown, stage};
 ghost use Rattle.dbgd_run.specs.Workers.{IsFreshShare};
 
 use crate::gear::Gear;
@@ -17,17 +17,12 @@ use crate::serve_said::say_serve_end;
 use crate::serving::serve_store;
 use crate::shares::Shares;
 use crate::site::{Back, Crew, Site};
-use dbgd_commands::{Outside, Status, rejoin};
-use elf_reading::ElfTruth;
-use federation::Link;
-use http_wire::{Door, Sink};
-use index_keeper::Store;
+use dbgd_commands::{Handed, Kinds, Staged, Status, rejoin};
 use row_types::CanonPath;
 use std::alloc::Global;
 use std::mem;
 use std::sync::Wait;
 use std::thread::Threads;
-use tree_trait::{Clock, Gate, Tree};
 
 /// What the words of a server ask, with the folders in one list: those that are scanned stand first.
 #[derive(Drop)]
@@ -41,23 +36,13 @@ pub(crate) struct Order<'a> {
 
 /// Serves with what was made and lent for it, says how that ended, and puts hands, doors and rows of
 /// links back in their order.
-pub(crate) fn serve_geared<
-    W: ElfTruth + Send + Sync,
-    T: Tree<W>,
-    S: Store<W>,
-    D: Door,
-    L: Link,
-    C: Clock + Drop,
-    O: Sink,
-    G: Gate + Drop,
-    Rt: Threads + Wait + Sync,
->(
+pub(crate) fn serve_geared<X: Kinds, Rt: Threads + Wait + Sync>(
     rt: &Rt,
     alloc: Global,
     order: Order<'_>,
-    gear: Gear<W, S::K, T, D, L>,
-    loan: Loan<T, L>,
-    outside: &mut Outside<W, T, S, D, L, C, O, G>,
+    gear: Gear<X>,
+    loan: Loan<X::T, X::L>,
+    outside: &mut Handed<X>,
 ) -> Status
     requires scanned { order.scanned ≤ vec_len order.folders }
     requires hands { vec_len outside.old.hands ≡ order.workers + 2 }
@@ -84,20 +69,18 @@ pub(crate) fn serve_geared<
         × (order.workers + 2 + (order.workers + vec_len loan.crew.others.rest)
         ≤ vec_capacity loan.crew.room)
         × (order.workers + vec_len loan.rows.rest ≤ vec_capacity loan.rows.room) }
-    ensures runs { (port : ℕ) (sources roots : List (List ℕ))
+    ensures runs { (port : ℕ) (upstream : List ServerFacts) (sources roots : List (List ℕ))
         → string_bytes gear.line ≡ serving_line port order.entry.workers
-        → order.entry.folders.items ≡ roots ++ sources → order.entry.scanned ≡ length roots → RunsServe
-        (setting (rules W.version W.true_row W.told) T.told T.shows S.K.told)
-        (serve_words order.entry.store.now order.entry.workers port order.entry.secs sources roots)
+        → order.entry.folders.items ≡ roots ++ sources → order.entry.scanned ≡ length roots
+        → All (λ row. length row.items ≡ length upstream) outside.old.links.items → RunsServe
+        ⟦<Handed<X> as Staged>⟧.setting
+        (serve_words order.entry.store.now order.entry.workers port order.entry.secs sources upstream roots)
         (stage (scene (outside.old.hands.items ++ (loan.crew.workers.items ++ loan.crew.others.rest.items))
-        (S.shows outside.old.store) (streams O.shows outside.old.out outside.old.err))
-        (map D.shows outside.old.doors.items)
-        (rows_shown L.shows (outside.old.links.items ++ loan.rows.rest.items))
-        (C.woke outside.old.clock))
-        (stage (scene outside.new.hands.items (S.shows outside.new.store)
-        (streams O.shows outside.new.out outside.new.err))
-        (map D.shows outside.new.doors.items) (rows_shown L.shows outside.new.links.items)
-        (C.woke outside.new.clock)) result }
+        (X.S.shows outside.old.store) (streams X.O.shows outside.old.out outside.old.err))
+        (map X.D.shows outside.old.doors.items)
+        (rows_shown X.L.shows (outside.old.links.items ++ loan.rows.rest.items))
+        (X.C.woke outside.old.clock))
+        (⟦<Handed<X> as Staged>⟧.stage outside.new) result }
     ensures count { vec_len outside.new.hands
         ≡ order.entry.workers + 2 + (order.entry.workers + vec_len loan.crew.others.rest) }
     ensures doors { vec_len outside.new.doors ≡ order.entry.workers }
@@ -154,7 +137,7 @@ pub(crate) fn serve_geared<
         doors: order.workers,
         gate: &outside.gate,
     };
-    let left = serve_store(
+    let left = serve_store::<X, Rt>(
         &site,
         &mut outside.store,
         crew,

@@ -1,32 +1,29 @@
-//! What the threads of a server share.
+//! What the threads of a server share, and what its passes go on with.
 
-use dbgd_metrics::{Book, Share};
-use index_keeper::Keeper;
+use crate::site::Site;
+use dbgd_commands::Kinds;
+use dbgd_metrics::Share;
+use index_keeper::{Keeper, Store};
 use index_lock::{Seat, TurnLock};
 use index_state::State;
-use row_types::{CanonPath, Truth};
-use std::alloc::Global;
+use row_types::Truth;
 use tree_trait::Gate;
 
-/// What all the doors of a server are served with, and what its passes are made with.
+/// The keeper of an index, of these kinds.
+pub(crate) type KeeperOf<X> = <<X as Kinds>::S as Store<<X as Kinds>::W>>::K;
+
+/// An index, of these kinds.
+pub(crate) type Index<X> = State<<X as Kinds>::W, KeeperOf<X>>;
+
+/// What a server is made with, and the lock of its index.
 #[derive(Drop)]
 pub(crate) struct Hall<'a, W: Truth, K: Keeper<W>, G: Gate, Rt> {
-    pub rt: &'a Rt,
-    pub alloc: Global,
-    /// The lock of the index.
+    pub site: &'a Site<'a, G, Rt>,
     pub lock: &'a TurnLock<State<W, K>>,
-    /// The folders that are scanned.
-    pub roots: &'a [CanonPath],
-    /// The folders of sources: those that are scanned, and those for sources alone.
-    pub folders: &'a [CanonPath],
-    /// The counters.
-    pub book: &'a Book,
-    /// Seconds from one pass to the next. With none there is one pass.
-    pub secs: u64,
-    /// The number of doors.
-    pub doors: u64,
-    pub gate: &'a G,
 }
+
+/// The same of these kinds.
+pub(crate) type HallOf<'a, X, Rt> = Hall<'a, <X as Kinds>::W, KeeperOf<X>, <X as Kinds>::G, Rt>;
 
 /// What the passes go on with.
 #[derive(Drop)]
@@ -35,3 +32,6 @@ pub(crate) struct Lead<W: Truth, K: Keeper<W>, T: Drop> {
     pub hands: Vec<T>,
     pub share: Share,
 }
+
+/// The same of these kinds.
+pub(crate) type LeadOf<X> = Lead<<X as Kinds>::W, KeeperOf<X>, <X as Kinds>::T>;

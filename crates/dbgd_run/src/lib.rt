@@ -16,6 +16,7 @@ mod passes_end;
 mod places;
 mod posts;
 mod rounds;
+mod rules;
 mod serve;
 mod serve_end;
 mod serve_said;
@@ -25,7 +26,7 @@ mod shares;
 mod site;
 mod wants;
 
-pub use dbgd_commands::{Outside, ScanEnd, Status, say_end};
+pub use dbgd_commands::{Handed, Kinds, Of, Outside, ScanEnd, Staged, Status, say_end};
 pub use demands::needs;
 pub use elf_reading::ElfTruth;
 pub use http_wire::{MemSink, Sink, Stream, WriteAnswer, WriteFault, write_all};

@@ -1,6 +1,6 @@
 //! The top call: all that the program does with what is handed in.
 
-ghost use Rattle.std.specs.Prelude.{◌≡◌, ◌⊎◌, ◌<◌, drop, false, map, true, vec_len, IfNone, IfSome};
+ghost use Rattle.std.specs.Prelude.{◌≡◌, ◌⊎◌, drop, false, map, true, vec_len, IfNone, IfSome};
 ghost use Rattle.std.specs.String.{string_bytes};
 ghost use Rattle.row_types.specs.Rules.{rules};
 ghost use Rattle.dbgd_words.specs.Limits.{FitsLimits};
@@ -10,14 +10,14 @@ ghost use Rattle.dbgd_commands.specs.Endings.{EndsWhole, streams};
 ghost use Rattle.dbgd_commands.specs.Scene.{scene, setting};
 ghost use Rattle.dbgd_commands.specs.Statuses.{code_of};
 ghost use Rattle.dbgd_commands.specs.declared.status.Status.TheVariants.{OutOfMemory};
-ghost use Rattle.dbgd_run.specs.Needs.{HasEnough};
+ghost use Rattle.dbgd_run.specs.Needs.{HasEnough, HasHand};
 ghost use Rattle.dbgd_run.specs.Runs.{DoesLine, DoesWords, IsRun, Runs, takes_threads, usage_saying};
-ghost use Rattle.dbgd_run.specs.Stage.{rows_shown, stage};
+ghost use Rattle.dbgd_commands.specs.Stage.{rows_shown, stage};
 
 use crate::serve::{ServeLine, run_serve};
 use dbgd_commands::{
-    Outside, Status, run_ident, run_query, run_scan, run_section, run_sources, run_trial, say,
-    say_error, say_no_memory,
+    Handed, Kinds, Of, Outside, Staged, Status, run_ident, run_query, run_scan, run_section,
+    run_sources, run_trial, say, say_error, say_no_memory,
 };
 use dbgd_words::{Line, read_line};
 use elf_reading::ElfTruth;
@@ -45,25 +45,14 @@ fn say_usage<O: Sink>(out: &mut O, err: &mut O) -> Status
 
 /// Does what a line of words asks that is neither a scan, of folders or of generated files, nor a
 /// server.
-fn run_alone<
-    W: ElfTruth + Send + Sync,
-    T: Tree<W>,
-    S: Store<W>,
-    D: Door,
-    L: Link,
-    C: Clock + Drop,
-    O: Sink,
-    G: Gate + Drop,
->(alloc: Global, line: Line<'_>, outside: &mut Outside<W, T, S, D, L, C, O, G>) -> Status
-    requires hand { 0 < vec_len outside.old.hands }
+fn run_alone<X: Kinds>(alloc: Global, line: Line<'_>, outside: &mut Handed<X>) -> Status
+    requires hand { HasHand (asked_by line) (vec_len outside.old.hands) }
     requires alone { takes_threads (asked_by line) ≡ false }
     ensures law { Runs
-        (setting (rules W.version W.true_row W.told) T.told T.shows S.K.told)
+        ⟦<Handed<X> as Staged>⟧.setting
         (asked_by line.entry)
-        (scene outside.old.hands.items (S.shows outside.old.store)
-        (streams O.shows outside.old.out outside.old.err))
-        (scene outside.new.hands.items (S.shows outside.new.store)
-        (streams O.shows outside.new.out outside.new.err)) result }
+        (⟦<Handed<X> as Staged>⟧.stage outside.old).scene
+        (⟦<Handed<X> as Staged>⟧.stage outside.new).scene result }
     ensures hands { vec_len outside.new.hands ≡ vec_len outside.old.hands }
     ensures others { drop 1 outside.new.hands.items ≡ drop 1 outside.old.hands.items }
     ensures rest { (outside.new.doors ≡ outside.old.doors) × (outside.new.links ≡ outside.old.links)
@@ -72,12 +61,26 @@ fn run_alone<
     let out = &mut outside.out;
     let err = &mut outside.err;
     match line {
-        Line::Ident { path } => run_ident(alloc, path, &mut outside.hands[0], out, err),
-        Line::Sources { path } => run_sources(alloc, path, &mut outside.hands[0], out, err),
+        Line::Ident { path } => run_ident::<X::W, X::T, X::O>(
+            alloc,
+            path,
+            &mut outside.hands[0],
+            out,
+            err,
+        ),
+        Line::Sources { path } => run_sources::<X::W, X::T, X::O>(
+            alloc,
+            path,
+            &mut outside.hands[0],
+            out,
+            err,
+        ),
         Line::Section { path, name } => {
-            run_section(alloc, path, name, &mut outside.hands[0], out, err)
+            run_section::<X::W, X::T, X::O>(alloc, path, name, &mut outside.hands[0], out, err)
         }
-        Line::Query { store, id } => { run_query(alloc, store, &id, &mut outside.store, out, err) }
+        Line::Query { store, id } => {
+            run_query::<X::W, X::S, X::O>(alloc, store, &id, &mut outside.store, out, err)
+        }
         Line::Scan { .. } | Line::Serve { .. } | Line::Trial { .. } => unreachable!(),
         Line::Program { text } => say(text.as_bytes(), Status::Done, out, err),
         Line::Help { text } => say(text.as_bytes(), Status::Done, out, err),
@@ -86,32 +89,21 @@ fn run_alone<
 }
 
 /// Does what a line of words asks.
-fn run_line<
-    W: ElfTruth + Send + Sync,
-    T: Tree<W>,
-    S: Store<W>,
-    D: Door,
-    L: Link,
-    C: Clock + Drop,
-    O: Sink,
-    G: Gate + Drop,
-    Rt: Threads + Wait + Sync,
->(rt: &Rt, alloc: Global, line: Line<'_>, outside: &mut Outside<W, T, S, D, L, C, O, G>) -> Status
-    requires hand { 0 < vec_len outside.old.hands }
+fn run_line<X: Kinds, Rt: Threads + Wait + Sync>(
+    rt: &Rt,
+    alloc: Global,
+    line: Line<'_>,
+    outside: &mut Handed<X>,
+) -> Status
+    requires hand { HasHand (asked_by line) (vec_len outside.old.hands) }
     requires fits { FitsLimits (asked_by line) }
     requires enough { HasEnough (asked_by line) (vec_len outside.old.hands)
-        (vec_len outside.old.doors) (vec_len outside.old.links) }
+        (vec_len outside.old.doors) outside.old.links.items }
     ensures law { DoesLine
-        (setting (rules W.version W.true_row W.told) T.told T.shows S.K.told)
+        ⟦<Handed<X> as Staged>⟧.setting
         (asked_by line.entry)
-        (stage (scene outside.old.hands.items (S.shows outside.old.store)
-        (streams O.shows outside.old.out outside.old.err))
-        (map D.shows outside.old.doors.items) (rows_shown L.shows outside.old.links.items)
-        (C.woke outside.old.clock))
-        (stage (scene outside.new.hands.items (S.shows outside.new.store)
-        (streams O.shows outside.new.out outside.new.err))
-        (map D.shows outside.new.doors.items) (rows_shown L.shows outside.new.links.items)
-        (C.woke outside.new.clock)) result }
+        (⟦<Handed<X> as Staged>⟧.stage outside.old)
+        (⟦<Handed<X> as Staged>⟧.stage outside.new) result }
     ensures hands { vec_len outside.new.hands ≡ vec_len outside.old.hands }
     ensures doors { vec_len outside.new.doors ≡ vec_len outside.old.doors }
     ensures links { vec_len outside.new.links ≡ vec_len outside.old.links }
@@ -121,14 +113,14 @@ fn run_line<
             store,
             workers,
             roots,
-        } => run_scan(rt, alloc, store, workers, roots.as_slice(), outside),
+        } => run_scan::<X, Rt>(rt, alloc, store, workers, roots.as_slice(), outside),
         Line::Serve {
             store,
             workers,
             port,
             secs,
             sources,
-            upstream: _,
+            upstream,
             roots,
         } => {
             let line = ServeLine {
@@ -137,57 +129,47 @@ fn run_line<
                 port,
                 secs,
                 sources,
+                upstream,
                 roots,
             };
-            run_serve(rt, alloc, line, outside)
+            run_serve::<X, Rt>(rt, alloc, line, outside)
         }
         Line::Trial {
             seed,
             files,
             workers,
-        } => run_trial(rt, alloc, seed, files, workers, outside),
-        line => run_alone(alloc, line, outside),
+        } => run_trial::<X, Rt>(rt, alloc, seed, files, workers, outside),
+        line => run_alone::<X>(alloc, line, outside),
     }
 }
 
 /// Does what words ask.
-fn run_words<
-    W: ElfTruth + Send + Sync,
-    T: Tree<W>,
-    S: Store<W>,
-    D: Door,
-    L: Link,
-    C: Clock + Drop,
-    O: Sink,
-    G: Gate + Drop,
-    Rt: Threads + Wait + Sync,
->(rt: &Rt, alloc: Global, words: &[String], outside: &mut Outside<W, T, S, D, L, C, O, G>) -> Status
-    requires hand { 0 < vec_len outside.old.hands }
+fn run_words<X: Kinds, Rt: Threads + Wait + Sync>(
+    rt: &Rt,
+    alloc: Global,
+    words: &[String],
+    outside: &mut Handed<X>,
+) -> Status
+    requires hand { HasHand (line_of (map string_bytes words.now)) (vec_len outside.old.hands) }
     requires enough { HasEnough (line_of (map string_bytes words.now))
-        (vec_len outside.old.hands) (vec_len outside.old.doors) (vec_len outside.old.links) }
+        (vec_len outside.old.hands) (vec_len outside.old.doors) outside.old.links.items }
     ensures law { DoesWords
-        (setting (rules W.version W.true_row W.told) T.told T.shows S.K.told)
-        (map string_bytes words.now)
-        (stage (scene outside.old.hands.items (S.shows outside.old.store)
-        (streams O.shows outside.old.out outside.old.err))
-        (map D.shows outside.old.doors.items) (rows_shown L.shows outside.old.links.items)
-        (C.woke outside.old.clock))
-        (stage (scene outside.new.hands.items (S.shows outside.new.store)
-        (streams O.shows outside.new.out outside.new.err))
-        (map D.shows outside.new.doors.items) (rows_shown L.shows outside.new.links.items)
-        (C.woke outside.new.clock)) result }
+        (setting (rules X.W.version X.W.true_row X.W.told) X.T.told X.T.shows X.S.K.told)
+        (map string_bytes words.now) (⟦<Handed<X> as Staged>⟧.stage outside.old)
+        (⟦<Handed<X> as Staged>⟧.stage outside.new) result }
     ensures hands { vec_len outside.new.hands ≡ vec_len outside.old.hands }
     ensures doors { vec_len outside.new.doors ≡ vec_len outside.old.doors }
     ensures links { vec_len outside.new.links ≡ vec_len outside.old.links }
 {
     match read_line(alloc, words) {
-        Ok(line) => run_line(rt, alloc, line, outside),
+        Ok(line) => run_line::<X, Rt>(rt, alloc, line, outside),
         Err(_) => say_no_memory(&mut outside.out, &mut outside.err),
     }
 }
 
 /// Does what the words after the program's name ask, and gives the exit status, unless they ask for
-/// a scan, of folders or of generated files, or for a server. Then nothing was read or written.
+/// a scan, of folders or of generated files, or for a server. Then nothing was read or written. Where a
+/// hand is needed there is one.
 pub fn run_local<
     W: ElfTruth + Send + Sync,
     T: Tree<W>,
@@ -198,7 +180,7 @@ pub fn run_local<
     O: Sink,
     G: Gate + Drop,
 >(alloc: Global, words: &[String], outside: &mut Outside<W, T, S, D, L, C, O, G>) -> Option<u8>
-    requires { 0 < vec_len outside.old.hands }
+    requires { HasHand (line_of (map string_bytes words.now)) (vec_len outside.old.hands) }
     ensures none { IfNone result (takes_threads (line_of (map string_bytes words.now)) ≡ true) }
     ensures some { IfSome result (λ code. (takes_threads (line_of (map string_bytes words.now)) ≡ false)
         ⊎ (code ≡ code_of OutOfMemory)) }
@@ -219,13 +201,14 @@ pub fn run_local<
 {
     match read_line(alloc, words) {
         Ok(Line::Scan { .. } | Line::Serve { .. } | Line::Trial { .. }) => None,
-        Ok(line) => Some(run_alone(alloc, line, outside).code()),
+        Ok(line) => Some(run_alone::<Of<W, T, S, D, L, C, O, G>>(alloc, line, outside).code()),
         Err(_) => Some(say_no_memory(&mut outside.out, &mut outside.err).code()),
     }
 }
 
-/// Does all that the program does, and gives the exit status. Where doors are needed there are
-/// exactly these, and the hands and the rows of links that are needed, or more.
+/// Does all that the program does, and gives the exit status. Where a hand is needed there is one. Where
+/// doors are needed there are exactly these, and the hands and the rows of links that are needed, or
+/// more; each row has a link for each of the other servers that are asked.
 pub fn run<
     W: ElfTruth + Send + Sync,
     T: Tree<W>,
@@ -237,9 +220,9 @@ pub fn run<
     G: Gate + Drop,
     Rt: Threads + Wait + Sync,
 >(rt: &Rt, alloc: Global, words: &[String], outside: &mut Outside<W, T, S, D, L, C, O, G>) -> u8
-    requires hand { 0 < vec_len outside.old.hands }
+    requires hand { HasHand (line_of (map string_bytes words.now)) (vec_len outside.old.hands) }
     requires enough { HasEnough (line_of (map string_bytes words.now))
-        (vec_len outside.old.hands) (vec_len outside.old.doors) (vec_len outside.old.links) }
+        (vec_len outside.old.hands) (vec_len outside.old.doors) outside.old.links.items }
     ensures run { IsRun (setting (rules W.version W.true_row W.told) T.told T.shows S.K.told)
         (map string_bytes words.now)
         (stage (scene outside.old.hands.items (S.shows outside.old.store)
@@ -254,5 +237,5 @@ pub fn run<
     ensures doors { vec_len outside.new.doors ≡ vec_len outside.old.doors }
     ensures links { vec_len outside.new.links ≡ vec_len outside.old.links }
 {
-    run_words(rt, alloc, words, outside).code()
+    run_words::<Of<W, T, S, D, L, C, O, G>, Rt>(rt, alloc, words, outside).code()
 }

@@ -3,12 +3,13 @@
 ghost use Rattle.std.specs.Prelude.{◌≡◌};
 ghost use Rattle.index_lock.specs.Tokens.{IsLater};
 ghost use Rattle.lock_crew.specs.Runs.{SlotHas, SlotRan};
-ghost use Rattle.conn_server.specs.Scene.{scene_of};
+ghost use Rattle.conn_server.specs.Stage.{conn_setting};
 ghost use Rattle.conn_server.specs.Tallied.{HasRowIn};
 ghost use Rattle.dbgd_run.specs.Workers.{RunsPlace};
 
 use crate::hall::Hall;
 use conn_server::{DoorEnd, serve_door};
+use dbgd_commands::Kinds;
 use dbgd_metrics::Share;
 use federation::Link;
 use http_wire::Door;
@@ -30,57 +31,47 @@ pub(crate) struct DoorPlace<T: Drop, D: Drop, L: Drop> {
     pub(crate) end: Option<DoorEnd>,
 }
 
+/// The same of these kinds.
+pub(crate) type PlaceOf<X> = DoorPlace<<X as Kinds>::T, <X as Kinds>::D, <X as Kinds>::L>;
+
 /// Serves the door of a place: its connections have this number and each that is greater by a
 /// multiple of the number of doors.
 fn run_place<W: Truth, K: Keeper<W>, T: Tree<W>, D: Door, L: Link, G: Gate, Rt: Wait + Sync>(
     hall: &Hall<'_, W, K, G, Rt>,
     number: u64,
     seat: Seat<State<W, K>>,
-    place: DoorPlace<T, D, L>,
-) -> (Seat<State<W, K>>, DoorPlace<T, D, L>)
+    place: &mut DoorPlace<T, D, L>,
+) -> Seat<State<W, K>>
     requires lock { seat.lock ≡ hall.now.lock.now }
-    requires share { HasRowIn hall.now.book.now place.share }
-    ensures later { IsLater seat result.0 }
-    ensures share { HasRowIn hall.now.book.now result.1.share }
+    requires share { HasRowIn hall.now.site.now.book.now place.old.share }
+    ensures later { IsLater seat result }
     ensures ran { RunsPlace
-        (scene_of W.true_row T.told W.version T.shows hall.now.folders.now hall.now.book.now.rows)
-        D.shows L.shows seat place result.0 result.1 }
+        (conn_setting W.true_row T.told W.version T.shows hall.now.site.now.folders.now
+        hall.now.site.now.book.now.rows)
+        D.shows L.shows seat place.old result place.new }
 {
-    let DoorPlace {
-        mut hand,
-        mut share,
-        mut door,
-        mut links,
-        end: _,
-    } = place;
+    let site = hall.site;
     let (seat, end) = serve_door(
-        hall.rt,
-        hall.alloc,
+        site.rt,
+        site.alloc,
         hall.lock,
         seat,
-        &mut hand,
-        links.as_mut_slice(),
-        hall.folders,
-        hall.book,
-        &mut share,
-        &mut door,
+        &mut place.hand,
+        place.links.as_mut_slice(),
+        site.folders,
+        site.book,
+        &mut place.share,
+        &mut place.door,
         number,
-        hall.doors,
-        hall.gate,
+        site.doors,
+        site.gate,
     );
-    (
-        seat,
-        DoorPlace {
-            hand,
-            share,
-            door,
-            links,
-            end: Some(end),
-        },
-    )
+    place.end = Some(end);
+    seat
 }
 
-/// Serves the door of a slot.
+/// Serves the door of a slot. It runs in a thread of its own, so it names the kinds one by one: a bound on
+/// all of them at once isn't known of another thread.
 pub(crate) fn run_slot<
     W: Truth,
     K: Keeper<W>,
@@ -95,14 +86,15 @@ pub(crate) fn run_slot<
     slot: &mut Option<Slot<State<W, K>, DoorPlace<T, D, L>>>,
 )
     requires { SlotHas (λ slot. (slot.seat.lock ≡ hall.now.lock.now)
-        × HasRowIn hall.now.book.now slot.place.share) slot.old }
+        × HasRowIn hall.now.site.now.book.now slot.place.share) slot.old }
     ensures { SlotRan (λ before after. IsLater before.seat after.seat
         × RunsPlace
-        (scene_of W.true_row T.told W.version T.shows hall.now.folders.now hall.now.book.now.rows)
+        (conn_setting W.true_row T.told W.version T.shows hall.now.site.now.folders.now
+        hall.now.site.now.book.now.rows)
         D.shows L.shows before.seat before.place after.seat after.place) slot.old slot.new }
 {
-    if let Some(Slot { seat, place }) = slot.take() {
-        let (seat, place) = run_place(hall, number, seat, place);
+    if let Some(Slot { seat, mut place }) = slot.take() {
+        let seat = run_place(hall, number, seat, &mut place);
         *slot = Some(Slot { seat, place });
     }
 }

@@ -3,28 +3,25 @@
 ghost use Rattle.std.specs.Prelude.{◌≡◌, ◌≤◌, [], All, IfOk, vec_capacity, vec_len};
 ghost use Rattle.dbgd_run.specs.Workers.{doors_at, hands_at, links_at, shares_at};
 
-use crate::places::DoorPlace;
+use crate::hall::Index;
+use crate::places::{DoorPlace, PlaceOf};
+use dbgd_commands::Kinds;
 use dbgd_metrics::Share;
-use http_wire::Door;
-use index_keeper::Keeper;
-use index_state::State;
 use lock_crew::{Slot, rooms};
-use row_types::Truth;
 use std::alloc::{AllocError, Global};
 
 /// The places of workers, and room for their slots and for the places that come back.
 #[derive(Drop)]
-pub(crate) struct Posts<W: Truth, K: Keeper<W>, T: Drop, D: Door, L: Drop> {
-    pub(crate) places: Vec<DoorPlace<T, D, L>>,
-    pub(crate) slots: Vec<Option<Slot<State<W, K>, DoorPlace<T, D, L>>>>,
-    pub(crate) back: Vec<DoorPlace<T, D, L>>,
+pub(crate) struct Posts<X: Kinds> {
+    pub(crate) places: Vec<PlaceOf<X>>,
+    pub(crate) slots: Vec<Option<Slot<Index<X>, PlaceOf<X>>>>,
+    pub(crate) back: Vec<PlaceOf<X>>,
+    ghost none: { (slots.items ≡ []) × (back.items ≡ []) },
+    ghost room: { (vec_len places ≤ vec_capacity slots) × (vec_len places ≤ vec_capacity back) },
 }
 
 /// Room for so many workers: no place is filled.
-pub(crate) fn empty_posts<W: Truth, K: Keeper<W>, T: Drop, D: Door, L: Drop>(
-    alloc: Global,
-    count: usize,
-) -> Result<Posts<W, K, T, D, L>, AllocError>
+pub(crate) fn empty_posts<X: Kinds>(alloc: Global, count: usize) -> Result<Posts<X>, AllocError>
     ensures none { IfOk result (λ posts. (posts.places.items ≡ []) × (posts.slots.items ≡ [])
         × (posts.back.items ≡ [])) }
     ensures room { IfOk result (λ posts. (count ≤ vec_capacity posts.places)

@@ -1,10 +1,10 @@
 //! What a server says, and the status that it ends with.
 
-ghost use Rattle.std.specs.Prelude.{◌≡◌, ◌||◌, IfOk};
+ghost use Rattle.std.specs.Prelude.{◌≡◌, ◌||◌, IfOk, MatchResult};
 ghost use Rattle.std.specs.List.{flat_map, list_any};
 ghost use Rattle.std.specs.String.{string_bytes};
-ghost use Rattle.dbgd_commands.specs.Endings.{streams};
-ghost use Rattle.dbgd_run.specs.Rounds.{GetsLines};
+ghost use Rattle.http_wire.specs.Sink.{GetsAll, GetsPart};
+ghost use Rattle.dbgd_commands.specs.Endings.{Gets, streams};
 ghost use Rattle.dbgd_run.specs.ServeSaid.{Announces, end_line, ended_badly, has_cut, served_status};
 ghost use Rattle.dbgd_run.specs.ServeSaid.{SaysServeEnd, serving_line, wants_line};
 ghost use Rattle.dbgd_run.specs.Workers.{ends_at};
@@ -14,8 +14,8 @@ use crate::passes_end::PassesEnd;
 use crate::places::DoorPlace;
 use crate::serve_end::ServeEnd;
 use conn_server::DoorEnd;
-use dbgd_commands::{Status, push_count, say, say_no_memory, say_refusal, tell};
-use http_wire::Sink;
+use dbgd_commands::{Status, push_count, say, say_no_memory, say_refusal, write_line};
+use http_wire::{Sink, WriteFault};
 use std::alloc::{AllocError, Global};
 
 /// The first line of a server.
@@ -46,17 +46,25 @@ pub(crate) fn announce<O: Sink>(line: &str, out: &mut O, err: &mut O) -> bool
     }
 }
 
-/// Says that a door failed, if it did, and tells whether it did.
-fn say_door<O: Sink>(end: Option<DoorEnd>, err: &mut O) -> bool
-    ensures failed { result ≡ ended_badly end }
-    ensures err { GetsLines (end_line end) (O.shows err.old) (O.shows err.new) }
+/// Whether the serving of a door ended since the door failed.
+fn ended_badly(end: Option<DoorEnd>) -> bool
+    ensures { result ≡ ended_badly end }
 {
     match end {
-        Some(DoorEnd::Failed) => {
-            tell(err, "dbgd: fault ", "door");
-            true
-        }
+        Some(DoorEnd::Failed) => true,
         Some(DoorEnd::Closed) | None => false,
+    }
+}
+
+/// Says that a door failed, if it did.
+fn say_door<O: Sink>(end: Option<DoorEnd>, err: &mut O) -> Result<(), WriteFault>
+    ensures { MatchResult result
+        (λ _. GetsAll (end_line end) (O.shows err.old) (O.shows err.new))
+        (λ _. GetsPart (end_line end) (O.shows err.old) (O.shows err.new)) }
+{
+    match end {
+        Some(DoorEnd::Failed) => write_line(err, "dbgd: fault ", "door"),
+        Some(DoorEnd::Closed) | None => Ok(()),
     }
 }
 
@@ -67,17 +75,37 @@ fn either(one: bool, other: bool) -> bool
     one || other
 }
 
-/// Says of each door that failed, in order, and tells whether one did.
-fn say_doors<T: Drop, D: Drop, L: Drop, O: Sink>(places: &[DoorPlace<T, D, L>], err: &mut O) -> bool
-    ensures failed { result ≡ list_any ended_badly (ends_at places.now) }
-    ensures err { GetsLines (flat_map end_line (ends_at places.now))
-        (O.shows err.old) (O.shows err.new) }
+/// Whether some door failed.
+fn is_any_bad<T: Drop, D: Drop, L: Drop>(places: &[DoorPlace<T, D, L>]) -> bool
+    ensures { result ≡ list_any ended_badly (ends_at places.now) }
 {
     let mut failed = false;
     for place in places {
-        failed = either(failed, say_door(place.end, err));
+        failed = either(failed, ended_badly(place.end));
     }
     failed
+}
+
+/// Writes a line for each door that failed, in order. A write that fails ends that.
+fn write_doors<T: Drop, D: Drop, L: Drop, O: Sink>(
+    places: &[DoorPlace<T, D, L>],
+    err: &mut O,
+) -> Result<(), WriteFault>
+    ensures { MatchResult result
+        (λ _. GetsAll (flat_map end_line (ends_at places.now)) (O.shows err.old) (O.shows err.new))
+        (λ _. GetsPart (flat_map end_line (ends_at places.now)) (O.shows err.old) (O.shows err.new)) }
+{
+    for place in places {
+        say_door(place.end, err)?;
+    }
+    Ok(())
+}
+
+/// Says of each door that failed, in order. A write that fails changes nothing else.
+fn say_doors<T: Drop, D: Drop, L: Drop, O: Sink>(places: &[DoorPlace<T, D, L>], err: &mut O)
+    ensures { Gets (flat_map end_line (ends_at places.now)) (O.shows err.old) (O.shows err.new) }
+{
+    let _ = write_doors(places, err);
 }
 
 /// Whether memory was refused for the line of a pass.
@@ -130,7 +158,8 @@ pub(crate) fn say_serve_end<T: Drop, D: Drop, L: Drop, O: Sink>(
         ServeEnd::Unannounced => Status::Fault,
         ServeEnd::Unlocked => say_no_memory(out, err),
         ServeEnd::Served { fate, how, broken } => {
-            let failed = either(say_doors(places, err), *broken);
+            say_doors(places, err);
+            let failed = either(is_any_bad(places), *broken);
             served_status(
                 wants_line(*fate, *how),
                 either(has_cut(*fate, *how), failed),

@@ -2,13 +2,12 @@
 
 ghost use Rattle.std.specs.Prelude.{◌≡◌};
 
-use crate::places::DoorPlace;
+use crate::places::PlaceOf;
 use crate::posts::Posts;
 use crate::serve_end::ServeEnd;
+use dbgd_commands::Kinds;
 use dbgd_metrics::{Book, Share};
-use http_wire::Door;
-use index_keeper::Keeper;
-use row_types::{CanonPath, Truth};
+use row_types::CanonPath;
 use std::alloc::Global;
 use tree_trait::Gate;
 
@@ -34,27 +33,27 @@ pub(crate) struct Site<'a, G: Gate, Rt> {
     pub(crate) gate: &'a G,
 }
 
+/// The same of these kinds.
+pub(crate) type SiteOf<'a, X, Rt> = Site<'a, <X as Kinds>::G, Rt>;
+
 /// What a server works with: the hands of its passes, their share, and the places of its workers.
 #[derive(Drop)]
-pub(crate) struct Crew<W: Truth, K: Keeper<W>, T: Drop, D: Door, L: Drop> {
-    pub(crate) hands: Vec<T>,
+pub(crate) struct Crew<X: Kinds> {
+    pub(crate) hands: Vec<X::T>,
     pub(crate) share: Share,
-    pub(crate) posts: Posts<W, K, T, D, L>,
+    pub(crate) posts: Posts<X>,
 }
 
 /// What comes back of it, and how the server ended.
 #[derive(Drop)]
-pub(crate) struct Back<T: Drop, D: Door, L: Drop> {
-    pub(crate) hands: Vec<T>,
-    pub(crate) places: Vec<DoorPlace<T, D, L>>,
+pub(crate) struct Back<X: Kinds> {
+    pub(crate) hands: Vec<X::T>,
+    pub(crate) places: Vec<PlaceOf<X>>,
     pub(crate) end: ServeEnd,
 }
 
 /// What comes back where nothing was served.
-pub(crate) fn unserved<W: Truth, K: Keeper<W>, T: Drop, D: Door, L: Drop>(
-    crew: Crew<W, K, T, D, L>,
-    end: ServeEnd,
-) -> Back<T, D, L>
+pub(crate) fn unserved<X: Kinds>(crew: Crew<X>, end: ServeEnd) -> Back<X>
     ensures hands { result.hands ≡ crew.hands }
     ensures places { result.places ≡ crew.posts.places }
     ensures end { result.end ≡ end }

@@ -11,8 +11,7 @@ returns-in-Ok-clause-scans g c =
     let some : 3 ≤ c.args.workers + 2 = omega (arith, c.requires.fits.one) in
     let few : c.asked-count.result ≡ min (c.args.workers + 2) (length c.args.outside.now.hands.items) =
     omega (arith, c.asked-count.ensures, c.args.outside.now.hands.ok.0) in
-    scans_lent
-    (setting (rules g.W.Truth.version g.W.Truth.true_row g.W.Truth.told) g.T.Tree.told g.T.Tree.shows g.S.K.Keeper.told)
+    scans_lent (setting (rules g.X.W.Truth.version g.X.W.Truth.true_row g.X.W.Truth.told) g.X.T.Tree.told g.X.T.Tree.shows g.X.S.K.Keeper.told)
     c.args.path.now c.scan-end.result (c.args.workers + 2) c.asked-count.result c.args.outside.now.hands.items
     c.scan-end.new.hands.items c.rejoin.new.hands.items some few
     (rw c.in-Ok.ensures.others at c.rejoin.ensures.all) (rw c.in-Ok.ensures.front at c.scan-end.ensures.scans)
@@ -30,6 +29,5 @@ pub returns-in-Err-clause-scans : goal.returns-in-Err-clause-scans
 returns-in-Err-clause-scans g c =
     let some : 0 < length c.args.outside.now.hands.items = omega (arith, c.requires.hand, c.args.outside.now.hands.ok.0) in
     rw c.in-Err.ensures.err
-    (scans_wanting
-    (setting (rules g.W.Truth.version g.W.Truth.true_row g.W.Truth.told) g.T.Tree.told g.T.Tree.shows g.S.K.Keeper.told)
+    (scans_wanting (setting (rules g.X.W.Truth.version g.X.W.Truth.true_row g.X.W.Truth.told) g.X.T.Tree.told g.X.T.Tree.shows g.X.S.K.Keeper.told)
     c.args.path.now some refl)

@@ -5,3 +5,9 @@ returns-in-TooManyEntries g c = rw c.in-TooManyEntries.is c.say_limit-in-TooMany
 
 pub returns-in-RootGone : goal.returns-in-RootGone
 returns-in-RootGone g c = rw (c.in-RootGone.is, ← c.text.ensures.value) c.say_gone.ensures
+
+pub returns-in-Failed : goal.returns-in-Failed
+returns-in-Failed g c = rw c.in-Failed.is c.say_fault.ensures
+
+pub returns-in-TooMany : goal.returns-in-TooMany
+returns-in-TooMany g c = rw c.in-TooMany.is c.say_limit.ensures

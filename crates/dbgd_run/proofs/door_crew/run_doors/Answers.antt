@@ -8,7 +8,7 @@ use Rattle.lock_crew.specs.Runs.{SlotHas, SlotRan}
 use Rattle.lock_crew.specs.declared.crew.Slot.{Slot}
 use Rattle.lock_crew.proofs.Slots.{RanSlot, ran_locks}
 use Rattle.lock_crew.proofs.Zips.{front_all, zip_by_index}
-use Rattle.conn_server.specs.Scene.{scene_of}
+use Rattle.conn_server.specs.Stage.{conn_setting}
 use Rattle.conn_server.specs.Tallied.{HasRowIn}
 use Rattle.dbgd_run.specs.Workers.{RunsPlace}
 use Rattle.dbgd_run.specs.declared.places.DoorPlace.{DoorPlace}
@@ -19,22 +19,17 @@ pub returns : goal.returns
 returns g c =
     let before = c.as_mut_slice.ensures in
     let each = c.run_each.ensures in
-    let long : c.args.slots.now.len ≡ length c.run_each.new.slots = sym (each.length ∙ before.len) in
-    let ran = subst (λ xs. AllZip (SlotRan (RanSlot {C = Slot (State g.row.W.Denot g.row.K.Denot) (DoorPlace g.row.T.Denot g.row.D.Denot g.row.L.Denot) Change Opening}
-    (λ slot. slot.seat) (λ slot. slot.place) (RunsPlace (scene_of g.W.Truth.true_row g.T.Tree.told g.W.Truth.version g.T.Tree.shows c.args.hall.now.folders.now c.args.hall.now.book.now.rows) g.D.Door.shows g.L.Link.shows)))
-    xs c.run_each.new.slots) before.value
-    (zip_by_index (SlotRan (RanSlot {C = Slot (State g.row.W.Denot g.row.K.Denot) (DoorPlace g.row.T.Denot g.row.D.Denot g.row.L.Denot) Change Opening}
-    (λ slot. slot.seat) (λ slot. slot.place) (RunsPlace (scene_of g.W.Truth.true_row g.T.Tree.told g.W.Truth.version g.T.Tree.shows c.args.hall.now.folders.now c.args.hall.now.book.now.rows) g.D.Door.shows g.L.Link.shows)))
-    c.as_mut_slice.result.now c.run_each.new.slots each.length each.each) in
-    let same = sym (front_all c.args.slots.now.len c.run_each.new.slots
-    (drop (length c.run_each.new.slots) c.args.slots.now.items) long) in record {
-      ran = subst (AllZip (SlotRan (RanSlot {C = Slot (State g.row.W.Denot g.row.K.Denot) (DoorPlace g.row.T.Denot g.row.D.Denot g.row.L.Denot) Change Opening}
-          (λ slot. slot.seat) (λ slot. slot.place) (RunsPlace (scene_of g.W.Truth.true_row g.T.Tree.told g.W.Truth.version g.T.Tree.shows c.args.hall.now.folders.now c.args.hall.now.book.now.rows) g.D.Door.shows g.L.Link.shows)))
-          c.args.slots.now.items) same ran;
-      locks = subst (All (SlotHas {C = Slot (State g.row.W.Denot g.row.K.Denot) (DoorPlace g.row.T.Denot g.row.D.Denot g.row.L.Denot) Change Opening}
-          (λ slot. slot.seat.lock ≡ c.args.hall.now.lock.now))) same
-          (ran_locks (λ slot. slot.seat) (λ slot. slot.place) (RunsPlace (scene_of g.W.Truth.true_row g.T.Tree.told g.W.Truth.version g.T.Tree.shows c.args.hall.now.folders.now c.args.hall.now.book.now.rows) g.D.Door.shows g.L.Link.shows) c.args.hall.now.lock.now
-          c.args.slots.now.items c.run_each.new.slots (locks_of {C = Slot (State g.row.W.Denot g.row.K.Denot) (DoorPlace g.row.T.Denot g.row.D.Denot g.row.L.Denot) Change Opening} (λ slot. slot.seat)
-          (λ slot. HasRowIn c.args.hall.now.book.now slot.place.share) c.args.hall.now.lock.now c.args.slots.now.items c.requires.filled) ran);
+    let old = c.args.slots.now.items in
+    let new = c.run_each.new.slots in
+    let runs = RunsPlace (conn_setting g.W.Truth.true_row g.T.Tree.told g.W.Truth.version g.T.Tree.shows c.args.hall.now.site.now.folders.now c.args.hall.now.site.now.book.now.rows) g.D.Door.shows g.L.Link.shows in
+    let way = SlotRan (RanSlot {C = Slot (State g.row.W.Denot g.row.K.Denot) (DoorPlace g.row.T.Denot g.row.D.Denot g.row.L.Denot) Change Opening} (λ slot. slot.seat) (λ slot. slot.place) runs) in
+    let long : c.args.slots.now.len ≡ length new = sym (each.length ∙ before.len) in
+    let ran = subst (λ xs. AllZip way xs new) before.value (zip_by_index way c.as_mut_slice.result.now new each.length each.each) in
+    let same = sym (front_all c.args.slots.now.len new (drop (length new) old) long) in record {
+      ran = subst (AllZip way old) same ran;
+      locks = subst (All (SlotHas {C = Slot (State g.row.W.Denot g.row.K.Denot) (DoorPlace g.row.T.Denot g.row.D.Denot g.row.L.Denot) Change Opening} (λ slot. slot.seat.lock ≡ c.args.hall.now.lock.now))) same
+          (ran_locks (λ slot. slot.seat) (λ slot. slot.place) runs c.args.hall.now.lock.now old new
+          (locks_of {C = Slot (State g.row.W.Denot g.row.K.Denot) (DoorPlace g.row.T.Denot g.row.D.Denot g.row.L.Denot) Change Opening} (λ slot. slot.seat)
+          (λ slot. HasRowIn c.args.hall.now.site.now.book.now slot.place.share) c.args.hall.now.lock.now old c.requires.filled) ran);
       count = refl;
     }

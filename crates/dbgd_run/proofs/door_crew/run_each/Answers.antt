@@ -9,7 +9,7 @@ use Rattle.index_state.specs.declared.state.State.{State}
 use Rattle.lock_crew.specs.Runs.{SlotHas, SlotRan}
 use Rattle.lock_crew.specs.declared.crew.Slot.{Slot}
 use Rattle.lock_crew.proofs.Slots.{RanSlot}
-use Rattle.conn_server.specs.Scene.{scene_of}
+use Rattle.conn_server.specs.Stage.{conn_setting}
 use Rattle.conn_server.specs.Tallied.{HasRowIn}
 use Rattle.dbgd_run.specs.Workers.{RunsPlace}
 use Rattle.dbgd_run.specs.declared.places.DoorPlace.{DoorPlace}
@@ -18,7 +18,7 @@ use Rattle.dbgd_run.proofs.door_crew.run_each.Goals as goal
 pub for_each_mut-requires-clause-accepts : goal.for_each_mut-requires-clause-accepts
 for_each_mut-requires-clause-accepts g c κs within = λ i p below is. (
   subst (SlotHas {C = Slot (State g.row.W.Denot g.row.K.Denot) (DoorPlace g.row.T.Denot g.row.D.Denot g.row.L.Denot) Change Opening}
-      (λ slot. (slot.seat.lock ≡ c.args.hall.now.lock.now) × HasRowIn c.args.hall.now.book.now slot.place.share))
+      (λ slot. (slot.seat.lock ≡ c.args.hall.now.lock.now) × HasRowIn c.args.hall.now.site.now.book.now slot.place.share))
       (sym is) (c.requires.filled i p.now below),
   (
     record {
@@ -58,9 +58,6 @@ for_each_mut-requires-clause-accepts g c κs within = λ i p below is. (
 pub returns-clause-each : goal.returns-clause-each
 returns-clause-each g c = λ i d below.
     let at = (c.for_each_mut.ensures i d below).1 in
-    subst (SlotRan (RanSlot {C = Slot (State g.row.W.Denot g.row.K.Denot) (DoorPlace g.row.T.Denot g.row.D.Denot g.row.L.Denot) Change Opening}
-    (λ slot. slot.seat) (λ slot. slot.place) (RunsPlace (scene_of g.W.Truth.true_row g.T.Tree.told g.W.Truth.version g.T.Tree.shows c.args.hall.now.folders.now c.args.hall.now.book.now.rows) g.D.Door.shows g.L.Link.shows))
-    (slice_index_or c.args.slots.now i d)) at.left
-    (subst (λ old. SlotRan (RanSlot {C = Slot (State g.row.W.Denot g.row.K.Denot) (DoorPlace g.row.T.Denot g.row.D.Denot g.row.L.Denot) Change Opening}
-    (λ slot. slot.seat) (λ slot. slot.place) (RunsPlace (scene_of g.W.Truth.true_row g.T.Tree.told g.W.Truth.version g.T.Tree.shows c.args.hall.now.folders.now c.args.hall.now.book.now.rows) g.D.Door.shows g.L.Link.shows))
-    old at.after_call.now) at.argument_is at.call)
+    let way = SlotRan (RanSlot {C = Slot (State g.row.W.Denot g.row.K.Denot) (DoorPlace g.row.T.Denot g.row.D.Denot g.row.L.Denot) Change Opening} (λ slot. slot.seat) (λ slot. slot.place)
+    (RunsPlace (conn_setting g.W.Truth.true_row g.T.Tree.told g.W.Truth.version g.T.Tree.shows c.args.hall.now.site.now.folders.now c.args.hall.now.site.now.book.now.rows) g.D.Door.shows g.L.Link.shows)) in
+    subst (way (slice_index_or c.args.slots.now i d)) at.left (subst (λ old. way old at.after_call.now) at.argument_is at.call)

@@ -1,9 +1,7 @@
 use Rattle.std.proofs.Common.{◌<◌, length, inl, refl, arith}
 use Rattle.file_formats.specs.Parts.{IsSomePart, IsSomeSection}
 use Rattle.file_formats.specs.Windows.{IsSomeWindow}
-use Rattle.row_types.specs.Rules.{rules}
 use Rattle.dbgd_commands.specs.Ident.{SaysIdent}
-use Rattle.dbgd_commands.specs.Scene.{setting}
 use Rattle.dbgd_commands.specs.Section.{SaysSection}
 use Rattle.dbgd_commands.specs.Sources.{SaysSources}
 use Rattle.dbgd_commands.proofs.HandLemmas.{runs_file}
@@ -11,26 +9,26 @@ use Rattle.dbgd_run.proofs.outside.run_alone.Goals as goal
 
 pub returns-in-Ident-clause-law : goal.returns-in-Ident-clause-law
 returns-in-Ident-clause-law g c =
-    let some : 0 < length c.args.outside.now.hands.items = omega arith in
+    let one = (rw c.in-Ident.is at c.requires.hand) (omega arith) in
+    let some : 0 < length c.args.outside.now.hands.items = omega (arith, one, c.args.outside.now.hands.ok.0) in
     rw c.in-Ident.is
-    (runs_file (setting (rules g.W.Truth.version g.W.Truth.true_row g.W.Truth.told) g.T.Tree.told g.T.Tree.shows g.S.K.Keeper.told)
-    c.in-Ident.path.now (SaysIdent c.in-Ident.path.now) IsSomeWindow c.index_mut.result.now c.run_ident.new.hand c.args.outside.now.hands.items
+    (runs_file _ c.in-Ident.path.now (SaysIdent c.in-Ident.path.now) IsSomeWindow c.index_mut.result.now c.run_ident.new.hand c.args.outside.now.hands.items
     c.index_mut.ensures.value some c.run_ident.ensures)
 
 pub returns-in-Sources-clause-law : goal.returns-in-Sources-clause-law
 returns-in-Sources-clause-law g c =
-    let some : 0 < length c.args.outside.now.hands.items = omega arith in
+    let one = (rw c.in-Sources.is at c.requires.hand) (omega arith) in
+    let some : 0 < length c.args.outside.now.hands.items = omega (arith, one, c.args.outside.now.hands.ok.0) in
     rw c.in-Sources.is
-    (runs_file (setting (rules g.W.Truth.version g.W.Truth.true_row g.W.Truth.told) g.T.Tree.told g.T.Tree.shows g.S.K.Keeper.told)
-    c.in-Sources.path.now (SaysSources c.in-Sources.path.now) IsSomePart c.index_mut-in-Sources.result.now c.run_sources.new.hand c.args.outside.now.hands.items
+    (runs_file _ c.in-Sources.path.now (SaysSources c.in-Sources.path.now) IsSomePart c.index_mut-in-Sources.result.now c.run_sources.new.hand c.args.outside.now.hands.items
     c.index_mut-in-Sources.ensures.value some c.run_sources.ensures)
 
 pub returns-in-Section-clause-law : goal.returns-in-Section-clause-law
 returns-in-Section-clause-law g c =
-    let some : 0 < length c.args.outside.now.hands.items = omega arith in
+    let one = (rw c.in-Section.is at c.requires.hand) (omega arith) in
+    let some : 0 < length c.args.outside.now.hands.items = omega (arith, one, c.args.outside.now.hands.ok.0) in
     rw c.in-Section.is
-    (runs_file (setting (rules g.W.Truth.version g.W.Truth.true_row g.W.Truth.told) g.T.Tree.told g.T.Tree.shows g.S.K.Keeper.told)
-    c.in-Section.path.now (SaysSection c.in-Section.path.now c.in-Section.name.now)
+    (runs_file _ c.in-Section.path.now (SaysSection c.in-Section.path.now c.in-Section.name.now)
     (IsSomeSection c.in-Section.name.now) c.index_mut-in-Section.result.now c.run_section.new.hand c.args.outside.now.hands.items
     c.index_mut-in-Section.ensures.value some c.run_section.ensures)
 

@@ -1,7 +1,7 @@
 -- What a line of words asks was done; doors, links and clock are as they were unless it asks for a server.
 use Rattle.std.proofs.Common.{ap, arith}
 use Rattle.std.specs.Prelude.{map}
-use Rattle.dbgd_run.specs.Stage.{rows_shown}
+use Rattle.dbgd_commands.specs.Stage.{rows_shown}
 use Rattle.dbgd_run.proofs.RunLemmas.{runs_apart}
 use Rattle.dbgd_run.proofs.outside.run_line.Goals as goal
 
@@ -11,9 +11,9 @@ returns-in-Scan-clause-law g c =
     (record {
       runs = rw c.as_slice.ensures.value at c.run_scan.ensures.runs;
       rest = record {
-        doors = ap (λ doors. map g.D.Door.shows doors.items) c.run_scan.ensures.rest.0;
-        links = ap (λ links. rows_shown g.L.Link.shows links.items) c.run_scan.ensures.rest.1;
-        woke = ap g.C.Clock.woke c.run_scan.ensures.rest.2;
+        doors = ap (λ doors. map g.X.D.Door.shows doors.items) c.run_scan.ensures.rest.0;
+        links = ap (λ links. rows_shown g.X.L.Link.shows links.items) c.run_scan.ensures.rest.1;
+        woke = ap g.X.C.Clock.woke c.run_scan.ensures.rest.2;
       };
     })
 
@@ -26,9 +26,9 @@ returns-in-Trial-clause-law g c =
     (record {
       runs = record { says = c.run_trial.ensures.says; hands = c.run_trial.ensures.hands; store = c.run_trial.ensures.store };
       rest = record {
-        doors = ap (λ doors. map g.D.Door.shows doors.items) c.run_trial.ensures.rest.0;
-        links = ap (λ links. rows_shown g.L.Link.shows links.items) c.run_trial.ensures.rest.1;
-        woke = ap g.C.Clock.woke c.run_trial.ensures.rest.2;
+        doors = ap (λ doors. map g.X.D.Door.shows doors.items) c.run_trial.ensures.rest.0;
+        links = ap (λ links. rows_shown g.X.L.Link.shows links.items) c.run_trial.ensures.rest.1;
+        woke = ap g.X.C.Clock.woke c.run_trial.ensures.rest.2;
       };
     })
 
@@ -37,9 +37,9 @@ pub returns-in_default-clause-law : goal.returns-in_default-clause-law
 returns-in_default-clause-law g c =
     runs_apart _ _ _ _ _ c.run_alone.ensures.law
     (record {
-      doors = ap (λ doors. map g.D.Door.shows doors.items) c.run_alone.ensures.rest.0;
-      links = ap (λ links. rows_shown g.L.Link.shows links.items) c.run_alone.ensures.rest.1;
-      woke = ap g.C.Clock.woke c.run_alone.ensures.rest.2;
+      doors = ap (λ doors. map g.X.D.Door.shows doors.items) c.run_alone.ensures.rest.0;
+      links = ap (λ links. rows_shown g.X.L.Link.shows links.items) c.run_alone.ensures.rest.1;
+      woke = ap g.X.C.Clock.woke c.run_alone.ensures.rest.2;
     })
 
 -- a server's hands are enough by what it needs
@@ -60,4 +60,14 @@ run_serve-requires-clause-doors g c = λ κs within.
 pub run_serve-requires-clause-links : goal.run_serve-requires-clause-links
 run_serve-requires-clause-links g c = λ κs within.
     let one = (rw c.in-Serve.is at c.requires.fits).one in
-    ((rw c.in-Serve.is at c.requires.enough) (omega (arith, one))).2
+    let rows = ((rw c.in-Serve.is at c.requires.enough) (omega (arith, one))).2 in
+    omega (arith, rows, c.args.outside.now.links.ok.0)
+
+pub run_serve-requires-clause-linked : goal.run_serve-requires-clause-linked
+run_serve-requires-clause-linked g c = λ κs within.
+    let one = (rw c.in-Serve.is at c.requires.fits).one in
+    ((rw c.in-Serve.is at c.requires.enough) (omega (arith, one))).3
+
+-- a scan needs a hand
+pub run_scan-requires-clause-hand : goal.run_scan-requires-clause-hand
+run_scan-requires-clause-hand g c = λ κs within. (rw c.in-Scan.is at c.requires.hand) (omega arith)

@@ -4,7 +4,7 @@ use Rattle.std.specs.String.{string_bytes}
 use Rattle.dbgd_words.specs.Limits.{FitsLimits}
 use Rattle.dbgd_words.specs.Words.{Line}
 use Rattle.dbgd_words.proofs.LimitLemmas.{line_fits}
-use Rattle.dbgd_run.specs.Needs.{HasEnough}
+use Rattle.dbgd_run.specs.Needs.{HasEnough, HasHand}
 use Rattle.dbgd_run.proofs.outside.run_words.Goals as goal
 
 pub returns-in-Ok-clause-law : goal.returns-in-Ok-clause-law
@@ -20,5 +20,9 @@ run_line-requires-clause-fits g c = λ κs within.
 
 pub run_line-requires-clause-enough : goal.run_line-requires-clause-enough
 run_line-requires-clause-enough g c = λ κs within.
-    subst (λ (line : Line). HasEnough line (vec_len c.args.outside.now.hands) (vec_len c.args.outside.now.doors) (vec_len c.args.outside.now.links)) (sym c.in-Ok.ensures.line)
+    subst (λ (line : Line). HasEnough line (vec_len c.args.outside.now.hands) (vec_len c.args.outside.now.doors) c.args.outside.now.links.items) (sym c.in-Ok.ensures.line)
     c.requires.enough
+
+pub run_line-requires-clause-hand : goal.run_line-requires-clause-hand
+run_line-requires-clause-hand g c = λ κs within.
+    subst (λ (line : Line). HasHand line (vec_len c.args.outside.now.hands)) (sym c.in-Ok.ensures.line) c.requires.hand

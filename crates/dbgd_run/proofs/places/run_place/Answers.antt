@@ -7,8 +7,13 @@ pub returns-clause-ran : goal.returns-clause-ran
 returns-clause-ran g c =
     let row = c.as_mut_slice.ensures in
     let same =
-    with_items_is c.args.place.links c.serve_door-seat.new.links
-    (omega (arith, c.serve_door-seat.auto.links, ap length row.value, c.args.place.links.ok.0)) in record {
-      ran = record { end = c.serve_door-seat.result.1; serves = rw (same, ← row.value) c.serve_door-seat.ensures.serves };
+    with_items_is c.args.place.now.links c.serve_door-seat.new.links
+    (omega (arith, c.serve_door-seat.auto.links, ap length row.value, c.args.place.now.links.ok.0)) in record {
+      ran = record {
+        end = c.serve_door-seat.result.1;
+        epoch = c.args.seat.origin.epoch;
+        epoch_after = c.serve_door-seat.result.0.origin.epoch;
+        serves = rw (same, ← row.value) c.serve_door-seat.ensures.serves;
+      };
       kept = refl;
     }

@@ -4,7 +4,7 @@ use Rattle.index_state.specs.declared.spare.Opening.{Opening}
 use Rattle.index_state.specs.declared.state.State.{State}
 use Rattle.lock_crew.specs.declared.crew.Slot.{Slot}
 use Rattle.lock_crew.proofs.Slots.{run_places}
-use Rattle.conn_server.specs.Scene.{scene_of}
+use Rattle.conn_server.specs.Stage.{conn_setting}
 use Rattle.conn_server.specs.Tallied.{HasRowIn}
 use Rattle.dbgd_run.specs.Workers.{RunsPlace}
 use Rattle.dbgd_run.specs.declared.places.DoorPlace.{DoorPlace}
@@ -14,13 +14,14 @@ use Rattle.dbgd_run.proofs.server.serve_alone.Goals as goal
 -- the slots have the shares of the places
 pub run_doors-requires-clause-filled : goal.run_doors-requires-clause-filled
 run_doors-requires-clause-filled g c = λ κs within.
-    ready_all {C = Slot (State g.row.W.Denot g.row.K.Denot) (DoorPlace g.row.T.Denot g.row.D.Denot g.row.L.Denot) Change Opening} (λ slot. slot.seat) (λ slot. slot.place) (λ place. HasRowIn c.args.hall.now.book.now place.share)
+    ready_all {C = Slot (State g.row.X-W.Denot g.row.X-S-K.Denot) (DoorPlace g.row.X-T.Denot g.row.X-D.Denot g.row.X-L.Denot) Change Opening} (λ slot. slot.seat) (λ slot. slot.place) (λ place. HasRowIn c.args.hall.now.site.now.book.now place.share)
     c.args.hall.now.lock.now c.args.lead.seat c.requires.lock c.args.posts.places.items _ c.requires.shares c.seats_out-seat.ensures.slots
 
 pub returns-clause-doors : goal.returns-clause-doors
 returns-clause-doors g c =
-    all_served (scene_of g.W.Truth.true_row g.T.Tree.told g.W.Truth.version g.T.Tree.shows c.args.hall.now.folders.now c.args.hall.now.book.now.rows) g.D.Door.shows g.L.Link.shows c.args.lead.seat c.seats_in-seat.result.0
+    let scene = (conn_setting g.X.W.Truth.true_row g.X.T.Tree.told g.X.W.Truth.version g.X.T.Tree.shows c.args.hall.now.site.now.folders.now c.args.hall.now.site.now.book.now.rows) in
+    all_served scene g.X.D.Door.shows g.X.L.Link.shows c.args.lead.seat c.seats_in-seat.result.0
     c.args.posts.places.items c.seats_in-seat.result.1.items
-    (run_places {C = Slot (State g.row.W.Denot g.row.K.Denot) (DoorPlace g.row.T.Denot g.row.D.Denot g.row.L.Denot) Change Opening} (λ slot. slot.seat) (λ slot. slot.place)
-    (RunsPlace (scene_of g.W.Truth.true_row g.T.Tree.told g.W.Truth.version g.T.Tree.shows c.args.hall.now.folders.now c.args.hall.now.book.now.rows) g.D.Door.shows g.L.Link.shows) c.args.lead.seat c.seats_in-seat.result.0
+    (run_places {C = Slot (State g.row.X-W.Denot g.row.X-S-K.Denot) (DoorPlace g.row.X-T.Denot g.row.X-D.Denot g.row.X-L.Denot) Change Opening} (λ slot. slot.seat) (λ slot. slot.place)
+    (RunsPlace scene g.X.D.Door.shows g.X.L.Link.shows) c.args.lead.seat c.seats_in-seat.result.0
     _ _ _ _ c.seats_out-seat.ensures.slots c.run_doors.ensures.ran c.seats_in-seat.ensures.places)

@@ -14,13 +14,13 @@ pub returns-in-Ok-clause-serves : goal.returns-in-Ok-clause-serves
 returns-in-Ok-clause-serves g c =
     let joined : List Change = c.serve_locked-lead.result.0.seat.seen in
     let last : List Change = c.into_value-state.result.log in
-    let ended : IsPrefix joined last = subst (λ (xs : List Change). IsPrefix joined xs) (sym (ap (λ (i : StateFacts g.row.K.Denot). i.log) c.into_value-state.ensures)) c.enter-held.ensures.begins in
+    let ended : IsPrefix joined last = subst (λ (xs : List Change). IsPrefix joined xs) (sym (ap (λ (i : StateFacts g.row.X-S-K.Denot). i.log) c.into_value-state.ensures)) c.enter-held.ensures.begins in
     let later = c.serve_locked-lead.ensures.later in record {
       new = c.into_value-state.result;
       value = c.into_keeper.ensures.value;
       holds = c.into_keeper.ensures.holds;
       origin =
-          ap (λ (i : StateFacts g.row.K.Denot). i.origin) c.into_value-state.ensures ∙ c.enter-held.ensures.origin ∙ later.origin ∙ c.in-Ok.ensures.seen.1;
+          ap (λ (i : StateFacts g.row.X-S-K.Denot). i.origin) c.into_value-state.ensures ∙ c.enter-held.ensures.origin ∙ later.origin ∙ c.in-Ok.ensures.seen.1;
       broken_is = sym (ap (λ (standing : Standing). standing.broken) c.standing-broken.ensures.value);
       begins =
           subst (λ (xs : List Change). IsPrefix xs last) c.in-Ok.ensures.seen.0

@@ -1,7 +1,7 @@
 -- What came of the store, by how the server ended.
 use Rattle.std.proofs.Common.{◌<◌, length, refl, arith}
 use Rattle.row_types.specs.Rules.{rules}
-use Rattle.conn_server.specs.Scene.{scene_of}
+use Rattle.conn_server.specs.Stage.{conn_setting}
 use Rattle.dbgd_commands.specs.Scene.{setting}
 use Rattle.dbgd_commands.proofs.StoreLemmas.{scans_closed, scans_wanting}
 use Rattle.dbgd_run.specs.Serving.{serve_rules}
@@ -12,11 +12,11 @@ pub returns-in-Opened-clause-serves : goal.returns-in-Opened-clause-serves
 returns-in-Opened-clause-serves g c =
     let some : 0 < length c.args.crew.hands.items = omega arith in
     store_opened (serve_rules
-    (setting (rules g.W.Truth.version g.W.Truth.true_row g.W.Truth.told) g.T.Tree.told g.T.Tree.shows g.S.K.Keeper.told)
+    (setting (rules g.X.W.Truth.version g.X.W.Truth.true_row g.X.W.Truth.told) g.X.T.Tree.told g.X.T.Tree.shows g.X.S.K.Keeper.told)
     c.args.site.now.roots.now c.args.site.now.secs
-    (scene_of g.W.Truth.true_row g.T.Tree.told g.W.Truth.version g.T.Tree.shows c.args.site.now.folders.now c.args.site.now.book.now.rows)
-    g.D.Door.shows g.L.Link.shows)
-    g.S.K.Keeper.shows c.args.site.now.path.now c.args.site.now.line.now _ _ _ _ _ _ _ _ _ c.in-Opened.ensures c.give_back.ensures some
+    (conn_setting g.X.W.Truth.true_row g.X.T.Tree.told g.X.W.Truth.version g.X.T.Tree.shows c.args.site.now.folders.now c.args.site.now.book.now.rows)
+    g.X.D.Door.shows g.X.L.Link.shows)
+    g.X.S.K.Keeper.shows c.args.site.now.path.now c.args.site.now.line.now _ _ _ _ _ _ _ _ _ c.in-Opened.ensures c.give_back.ensures some
     c.serve_keeper-keeper.ensures.serves
 
 pub returns-in-Failed-clause-serves : goal.returns-in-Failed-clause-serves

@@ -1,0 +1,55 @@
+//! What stays while a server runs, in one word.
+
+ghost use Rattle.std.specs.Prelude.{ℕ, List};
+ghost use Rattle.row_types.specs.Rules.{rules};
+ghost use Rattle.conn_server.specs.Stage.{ConnSetting};
+ghost use Rattle.dbgd_commands.specs.Scene.{setting};
+ghost use Rattle.dbgd_run.specs.Serve.{doors_scene};
+ghost use Rattle.dbgd_run.specs.Serving.{ServeRules, serve_rules};
+
+use dbgd_commands::Outside;
+use elf_reading::ElfTruth;
+use federation::Link;
+use http_wire::{Door, Sink};
+use index_keeper::Store;
+use tree_trait::{Clock, Gate, Tree};
+
+/// What contracts know of what stays while a server runs.
+pub trait Serves {
+    type Hand;
+
+    type Door;
+
+    type Link;
+
+    /// What doors are served with, by the folders of sources and the rows of the counter table.
+    ghost scene: { List (List ℕ) → ℕ → ConnSetting Self.Hand };
+
+    /// That, with what a run rests on, the folders that are scanned, the seconds between passes, and
+    /// what a door and a link show.
+    ghost rules: { List (List ℕ) → ℕ → List (List ℕ) → ℕ → ServeRules Self.Hand Self.Door Self.Link };
+}
+
+impl<
+    W: ElfTruth + Send + Sync,
+    T: Tree<W>,
+    S: Store<W>,
+    D: Door,
+    L: Link,
+    C: Clock + Drop,
+    O: Sink,
+    G: Gate + Drop,
+> Serves for Outside<W, T, S, D, L, C, O, G> {
+    type Hand = T;
+
+    type Door = D;
+
+    type Link = L;
+
+    ghost scene = { doors_scene (setting (rules W.version W.true_row W.told) T.told T.shows S.K.told) };
+
+    ghost rules = { λ roots secs folders rows. serve_rules
+        (setting (rules W.version W.true_row W.told) T.told T.shows S.K.told) roots secs
+        (doors_scene (setting (rules W.version W.true_row W.told) T.told T.shows S.K.told) folders rows)
+        D.shows L.shows };
+}
